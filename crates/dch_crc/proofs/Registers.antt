@@ -10,7 +10,7 @@ use Rattle.dch_bits.specs.declared.bit.Bit.{Bit}
 use Rattle.dch_bits.specs.declared.bit.Bit.TheVariants.{Zero, One}
 use Rattle.dch_bits.specs.Bits.{number_of, plus}
 use Rattle.dch_crc.specs.Parity.{add, scale, IsParity, number_of_bits}
-use Rattle.dch_crc.specs.Register.{bit_with, lowest_bits, HoldsParity, fed}
+use Rattle.dch_crc.specs.Register.{bit_with, lowest_bits, HoldsParity, with_input}
 use Rattle.dch_crc.proofs.Products.{plus_zero, plus_back, length-add, add_zeros, parity_none, parity_more}
 
 pub length-lowest_bits : (count n : ℕ) → length (lowest_bits count n) ≡ count
@@ -83,14 +83,14 @@ holds_none degree terms first =
       parity = rw (terms_bits degree terms first, zeros) (parity_none (lowest_bits degree terms));
     }
 
-pub fed-lt : (x : Bit) (degree register : ℕ) → register < 2 ^ degree → fed x degree register < 2 * 2 ^ degree
-fed-lt Zero degree register small = omega arith
-fed-lt One degree register small =
+pub with_input-lt : (x : Bit) (degree register : ℕ) → register < 2 ^ degree → with_input x degree register < 2 * 2 ^ degree
+with_input-lt Zero degree register small = omega arith
+with_input-lt One degree register small =
     let power : 2 ^ suc degree ≡ 2 * 2 ^ degree = pow-suc 2 degree ∙ omega arith in
     rw (sym power) (xor_lt (suc degree) (2 * register) (2 ^ degree) (rw power (omega arith)) (rw power (omega (arith, pow_pos degree))))
 
 -- the register moved up, by the term at the top and the rest
-moved : (x c : Bit) (degree register : ℕ) (s : List Bit) → lowest_bits (suc degree) (fed x degree register) ≡ c ∷ s → lowest_bits degree register ++ Zero ∷ [] ≡ plus c x ∷ s
+moved : (x c : Bit) (degree register : ℕ) (s : List Bit) → lowest_bits (suc degree) (with_input x degree register) ≡ c ∷ s → lowest_bits degree register ++ Zero ∷ [] ≡ plus c x ∷ s
 moved Zero c degree register s top = sym (lowest_bits-double degree register) ∙ top ∙ rw plus_zero refl
 moved One c degree register s top =
     let v : List Bit = One ∷ replicate degree Zero in
@@ -126,33 +126,33 @@ unfolding lowest_bits
 top_bits degree n top is = rw is refl
 
 -- the parity after one more bit, by the term that comes to the top
-parity_fed : (degree terms register n top : ℕ) (x : Bit) (a : List Bit) → terms / 2 ^ degree ≡ 1 → n ≡ fed x degree register → n / 2 ^ degree ≡ top → HoldsParity degree terms a register
+parity_raised : (degree terms register n top : ℕ) (x : Bit) (a : List Bit) → terms / 2 ^ degree ≡ 1 → n ≡ with_input x degree register → n / 2 ^ degree ≡ top → HoldsParity degree terms a register
     → IsParity (lowest_bits (suc degree) terms) (a ++ x ∷ []) (add (lowest_bits degree n) (scale (bit_with (top % 2)) (lowest_bits degree terms)))
-parity_fed degree terms register n top x a first is at_top known =
+parity_raised degree terms register n top x a first is at_top known =
     let low : List Bit = lowest_bits degree terms in
     let terms_are : lowest_bits (suc degree) terms ≡ One ∷ low = terms_bits degree terms first in
-    let up : lowest_bits (suc degree) (fed x degree register) ≡ bit_with (top % 2) ∷ lowest_bits degree n = ap (lowest_bits (suc degree)) (sym is) ∙ top_bits degree n top at_top in
+    let up : lowest_bits (suc degree) (with_input x degree register) ≡ bit_with (top % 2) ∷ lowest_bits degree n = ap (lowest_bits (suc degree)) (sym is) ∙ top_bits degree n top at_top in
     rw terms_are
     (parity_more low a (lowest_bits degree register) (lowest_bits degree n) x (bit_with (top % 2)) (moved x (bit_with (top % 2)) degree register (lowest_bits degree n) up)
     (rw terms_are at known.parity))
 
 -- the register with one more bit, where a one comes to the top
-pub holds_one : (degree terms register n : ℕ) (x : Bit) (a : List Bit) → terms / 2 ^ degree ≡ 1 → n ≡ fed x degree register → 2 ^ degree ≤ n → HoldsParity degree terms a register → HoldsParity degree terms (a ++ x ∷ []) (bit_xor n terms)
+pub holds_one : (degree terms register n : ℕ) (x : Bit) (a : List Bit) → terms / 2 ^ degree ≡ 1 → n ≡ with_input x degree register → 2 ^ degree ≤ n → HoldsParity degree terms a register → HoldsParity degree terms (a ++ x ∷ []) (bit_xor n terms)
 holds_one degree terms register n x a first is high known =
-    let low : n < 2 * 2 ^ degree = rw is (fed-lt x degree register known.small) in
+    let low : n < 2 * 2 ^ degree = rw is (with_input-lt x degree register known.small) in
     record {
       small = reduced-lt degree n terms first high low;
-      parity = rw lowest_bits-xor (parity_fed degree terms register n 1 x a first is (top_one n (2 ^ degree) (pow_pos degree) high low) known);
+      parity = rw lowest_bits-xor (parity_raised degree terms register n 1 x a first is (top_one n (2 ^ degree) (pow_pos degree) high low) known);
     }
 
 -- the same, where a zero comes to the top
-pub holds_zero : (degree terms register n : ℕ) (x : Bit) (a : List Bit) → terms / 2 ^ degree ≡ 1 → n ≡ fed x degree register → n < 2 ^ degree → HoldsParity degree terms a register → HoldsParity degree terms (a ++ x ∷ []) n
+pub holds_zero : (degree terms register n : ℕ) (x : Bit) (a : List Bit) → terms / 2 ^ degree ≡ 1 → n ≡ with_input x degree register → n < 2 ^ degree → HoldsParity degree terms a register → HoldsParity degree terms (a ++ x ∷ []) n
 holds_zero degree terms register n x a first is low known =
     let same : add (lowest_bits degree n) (replicate (length (lowest_bits degree terms)) Zero) ≡ lowest_bits degree n =
     add_zeros (length (lowest_bits degree terms)) (lowest_bits degree n) (length-lowest_bits degree terms ∙ sym (length-lowest_bits degree n)) in
     record {
       small = low;
-      parity = rw (sym same) (parity_fed degree terms register n 0 x a first is (below_top n (2 ^ degree) (pow_pos degree) low) known);
+      parity = rw (sym same) (parity_raised degree terms register n 0 x a first is (below_top n (2 ^ degree) (pow_pos degree) low) known);
     }
 
 pub reverse-lowest_bits : (i n : ℕ) → reverse (lowest_bits (i + 1) n) ≡ reverse (lowest_bits i n) ++ bit_with (bit_at n i) ∷ []

@@ -19,7 +19,7 @@ pub record HoldsParity (degree terms : ℕ) (block : List Bit) (register : ℕ) 
   pub small : register < 2 ^ degree
   pub parity : IsParity (lowest_bits (suc degree) terms) block (lowest_bits degree register)
 
--- twice the register, plus a bit at the place of the first term
-abbrev pub fed : Bit → ℕ → ℕ → ℕ
-fed Zero degree register = 2 * register
-fed One degree register = bit_xor (2 * register) (2 ^ degree)
+-- the register moved up by a place, plus an input bit at the place of the first term
+abbrev pub with_input : Bit → ℕ → ℕ → ℕ
+with_input Zero degree register = 2 * register
+with_input One degree register = bit_xor (2 * register) (2 ^ degree)

@@ -4,6 +4,7 @@
 ghost use Rattle.std.specs.Prelude.{◌≡◌, ◌+◌, ◌-◌, ◌^◌, ◌<◌, ◌≤◌, ◌↔◌, ◌∷◌, List, length, take, reverse, IsTrue};
 ghost use Rattle.dch_bits.specs.declared.bit.Bit.{Bit};
 ghost use Rattle.dch_bits.specs.declared.bit.Bit.TheVariants.{One};
+ghost use Rattle.dch_types.specs.declared.channel.Crc.{Crc};
 ghost use Rattle.dch_types.specs.Lengths.{crc_size};
 ghost use Rattle.dch_crc.specs.Parity.{IsParity, IsAttached, IsCheck, header_polynomial, payload_polynomial, bits_of_octets};
 ghost use Rattle.dch_crc.specs.Register.{lowest_bits};
@@ -78,10 +79,13 @@ fn is_reversed(number: u32, bits: &[Bit]) -> bool
     true
 }
 
-/// A law: under a polynomial with a first term, each block has one parity and no other.
+/// A law: under a polynomial with a first term, each block has one parity and no other, and so it has one attached form,
+/// which is longer by the number of parity bits.
 pub fn one_parity()
     ensures some { (low block : List Bit) → (parity : List Bit) × IsParity (One ∷ low) block parity }
     ensures one { (low block parity other : List Bit) → IsParity (One ∷ low) block parity → IsParity (One ∷ low) block other → parity ≡ other }
+    ensures attached { (kind : Crc) (block out other : List Bit) → IsAttached kind block out → IsAttached kind block other → out ≡ other }
+    ensures length { (kind : Crc) (block out : List Bit) → IsAttached kind block out → length out ≡ length block + crc_size kind }
 {}
 
 #[cfg(test)]

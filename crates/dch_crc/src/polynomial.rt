@@ -3,7 +3,7 @@ ghost use Rattle.std.specs.Int.{bit_at};
 ghost use Rattle.dch_bits.specs.declared.bit.Bit.{Bit};
 ghost use Rattle.dch_types.specs.Lengths.{crc_size};
 ghost use Rattle.dch_crc.specs.Parity.{polynomial, header_polynomial, payload_polynomial, bits_of_octets};
-ghost use Rattle.dch_crc.specs.Register.{bit_with, lowest_bits, HoldsParity, fed};
+ghost use Rattle.dch_crc.specs.Register.{bit_with, lowest_bits, HoldsParity, with_input};
 
 use dch_bits::Bit;
 use dch_types::Crc;
@@ -72,35 +72,35 @@ impl Polynomial {
         }
     }
 
-    /// The number of the first term.
-    fn top(self) -> u32
+    /// The first term, as a number.
+    fn first_term(self) -> u32
         ensures { result ≡ 2 ^ self.degree }
     {
         1 << self.degree
     }
 
-    /// The register moved up by one bit of the block, which comes in at the first term.
-    fn fed(self, register: u32, bit: Bit) -> u32
+    /// The register moved up by a place, with a bit of the block that comes in at the first term.
+    fn with_input(self, register: u32, bit: Bit) -> u32
         requires { register < 2 ^ self.degree }
-        ensures { result ≡ fed bit self.degree register }
+        ensures { result ≡ with_input bit self.degree register }
     {
         match bit {
             Bit::Zero => 2 * register,
-            Bit::One => (2 * register) ^ self.top(),
+            Bit::One => (2 * register) ^ self.first_term(),
         }
     }
 
-    /// The register with one more bit of the block.
+    /// The register after one more bit of the block.
     fn next(self, register: u32, bit: Bit) -> u32
         requires { register < 2 ^ self.degree }
         ensures small { result < 2 ^ self.degree }
         ensures parity { (a : List Bit) → HoldsParity self.degree self.terms a register → HoldsParity self.degree self.terms (a ++ bit ∷ []) result }
     {
-        let fed = self.fed(register, bit);
-        if fed >= self.top() {
-            fed ^ self.terms
+        let raised = self.with_input(register, bit);
+        if raised >= self.first_term() {
+            raised ^ self.terms
         } else {
-            fed
+            raised
         }
     }
 
