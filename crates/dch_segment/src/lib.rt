@@ -79,14 +79,10 @@ mod tests {
             (5000, Coding::Uncoded, 1, 5000, 0),
             (0, Coding::Half, 0, 0, 0),
         ] {
-            assert!(rt;
-                plan(bits, coding)
-                    == Plan {
-                        bits,
-                        blocks,
-                        size,
-                        filler
-                    }
+            let cut = plan(bits, coding);
+            assert_eq!(rt;
+                (cut.bits, cut.blocks, cut.size, cut.filler),
+                (bits, blocks, size, filler)
             );
         }
     }
