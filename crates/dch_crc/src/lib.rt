@@ -15,14 +15,14 @@ use dch_bits::Bit;
 use dch_types::Crc;
 use polynomial::{Polynomial, bit};
 
-/// The number of parity bits.
+/// The number of parity bits of a transport block.
 pub fn size(kind: Crc) -> usize
     ensures { result ≡ crc_size kind }
 {
     usize::from(kind.size())
 }
 
-/// Writes a block and its parity bits into `out`.
+/// Writes a block, and after it its parity bits, the last one first (TS 25.212 4.2.1.2).
 pub fn attach(kind: Crc, block: &[Bit], out: &mut [Bit])
     requires { length out.old ≡ length block.now + crc_size kind }
     ensures { IsAttached kind block.now out.new }
@@ -32,7 +32,7 @@ pub fn attach(kind: Crc, block: &[Bit], out: &mut [Bit])
     write_reversed(Polynomial::of(kind).parity(block), back);
 }
 
-/// Whether the last bits are the parity bits of the block before them.
+/// Whether the bits end with the parity bits of the block before them.
 pub fn check(kind: Crc, bits: &[Bit]) -> bool
     requires { crc_size kind ≤ length bits.now }
     ensures { IsTrue result ↔ IsAttached kind (take (length bits.now - crc_size kind) bits.now) bits.now }
@@ -41,7 +41,7 @@ pub fn check(kind: Crc, bits: &[Bit]) -> bool
     is_reversed(Polynomial::of(kind).parity(block), parity)
 }
 
-/// The check of an Iub frame's header, over the bits that follow it (TS 25.427).
+/// The seven check bits of an Iub frame's header, over the header's bits after them (TS 25.427).
 pub fn header7(bits: &[Bit]) -> u8
     ensures check { IsCheck header_polynomial bits.now result }
     ensures small { result < 2 ^ 7 }
@@ -49,7 +49,7 @@ pub fn header7(bits: &[Bit]) -> u8
     Polynomial::of_header().parity(bits) as u8
 }
 
-/// The check of an Iub frame's payload, over the octets before it (TS 25.427).
+/// The check of an Iub frame's payload, over the octets between the header and the check (TS 25.427).
 pub fn payload16(octets: &[u8]) -> u16
     ensures { IsCheck payload_polynomial (bits_of_octets octets.now) result }
 {

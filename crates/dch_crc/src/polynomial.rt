@@ -1,11 +1,11 @@
-ghost use Rattle.std.specs.Prelude.{◌≡◌, ◌+◌, ◌/◌, ◌^◌, ◌<◌, ◌≤◌, ◌++◌, ◌∷◌, [], List, suc};
+ghost use Rattle.std.specs.Prelude.{◌≡◌, ◌+◌, ◌-◌, ◌*◌, ◌/◌, ◌^◌, ◌<◌, ◌≤◌, ◌++◌, ◌∷◌, [], List, suc};
 ghost use Rattle.std.specs.Int.{bit_at};
 ghost use Rattle.dch_bits.specs.declared.bit.Bit.{Bit};
 ghost use Rattle.dch_types.specs.Lengths.{crc_size};
 ghost use Rattle.dch_crc.specs.Parity.{polynomial, header_polynomial, payload_polynomial, bits_of_octets};
-ghost use Rattle.dch_crc.specs.Register.{bit_with, lowest_bits, HoldsParity, with_input};
+ghost use Rattle.dch_crc.specs.Register.{bit_with, lowest_bits, HoldsParity};
 
-use dch_bits::Bit;
+use dch_bits::{Bit, number};
 use dch_types::Crc;
 
 /// A polynomial modulo 2: its degree, and its terms as the bits of a number.
@@ -72,60 +72,56 @@ impl Polynomial {
         }
     }
 
-    /// The first term, as a number.
-    fn first_term(self) -> u32
-        ensures { result ≡ 2 ^ self.degree }
+    /// The terms below the first one, the highest of them at bit 31, as those of a polynomial of degree 32.
+    fn lower_terms(self) -> u32
+        ensures { 2 ^ 32 + result ≡ self.terms * 2 ^ (32 - self.degree) }
     {
-        1 << self.degree
+        self.terms << (31 - self.degree) << 1
     }
 
-    /// The register moved up by a place, with a bit of the block that comes in at the first term.
-    fn with_input(self, register: u32, bit: Bit) -> u32
-        requires { register < 2 ^ self.degree }
-        ensures { result ≡ with_input bit self.degree register }
+    /// The parity of this degree, of a register that holds that of degree 32.
+    fn parity_in(self, register: u32) -> u32
+        ensures { result ≡ register / 2 ^ (32 - self.degree) }
     {
-        match bit {
-            Bit::Zero => 2 * register,
-            Bit::One => (2 * register) ^ self.first_term(),
-        }
-    }
-
-    /// The register after one more bit of the block.
-    fn next(self, register: u32, bit: Bit) -> u32
-        requires { register < 2 ^ self.degree }
-        ensures small { result < 2 ^ self.degree }
-        ensures parity { (a : List Bit) → HoldsParity self.degree self.terms a register → HoldsParity self.degree self.terms (a ++ bit ∷ []) result }
-    {
-        let raised = self.with_input(register, bit);
-        if raised >= self.first_term() {
-            raised ^ self.terms
-        } else {
-            raised
-        }
+        register >> (31 - self.degree) >> 1
     }
 
     /// The parity of a block, as a number.
     pub fn parity(self, block: &[Bit]) -> u32
         ensures { HoldsParity self.degree self.terms block.now result }
     {
+        let terms = self.lower_terms();
         let mut register = 0;
         for bit in block {
-            register = self.next(register, *bit);
+            register = next(terms, register, *bit);
         }
-        register
+        self.parity_in(register)
     }
 
     /// The parity of octets, the highest bit of each first, as a number.
     pub fn parity_of_octets(self, octets: &[u8]) -> u32
         ensures { HoldsParity self.degree self.terms (bits_of_octets octets.now) result }
     {
+        let terms = self.lower_terms();
         let mut register = 0;
         for octet in octets {
             for j in 0..8u32 {
-                register = self.next(register, bit(u32::from(*octet), 7 - j));
+                register = next(terms, register, bit(u32::from(*octet), 7 - j));
             }
         }
-        register
+        self.parity_in(register)
+    }
+}
+
+/// The register after one more bit of a block, under the polynomial of degree 32 with these terms below its first one.
+fn next(terms: u32, register: u32, bit: Bit) -> u32
+    ensures { (a : List Bit) → HoldsParity 32 (2 ^ 32 + terms) a register → HoldsParity 32 (2 ^ 32 + terms) (a ++ bit ∷ []) result }
+{
+    let raised = register ^ (u32::from(number(bit)) << 31);
+    if raised >> 31 == 1 {
+        (raised << 1) ^ terms
+    } else {
+        raised << 1
     }
 }
 
