@@ -1,5 +1,5 @@
 -- The numbers of a downlink matching are within the ranges of a pattern, and no combination exceeds a radio frame.
-use Rattle.std.proofs.Common.{◌≡◌, ◌<◌, ◌≤◌, ◌+◌, ◌*◌, ◌/◌, ◌^◌, ℕ, Bool, true, false, cond, List, [], ◌∷◌, ◌++◌, length, get_or, refl, ap, ap₂, sym, subst, ◌∙◌, arith, below_more}
+use Rattle.std.proofs.Common.{◌≡◌, ◌<◌, ◌≤◌, ◌+◌, ◌*◌, ◌/◌, ℕ, Bool, true, false, cond, List, [], ◌∷◌, ◌++◌, length, get_or, ap, ap₂, sym, subst, ◌∙◌, arith, below_more}
 use Rattle.std.proofs.Math.Nat.{mul-zero, zero-div, div-le_self}
 use Rattle.std.proofs.lemmas.Nat.{mul-le}
 use Rattle.std.proofs.lemmas.List.{get_or_append_left, get_or_push, length_push}
@@ -7,15 +7,15 @@ use Rattle.dch_types.specs.declared.channel.Trch.{Trch}
 use Rattle.dch_types.specs.declared.channel.Side.{Side}
 use Rattle.dch_types.specs.declared.config.Downlink.{Downlink}
 use Rattle.dch_types.specs.Lengths.{tti_bits}
-use Rattle.dch_types.specs.Limits.{IsChannel, IsSide, IsDownlink}
+use Rattle.dch_types.specs.Limits.{IsSide, IsDownlink}
 use Rattle.dch_types.specs.Parts.{channel_at, format_at, format_number}
 use Rattle.dch_match.specs.declared.pattern.Kind.{Kind}
 use Rattle.dch_match.specs.declared.pattern.Pattern.{Pattern}
 use Rattle.dch_match.specs.declared.downlink_plan.Matching.{Matching}
-use Rattle.dch_match.specs.Downlinks.{ndata_of, most_of, fixed_weight, fixed_places, eighths, places_after, places_of, bits_of, pattern_of, no_matching, matching_at, row_at, IsMatching, IsRow, IsDownlinkPlan}
+use Rattle.dch_match.specs.Downlinks.{ndata_of, most_of, fixed_weight, fixed_places, eighths, places_after, places_of, bits_of, no_matching, matching_at, row_at, IsMatching, IsRow, IsDownlinkPlan}
 use Rattle.dch_match.specs.Matched.{matched}
 use Rattle.dch_match.specs.Patterns.{copies_below, IsWellFormed}
-use Rattle.dch_match.specs.Shares.{total, shared}
+use Rattle.dch_match.specs.Shares.{total}
 use Rattle.dch_match.proofs.Changes.{below_le}
 use Rattle.dch_match.proofs.Greatest.{most_is, most_le}
 use Rattle.dch_match.proofs.Lowered.{first_le, nothing_first, after_le, fits_after}

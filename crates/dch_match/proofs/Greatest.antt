@@ -8,7 +8,7 @@ use Rattle.dch_types.specs.declared.channel.Trch.{Trch}
 use Rattle.dch_types.specs.declared.channel.Side.{Side}
 use Rattle.dch_types.specs.Lengths.{tti_bits}
 use Rattle.dch_types.specs.Limits.{IsChannel}
-use Rattle.dch_types.specs.Parts.{channel_at, format_at, format_number}
+use Rattle.dch_types.specs.Parts.{format_at, format_number}
 use Rattle.dch_match.specs.Downlinks.{most_below, most_of, flexible_weight, combined, greatest_below, stands_below}
 use Rattle.dch_match.specs.Shares.{total}
 use Rattle.dch_match.proofs.Changes.{one_more}

@@ -1,4 +1,5 @@
 pub mod Changes
+pub mod Decided
 pub mod Fits
 pub mod Greatest
 pub mod Lowered

@@ -18,3 +18,6 @@ pub use downlink_plan::{DownlinkPlan, downlink};
 pub use pattern::{Kind, Pattern, Steps, keeps, kept, origin};
 pub use uplink_plan::{MatchError, UplinkPlan, frame, uplink};
 pub use walk::Walk;
+
+#[cfg(test)]
+mod tests;

@@ -1,4 +1,4 @@
-use Rattle.std.proofs.Common.{◌≡◌, ◌<◌, ◌≤◌, ◌+◌, ℕ, true, false, min, length, ap, ap₂, sym, ◌∙◌, arith, below_more, inl, inr}
+use Rattle.std.proofs.Common.{◌≡◌, ◌<◌, ◌+◌, ℕ, true, false, min, length, ap, ap₂, sym, ◌∙◌, arith, below_more, inl, inr}
 use Rattle.std.proofs.lemmas.Bool.{cases_eq, lt-ltb, le-ltb}
 use Rattle.dch_types.specs.declared.channel.Side.{Side}
 use Rattle.dch_types.specs.Limits.{IsSide}

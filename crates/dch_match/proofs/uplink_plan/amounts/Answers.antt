@@ -1,7 +1,6 @@
-use Rattle.std.proofs.Common.{◌≡◌, ◌<◌, ◌≤◌, ◌+◌, ◌-◌, ◌*◌, ◌/◌, ℕ, zero, suc, List, [], ◌∷◌, length, slice_index, ap, ◌∙◌, sym, refl, arith, below_more, length-set}
+use Rattle.std.proofs.Common.{◌≡◌, ◌<◌, ◌≤◌, ◌+◌, ℕ, zero, suc, List, [], ◌∷◌, length, slice_index, ◌∙◌, sym, refl, arith, below_more, length-set}
 use Rattle.std.proofs.lemmas.List.{get_or-set_same, get_or-set_other}
 use Rattle.std.proofs.Math.ListN.{set}
-use Rattle.dch_match.specs.Shares.{total, shared}
 use Rattle.dch_match.specs.Uplinks.{before_of, weight_of, sent_of}
 use Rattle.dch_match.proofs.SharesLemmas.{total-zero, total-more, part_le, share_is}
 use Rattle.dch_match.proofs.uplink_plan.amounts.Goals as goal
