@@ -1,5 +1,5 @@
 -- The lines of the command `encode`: `code CODE CRC BITS`.
-use Rattle.std.specs.Prelude.{◌≡◌, ◌==◌, ◌-◌, ◌&&◌, ◌||◌, ℕ, List, [], ◌∷◌, Bool, Option, Some, None, Result, Ok, Err, codes, if◌then◌else◌, length, take, nat_le, nat_lt, slice_index}
+use Rattle.std.specs.Prelude.{◌≡◌, ◌==◌, ◌-◌, ◌&&◌, ◌||◌, ℕ, List, [], ◌∷◌, Bool, true, Option, Some, None, Result, Ok, Err, codes, if◌then◌else◌, length, take, nat_le, nat_lt, slice_index}
 use Rattle.std.specs.List.{list_all}
 use Rattle.std.specs.Str.{bytes_eq}
 use Rattle.dch_types.specs.declared.channel.Coding.{Coding}
@@ -59,7 +59,7 @@ longest = 1048576
 unfoldable pub meaning : List ℕ → Result CodeLine LineError
 meaning line = if nat_lt longest (length (content line)) then Err Long else (if is_ended line then line_words (words_of (content line)) else Err Cut)
 
--- an event or an error is what words or a line say
+-- an event or an error is what words or a line say; an event lends a text of bits
 abbrev pub IsSaid : Result CodeLine LineError → Result Event LineError → Type 0
-IsSaid said (Ok (Code coding crc bits)) = said ≡ Ok (record { coding = coding; crc = crc; bits = bits.now })
+IsSaid said (Ok (Code coding crc bits)) = (said ≡ Ok (record { coding = coding; crc = crc; bits = bits.now })) × (is_bits 5000 bits.now ≡ true)
 IsSaid said (Err error) = said ≡ Err error

@@ -1,4 +1,4 @@
-ghost use Rattle.std.specs.Prelude.{◌≡◌, ◌+◌, ◌≤◌, ◌++◌, [], length, map, IfOk};
+ghost use Rattle.std.specs.Prelude.{◌≡◌, ◌+◌, ◌≤◌, ◌++◌, [], length, map, decimal, IfOk};
 ghost use Rattle.dch_bits.specs.Text.{letter_of};
 ghost use Rattle.dch_script.specs.Report.{line_text, bits_shown};
 
@@ -69,7 +69,8 @@ impl Report {
     /// Appends a line, with its line feed.
     pub fn put(&mut self, line: &Line<'_>)
         requires { length self.old.text + length (line_text line.now) ≤ self.old.most }
-        ensures { self.new ≡ record self.old { text = self.old.text ++ line_text line.now } }
+        ensures text { self.new ≡ record self.old { text = self.old.text ++ line_text line.now } }
+        ensures len { length self.new.text ≡ length self.old.text + length (line_text line.now) }
     {
         match line {
             Line::Coded { bits } => {
@@ -78,19 +79,30 @@ impl Report {
             }
             Line::EndLines(count) => {
                 self.put_text(b"end lines=");
-                self.put_text(Buffer::new().format(*count).as_bytes());
+                self.put_number(*count);
             }
         }
         self.put_text(b"\n");
     }
 
-    fn put_text(&mut self, text: &[u8])
+    /// Appends text as it stands.
+    pub fn put_text(&mut self, text: &[u8])
         requires { length self.old.text + length text.now ≤ self.old.most }
-        ensures { self.new ≡ record self.old { text = self.old.text ++ text.now } }
+        ensures text { self.new ≡ record self.old { text = self.old.text ++ text.now } }
+        ensures len { length self.new.text ≡ length self.old.text + length text.now }
     {
         let end = self.used + text.len();
         self.room[self.used..end].copy_from_slice(text);
         self.used = end;
+    }
+
+    /// Appends a number in decimal.
+    pub fn put_number(&mut self, number: u64)
+        requires { length self.old.text + length (decimal number) ≤ self.old.most }
+        ensures text { self.new ≡ record self.old { text = self.old.text ++ decimal number } }
+        ensures len { length self.new.text ≡ length self.old.text + length (decimal number) }
+    {
+        self.put_text(Buffer::new().format(number).as_bytes());
     }
 
     fn put_bits(&mut self, bits: &[Bit])
