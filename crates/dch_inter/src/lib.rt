@@ -109,7 +109,8 @@ pub fn second(len: usize, k: usize) -> usize
     ensures value { result ≡ second_of len k }
     ensures inside { result < len }
     ensures undone { second_back_of len result ≡ k }
-    ensures by_columns { (n r : ℕ) → n < 30 → r < height_of len (slice_index second_columns n) → k ≡ sum_by (height_of len) (take n second_columns) + r → result ≡ 30 * r + slice_index second_columns n }
+    ensures by_columns { (n r : ℕ) → n < 30 → r < height_of len (slice_index second_columns n) →
+        k ≡ sum_by (height_of len) (take n second_columns) + r → result ≡ 30 * r + slice_index second_columns n }
 {
     let mut row = k;
     for column in columns() {

@@ -1,4 +1,4 @@
-//! Code block segmentation (TS 25.212 4.2.2.2): the transport blocks of a TTI, joined, are cut into code blocks of one size.
+//! Code block segmentation (TS 25.212 4.2.2.2): the joined bits of a TTI are cut into code blocks of one size.
 #![tactic(auto)]
 
 ghost use Rattle.std.specs.Prelude.{◌≡◌, ◌≢◌, ◌+◌, ◌*◌, ◌^◌, ◌<◌, ◌≤◌, ◌++◌, ℕ, List, length, replicate, drop, slice_index_or};
@@ -48,7 +48,8 @@ pub fn split(plan: &Plan, joined: &[Bit], out: &mut [Bit])
     requires plan { IsPlan plan.now }
     requires joined { length joined.now ≡ plan.now.bits }
     requires room { length out.old ≡ plan.now.blocks * plan.now.size }
-    ensures bits { (r k : ℕ) → r < plan.now.blocks → k < plan.now.size → slice_index_or out.new (r * plan.now.size + k) Zero ≡ block_bit plan.now joined.now r k }
+    ensures bits { (r k : ℕ) → r < plan.now.blocks → k < plan.now.size →
+        slice_index_or out.new (r * plan.now.size + k) Zero ≡ block_bit plan.now joined.now r k }
     ensures whole { out.new ≡ replicate plan.now.filler Zero ++ joined.now }
 {
     let (filler, bits) = out.split_at_mut(plan.filler);
