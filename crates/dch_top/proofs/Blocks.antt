@@ -1,12 +1,11 @@
 -- A bit text that was judged reads without an error.
-use Rattle.std.proofs.Common.{◌≡◌, ◌<◌, ◌≤◌, ◌+◌, ℕ, List, [], ◌∷◌, Bool, true, false, length, get_or, arith, refl, sym, ◌∙◌, ap, Option, None, Some, ⊎_elim}
-use Rattle.std.specs.Prelude.{◌==◌, ◌||◌, ◌&&◌, not, Result, Ok, Err, position, nat_le, nat_lt, codes}
+use Rattle.std.proofs.Common.{◌≡◌, ◌<◌, ℕ, List, [], Bool, true, false, length, get_or, arith, refl, Option, None, Some}
+use Rattle.std.specs.Prelude.{◌==◌, ◌||◌, ◌&&◌, not, Ok, Err, position, nat_le, nat_lt, codes}
 use Rattle.std.specs.List.{list_all}
 use Rattle.std.specs.Str.{bytes_eq}
 use Rattle.std.proofs.lemmas.List.Folds.{list_all_at}
 use Rattle.std.proofs.lemmas.List.Quantifiers.{position-Some}
 use Rattle.std.proofs.lemmas.Bool.Decides.{nat_tests}
-use Rattle.dch_bits.specs.declared.bit.Bit.{Bit}
 use Rattle.dch_bits.specs.declared.text.BitsError.{BitsError}
 use Rattle.dch_bits.specs.Text.{is_no_bit, unless_bad, reading}
 use Rattle.dch_script.specs.Code.{is_bits}

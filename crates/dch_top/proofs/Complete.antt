@@ -1,12 +1,12 @@
 -- A run without faults on good lines ends well.
-use Rattle.std.proofs.Common.{◌≡◌, ◌⊎◌, ◌+◌, ◌<◌, ◌≤◌, ◌++◌, ℕ, List, [], ◌∷◌, length, get_or, refl, ap, sym, ◌∙◌, subst, append-nil, append_assoc, length-append, true, false, arith, inl, inr, IfSome, None, Some, ⊎_elim}
-use Rattle.std.specs.Prelude.{All, IsOk, Err, Result, Ok as Good}
+use Rattle.std.proofs.Common.{◌≡◌, ◌⊎◌, ◌≤◌, ◌++◌, ℕ, List, [], ◌∷◌, length, get_or, refl, ap, sym, ◌∙◌, append-nil, append_assoc, length-append, true, arith, inl, inr, IfSome, None, Some, ⊎_elim}
+use Rattle.std.specs.Prelude.{IsOk, Err, Result, Ok as Good}
 use Rattle.std.proofs.lemmas.Bool.{false≢true}
 use Rattle.std.proofs.Math.Seq.{get_or-append_seam}
 use Rattle.std.specs.declared.option.Option.{Option}
 use Rattle.std.specs.Io.KnownBytes.{Consumes, IsAtEnd}
 use Rattle.dch_io.specs.Causes.{Rose}
-use Rattle.dch_script.specs.Code.{CodeLine, longest, meaning}
+use Rattle.dch_script.specs.Code.{meaning}
 use Rattle.dch_script.specs.declared.event.LineError.{LineError}
 use Rattle.dch_script.specs.declared.event.LineError.TheVariants.{Long}
 use Rattle.dch_top.specs.Ends.{End, span}

@@ -1,11 +1,11 @@
 -- The lines of bytes in parts.
-use Rattle.std.proofs.Common.{◌≡◌, ◌+◌, ◌-◌, ◌<◌, ◌≤◌, ◌⊎◌, ℕ, zero, suc, List, [], ◌∷◌, ◌++◌, Option, None, Some, Bool, true, false, length, take, drop, arith, refl, ap, ap₂, sym, ◌∙◌, append_assoc, append-nil, inl, inr, length-append}
-use Rattle.std.specs.Prelude.{◌==◌, if◌then◌else◌, count_by, not}
+use Rattle.std.proofs.Common.{◌≡◌, ◌+◌, ℕ, zero, suc, List, [], ◌∷◌, ◌++◌, None, Some, true, false, take, arith, refl, ap, sym, ◌∙◌, append_assoc, append-nil}
+use Rattle.std.specs.Prelude.{◌==◌, if◌then◌else◌, not}
 use Rattle.std.proofs.lemmas.Bool.{false_from_ne_true}
 use Rattle.std.proofs.lemmas.List.Sums.{sum_by-append}
-use Rattle.memchr.specs.Find.{IsFirstByte, Passes, is_byte}
+use Rattle.memchr.specs.Find.{IsFirstByte, is_byte}
 use Rattle.dch_top.specs.Lines.{lines_after, rest_after}
-use Rattle.dch_top.specs.Said.{LinesSay, LineSays, is_empty, spoken}
+use Rattle.dch_top.specs.Said.{LinesSay, is_empty, spoken}
 
 -- bytes after others
 pub lines_after-append : (begun xs ys : List ℕ) → lines_after begun (xs ++ ys) ≡ lines_after begun xs ++ lines_after (rest_after begun xs) ys

@@ -1,13 +1,11 @@
 -- What following some bytes and then others does.
-use Rattle.std.proofs.Common.{◌≡◌, ◌+◌, ◌-◌, ◌<◌, ◌≤◌, ◌⊎◌, ℕ, List, [], ◌∷◌, ◌++◌, Option, None, Some, Bool, true, false, length, take, drop, arith, refl, ap, ap₂, sym, ◌∙◌, append_assoc, append-nil, inl, inr, length-append, ⊎_elim}
+use Rattle.std.proofs.Common.{◌≡◌, ◌≤◌, ℕ, List, ◌∷◌, ◌++◌, Option, arith, ap, sym, ◌∙◌, append_assoc, inl, inr, length-append, ⊎_elim}
 use Rattle.std.specs.Io.KnownBytes.{Appends}
 use Rattle.std.proofs.KnownBytes.{Appends-trans}
-use Rattle.dch_io.specs.Causes.{Rose}
 use Rattle.dch_script.specs.declared.event.LineError.{LineError}
-use Rattle.dch_top.specs.Desk.{Work, Takes, MeetsMalformed, StopsAt, FailsIn}
-use Rattle.dch_top.specs.Ends.{End, IsCutShort, Passes, Breaks, span}
+use Rattle.dch_top.specs.Desk.{Work, Takes, StopsAt, FailsIn}
+use Rattle.dch_top.specs.Ends.{End, Passes, Breaks, span}
 use Rattle.dch_top.specs.Lines.{lines_after, rest_after}
-use Rattle.dch_top.specs.Said.{LinesSay, spoken}
 use Rattle.dch_top.proofs.Cuts.{lines_after-append, rest_after-append, says_append, spoken-append}
 
 pub passes_on : (a b c : Option (List ℕ)) (f g h : ℕ) (text mid more left : List ℕ) → Passes (span a b f g) text mid → Passes (span b c g h) (mid ++ more) left → Passes (span a c f h) (text ++ more) left

@@ -1,13 +1,13 @@
 -- What a piece does, by what following it, flushing and refusing do.
-use Rattle.std.proofs.Common.{◌≡◌, ◌+◌, ◌<◌, ◌≤◌, ◌⊎◌, ℕ, List, [], ◌∷◌, ◌++◌, Option, length, arith, refl, ap, sym, ◌∙◌, append_assoc, append-nil, inl, inr, ⊎_elim}
+use Rattle.std.proofs.Common.{◌≡◌, ◌+◌, ◌≤◌, ℕ, List, [], ◌∷◌, ◌++◌, Option, length, refl, sym, ◌∙◌, append-nil, inl, inr, ⊎_elim}
 use Rattle.std.specs.Io.KnownBytes.{Appends}
 use Rattle.std.proofs.KnownBytes.{Appends-trans}
 use Rattle.dch_script.specs.declared.event.LineError.{LineError}
 use Rattle.dch_top.specs.Desk.{Work, Takes, MeetsMalformed, StopsAt, FailsIn}
-use Rattle.dch_top.specs.Ends.{End, Breaks, Passes, span}
+use Rattle.dch_top.specs.Ends.{End, Breaks, span}
 use Rattle.dch_top.specs.Lines.{lines_after}
 use Rattle.dch_top.specs.Pieces.{BreaksIn}
-use Rattle.dch_top.specs.Said.{LinesSay, refusal}
+use Rattle.dch_top.specs.Said.{refusal}
 use Rattle.dch_top.proofs.Parts.{breaks_on}
 
 pub flushed : (a b c : Option (List ℕ)) (f g h : ℕ) (old mid new : Work) (piece : List ℕ) → Takes (span a b f g) old mid piece → Appends b c mid.text → new ≡ record mid { text = [] } → Takes (span a c f h) old new piece

@@ -1,18 +1,17 @@
 -- How a run goes on and ends, by what the pieces do.
-use Rattle.std.proofs.Common.{◌≡◌, ◌+◌, ◌-◌, ◌<◌, ◌≤◌, ◌⊎◌, ℕ, List, [], ◌∷◌, ◌++◌, Option, None, Some, length, take, drop, arith, refl, ap, sym, ◌∙◌, subst, append_assoc, append-nil, inl, inr, ⊎_elim, length-append, length-take}
+use Rattle.std.proofs.Common.{◌≡◌, ◌+◌, ◌<◌, ◌≤◌, ℕ, List, [], ◌∷◌, ◌++◌, Option, None, Some, length, take, arith, refl, ap, sym, ◌∙◌, subst, append_assoc, append-nil, inl, inr, ⊎_elim, length-append}
 use Rattle.std.proofs.lemmas.List.{take-append-le, take_all}
 use Rattle.std.specs.Prelude.{Err}
-use Rattle.std.specs.Io.KnownBytes.{Consumes, Appends, IsAtEnd, Keeps}
+use Rattle.std.specs.Io.KnownBytes.{Consumes, IsAtEnd, Keeps}
 use Rattle.std.proofs.KnownBytes.{Appends-trans, Consumes-trans, Appends-nil, Consumes-nil}
-use Rattle.dch_script.specs.Code.{longest}
 use Rattle.dch_script.specs.declared.event.LineError.{LineError}
 use Rattle.dch_script.specs.declared.event.LineError.TheVariants.{Cut}
-use Rattle.dch_top.specs.Desk.{Work, Takes, MeetsMalformed, IsAt}
-use Rattle.dch_top.specs.Ends.{End, Breaks, Fails, IsCutShort, Passes, span}
-use Rattle.dch_top.specs.Lines.{lines_after, rest_after, lines_of, rest_of}
+use Rattle.dch_top.specs.Desk.{Work, Takes, MeetsMalformed}
+use Rattle.dch_top.specs.Ends.{End, Breaks, Fails, span}
+use Rattle.dch_top.specs.Lines.{lines_after, lines_of, rest_of}
 use Rattle.dch_top.specs.Pieces.{Going, RefusesIn, BreaksIn, TakesPiece, EndsInput}
-use Rattle.dch_top.specs.Ran.{Encodes, IsRefused, MayFollow, IsWhole, Refuses, FailsWriting, IsTooLong}
-use Rattle.dch_top.specs.Said.{LinesSay, closing, refusal, spoken}
+use Rattle.dch_top.specs.Ran.{Encodes, IsRefused, MayFollow}
+use Rattle.dch_top.specs.Said.{LinesSay, closing, refusal}
 use Rattle.dch_top.specs.declared.command.Status.{Status}
 use Rattle.dch_top.specs.declared.command.Status.TheVariants.{Ok, Refused, Usage, ReadFault, WriteFault, NoMemory, TooLong}
 use Rattle.dch_top.specs.declared.feed.TheConstants.{LIMIT, PIECE}

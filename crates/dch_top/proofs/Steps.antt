@@ -1,16 +1,14 @@
 -- What following bytes to the end of one line does.
-use Rattle.std.proofs.Common.{◌≡◌, ◌+◌, ◌-◌, ◌<◌, ◌≤◌, ◌⊎◌, ℕ, zero, suc, List, [], ◌∷◌, ◌++◌, Option, None, Some, Bool, true, false, length, take, drop, get_or, arith, refl, ap, ap₂, sym, ◌∙◌, append_assoc, append-nil, inl, inr, length-append, length-take, ⊎_elim, eqb-true}
-use Rattle.std.specs.Borrow.{Bor}
-use Rattle.std.specs.Prelude.{Result, Ok, Err, ◌==◌, ◌&&◌, if◌then◌else◌, nat_lt, not, codes}
-use Rattle.std.specs.Str.{bytes_eq}
+use Rattle.std.proofs.Common.{◌≡◌, ◌+◌, ◌-◌, ◌<◌, ◌≤◌, ◌⊎◌, ℕ, List, [], ◌∷◌, ◌++◌, Option, Bool, true, false, length, take, arith, refl, ap, sym, ◌∙◌, append_assoc, append-nil, inl, inr, length-append, length-take, ⊎_elim, eqb-true}
+use Rattle.std.specs.Prelude.{Result, Ok, Err, ◌==◌, ◌&&◌, if◌then◌else◌, nat_lt, not}
 use Rattle.std.proofs.lemmas.Bool.{lt-ltb}
-use Rattle.dch_script.specs.Code.{longest, content, is_ended, meaning, line_words}
+use Rattle.dch_script.specs.Code.{longest, content, is_ended, meaning}
 use Rattle.dch_script.specs.declared.event.LineError.{LineError}
-use Rattle.dch_script.specs.declared.event.LineError.TheVariants.{Long, Cut}
-use Rattle.dch_top.specs.Desk.{Work, AddsLine, Takes, MeetsMalformed, StopsAt, FailsIn, EndsLine, EndsIn, GoesOnIn, FollowsPart, Advances, Steps, Follows}
-use Rattle.dch_top.specs.Ends.{End, IsCutShort, Passes, Breaks, span}
+use Rattle.dch_script.specs.declared.event.LineError.TheVariants.{Long}
+use Rattle.dch_top.specs.Desk.{Work, AddsLine, Takes, StopsAt, FailsIn, EndsLine, EndsIn, FollowsPart, Advances, Steps, Follows}
+use Rattle.dch_top.specs.Ends.{End, Passes, Breaks, span}
 use Rattle.dch_top.specs.Lines.{lines_after, rest_after}
-use Rattle.dch_top.specs.Said.{IsMalformed, LinesSay, is_empty, spoken}
+use Rattle.dch_top.specs.Said.{IsMalformed, is_empty, spoken}
 use Rattle.dch_top.specs.declared.stop.Stop.{Stop}
 use Rattle.dch_top.specs.declared.stop.Stop.TheVariants.{Malformed, Failed}
 use Rattle.std.proofs.KnownBytes.{Appends-nil}

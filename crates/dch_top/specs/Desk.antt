@@ -1,8 +1,8 @@
 -- The work of `encode`, by what it took, wrote and holds.
-use Rattle.std.specs.Prelude.{◌≡◌, ◌<◌, ◌≤◌, ◌⊎◌, ℕ, List, [], ◌∷◌, ◌++◌, ◌+◌, false, length, Result, Ok, Err, if◌then◌else◌}
+use Rattle.std.specs.Prelude.{◌≡◌, ◌<◌, ◌≤◌, ◌⊎◌, ℕ, List, [], ◌∷◌, ◌++◌, ◌+◌, length, Result, Ok, Err, if◌then◌else◌}
 use Rattle.std.specs.Borrow.{Bor}
 use Rattle.std.specs.Io.KnownBytes.{Appends}
-use Rattle.dch_script.specs.Code.{CodeLine, longest, meaning}
+use Rattle.dch_script.specs.Code.{CodeLine, longest}
 use Rattle.dch_script.specs.Held.{Held}
 use Rattle.dch_script.specs.declared.code.TheConstants.{LONGEST_LINE}
 use Rattle.dch_script.specs.declared.event.LineError.{LineError}

@@ -1,4 +1,4 @@
-use Rattle.std.proofs.Common.{◌≡◌, ◌∷◌, ◌∙◌, ℕ, List, ap, sym, []}
+use Rattle.std.proofs.Common.{◌∷◌, ◌∙◌, ℕ, List, ap, sym, []}
 use Rattle.std.specs.Borrow.{Bor}
 use Rattle.dch_script.specs.Code.{code_words}
 use Rattle.dch_script.specs.Words.{words_of, later_words}

@@ -1,6 +1,5 @@
-use Rattle.std.proofs.Common.{◌≡◌, ◌∷◌, ◌∙◌, ap, [], Some, None, length, take, drop, ◌+◌, ◌-◌}
+use Rattle.std.proofs.Common.{[], Some, None, ◌+◌}
 use Rattle.std.proofs.lemmas.List.{take_rest}
-use Rattle.dch_script.specs.Words.{words_of}
 use Rattle.dch_script.proofs.Cuts.{words_cut}
 use Rattle.dch_script.proofs.words.cut_word.Goals as goal
 

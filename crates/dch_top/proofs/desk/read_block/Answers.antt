@@ -1,5 +1,4 @@
-use Rattle.std.proofs.Common.{◌≡◌, ◌∙◌, sym, ap}
-use Rattle.std.specs.Prelude.{Err}
+use Rattle.std.proofs.Common.{◌∙◌, ap}
 use Rattle.dch_bits.specs.Text.{is_no_bit, reading}
 use Rattle.dch_top.proofs.Blocks.{unread}
 use Rattle.dch_top.proofs.desk.read_block.Goals as goal

@@ -1,6 +1,5 @@
 use Rattle.std.proofs.Common.{◌≡◌, ◌<◌, ◌≤◌, length, arith, eqb-true, sym, length-take}
 use Rattle.std.proofs.lemmas.Bool.{eqb-false}
-use Rattle.dch_top.specs.declared.feed.TheConstants.{PIECE}
 use Rattle.dch_top.proofs.Runs.{begins, goes_on, piece_ends, too_long, ends_by}
 use Rattle.dch_top.proofs.encode.take_pieces.Goals as goal
 

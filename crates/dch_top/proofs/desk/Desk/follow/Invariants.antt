@@ -1,5 +1,4 @@
-use Rattle.std.proofs.Common.{◌≤◌, ◌+◌, length}
-use Rattle.dch_script.specs.Code.{longest}
+use Rattle.std.proofs.Common.{◌≤◌, length}
 use Rattle.dch_top.specs.Ends.{end_of}
 use Rattle.dch_top.proofs.Parts.{Followed}
 use Rattle.dch_top.proofs.desk.Desk.follow.Given as goal

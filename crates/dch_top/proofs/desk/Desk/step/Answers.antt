@@ -1,4 +1,4 @@
-use Rattle.std.proofs.Common.{◌≡◌, ◌+◌, ◌≤◌, length, take, arith, sym, ◌∙◌, length-take}
+use Rattle.std.proofs.Common.{◌+◌, ◌≤◌, take, arith, sym, ◌∙◌, length-take}
 use Rattle.std.proofs.lemmas.List.{take-take}
 use Rattle.dch_top.proofs.Cuts.{no_feed, one_feed}
 use Rattle.dch_top.proofs.desk.Desk.step.Goals as goal
