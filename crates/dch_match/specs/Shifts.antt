@@ -1,5 +1,5 @@
 -- The shifts of the columns of the first interleaver, by which bits that are lost in a TTI lie far apart (TS 25.212 4.2.7.1.2).
-use Rattle.std.specs.Prelude.{◌-◌, ◌*◌, ◌/◌, ◌%◌, ◌==◌, ◌&&◌, ℕ, ℤ, zero, suc, pos, ◌+ℤ◌, ◌*ℤ◌, if◌then◌else◌, nat_lt, nat_le}
+use Rattle.std.specs.Prelude.{◌≡◌, ◌<◌, ◌-◌, ◌*◌, ◌/◌, ◌%◌, ◌==◌, ◌&&◌, ℕ, ℤ, zero, suc, pos, ◌+ℤ◌, ◌*ℤ◌, if◌then◌else◌, nat_lt, nat_le}
 use Rattle.std.specs.Int.{div_ceil, int_div_euclid}
 use Rattle.std.proofs.Math.IntN.{neg_ℤ}
 use Rattle.std.specs.Int.RustNames.{unsigned_abs}
@@ -28,6 +28,10 @@ whole_distance q frames = pos frames *ℤ q +ℤ pos (extra (unsigned_abs q) fra
 -- |floor(x*q')|
 abbrev pub turn : ℤ → ℕ → ℕ → ℕ
 turn q frames x = unsigned_abs (int_div_euclid (pos x *ℤ whole_distance q frames) (pos frames))
+
+-- turn x falls on a column
+abbrev pub FallsOn : ℤ → ℕ → ℕ → ℕ → Type 0
+FallsOn q frames column x = (x < frames) × (turn q frames x % frames ≡ column)
 
 -- S at i, where each t = turn x with x below the count has S at t mod F as t div F
 abbrev pub shift_below : ℤ → ℕ → ℕ → ℕ → ℕ

@@ -6,8 +6,10 @@ use Rattle.dch_types.specs.declared.config.Uplink.{Uplink}
 use Rattle.dch_types.specs.Lengths.{tti_bits}
 use Rattle.dch_types.specs.Limits.{frame_sizes}
 use Rattle.dch_types.specs.Parts.{channel_at, format_at, format_number}
+use Rattle.dch_match.specs.declared.pattern.Pattern.{Pattern}
 use Rattle.dch_match.specs.declared.uplink_plan.Demand.{Demand}
 use Rattle.dch_match.specs.declared.uplink_plan.UplinkPlan.{UplinkPlan}
+use Rattle.dch_match.specs.Matched.{frame_pattern}
 use Rattle.dch_match.specs.Shares.{total, shared}
 
 -- N: the bits of channel i in a radio frame of a combination, where the TTI is padded to whole frames
@@ -21,6 +23,10 @@ weight_of side c i = (channel_at side i).rm * before_of side c i
 -- the bits of channel i that a frame of so many sends
 abbrev pub sent_of : Side → ℕ → ℕ → ℕ → ℕ
 sent_of side c ndata i = shared (weight_of side c) (length side.channels) ndata i
+
+-- the pattern of channel i in frame n of its TTI
+abbrev pub uplink_pattern : Side → ℕ → ℕ → ℕ → ℕ → Pattern
+uplink_pattern side c ndata i n = frame_pattern (before_of side c i) (sent_of side c ndata i) (channel_at side i).frames n
 
 -- the least RM of the first channels; of none, that of the first
 unfoldable pub least_rm : Side → ℕ → ℕ
@@ -79,4 +85,5 @@ pub record IsPlan (uplink : Uplink) (c : ℕ) (plan : UplinkPlan) : Type 0 where
   pub before : (i : ℕ) → i < length uplink.side.channels → slice_index plan.before i ≡ before_of uplink.side c i
   pub sent : (i : ℕ) → i < length uplink.side.channels → slice_index plan.sent i ≡ sent_of uplink.side c plan.ndata i
   pub no_more : (i : ℕ) → length uplink.side.channels ≤ i → (slice_index plan.before i ≡ 0) × (slice_index plan.sent i ≡ 0)
+  pub most : plan.ndata ≤ uplink.largest
   pub all_sent : total (slice_index plan.sent) (length uplink.side.channels) ≡ plan.ndata
