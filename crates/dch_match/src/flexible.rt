@@ -108,7 +108,8 @@ fn first_row(table: &mut Places, side: &Side, ndata: u64, most: u64, i: usize)
     requires size { ndata ≤ 65536 }
     requires most { most ≡ greatest side.now }
     requires channel { i < length side.now.channels }
-    ensures here { (f : ℕ) → f < length (channel_at side.now i).formats → place_at table.new i f ≡ first_places side.now ndata i f }
+    ensures here { (f : ℕ) → f < length (channel_at side.now i).formats →
+        place_at table.new i f ≡ first_places side.now ndata i f }
     ensures same { (j f : ℕ) → j ≢ i → place_at table.new j f ≡ place_at table.old j f }
 {
     for f in 0..channel_of(side, i).formats.len() {

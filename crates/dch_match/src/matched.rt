@@ -74,6 +74,7 @@ pub fn frame_pattern(n: u32, sent: u32, frames: u64, at: u64) -> Pattern
     requires inside { at < frames }
     requires none { n ≡ 0 → sent ≡ 0 }
     ensures value { result ≡ frame_pattern n sent frames at }
+    ensures len { result.len ≡ n }
     ensures formed { IsWellFormed result }
     ensures kept { copies_below result.kind result.len ≡ sent }
 {

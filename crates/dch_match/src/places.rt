@@ -12,7 +12,9 @@ impl Places {
     ghost use Rattle.dch_match.specs.Places.{place_at};
 
     /// No place for any format.
-    pub fn none() -> Self {
+    pub fn none() -> Self
+        ensures { (i f : ℕ) → place_at result i f ≡ 0 }
+    {
         Places { rows: [[0; 32]; 8] }
     }
 

@@ -1,7 +1,7 @@
 ghost use Rattle.std.specs.Prelude.{◌≡◌, ◌<◌, ◌≤◌, ◌+◌, ◌-◌, ◌*◌, ◌/◌, ◌%◌, ◌^◌, ℤ, ℕ, pos, ◌≤ℤ◌};
 ghost use Rattle.std.specs.Int.RustNames.{unsigned_abs};
 ghost use Rattle.dch_types.specs.Limits.{IsFrames};
-ghost use Rattle.dch_match.specs.Shifts.{distance, extra, turn, shift, gcd};
+ghost use Rattle.dch_match.specs.Shifts.{distance, extra, turn, shift, gcd, FallsOn};
 
 /// The greatest common divisor of `a` and the frames of a TTI.
 fn common_divisor(a: u64, frames: u64) -> u64
@@ -69,18 +69,16 @@ pub fn shift(q: i64, frames: u64, column: u64) -> u64
     requires size { unsigned_abs q ≤ 131072 }
     requires column { column < frames }
     ensures value { result ≡ shift q frames column }
-    ensures some { (x : ℕ) × (x < frames) × (turn q frames x % frames ≡ column) }
-    ensures alone { (x y : ℕ) → x < frames → y < frames → turn q frames x % frames ≡ column → turn q frames y % frames ≡ column → x ≡ y }
-    ensures turned { (x : ℕ) → x < frames → turn q frames x % frames ≡ column → result ≡ turn q frames x / frames }
+    ensures some { (x : ℕ) × FallsOn q frames column x }
+    ensures alone { (x y : ℕ) → FallsOn q frames column x → FallsOn q frames column y → x ≡ y }
+    ensures turned { (x : ℕ) → FallsOn q frames column x → result ≡ turn q frames x / frames }
     ensures size { result < 2 ^ 21 }
 {
-    let mut x = frames;
-    while x > 0 {
-        x -= 1;
+    for x in 0..frames {
         let turn = turn(q, frames, x);
         if turn % frames == column {
             return turn / frames;
         }
     }
-    0
+    unreachable!()
 }

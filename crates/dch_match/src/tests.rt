@@ -28,7 +28,14 @@ fn channel(
     set: u8,
     formats: &[Format],
 ) -> Result<Trch, NoMemory>
-    ensures { IfOk result (λ channel. channel ≡ record { frames = frames; coding = coding; crc = crc; rm = rm; set = set; formats = formats.now }) }
+    ensures { IfOk result (λ channel. channel ≡ record {
+      frames = frames;
+      coding = coding;
+      crc = crc;
+      rm = rm;
+      set = set;
+      formats = formats.now;
+    }) }
 {
     Ok(Trch {
         frames,
@@ -358,21 +365,21 @@ fn down(side: Side, slot_bits: u16, codes: u8, fixed: bool) -> Downlink
     }
 }
 
-/// The channels have these places in a frame, each in this format.
+/// The channels have these places in a frame, each in a format.
 fn check_cells(
     rt: &impl Abort,
     alloc: Global,
     config: &Downlink,
-    format: u8,
-    cells: &[u32],
+    cells: &[(u8, u32)],
 ) -> Result<(), NoMemory>
     requires { IsDownlink config.now }
 {
     let plan = downlink(alloc, config)?;
     assert_eq!(rt; config.side.channels.len(), cells.len());
     for i in 0..cells.len() as u8 {
+        let (format, places) = cells[i as usize];
         assert!(rt; (format as usize) < config.side.channels.as_slice()[i as usize].formats.len());
-        assert_eq!(rt; plan.cells(i, format), cells[i as usize], "channel {i}");
+        assert_eq!(rt; plan.cells(i, format), places, "channel {i}");
     }
     Ok(())
 }
@@ -439,13 +446,51 @@ fn check_walk(rt: &impl Abort, pattern: &Pattern)
 }
 
 #[test]
-fn downlink_cells(rt: HostRuntime) -> Result<(), Fail> {
+fn fixed_positions(rt: HostRuntime) -> Result<(), Fail> {
     let config = down(reference(rt.alloc())?, 28, 1, true);
-    check_cells(&rt, rt.alloc(), &config, 1, &[343, 77])?;
+    check_cells(&rt, rt.alloc(), &config, &[(1, 343), (1, 77)])?;
     let config = down(speech(rt.alloc())?, 34, 1, true);
-    check_cells(&rt, rt.alloc(), &config, 1, &[152, 160, 80, 118])?;
+    check_cells(
+        &rt,
+        rt.alloc(),
+        &config,
+        &[(1, 152), (1, 160), (1, 80), (1, 118)],
+    )?;
     let config = down(speech_and_data(rt.alloc())?, 608, 1, true);
-    check_cells(&rt, rt.alloc(), &config, 1, &[226, 236, 119, 184, 8355])?;
+    check_cells(
+        &rt,
+        rt.alloc(),
+        &config,
+        &[(1, 226), (1, 236), (1, 119), (1, 184), (1, 8355)],
+    )?;
+    Ok(())
+}
+
+// The last combination would have 153, 160, 81 and 118 places of 510, and 227, 237, 120, 184 and 8355 of 9120: both are
+// lowered.
+#[test]
+fn flexible_positions(rt: HostRuntime) -> Result<(), Fail> {
+    let config = down(speech(rt.alloc())?, 34, 1, false);
+    check_cells(
+        &rt,
+        rt.alloc(),
+        &config,
+        &[(2, 152), (1, 160), (1, 80), (1, 118)],
+    )?;
+    check_cells(&rt, rt.alloc(), &config, &[(1, 90), (0, 0), (0, 0), (0, 0)])?;
+    let config = down(speech_and_data(rt.alloc())?, 608, 1, false);
+    check_cells(
+        &rt,
+        rt.alloc(),
+        &config,
+        &[(2, 226), (1, 236), (1, 119), (1, 184), (5, 8355)],
+    )?;
+    check_cells(
+        &rt,
+        rt.alloc(),
+        &config,
+        &[(1, 133), (0, 0), (0, 0), (0, 0), (3, 2785)],
+    )?;
     Ok(())
 }
 

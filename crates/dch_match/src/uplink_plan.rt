@@ -1,10 +1,9 @@
 ghost use Rattle.std.specs.Prelude.{◌≡◌, ◌<◌, ◌≤◌, ◌*◌, ◌^◌, ◌↔◌, length, slice_index, find, filter, ℕ, [], IfOk, IfErr, IsErr};
 ghost use Rattle.dch_types.specs.Limits.{IsSide, IsUplink, frame_sizes};
 ghost use Rattle.dch_types.specs.Parts.{channel_at};
-ghost use Rattle.dch_match.specs.Matched.{frame_pattern};
 ghost use Rattle.dch_match.specs.Patterns.{IsWellFormed, copies_below};
 ghost use Rattle.dch_match.specs.Shares.{total};
-ghost use Rattle.dch_match.specs.Uplinks.{before_of, weight_of, sent_of, least_rm, codes, in_set1, in_set2, needs_more, set2, first_raised, chosen, demand_of, IsPlan};
+ghost use Rattle.dch_match.specs.Uplinks.{before_of, weight_of, sent_of, uplink_pattern, least_rm, codes, in_set1, in_set2, needs_more, set2, first_raised, chosen, demand_of, IsPlan};
 
 use crate::matched::frame_pattern;
 use crate::parts::{channel_of, format_of, number_of};
@@ -235,8 +234,9 @@ pub fn frame(config: &Uplink, combination: u16, plan: &UplinkPlan, channel: u8, 
     requires plan { IsPlan config.now combination plan.now }
     requires channel { channel < length config.now.side.channels }
     requires frame { n < (channel_at config.now.side channel).frames }
-    ensures value { let side = config.now.side in result ≡ frame_pattern (before_of side combination channel) (sent_of side combination plan.now.ndata channel) (channel_at side channel).frames n }
+    ensures value { result ≡ uplink_pattern config.now.side combination plan.now.ndata channel n }
     ensures formed { IsWellFormed result }
+    ensures len { result.len ≡ before_of config.now.side combination channel }
     ensures kept { copies_below result.kind result.len ≡ sent_of config.now.side combination plan.now.ndata channel }
 {
     let i = channel as usize;

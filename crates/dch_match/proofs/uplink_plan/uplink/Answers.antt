@@ -2,7 +2,7 @@ use Rattle.std.proofs.Common.{◌≡◌, ℕ, Some, None, length, slice_index, r
 use Rattle.dch_types.specs.declared.config.Uplink.{Uplink}
 use Rattle.dch_match.specs.Uplinks.{chosen, demand_of, weight_of, sent_of}
 use Rattle.dch_match.proofs.SharesLemmas.{total_same, total-shared, below_all}
-use Rattle.dch_match.proofs.Sizes.{no_size, no_choice, nothing_chosen, largest_least}
+use Rattle.dch_match.proofs.Sizes.{chosen_le, no_size, no_choice, nothing_chosen, largest_least}
 use Rattle.dch_match.proofs.uplink_plan.uplink.Goals as goal
 
 pub returns-in-None-clause-refused : goal.returns-in-None-clause-refused
@@ -22,6 +22,7 @@ returns-in-Some-clause-planned c =
       before = c.amounts.ensures.before;
       sent = c.amounts.ensures.sent;
       no_more = c.amounts.ensures.no_more;
+      most = chosen_le (demand_of uplink k) c.in-Some.ndata some;
       all_sent = total_same (slice_index c.amounts.result.1) (sent_of uplink.side k c.in-Some.ndata) count c.amounts.ensures.sent
           ∙ total-shared w count c.in-Some.ndata count ∙ below_all w count c.in-Some.ndata (λ none. nothing_chosen (demand_of uplink k) c.in-Some.ndata none some);
     }
