@@ -1,0 +1,10 @@
+pub mod Costs
+pub mod Ends
+pub mod Found
+pub mod Held
+pub mod Least
+pub mod Link
+pub mod Pairs
+pub mod Read
+pub mod Room
+pub mod Rows

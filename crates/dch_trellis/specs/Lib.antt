@@ -1,0 +1,5 @@
+pub mod Nearest
+pub mod Ready
+pub mod Search
+pub mod Steps
+pub mod Windows

@@ -1,0 +1,14 @@
+//! The nearest block of a convolutional code, by a search over the 256 states of the encoder. All memory is taken at
+//! opening.
+#![tactic(auto)]
+
+mod narrow;
+mod steps;
+mod table;
+mod trellis;
+mod wide;
+
+pub use trellis::Trellis;
+
+#[cfg(test)]
+mod tests;
