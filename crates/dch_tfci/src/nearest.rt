@@ -102,7 +102,9 @@ fn bit_or_zero(bits: &[Bit], i: usize) -> Bit
 
 /// How many received bits differ from those that are sent for the index of a word.
 fn distance_of(word: u32, packed: &Packed) -> u16
-    ensures { (received : List Bit) (index : ℕ) → IsSize (length received) → IsPacked received packed.now.bits packed.now.masks → ((i : ℕ) → i < 32 → bit_at word i ≡ word_bit index i) → result ≡ distance received (sent index (length received)) }
+    ensures { (received : List Bit) (index : ℕ) → IsSize (length received) →
+        IsPacked received packed.now.bits packed.now.masks → ((i : ℕ) → i < 32 → bit_at word i ≡ word_bit index i) →
+        result ≡ distance received (sent index (length received)) }
 {
     let Packed { bits, masks } = packed;
     differing(word, bits[0], masks[0])

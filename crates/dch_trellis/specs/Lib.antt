@@ -1,3 +1,4 @@
+pub mod Narrow
 pub mod Nearest
 pub mod Ready
 pub mod Search
