@@ -21,6 +21,7 @@ impl<'a> Model for CleanSource<'a> {
 }
 
 impl<'a> CleanSource<'a> {
+    /// A source of these octets.
     pub fn new(bytes: &'a [u8]) -> Self
         ensures { result ≡ bytes.entry.now }
     {
@@ -52,6 +53,7 @@ impl Source for CleanSource<'_> {
 pub struct CleanSink;
 
 impl CleanSink {
+    /// Such a sink.
     pub fn new() -> Self {
         CleanSink
     }

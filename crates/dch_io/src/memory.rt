@@ -30,6 +30,7 @@ impl Model for MemorySource {
 }
 
 impl MemorySource {
+    /// A source of these octets, which gives at most `step` of them a call, and whose calls with these numbers, from 0 on, fail.
     pub fn new(bytes: Vec<u8>, step: usize, failing: Vec<u64>) -> Self
         ensures { result ≡ record { left = bytes.items; step = step; failing = failing.items; calls = 0; faults = 0 } }
     {
@@ -103,6 +104,8 @@ impl Model for MemorySink {
 }
 
 impl MemorySink {
+    /// A sink with room for as many octets as `room` has, which takes at most `step` of them a call, and whose calls with these
+    /// numbers, from 0 on, fail.
     pub fn new(room: Vec<u8>, step: usize, failing: Vec<u64>) -> Self
         ensures { result ≡ record { taken = []; room = length room.items; step = step; failing = failing.items; calls = 0; faults = 0 } }
     {
