@@ -1,0 +1,5 @@
+pub mod FirstFound
+pub mod Items
+pub mod Sets
+pub mod Parts
+pub mod First
