@@ -3,3 +3,4 @@ pub mod Items
 pub mod Sets
 pub mod Parts
 pub mod First
+pub mod Kept

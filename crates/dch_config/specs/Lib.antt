@@ -1,0 +1,5 @@
+pub mod Refusals
+pub mod Sides
+pub mod Bearers
+pub mod Limits
+pub mod Reading
