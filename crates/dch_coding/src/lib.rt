@@ -1,0 +1,8 @@
+//! How transport blocks become coded bits: parity, code blocks and code, one after another.
+#![tactic(auto)]
+
+mod block;
+mod chain;
+
+pub use block::{BlockCoder, CODED};
+pub use chain::code;

@@ -1,0 +1,9 @@
+pub mod Changes
+pub mod Decided
+pub mod Fits
+pub mod Greatest
+pub mod Lowered
+pub mod MatchedLemmas
+pub mod SharesLemmas
+pub mod Sizes
+pub mod Turns

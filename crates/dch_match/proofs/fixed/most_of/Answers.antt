@@ -1,0 +1,14 @@
+use Rattle.std.proofs.Common.{◌≡◌, ap, ◌∙◌, sym, arith}
+use Rattle.std.proofs.lemmas.Grind.{common_steps}
+use Rattle.dch_types.specs.Lengths.{tti_bits}
+use Rattle.dch_types.specs.Parts.{format_at}
+use Rattle.dch_match.proofs.Greatest.{most-zero, most-more}
+use Rattle.dch_match.proofs.fixed.most_of.Goals as goal
+
+pub loop-f-init : goal.loop-f-init
+loop-f-init c = (sym (most-zero c.args.channel.now), omega arith)
+
+pub loop-f-preserved : goal.loop-f-preserved
+loop-f-preserved c =
+    let bits : c.tti_bits.result ≡ tti_bits c.args.channel.now (format_at c.args.channel.now c.loop-f.f) = c.tti_bits.ensures ∙ ap (tti_bits c.args.channel.now) c.format_of.ensures in
+    (grind (arith, common_steps, most-more c.args.channel.now c.loop-f.f, bits), grind (arith, common_steps, bits, (c.requires.formats c.loop-f.f (omega arith)).bits))

@@ -1,0 +1,91 @@
+ghost use Rattle.std.specs.Prelude.{◌≡◌, ◌<◌, ◌≤◌, ◌+◌, ◌-◌, ◌*◌, ◌%◌, ◌^◌};
+ghost use Rattle.dch_types.specs.Limits.{IsFrames};
+ghost use Rattle.dch_match.specs.Matched.{change, matched, remainder, column, frame_start, frame_pattern};
+ghost use Rattle.dch_match.specs.Patterns.{IsWellFormed, copies_below};
+
+use crate::pattern::{Kind, Pattern, Steps};
+use crate::shifts::{distance, shift};
+
+/// |dN|: how many bits are removed or added.
+fn change(n: u64, sent: u64) -> u64
+    requires short { n ≤ 131072 }
+    requires sent { sent < 2 ^ 31 }
+    ensures value { result ≡ change n sent }
+    ensures small { result < 2 ^ 31 }
+{
+    if n < sent { sent - n } else { n - sent }
+}
+
+/// What is done with `n` bits so that `sent` are left, where the counter starts at `e_ini`.
+pub fn matched(n: u64, sent: u64, e_ini: u64) -> Kind
+    requires short { n ≤ 131072 }
+    requires sent { sent < 2 ^ 31 }
+    ensures { result ≡ matched n sent e_ini }
+{
+    if n == 0 || sent == n {
+        return Kind::Same;
+    }
+    let steps = Steps {
+        e_ini,
+        e_plus: 2 * n,
+        e_minus: 2 * change(n, sent),
+    };
+    if n < sent {
+        Kind::Repeat(steps)
+    } else {
+        Kind::Puncture(steps)
+    }
+}
+
+/// The column of the first interleaver that frame `at` of a TTI carries (TS 25.212 4.2.5).
+fn column(frames: u64, at: u64) -> u64
+    requires frames { IsFrames frames }
+    requires inside { at < frames }
+    ensures value { result ≡ column frames at }
+    ensures inside { result < frames }
+{
+    match frames {
+        8 => [0, 4, 2, 6, 1, 5, 3, 7][at as usize],
+        4 => [0, 2, 1, 3][at as usize],
+        _ => [0, 1][at as usize],
+    }
+}
+
+/// Where the counter starts in the frame that carries a column (TS 25.212 4.2.7.1.2).
+fn frame_start(n: u64, sent: u64, frames: u64, column: u64) -> u64
+    requires some { 0 < n }
+    requires short { n ≤ 131072 }
+    requires sent { sent < 2 ^ 31 }
+    requires frames { IsFrames frames }
+    requires column { column < frames }
+    ensures value { result ≡ frame_start n sent frames column }
+    ensures least { 1 ≤ result }
+    ensures most { result ≤ 2 * n }
+{
+    let shift = shift(distance(n, sent % n), frames, column);
+    (2 * shift * change(n, sent) + 1) % (2 * n)
+}
+
+/// The pattern of frame `at` of a TTI of an uplink channel, where each frame has `n` bits and sends `sent` of them.
+pub fn frame_pattern(n: u32, sent: u32, frames: u64, at: u64) -> Pattern
+    requires short { n ≤ 131072 }
+    requires sent { sent < 2 ^ 31 }
+    requires frames { IsFrames frames }
+    requires inside { at < frames }
+    requires none { n ≡ 0 → sent ≡ 0 }
+    ensures value { result ≡ frame_pattern n sent frames at }
+    ensures formed { IsWellFormed result }
+    ensures kept { copies_below result.kind result.len ≡ sent }
+{
+    if n == 0 {
+        return Pattern {
+            len: 0,
+            kind: Kind::Same,
+        };
+    }
+    let e_ini = frame_start(n as u64, sent as u64, frames, column(frames, at));
+    Pattern {
+        len: n,
+        kind: matched(n as u64, sent as u64, e_ini),
+    }
+}

@@ -1,0 +1,10 @@
+pub mod Blocks
+pub mod Bytes
+pub mod Complete
+pub mod Cuts
+pub mod Parts
+pub mod Pieces
+pub mod Runs
+pub mod Steps
+pub mod Texts
+pub mod Words

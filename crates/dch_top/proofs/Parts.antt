@@ -1,0 +1,106 @@
+-- What following some bytes and then others does.
+use Rattle.std.proofs.Common.{◌≡◌, ◌+◌, ◌-◌, ◌<◌, ◌≤◌, ◌⊎◌, ℕ, List, [], ◌∷◌, ◌++◌, Option, None, Some, Bool, true, false, length, take, drop, arith, refl, ap, ap₂, sym, ◌∙◌, append_assoc, append-nil, inl, inr, length-append, ⊎_elim}
+use Rattle.std.specs.Io.KnownBytes.{Appends}
+use Rattle.std.proofs.KnownBytes.{Appends-trans}
+use Rattle.dch_io.specs.Causes.{Rose}
+use Rattle.dch_script.specs.declared.event.LineError.{LineError}
+use Rattle.dch_top.specs.Desk.{Work, Takes, MeetsMalformed, StopsAt, FailsIn}
+use Rattle.dch_top.specs.Ends.{End, IsCutShort, Passes, Breaks, span}
+use Rattle.dch_top.specs.Lines.{lines_after, rest_after}
+use Rattle.dch_top.specs.Said.{LinesSay, spoken}
+use Rattle.dch_top.proofs.Cuts.{lines_after-append, rest_after-append, says_append, spoken-append}
+
+pub passes_on : (a b c : Option (List ℕ)) (f g h : ℕ) (text mid more left : List ℕ) → Passes (span a b f g) text mid → Passes (span b c g h) (mid ++ more) left → Passes (span a c f h) (text ++ more) left
+passes_on a b c f g h text mid more left first then = record {
+  written = first.written ++ then.written;
+  writes = Appends-trans a b c _ _ first.writes then.writes;
+  whole = ap (λ l. l ++ more) first.whole ∙ append_assoc first.written mid more ∙ ap (λ l. first.written ++ l) then.whole ∙ sym (append_assoc first.written then.written left);
+}
+
+pub breaks_on : (a b c : Option (List ℕ)) (f g h : ℕ) (text mid more : List ℕ) → f ≤ g → Passes (span a b f g) text mid → Breaks (span b c g h) (mid ++ more) → Breaks (span a c f h) (text ++ more)
+breaks_on a b c f g h text mid more later first then = record {
+  fails = omega (arith, then.fails);
+  written = first.written ++ then.written;
+  writes = Appends-trans a b c _ _ first.writes then.writes;
+  cut = record {
+    rest = then.cut.rest;
+    some = then.cut.some;
+    whole = ap (λ l. l ++ more) first.whole ∙ append_assoc first.written mid more ∙ ap (λ l. first.written ++ l) then.cut.whole ∙ sym (append_assoc first.written then.written then.cut.rest);
+  };
+}
+
+-- the lines of two parts, where the first leaves a line begun
+pub lines_on : (begun mid xs ys : List ℕ) → mid ≡ rest_after begun xs → lines_after begun (xs ++ ys) ≡ lines_after begun xs ++ lines_after mid ys
+lines_on begun mid xs ys left = lines_after-append begun xs ys ∙ sym (ap (λ l. lines_after begun xs ++ lines_after l ys) left)
+
+pub rest_on : (begun mid xs ys : List ℕ) → mid ≡ rest_after begun xs → rest_after begun (xs ++ ys) ≡ rest_after mid ys
+rest_on begun mid xs ys left = rest_after-append begun xs ys ∙ sym (ap (λ l. rest_after l ys) left)
+
+pub takes_on : (a b c : Option (List ℕ)) (f g h : ℕ) (old mid new : Work) (xs ys : List ℕ) → Takes (span a b f g) old mid xs → Takes (span b c g h) mid new ys → Takes (span a c f h) old new (xs ++ ys)
+takes_on a b c f g h old mid new xs ys first then =
+    let lines = lines_on old.line mid.line xs ys first.line in
+    let here : List (List ℕ) = lines_after old.line xs in
+    let there : List (List ℕ) = lines_after mid.line ys in
+    record {
+      more = first.more ++ then.more;
+      says = rw lines (says_append here there first.more then.more first.says then.says);
+      passes = rw (← append_assoc old.text first.more then.more) (passes_on a b c f g h (old.text ++ first.more) mid.text then.more new.text first.passes then.passes);
+      line = then.line ∙ sym (rest_on old.line mid.line xs ys first.line);
+      short = then.short;
+      counted = omega (arith, first.counted, then.counted, length-append xs ys);
+      lines = rw lines (omega (arith, first.lines, then.lines, length-append here there));
+      spoken = rw lines (omega (arith, first.spoken, then.spoken, spoken-append here there));
+    }
+
+pub stops_on : (a b c : Option (List ℕ)) (f g h : ℕ) (old mid new : Work) (xs ys : List ℕ) (why : LineError) → Takes (span a b f g) old mid xs → StopsAt (span b c g h) mid new ys why → StopsAt (span a c f h) old new (xs ++ ys) why
+stops_on a b c f g h old mid new xs ys why first then =
+    let lines = lines_on old.line mid.line xs ys first.line in
+    let rest = rest_on old.line mid.line xs ys first.line in
+    let here : List (List ℕ) = lines_after old.line xs in
+    record {
+      good = here ++ then.good;
+      meets = ⊎_elim
+          (λ m. inl (m.0, (m.1.0, (lines ∙ ap (λ l. here ++ l) m.1.1.0 ∙ sym (append_assoc here then.good (m.0 ∷ m.1.0)), m.1.1.1))))
+          (λ m. inr (m.0, lines ∙ ap (λ l. here ++ l) m.1, rw rest m.2))
+          then.meets;
+      more = first.more ++ then.more;
+      says = says_append here then.good first.more then.more first.says then.says;
+      passes = rw (← append_assoc old.text first.more then.more) (passes_on a b c f g h (old.text ++ first.more) mid.text then.more new.text first.passes then.passes);
+      lines = omega (arith, first.lines, then.lines, length-append here then.good);
+    }
+
+pub fails_on : (a b c : Option (List ℕ)) (f g h : ℕ) (old mid : Work) (xs ys : List ℕ) → f ≤ g → Takes (span a b f g) old mid xs → FailsIn (span b c g h) mid ys → FailsIn (span a c f h) old (xs ++ ys)
+fails_on a b c f g h old mid xs ys later first then =
+    let lines = lines_on old.line mid.line xs ys first.line in
+    let here : List (List ℕ) = lines_after old.line xs in
+    record {
+      good = here ++ then.good;
+      later = then.later;
+      lines = lines ∙ ap (λ l. here ++ l) then.lines ∙ sym (append_assoc here then.good then.later);
+      more = first.more ++ then.more;
+      says = says_append here then.good first.more then.more first.says then.says;
+      breaks = rw (← append_assoc old.text first.more then.more) (breaks_on a b c f g h (old.text ++ first.more) mid.text then.more later first.passes then.breaks);
+    }
+
+-- some of the bytes are followed, and these are left
+pub record Followed (sink : End) (old new : Work) (bytes left : List ℕ) : Type 0 where
+  pub done : List ℕ
+  pub cut : bytes ≡ done ++ left
+  pub takes : Takes sink old new done
+
+-- the front that was written before, and the rest with a last text
+pub appends_on : (a b c : Option (List ℕ)) (f g : ℕ) (text mid last : List ℕ) → Passes (span a b f g) text mid → Appends b c (mid ++ last) → Appends a c (text ++ last)
+appends_on a b c f g text mid last first next =
+    rw (ap (λ l. l ++ last) first.whole ∙ append_assoc first.written mid last) (Appends-trans a b c first.written (mid ++ last) first.writes next)
+
+pub breaks_more : (sink : End) (text last : List ℕ) → Breaks sink text → Breaks sink (text ++ last)
+breaks_more sink text last breaks = record {
+  fails = breaks.fails;
+  written = breaks.written;
+  writes = breaks.writes;
+  cut = record {
+    rest = breaks.cut.rest ++ last;
+    some = omega (arith, breaks.cut.some, length-append breaks.cut.rest last);
+    whole = ap (λ l. l ++ last) breaks.cut.whole ∙ append_assoc breaks.written breaks.cut.rest last;
+  };
+}

@@ -1,0 +1,69 @@
+-- What a piece does, by what following it, flushing and refusing do.
+use Rattle.std.proofs.Common.{◌≡◌, ◌+◌, ◌<◌, ◌≤◌, ◌⊎◌, ℕ, List, [], ◌∷◌, ◌++◌, Option, length, arith, refl, ap, sym, ◌∙◌, append_assoc, append-nil, inl, inr, ⊎_elim}
+use Rattle.std.specs.Io.KnownBytes.{Appends}
+use Rattle.std.proofs.KnownBytes.{Appends-trans}
+use Rattle.dch_script.specs.declared.event.LineError.{LineError}
+use Rattle.dch_top.specs.Desk.{Work, Takes, MeetsMalformed, StopsAt, FailsIn}
+use Rattle.dch_top.specs.Ends.{End, Breaks, Passes, span}
+use Rattle.dch_top.specs.Lines.{lines_after}
+use Rattle.dch_top.specs.Pieces.{BreaksIn}
+use Rattle.dch_top.specs.Said.{LinesSay, refusal}
+use Rattle.dch_top.proofs.Parts.{breaks_on}
+
+pub flushed : (a b c : Option (List ℕ)) (f g h : ℕ) (old mid new : Work) (piece : List ℕ) → Takes (span a b f g) old mid piece → Appends b c mid.text → new ≡ record mid { text = [] } → Takes (span a c f h) old new piece
+flushed a b c f g h old mid new piece takes appends same = rw same (record {
+  more = takes.more;
+  says = takes.says;
+  passes = record {
+    written = takes.passes.written ++ mid.text;
+    writes = Appends-trans a b c _ _ takes.passes.writes appends;
+    whole = takes.passes.whole ∙ sym (append-nil (takes.passes.written ++ mid.text));
+  };
+  line = takes.line;
+  short = takes.short;
+  counted = takes.counted;
+  lines = takes.lines;
+  spoken = takes.spoken;
+})
+
+pub flush_breaks : (a b c : Option (List ℕ)) (f g h : ℕ) (old mid : Work) (piece : List ℕ) → f ≤ g → Takes (span a b f g) old mid piece → Breaks (span b c g h) mid.text → BreaksIn (span a c f h) old piece
+flush_breaks a b c f g h old mid piece later takes breaks = record {
+  good = lines_after old.line piece;
+  later = [];
+  lines = sym (append-nil (lines_after old.line piece));
+  more = takes.more;
+  says = takes.says;
+  last = [];
+  follows = inl refl;
+  breaks = breaks_on a b c f g h (old.text ++ takes.more) mid.text [] later takes.passes (rw append-nil breaks);
+}
+
+-- the lines before a malformed one are a front of all
+front_of : (begun piece : List ℕ) (good : List (List ℕ)) (why : LineError) → MeetsMalformed begun piece good why → (later : List (List ℕ)) × (lines_after begun piece ≡ good ++ later)
+front_of begun piece good why meets = ⊎_elim (λ m. (m.0 ∷ m.1.0, m.1.1.0)) (λ m. ([], m.1 ∙ sym (append-nil good))) meets
+
+pub refusal_breaks : (a b c : Option (List ℕ)) (f g h : ℕ) (old mid : Work) (piece : List ℕ) (why : LineError) → f ≤ g → StopsAt (span a b f g) old mid piece why → Breaks (span b c g h) (mid.text ++ refusal mid.lines why) → BreaksIn (span a c f h) old piece
+refusal_breaks a b c f g h old mid piece why later stops breaks =
+    let front = front_of old.line piece stops.good why stops.meets in
+    record {
+      good = stops.good;
+      later = front.0;
+      lines = front.1;
+      more = stops.more;
+      says = stops.says;
+      last = refusal (old.lines + length stops.good) why;
+      follows = inr (why, (stops.meets, refl));
+      breaks = breaks_on a b c f g h (old.text ++ stops.more) mid.text (refusal (old.lines + length stops.good) why) later stops.passes (rw (← stops.lines) breaks);
+    }
+
+pub fails_breaks : (sink : End) (old : Work) (piece : List ℕ) → FailsIn sink old piece → BreaksIn sink old piece
+fails_breaks sink old piece fails = record {
+  good = fails.good;
+  later = fails.later;
+  lines = fails.lines;
+  more = fails.more;
+  says = fails.says;
+  last = [];
+  follows = inl refl;
+  breaks = rw append-nil fails.breaks;
+}

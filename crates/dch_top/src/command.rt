@@ -1,0 +1,90 @@
+ghost use Rattle.std.specs.Prelude.{◌≡◌, ◌≤◌, ◌⊎◌, ◌↔◌, IsTrue, IfSome, length, [], Some};
+ghost use Rattle.dch_io.specs.Causes.{Rose};
+ghost use Rattle.dch_top.specs.Ends.{end_of};
+ghost use Rattle.dch_top.specs.Lines.{lines_of, rest_of};
+ghost use Rattle.dch_top.specs.Ran.{Ran, Misuses, IsEncode, AreGood, most_bytes};
+
+use crate::bench::Bench;
+use crate::encode::encode;
+use crate::feed::write_all;
+use dch_io::{Sink, Source};
+use std::alloc::Global;
+
+/// How a run ended. The number of a status is its place in this list, from 0.
+#[derive(Clone, Copy, Debug, PartialEq, Eq)]
+pub enum Status {
+    /// All was read and written, and nothing was refused.
+    Ok,
+    /// A line of the input is malformed. The last line written says which, and why.
+    Refused,
+    /// The words are no command. The usage line is written.
+    Usage,
+    /// The source failed.
+    ReadFault,
+    /// The sink failed.
+    WriteFault,
+    /// Memory was wanted before anything was read, and not found.
+    NoMemory,
+    /// More than 67,108,864 bytes came in.
+    TooLong,
+}
+
+/// Runs the command that the words name: reads from the source and writes to the sink. The words don't hold the
+/// program's name. The bench is empty, and stays so for the commands that have come so far.
+pub fn run<S: Source, K: Sink>(
+    alloc: Global,
+    words: &[String],
+    source: &mut S,
+    sink: &mut K,
+    bench: &mut Bench,
+) -> Status
+    // What was read and written, and what the status says of it.
+    ensures ran { Ran words.now (end_of S.left S.faults source.old source.new) (end_of K.taken K.faults sink.old sink.new) result }
+
+    // Faults are never made up.
+    ensures read_fault { result ≡ Status.ReadFault → Rose (S.faults source.old) (S.faults source.new) }
+    ensures write_fault { result ≡ Status.WriteFault → Rose (K.faults sink.old) (K.faults sink.new) }
+    ensures usage { result ≡ Status.Usage → ¬ IsEncode words.now }
+
+    // Good lines without a fault are all answered.
+    ensures complete { IsEncode words.now → IfSome (S.left source.old) (λ input. AreGood (lines_of input) → rest_of input ≡ [] → length input ≤ most_bytes
+        → ¬ Rose (S.faults source.old) (S.faults source.new) → ¬ Rose (K.faults sink.old) (K.faults sink.new)
+        → (result ≡ Status.Ok) ⊎ (result ≡ Status.NoMemory)) }
+{
+    let Bench {} = bench;
+    follow_words(alloc, words, source, sink)
+}
+
+fn follow_words<S: Source, K: Sink>(
+    alloc: Global,
+    words: &[String],
+    source: &mut S,
+    sink: &mut K,
+) -> Status
+    ensures { Ran words.now (end_of S.left S.faults source.old source.new) (end_of K.taken K.faults sink.old sink.new) result }
+{
+    if is_encode(words) {
+        encode(alloc, source, sink)
+    } else {
+        refuse_words(source, sink)
+    }
+}
+
+#[tactic(auto, using(crate::proofs::Words::is_only))]
+fn is_encode(words: &[String]) -> bool
+    ensures { IsTrue result ↔ IsEncode words.now }
+{
+    match words {
+        [word] => word.as_str() == "encode",
+        _ => false,
+    }
+}
+
+fn refuse_words<S: Source, K: Sink>(_source: &mut S, sink: &mut K) -> Status
+    ensures { Misuses (end_of S.left S.faults _source.old _source.new) (end_of K.taken K.faults sink.old sink.new) result }
+{
+    match write_all(sink, b"usage: dch COMMAND [COUNT] [--start N] [--quiet]\n") {
+        Ok(()) => Status::Usage,
+        Err(_failed) => Status::WriteFault,
+    }
+}
