@@ -3,3 +3,4 @@ pub mod Sides
 pub mod Bearers
 pub mod Limits
 pub mod Reading
+pub mod Good

@@ -4,3 +4,8 @@ pub mod Sets
 pub mod Parts
 pub mod First
 pub mod Kept
+pub mod Ranges
+pub mod Channels
+pub mod Bearers
+pub mod Partners
+pub mod Whole
