@@ -10,13 +10,14 @@ use Rattle.dch_config.specs.declared.error.ConfigError.{ConfigError}
 use Rattle.dch_config.specs.Refusals.{first_refusal, refused_if}
 
 -- no refusal among some
-pub none_first : (o : Option ConfigError) (os : List (Option ConfigError)) → first_refusal (o ∷ os) ≡ None → o ≡ None
-none_first None os e = refl
-none_first (Some x) os e = e
+abbrev pub AllNone : List (Option ConfigError) → Type 0
+AllNone [] = Unit {0}
+AllNone (o ∷ os) = (o ≡ None) × AllNone os
 
-pub none_rest : (o : Option ConfigError) (os : List (Option ConfigError)) → first_refusal (o ∷ os) ≡ None → first_refusal os ≡ None
-none_rest None os e = e
-none_rest (Some x) os e = cc
+pub all_none : (os : List (Option ConfigError)) → first_refusal os ≡ None → AllNone os
+all_none [] e = tt
+all_none (None ∷ os) e = (refl, all_none os e)
+all_none (Some x ∷ os) e = cc
 
 pub none_test : (wrong : Bool) (x : ConfigError) → refused_if wrong x ≡ None → wrong ≡ false
 none_test true x e = cc
@@ -26,7 +27,7 @@ pub none_place : (f : ℕ → ConfigError) (o : Option ℕ) → option_map f o �
 none_place f None e = refl
 none_place f (Some i) e = cc
 
-not_true : (b : Bool) → not b ≡ false → b ≡ true
+pub not_true : (b : Bool) → not b ≡ false → b ≡ true
 not_true true e = refl
 not_true false e = sym e
 
@@ -41,9 +42,9 @@ passes_none p (x ∷ xs) none i d inside =
     ⊎_elim
     (λ here. let no = rw here at none in absurd (grind (arith, nat_tests)))
     (λ not_here.
-        let rest = rw not_here at none in
-        let shorter : nat_lt (prefix_len (λ y. not (p y)) xs) (length xs) ≡ false = grind (arith, nat_tests) in
-        at_more p x xs not_here (passes_none p xs shorter) i d inside)
+    let rest = rw not_here at none in
+    let shorter : nat_lt (prefix_len (λ y. not (p y)) xs) (length xs) ≡ false = grind (arith, nat_tests) in
+    at_more p x xs not_here (passes_none p xs shorter) i d inside)
     (cases_Bool (p x))
 
 -- a test that no place passes

@@ -1,6 +1,7 @@
-ghost use Rattle.std.specs.Prelude.{◌≤◌, length};
+ghost use Rattle.std.specs.Prelude.{◌≤◌, length, IfOk};
 ghost use Rattle.toml.specs.View.{table_view};
 ghost use Rattle.dch_config.specs.Reading.{ReadsTable, ReadsTree, Reads, KeepsLimits};
+ghost use Rattle.dch_config.specs.Good.{IsGood};
 
 use crate::error::ConfigError;
 use crate::limits::limits;
@@ -11,7 +12,9 @@ use toml::Table;
 
 /// Reads the text of a configuration: TOML with the tables `iub`, `uplink` and `downlink`, and the list `bearer`.
 pub fn read(alloc: Global, text: &[u8]) -> Result<Config, ConfigError>
-    ensures { Reads text.now result }
+    // Which configuration, and when each error comes.
+    ensures reads { Reads text.now result }
+    ensures good { IfOk result IsGood }
 {
     match read_table(alloc, text) {
         Ok(table) => read_tree(alloc, &table),
@@ -30,7 +33,8 @@ fn read_table(alloc: Global, text: &[u8]) -> Result<Table, ConfigError>
 }
 
 fn read_tree(alloc: Global, table: &Table) -> Result<Config, ConfigError>
-    ensures { ReadsTree (table_view table.now) result }
+    ensures reads { ReadsTree (table_view table.now) result }
+    ensures good { IfOk result IsGood }
 {
     match configuration(alloc, table) {
         Ok(config) => within_limits(config),
