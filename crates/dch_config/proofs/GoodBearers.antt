@@ -1,6 +1,5 @@
 -- The limits of the bearers, and a good configuration.
-use Rattle.std.proofs.Common.{◌≡◌, ◌≢◌, ◌<◌, ◌≤◌, ◌==◌, ◌&&◌, ◌||◌, ℕ, Bool, true, false, not, List, [], ◌∷◌, length, get_or, Option, Some, None, refl, ap, sym, ◌∙◌, subst, ⊎_elim, arith, eq-eqb}
-use Rattle.std.proofs.lemmas.Bool.Decides.{nat_tests}
+use Rattle.std.proofs.Common.{◌≡◌, ◌≢◌, ◌<◌, ◌≤◌, ◌&&◌, ◌||◌, ℕ, Bool, true, false, not, length, Option, Some, None, refl, sym, ◌∙◌, subst, eq-eqb}
 use Rattle.toml.specs.Data.{Members}
 use Rattle.dch_types.specs.declared.channel.Dir.{Dir}
 use Rattle.dch_types.specs.declared.channel.Dir.TheVariants.{Up, Down}
@@ -11,17 +10,16 @@ use Rattle.dch_types.specs.declared.bearer.Bearer.{Bearer}
 use Rattle.dch_types.specs.declared.config.Config.{Config}
 use Rattle.dch_types.specs.Lengths.{crc_size}
 use Rattle.dch_types.specs.Parts.{channel_at}
-use Rattle.dch_tree.specs.Bearers.{is_transparent, bearer_at, shares}
+use Rattle.dch_tree.specs.Bearers.{is_transparent, bearer_at}
 use Rattle.dch_tree.proofs.Bearers.{KeepsRules, KeepsBearer, IsSomewhere}
 use Rattle.dch_tree.proofs.Partners.{KeepsSharing}
 use Rattle.dch_tree.proofs.Whole.{KeepsKeys, document_keeps}
-use Rattle.dch_config.specs.Refusals.{first_refusal}
-use Rattle.dch_config.specs.Bearers.{side_of, channel_number, has_ct, has_no_check, lacks_check, check_refusal, are_pdus, has_wrong_blocks, lacks_pdus, pdu_refusal, has_wrong_window, window_refusal}
+use Rattle.dch_config.specs.Bearers.{side_of, has_ct, has_no_check, lacks_check, check_refusal, are_pdus, has_wrong_blocks, lacks_pdus, pdu_refusal, has_wrong_window, window_refusal}
 use Rattle.dch_config.specs.Limits.{count_refusals, combination_refusals, bearer_refusals, bits_refusals, limit_refusals, first_count_refusal, first_combination_refusal, first_bearer_refusal, first_bits_refusal, limit_refusal}
 use Rattle.dch_config.specs.Reading.{IsConfig, ReadsTree}
 use Rattle.std.specs.Prelude.{IfOk, Result, Ok, Err}
 use Rattle.dch_config.specs.declared.error.ConfigError.{ConfigError}
-use Rattle.dch_config.specs.Good.{IsRules, IsPlaced, IsBearer, IsSharing, IsGood}
+use Rattle.dch_config.specs.Good.{IsBearer, IsGood}
 use Rattle.dch_config.proofs.Places.{AllNone, all_none, none_place, position_none, or_first, or_second, not_true}
 use Rattle.dch_config.proofs.GoodSides.{RefusesNone, within, side_good}
 

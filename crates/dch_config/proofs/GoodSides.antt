@@ -1,19 +1,17 @@
 -- The limits of a direction, where none of them refuses.
-use Rattle.std.proofs.Common.{◌≡◌, ◌≢◌, ◌<◌, ◌≤◌, ◌+◌, ◌*◌, ◌==◌, ◌&&◌, ◌||◌, ℕ, zero, suc, Bool, true, false, not, List, [], ◌∷◌, ◌⊎◌, inl, inr, length, get_or, take, nat_lt, nat_le, Option, Some, None, option_map, refl, ap, sym, ◌∙◌, subst, ⊎_elim, arith, length-take}
-use Rattle.std.specs.Prelude.{position, Contains, IsSome, is_none}
-use Rattle.std.specs.List.{list_any, range_with_len}
+use Rattle.std.proofs.Common.{◌≡◌, ◌<◌, ◌≤◌, ◌||◌, ℕ, zero, suc, Bool, true, false, not, List, [], ◌∷◌, length, get_or, take, nat_lt, None, refl, ap, sym, ◌∙◌, subst, ⊎_elim, arith, length-take}
+use Rattle.std.specs.Prelude.{position, Contains}
+use Rattle.std.specs.List.{list_any}
 use Rattle.std.proofs.lemmas.Bool.{cases_Bool}
 use Rattle.std.proofs.lemmas.Bool.Decides.{nat_tests, eqb_tells}
 use Rattle.std.proofs.lemmas.List.{get_or-take}
-use Rattle.std.proofs.lemmas.List.Folds.{list_any_at}
 use Rattle.dch_types.specs.declared.channel.Dir.{Dir}
-use Rattle.dch_types.specs.declared.channel.Format.{Format}
 use Rattle.dch_types.specs.declared.channel.Trch.{Trch}
 use Rattle.dch_types.specs.declared.channel.Combination.{Combination}
 use Rattle.dch_types.specs.declared.channel.Side.{Side}
 use Rattle.dch_types.specs.Lengths.{tti_bits}
-use Rattle.dch_types.specs.Limits.{IsFrames, is_idle, idled, IsFormat, IsChannel, IsCombination, IsSide}
-use Rattle.dch_types.specs.Parts.{channel_at, format_at, combination_at, format_number}
+use Rattle.dch_types.specs.Limits.{is_idle, idled, IsChannel, IsCombination, IsSide}
+use Rattle.dch_types.specs.Parts.{channel_at, format_at, combination_at}
 use Rattle.dch_tree.proofs.Channels.{KeepsRanges}
 use Rattle.dch_tree.proofs.Whole.{KeepsSide}
 use Rattle.dch_config.specs.Sides.{is_within, channel_count_refusal, format_count_refusal, has_no_idle, idle_refusal, combination_count_refusal, names_formats, same_formats, is_wrong, combination_refusal, lacks_idled, is_not_closed, closure_refusal, is_large, has_large, block_refusal, has_long, bits_refusal}
