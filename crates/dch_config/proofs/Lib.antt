@@ -1,0 +1,5 @@
+pub mod Combinations
+pub mod Outcomes
+pub mod Places
+pub mod GoodSides
+pub mod GoodBearers

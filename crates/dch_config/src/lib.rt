@@ -1,0 +1,19 @@
+//! The configuration of a dedicated channel: its text, the limits that it keeps, and why a text is refused.
+#![tactic(auto)]
+
+mod bearer;
+mod error;
+mod limits;
+mod reading;
+mod side;
+
+pub use dch_tree::KeyPath;
+pub use dch_types::{
+    AmRules, Bearer, Coding, Combination, Config, Crc, Dir, Downlink, Format, Mode, Sequence, Side,
+    Trch, Uplink,
+};
+pub use error::ConfigError;
+pub use reading::read;
+
+#[cfg(test)]
+mod tests;

@@ -1,0 +1,11 @@
+pub mod FirstFound
+pub mod Items
+pub mod Sets
+pub mod Parts
+pub mod First
+pub mod Kept
+pub mod Ranges
+pub mod Channels
+pub mod Bearers
+pub mod Partners
+pub mod Whole

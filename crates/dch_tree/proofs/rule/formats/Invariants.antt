@@ -1,0 +1,7 @@
+use Rattle.std.proofs.Common.{◌≡◌, ◌++◌, drop, option_map}
+use Rattle.toml.specs.View.{items_view}
+use Rattle.dch_tree.specs.Rules.{each, format_of}
+use Rattle.dch_tree.proofs.rule.formats.Given as goal
+
+abbrev pub invariant-loop-item : goal.invariant-loop-item
+invariant-loop-item l = option_map (λ xs. l.formats ++ xs) (each format_of (items_view (drop l.item-index l.item-items))) ≡ each format_of (items_view l.item-items)
