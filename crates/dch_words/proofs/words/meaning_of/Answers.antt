@@ -1,0 +1,43 @@
+use Rattle.std.proofs.Common.{◌∙◌, Some, ap, codes, subst, sym}
+use Rattle.clap.specs.Words.{found_of}
+use Rattle.clap.proofs.WalkLemmas.{first_value-rows}
+use Rattle.dch_words.specs.Says.{IsNumberOr}
+use Rattle.dch_words.proofs.Meanings.{none_some, some_one}
+use Rattle.dch_words.proofs.words.meaning_of.Goals as goal
+
+pub returns-in_err-get_str-clause-none : goal.returns-in_err-get_str-clause-none
+returns-in_err-get_str-clause-none c =
+    let rows = first_value-rows (found_of c.args.matches.now) (codes "command") in
+    rw c.from_residual.ensures (λ words means. none_some _ (c.in_err-get_str.ensures ∙ rows ∙ means.verb))
+
+pub returns-in_err-verb-clause-none : goal.returns-in_err-verb-clause-none
+returns-in_err-verb-clause-none c =
+    let rows = first_value-rows (found_of c.args.matches.now) (codes "command") in
+    rw c.from_residual-in_err-verb.ensures (λ words means.
+    c.in_err-verb.ensures.none words.verb (some_one _ _ (c.in_ok-get_str.ensures ∙ rows ∙ means.verb)))
+
+pub returns-in_err-count-clause-none : goal.returns-in_err-count-clause-none
+returns-in_err-count-clause-none c =
+    let word = c.get_str-2.ensures ∙ first_value-rows (found_of c.args.matches.now) (codes "count") in
+    rw c.from_residual-in_err-count.ensures (λ words means.
+    c.in_err-count.ensures.none words.count
+    (subst (λ o. IsNumberOr 1000 1 100000 o words.count) (sym word) means.count))
+
+pub returns-in_err-start-clause-none : goal.returns-in_err-start-clause-none
+returns-in_err-start-clause-none c =
+    let word = c.get_str-3.ensures ∙ first_value-rows (found_of c.args.matches.now) (codes "start") in
+    rw c.from_residual-in_err-start.ensures (λ words means.
+    c.in_err-start.ensures.none words.start (subst (λ o. IsNumberOr 0 0 31 o words.start) (sym word) means.start))
+
+pub returns-clause-some : goal.returns-clause-some
+returns-clause-some c =
+    let found = found_of c.args.matches.now in
+    let count = c.get_str-2.ensures ∙ first_value-rows found (codes "count") in
+    let start = c.get_str-3.ensures ∙ first_value-rows found (codes "start") in
+    record {
+      verb = sym (c.in_ok-get_str.ensures ∙ first_value-rows found (codes "command"))
+          ∙ ap (λ t. Some t) c.in_ok-verb.ensures.some;
+      count = subst (λ o. IsNumberOr 1000 1 100000 o c.in_ok-count.count) count c.in_ok-count.ensures.some;
+      start = subst (λ o. IsNumberOr 0 0 31 o c.in_ok-start.start) start c.in_ok-start.ensures.some;
+      quiet = c.is_given.ensures;
+    }

@@ -1,0 +1,89 @@
+ghost use Rattle.std.specs.Prelude.{◌≡◌, List, IfOk, IfSome, IfNone, map, string_bytes};
+ghost use Rattle.clap.specs.Words.{Text, found_of, rows_of};
+ghost use Rattle.dch_words.specs.Line.{is_given};
+ghost use Rattle.dch_words.specs.Says.{IsCommand, Means, Says, verb_name};
+
+use crate::line::line_command;
+use crate::number::read_number_or;
+use clap::ArgMatches;
+use clap::error::ErrorKind;
+use clap::parser::ValueSource;
+use dch_bits::NoMemory;
+use std::alloc::Global;
+
+/// What the program is to do.
+#[derive(Clone, Copy, Debug, PartialEq, Eq)]
+pub enum Verb {
+    /// Judge a configuration.
+    Check,
+    /// Code transport blocks.
+    Encode,
+}
+
+/// What the words of the command line say.
+#[derive(Clone, Copy, Debug, PartialEq, Eq)]
+pub struct Words {
+    pub verb: Verb,
+    /// How much is wanted, 1 to 100,000; 1,000 where the words give no count.
+    pub count: u32,
+    /// An eighth of the first connection frame number, 0 to 31; 0 where the words give no start.
+    pub start: u8,
+    /// Whether the lines of Iub frames and radio frames are left out.
+    pub quiet: bool,
+}
+
+/// Reads the words after the program's name: `COMMAND [COUNT] [--start N] [--quiet]`. `None` is words that are no command.
+pub fn read_words(alloc: Global, words: &[String]) -> Result<Option<Words>, NoMemory>
+    ensures says { IfOk result (λ read. IfSome read (Says (map string_bytes words.now))) }
+    ensures none { IfOk result (λ read. IfNone read (¬ IsCommand (map string_bytes words.now))) }
+{
+    let command = line_command(alloc)?;
+    match command.try_get_matches_from(words) {
+        Ok(matches) => Ok(meaning_of(&matches)),
+        Err(error) if error.kind() == ErrorKind::OutOfMemory => Err(NoMemory),
+        Err(_) => Ok(None),
+    }
+}
+
+/// What the matches of a command line stand for.
+fn meaning_of(matches: &ArgMatches<'_>) -> Option<Words>
+    ensures some { IfSome result (Means (rows_of (found_of matches.now))) }
+    ensures none { IfNone result ((words : Words) → ¬ Means (rows_of (found_of matches.now)) words) }
+{
+    let verb = read_verb(matches.get_str("command")?)?;
+    let count = read_number_or(matches.get_str("count"), 1000, 1, 100_000)?;
+    let start = read_number_or(matches.get_str("start"), 0, 0, 31)?;
+    Some(Words {
+        verb,
+        count,
+        start: start as u8,
+        quiet: is_given(matches, "quiet"),
+    })
+}
+
+/// Whether the words give an argument, and not its default alone.
+#[tactic(auto, using(crate::proofs::Rows::source_rows))]
+fn is_given(matches: &ArgMatches<'_>, id: &str) -> bool
+    ensures { result ≡ is_given id.now (rows_of (found_of matches.now)) }
+{
+    match matches.value_source(id) {
+        Some(ValueSource::CommandLine) => true,
+        Some(ValueSource::DefaultValue) | None => false,
+    }
+}
+
+fn read_verb(text: &str) -> Option<Verb>
+    ensures some { IfSome result (λ verb. text.now ≡ verb_name verb) }
+    ensures none { IfNone result ((verb : Verb) → ¬ (text.now ≡ verb_name verb)) }
+{
+    match text {
+        "check" => Some(Verb::Check),
+        "encode" => Some(Verb::Encode),
+        _ => None,
+    }
+}
+
+/// A law: words say one thing at most.
+pub fn one_meaning_law()
+    ensures { (texts : List Text) (a b : Words) → Says texts a → Says texts b → a ≡ b }
+{}
