@@ -7,4 +7,3 @@ pub mod Pieces
 pub mod Runs
 pub mod Steps
 pub mod Texts
-pub mod Words

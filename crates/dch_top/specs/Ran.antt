@@ -5,6 +5,9 @@ use Rattle.std.specs.Io.KnownBytes.{Consumes, Appends, IsAtEnd}
 use Rattle.dch_script.specs.Code.{longest, meaning}
 use Rattle.dch_script.specs.declared.event.LineError.{LineError}
 use Rattle.dch_script.specs.declared.event.LineError.TheVariants.{Long, Cut}
+use Rattle.dch_words.specs.Says.{Says}
+use Rattle.dch_words.specs.declared.words.Verb.TheVariants.{Encode}
+use Rattle.dch_words.specs.declared.words.Words.{Words}
 use Rattle.dch_top.specs.Ends.{End, Fails, IsCutShort}
 use Rattle.dch_top.specs.Lines.{lines_of, rest_of}
 use Rattle.dch_top.specs.Said.{IsMalformed, is_empty, LinesSay, spoken, closing, refusal}
@@ -119,10 +122,11 @@ pub record Encodes (source sink : End) (status : Status) : Type 0 where
 abbrev pub usage : List ℕ
 usage = codes "usage: dch COMMAND [COUNT] [--start N] [--quiet]\n"
 
--- what is written where the words are no command
+-- what is written where the words are no command: nothing before they are read, then the usage line
 abbrev pub RefusesWords : End → List ℕ → Status → Type 0
 RefusesWords sink written Usage = written ≡ usage
 RefusesWords sink written WriteFault = Fails sink × IsCutShort written usage
+RefusesWords sink written NoMemory = written ≡ []
 RefusesWords sink written _ = ⊥
 
 -- the source gave nothing, and the sink took the usage line
@@ -132,9 +136,9 @@ pub record Misuses (source sink : End) (status : Status) : Type 0 where
   pub answers : RefusesWords sink written status
   pub unread : source.now ≡ source.before
 
--- the words are just `encode`
+-- the words say `encode`
 abbrev pub IsEncode : List (String Global) → Type 0
-IsEncode words = map string_bytes words ≡ codes "encode" ∷ []
+IsEncode words = (said : Words) × (Says (map string_bytes words) said × (said.verb ≡ Encode))
 
 -- what a run of these words does
 pub record Ran (words : List (String Global)) (source sink : End) (status : Status) : Type 0 where

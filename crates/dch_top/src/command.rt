@@ -1,4 +1,4 @@
-ghost use Rattle.std.specs.Prelude.{◌≡◌, ◌≤◌, ◌⊎◌, ◌↔◌, IsTrue, IfSome, length, [], Some};
+ghost use Rattle.std.specs.Prelude.{◌≡◌, ◌≤◌, ◌⊎◌, ◌↔◌, IsTrue, IfOk, IfSome, length, [], Some};
 ghost use Rattle.dch_io.specs.Causes.{Rose};
 ghost use Rattle.dch_top.specs.Ends.{end_of};
 ghost use Rattle.dch_top.specs.Lines.{lines_of, rest_of};
@@ -7,7 +7,9 @@ ghost use Rattle.dch_top.specs.Ran.{Ran, Misuses, IsEncode, AreGood, most_bytes}
 use crate::bench::Bench;
 use crate::encode::encode;
 use crate::feed::write_all;
+use dch_bits::NoMemory;
 use dch_io::{Sink, Source};
+use dch_words::{Verb, read_words};
 use std::alloc::Global;
 
 /// How a run ended. The number of a status is its place in this list, from 0.
@@ -63,20 +65,20 @@ fn follow_words<S: Source, K: Sink>(
 ) -> Status
     ensures { Ran words.now (end_of S.left S.faults source.old source.new) (end_of K.taken K.faults sink.old sink.new) result }
 {
-    if is_encode(words) {
-        encode(alloc, source, sink)
-    } else {
-        refuse_words(source, sink)
+    match say_encode(alloc, words) {
+        Ok(true) => encode(alloc, source, sink),
+        Ok(false) => refuse_words(source, sink),
+        Err(NoMemory) => Status::NoMemory,
     }
 }
 
-#[tactic(auto, using(crate::proofs::Words::is_only))]
-fn is_encode(words: &[String]) -> bool
-    ensures { IsTrue result ↔ IsEncode words.now }
+/// Whether the words say `encode`.
+fn say_encode(alloc: Global, words: &[String]) -> Result<bool, NoMemory>
+    ensures { IfOk result (λ yes. IsTrue yes ↔ IsEncode words.now) }
 {
-    match words {
-        [word] => word.as_str() == "encode",
-        _ => false,
+    match read_words(alloc, words)? {
+        Some(said) => Ok(said.verb == Verb::Encode),
+        None => Ok(false),
     }
 }
 
