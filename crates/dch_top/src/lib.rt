@@ -123,20 +123,34 @@ mod tests {
         Ok(())
     }
 
-    #[test]
-    fn words_that_are_no_command(rt: HostRuntime) -> Result<(), Fail> {
-        let alloc = rt.alloc();
-        let words = vec![in alloc; String::from_str(alloc, "lnk")?]?;
+    /// What words answer and write, over an empty input.
+    fn answer(alloc: Global, text: &str) -> Result<(Status, MemorySink), Fail> {
+        let mut words = Vec::new(alloc);
+        for word in text.split_ascii_whitespace() {
+            words.push(String::from_str(alloc, word)?)?;
+        }
         let mut source = MemorySource::new(Vec::new(alloc), 1, Vec::new(alloc));
         let mut sink = MemorySink::new(vec![in alloc; 0; 64]?, 9, Vec::new(alloc));
         let mut bench = Bench::new();
         let status = run(alloc, &words, &mut source, &mut sink, &mut bench);
         bench.close();
-        assert_eq!(rt; status, Status::Usage);
-        assert_eq!(rt;
-            sink.bytes(),
-            b"usage: dch COMMAND [COUNT] [--start N] [--quiet]\n".as_slice()
-        );
+        Ok((status, sink))
+    }
+
+    #[test]
+    fn words_of_a_command_and_others(rt: HostRuntime) -> Result<(), Fail> {
+        let usage: &[u8] = b"usage: dch COMMAND [COUNT] [--start N] [--quiet]\n";
+        for (text, status, written) in [
+            ("encode", Status::Ok, b"end lines=0\n".as_slice()),
+            ("--start=3 encode 5 --quiet", Status::Ok, b"end lines=0\n"),
+            ("lnk", Status::Usage, usage),
+            ("encode --start 32", Status::Usage, usage),
+            ("", Status::Usage, usage),
+        ] {
+            let (ended, sink) = answer(rt.alloc(), text)?;
+            assert_eq!(rt; ended, status);
+            assert_eq!(rt; sink.bytes(), written);
+        }
         Ok(())
     }
 }
