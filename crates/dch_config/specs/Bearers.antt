@@ -43,7 +43,9 @@ has_no_check side (Some i) = crc_size (channel_at side i).crc == 0
 
 -- the first bearer in UM or AM on such a channel
 abbrev pub lacks_check : Config → Bearer → Bool
-lacks_check config bearer = not (is_transparent bearer.mode) && (has_no_check config.uplink.side bearer.up || has_no_check config.downlink.side bearer.down)
+lacks_check config bearer =
+    not (is_transparent bearer.mode)
+    && (has_no_check config.uplink.side bearer.up || has_no_check config.downlink.side bearer.down)
 
 abbrev pub check_refusal : Config → Option ConfigError
 check_refusal config = option_map (λ b. NoCheck b) (position (lacks_check config) config.bearers)
@@ -72,15 +74,19 @@ is_pdu_size mode ct size = is_pdu_bits mode (size - (if ct then 4 else 0))
 
 -- some block is sent, all blocks have one size, and they are PDUs
 abbrev pub are_pdus : Mode → Bool → List Format → Bool
-are_pdus mode ct formats = option_map_or (λ size. have_one_size formats size && is_pdu_size mode ct size) (first_size formats) false
+are_pdus mode ct formats =
+    option_map_or (λ size. have_one_size formats size && is_pdu_size mode ct size) (first_size formats) false
 
 -- the first bearer in UM or AM whose blocks are no PDUs
 abbrev pub has_wrong_blocks : Config → Mode → Dir → Option ℕ → Bool
 has_wrong_blocks config mode dir None = false
-has_wrong_blocks config mode dir (Some i) = not (are_pdus mode (has_ct config dir i) (channel_at (side_of config dir) i).formats)
+has_wrong_blocks config mode dir (Some i) =
+    not (are_pdus mode (has_ct config dir i) (channel_at (side_of config dir) i).formats)
 
 abbrev pub lacks_pdus : Config → Bearer → Bool
-lacks_pdus config bearer = not (is_transparent bearer.mode) && (has_wrong_blocks config bearer.mode Up bearer.up || has_wrong_blocks config bearer.mode Down bearer.down)
+lacks_pdus config bearer =
+    not (is_transparent bearer.mode)
+    && (has_wrong_blocks config bearer.mode Up bearer.up || has_wrong_blocks config bearer.mode Down bearer.down)
 
 abbrev pub pdu_refusal : Config → Option ConfigError
 pdu_refusal config = option_map (λ b. PduSize b) (position (lacks_pdus config) config.bearers)

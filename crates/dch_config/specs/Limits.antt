@@ -1,4 +1,4 @@
--- What is refused of a configuration after its keys, in the order of the numbers of refusals: the uplink before the downlink.
+-- What is refused of a configuration after its keys, in the order in which it counts: the uplink before the downlink.
 use Rattle.std.specs.Prelude.{List, [], ◌∷◌, Option}
 use Rattle.dch_types.specs.declared.channel.Dir.TheVariants.{Up, Down}
 use Rattle.dch_types.specs.declared.channel.Side.{Side}

@@ -23,7 +23,8 @@ channel_count_refusal dir side = refused_if (not (is_within 1 8 (length side.cha
 
 -- the first channel with not 1 to 32 formats
 abbrev pub format_count_refusal : Dir → Side → Option ConfigError
-format_count_refusal dir side = option_map (λ i. FormatCount dir i) (position (λ channel. not (is_within 1 32 (length channel.formats))) side.channels)
+format_count_refusal dir side =
+    option_map (λ i. FormatCount dir i) (position (λ channel. not (is_within 1 32 (length channel.formats))) side.channels)
 
 -- the first channel without an idle format
 abbrev pub has_no_idle : Trch → Bool
@@ -54,7 +55,8 @@ is_wrong side c =
 
 -- the first combination that is wrong
 abbrev pub combination_refusal : Dir → Side → Option ConfigError
-combination_refusal dir side = option_map (λ c. NoSuchFormat dir c) (position (is_wrong side) (range_with_len 0 (length side.combinations)))
+combination_refusal dir side =
+    option_map (λ c. NoSuchFormat dir c) (position (is_wrong side) (range_with_len 0 (length side.combinations)))
 
 -- a channel's format, or its idle one where it has at most so many frames
 abbrev pub idled_format : ℕ → Option Trch → ℕ → ℕ
@@ -63,14 +65,16 @@ idled_format frames (Some channel) format = if nat_le channel.frames frames then
 
 -- the list lacks combination c with the channels of at most so many frames set to idle
 abbrev pub lacks_idled : Side → ℕ → ℕ → Bool
-lacks_idled side c frames = not (list_any (λ other. same_formats other.formats (idled frames side.channels (combination_at side c).formats)) side.combinations)
+lacks_idled side c frames =
+    not (list_any (λ other. same_formats other.formats (idled frames side.channels (combination_at side c).formats)) side.combinations)
 
 abbrev pub is_not_closed : Side → ℕ → Bool
 is_not_closed side c = ((lacks_idled side c 1 || lacks_idled side c 2) || lacks_idled side c 4) || lacks_idled side c 8
 
 -- the first combination that is not closed
 abbrev pub closure_refusal : Dir → Side → Option ConfigError
-closure_refusal dir side = option_map (λ c. NotClosed dir c) (position (is_not_closed side) (range_with_len 0 (length side.combinations)))
+closure_refusal dir side =
+    option_map (λ c. NotClosed dir c) (position (is_not_closed side) (range_with_len 0 (length side.combinations)))
 
 -- the first channel with blocks of more than 5,000 bits, or more than 64 blocks
 abbrev pub is_large : Format → Bool

@@ -179,7 +179,8 @@ fn lacks_idled(side: &Side, c: usize, frames: u8) -> bool
 }
 
 fn has_idled(frames: u8, channels: &[Trch], formats: &[u8], combinations: &[Combination]) -> bool
-    ensures { result ≡ list_any (λ other. same_formats other.formats (idled frames channels.now formats.now)) combinations.now }
+    ensures { result
+        ≡ list_any (λ other. same_formats other.formats (idled frames channels.now formats.now)) combinations.now }
 {
     combinations.iter().any(|other| are_idled(frames, channels, formats, other.formats.as_slice()))
 }
