@@ -107,6 +107,7 @@ impl Desk {
     #[tactic(auto, using(crate::proofs::Parts::breaks_on, crate::proofs::Parts::breaks_more, crate::proofs::Parts::appends_on))]
     pub fn refuse<K: Sink>(&mut self, why: LineError, sink: &mut K) -> Result<(), WriteFailed>
         ensures ok { OnOk result (Appends (K.taken sink.old) (K.taken sink.new) (self.old.text ++ refusal self.old.lines why)) }
+        ensures new { OnOk result (self.new ≡ record self.old { text = [] }) }
         ensures err { OnErr result (Breaks (end_of K.taken K.faults sink.old sink.new) (self.old.text ++ refusal self.old.lines why)) }
         ensures later { K.faults sink.old ≤ K.faults sink.new }
     {
@@ -129,6 +130,7 @@ impl Desk {
     #[tactic(auto, using(crate::proofs::Parts::breaks_on, crate::proofs::Parts::breaks_more, crate::proofs::Parts::appends_on))]
     pub fn close<K: Sink>(&mut self, sink: &mut K) -> Result<(), WriteFailed>
         ensures ok { OnOk result (Appends (K.taken sink.old) (K.taken sink.new) (self.old.text ++ closing self.old.spoken)) }
+        ensures new { OnOk result (self.new ≡ record self.old { text = [] }) }
         ensures err { OnErr result (Breaks (end_of K.taken K.faults sink.old sink.new) (self.old.text ++ closing self.old.spoken)) }
         ensures later { K.faults sink.old ≤ K.faults sink.new }
     {
