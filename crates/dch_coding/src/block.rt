@@ -1,9 +1,10 @@
-ghost use Rattle.std.specs.Prelude.{◌≡◌, ◌≤◌, ◌*◌, length, take, IfOk};
+ghost use Rattle.std.specs.Prelude.{◌≡◌, ◌≤◌, ◌*◌, length, take};
 ghost use Rattle.dch_types.specs.Lengths.{block_count, block_size, coded_bits};
 ghost use Rattle.dch_coding.specs.Chain.{IsCoded};
 ghost use Rattle.dch_coding.specs.declared.block.TheConstants.{ATTACHED, BLOCKS, CODED};
 
 use crate::chain::code;
+use crate::memory::zeros;
 use dch_bits::{Bit, NoMemory};
 use dch_crc::{attach, size};
 use dch_types::{Coding, Crc, block_size};
@@ -104,14 +105,5 @@ fn lengths_of(coding: Coding, joined: usize) -> Lengths
     Lengths {
         blocks: (count * size) as usize,
         coded: coding.coded_bits(joined as u64) as usize,
-    }
-}
-
-fn zeros(alloc: Global, count: usize) -> Result<Vec<Bit>, NoMemory>
-    ensures { IfOk result (λ bits. length bits.items ≡ count) }
-{
-    match vec![in alloc; Bit::Zero; count] {
-        Ok(bits) => Ok(bits),
-        Err(_) => Err(NoMemory),
     }
 }

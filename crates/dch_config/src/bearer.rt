@@ -94,8 +94,8 @@ fn count_naming(bearers: &[Bearer], dir: Dir, i: u8) -> usize
         .count()
 }
 
-/// Whether a channel has the C/T field: exactly where two or more bearers name it.
-fn has_ct(config: &Config, dir: Dir, i: u8) -> bool
+/// Whether a channel has the C/T field: exactly where two or more bearers name it (TS 25.321 9.2.1).
+pub fn has_ct(config: &Config, dir: Dir, i: u8) -> bool
     ensures { result ≡ has_ct config.now dir i }
 {
     count_naming(config.bearers.as_slice(), dir, i) > 1

@@ -7,6 +7,7 @@ mod limits;
 mod reading;
 mod side;
 
+pub use bearer::has_ct;
 pub use dch_tree::KeyPath;
 pub use dch_types::{
     AmRules, Bearer, Coding, Combination, Config, Crc, Dir, Downlink, Format, Mode, Sequence, Side,

@@ -9,20 +9,22 @@ use Rattle.dch_io.specs.Causes.{Rose}
 use Rattle.dch_script.specs.Code.{meaning}
 use Rattle.dch_script.specs.declared.event.LineError.{LineError}
 use Rattle.dch_script.specs.declared.event.LineError.TheVariants.{Long}
-use Rattle.dch_top.specs.Ends.{End, span}
-use Rattle.dch_top.specs.Lines.{lines_after, rest_after, lines_of, rest_of}
-use Rattle.dch_top.specs.Ran.{Encodes, AreGood, IsRefused, most_bytes}
+use Rattle.dch_io.specs.Ends.{End, span}
+use Rattle.dch_script.specs.Lines.{lines_after, rest_after, lines_of, rest_of}
+use Rattle.dch_top.specs.Bounds.{most_bytes}
+use Rattle.dch_top.specs.Ran.{Encodes, AreGood, IsRefused}
 use Rattle.dch_top.specs.Said.{IsMalformed, is_empty}
 use Rattle.dch_top.specs.declared.command.Status.{Status}
 use Rattle.dch_top.specs.declared.command.Status.TheVariants.{Ok, Refused, Usage, ReadFault, WriteFault, NoMemory, TooLong}
-use Rattle.dch_top.proofs.Cuts.{lines_after-append, rest_after-append}
+use Rattle.dch_script.proofs.Lines.{lines_after-append, rest_after-append}
 use Rattle.dch_top.proofs.Steps.{overlong}
 
-consumed : (input taken : List ℕ) (now : Option (List ℕ)) → Consumes (Some input) now taken → (rest : List ℕ) × (input ≡ taken ++ rest)
+-- what was taken of an input that is known
+pub consumed : (input taken : List ℕ) (now : Option (List ℕ)) → Consumes (Some input) now taken → (rest : List ℕ) × (input ≡ taken ++ rest)
 consumed input taken None takes = absurd takes
 consumed input taken (Some rest) takes = (rest, takes)
 
-all_consumed : (input taken : List ℕ) (now : Option (List ℕ)) → Consumes (Some input) now taken → IsAtEnd now → input ≡ taken
+pub all_consumed : (input taken : List ℕ) (now : Option (List ℕ)) → Consumes (Some input) now taken → IsAtEnd now → input ≡ taken
 all_consumed input taken None takes end = absurd takes
 all_consumed input taken (Some rest) takes end = takes ∙ ap (λ l. taken ++ l) end ∙ append-nil taken
 

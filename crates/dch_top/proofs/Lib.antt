@@ -1,7 +1,8 @@
 pub mod Blocks
-pub mod Bytes
+pub mod Checks
 pub mod Complete
 pub mod Cuts
+pub mod Judging
 pub mod Parts
 pub mod Pieces
 pub mod Runs

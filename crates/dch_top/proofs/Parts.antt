@@ -4,9 +4,10 @@ use Rattle.std.specs.Io.KnownBytes.{Appends}
 use Rattle.std.proofs.KnownBytes.{Appends-trans}
 use Rattle.dch_script.specs.declared.event.LineError.{LineError}
 use Rattle.dch_top.specs.Desk.{Work, Takes, StopsAt, FailsIn}
-use Rattle.dch_top.specs.Ends.{End, Passes, Breaks, span}
-use Rattle.dch_top.specs.Lines.{lines_after, rest_after}
-use Rattle.dch_top.proofs.Cuts.{lines_after-append, rest_after-append, says_append, spoken-append}
+use Rattle.dch_io.specs.Ends.{End, Passes, Breaks, span}
+use Rattle.dch_script.specs.Lines.{lines_after, rest_after}
+use Rattle.dch_script.proofs.Lines.{lines_after-append, rest_after-append}
+use Rattle.dch_top.proofs.Cuts.{says_append, spoken-append}
 
 pub passes_on : (a b c : Option (List ℕ)) (f g h : ℕ) (text mid more left : List ℕ) → Passes (span a b f g) text mid → Passes (span b c g h) (mid ++ more) left → Passes (span a c f h) (text ++ more) left
 passes_on a b c f g h text mid more left first then = record {

@@ -4,8 +4,8 @@ use Rattle.std.specs.Io.KnownBytes.{Appends}
 use Rattle.std.proofs.KnownBytes.{Appends-trans}
 use Rattle.dch_script.specs.declared.event.LineError.{LineError}
 use Rattle.dch_top.specs.Desk.{Work, Takes, MeetsMalformed, StopsAt, FailsIn}
-use Rattle.dch_top.specs.Ends.{End, Breaks, span}
-use Rattle.dch_top.specs.Lines.{lines_after}
+use Rattle.dch_io.specs.Ends.{End, Breaks, span}
+use Rattle.dch_script.specs.Lines.{lines_after}
 use Rattle.dch_top.specs.Pieces.{BreaksIn}
 use Rattle.dch_top.specs.Said.{refusal}
 use Rattle.dch_top.proofs.Parts.{breaks_on}

@@ -7,14 +7,14 @@ use Rattle.std.proofs.KnownBytes.{Appends-trans, Consumes-trans, Appends-nil, Co
 use Rattle.dch_script.specs.declared.event.LineError.{LineError}
 use Rattle.dch_script.specs.declared.event.LineError.TheVariants.{Cut}
 use Rattle.dch_top.specs.Desk.{Work, Takes, MeetsMalformed}
-use Rattle.dch_top.specs.Ends.{End, Breaks, Fails, span}
-use Rattle.dch_top.specs.Lines.{lines_after, lines_of, rest_of}
+use Rattle.dch_io.specs.Ends.{End, Breaks, Fails, span}
+use Rattle.dch_script.specs.Lines.{lines_after, lines_of, rest_of}
 use Rattle.dch_top.specs.Pieces.{Going, RefusesIn, BreaksIn, TakesPiece, EndsInput}
 use Rattle.dch_top.specs.Ran.{Encodes, IsRefused, MayFollow}
 use Rattle.dch_top.specs.Said.{LinesSay, closing, refusal}
 use Rattle.dch_top.specs.declared.command.Status.{Status}
 use Rattle.dch_top.specs.declared.command.Status.TheVariants.{Ok, Refused, Usage, ReadFault, WriteFault, NoMemory, TooLong}
-use Rattle.dch_top.specs.declared.feed.TheConstants.{LIMIT, PIECE}
+use Rattle.dch_io.specs.declared.feed.TheConstants.{LIMIT, PIECE}
 use Rattle.dch_top.proofs.Parts.{lines_on, rest_on}
 use Rattle.dch_top.proofs.Cuts.{says_append, spoken-append}
 

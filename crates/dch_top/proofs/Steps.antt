@@ -6,8 +6,8 @@ use Rattle.dch_script.specs.Code.{longest, content, is_ended, meaning}
 use Rattle.dch_script.specs.declared.event.LineError.{LineError}
 use Rattle.dch_script.specs.declared.event.LineError.TheVariants.{Long}
 use Rattle.dch_top.specs.Desk.{Work, AddsLine, Takes, StopsAt, FailsIn, EndsLine, EndsIn, FollowsPart, Advances, Steps, Follows}
-use Rattle.dch_top.specs.Ends.{End, Passes, Breaks, span}
-use Rattle.dch_top.specs.Lines.{lines_after, rest_after}
+use Rattle.dch_io.specs.Ends.{End, Passes, Breaks, span}
+use Rattle.dch_script.specs.Lines.{lines_after, rest_after}
 use Rattle.dch_top.specs.Said.{IsMalformed, is_empty, spoken}
 use Rattle.dch_top.specs.declared.stop.Stop.{Stop}
 use Rattle.dch_top.specs.declared.stop.Stop.TheVariants.{Malformed, Failed}

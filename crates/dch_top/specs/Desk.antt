@@ -7,11 +7,11 @@ use Rattle.dch_script.specs.Held.{Held}
 use Rattle.dch_script.specs.declared.code.TheConstants.{LONGEST_LINE}
 use Rattle.dch_script.specs.declared.event.LineError.{LineError}
 use Rattle.dch_script.specs.declared.event.LineError.TheVariants.{Long}
-use Rattle.dch_top.specs.Ends.{End, Breaks, Passes}
-use Rattle.dch_top.specs.Lines.{lines_after, rest_after, lines_of, rest_of}
+use Rattle.dch_io.specs.Ends.{End, Breaks, Passes}
+use Rattle.dch_script.specs.Lines.{lines_after, rest_after, lines_of, rest_of}
 use Rattle.dch_top.specs.Said.{Answers, IsMalformed, is_empty, LineSays, LinesSay, spoken}
 use Rattle.dch_top.specs.declared.desk.TheConstants.{ROOM}
-use Rattle.dch_top.specs.declared.feed.TheConstants.{LIMIT}
+use Rattle.dch_io.specs.declared.feed.TheConstants.{LIMIT}
 use Rattle.dch_top.specs.declared.stop.Stop.{Stop}
 use Rattle.dch_top.specs.declared.stop.Stop.TheVariants.{Malformed, Failed}
 

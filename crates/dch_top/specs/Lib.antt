@@ -1,6 +1,6 @@
+pub mod Bounds
+pub mod Checked
 pub mod Desk
-pub mod Ends
-pub mod Lines
 pub mod Pieces
 pub mod Ran
 pub mod Said

@@ -4,8 +4,8 @@ use Rattle.std.specs.Io.KnownBytes.{Consumes, Appends}
 use Rattle.dch_script.specs.declared.event.LineError.{LineError}
 use Rattle.dch_script.specs.declared.event.LineError.TheVariants.{Cut}
 use Rattle.dch_top.specs.Desk.{Work, Takes, MeetsMalformed, IsAt}
-use Rattle.dch_top.specs.Ends.{End, Breaks}
-use Rattle.dch_top.specs.Lines.{lines_after}
+use Rattle.dch_io.specs.Ends.{End, Breaks}
+use Rattle.dch_script.specs.Lines.{lines_after}
 use Rattle.dch_top.specs.Said.{LinesSay, closing, refusal}
 use Rattle.dch_top.specs.declared.command.Status.{Status}
 use Rattle.dch_top.specs.declared.command.Status.TheVariants.{Ok as Done, Refused, WriteFault}

@@ -5,21 +5,17 @@ use Rattle.std.specs.Io.KnownBytes.{Consumes, Appends, IsAtEnd}
 use Rattle.dch_script.specs.Code.{longest, meaning}
 use Rattle.dch_script.specs.declared.event.LineError.{LineError}
 use Rattle.dch_script.specs.declared.event.LineError.TheVariants.{Long, Cut}
-use Rattle.dch_words.specs.Says.{Says}
-use Rattle.dch_words.specs.declared.words.Verb.TheVariants.{Encode}
+use Rattle.dch_words.specs.Says.{IsCommand, Says}
+use Rattle.dch_words.specs.declared.words.Verb.{Verb}
+use Rattle.dch_words.specs.declared.words.Verb.TheVariants.{Check, Encode}
 use Rattle.dch_words.specs.declared.words.Words.{Words}
-use Rattle.dch_top.specs.Ends.{End, Fails, IsCutShort}
-use Rattle.dch_top.specs.Lines.{lines_of, rest_of}
+use Rattle.dch_io.specs.Ends.{End, Fails, IsCutShort}
+use Rattle.dch_script.specs.Lines.{lines_of, rest_of}
+use Rattle.dch_top.specs.Bounds.{most_bytes, most_of_a_piece}
+use Rattle.dch_top.specs.Checked.{Checks}
 use Rattle.dch_top.specs.Said.{IsMalformed, is_empty, LinesSay, spoken, closing, refusal}
 use Rattle.dch_top.specs.declared.command.Status.{Status}
 use Rattle.dch_top.specs.declared.command.Status.TheVariants.{Ok, Refused, Usage, ReadFault, WriteFault, NoMemory, TooLong}
-
--- the most bytes that a run may take, and the most that it reads at a time
-abbrev pub most_bytes : ℕ
-most_bytes = 67108864
-
-abbrev pub most_of_a_piece : ℕ
-most_of_a_piece = 65536
 
 -- after these lines a whole line of the bytes taken is malformed
 pub record HasMalformed (taken : List ℕ) (good : List (List ℕ)) (why : LineError) : Type 0 where
@@ -136,14 +132,19 @@ pub record Misuses (source sink : End) (status : Status) : Type 0 where
   pub answers : RefusesWords sink written status
   pub unread : source.now ≡ source.before
 
--- the words say `encode`
-abbrev pub IsEncode : List (String Global) → Type 0
-IsEncode words = (said : Words) × (Says (map string_bytes words) said × (said.verb ≡ Encode))
+-- the words are a command, and ask for this
+abbrev pub Asks : List (String Global) → Verb → Type 0
+Asks words verb = (said : Words) × (Says (map string_bytes words) said × (said.verb ≡ verb))
+
+-- the words are no command
+abbrev pub IsNoCommand : List (String Global) → Type 0
+IsNoCommand words = ¬ IsCommand (map string_bytes words)
 
 -- what a run of these words does
 pub record Ran (words : List (String Global)) (source sink : End) (status : Status) : Type 0 where
-  pub encodes : IsEncode words → Encodes source sink status
-  pub misuses : ¬ IsEncode words → Misuses source sink status
+  pub encodes : Asks words Encode → Encodes source sink status
+  pub checks : Asks words Check → Checks source sink status
+  pub misuses : IsNoCommand words → Misuses source sink status
 
 -- each of the lines is empty or well formed
 abbrev pub AreGood : List (List ℕ) → Type 0

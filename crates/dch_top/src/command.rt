@@ -1,14 +1,18 @@
-ghost use Rattle.std.specs.Prelude.{◌≡◌, ◌≤◌, ◌⊎◌, ◌↔◌, IsTrue, IfOk, IfSome, length, [], Some};
+ghost use Rattle.std.specs.Prelude.{◌≡◌, ◌≤◌, ◌⊎◌, ℕ, List, IfSome, length, []};
 ghost use Rattle.dch_io.specs.Causes.{Rose};
-ghost use Rattle.dch_top.specs.Ends.{end_of};
-ghost use Rattle.dch_top.specs.Lines.{lines_of, rest_of};
-ghost use Rattle.dch_top.specs.Ran.{Ran, Misuses, IsEncode, AreGood, most_bytes};
+ghost use Rattle.dch_io.specs.Ends.{end_of};
+ghost use Rattle.dch_script.specs.Lines.{lines_of, rest_of};
+ghost use Rattle.dch_check.specs.Front.{configuration_of};
+ghost use Rattle.dch_check.specs.Refusals.{IsConfiguration, Refuses};
+ghost use Rattle.dch_words.specs.declared.words.Verb.TheVariants.{Check, Encode};
+ghost use Rattle.dch_top.specs.Bounds.{most_bytes};
+ghost use Rattle.dch_top.specs.Ran.{Ran, Asks, IsNoCommand, Misuses, AreGood};
 
 use crate::bench::Bench;
+use crate::check::check;
 use crate::encode::encode;
-use crate::feed::write_all;
 use dch_bits::NoMemory;
-use dch_io::{Sink, Source};
+use dch_io::{Sink, Source, write_all};
 use dch_words::{Verb, read_words};
 use std::alloc::Global;
 
@@ -17,7 +21,7 @@ use std::alloc::Global;
 pub enum Status {
     /// All was read and written, and nothing was refused.
     Ok,
-    /// A line of the input is malformed. The last line written says which, and why.
+    /// The configuration is refused, or a line of the input is malformed. The last line written says why.
     Refused,
     /// The words are no command. The usage line is written.
     Usage,
@@ -25,7 +29,7 @@ pub enum Status {
     ReadFault,
     /// The sink failed.
     WriteFault,
-    /// Memory was wanted before anything was read, and not found.
+    /// Memory was wanted and not found. Nothing is written.
     NoMemory,
     /// More than 67,108,864 bytes came in.
     TooLong,
@@ -46,12 +50,20 @@ pub fn run<S: Source, K: Sink>(
     // Faults are never made up.
     ensures read_fault { result ≡ Status.ReadFault → Rose (S.faults source.old) (S.faults source.new) }
     ensures write_fault { result ≡ Status.WriteFault → Rose (K.faults sink.old) (K.faults sink.new) }
-    ensures usage { result ≡ Status.Usage → ¬ IsEncode words.now }
+    ensures usage { result ≡ Status.Usage → IsNoCommand words.now }
 
     // Good lines without a fault are all answered.
-    ensures complete { IsEncode words.now → IfSome (S.left source.old) (λ input. AreGood (lines_of input) → rest_of input ≡ [] → length input ≤ most_bytes
+    ensures complete { Asks words.now Encode → IfSome (S.left source.old) (λ input. AreGood (lines_of input) → rest_of input ≡ [] → length input ≤ most_bytes
         → ¬ Rose (S.faults source.old) (S.faults source.new) → ¬ Rose (K.faults sink.old) (K.faults sink.new)
         → (result ≡ Status.Ok) ⊎ (result ≡ Status.NoMemory)) }
+
+    // A configuration without a fault is judged.
+    ensures good { Asks words.now Check → IfSome (S.left source.old) (λ input. IsConfiguration (configuration_of input) → length input ≤ most_bytes
+        → ¬ Rose (S.faults source.old) (S.faults source.new) → ¬ Rose (K.faults sink.old) (K.faults sink.new)
+        → (result ≡ Status.Ok) ⊎ (result ≡ Status.NoMemory)) }
+    ensures refused { Asks words.now Check → IfSome (S.left source.old) (λ input. (line : List ℕ) → Refuses (configuration_of input) line → length input ≤ most_bytes
+        → ¬ Rose (S.faults source.old) (S.faults source.new) → ¬ Rose (K.faults sink.old) (K.faults sink.new)
+        → (result ≡ Status.Refused) ⊎ (result ≡ Status.NoMemory)) }
 {
     let Bench {} = bench;
     follow_words(alloc, words, source, sink)
@@ -65,20 +77,13 @@ fn follow_words<S: Source, K: Sink>(
 ) -> Status
     ensures { Ran words.now (end_of S.left S.faults source.old source.new) (end_of K.taken K.faults sink.old sink.new) result }
 {
-    match say_encode(alloc, words) {
-        Ok(true) => encode(alloc, source, sink),
-        Ok(false) => refuse_words(source, sink),
+    match read_words(alloc, words) {
+        Ok(Some(said)) => match said.verb {
+            Verb::Check => check(alloc, source, sink),
+            Verb::Encode => encode(alloc, source, sink),
+        },
+        Ok(None) => refuse_words(source, sink),
         Err(NoMemory) => Status::NoMemory,
-    }
-}
-
-/// Whether the words say `encode`.
-fn say_encode(alloc: Global, words: &[String]) -> Result<bool, NoMemory>
-    ensures { IfOk result (λ yes. IsTrue yes ↔ IsEncode words.now) }
-{
-    match read_words(alloc, words)? {
-        Some(said) => Ok(said.verb == Verb::Encode),
-        None => Ok(false),
     }
 }
 

@@ -2,17 +2,16 @@ ghost use Rattle.std.specs.Prelude.{◌≡◌, ◌↔◌, IsTrue, ◌<◌, ◌�
 ghost use Rattle.std.specs.Io.KnownBytes.{Appends};
 ghost use Rattle.dch_script.specs.Code.{longest, meaning, is_bits};
 ghost use Rattle.dch_top.specs.Desk.{Work, Says, SaysLine, EndsLine, Steps, Follows, FollowsPart, EndsIn, GoesOnIn, Takes, StopsAt};
-ghost use Rattle.dch_top.specs.Ends.{Breaks, Passes, end_of, span};
+ghost use Rattle.dch_io.specs.Ends.{Breaks, Passes, end_of, span};
 ghost use Rattle.dch_top.specs.Said.{Answers, LineSays, is_empty, block_of, closing, reason, refusal};
 ghost use Rattle.dch_top.specs.declared.desk.TheConstants.{ROOM, LONGEST_TEXT};
 ghost use Rattle.dch_script.specs.declared.code.TheConstants.{LONGEST_LINE};
-ghost use Rattle.dch_top.specs.declared.feed.TheConstants.{LIMIT};
+ghost use Rattle.dch_io.specs.declared.feed.TheConstants.{LIMIT};
 
-use crate::feed::{WriteFailed, write_all};
 use crate::stop::Stop;
 use dch_bits::{Bit, NoMemory, read_bits_text};
 use dch_coding::BlockCoder;
-use dch_io::Sink;
+use dch_io::{Sink, WriteFailed, write_all};
 use dch_script::{Command, Event, LONGEST_LINE, Line, LineError, Report, parse};
 use memchr::memchr;
 use std::alloc::Global;

@@ -1,15 +1,14 @@
 ghost use Rattle.std.specs.Prelude.{◌≡◌, ◌<◌, ◌≤◌, ◌+◌, ◌-◌, [], length};
 ghost use Rattle.dch_script.specs.Code.{longest};
-ghost use Rattle.dch_top.specs.Ends.{end_of};
+ghost use Rattle.dch_io.specs.Ends.{end_of};
 ghost use Rattle.dch_top.specs.Ran.{Encodes};
 ghost use Rattle.dch_top.specs.Pieces.{Going, TakesPiece, EndsInput};
-ghost use Rattle.dch_top.specs.declared.feed.TheConstants.{LIMIT, PIECE};
+ghost use Rattle.dch_io.specs.declared.feed.TheConstants.{LIMIT, PIECE};
 
 use crate::command::Status;
 use crate::desk::Desk;
-use crate::feed::{LIMIT, PIECE, new_piece, read_piece};
 use crate::stop::Stop;
-use dch_io::{Failed, Sink, Source};
+use dch_io::{Failed, LIMIT, PIECE, Sink, Source, new_piece, read_piece};
 use dch_script::LineError;
 use std::alloc::Global;
 

@@ -1,7 +1,7 @@
 use Rattle.std.proofs.Common.{◌-◌}
-use Rattle.dch_top.specs.Ends.{end_of}
+use Rattle.dch_io.specs.Ends.{end_of}
 use Rattle.dch_top.specs.Pieces.{Going}
-use Rattle.dch_top.specs.declared.feed.TheConstants.{LIMIT}
+use Rattle.dch_io.specs.declared.feed.TheConstants.{LIMIT}
 use Rattle.dch_top.proofs.encode.take_pieces.Given as goal
 
 abbrev pub invariant-loop-desk : goal.invariant-loop-desk

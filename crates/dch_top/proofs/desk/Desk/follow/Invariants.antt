@@ -1,5 +1,5 @@
 use Rattle.std.proofs.Common.{◌≤◌, length}
-use Rattle.dch_top.specs.Ends.{end_of}
+use Rattle.dch_io.specs.Ends.{end_of}
 use Rattle.dch_top.proofs.Parts.{Followed}
 use Rattle.dch_top.proofs.desk.Desk.follow.Given as goal
 

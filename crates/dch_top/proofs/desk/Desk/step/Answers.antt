@@ -1,6 +1,6 @@
 use Rattle.std.proofs.Common.{◌+◌, ◌≤◌, take, arith, sym, ◌∙◌, length-take}
 use Rattle.std.proofs.lemmas.List.{take-take}
-use Rattle.dch_top.proofs.Cuts.{no_feed, one_feed}
+use Rattle.dch_script.proofs.Lines.{no_feed, one_feed}
 use Rattle.dch_top.proofs.desk.Desk.step.Goals as goal
 
 pub end_with-requires-clause-feed : goal.end_with-requires-clause-feed

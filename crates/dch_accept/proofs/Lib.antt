@@ -1,0 +1,2 @@
+pub mod MorePlans
+pub mod Overwritten

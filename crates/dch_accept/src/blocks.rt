@@ -1,0 +1,223 @@
+ghost use Rattle.std.specs.Prelude.{◌≡◌, ◌<◌, ◌≤◌, ◌*◌, ◌^◌, [], length, slice_set, slice_index_or, IfOk, false};
+ghost use Rattle.std.specs.Borrow.{sem};
+ghost use Rattle.dch_types.specs.Limits.{IsSide};
+ghost use Rattle.dch_types.specs.Parts.{channel_at, format_at};
+ghost use Rattle.dch_config.specs.Bearers.{side_of};
+ghost use Rattle.dch_accept.specs.Blocks.{block_at, bits_of, zero_blocks, HoldsFormats, HoldsTtis};
+ghost use Rattle.dch_accept.specs.BlockLending.{LendsBits, LendsBlock};
+ghost use Rattle.dch_accept.specs.declared.blocks.TheConstants.{MOST_BLOCKS};
+
+use crate::accepted::Accepted;
+use crate::clear::clear;
+use dch_bits::{Bit, NoMemory};
+use dch_types::{Dir, Format, Side, Trch};
+use std::alloc::Global;
+use std::marker::Model;
+
+/// The most transport blocks of a TTI.
+const MOST_BLOCKS: usize = 64;
+
+/// The transport blocks of a TTI of a channel with their format, and for each whether it is good, in memory for the
+/// greatest TTI of a direction.
+#[derive(Drop)]
+pub struct TtiBlocks {
+    format: u8,
+    count: usize,
+    size: usize,
+    bits: Vec<Bit>,
+    marks: Vec<bool>,
+    room: usize,
+}
+
+impl Model for TtiBlocks {
+    ghost use Rattle.std.specs.Prelude.{◌*◌, length, take};
+    ghost use Rattle.dch_accept.specs.Blocks.{Held};
+
+    ghost Value = { Held };
+
+    ghost view = { λ b. record {
+      format = b.format;
+      size = b.size;
+      bits = take (b.count * b.size) b.bits.items;
+      good = take b.count b.marks.items;
+      room = b.room;
+    } };
+
+    ghost use Rattle.dch_accept.specs.BlockRoom.{HasBlockRoom};
+
+    ghost invariant = { λ b. HasBlockRoom b.count b.size b.room (length b.bits.items) (length b.marks.items) };
+}
+
+impl TtiBlocks {
+    /// Takes the memory for the TTIs of a direction. The new blocks are none, in format 0.
+    pub fn open(alloc: Global, accepted: &Accepted, dir: Dir) -> Result<TtiBlocks, NoMemory>
+        ensures format { IfOk result (λ blocks. blocks.format ≡ 0) }
+        ensures none { IfOk result (λ blocks. blocks.good ≡ []) }
+        ensures room { IfOk result (λ blocks. HoldsTtis (side_of accepted.now.config dir) blocks.room) }
+    {
+        let config = accepted.config();
+        let room = match dir {
+            Dir::Up => most_bits(&config.uplink.side),
+            Dir::Down => most_bits(&config.downlink.side),
+        };
+        Ok(TtiBlocks {
+            format: 0,
+            count: 0,
+            size: 0,
+            bits: vec![in alloc; Bit::Zero; room]?,
+            marks: vec![in alloc; false; MOST_BLOCKS]?,
+            room,
+        })
+    }
+
+    /// The number of the format.
+    pub fn format(&self) -> u8
+        ensures { result ≡ self.now.format }
+    {
+        self.format
+    }
+
+    /// How many blocks there are.
+    pub fn count(&self) -> usize
+        ensures { result ≡ length self.now.good }
+    {
+        self.count
+    }
+
+    /// The bits of all blocks, one block after another.
+    pub fn bits(&self) -> &[Bit]
+        ensures value { result.now ≡ self.now.bits }
+        ensures long { length result.now ≡ length self.now.good * self.now.size }
+    {
+        &self.bits[..self.count * self.size]
+    }
+
+    /// The bits of block `i`.
+    pub fn block(&self, i: usize) -> &[Bit]
+        requires { i < length self.now.good }
+        ensures value { result.now ≡ block_at self.now i }
+        ensures long { length result.now ≡ self.now.size }
+    {
+        let from = i * self.size;
+        &self.bits()[from..from + self.size]
+    }
+
+    /// Whether block `i` is good: its parity fits, or it has none.
+    pub fn good(&self, i: usize) -> bool
+        requires { i < length self.now.good }
+        ensures { result ≡ slice_index_or self.now.good i false }
+    {
+        self.marks[i]
+    }
+
+    /// Takes a format of a channel, with as many blocks as it has. All are zeros and good.
+    pub fn shape(&mut self, accepted: &Accepted, dir: Dir, channel: u8, format: u8)
+        requires opened { HoldsTtis (side_of accepted.now.config dir) self.old.room }
+        requires channel { channel < length (side_of accepted.now.config dir).channels }
+        requires format { format < length (channel_at (side_of accepted.now.config dir) channel).formats }
+        ensures { self.new ≡ zero_blocks format (format_at (channel_at (side_of accepted.now.config dir) channel) format) self.old.room }
+    {
+        let config = accepted.config();
+        let side = match dir {
+            Dir::Up => &config.uplink.side,
+            Dir::Down => &config.downlink.side,
+        };
+        self.clear(format, format_of(side, channel, format));
+    }
+
+    fn clear(&mut self, number: u8, format: &Format)
+        requires few { format.now.number ≤ 64 }
+        requires room { bits_of format.now ≤ self.old.room }
+        ensures { self.new ≡ zero_blocks number format.now self.old.room }
+    {
+        self.resize(number, format);
+        clear(&mut self.bits, self.count * self.size, Bit::Zero);
+        clear(&mut self.marks, self.count, true);
+    }
+
+    /// Takes a format, with as many blocks as it has. What their bits and marks are is not told.
+    pub fn resize(&mut self, number: u8, format: &Format)
+        requires few { format.now.number ≤ 64 }
+        requires room { bits_of format.now ≤ self.old.room }
+        ensures format { self.new.format ≡ number }
+        ensures size { self.new.size ≡ format.now.size }
+        ensures count { length self.new.good ≡ format.now.number }
+        ensures bits { length self.new.bits ≡ bits_of format.now }
+        ensures room { self.new.room ≡ self.old.room }
+    {
+        self.format = number;
+        self.count = usize::from(format.number);
+        self.size = usize::from(format.size);
+    }
+
+    /// The bits of block `i`, to be written.
+    pub fn block_mut(&mut self, i: usize) -> &mut [Bit]
+        requires { i < length self.old.good }
+        ensures* writes_back { sem 𝓛 (LendsBlock self.entry i result) }
+        ensures value { result.now ≡ block_at self.old i }
+        ensures long { length result.now ≡ self.old.size }
+    {
+        self.bits.slice_mut(i * self.size..(i + 1) * self.size)
+    }
+
+    /// The bits of all blocks, to be written.
+    pub fn bits_mut(&mut self) -> &mut [Bit]
+        ensures* writes_back { sem 𝓛 (LendsBits self.entry result) }
+        ensures value { result.now ≡ self.old.bits }
+    {
+        self.bits.slice_mut(..self.count * self.size)
+    }
+
+    /// Marks block `i` as good or bad.
+    pub fn mark(&mut self, i: usize, good: bool)
+        requires { i < length self.old.good }
+        ensures { self.new ≡ record self.old { good = slice_set self.old.good i good } }
+    {
+        self.marks[i] = good;
+    }
+}
+
+/// A format of a channel.
+fn format_of(side: &Side, channel: u8, format: u8) -> &Format
+    requires side { IsSide side.now }
+    requires channel { channel < length side.now.channels }
+    requires format { format < length (channel_at side.now channel).formats }
+    ensures value { result.now ≡ format_at (channel_at side.now channel) format }
+    ensures few { result.now.number ≤ 64 }
+{
+    let trch = &side.channels.as_slice()[channel as usize];
+    &trch.formats.as_slice()[format as usize]
+}
+
+/// The most bits of a TTI of a direction.
+fn most_bits(side: &Side) -> usize
+    requires { IsSide side.now }
+    ensures holds { HoldsTtis side.now result }
+    ensures small { result < 2 ^ 32 }
+{
+    let mut most = 0;
+    let channels = side.channels.as_slice();
+    for i in 0..channels.len() {
+        most = most.max(most_of_channel(&channels[i]));
+    }
+    most
+}
+
+fn most_of_channel(channel: &Trch) -> usize
+    ensures holds { HoldsFormats channel.now (length channel.now.formats) result }
+    ensures small { result < 2 ^ 32 }
+{
+    let mut most = 0;
+    let formats = channel.formats.as_slice();
+    for f in 0..formats.len() {
+        most = most.max(bits_of(&formats[f]));
+    }
+    most
+}
+
+fn bits_of(format: &Format) -> usize
+    ensures value { result ≡ bits_of format.now }
+    ensures small { result < 2 ^ 32 }
+{
+    usize::from(format.number) * usize::from(format.size)
+}

@@ -1,0 +1,144 @@
+ghost use Rattle.std.specs.Prelude.{◌≡◌, ◌≤◌, ◌*◌, ◌^◌, ◌<◌, [], length, replicate, IfOk};
+ghost use Rattle.dch_bits.specs.declared.bit.Bit.TheVariants.{Zero};
+ghost use Rattle.dch_bits.specs.declared.bit.Trit.TheVariants.{Off};
+ghost use Rattle.std.specs.Borrow.{sem};
+ghost use Rattle.dch_types.specs.Limits.{IsDownlink};
+ghost use Rattle.dch_config.specs.Good.{IsGood};
+ghost use Rattle.dch_match.specs.Downlinks.{ndata_of};
+ghost use Rattle.dch_accept.specs.Frames.{most_cells, tfci_bits, IsOpenedFor};
+ghost use Rattle.dch_accept.specs.FrameLending.{LendsTfci, LendsCells};
+ghost use Rattle.dch_accept.specs.declared.frame.TheConstants.{MOST_TFCI};
+
+use crate::accepted::Accepted;
+use crate::clear::clear;
+use dch_bits::{Bit, NoMemory, Trit};
+use dch_types::{Config, Dir, Downlink};
+use std::alloc::Global;
+use std::marker::Model;
+
+/// The most TFCI bits of a radio frame.
+const MOST_TFCI: usize = 120;
+
+/// What was sent or received in a radio frame: its TFCI bits, and the cells of its codes one after another.
+#[derive(Clone, Copy)]
+pub struct FrameView<'a> {
+    pub tfci: &'a [Bit],
+    pub cells: &'a [Trit],
+}
+
+/// A radio frame, in memory for the longest one of a direction. It has as many TFCI bits as that direction sends.
+#[derive(Drop)]
+pub struct PhyFrame {
+    tfci: Vec<Bit>,
+    bits: usize,
+    cells: Vec<Trit>,
+    len: usize,
+    room: usize,
+}
+
+impl Model for PhyFrame {
+    ghost use Rattle.std.specs.Prelude.{◌≤◌, ◌+◌, length, take};
+    ghost use Rattle.dch_accept.specs.Frames.{Frame};
+
+    ghost Value = { Frame };
+
+    ghost view = { λ f. record { tfci = take f.bits f.tfci.items; cells = take f.len f.cells.items; room = f.room } };
+
+    ghost use Rattle.dch_accept.specs.FrameRoom.{HasRoom};
+
+    ghost invariant = { λ f. HasRoom f.bits (length f.tfci.items) f.len f.room (length f.cells.items) };
+}
+
+impl PhyFrame {
+    /// Takes the memory for the frames of a direction. A new frame has no cell, and its TFCI bits are zeros.
+    pub fn open(alloc: Global, accepted: &Accepted, dir: Dir) -> Result<PhyFrame, NoMemory>
+        ensures empty { IfOk result (λ frame. frame.cells ≡ []) }
+        ensures opened { IfOk result (IsOpenedFor accepted.now.config dir) }
+    {
+        let room = most_cells(accepted.config(), dir);
+        let bits = tfci_bits(accepted.config(), dir);
+        Ok(PhyFrame {
+            tfci: vec![in alloc; Bit::Zero; MOST_TFCI]?,
+            bits,
+            cells: vec![in alloc; Trit::Off; 2 * room]?,
+            len: 0,
+            room,
+        })
+    }
+
+    /// The frame as it is sent.
+    pub fn view(&self) -> FrameView<'_>
+        ensures tfci { result.tfci.now ≡ self.now.tfci }
+        ensures cells { result.cells.now ≡ self.now.cells }
+    {
+        FrameView {
+            tfci: &self.tfci[..self.bits],
+            cells: &self.cells[..self.len],
+        }
+    }
+
+    /// Gives the frame so many cells, which are Off. Its TFCI bits become zeros.
+    pub fn shape(&mut self, cells: usize)
+        requires { cells ≤ self.old.room }
+        ensures { self.new ≡ record self.old { tfci = replicate (length self.old.tfci) Zero; cells = replicate cells Off } }
+    {
+        clear(&mut self.tfci, self.bits, Bit::Zero);
+        clear(&mut self.cells, cells, Trit::Off);
+        self.len = cells;
+    }
+
+    /// The TFCI bits, to be written.
+    pub fn tfci_mut(&mut self) -> &mut [Bit]
+        ensures* writes_back { sem 𝓛 (LendsTfci self.entry result) }
+        ensures value { result.now ≡ self.old.tfci }
+    {
+        self.tfci.slice_mut(..self.bits)
+    }
+
+    /// The cells, to be written.
+    pub fn cells_mut(&mut self) -> &mut [Trit]
+        ensures* writes_back { sem 𝓛 (LendsCells self.entry result) }
+        ensures value { result.now ≡ self.old.cells }
+    {
+        self.cells.slice_mut(..self.len)
+    }
+
+    /// The cells, to be written, and behind them as many again as room for what is made of them on the way.
+    pub fn workspace_mut(&mut self) -> &mut [Trit]
+        ensures* writes_back { sem 𝓛 (LendsCells self.entry result) }
+        ensures long { length result.now ≡ 2 * length self.old.cells }
+    {
+        self.cells.slice_mut(..2 * self.len)
+    }
+}
+
+/// The TFCI bits of a radio frame of a direction (TS 25.212 4.3.5).
+fn tfci_bits(config: &Config, dir: Dir) -> usize
+    ensures value { result ≡ tfci_bits config.now dir }
+    ensures small { result ≤ 120 }
+{
+    match dir {
+        Dir::Down if config.downlink.sf < 128 => 120,
+        Dir::Down | Dir::Up => 30,
+    }
+}
+
+/// The most cells of a radio frame of a direction.
+fn most_cells(config: &Config, dir: Dir) -> usize
+    requires { IsGood config.now }
+    ensures value { result ≡ most_cells config.now dir }
+    ensures small { result < 2 ^ 32 }
+{
+    match dir {
+        Dir::Up => config.uplink.largest as usize,
+        Dir::Down => ndata_of(&config.downlink),
+    }
+}
+
+fn ndata_of(config: &Downlink) -> usize
+    requires { IsDownlink config.now }
+    ensures value { result ≡ ndata_of config.now }
+    ensures small { result < 2 ^ 32 }
+{
+    15 * config.slot_bits as usize * config.codes as usize
+}

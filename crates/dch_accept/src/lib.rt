@@ -1,0 +1,16 @@
+//! A configuration that is accepted, with its plans, and the values that pass between the physical layer and the nodes.
+#![tactic(auto)]
+
+mod accepted;
+mod blocks;
+mod clear;
+mod frame;
+mod refusal;
+
+pub use accepted::{Accepted, accept};
+pub use blocks::TtiBlocks;
+pub use frame::{FrameView, PhyFrame};
+pub use refusal::Refusal;
+
+#[cfg(test)]
+mod tests;

@@ -1,0 +1,50 @@
+-- The configuration at the front of an input: all bytes before the first line `---`.
+use Rattle.std.specs.Prelude.{ℕ, List, [], ◌∷◌, ◌++◌, Bool, true, false, ◌||◌, codes, if◌then◌else◌}
+use Rattle.std.specs.List.{list_any}
+use Rattle.std.specs.Str.{bytes_eq}
+use Rattle.dch_script.specs.Lines.{lines_after, rest_after, lines_of, rest_of}
+
+-- the line `---`, which may lack its line feed at the end of the input
+abbrev pub is_mark : List ℕ → Bool
+is_mark line = bytes_eq line (codes "---\n") || bytes_eq line (codes "---")
+
+-- the lines before the first such line, put together
+abbrev pub front_of : List (List ℕ) → List ℕ
+front_of [] = []
+front_of (line ∷ lines) = if is_mark line then [] else line ++ front_of lines
+
+abbrev pub has_mark : List (List ℕ) → Bool
+has_mark lines = list_any is_mark lines
+
+-- the line `---` is among the whole lines of some bytes
+abbrev pub is_complete : List ℕ → Bool
+is_complete bytes = has_mark (lines_of bytes)
+
+-- the text of the configuration at the front of some bytes, where the line `---` is among them or the input ends with them
+abbrev pub configuration_of : List ℕ → List ℕ
+configuration_of bytes = front_of (lines_of bytes ++ rest_of bytes ∷ [])
+
+-- what has come: the text of whole lines, the line that has begun, and whether the line `---` has come
+pub record Gathered : Type 0 where
+  pub text : List ℕ
+  pub line : List ℕ
+  pub complete : Bool
+
+abbrev pub nothing : Gathered
+nothing = record { text = []; line = []; complete = false }
+
+-- what has come once the line that has begun has ended
+abbrev pub with_line : Gathered → Gathered
+with_line old = if is_mark old.line then record old { line = []; complete = true } else record old { text = old.text ++ old.line; line = [] }
+
+-- what has come with these whole lines, and with the beginning of a line after them
+abbrev pub with_lines : Gathered → List (List ℕ) → List ℕ → Gathered
+with_lines old lines rest = record { text = old.text ++ front_of lines; line = if has_mark lines then [] else rest; complete = has_mark lines }
+
+-- what has come with these bytes; none counts after the line `---`
+abbrev pub gathered : Gathered → List ℕ → Gathered
+gathered old bytes = if old.complete then old else with_lines old (lines_after old.line bytes) (rest_after old.line bytes)
+
+-- the text of the configuration, where the input ends here or the line `---` has come
+abbrev pub settled : Gathered → List ℕ
+settled front = front.text ++ front_of (front.line ∷ [])

@@ -1,0 +1,116 @@
+ghost use Rattle.std.specs.Prelude.{◌≡◌, ◌+◌, ◌*◌, ◌≤◌, length};
+ghost use Rattle.dch_types.specs.Lengths.{crc_size, joined_bits, block_count, block_size, coded_bits, tti_bits};
+ghost use Rattle.dch_coding.specs.Ttis.{ArePartsUpTo, IsCodedTti};
+ghost use Rattle.dch_coding.specs.declared.tti.TheConstants.{MOST_BITS};
+
+use crate::chain::code;
+use crate::memory::zeros;
+use dch_bits::{Bit, NoMemory};
+use dch_crc::{attach, size};
+use dch_types::{Crc, Format, Trch, block_size};
+use std::alloc::Global;
+
+/// The most coded bits of a TTI. Its joined bits and its code blocks with their filler are no more.
+const MOST_BITS: usize = 131_072;
+
+/// The room to code all transport blocks of a TTI.
+#[derive(Drop)]
+pub struct TtiCoder {
+    joined: Vec<Bit>,
+    blocks: Vec<Bit>,
+    ghost joined_room: { length joined.items ≡ MOST_BITS },
+    ghost blocks_room: { length blocks.items ≡ MOST_BITS },
+}
+
+impl TtiCoder {
+    /// Takes all memory that coding wants.
+    pub fn open(alloc: Global) -> Result<TtiCoder, NoMemory> {
+        Ok(TtiCoder {
+            joined: zeros(alloc, MOST_BITS)?,
+            blocks: zeros(alloc, MOST_BITS)?,
+        })
+    }
+
+    /// The coded bits of the transport blocks of a TTI, which stand one after another. Each gets its parity, and all are
+    /// joined, cut and coded (TS 25.212 4.2.1 to 4.2.3).
+    pub fn code(&mut self, channel: &Trch, format: &Format, blocks: &[Bit], out: &mut [Bit])
+        requires limit { tti_bits channel.now format.now ≤ 131072 }
+        requires blocks { length blocks.now ≡ format.now.number * format.now.size }
+        requires room { length out.old ≡ tti_bits channel.now format.now }
+        ensures { IsCodedTti channel.now format.now blocks.now out.new }
+    {
+        code_into(
+            channel,
+            format,
+            blocks,
+            &mut self.joined,
+            &mut self.blocks,
+            out,
+        );
+    }
+}
+
+/// Codes the blocks of a TTI by way of their joined bits and code blocks.
+fn code_into(
+    channel: &Trch,
+    format: &Format,
+    blocks: &[Bit],
+    joined: &mut [Bit],
+    cut: &mut [Bit],
+    out: &mut [Bit],
+)
+    requires limit { tti_bits channel.now format.now ≤ 131072 }
+    requires blocks { length blocks.now ≡ format.now.number * format.now.size }
+    requires joined { length joined.old ≡ MOST_BITS }
+    requires cut { length cut.old ≡ MOST_BITS }
+    requires room { length out.old ≡ tti_bits channel.now format.now }
+    ensures { IsCodedTti channel.now format.now blocks.now out.new }
+{
+    let lengths = lengths_of(channel, format);
+    let joined = &mut joined[..lengths.joined];
+    attach_each(channel.crc, format, blocks, joined);
+    code(channel.coding, joined, &mut cut[..lengths.blocks], out);
+}
+
+/// How many bits the blocks of a TTI have with their parity, and its code blocks with their filler.
+#[derive(Clone, Copy)]
+struct Lengths {
+    joined: usize,
+    blocks: usize,
+}
+
+#[tactic(auto, unfolding(dch_types::specs::Lengths::tti_bits))]
+fn lengths_of(channel: &Trch, format: &Format) -> Lengths
+    requires { tti_bits channel.now format.now ≤ 131072 }
+    ensures joined { result.joined ≡ joined_bits channel.now format.now }
+    ensures blocks { result.blocks ≡ block_count result.joined channel.now.coding * block_size result.joined (block_count result.joined channel.now.coding) }
+    ensures coded { tti_bits channel.now format.now ≡ coded_bits channel.now.coding result.joined }
+    ensures few_joined { result.joined ≤ MOST_BITS }
+    ensures few_blocks { result.blocks ≤ MOST_BITS }
+{
+    let joined = usize::from(format.number) * (usize::from(format.size) + size(channel.crc));
+    let count = channel.coding.block_count(joined as u64);
+    Lengths {
+        joined,
+        blocks: (count * block_size(joined as u64, count)) as usize,
+    }
+}
+
+/// Writes each block with its parity.
+fn attach_each(kind: Crc, format: &Format, blocks: &[Bit], out: &mut [Bit])
+    requires blocks { length blocks.now ≡ format.now.number * format.now.size }
+    requires room { length out.old ≡ format.now.number * (format.now.size + crc_size kind) }
+    ensures { ArePartsUpTo format.now.number kind format.now.size blocks.now out.new }
+{
+    let size = usize::from(format.size);
+    let attached = size + dch_crc::size(kind);
+    for i in 0..usize::from(format.number) {
+        let from = i * size;
+        let to = i * attached;
+        attach(
+            kind,
+            &blocks[from..from + size],
+            &mut out[to..to + attached],
+        );
+    }
+}

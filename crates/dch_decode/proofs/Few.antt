@@ -1,0 +1,18 @@
+-- The received copies of a code block.
+use Rattle.std.proofs.Common.{◌≡◌, ◌≢◌, ◌+◌, ◌<◌, ◌≤◌, ◌^◌, ℕ, List, length, get_or, arith}
+use Rattle.std.proofs.lemmas.List.Sums.{sum_by-le}
+use Rattle.dch_bits.specs.declared.bit.Vote.{Vote}
+use Rattle.dch_types.specs.declared.channel.Coding.{Coding}
+use Rattle.dch_types.specs.declared.channel.Coding.TheVariants.{Uncoded, Half, Third}
+use Rattle.dch_types.specs.Lengths.{coded_block}
+use Rattle.dch_types.proofs.Sizes.{coded_block-le}
+use Rattle.dch_trellis.specs.Nearest.{copies, all_copies}
+
+pub half_is_coded : (coding : Coding) → coding ≡ Half → coding ≢ Uncoded
+half_is_coded coding is same = cc
+
+pub third_is_coded : (coding : Coding) → coding ≡ Third → coding ≢ Uncoded
+third_is_coded coding is same = cc
+
+pub few_copies : (coding : Coding) (votes : List Vote) (size : ℕ) → size ≤ 504 → length votes ≡ coded_block coding size → ((j : ℕ) (v : Vote) → j < length votes → (get_or votes j v).zeros + (get_or votes j v).ones ≤ 57600) → all_copies votes < 2 ^ 31
+few_copies coding votes size short long few = omega (arith, coded_block-le coding size, long, sum_by-le copies 57600 votes few)

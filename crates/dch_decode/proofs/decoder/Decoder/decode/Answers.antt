@@ -1,0 +1,19 @@
+use Rattle.std.proofs.Common.{◌≡◌, ◌≤◌, ◌^◌, List, length, arith, ap, sym, ◌∙◌}
+use Rattle.dch_bits.specs.declared.bit.Bit.{Bit}
+use Rattle.dch_types.specs.Lengths.{coded_bits}
+use Rattle.dch_coding.specs.Chain.{coded_of}
+use Rattle.dch_trellis.specs.Nearest.{disagreement}
+use Rattle.dch_decode.proofs.Agreement.{disagreement-copies}
+use Rattle.dch_decode.proofs.Lengths.{joined_le}
+use Rattle.dch_decode.proofs.Sent.{joined_found}
+use Rattle.dch_decode.proofs.decoder.Decoder.decode.Goals as goal
+
+pub returns-clause-undamaged : goal.returns-clause-undamaged
+returns-clause-undamaged c sent kept size copies apart =
+    let joined : List Bit = c.decode_with.new.joined in
+    let coded : length c.args.votes.now ≡ coded_bits c.args.coding (length joined) = c.requires.coded ∙ ap (coded_bits c.args.coding) (sym c.decode_with.auto.joined) in
+    let small : length joined ≤ 2 ^ 31 = omega (arith, joined_le (length joined) c.args.coding, coded, c.requires.short) in
+    let same : joined ≡ sent = joined_found c.args.coding c.args.votes.now joined sent kept small coded size c.decode_with.ensures.read copies apart in (
+      same,
+      ap (λ bits. disagreement c.args.votes.now (coded_of c.args.coding bits)) same ∙ disagreement-copies c.args.votes.now (coded_of c.args.coding sent) kept copies,
+    )

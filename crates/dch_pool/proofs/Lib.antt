@@ -1,0 +1,4 @@
+pub mod Contents
+pub mod Lending
+pub mod Lent
+pub mod Marks

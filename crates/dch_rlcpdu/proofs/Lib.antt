@@ -1,0 +1,4 @@
+pub mod Ends
+pub mod Grammar
+pub mod Splits
+pub mod Written

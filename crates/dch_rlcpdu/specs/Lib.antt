@@ -1,0 +1,5 @@
+pub mod Body
+pub mod Marks
+pub mod Parts
+pub mod Split
+pub mod Um

@@ -1,0 +1,4 @@
+pub mod Queue
+pub mod Receiving
+pub mod Sending
+pub mod Stored

@@ -1,0 +1,42 @@
+use Rattle.std.proofs.Common.{◌≡◌, length, rules, sym, Err, Ok, eqb-true}
+use Rattle.dch_top.proofs.Judging.{gathers_fault, gathers_piece, no_memory, judged_at_end, completes_with, judged_refused, judged_nothing, judged_good, judged_fault}
+use Rattle.dch_top.proofs.check.judge_pieces.Goals as goal
+use Rattle.dch_top.proofs.check.judge_pieces.Goals.{in-Good+in_ok-pass_over-in-Good, in-Refused}
+
+pub returns-in_err-piece : goal.returns-in_err-piece
+returns-in_err-piece g c =
+    let same : c.from_residual.result ≡ Err c.in_err-piece.field-0.0 = search rules in
+    rw same (gathers_fault _ _ _ _ _ _ c.pieces.count c.pieces.front c.in_err-piece.field-0.0 c.pieces.invariant c.in_err-piece.ensures.reads)
+
+pub returns-then-is_empty : goal.returns-then-is_empty
+returns-then-is_empty g c =
+    let none : length c.in_ok-piece.piece.now ≡ 0 = eqb-true _ _ (sym c.if-is_empty.ensures) in
+    judged_at_end _ _ _ _ _ _ c.pieces.count c.pieces.front c.in_ok-piece.piece.now c.judge_front.result c.pieces.invariant c.in_ok-piece.ensures.reads none c.judge_front.ensures
+
+pub returns-in_err-front : goal.returns-in_err-front
+returns-in_err-front g c =
+    let same : c.from_residual-in_err-front.result ≡ Err c.in_err-front.field-0.0 = search rules in
+    rw same (no_memory _ _ _ _ _ _ c.pieces.count c.pieces.front c.in_ok-piece.piece.now c.in_err-front.field-0.0 c.pieces.invariant c.in_ok-piece.ensures.reads c.in_err-front.ensures.err)
+
+pub returns-in_err-judge_front : goal.returns-in_err-judge_front
+returns-in_err-judge_front g c =
+    let same : c.from_residual-in_err-judge_front.result ≡ Err c.in_err-judge_front.field-0.0 = search rules in
+    let whole = completes_with _ _ _ _ _ _ c.pieces.count c.pieces.front c.in_ok-front.front c.in_ok-piece.piece.now c.read_on.ensures.later c.pieces.invariant c.in_ok-piece.ensures.reads c.in_ok-front.ensures.ok (sym c.if-is_complete.ensures) in
+    rw same (judged_nothing _ _ _ _ _ c.in_ok-front.front c.in_err-judge_front.field-0.0 whole c.in_err-judge_front.ensures)
+
+pub returns-in_err-pass_over-in-Good : goal.returns-in_err-pass_over-in-Good
+returns-in_err-pass_over-in-Good g c =
+    let same : c.from_residual-in_err-pass_over-in-Good.result ≡ Err c.in_err-pass_over-in-Good.field-0.0 = search rules in
+    let whole = completes_with _ _ _ _ _ _ c.pieces.count c.pieces.front c.in_ok-front.front c.in_ok-piece.piece.now c.read_on.ensures.later c.pieces.invariant c.in_ok-piece.ensures.reads c.in_ok-front.ensures.ok (sym c.if-is_complete.ensures) in
+    rw same (judged_fault _ _ _ _ _ _ _ c.in_ok-front.front c.in_err-pass_over-in-Good.field-0.0 whole (rw c.in-Good.is at c.in_ok-judge_front.ensures) c.in_err-pass_over-in-Good.ensures.passes)
+
+pub returns-then-is_complete : goal.returns-then-is_complete
+returns-then-is_complete g c =
+    let whole = completes_with _ _ _ _ _ _ c.pieces.count c.pieces.front c.in_ok-front.front c.in_ok-piece.piece.now c.read_on.ensures.later c.pieces.invariant c.in_ok-piece.ensures.reads c.in_ok-front.ensures.ok (sym c.if-is_complete.ensures) in
+    elim c.match-branch-4.branch [
+      | in-Good+in_ok-pass_over-in-Good w ↦ rw (w.source-is, w.result-is) (judged_good _ _ _ _ _ _ _ c.in_ok-front.front whole (rw w.in-Good.is at c.in_ok-judge_front.ensures) w.in_ok-pass_over-in-Good.ensures.passes)
+      | in-Refused w ↦ rw (w.source-is, w.result-is) (judged_refused _ _ _ _ _ c.in_ok-front.front w.in-Refused.line whole (rw w.in-Refused.is at c.in_ok-judge_front.ensures))
+    ]
+
+pub pieces-preserved : goal.pieces-preserved
+pieces-preserved g c = gathers_piece _ _ _ _ _ _ c.pieces.count c.pieces.front c.in_ok-front.front c.in_ok-piece.piece.now c.read_on.ensures.later c.pieces.invariant c.in_ok-piece.ensures.reads c.in_ok-front.ensures.ok (sym c.if-is_complete.ensures)

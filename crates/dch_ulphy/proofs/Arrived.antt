@@ -1,0 +1,165 @@
+-- The votes of a radio frame that is kept as it was written.
+use Rattle.std.proofs.Common.{◌≡◌, ◌+◌, ◌-◌, ◌*◌, ◌/◌, ◌<◌, ◌≤◌, ℕ, zero, suc, List, length, drop, get_or, arith, refl, ap, sym, ◌∙◌, subst, inl, inr, add-one}
+use Rattle.std.specs.Prelude.{slice_index, map}
+use Rattle.std.specs.List.{range_with_len}
+use Rattle.std.proofs.lemmas.Bool.{cases_lt}
+use Rattle.std.proofs.lemmas.List.{get_or-take, get_or-drop}
+use Rattle.std.proofs.lemmas.Nat.{mul-add-lt}
+use Rattle.std.proofs.lemmas.List.FromFn.{get_or-map-range_with_len}
+use Rattle.dch_bits.specs.declared.bit.Bit.{Bit}
+use Rattle.dch_bits.specs.declared.bit.Bit.TheVariants.{Zero}
+use Rattle.dch_bits.specs.declared.bit.Trit.{Trit}
+use Rattle.dch_bits.specs.declared.bit.Trit.TheVariants.{Off}
+use Rattle.dch_bits.specs.declared.bit.Vote.{Vote}
+use Rattle.dch_types.specs.Limits.{IsSide}
+use Rattle.dch_types.specs.Parts.{channel_at, format_number}
+use Rattle.dch_inter.specs.Places.{IsFrames, first_of, first_back_of, frame_of, place_of}
+use Rattle.dch_inter.proofs.FirstColumns.{first_of-back, frame_place}
+use Rattle.dch_match.specs.Uplinks.{IsPlan, before_of}
+use Rattle.dch_match.specs.Patterns.{copies, copies_below}
+use Rattle.dch_frame.specs.Votes.{copies_as_votes}
+use Rattle.dch_match.specs.Matched.{frame_pattern}
+use Rattle.dch_match.specs.declared.pattern.Pattern.{Pattern}
+use Rattle.dch_match.specs.declared.uplink_plan.UplinkPlan.{UplinkPlan}
+use Rattle.dch_match.proofs.SharesLemmas.{part_le}
+use Rattle.dch_frame.specs.Stages.{as_cell, origin_of, code_back}
+use Rattle.dch_frame.proofs.Carried.{rows_of, whole_rows, place_inside}
+use Rattle.dch_frame.proofs.Codes.{code_back-inside, code_place-back}
+use Rattle.dch_frame.proofs.Kept.{origin_of-inside}
+use Rattle.dch_accept.specs.Plans.{Planned, plan_at}
+use Rattle.dch_ulphy.specs.Frames.{frame_number, pattern_of, sent_cell, places_before, multiplexed_cell, frame_cell}
+use Rattle.dch_ulphy.specs.Kept.{Kept}
+use Rattle.dch_ulphy.specs.Loaded.{AreInterleaved, Loaded, loaded_at}
+use Rattle.dch_ulphy.specs.Read.{channel_cells, pattern_in}
+use Rattle.dch_ulphy.specs.Sent.{IsSentFrame, frame_copies}
+use Rattle.dch_ulphy.specs.Tables.{IsFrameSize, code_length}
+use Rattle.dch_ulphy.proofs.Sizes.{plan_sized}
+use Rattle.dch_ulphy.proofs.Sent.{multiplexed_before, multiplexed_here}
+
+-- a place of channel i shows what that channel sends, however many channels follow
+pub multiplexed_at : (planned : Planned) (tti : List Loaded) (cfn c count i q : ℕ) → i < count → q < slice_index (plan_at planned.uplink c).sent i → multiplexed_cell planned tti cfn c count (places_before (plan_at planned.uplink c) i + q) ≡ sent_cell planned tti cfn c i q
+multiplexed_at planned tti cfn c zero i q inside early = absurd (omega arith)
+multiplexed_at planned tti cfn c (suc count) i q inside early = elim (cases_lt i count) [
+  | inl before ↦
+      let sent = slice_index (plan_at planned.uplink c).sent in
+      let room : places_before (plan_at planned.uplink c) i + sent i ≤ places_before (plan_at planned.uplink c) count = part_le sent i count before in
+      let more : count + 1 ≡ suc count = add-one count in
+      ap (λ n. multiplexed_cell planned tti cfn c n (places_before (plan_at planned.uplink c) i + q)) (sym more)
+      ∙ multiplexed_before planned tti cfn c count (places_before (plan_at planned.uplink c) i + q) (omega (arith, room, early))
+      ∙ multiplexed_at planned tti cfn c count i q before early
+  | inr past ↦
+      let here : i ≡ count = omega arith in
+      let more : count + 1 ≡ suc count = add-one count in
+      ap (λ n. multiplexed_cell planned tti cfn c n (places_before (plan_at planned.uplink c) i + q)) (sym more)
+      ∙ ap (λ i. multiplexed_cell planned tti cfn c (count + 1) (places_before (plan_at planned.uplink c) i + q)) here
+      ∙ multiplexed_here planned tti cfn c count (places_before (plan_at planned.uplink c) count + q) (omega arith)
+      ∙ ap (λ q. sent_cell planned tti cfn c count q) (add_less (places_before (plan_at planned.uplink c) count) q)
+      ∙ ap (λ i. sent_cell planned tti cfn c i q) (sym here)
+]
+  where
+    add_less : (a q : ℕ) → a + q - a ≡ q
+    add_less a q = omega arith
+
+-- a multiplexed cell of a frame that is kept as it was written
+kept_cell : (planned : Planned) (i n : ℕ) (loaded : Loaded) (kept : Kept) (sent : IsSentFrame planned i n loaded kept) (p : ℕ) → IsFrameSize (plan_at planned.uplink sent.combination).ndata → p < (plan_at planned.uplink sent.combination).ndata → get_or kept.cells p Off ≡ multiplexed_cell planned sent.tti sent.cfn sent.combination (length planned.config.uplink.side.channels) p
+unfolding frame_cell
+kept_cell planned i n loaded kept sent p size inside =
+    let ndata : ℕ = (plan_at planned.uplink sent.combination).ndata in
+    let v : ℕ = code_length ndata in
+    let long : length sent.frame.cells ≡ ndata = sent.written.long in
+    let some : 0 < v = omega arith in
+    let there : code_back v p < ndata = code_back-inside ndata v p size.whole some inside in
+    sent.back.shown p (omega (arith, sent.back.whole, long))
+    ∙ ap (λ m. get_or sent.frame.cells (code_back (code_length m) p) Off) long
+    ∙ sent.written.cells (code_back v p) (omega (arith, there, long))
+    ∙ ap (multiplexed_cell planned sent.tti sent.cfn sent.combination (length planned.config.uplink.side.channels)) (code_place-back v p some)
+
+-- the segment of frame n of a TTI of coded bits
+abbrev pub segment_bits : ℕ → ℕ → List Bit → ℕ → ℕ → List Bit
+segment_bits f len coded n rows = map (λ m. get_or coded (first_of f len (n * rows + m)) Zero) (range_with_len 0 rows)
+
+pattern_len : (planned : Planned) (i n c : ℕ) → (pattern_in planned i n c).len ≡ before_of planned.config.uplink.side c i
+unfolding frame_pattern
+pattern_len planned i n c = refl
+
+-- the cells of channel i show the coded bits of its segment
+pub segment_shown : (planned : Planned) (i n : ℕ) (loaded : Loaded) (kept : Kept) (sent : IsSentFrame planned i n loaded kept) (coded : List Bit) (f rows k : ℕ)
+    → f ≡ (channel_at planned.config.uplink.side i).frames → rows ≡ before_of planned.config.uplink.side sent.combination i → n < f
+    → AreInterleaved f coded loaded.cells → length loaded.cells ≡ rows * f
+    → i < length planned.config.uplink.side.channels → IsFrameSize (plan_at planned.uplink sent.combination).ndata
+    → places_before (plan_at planned.uplink sent.combination) i + slice_index (plan_at planned.uplink sent.combination).sent i ≤ (plan_at planned.uplink sent.combination).ndata
+    → k < slice_index (plan_at planned.uplink sent.combination).sent i
+    → origin_of (pattern_in planned i n sent.combination) k < rows
+    → get_or (channel_cells (plan_at planned.uplink sent.combination) i kept.cells) k Off ≡ as_cell (get_or (segment_bits f (rows * f) coded n rows) (origin_of (pattern_in planned i n sent.combination) k) Zero)
+unfolding sent_cell
+segment_shown planned i n loaded kept sent coded f rows k frames is frame cells long channel size room inside small =
+    let side = planned.config.uplink.side in
+    let c : ℕ = sent.combination in
+    let plan : UplinkPlan = plan_at planned.uplink c in
+    let pattern : Pattern = pattern_in planned i n c in
+    let o : ℕ = origin_of pattern k in
+    let high : pattern.len ≡ rows = pattern_len planned i n c ∙ sym is in
+    let of_number : pattern_of planned sent.cfn c i ≡ pattern = ap (λ n. pattern_in planned i n c) sent.number in
+    let within : n * rows + o < rows * f = mul-add-lt n rows o f frame small in
+    get_or-take (slice_index plan.sent i) (drop (places_before plan i) kept.cells) k Off inside
+    ∙ get_or-drop (places_before plan i) kept.cells k Off
+    ∙ kept_cell planned i n loaded kept sent (places_before plan i + k) size (omega (arith, room, inside))
+    ∙ multiplexed_at planned sent.tti sent.cfn c (length side.channels) i k channel inside
+    ∙ ap (λ (pattern : Pattern). get_or (loaded_at sent.tti i).cells (frame_number side i sent.cfn * pattern.len + origin_of pattern k) Off) of_number
+    ∙ ap (λ n. get_or (loaded_at sent.tti i).cells (n * pattern.len + o) Off) sent.number
+    ∙ ap (λ (loaded : Loaded). get_or loaded.cells (n * pattern.len + o) Off) sent.holds
+    ∙ ap (λ m. get_or loaded.cells (n * m + o) Off) high
+    ∙ cells.shown (n * rows + o) (omega (arith, within, long))
+    ∙ ap (λ len. as_cell (get_or coded (first_of f len (n * rows + o)) Zero)) long
+    ∙ ap as_cell (sym (get_or-map-range_with_len (λ m. get_or coded (first_of f (rows * f) (n * rows + m)) Zero) 0 rows o o Zero small (omega arith)))
+
+-- bit j of a TTI in the segment of its frame
+pub segment_bit : (f rows len : ℕ) (coded : List Bit) (n j : ℕ) → IsFrames f → 0 < f → len ≡ rows * f → j < len → frame_of f len j ≡ n → get_or (segment_bits f len coded n rows) (place_of f len j) Zero ≡ get_or coded j Zero
+segment_bit f rows len coded n j frames some whole inside of =
+    let m : ℕ = place_of f len j in
+    let height : len / f ≡ rows = rows_of f rows len some whole in
+    let small : m < rows = place_inside f rows len j frames some whole inside in
+    let place : n * rows + m ≡ first_back_of f len j = ap (λ n. n * rows + m) (sym of) ∙ ap (λ rows. frame_of f len j * rows + m) (sym height) ∙ frame_place f len j in
+    get_or-map-range_with_len (λ m. get_or coded (first_of f len (n * rows + m)) Zero) 0 rows m m Zero small (omega arith)
+    ∙ ap (λ k. get_or coded (first_of f len k) Zero) place
+    ∙ ap (λ i. get_or coded i Zero) (first_of-back f len j frames (whole_rows f rows len some whole) inside)
+
+-- what was loaded for a frame that is kept has whole segments
+pub sent_long : (planned : Planned) (i n : ℕ) (loaded : Loaded) (kept : Kept) (sent : IsSentFrame planned i n loaded kept) → IsSide planned.config.uplink.side → i < length planned.config.uplink.side.channels → sent.combination < length planned.config.uplink.side.combinations → length loaded.cells ≡ before_of planned.config.uplink.side sent.combination i * (channel_at planned.config.uplink.side i).frames
+sent_long planned i n loaded kept sent good channel listed =
+    let side = planned.config.uplink.side in
+    let f : ℕ = format_number side sent.combination i in
+    let there : f < length (channel_at side i).formats = (good.combinations sent.combination listed).formats i channel in
+    ap (λ (loaded : Loaded). length loaded.cells) (sym sent.holds) ∙ sent.opened.long i channel f there (sent.formats i channel)
+
+-- the votes of a frame that is kept as it was written are the copies of its coded bits
+pub frame_arrived : (planned : Planned) (i n : ℕ) (loaded : Loaded) (kept : Kept) (sent : IsSentFrame planned i n loaded kept) (coded : List Bit) (f rows : ℕ) (pattern : Pattern) (cells : List Trit) (votes : List Vote)
+    → IsSide planned.config.uplink.side → i < length planned.config.uplink.side.channels → sent.combination < length planned.config.uplink.side.combinations
+    → IsPlan planned.config.uplink sent.combination (plan_at planned.uplink sent.combination)
+    → f ≡ (channel_at planned.config.uplink.side i).frames → IsFrames f → n < f → rows ≡ before_of planned.config.uplink.side sent.combination i
+    → AreInterleaved f coded loaded.cells
+    → pattern ≡ pattern_in planned i n sent.combination → cells ≡ channel_cells (plan_at planned.uplink sent.combination) i kept.cells
+    → length cells ≡ copies_below pattern.kind pattern.len → length cells ≡ slice_index (plan_at planned.uplink sent.combination).sent i → length votes ≡ rows * f
+    → ((bits : List Bit) → ((k : ℕ) → k < length cells → get_or cells k Off ≡ as_cell (get_or bits (origin_of pattern k) Zero)) → (j : ℕ) (v : Vote) → j < length votes → frame_of f (length votes) j ≡ n → get_or votes j v ≡ copies_as_votes (get_or bits (place_of f (length votes) j) Zero) (copies pattern.kind (place_of f (length votes) j)))
+    → (j : ℕ) (v : Vote) → j < length votes → frame_of f (length votes) j ≡ n → get_or votes j v ≡ copies_as_votes (get_or coded j Zero) (frame_copies planned i n kept.combination (place_of f (length votes) j))
+frame_arrived planned i n loaded kept sent coded f rows pattern cells votes good channel listed is_plan frames few frame is shown same_pattern same_cells kept_all sized whole undamaged j v inside of =
+    let side = planned.config.uplink.side in
+    let plan : UplinkPlan = plan_at planned.uplink sent.combination in
+    let bits : List Bit = segment_bits f (rows * f) coded n rows in
+    let some : 0 < f = omega arith in
+    let long : length loaded.cells ≡ rows * f = sent_long planned i n loaded kept sent good channel listed ∙ ap (λ rows. rows * (channel_at side i).frames) (sym is) ∙ ap (λ f. rows * f) (sym frames) in
+    let room : places_before plan i + slice_index plan.sent i ≤ plan.ndata = omega (arith, part_le (slice_index plan.sent) i (length side.channels) channel, is_plan.all_sent) in
+    let high : pattern.len ≡ rows = ap (λ (pattern : Pattern). pattern.len) same_pattern ∙ pattern_len planned i n sent.combination ∙ sym is in
+    let cell : (k : ℕ) → k < length cells → get_or cells k Off ≡ as_cell (get_or bits (origin_of pattern k) Zero) =
+    λ k early.
+    let small : origin_of pattern k < rows = omega (arith, origin_of-inside pattern k (omega (arith, kept_all, early)), high) in
+    ap (λ cells. get_or cells k Off) same_cells
+    ∙ segment_shown planned i n loaded kept sent coded f rows k frames is frame shown long channel (plan_sized _ _ _ is_plan) room (omega (arith, sized, early)) (subst (λ (pattern : Pattern). origin_of pattern k < rows) same_pattern small)
+    ∙ ap (λ (pattern : Pattern). as_cell (get_or bits (origin_of pattern k) Zero)) (sym same_pattern) in
+    let m : ℕ = place_of f (length votes) j in
+    let bit : get_or bits m Zero ≡ get_or coded j Zero =
+    ap (λ len. get_or (segment_bits f len coded n rows) m Zero) (sym whole) ∙ segment_bit f rows (length votes) coded n j few some whole inside of in
+    undamaged bits cell j v inside of
+    ∙ ap (λ bit. copies_as_votes bit (copies pattern.kind m)) bit
+    ∙ ap (λ (pattern : Pattern). copies_as_votes (get_or coded j Zero) (copies pattern.kind m)) same_pattern
+    ∙ ap (λ combination. copies_as_votes (get_or coded j Zero) (frame_copies planned i n combination m)) (sym sent.found)

@@ -1,0 +1,8 @@
+pub mod Arrived
+pub mod Heard
+pub mod Segments
+pub mod Sent
+pub mod SentBack
+pub mod Sizes
+pub mod Ttis
+pub mod Written

@@ -1,0 +1,21 @@
+//! The uplink's physical channels: what is sent of the channels' TTIs in each radio frame, and what is read of the radio
+//! frames that were received (TS 25.212 4.2).
+#![tactic(auto)]
+
+mod formats;
+mod hearing;
+mod history;
+mod kept;
+mod laws;
+mod outcome;
+mod reader;
+mod slot;
+mod tables;
+mod tti;
+mod writer;
+
+pub use laws::written_frame_law;
+pub use outcome::TtiOutcome;
+pub use reader::UlReader;
+pub use tti::UlTti;
+pub use writer::write;

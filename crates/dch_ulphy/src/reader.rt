@@ -1,0 +1,181 @@
+ghost use Rattle.std.specs.Prelude.{◌≡◌, ◌≢◌, ◌<◌, ◌≤◌, ◌%◌, ℕ, List, length, IfOk};
+ghost use Rattle.dch_bits.specs.declared.bit.Bit.{Bit};
+ghost use Rattle.dch_types.specs.Parts.{channel_at, format_at};
+ghost use Rattle.dch_accept.specs.Blocks.{HoldsTtis};
+ghost use Rattle.dch_decode.specs.Received.{ArrivesAs};
+ghost use Rattle.dch_ulphy.specs.Kept.{AreMissing, HasUplinkTfci, IsReaderOf, Keeps, kept_at};
+ghost use Rattle.dch_ulphy.specs.Outcomes.{IsOutcome, IsSentBack};
+ghost use Rattle.dch_ulphy.specs.Read.{IsFormatOf, IsTtiRead};
+ghost use Rattle.dch_ulphy.specs.Sent.{IsClear, IsSentTti};
+
+use crate::formats::{channel_of, format_of, format_of_tti};
+use crate::hearing::hear_tti;
+use crate::history::History;
+use crate::outcome::TtiOutcome;
+use crate::slot::MOST_BITS;
+use crate::tables::Tables;
+use dch_accept::{Accepted, FrameView, TtiBlocks};
+use dch_bits::{NoMemory, Vote};
+use dch_decode::Decoder;
+use std::alloc::Global;
+use std::marker::Model;
+
+/// Received uplink radio frames, and the room to read the TTIs of the channels from them.
+#[derive(Drop)]
+pub struct UlReader {
+    history: History,
+    tables: Tables,
+    ears: Ears,
+}
+
+impl Model for UlReader {
+    ghost use Rattle.dch_decode.specs.Received.{ArrivesAs};
+    ghost use Rattle.dch_ulphy.specs.Kept.{Listened};
+
+    ghost Value = { Listened };
+
+    ghost view = { λ r. r.history };
+}
+
+/// The room to count the votes of a TTI and to decode it.
+#[derive(Drop)]
+struct Ears {
+    counted: Vec<Vote>,
+    votes: Vec<Vote>,
+    decoder: Decoder,
+    ghost counted_room: { length counted.items ≡ 131072 },
+    ghost votes_room: { length votes.items ≡ 131072 },
+}
+
+impl UlReader {
+    /// Takes all memory that receiving wants. No frame is there.
+    pub fn open(alloc: Global, accepted: &Accepted) -> Result<UlReader, NoMemory>
+        ensures missing { IfOk result (λ reader. AreMissing accepted.now 8 reader.frames) }
+        ensures opened { IfOk result (IsReaderOf accepted.now) }
+    {
+        Ok(UlReader {
+            history: History::open(alloc, accepted)?,
+            tables: Tables::open(alloc)?,
+            ears: Ears::open(alloc)?,
+        })
+    }
+
+    /// Takes the radio frame of the next CFN, or that it is missing. The last 8 are held. A frame is kept where its TFCI
+    /// names a combination of the list and it is as long as the frames of that one (TS 25.212 4.3.3); otherwise it counts
+    /// as missing.
+    pub fn push(&mut self, accepted: &Accepted, cfn: u8, frame: Option<FrameView<'_>>)
+        requires opened { IsReaderOf accepted.now self.old }
+        requires tfci { HasUplinkTfci frame }
+        ensures kept { Keeps accepted.now frame.entry (kept_at self.new.frames (cfn % 8)) }
+        ensures others { (k : ℕ) → k ≢ cfn % 8 → kept_at self.new.frames k ≡ kept_at self.old.frames k }
+        ensures last { self.new.cfn ≡ cfn }
+        ensures opened { IsReaderOf accepted.now self.new }
+    {
+        self.history.push(accepted, &self.tables, cfn, frame);
+    }
+
+    /// Reads the TTI of a channel that the last frame ends, each of its frames by the plan of its own combination
+    /// (TS 25.212 4.2.1 to 4.2.12, read backwards). A bad frame leaves the blocks as they were.
+    pub fn read(&mut self, accepted: &Accepted, channel: u8, out: &mut TtiBlocks) -> TtiOutcome
+        requires opened { IsReaderOf accepted.now self.old }
+        requires blocks { HoldsTtis accepted.now.config.uplink.side out.old.room }
+        requires channel { channel < length accepted.now.config.uplink.side.channels }
+        ensures outcome { IsOutcome accepted.now self.old channel out.old result out.new }
+        ensures undamaged { (format : ℕ) (blocks : List Bit) → IsSentTti accepted.now self.old channel format blocks →
+            IsClear accepted.now self.old channel format → IsSentBack format blocks result out.new }
+        ensures room { out.new.room ≡ out.old.room }
+        ensures kept { self.new ≡ self.old }
+    {
+        match format_of_tti(accepted, &self.history, channel) {
+            Ok(format) => {
+                self.ears
+                    .read(accepted, &self.history, channel, format, out);
+                TtiOutcome::Blocks
+            }
+            Err(n) => TtiOutcome::BadFrame(n),
+        }
+    }
+}
+
+impl Ears {
+    fn open(alloc: Global) -> Result<Ears, NoMemory> {
+        Ok(Ears {
+            counted: no_votes(alloc, MOST_BITS)?,
+            votes: no_votes(alloc, MOST_BITS)?,
+            decoder: Decoder::open(alloc)?,
+        })
+    }
+
+    /// Reads the TTI of a channel in a format that all of its frames give it.
+    fn read(
+        &mut self,
+        accepted: &Accepted,
+        history: &History,
+        channel: u8,
+        format: u8,
+        out: &mut TtiBlocks,
+    )
+        requires opened { IsReaderOf accepted.now history.now }
+        requires blocks { HoldsTtis accepted.now.config.uplink.side out.old.room }
+        requires channel { channel < length accepted.now.config.uplink.side.channels }
+        requires format { IsFormatOf accepted.now.config.uplink.side history.now channel format }
+        ensures read { IsTtiRead accepted.now history.now channel out.new }
+        ensures undamaged { (blocks : List Bit) → IsSentTti accepted.now history.now channel format blocks →
+            IsClear accepted.now history.now channel format → ArrivesAs blocks out.new }
+        ensures number { out.new.format ≡ format }
+        ensures room { out.new.room ≡ out.old.room }
+    {
+        read_tti(
+            accepted,
+            history,
+            channel,
+            format,
+            &mut self.counted,
+            &mut self.votes,
+            &mut self.decoder,
+            out,
+        );
+    }
+}
+
+/// Counts the votes of a TTI and decodes it.
+fn read_tti(
+    accepted: &Accepted,
+    history: &History,
+    channel: u8,
+    format: u8,
+    counted: &mut [Vote],
+    votes: &mut [Vote],
+    decoder: &mut Decoder,
+    out: &mut TtiBlocks,
+)
+    requires opened { IsReaderOf accepted.now history.now }
+    requires counted { length counted.old ≡ 131072 }
+    requires votes { length votes.old ≡ 131072 }
+    requires blocks { HoldsTtis accepted.now.config.uplink.side out.old.room }
+    requires channel { channel < length accepted.now.config.uplink.side.channels }
+    requires format { IsFormatOf accepted.now.config.uplink.side history.now channel format }
+    ensures read { IsTtiRead accepted.now history.now channel out.new }
+    ensures undamaged { (blocks : List Bit) → IsSentTti accepted.now history.now channel format blocks →
+        IsClear accepted.now history.now channel format → ArrivesAs blocks out.new }
+    ensures number { out.new.format ≡ format }
+    ensures room { out.new.room ≡ out.old.room }
+{
+    let trch = channel_of(accepted, channel);
+    let kind = format_of(trch, format);
+    let bits = trch.tti_bits(kind) as usize;
+    let frames = trch.frames as usize;
+    let rows = bits.div_ceil(frames);
+    let votes = &mut votes[..rows * frames];
+    hear_tti(accepted, history, channel, &mut counted[..rows], votes);
+    decoder.read(trch, format, kind, &votes[..bits], out);
+}
+
+fn no_votes(alloc: Global, count: usize) -> Result<Vec<Vote>, NoMemory>
+    ensures { IfOk result (λ votes. length votes.items ≡ count) }
+{
+    match vec![in alloc; Vote { zeros: 0, ones: 0 }; count] {
+        Ok(votes) => Ok(votes),
+        Err(_) => Err(NoMemory),
+    }
+}

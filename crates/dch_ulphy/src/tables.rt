@@ -1,0 +1,84 @@
+ghost use Rattle.std.specs.Prelude.{◌≡◌, ◌<◌, ℕ, length, slice_index_or};
+ghost use Rattle.dch_bits.specs.declared.bit.Trit.TheVariants.{Off};
+ghost use Rattle.dch_frame.specs.Stages.{code_place};
+ghost use Rattle.dch_ulphy.specs.Kept.{AreBack};
+ghost use Rattle.dch_ulphy.specs.Tables.{IsCodeLength, IsFrameSize, code_length};
+
+use dch_bits::{NoMemory, Trit};
+use dch_frame::Interleaver;
+use std::alloc::Global;
+
+/// The most cells of a code.
+const LONGEST: usize = 9600;
+
+/// The second interleaver for each length that an uplink code can have.
+#[derive(Drop)]
+pub struct Tables {
+    of_150: Interleaver,
+    of_300: Interleaver,
+    of_600: Interleaver,
+    of_1200: Interleaver,
+    of_2400: Interleaver,
+    of_4800: Interleaver,
+    of_9600: Interleaver,
+    ghost len_150: { of_150 ≡ 150 },
+    ghost len_300: { of_300 ≡ 300 },
+    ghost len_600: { of_600 ≡ 600 },
+    ghost len_1200: { of_1200 ≡ 1200 },
+    ghost len_2400: { of_2400 ≡ 2400 },
+    ghost len_4800: { of_4800 ≡ 4800 },
+    ghost len_9600: { of_9600 ≡ 9600 },
+}
+
+impl Tables {
+    /// Takes the memory for all tables.
+    pub fn open(alloc: Global) -> Result<Tables, NoMemory> {
+        Ok(Tables {
+            of_150: Interleaver::open(alloc, 150)?,
+            of_300: Interleaver::open(alloc, 300)?,
+            of_600: Interleaver::open(alloc, 600)?,
+            of_1200: Interleaver::open(alloc, 1200)?,
+            of_2400: Interleaver::open(alloc, 2400)?,
+            of_4800: Interleaver::open(alloc, 4800)?,
+            of_9600: Interleaver::open(alloc, LONGEST)?,
+        })
+    }
+
+    /// The table for codes of so many cells.
+    fn of(&self, cells: usize) -> &Interleaver
+        requires { IsCodeLength cells }
+        ensures { result.now ≡ cells }
+    {
+        match cells {
+            150 => &self.of_150,
+            300 => &self.of_300,
+            600 => &self.of_600,
+            1200 => &self.of_1200,
+            2400 => &self.of_2400,
+            4800 => &self.of_4800,
+            _ => &self.of_9600,
+        }
+    }
+
+    /// Writes the cells of a frame from its multiplexed cells, code by code.
+    pub fn interleave(&self, stream: &[Trit], cells: &mut [Trit])
+        requires size { IsFrameSize (length stream.now) }
+        requires room { length cells.old ≡ length stream.now }
+        ensures { (k : ℕ) → k < length cells.new → slice_index_or cells.new k Off ≡ slice_index_or stream.now (code_place (code_length (length stream.now)) k) Off }
+    {
+        if stream.len() > 0 {
+            self.of(stream.len().min(LONGEST)).write(stream, cells);
+        }
+    }
+
+    /// Brings the cells of a received frame back to multiplexed order, code by code.
+    pub fn back(&self, cells: &[Trit], stream: &mut [Trit])
+        requires size { IsFrameSize (length cells.now) }
+        requires room { length stream.old ≡ length cells.now }
+        ensures { AreBack cells.now stream.new }
+    {
+        if cells.len() > 0 {
+            self.of(cells.len().min(LONGEST)).back(cells, stream);
+        }
+    }
+}

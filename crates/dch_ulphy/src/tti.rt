@@ -1,0 +1,111 @@
+ghost use Rattle.std.specs.Prelude.{◌≡◌, ◌≢◌, ◌<◌, ℕ, length, IfOk};
+ghost use Rattle.dch_types.specs.Limits.{IsChannel};
+ghost use Rattle.dch_types.specs.Parts.{channel_at, format_at};
+ghost use Rattle.dch_accept.specs.Blocks.{bits_of};
+ghost use Rattle.dch_ulphy.specs.Loaded.{AreEmpty, IsLoaded, IsLong, IsTtiOf, loaded_at};
+
+use crate::slot::{MOST_BITS, Slot};
+use crate::tables::Tables;
+use dch_accept::Accepted;
+use dch_bits::{Bit, NoMemory};
+use dch_coding::TtiCoder;
+use dch_types::Trch;
+use std::alloc::Global;
+use std::marker::Model;
+
+/// The running TTIs of all uplink channels, coded and ready to be sent.
+#[derive(Drop)]
+pub struct UlTti {
+    coder: TtiCoder,
+    coded: Vec<Bit>,
+    tables: Tables,
+    slots: Vec<Slot>,
+}
+
+impl Model for UlTti {
+    ghost use Rattle.std.specs.Prelude.{◌≡◌, List, length};
+    ghost use Rattle.dch_ulphy.specs.Loaded.{Loaded};
+
+    ghost Value = { List Loaded };
+
+    ghost view = { λ t. t.slots.items };
+
+    ghost invariant = { λ t. length t.coded.items ≡ 131072 };
+}
+
+impl UlTti {
+    /// Takes all memory that coding and sending want. Nothing is loaded.
+    pub fn open(alloc: Global, accepted: &Accepted) -> Result<UlTti, NoMemory>
+        ensures { IfOk result (IsTtiOf accepted.now.config.uplink.side) }
+    {
+        let channels = accepted.config().uplink.side.channels.len();
+        Ok(UlTti {
+            coder: TtiCoder::open(alloc)?,
+            coded: vec![in alloc; Bit::Zero; MOST_BITS]?,
+            tables: Tables::open(alloc)?,
+            slots: slots(alloc, channels)?,
+        })
+    }
+
+    /// Loads the blocks of a channel for its next TTI: as many as the format has, one after another. They replace those
+    /// that were loaded for that channel.
+    pub fn load(&mut self, accepted: &Accepted, channel: u8, format: u8, blocks: &[Bit])
+        requires opened { IsTtiOf accepted.now.config.uplink.side self.old }
+        requires channel { channel < length accepted.now.config.uplink.side.channels }
+        requires format { format < length (channel_at accepted.now.config.uplink.side channel).formats }
+        requires blocks { length blocks.now ≡ bits_of (format_at (channel_at accepted.now.config.uplink.side channel) format) }
+        ensures opened { IsTtiOf accepted.now.config.uplink.side self.new }
+        ensures loaded { IsLoaded (channel_at accepted.now.config.uplink.side channel) format blocks.now (loaded_at self.new channel) }
+        ensures same { (i : ℕ) → i ≢ channel → loaded_at self.new i ≡ loaded_at self.old i }
+    {
+        let trch = &accepted.config().uplink.side.channels.as_slice()[channel as usize];
+        let slot = &mut self.slots[channel as usize];
+        load(&mut self.coder, trch, format, blocks, &mut self.coded, slot);
+    }
+}
+
+impl UlTti {
+    /// What is loaded of each channel.
+    pub(crate) fn slots(&self) -> &[Slot]
+        ensures { result.now ≡ self.now }
+    {
+        &self.slots
+    }
+
+    /// The tables of the second interleaver.
+    pub(crate) fn tables(&self) -> &Tables {
+        &self.tables
+    }
+}
+
+/// Codes the blocks of a channel and loads them.
+fn load(
+    coder: &mut TtiCoder,
+    channel: &Trch,
+    format: u8,
+    blocks: &[Bit],
+    coded: &mut [Bit],
+    slot: &mut Slot,
+)
+    requires channel { IsChannel channel.now }
+    requires format { format < length channel.now.formats }
+    requires blocks { length blocks.now ≡ bits_of (format_at channel.now format) }
+    requires room { length coded.old ≡ 131072 }
+    ensures loaded { IsLoaded channel.now format blocks.now slot.new }
+    ensures long { IsLong channel.now slot.new }
+{
+    let kind = &channel.formats.as_slice()[format as usize];
+    let coded = &mut coded[..channel.tti_bits(kind) as usize];
+    coder.code(channel, kind, blocks, coded);
+    slot.load(format, channel.frames as usize, coded);
+}
+
+fn slots(alloc: Global, count: usize) -> Result<Vec<Slot>, NoMemory>
+    ensures { IfOk result (λ slots. AreEmpty count slots.items) }
+{
+    let mut slots = Vec::new(alloc);
+    for _i in 0..count {
+        slots.push(Slot::open(alloc)?)?;
+    }
+    Ok(slots)
+}

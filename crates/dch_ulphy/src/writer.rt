@@ -1,0 +1,136 @@
+ghost use Rattle.std.specs.Prelude.{◌≡◌, ◌<◌, ◌≤◌, ◌+◌, ◌*◌, ◌^◌, ℕ, length, slice_index, slice_index_or};
+ghost use Rattle.dch_bits.specs.declared.bit.Trit.TheVariants.{Off};
+ghost use Rattle.dch_types.specs.Limits.{IsSide};
+ghost use Rattle.dch_types.specs.Parts.{channel_at};
+ghost use Rattle.dch_types.specs.declared.channel.Dir.TheVariants.{Up};
+ghost use Rattle.dch_accept.specs.Frames.{IsOpenedFor};
+ghost use Rattle.dch_accept.specs.Plans.{plan_at};
+ghost use Rattle.dch_ulphy.specs.Loaded.{IsTtiOf, loaded_at};
+ghost use Rattle.dch_ulphy.specs.Tables.{IsFrameSize};
+ghost use Rattle.dch_ulphy.specs.Frames.{AreFormats, IsFrame, frame_cell, multiplexed_cell, sent_cell};
+
+use crate::slot::Slot;
+use crate::tti::UlTti;
+use dch_accept::{Accepted, PhyFrame};
+use dch_bits::Trit;
+use dch_frame::rate_match;
+use dch_match::frame;
+use dch_tfci::send;
+use dch_types::Side;
+
+/// Writes the radio frame of a CFN in a combination: its TFCI, and of each channel the radio frame of its TTI that is on
+/// (TS 25.212 4.2.5 to 4.2.12, 4.3.3).
+pub fn write(accepted: &Accepted, tti: &UlTti, cfn: u8, combination: u16, out: &mut PhyFrame)
+    requires opened { IsTtiOf accepted.now.config.uplink.side tti.now }
+    requires frame { IsOpenedFor accepted.now.config Up out.old }
+    requires combination { combination < length accepted.now.config.uplink.side.combinations }
+    requires formats { AreFormats accepted.now.config.uplink.side combination tti.now }
+    ensures written { IsFrame accepted.now tti.now cfn combination out.new }
+    ensures frame { IsOpenedFor accepted.now.config Up out.new }
+{
+    // A good configuration has at most 128 combinations.
+    let _config = accepted.config();
+    let cells = accepted.uplink_plan(combination).ndata as usize;
+    out.shape(cells);
+    send(combination, out.tfci_mut());
+    write_cells(accepted, tti, cfn, combination, cells, out.workspace_mut());
+}
+
+/// Writes the cells of a radio frame, by way of the multiplexed cells behind them.
+fn write_cells(
+    accepted: &Accepted,
+    tti: &UlTti,
+    cfn: u8,
+    combination: u16,
+    count: usize,
+    out: &mut [Trit],
+)
+    requires opened { IsTtiOf accepted.now.config.uplink.side tti.now }
+    requires combination { combination < length accepted.now.config.uplink.side.combinations }
+    requires formats { AreFormats accepted.now.config.uplink.side combination tti.now }
+    requires count { count ≡ (plan_at accepted.now.uplink combination).ndata }
+    requires size { IsFrameSize count }
+    requires small { count < 2 ^ 32 }
+    requires room { length out.old ≡ 2 * count }
+    ensures { (k : ℕ) → k < count → slice_index_or out.new k Off ≡ frame_cell accepted.now tti.now cfn combination k }
+{
+    let (cells, stream) = out.split_at_mut(count);
+    multiplex(accepted, tti.slots(), cfn, combination, stream);
+    tti.tables().interleave(stream, cells);
+}
+
+/// Writes the channels' cells one after another.
+fn multiplex(accepted: &Accepted, slots: &[Slot], cfn: u8, combination: u16, out: &mut [Trit])
+    requires opened { IsTtiOf accepted.now.config.uplink.side slots.now }
+    requires combination { combination < length accepted.now.config.uplink.side.combinations }
+    requires formats { AreFormats accepted.now.config.uplink.side combination slots.now }
+    requires room { length out.old ≡ (plan_at accepted.now.uplink combination).ndata }
+    requires small { length out.old < 2 ^ 32 }
+    ensures { (p : ℕ) → p < length out.new → slice_index_or out.new p Off ≡ multiplexed_cell accepted.now slots.now cfn combination (length accepted.now.config.uplink.side.channels) p }
+{
+    let channels = accepted.config().uplink.side.channels.len();
+    let plan = accepted.uplink_plan(combination);
+    let mut at = 0;
+    for i in 0..channels {
+        let end = at + plan.sent[i] as usize;
+        write_channel(accepted, slots, cfn, combination, i, &mut out[at..end]);
+        at = end;
+    }
+}
+
+/// Writes what a channel sends: the segment of one radio frame, after rate matching.
+fn write_channel(
+    accepted: &Accepted,
+    slots: &[Slot],
+    cfn: u8,
+    combination: u16,
+    i: usize,
+    out: &mut [Trit],
+)
+    requires opened { IsTtiOf accepted.now.config.uplink.side slots.now }
+    requires combination { combination < length accepted.now.config.uplink.side.combinations }
+    requires formats { AreFormats accepted.now.config.uplink.side combination slots.now }
+    requires channel { i < length accepted.now.config.uplink.side.channels }
+    requires room { length out.old ≡ slice_index (plan_at accepted.now.uplink combination).sent i }
+    ensures { (q : ℕ) → q < length out.new → slice_index_or out.new q Off ≡ sent_cell accepted.now slots.now cfn combination i q }
+{
+    let config = &accepted.config().uplink;
+    let n = cfn % frames_of(&config.side, i);
+    let pattern = frame(
+        config,
+        combination,
+        accepted.uplink_plan(combination),
+        i as u8,
+        n,
+    );
+    rate_match(&pattern, segment(slot_of(slots, i), n, pattern.len), out);
+}
+
+/// The radio frames of a channel's TTI.
+fn frames_of(side: &Side, i: usize) -> u8
+    requires side { IsSide side.now }
+    requires channel { i < length side.now.channels }
+    ensures value { result ≡ (channel_at side.now i).frames }
+    ensures some { 0 < result }
+{
+    side.channels.as_slice()[i].frames
+}
+
+/// What is loaded of a channel.
+fn slot_of(slots: &[Slot], i: usize) -> &Slot
+    requires { i < length slots.now }
+    ensures { result.now ≡ loaded_at slots.now i }
+{
+    &slots[i]
+}
+
+/// The cells of radio frame `n` of a TTI whose frames have so many cells.
+fn segment(slot: &Slot, n: u8, cells: u32) -> &[Trit]
+    requires { n * cells + cells ≤ length slot.now.cells }
+    ensures long { length result.now ≡ cells }
+    ensures shown { (m : ℕ) → m < cells → slice_index_or result.now m Off ≡ slice_index_or slot.now.cells (n * cells + m) Off }
+{
+    let cells = cells as usize;
+    let from = n as usize * cells;
+    &slot.cells()[from..from + cells]
+}
