@@ -14,5 +14,5 @@ half_is_coded coding is same = cc
 pub third_is_coded : (coding : Coding) → coding ≡ Third → coding ≢ Uncoded
 third_is_coded coding is same = cc
 
-pub few_copies : (coding : Coding) (votes : List Vote) (size : ℕ) → size ≤ 504 → length votes ≡ coded_block coding size → ((j : ℕ) (v : Vote) → j < length votes → (get_or votes j v).zeros + (get_or votes j v).ones ≤ 57600) → all_copies votes < 2 ^ 31
-few_copies coding votes size short long few = omega (arith, coded_block-le coding size, long, sum_by-le copies 57600 votes few)
+pub few_copies : (coding : Coding) (votes : List Vote) (size : ℕ) → size ≤ 504 → length votes ≡ coded_block coding size → ((j : ℕ) (v : Vote) → j < length votes → (get_or votes j v).zeros + (get_or votes j v).ones ≤ 460800) → all_copies votes < 2 ^ 31
+few_copies coding votes size short long few = omega (arith, coded_block-le coding size, long, sum_by-le copies 460800 votes few)

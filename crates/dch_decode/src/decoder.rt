@@ -47,11 +47,11 @@ impl Decoder {
 
     /// Reads the joined bits of a TTI from the votes for its coded bits (TS 25.212 4.2.2 and 4.2.3): each code block is the
     /// one that the fewest received copies speak against, and a bit that is not coded is One where more ones than zeros
-    /// were received. A bit has no more copies than a radio frame has cells, 57,600.
+    /// were received. A bit has no more copies than eight radio frames have cells, 460,800.
     pub fn decode(&mut self, coding: Coding, votes: &[Vote], joined: &mut [Bit])
         requires coded { length votes.now ≡ coded_bits coding (length joined.old) }
         requires short { length votes.now ≤ 131072 }
-        requires few { (j : ℕ) (v : Vote) → j < length votes.now → (slice_index_or votes.now j v).zeros + (slice_index_or votes.now j v).ones ≤ 57600 }
+        requires few { (j : ℕ) (v : Vote) → j < length votes.now → (slice_index_or votes.now j v).zeros + (slice_index_or votes.now j v).ones ≤ 460800 }
         ensures read { AreRead coding votes.now joined.new }
         ensures undamaged { (sent : List Bit) (kept : ℕ → ℕ) → length sent ≡ length joined.new → AreCopies votes.now (coded_of coding sent) kept →
             HasNoCollision coding (length sent) kept → (joined.new ≡ sent) × (disagreement votes.now (coded_of coding joined.new) ≡ 0) }
@@ -63,7 +63,7 @@ impl Decoder {
     pub fn joined(&mut self, channel: &Trch, format: &Format, votes: &[Vote]) -> &[Bit]
         requires coded { length votes.now ≡ tti_bits channel.now format.now }
         requires short { length votes.now ≤ 131072 }
-        requires few { (j : ℕ) (v : Vote) → j < length votes.now → (slice_index_or votes.now j v).zeros + (slice_index_or votes.now j v).ones ≤ 57600 }
+        requires few { (j : ℕ) (v : Vote) → j < length votes.now → (slice_index_or votes.now j v).zeros + (slice_index_or votes.now j v).ones ≤ 460800 }
         ensures long { length result.now ≡ joined_bits channel.now format.now }
         ensures read { AreRead channel.now.coding votes.now result.now }
     {
@@ -101,7 +101,7 @@ fn decode_front(
     requires room { length out.old ≡ BITS }
     requires coded { length votes.now ≡ coded_bits coding len }
     requires short { length votes.now ≤ 131072 }
-    requires few { (j : ℕ) (v : Vote) → j < length votes.now → (slice_index_or votes.now j v).zeros + (slice_index_or votes.now j v).ones ≤ 57600 }
+    requires few { (j : ℕ) (v : Vote) → j < length votes.now → (slice_index_or votes.now j v).zeros + (slice_index_or votes.now j v).ones ≤ 460800 }
     ensures fits { len ≤ BITS }
     ensures read { AreRead coding votes.now (take len out.new) }
     ensures kept { trellis.new ≡ trellis.old }
@@ -120,7 +120,7 @@ fn decode_with(
     requires room { length blocks.old ≡ BITS }
     requires coded { length votes.now ≡ coded_bits coding (length joined.old) }
     requires short { length votes.now ≤ 131072 }
-    requires few { (j : ℕ) (v : Vote) → j < length votes.now → (slice_index_or votes.now j v).zeros + (slice_index_or votes.now j v).ones ≤ 57600 }
+    requires few { (j : ℕ) (v : Vote) → j < length votes.now → (slice_index_or votes.now j v).zeros + (slice_index_or votes.now j v).ones ≤ 460800 }
     ensures read { AreRead coding votes.now joined.new }
     ensures kept { trellis.new ≡ trellis.old }
 {
@@ -144,7 +144,7 @@ fn read_blocks(
     requires some { 0 < plan.now.blocks → 1 ≤ plan.now.size }
     requires filler { 0 < plan.now.blocks → plan.now.filler ≤ plan.now.size }
     requires votes { length votes.now ≡ plan.now.blocks * coded_block coding plan.now.size }
-    requires few { (j : ℕ) (v : Vote) → j < length votes.now → (slice_index_or votes.now j v).zeros + (slice_index_or votes.now j v).ones ≤ 57600 }
+    requires few { (j : ℕ) (v : Vote) → j < length votes.now → (slice_index_or votes.now j v).zeros + (slice_index_or votes.now j v).ones ≤ 460800 }
     requires blocks { length blocks.old ≡ plan.now.blocks * plan.now.size }
     ensures read { (r : ℕ) → r < plan.now.blocks →
         IsRead coding (part r (coded_block coding plan.now.size) votes.now) (filler_of plan.now r) (part r plan.now.size blocks.new) }

@@ -12,7 +12,7 @@ use std::test::Fail;
 /// Three copies of each bit, of which one is damaged.
 fn damaged_copies(bits: &[Bit], votes: &mut [Vote])
     requires { length votes.old ≡ length bits.now }
-    ensures { (j : ℕ) (v : Vote) → j < length votes.new → (slice_index_or votes.new j v).zeros + (slice_index_or votes.new j v).ones ≤ 57600 }
+    ensures { (j : ℕ) (v : Vote) → j < length votes.new → (slice_index_or votes.new j v).zeros + (slice_index_or votes.new j v).ones ≤ 460800 }
 {
     for j in 0..votes.len() {
         votes[j] = match bits[j] {

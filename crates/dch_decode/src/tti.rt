@@ -30,7 +30,7 @@ impl Decoder {
         requires room { bits_of format.now ≤ out.old.room }
         requires coded { length votes.now ≡ tti_bits channel.now format.now }
         requires short { length votes.now ≤ 131072 }
-        requires few { (j : ℕ) (v : Vote) → j < length votes.now → (slice_index_or votes.now j v).zeros + (slice_index_or votes.now j v).ones ≤ 57600 }
+        requires few { (j : ℕ) (v : Vote) → j < length votes.now → (slice_index_or votes.now j v).zeros + (slice_index_or votes.now j v).ones ≤ 460800 }
         ensures read { IsReceived channel.now number format.now votes.now out.new }
         ensures undamaged { (blocks coded : List Bit) (kept : ℕ → ℕ) → length blocks ≡ bits_of format.now →
             IsCodedTti channel.now format.now blocks coded → AreCopies votes.now coded kept →

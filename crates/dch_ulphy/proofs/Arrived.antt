@@ -28,7 +28,7 @@ use Rattle.dch_frame.proofs.Codes.{code_back-inside, code_place-back}
 use Rattle.dch_frame.proofs.Kept.{origin_of-inside}
 use Rattle.dch_accept.specs.Plans.{Planned, plan_at}
 use Rattle.dch_ulphy.specs.Frames.{frame_number, pattern_of, sent_cell, places_before, multiplexed_cell, frame_cell}
-use Rattle.dch_ulphy.specs.Kept.{Kept}
+use Rattle.dch_heard.specs.Kept.{Kept}
 use Rattle.dch_ulphy.specs.Loaded.{AreInterleaved, Loaded, loaded_at}
 use Rattle.dch_ulphy.specs.Read.{channel_cells, pattern_in}
 use Rattle.dch_ulphy.specs.Sent.{IsSentFrame, frame_copies}

@@ -8,7 +8,7 @@ use Rattle.dch_types.specs.Parts.{channel_at}
 use Rattle.dch_inter.specs.Places.{frame_of, place_of}
 use Rattle.dch_frame.specs.Votes.{copies_as_votes}
 use Rattle.dch_accept.specs.Plans.{Planned}
-use Rattle.dch_ulphy.specs.Kept.{Kept, Listened, frame_at}
+use Rattle.dch_heard.specs.Kept.{Kept, Listened, frame_at}
 use Rattle.dch_ulphy.specs.Loaded.{AreInterleaved, Loaded}
 use Rattle.dch_ulphy.specs.Read.{frame_votes, tti_votes}
 use Rattle.dch_ulphy.specs.Sent.{AreSentFrames, IsSentFrame, frame_copies, tti_copies}

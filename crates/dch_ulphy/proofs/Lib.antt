@@ -1,6 +1,6 @@
 pub mod Arrived
 pub mod Heard
-pub mod Segments
+pub mod Padded
 pub mod Sent
 pub mod SentBack
 pub mod Sizes

@@ -16,9 +16,10 @@ use Rattle.dch_accept.specs.Blocks.{Held, bits_of}
 use Rattle.dch_accept.specs.Plans.{Planned}
 use Rattle.dch_decode.specs.Collisions.{AreCopies, HasNoCollision}
 use Rattle.dch_decode.specs.Received.{ArrivesAs}
-use Rattle.dch_ulphy.specs.Kept.{Listened}
+use Rattle.dch_heard.specs.Kept.{Listened}
 use Rattle.dch_ulphy.specs.Loaded.{AreInterleaved, Loaded}
-use Rattle.dch_ulphy.specs.Read.{IsBadFrame, IsFormatOf, format_in, padded_bits, tti_format}
+use Rattle.dch_heard.specs.Formats.{IsBadFrame, IsFormatOf, format_in, tti_format}
+use Rattle.dch_ulphy.specs.Read.{padded_bits}
 use Rattle.dch_ulphy.specs.Sent.{AreSentFrames, IsClear, IsSentTti, tti_copies}
 
 -- each frame gives the channel the format in which its blocks were sent

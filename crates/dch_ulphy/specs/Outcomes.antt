@@ -6,8 +6,9 @@ use Rattle.dch_accept.specs.Plans.{Planned}
 use Rattle.dch_decode.specs.Received.{ArrivesAs}
 use Rattle.dch_ulphy.specs.declared.outcome.TtiOutcome.{TtiOutcome}
 use Rattle.dch_ulphy.specs.declared.outcome.TtiOutcome.TheVariants.{Blocks, BadFrame}
-use Rattle.dch_ulphy.specs.Kept.{Listened}
-use Rattle.dch_ulphy.specs.Read.{IsBadFrame, IsTtiRead}
+use Rattle.dch_heard.specs.Kept.{Listened}
+use Rattle.dch_heard.specs.Formats.{IsBadFrame}
+use Rattle.dch_ulphy.specs.Read.{IsTtiRead}
 
 -- the blocks of the TTI, or its first bad frame, which leaves the blocks as they were
 abbrev pub IsOutcome : Planned → Listened → ℕ → Held → TtiOutcome → Held → Type 0

@@ -1,11 +1,11 @@
 -- The TTI of an uplink channel as it is read from the kept radio frames: its format, and the votes for its coded bits
 -- (TS 25.212 4.2.4 to 4.2.8, read backwards).
-use Rattle.std.specs.Prelude.{◌≡◌, ◌≢◌, ◌<◌, ◌⊎◌, ℕ, List, Option, Some, None, Result, Ok, Err, length, take, drop, slice_index, slice_index_or}
+use Rattle.std.specs.Prelude.{◌≡◌, ◌<◌, ℕ, List, Option, Some, None, length, take, drop, slice_index, slice_index_or}
 use Rattle.dch_bits.specs.declared.bit.Trit.{Trit}
 use Rattle.dch_bits.specs.declared.bit.Vote.{Vote}
 use Rattle.dch_types.specs.declared.channel.Side.{Side}
 use Rattle.dch_types.specs.Lengths.{tti_bits}
-use Rattle.dch_types.specs.Parts.{channel_at, format_at, format_number}
+use Rattle.dch_types.specs.Parts.{channel_at, format_at}
 use Rattle.dch_inter.specs.Places.{frame_of, place_of}
 use Rattle.dch_match.specs.declared.pattern.Pattern.{Pattern}
 use Rattle.dch_match.specs.declared.uplink_plan.UplinkPlan.{UplinkPlan}
@@ -13,36 +13,11 @@ use Rattle.dch_match.specs.Uplinks.{uplink_pattern}
 use Rattle.dch_frame.specs.Votes.{votes_of}
 use Rattle.dch_accept.specs.Blocks.{Held}
 use Rattle.dch_accept.specs.Plans.{Planned, plan_at}
+use Rattle.dch_heard.specs.Formats.{IsFormatOf}
 use Rattle.dch_decode.specs.Received.{IsReceived}
 use Rattle.dch_ulphy.specs.Frames.{places_before}
-use Rattle.dch_ulphy.specs.Kept.{Listened, frame_at}
+use Rattle.dch_heard.specs.Kept.{Listened, frame_at}
 use Rattle.dch_ulphy.specs.Loaded.{padded}
-
--- the format of channel i in a combination, if there is one
-abbrev pub format_in : Side → ℕ → Option ℕ → Option ℕ
-format_in side i None = None
-format_in side i (Some c) = Some (format_number side c i)
-
--- the format that frame n of the TTI gives channel i, if that frame is there
-abbrev pub tti_format : Side → Listened → ℕ → ℕ → Option ℕ
-tti_format side reader i n = format_in side i (frame_at side reader i n).combination
-
--- n is the first frame of the TTI that is missing or gives channel i another format than frame 0 does
-pub record IsBadFrame (side : Side) (reader : Listened) (i n : ℕ) : Type 0 where
-  pub inside : n < (channel_at side i).frames
-  pub bad : (tti_format side reader i n ≡ None) ⊎ (tti_format side reader i n ≢ tti_format side reader i 0)
-  pub first : (earlier : ℕ) → earlier < n →
-      (tti_format side reader i earlier ≢ None) × (tti_format side reader i earlier ≡ tti_format side reader i 0)
-
--- all frames of the TTI are there and give channel i format f
-pub record IsFormatOf (side : Side) (reader : Listened) (i f : ℕ) : Type 0 where
-  pub inside : f < length (channel_at side i).formats
-  pub all : (n : ℕ) → n < (channel_at side i).frames → tti_format side reader i n ≡ Some f
-
--- the format of a TTI, or its first bad frame
-abbrev pub FindsFormat : Side → Listened → ℕ → Result ℕ ℕ → Type 0
-FindsFormat side reader i (Ok f) = IsFormatOf side reader i f
-FindsFormat side reader i (Err n) = IsBadFrame side reader i n
 
 -- the cells of channel i in a frame: they follow those of the channels before
 abbrev pub channel_cells : UplinkPlan → ℕ → List Trit → List Trit

@@ -10,7 +10,8 @@ use Rattle.dch_accept.specs.Frames.{Frame}
 use Rattle.dch_accept.specs.Plans.{Planned}
 use Rattle.dch_decode.specs.Collisions.{HasNoCollision}
 use Rattle.dch_ulphy.specs.Frames.{AreFormats, IsFrame, frame_number}
-use Rattle.dch_ulphy.specs.Kept.{AreBack, Kept, Listened, frame_at}
+use Rattle.dch_heard.specs.Kept.{Kept, Listened, frame_at}
+use Rattle.dch_ulphy.specs.Kept.{AreBack}
 use Rattle.dch_ulphy.specs.Loaded.{IsLoaded, IsTtiOf, Loaded, loaded_at}
 use Rattle.dch_ulphy.specs.Read.{padded_bits, pattern_in}
 

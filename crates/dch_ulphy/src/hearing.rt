@@ -7,17 +7,17 @@ ghost use Rattle.dch_inter.specs.Places.{frame_of, place_of};
 ghost use Rattle.dch_match.specs.Uplinks.{before_of};
 ghost use Rattle.dch_frame.specs.Votes.{copies_as_votes};
 ghost use Rattle.dch_ulphy.specs.Frames.{places_before};
-ghost use Rattle.dch_ulphy.specs.Kept.{IsKeptOf, IsReaderOf, frame_at};
+ghost use Rattle.dch_heard.specs.Kept.{frame_at};
+ghost use Rattle.dch_ulphy.specs.Kept.{IsKeptOf, IsReaderOf};
 ghost use Rattle.dch_ulphy.specs.Loaded.{AreInterleaved, Loaded};
 ghost use Rattle.dch_ulphy.specs.Read.{channel_cells, frame_votes, tti_votes};
 ghost use Rattle.dch_ulphy.specs.Sent.{AreSentFrames, IsSentFrame, frame_copies, tti_copies};
 
 use crate::formats::frames_of;
-use crate::history::History;
-use crate::kept::KeptFrame;
 use dch_accept::Accepted;
 use dch_bits::{Trit, Vote};
 use dch_frame::hear;
+use dch_heard::{History, KeptFrame};
 use dch_match::{UplinkPlan, frame};
 
 /// Counts the votes for the bits of a channel's TTI, padded to whole radio frames, in all of its frames. `counted` is room

@@ -2,7 +2,8 @@ ghost use Rattle.std.specs.Prelude.{◌≡◌, ◌<◌, ◌≤◌, ℕ, List, So
 ghost use Rattle.dch_accept.specs.Frames.{Frame};
 ghost use Rattle.dch_accept.specs.Plans.{Planned};
 ghost use Rattle.dch_ulphy.specs.Frames.{IsFrame};
-ghost use Rattle.dch_ulphy.specs.Kept.{AreBack, IsKept, Kept};
+ghost use Rattle.dch_heard.specs.Kept.{Kept};
+ghost use Rattle.dch_ulphy.specs.Kept.{AreBack, IsKept};
 ghost use Rattle.dch_ulphy.specs.Loaded.{Loaded};
 
 /// A law: a frame that is kept as it was written is kept in the combination in which it was written, with its cells in

@@ -4,12 +4,11 @@
 
 mod formats;
 mod hearing;
-mod history;
 mod kept;
 mod laws;
 mod outcome;
+mod pad;
 mod reader;
-mod slot;
 mod tables;
 mod tti;
 mod writer;

@@ -3,20 +3,23 @@ ghost use Rattle.dch_bits.specs.declared.bit.Bit.{Bit};
 ghost use Rattle.dch_types.specs.Parts.{channel_at, format_at};
 ghost use Rattle.dch_accept.specs.Blocks.{HoldsTtis};
 ghost use Rattle.dch_decode.specs.Received.{ArrivesAs};
-ghost use Rattle.dch_ulphy.specs.Kept.{AreMissing, HasUplinkTfci, IsReaderOf, Keeps, kept_at};
+ghost use Rattle.dch_heard.specs.Kept.{kept_at};
+ghost use Rattle.dch_ulphy.specs.Kept.{AreMissing, HasUplinkTfci, IsReaderOf, Keeps};
 ghost use Rattle.dch_ulphy.specs.Outcomes.{IsOutcome, IsSentBack};
-ghost use Rattle.dch_ulphy.specs.Read.{IsFormatOf, IsTtiRead};
+ghost use Rattle.dch_heard.specs.Formats.{IsFormatOf};
+ghost use Rattle.dch_ulphy.specs.Read.{IsTtiRead};
 ghost use Rattle.dch_ulphy.specs.Sent.{IsClear, IsSentTti};
 
-use crate::formats::{channel_of, format_of, format_of_tti};
+use crate::formats::{channel_of, format_of_tti};
 use crate::hearing::hear_tti;
-use crate::history::History;
+use crate::kept::hear;
 use crate::outcome::TtiOutcome;
-use crate::slot::MOST_BITS;
+use crate::pad::MOST_BITS;
 use crate::tables::Tables;
 use dch_accept::{Accepted, FrameView, TtiBlocks};
 use dch_bits::{NoMemory, Vote};
 use dch_decode::Decoder;
+use dch_heard::{History, format_of};
 use std::alloc::Global;
 use std::marker::Model;
 
@@ -30,7 +33,7 @@ pub struct UlReader {
 
 impl Model for UlReader {
     ghost use Rattle.dch_decode.specs.Received.{ArrivesAs};
-    ghost use Rattle.dch_ulphy.specs.Kept.{Listened};
+    ghost use Rattle.dch_heard.specs.Kept.{Listened};
 
     ghost Value = { Listened };
 
@@ -54,7 +57,7 @@ impl UlReader {
         ensures opened { IfOk result (IsReaderOf accepted.now) }
     {
         Ok(UlReader {
-            history: History::open(alloc, accepted)?,
+            history: History::open(alloc, accepted.config().uplink.largest as usize)?,
             tables: Tables::open(alloc)?,
             ears: Ears::open(alloc)?,
         })
@@ -71,7 +74,17 @@ impl UlReader {
         ensures last { self.new.cfn ≡ cfn }
         ensures opened { IsReaderOf accepted.now self.new }
     {
-        self.history.push(accepted, &self.tables, cfn, frame);
+        match frame {
+            Some(frame) => hear(
+                accepted,
+                &self.tables,
+                cfn,
+                frame.tfci,
+                frame.cells,
+                &mut self.history,
+            ),
+            None => self.history.miss(cfn),
+        }
     }
 
     /// Reads the TTI of a channel that the last frame ends, each of its frames by the plan of its own combination

@@ -1,7 +1,6 @@
-ghost use Rattle.std.specs.Prelude.{◌≡◌, ◌<◌, ℕ, length, slice_index_or};
+ghost use Rattle.std.specs.Prelude.{◌≡◌, ◌<◌, ◌%◌, ℕ, length, slice_index_or};
 ghost use Rattle.dch_bits.specs.declared.bit.Trit.TheVariants.{Off};
 ghost use Rattle.dch_frame.specs.Stages.{code_place};
-ghost use Rattle.dch_ulphy.specs.Kept.{AreBack};
 ghost use Rattle.dch_ulphy.specs.Tables.{IsCodeLength, IsFrameSize, code_length};
 
 use dch_bits::{NoMemory, Trit};
@@ -71,14 +70,16 @@ impl Tables {
         }
     }
 
-    /// Brings the cells of a received frame back to multiplexed order, code by code.
-    pub fn back(&self, cells: &[Trit], stream: &mut [Trit])
-        requires size { IsFrameSize (length cells.now) }
-        requires room { length stream.old ≡ length cells.now }
-        ensures { AreBack cells.now stream.new }
+    /// The table for frames of so many cells.
+    pub fn of_frame(&self, cells: usize) -> &Interleaver
+        requires { IsFrameSize cells }
+        ensures codes { cells % result.now ≡ 0 }
+        ensures value { 0 < cells → result.now ≡ code_length cells }
     {
-        if cells.len() > 0 {
-            self.of(cells.len().min(LONGEST)).back(cells, stream);
+        if cells > 0 {
+            self.of(cells.min(LONGEST))
+        } else {
+            &self.of_9600
         }
     }
 }

@@ -2,13 +2,14 @@ ghost use Rattle.std.specs.Prelude.{◌≡◌, ◌≢◌, ◌<◌, ℕ, length, 
 ghost use Rattle.dch_types.specs.Limits.{IsChannel};
 ghost use Rattle.dch_types.specs.Parts.{channel_at, format_at};
 ghost use Rattle.dch_accept.specs.Blocks.{bits_of};
-ghost use Rattle.dch_ulphy.specs.Loaded.{AreEmpty, IsLoaded, IsLong, IsTtiOf, loaded_at};
+ghost use Rattle.dch_ulphy.specs.Loaded.{IsLoaded, IsLong, IsTtiOf, loaded_at};
 
-use crate::slot::{MOST_BITS, Slot};
+use crate::pad::{MOST_BITS, pad};
 use crate::tables::Tables;
 use dch_accept::Accepted;
-use dch_bits::{Bit, NoMemory};
+use dch_bits::{Bit, NoMemory, Trit};
 use dch_coding::TtiCoder;
+use dch_loaded::{Slot, slots};
 use dch_types::Trch;
 use std::alloc::Global;
 use std::marker::Model;
@@ -18,6 +19,7 @@ use std::marker::Model;
 pub struct UlTti {
     coder: TtiCoder,
     coded: Vec<Bit>,
+    padded: Vec<Trit>,
     tables: Tables,
     slots: Vec<Slot>,
 }
@@ -30,7 +32,7 @@ impl Model for UlTti {
 
     ghost view = { λ t. t.slots.items };
 
-    ghost invariant = { λ t. length t.coded.items ≡ 131072 };
+    ghost invariant = { λ t. (length t.coded.items ≡ 131072) × (length t.padded.items ≡ 131072) };
 }
 
 impl UlTti {
@@ -42,6 +44,7 @@ impl UlTti {
         Ok(UlTti {
             coder: TtiCoder::open(alloc)?,
             coded: vec![in alloc; Bit::Zero; MOST_BITS]?,
+            padded: vec![in alloc; Trit::Off; MOST_BITS]?,
             tables: Tables::open(alloc)?,
             slots: slots(alloc, channels)?,
         })
@@ -60,7 +63,15 @@ impl UlTti {
     {
         let trch = &accepted.config().uplink.side.channels.as_slice()[channel as usize];
         let slot = &mut self.slots[channel as usize];
-        load(&mut self.coder, trch, format, blocks, &mut self.coded, slot);
+        load(
+            &mut self.coder,
+            trch,
+            format,
+            blocks,
+            &mut self.coded,
+            &mut self.padded,
+            slot,
+        );
     }
 }
 
@@ -85,27 +96,21 @@ fn load(
     format: u8,
     blocks: &[Bit],
     coded: &mut [Bit],
+    padded: &mut [Trit],
     slot: &mut Slot,
 )
     requires channel { IsChannel channel.now }
     requires format { format < length channel.now.formats }
     requires blocks { length blocks.now ≡ bits_of (format_at channel.now format) }
     requires room { length coded.old ≡ 131072 }
+    requires padded { length padded.old ≡ 131072 }
     ensures loaded { IsLoaded channel.now format blocks.now slot.new }
     ensures long { IsLong channel.now slot.new }
 {
     let kind = &channel.formats.as_slice()[format as usize];
     let coded = &mut coded[..channel.tti_bits(kind) as usize];
     coder.code(channel, kind, blocks, coded);
-    slot.load(format, channel.frames as usize, coded);
-}
-
-fn slots(alloc: Global, count: usize) -> Result<Vec<Slot>, NoMemory>
-    ensures { IfOk result (λ slots. AreEmpty count slots.items) }
-{
-    let mut slots = Vec::new(alloc);
-    for _i in 0..count {
-        slots.push(Slot::open(alloc)?)?;
-    }
-    Ok(slots)
+    let frames = channel.frames as usize;
+    let len = pad(frames, coded, padded);
+    slot.load(format, frames, &padded[..len]);
 }

@@ -9,11 +9,11 @@ ghost use Rattle.dch_ulphy.specs.Loaded.{IsTtiOf, loaded_at};
 ghost use Rattle.dch_ulphy.specs.Tables.{IsFrameSize};
 ghost use Rattle.dch_ulphy.specs.Frames.{AreFormats, IsFrame, frame_cell, multiplexed_cell, sent_cell};
 
-use crate::slot::Slot;
 use crate::tti::UlTti;
 use dch_accept::{Accepted, PhyFrame};
 use dch_bits::Trit;
 use dch_frame::rate_match;
+use dch_loaded::Slot;
 use dch_match::frame;
 use dch_tfci::send;
 use dch_types::Side;

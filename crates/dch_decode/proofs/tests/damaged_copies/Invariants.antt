@@ -3,4 +3,4 @@ use Rattle.dch_bits.specs.declared.bit.Vote.{Vote}
 use Rattle.dch_decode.proofs.tests.damaged_copies.Given as goal
 
 abbrev pub invariant-loop-j : goal.invariant-loop-j
-invariant-loop-j l = (k : ℕ) (v : Vote) → k < l.j → (get_or l.votes k v).zeros + (get_or l.votes k v).ones ≤ 57600
+invariant-loop-j l = (k : ℕ) (v : Vote) → k < l.j → (get_or l.votes k v).zeros + (get_or l.votes k v).ones ≤ 460800

@@ -2,7 +2,7 @@ use Rattle.std.proofs.Common.{◌≡◌, ◌*◌, ◌<◌, ℕ, length, arith, a
 use Rattle.dch_inter.specs.Places.{frame_of}
 use Rattle.dch_inter.proofs.FirstColumns.{frame_of-below}
 use Rattle.dch_frame.proofs.Carried.{whole_rows}
-use Rattle.dch_ulphy.specs.Kept.{kept_at, tti_place}
+use Rattle.dch_heard.specs.Kept.{kept_at, tti_place}
 use Rattle.dch_ulphy.proofs.Heard.{heard_none, heard_more}
 use Rattle.dch_ulphy.proofs.hearing.hear_tti.Goals as goal
 

@@ -1,5 +1,5 @@
 use Rattle.std.proofs.Common.{◌≡◌, refl, sym, ◌∙◌, subst}
-use Rattle.dch_ulphy.specs.Kept.{Listened}
+use Rattle.dch_heard.specs.Kept.{Listened}
 use Rattle.dch_ulphy.specs.Sent.{IsClear, IsSentTti}
 use Rattle.dch_ulphy.proofs.SentBack.{sent_good, sent_number}
 use Rattle.dch_ulphy.proofs.reader.UlReader.read.Goals as goal

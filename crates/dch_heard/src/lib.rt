@@ -1,0 +1,16 @@
+//! Received radio frames as they are kept for the longest TTI, and the format that those of a TTI give a channel
+//! (TS 25.212 4.2.11 and 4.3, read backwards).
+#![tactic(auto)]
+
+mod formats;
+mod history;
+mod kept;
+mod parts;
+
+pub use formats::format_of_tti;
+pub use history::History;
+pub use kept::KeptFrame;
+pub use parts::{channel_of, format_of, frames_of};
+
+#[cfg(test)]
+mod tests;

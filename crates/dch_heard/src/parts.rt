@@ -1,0 +1,34 @@
+ghost use Rattle.std.specs.Prelude.{◌≡◌, ◌<◌, length};
+ghost use Rattle.dch_types.specs.Limits.{IsChannel, IsFrames, IsSide};
+ghost use Rattle.dch_types.specs.Parts.{channel_at, format_at};
+
+use dch_types::{Format, Side, Trch};
+
+/// The radio frames of a channel's TTI.
+pub fn frames_of(side: &Side, channel: u8) -> u8
+    requires side { IsSide side.now }
+    requires channel { channel < length side.now.channels }
+    ensures value { result ≡ (channel_at side.now channel).frames }
+    ensures some { 0 < result }
+    ensures frames { IsFrames result }
+{
+    side.channels.as_slice()[channel as usize].frames
+}
+
+/// A channel of a direction.
+pub fn channel_of(side: &Side, channel: u8) -> &Trch
+    requires side { IsSide side.now }
+    requires channel { channel < length side.now.channels }
+    ensures value { result.now ≡ channel_at side.now channel }
+    ensures good { IsChannel result.now }
+{
+    &side.channels.as_slice()[channel as usize]
+}
+
+/// A format of a channel.
+pub fn format_of(channel: &Trch, format: u8) -> &Format
+    requires { format < length channel.now.formats }
+    ensures { result.now ≡ format_at channel.now format }
+{
+    &channel.formats.as_slice()[format as usize]
+}

@@ -1,0 +1,108 @@
+ghost use Rattle.std.specs.Prelude.{◌≡◌, ◌<◌, ◌≤◌, ◌+◌, ◌*◌, ◌%◌, ℕ, None, Some, length, slice_index_or, take, IfOk};
+ghost use Rattle.dch_bits.specs.declared.bit.Trit.TheVariants.{Off};
+ghost use Rattle.dch_inter.specs.Places.{IsFrames, first_of};
+ghost use Rattle.dch_loaded.specs.Loaded.{AreEmpty, AreInterleaved};
+
+use dch_bits::{NoMemory, Trit};
+use dch_frame::segment;
+use std::alloc::Global;
+use std::marker::Model;
+
+/// The most cells of a TTI: those of eight radio frames on three codes of 15 slots of 1272 bits.
+pub const MOST_CELLS: usize = 457_920;
+
+/// The TTI of a channel as its radio frames carry it.
+#[derive(Drop)]
+pub struct Slot {
+    format: Option<u8>,
+    cells: Vec<Trit>,
+    len: usize,
+}
+
+impl Model for Slot {
+    ghost use Rattle.std.specs.Prelude.{◌≡◌, ◌≤◌, length, take};
+    ghost use Rattle.dch_loaded.specs.Loaded.{Loaded};
+
+    ghost Value = { Loaded };
+
+    ghost view = { λ s. record { format = s.format; cells = take s.len s.cells.items } };
+
+    ghost invariant = { λ s. (s.len ≤ length s.cells.items) × (length s.cells.items ≡ 457920) };
+}
+
+impl Slot {
+    /// Takes the memory for one TTI. Nothing is loaded.
+    pub fn open(alloc: Global) -> Result<Slot, NoMemory>
+        ensures { IfOk result (λ slot. slot.format ≡ None) }
+    {
+        Ok(Slot {
+            format: None,
+            cells: vec![in alloc; Trit::Off; MOST_CELLS]?,
+            len: 0,
+        })
+    }
+
+    /// The number of the loaded format.
+    pub fn format(&self) -> Option<u8>
+        ensures { result ≡ self.now.format }
+    {
+        self.format
+    }
+
+    /// The cells of the TTI's radio frames, one frame after another.
+    pub fn cells(&self) -> &[Trit]
+        ensures { result.now ≡ self.now.cells }
+    {
+        &self.cells[..self.len]
+    }
+
+    /// Loads the cells of a TTI: interleaves them over its radio frames (TS 25.212 4.2.5).
+    pub fn load(&mut self, format: u8, frames: usize, tti: &[Trit])
+        requires frames { IsFrames frames }
+        requires whole { length tti.now % frames ≡ 0 }
+        requires short { length tti.now ≤ 457920 }
+        ensures format { self.new.format ≡ Some format }
+        ensures cells { AreInterleaved frames tti.now self.new.cells }
+    {
+        self.len = interleave_to_front(frames, tti, &mut self.cells);
+        self.format = Some(format);
+    }
+}
+
+/// Writes the radio frames of a TTI to the front of `out`, and answers how many cells they have.
+fn interleave_to_front(frames: usize, tti: &[Trit], out: &mut [Trit]) -> usize
+    requires frames { IsFrames frames }
+    requires whole { length tti.now % frames ≡ 0 }
+    requires short { length tti.now ≤ 457920 }
+    requires room { length out.old ≡ 457920 }
+    ensures fits { result ≤ 457920 }
+    ensures cells { AreInterleaved frames tti.now (take result out.new) }
+{
+    interleave(frames, tti, &mut out[..tti.len()]);
+    tti.len()
+}
+
+/// Writes the radio frames of a TTI one after another.
+fn interleave(frames: usize, tti: &[Trit], out: &mut [Trit])
+    requires frames { IsFrames frames }
+    requires whole { length tti.now % frames ≡ 0 }
+    requires room { length out.old ≡ length tti.now }
+    ensures { (k : ℕ) → k < length out.new → slice_index_or out.new k Off ≡ slice_index_or tti.now (first_of frames (length out.new) k) Off }
+{
+    let rows = tti.len() / frames;
+    for n in 0..frames {
+        let from = n * rows;
+        segment(frames, n, tti, &mut out[from..from + rows]);
+    }
+}
+
+/// Takes the memory for the TTIs of so many channels.
+pub fn slots(alloc: Global, count: usize) -> Result<Vec<Slot>, NoMemory>
+    ensures { IfOk result (λ slots. AreEmpty count slots.items) }
+{
+    let mut slots = Vec::new(alloc);
+    for _i in 0..count {
+        slots.push(Slot::open(alloc)?)?;
+    }
+    Ok(slots)
+}

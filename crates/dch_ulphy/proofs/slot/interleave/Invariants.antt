@@ -1,6 +1,0 @@
-use Rattle.std.proofs.Common.{◌*◌, length}
-use Rattle.dch_ulphy.proofs.Segments.{ShowTti}
-use Rattle.dch_ulphy.proofs.slot.interleave.Given as goal
-
-abbrev pub invariant-loop-n : goal.invariant-loop-n
-invariant-loop-n l = ShowTti l.frames (length l.out) l.coded l.out (l.n * l.rows)
