@@ -1,0 +1,23 @@
+use Rattle.std.proofs.Common.{◌≡◌, ◌*◌, List, take, arith, ap, ◌∙◌, subst, rules}
+use Rattle.dch_bits.specs.declared.bit.Bit.{Bit}
+use Rattle.dch_bits.specs.declared.bit.Trit.{Trit}
+use Rattle.dch_types.specs.declared.channel.Format.{Format}
+use Rattle.dch_coding.specs.Ttis.{IsCodedTti}
+use Rattle.dch_loaded.specs.Loaded.{AreInterleaved}
+use Rattle.dch_dlphy.specs.Loaded.{filled_cell}
+use Rattle.dch_dlphy.proofs.Filled.{are_filled, take_whole}
+use Rattle.dch_dlphy.proofs.tti.Room.load.Goals as goal
+
+pub returns : goal.returns
+returns c =
+    let coded : List Bit = take c.code_front-bits.result c.code_front-bits.new.out in
+    let same : c.deref.result.now ≡ c.code_front-bits.new.out = c.deref.ensures.value ∙ take_whole _ c.code_front-bits.new.out _ (omega (arith, c.code_front-bits.auto.out, c.deref_mut.ensures.len)) in
+    let tti : c.deref-2.result.now ≡ c.fill_front.new.tti = c.deref-2.ensures.value ∙ take_whole _ c.fill_front.new.tti _ (omega (arith, c.fill_front.auto.tti, c.deref_mut-3.ensures.len)) in
+    record {
+      format = c.load.ensures.format;
+      coded = coded;
+      is = subst (λ (format : Format). IsCodedTti c.args.channel.now format c.args.blocks.now coded) c.format_at-kind.ensures c.code_front-bits.ensures.coded;
+      cells = are_filled c.args.channel.now.frames c.args.places c.args.pattern.now coded c.fill_front.new.tti _ (search rules) c.requires.fits
+          (λ p low. c.fill_front.ensures p low ∙ ap (λ (bits : List Bit). filled_cell c.args.pattern.now (take c.code_front-bits.result bits) p) same)
+          (subst (λ (tti : List Trit). AreInterleaved c.args.channel.now.frames (take (c.args.channel.now.frames * c.args.places) tti) c.load.new.self.cells) tti c.load.ensures.cells);
+    }

@@ -1,0 +1,24 @@
+//! The downlink's physical channels: what is sent of the channels' TTIs in each radio frame, and what is read of the radio
+//! frames that were received (TS 25.212 4.2).
+#![tactic(auto)]
+
+mod fill;
+mod hearing;
+mod kept;
+mod laws;
+mod outcome;
+mod parts;
+mod reader;
+mod tti;
+mod writer;
+
+pub use laws::written_frame_law;
+pub use outcome::TtiOutcome;
+pub use reader::DlReader;
+pub use tti::DlTti;
+pub use writer::write;
+
+#[cfg(test)]
+mod reader_tests;
+#[cfg(test)]
+mod tests;

@@ -1,0 +1,105 @@
+ghost use Rattle.std.specs.Prelude.{◌≡◌, ◌<◌, ◌≤◌, ◌+◌, ◌*◌, ◌^◌, length};
+ghost use Rattle.dch_types.specs.Lengths.{tti_bits};
+ghost use Rattle.dch_types.specs.Limits.{IsChannel, IsDownlink, IsSide};
+ghost use Rattle.dch_types.specs.Parts.{channel_at, format_at, format_number};
+ghost use Rattle.dch_match.specs.Downlinks.{ndata_of};
+ghost use Rattle.dch_match.specs.Patterns.{IsWellFormed, copies_below};
+ghost use Rattle.dch_dlphy.specs.Frames.{places_before, places_of};
+ghost use Rattle.dch_dlphy.specs.Loaded.{matching_of};
+
+use dch_accept::Accepted;
+use dch_match::Pattern;
+use dch_types::{Downlink, Format, Side, Trch};
+
+/// A channel of the downlink.
+pub fn channel_of(accepted: &Accepted, channel: u8) -> &Trch
+    requires { channel < length accepted.now.config.downlink.side.channels }
+    ensures value { result.now ≡ channel_at accepted.now.config.downlink.side channel }
+    ensures good { IsChannel result.now }
+{
+    &accepted.config().downlink.side.channels.as_slice()[channel as usize]
+}
+
+/// A format of a channel.
+pub fn format_at(channel: &Trch, format: u8) -> &Format
+    requires { format < length channel.now.formats }
+    ensures { result.now ≡ format_at channel.now format }
+{
+    &channel.formats.as_slice()[format as usize]
+}
+
+/// The number of a channel's format in a combination.
+pub fn format_of(accepted: &Accepted, combination: u16, channel: u8) -> u8
+    requires combination { combination < length accepted.now.config.downlink.side.combinations }
+    requires channel { channel < length accepted.now.config.downlink.side.channels }
+    ensures value { result ≡ format_number accepted.now.config.downlink.side combination channel }
+    ensures inside { result < length (channel_at accepted.now.config.downlink.side channel).formats }
+{
+    let combinations = accepted.config().downlink.side.combinations.as_slice();
+    combinations[combination as usize].formats.as_slice()[channel as usize]
+}
+
+/// The rate matching of a TTI of a channel in a format.
+pub fn pattern_of(accepted: &Accepted, channel: u8, format: u8) -> Pattern
+    requires channel { channel < length accepted.now.config.downlink.side.channels }
+    requires format { format < length (channel_at accepted.now.config.downlink.side channel).formats }
+    ensures value { result ≡ (matching_of accepted.now channel format).pattern }
+    ensures formed { IsWellFormed result }
+    ensures len { result.len ≡ tti_bits (channel_at accepted.now.config.downlink.side channel) (format_at (channel_at accepted.now.config.downlink.side channel) format) }
+{
+    accepted.downlink_plan().pattern(channel, format)
+}
+
+/// The places of a channel in each radio frame of a TTI in a format.
+pub fn places_of(accepted: &Accepted, channel: u8, format: u8) -> u32
+    requires channel { channel < length accepted.now.config.downlink.side.channels }
+    requires format { format < length (channel_at accepted.now.config.downlink.side channel).formats }
+    ensures value { result ≡ (matching_of accepted.now channel format).cells }
+    ensures fits { copies_below (matching_of accepted.now channel format).pattern.kind (matching_of accepted.now channel format).pattern.len ≤ (channel_at accepted.now.config.downlink.side channel).frames * result }
+    ensures room { (channel_at accepted.now.config.downlink.side channel).frames * result ≤ 457920 }
+{
+    // A good configuration has room for each format.
+    let _config = accepted.config();
+    accepted.downlink_plan().cells(channel, format)
+}
+
+/// The places of a channel in a radio frame of a combination. With those of the channels before it they lie within the
+/// frame.
+pub fn places_in(accepted: &Accepted, combination: u16, channel: u8) -> usize
+    requires combination { combination < length accepted.now.config.downlink.side.combinations }
+    requires channel { channel < length accepted.now.config.downlink.side.channels }
+    ensures value { result ≡ places_of accepted.now combination channel }
+    ensures inside { places_before accepted.now combination channel + result ≤ ndata_of accepted.now.config.downlink }
+{
+    let format = format_of(accepted, combination, channel);
+    accepted.downlink_plan().cells(channel, format) as usize
+}
+
+/// The radio frames of a channel's TTI.
+pub fn frames_of(side: &Side, channel: u8) -> u8
+    requires side { IsSide side.now }
+    requires channel { channel < length side.now.channels }
+    ensures value { result ≡ (channel_at side.now channel).frames }
+    ensures some { 0 < result }
+{
+    side.channels.as_slice()[channel as usize].frames
+}
+
+/// The cells of a code.
+pub fn code_length(config: &Downlink) -> usize
+    requires { IsDownlink config.now }
+    ensures value { result ≡ 15 * config.now.slot_bits }
+    ensures some { 0 < result }
+    ensures small { result ≤ 19080 }
+{
+    15 * config.slot_bits as usize
+}
+
+/// The cells of a radio frame: those of all its codes.
+pub fn frame_length(config: &Downlink) -> usize
+    requires { IsDownlink config.now }
+    ensures value { result ≡ ndata_of config.now }
+    ensures small { result ≤ 57240 }
+{
+    code_length(config) * config.codes as usize
+}

@@ -1,0 +1,203 @@
+ghost use Rattle.std.specs.Prelude.{◌≡◌, ◌≢◌, ◌<◌, ◌%◌, ℕ, List, length, IfOk};
+ghost use Rattle.dch_bits.specs.declared.bit.Bit.{Bit};
+ghost use Rattle.dch_accept.specs.Blocks.{HoldsTtis};
+ghost use Rattle.dch_decode.specs.Received.{ArrivesAs};
+ghost use Rattle.dch_heard.specs.Formats.{IsFormatOf};
+ghost use Rattle.dch_heard.specs.Kept.{kept_at};
+ghost use Rattle.dch_dlphy.specs.Kept.{AreMissing, HasDownlinkTfci, IsHistoryOf, IsReaderOf, Keeps};
+ghost use Rattle.dch_dlphy.specs.Outcomes.{IsOutcome, IsSentBack};
+ghost use Rattle.dch_dlphy.specs.Read.{IsTtiRead};
+ghost use Rattle.dch_dlphy.specs.Sent.{IsClear, IsSentTti};
+
+use crate::hearing::hear_tti;
+use crate::kept::hear;
+use crate::outcome::TtiOutcome;
+use crate::parts::{channel_of, code_length, frame_length, pattern_of, places_of};
+use dch_accept::{Accepted, FrameView, TtiBlocks};
+use dch_bits::{NoMemory, Trit, Vote};
+use dch_decode::Decoder;
+use dch_frame::{Interleaver, count_votes};
+use dch_heard::{History, format_of, format_of_tti};
+use dch_match::kept;
+use std::alloc::Global;
+use std::marker::Model;
+
+/// The most places of a TTI.
+const MOST_PLACES: usize = 457_920;
+
+/// The most coded bits of a TTI.
+const MOST_BITS: usize = 131_072;
+
+/// Received downlink radio frames, and the room to read the TTIs of the channels from them.
+#[derive(Drop)]
+pub struct DlReader {
+    history: History,
+    interleaver: Interleaver,
+    ears: Ears,
+}
+
+impl Model for DlReader {
+    ghost use Rattle.dch_dlphy.specs.Kept.{Receiver};
+
+    ghost Value = { Receiver };
+
+    ghost view = { λ r. record { heard = r.history; code = r.interleaver } };
+}
+
+/// The room to gather the cells of a TTI, to count their votes and to decode it.
+#[derive(Drop)]
+struct Ears {
+    cells: Vec<Trit>,
+    votes: Vec<Vote>,
+    decoder: Decoder,
+    ghost cells_room: { length cells.items ≡ 457920 },
+    ghost votes_room: { length votes.items ≡ 131072 },
+}
+
+impl DlReader {
+    /// Takes all memory that receiving wants. No frame is there.
+    pub fn open(alloc: Global, accepted: &Accepted) -> Result<DlReader, NoMemory>
+        ensures missing { IfOk result (λ reader. AreMissing accepted.now 8 reader.heard.frames) }
+        ensures opened { IfOk result (IsReaderOf accepted.now) }
+    {
+        let config = &accepted.config().downlink;
+        Ok(DlReader {
+            history: History::open(alloc, frame_length(config))?,
+            interleaver: Interleaver::open(alloc, code_length(config))?,
+            ears: Ears::open(alloc)?,
+        })
+    }
+
+    /// Takes the radio frame of the next CFN, or that it is missing. The last 8 are held. A frame is kept where its TFCI
+    /// names a combination of the list and it is as long as the downlink's frames (TS 25.212 4.3.3, 4.3.5); otherwise it
+    /// counts as missing.
+    pub fn push(&mut self, accepted: &Accepted, cfn: u8, frame: Option<FrameView<'_>>)
+        requires opened { IsReaderOf accepted.now self.old }
+        requires tfci { HasDownlinkTfci accepted.now frame }
+        ensures kept { Keeps accepted.now frame.entry (kept_at self.new.heard.frames (cfn % 8)) }
+        ensures others { (k : ℕ) → k ≢ cfn % 8 → kept_at self.new.heard.frames k ≡ kept_at self.old.heard.frames k }
+        ensures last { self.new.heard.cfn ≡ cfn }
+        ensures opened { IsReaderOf accepted.now self.new }
+    {
+        match frame {
+            Some(frame) => hear(
+                accepted,
+                &self.interleaver,
+                cfn,
+                frame.tfci,
+                frame.cells,
+                &mut self.history,
+            ),
+            None => self.history.miss(cfn),
+        }
+    }
+
+    /// Reads the TTI of a channel that the last frame ends (TS 25.212 4.2.1 to 4.2.12, read backwards). Where its places lie
+    /// in a frame is told by the frame's own combination. A bad frame leaves the blocks as they were.
+    pub fn read(&mut self, accepted: &Accepted, channel: u8, out: &mut TtiBlocks) -> TtiOutcome
+        requires opened { IsReaderOf accepted.now self.old }
+        requires blocks { HoldsTtis accepted.now.config.downlink.side out.old.room }
+        requires channel { channel < length accepted.now.config.downlink.side.channels }
+        ensures outcome { IsOutcome accepted.now self.old.heard channel out.old result out.new }
+        ensures undamaged { (format : ℕ) (blocks : List Bit) → IsSentTti accepted.now self.old.heard channel format blocks →
+            IsClear accepted.now channel format → IsSentBack format blocks result out.new }
+        ensures room { out.new.room ≡ out.old.room }
+        ensures kept { self.new ≡ self.old }
+    {
+        let side = &accepted.config().downlink.side;
+        match format_of_tti(side, &self.history, channel) {
+            Ok(format) => {
+                self.ears
+                    .read(accepted, &self.history, channel, format, out);
+                TtiOutcome::Blocks
+            }
+            Err(n) => TtiOutcome::BadFrame(n),
+        }
+    }
+}
+
+impl Ears {
+    fn open(alloc: Global) -> Result<Ears, NoMemory> {
+        Ok(Ears {
+            cells: vec![in alloc; Trit::Off; MOST_PLACES]?,
+            votes: no_votes(alloc, MOST_BITS)?,
+            decoder: Decoder::open(alloc)?,
+        })
+    }
+
+    /// Reads the TTI of a channel in a format that all of its frames give it.
+    fn read(
+        &mut self,
+        accepted: &Accepted,
+        history: &History,
+        channel: u8,
+        format: u8,
+        out: &mut TtiBlocks,
+    )
+        requires opened { IsHistoryOf accepted.now history.now }
+        requires blocks { HoldsTtis accepted.now.config.downlink.side out.old.room }
+        requires channel { channel < length accepted.now.config.downlink.side.channels }
+        requires format { IsFormatOf accepted.now.config.downlink.side history.now channel format }
+        ensures read { IsTtiRead accepted.now history.now channel out.new }
+        ensures undamaged { (blocks : List Bit) → IsSentTti accepted.now history.now channel format blocks →
+            IsClear accepted.now channel format → ArrivesAs blocks out.new }
+        ensures number { out.new.format ≡ format }
+        ensures room { out.new.room ≡ out.old.room }
+    {
+        read_tti(
+            accepted,
+            history,
+            channel,
+            format,
+            &mut self.cells,
+            &mut self.votes,
+            &mut self.decoder,
+            out,
+        );
+    }
+}
+
+/// Gathers the cells of a TTI, counts their votes and decodes it.
+fn read_tti(
+    accepted: &Accepted,
+    history: &History,
+    channel: u8,
+    format: u8,
+    cells: &mut [Trit],
+    votes: &mut [Vote],
+    decoder: &mut Decoder,
+    out: &mut TtiBlocks,
+)
+    requires opened { IsHistoryOf accepted.now history.now }
+    requires cells { length cells.old ≡ 457920 }
+    requires votes { length votes.old ≡ 131072 }
+    requires blocks { HoldsTtis accepted.now.config.downlink.side out.old.room }
+    requires channel { channel < length accepted.now.config.downlink.side.channels }
+    requires format { IsFormatOf accepted.now.config.downlink.side history.now channel format }
+    ensures read { IsTtiRead accepted.now history.now channel out.new }
+    ensures undamaged { (blocks : List Bit) → IsSentTti accepted.now history.now channel format blocks →
+        IsClear accepted.now channel format → ArrivesAs blocks out.new }
+    ensures number { out.new.format ≡ format }
+    ensures room { out.new.room ≡ out.old.room }
+{
+    // A radio frame has room for the places of its channels in each combination.
+    let (_config, _plan) = (accepted.config(), accepted.downlink_plan());
+    let trch = channel_of(accepted, channel);
+    let kind = format_of(trch, format);
+    let pattern = pattern_of(accepted, channel, format);
+    let places = places_of(accepted, channel, format) as usize;
+    let cells = &mut cells[..places * trch.frames as usize];
+    hear_tti(accepted, history, channel, format, cells);
+    let votes = &mut votes[..pattern.len as usize];
+    count_votes(&pattern, &cells[..kept(&pattern) as usize], votes);
+    decoder.read(trch, format, kind, votes, out);
+}
+
+fn no_votes(alloc: Global, count: usize) -> Result<Vec<Vote>, NoMemory>
+    ensures { IfOk result (λ votes. length votes.items ≡ count) }
+{
+    match vec![in alloc; Vote { zeros: 0, ones: 0 }; count] {
+        Ok(votes) => Ok(votes),
+        Err(_) => Err(NoMemory),
+    }
+}

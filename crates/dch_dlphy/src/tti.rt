@@ -1,0 +1,163 @@
+ghost use Rattle.std.specs.Prelude.{◌≡◌, ◌≢◌, ◌<◌, ◌≤◌, ◌*◌, ℕ, length, take, IfOk};
+ghost use Rattle.dch_types.specs.Limits.{IsChannel};
+ghost use Rattle.dch_types.specs.Lengths.{tti_bits};
+ghost use Rattle.dch_types.specs.Parts.{channel_at, format_at};
+ghost use Rattle.dch_match.specs.Patterns.{IsWellFormed, copies_below};
+ghost use Rattle.dch_coding.specs.Ttis.{IsCodedTti};
+ghost use Rattle.dch_accept.specs.Blocks.{bits_of};
+ghost use Rattle.dch_loaded.specs.Loaded.{loaded_at};
+ghost use Rattle.dch_dlphy.specs.Loaded.{IsLoaded, IsMatched, IsTtiOf};
+
+use crate::fill::fill_front;
+use crate::parts::{channel_of, code_length, format_at, pattern_of, places_of};
+use dch_accept::Accepted;
+use dch_bits::{Bit, NoMemory, Trit};
+use dch_coding::TtiCoder;
+use dch_frame::Interleaver;
+use dch_loaded::{MOST_CELLS, Slot, slots};
+use dch_match::Pattern;
+use dch_types::{Format, Trch};
+use std::alloc::Global;
+use std::marker::Model;
+
+/// The most coded bits of a TTI.
+const MOST_BITS: usize = 131_072;
+
+/// The room in which a TTI is coded and filled.
+#[derive(Drop)]
+struct Room {
+    coder: TtiCoder,
+    coded: Vec<Bit>,
+    shown: Vec<Trit>,
+    tti: Vec<Trit>,
+    ghost coded_room: { length coded.items ≡ 131072 },
+    ghost shown_room: { length shown.items ≡ 131072 },
+    ghost tti_room: { length tti.items ≡ 457920 },
+}
+
+impl Room {
+    fn open(alloc: Global) -> Result<Room, NoMemory> {
+        Ok(Room {
+            coder: TtiCoder::open(alloc)?,
+            coded: vec![in alloc; Bit::Zero; MOST_BITS]?,
+            shown: vec![in alloc; Trit::Off; MOST_BITS]?,
+            tti: vec![in alloc; Trit::Off; MOST_CELLS]?,
+        })
+    }
+
+    /// Codes the blocks of a channel, fills their TTI, and loads it.
+    fn load(
+        &mut self,
+        channel: &Trch,
+        format: u8,
+        pattern: &Pattern,
+        places: u32,
+        blocks: &[Bit],
+        slot: &mut Slot,
+    )
+        requires channel { IsChannel channel.now }
+        requires format { format < length channel.now.formats }
+        requires blocks { length blocks.now ≡ bits_of (format_at channel.now format) }
+        requires pattern { IsWellFormed pattern.now }
+        requires len { pattern.now.len ≡ tti_bits channel.now (format_at channel.now format) }
+        requires fits { copies_below pattern.now.kind pattern.now.len ≤ channel.now.frames * places }
+        requires room { channel.now.frames * places ≤ 457920 }
+        ensures { IsMatched channel.now format (record { pattern = pattern.now; cells = places }) blocks.now slot.new }
+    {
+        let kind = format_at(channel, format);
+        let bits = code_front(&mut self.coder, channel, kind, blocks, &mut self.coded);
+        let frames = channel.frames as usize;
+        let count = frames * places as usize;
+        fill_front(
+            pattern,
+            &self.coded[..bits],
+            &mut self.shown,
+            &mut self.tti,
+            count,
+        );
+        slot.load(format, frames, &self.tti[..count]);
+    }
+}
+
+/// Writes the coded bits of a TTI to the front of `out`, and answers how many there are.
+fn code_front(
+    coder: &mut TtiCoder,
+    channel: &Trch,
+    format: &Format,
+    blocks: &[Bit],
+    out: &mut [Bit],
+) -> usize
+    requires limit { tti_bits channel.now format.now ≤ 131072 }
+    requires blocks { length blocks.now ≡ bits_of format.now }
+    requires room { length out.old ≡ 131072 }
+    ensures long { result ≡ tti_bits channel.now format.now }
+    ensures coded { IsCodedTti channel.now format.now blocks.now (take result out.new) }
+{
+    let bits = channel.tti_bits(format) as usize;
+    coder.code(channel, format, blocks, &mut out[..bits]);
+    bits
+}
+
+/// The running TTIs of all downlink channels, coded and ready to be sent.
+#[derive(Drop)]
+pub struct DlTti {
+    room: Room,
+    interleaver: Interleaver,
+    slots: Vec<Slot>,
+}
+
+impl Model for DlTti {
+    ghost use Rattle.dch_dlphy.specs.Loaded.{Running};
+
+    ghost Value = { Running };
+
+    ghost view = { λ t. record { loaded = t.slots.items; code = t.interleaver } };
+}
+
+impl DlTti {
+    /// Takes all memory that coding and sending want. Nothing is loaded.
+    pub fn open(alloc: Global, accepted: &Accepted) -> Result<DlTti, NoMemory>
+        ensures { IfOk result (IsTtiOf accepted.now) }
+    {
+        let config = &accepted.config().downlink;
+        Ok(DlTti {
+            room: Room::open(alloc)?,
+            interleaver: Interleaver::open(alloc, code_length(config))?,
+            slots: slots(alloc, config.side.channels.len())?,
+        })
+    }
+
+    /// Loads the blocks of a channel for its next TTI: as many as the format has, one after another. They replace those
+    /// that were loaded for that channel.
+    pub fn load(&mut self, accepted: &Accepted, channel: u8, format: u8, blocks: &[Bit])
+        requires opened { IsTtiOf accepted.now self.old }
+        requires channel { channel < length accepted.now.config.downlink.side.channels }
+        requires format { format < length (channel_at accepted.now.config.downlink.side channel).formats }
+        requires blocks { length blocks.now ≡ bits_of (format_at (channel_at accepted.now.config.downlink.side channel) format) }
+        ensures opened { IsTtiOf accepted.now self.new }
+        ensures loaded { IsLoaded accepted.now channel format blocks.now (loaded_at self.new.loaded channel) }
+        ensures same { (i : ℕ) → i ≢ channel → loaded_at self.new.loaded i ≡ loaded_at self.old.loaded i }
+    {
+        let trch = channel_of(accepted, channel);
+        let pattern = pattern_of(accepted, channel, format);
+        let places = places_of(accepted, channel, format);
+        let slot = &mut self.slots[channel as usize];
+        self.room.load(trch, format, &pattern, places, blocks, slot);
+    }
+}
+
+impl DlTti {
+    /// What is loaded of each channel.
+    pub(crate) fn slots(&self) -> &[Slot]
+        ensures { result.now ≡ self.now.loaded }
+    {
+        &self.slots
+    }
+
+    /// The second interleaver of a code.
+    pub(crate) fn interleaver(&self) -> &Interleaver
+        ensures { result.now ≡ self.now.code }
+    {
+        &self.interleaver
+    }
+}

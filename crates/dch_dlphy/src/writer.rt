@@ -1,0 +1,114 @@
+ghost use Rattle.std.specs.Prelude.{◌≡◌, ◌<◌, ◌≤◌, ◌+◌, ◌*◌, ◌^◌, ℕ, length, slice_index_or};
+ghost use Rattle.dch_bits.specs.declared.bit.Trit.TheVariants.{Off};
+ghost use Rattle.dch_types.specs.declared.channel.Dir.TheVariants.{Down};
+ghost use Rattle.dch_match.specs.Downlinks.{ndata_of};
+ghost use Rattle.dch_accept.specs.Frames.{IsOpenedFor};
+ghost use Rattle.dch_loaded.specs.Loaded.{AreFormats};
+ghost use Rattle.dch_dlphy.specs.Loaded.{AreLong, IsTtiOf};
+ghost use Rattle.dch_dlphy.specs.Frames.{IsFrame, frame_cell, multiplexed_cell, places_of, sent_cell};
+
+use crate::fill::leave_off;
+use crate::parts::{frame_length, frames_of, places_in};
+use crate::tti::DlTti;
+use dch_accept::{Accepted, PhyFrame};
+use dch_bits::Trit;
+use dch_loaded::Slot;
+use dch_tfci::send;
+
+/// Writes the radio frame of a CFN in a combination: its TFCI, and of each channel the radio frame of its TTI that is on
+/// (TS 25.212 4.2.6 to 4.2.12, 4.3.3, 4.3.5).
+pub fn write(accepted: &Accepted, tti: &DlTti, cfn: u8, combination: u16, out: &mut PhyFrame)
+    requires opened { IsTtiOf accepted.now tti.now }
+    requires frame { IsOpenedFor accepted.now.config Down out.old }
+    requires combination { combination < length accepted.now.config.downlink.side.combinations }
+    requires formats { AreFormats accepted.now.config.downlink.side combination tti.now.loaded }
+    ensures written { IsFrame accepted.now tti.now.loaded cfn combination out.new }
+    ensures frame { IsOpenedFor accepted.now.config Down out.new }
+{
+    // A good configuration has at most 128 combinations.
+    let config = accepted.config();
+    let cells = frame_length(&config.downlink);
+    out.shape(cells);
+    send(combination, out.tfci_mut());
+    write_cells(accepted, tti, cfn, combination, cells, out.workspace_mut());
+}
+
+/// Writes the cells of a radio frame, by way of the multiplexed cells behind them.
+fn write_cells(
+    accepted: &Accepted,
+    tti: &DlTti,
+    cfn: u8,
+    combination: u16,
+    count: usize,
+    out: &mut [Trit],
+)
+    requires opened { IsTtiOf accepted.now tti.now }
+    requires combination { combination < length accepted.now.config.downlink.side.combinations }
+    requires formats { AreFormats accepted.now.config.downlink.side combination tti.now.loaded }
+    requires count { count ≡ ndata_of accepted.now.config.downlink }
+    requires code { 0 < tti.now.code }
+    requires small { count ≤ 57240 }
+    requires room { length out.old ≡ 2 * count }
+    ensures { (k : ℕ) → k < count → slice_index_or out.new k Off ≡ frame_cell accepted.now tti.now.loaded cfn combination k }
+{
+    let (cells, stream) = out.split_at_mut(count);
+    multiplex(accepted, tti.slots(), cfn, combination, stream);
+    tti.interleaver().write(stream, cells);
+}
+
+/// Writes the channels' cells one after another. Nothing is sent in the places past the last of them (the second insertion
+/// of DTX indications, TS 25.212 4.2.9.2).
+fn multiplex(accepted: &Accepted, slots: &[Slot], cfn: u8, combination: u16, out: &mut [Trit])
+    requires long { AreLong accepted.now slots.now }
+    requires combination { combination < length accepted.now.config.downlink.side.combinations }
+    requires formats { AreFormats accepted.now.config.downlink.side combination slots.now }
+    requires room { length out.old ≡ ndata_of accepted.now.config.downlink }
+    requires small { length out.old ≤ 57240 }
+    ensures { (p : ℕ) → p < length out.new → slice_index_or out.new p Off ≡ multiplexed_cell accepted.now slots.now cfn combination (length accepted.now.config.downlink.side.channels) p }
+{
+    let channels = accepted.config().downlink.side.channels.len();
+    let mut at = 0;
+    for i in 0..channels {
+        let end = at + places_in(accepted, combination, i as u8);
+        write_channel(
+            accepted,
+            slots,
+            cfn,
+            combination,
+            i as u8,
+            &mut out[at..end],
+        );
+        at = end;
+    }
+    let (_sent, rest) = out.split_at_mut(at);
+    leave_off(rest);
+}
+
+/// Writes what a channel sends: the segment of one radio frame.
+fn write_channel(
+    accepted: &Accepted,
+    slots: &[Slot],
+    cfn: u8,
+    combination: u16,
+    i: u8,
+    out: &mut [Trit],
+)
+    requires long { AreLong accepted.now slots.now }
+    requires combination { combination < length accepted.now.config.downlink.side.combinations }
+    requires formats { AreFormats accepted.now.config.downlink.side combination slots.now }
+    requires channel { i < length accepted.now.config.downlink.side.channels }
+    requires room { length out.old ≡ places_of accepted.now combination i }
+    ensures { (q : ℕ) → q < length out.new → slice_index_or out.new q Off ≡ sent_cell accepted.now slots.now cfn combination i q }
+{
+    let n = cfn % frames_of(&accepted.config().downlink.side, i);
+    copy_segment(slots[i as usize].cells(), n, out);
+}
+
+/// Copies the cells of radio frame `n` of a TTI whose frames have so many cells as `out`.
+fn copy_segment(cells: &[Trit], n: u8, out: &mut [Trit])
+    requires { n * length out.old + length out.old ≤ length cells.now }
+    ensures { (q : ℕ) → q < length out.new → slice_index_or out.new q Off ≡ slice_index_or cells.now (n * length out.new + q) Off }
+{
+    let from = n as usize * out.len();
+    out.copy_from_slice(&cells[from..from + out.len()]);
+}
