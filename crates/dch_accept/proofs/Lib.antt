@@ -1,2 +1,4 @@
+pub mod IdleFormats
 pub mod MorePlans
 pub mod Overwritten
+pub mod Unpacked

@@ -1,10 +1,11 @@
 -- What is left of a list whose front was lent and written over.
-use Rattle.std.proofs.Common.{◌≡◌, ◌≤◌, ℕ, zero, suc, List, [], ◌∷◌, ◌++◌, length, take, drop, arith, refl, ap, sym, ◌∙◌, length-append, length-drop, append_assoc, ◌+◌, ◌-◌}
+use Rattle.std.proofs.Common.{◌≡◌, ◌≤◌, ℕ, zero, suc, List, [], ◌∷◌, ◌++◌, length, take, drop, arith, refl, ap, sym, ◌∙◌, length-append, length-drop, append_assoc, append-nil, ◌+◌, ◌-◌}
+use Rattle.std.proofs.Math.Seq.{take-length, drop-length}
 use Rattle.std.specs.Prelude.{slice_set}
 use Rattle.std.proofs.lemmas.List.{take-append-le, length-take-le, drop-drop, drop-take}
 use Rattle.dch_accept.specs.Frames.{overwritten}
 
-take_twice : {X : Type 0} (k n : ℕ) (xs : List X) → k ≤ n → take k (take n xs) ≡ take k xs
+pub take_twice : {X : Type 0} (k n : ℕ) (xs : List X) → k ≤ n → take k (take n xs) ≡ take k xs
 take_twice zero n xs most = refl
 take_twice (suc k) zero xs most = absurd (omega arith)
 take_twice (suc k) (suc n) [] most = refl
@@ -49,3 +50,9 @@ take-set zero xs i x = refl
 take-set (suc k) [] i x = refl
 take-set (suc k) (y ∷ xs) zero x = refl
 take-set (suc k) (y ∷ xs) (suc i) x = ap (λ ys. y ∷ ys) (take-set k xs i x)
+
+-- a list that was written over whole
+pub whole_written : {X : Type 0} (n : ℕ) (xs ws : List X) → n ≡ length xs → length ws ≡ length xs → take n (ws ++ drop (length ws) xs) ≡ ws
+whole_written n xs ws long same =
+    let none : drop (length ws) xs ≡ [] = ap (λ k. drop k xs) same ∙ drop-length xs in
+    ap (λ zs. take n (ws ++ zs)) none ∙ ap (take n) (append-nil ws) ∙ ap (λ k. take k ws) (long ∙ sym same) ∙ take-length ws

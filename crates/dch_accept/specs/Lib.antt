@@ -5,4 +5,7 @@ pub mod Blocks
 pub mod FrameLending
 pub mod FrameRoom
 pub mod Frames
+pub mod HeldSets
+pub mod Padded
 pub mod Plans
+pub mod Reports

@@ -6,6 +6,7 @@ ghost use Rattle.dch_match.specs.Uplinks.{IsPlan};
 ghost use Rattle.dch_match.specs.Downlinks.{IsDownlinkPlan};
 ghost use Rattle.dch_accept.specs.Plans.{plan_at};
 ghost use Rattle.dch_accept.specs.Answers.{Accepts, Plans};
+ghost use Rattle.dch_accept.specs.Reports.{step_bytes};
 
 use crate::refusal::Refusal;
 use dch_match::{DownlinkPlan, MatchError, UplinkPlan, downlink, uplink};
@@ -92,5 +93,12 @@ impl Accepted {
         ensures { result ≡ has_ct self.now.config dir channel }
     {
         dch_config::has_ct(&self.config, dir, channel)
+    }
+
+    /// How many bytes of report one step of a node writes at most.
+    pub fn step_bytes(&self) -> usize
+        ensures { result ≡ step_bytes self.now.config }
+    {
+        4_000_000 + 2_500_000 * self.config.bearers.len()
     }
 }

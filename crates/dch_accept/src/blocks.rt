@@ -1,15 +1,17 @@
-ghost use Rattle.std.specs.Prelude.{◌≡◌, ◌<◌, ◌≤◌, ◌*◌, ◌^◌, [], length, slice_set, slice_index_or, IfOk, false};
+ghost use Rattle.std.specs.Prelude.{◌≡◌, ◌<◌, ◌≤◌, ◌*◌, ◌^◌, ◌+◌, ℕ, [], length, take, drop, slice_set, slice_index_or, IfOk, false};
 ghost use Rattle.std.specs.Borrow.{sem};
+ghost use Rattle.std.specs.Int.{div_ceil};
 ghost use Rattle.dch_types.specs.Limits.{IsSide};
 ghost use Rattle.dch_types.specs.Parts.{channel_at, format_at};
 ghost use Rattle.dch_config.specs.Bearers.{side_of};
 ghost use Rattle.dch_accept.specs.Blocks.{block_at, bits_of, zero_blocks, HoldsFormats, HoldsTtis};
+ghost use Rattle.dch_accept.specs.Padded.{bits_from, format_octets, IsUnpacked};
 ghost use Rattle.dch_accept.specs.BlockLending.{LendsBits, LendsBlock};
 ghost use Rattle.dch_accept.specs.declared.blocks.TheConstants.{MOST_BLOCKS};
 
 use crate::accepted::Accepted;
 use crate::clear::clear;
-use dch_bits::{Bit, NoMemory};
+use dch_bits::{Bit, NoMemory, unpack};
 use dch_types::{Dir, Format, Side, Trch};
 use std::alloc::Global;
 use std::marker::Model;
@@ -60,6 +62,13 @@ impl TtiBlocks {
             Dir::Up => most_bits(&config.uplink.side),
             Dir::Down => most_bits(&config.downlink.side),
         };
+        TtiBlocks::with_room(alloc, room)
+    }
+
+    /// Takes the memory for so many bits. The new blocks are none, in format 0.
+    pub(crate) fn with_room(alloc: Global, room: usize) -> Result<TtiBlocks, NoMemory>
+        ensures { IfOk result (λ blocks. blocks ≡ record { format = 0; size = 0; bits = []; good = []; room = room }) }
+    {
         Ok(TtiBlocks {
             format: 0,
             count: 0,
@@ -125,7 +134,8 @@ impl TtiBlocks {
         self.clear(format, format_of(side, channel, format));
     }
 
-    fn clear(&mut self, number: u8, format: &Format)
+    /// Takes a format, with as many blocks as it has. All are zeros and good.
+    pub(crate) fn clear(&mut self, number: u8, format: &Format)
         requires few { format.now.number ≤ 64 }
         requires room { bits_of format.now ≤ self.old.room }
         ensures { self.new ≡ zero_blocks number format.now self.old.room }
@@ -148,6 +158,34 @@ impl TtiBlocks {
         self.format = number;
         self.count = usize::from(format.number);
         self.size = usize::from(format.size);
+    }
+
+    /// Takes a copy of other blocks.
+    pub(crate) fn copy_from(&mut self, other: &TtiBlocks)
+        requires { length other.now.bits ≤ self.old.room }
+        ensures { self.new ≡ record other.now { room = self.old.room } }
+    {
+        let bits = other.bits();
+        self.bits.slice_mut(..bits.len()).copy_from_slice(bits);
+        self.marks
+            .slice_mut(..other.count)
+            .copy_from_slice(&other.marks[..other.count]);
+        self.format = other.format;
+        self.count = other.count;
+        self.size = other.size;
+    }
+
+    /// Takes blocks in format `number` from octets in which each is padded to whole octets. All are good.
+    pub(crate) fn unpack(&mut self, number: u8, format: &Format, octets: &[u8])
+        requires few { format.now.number ≤ 64 }
+        requires room { bits_of format.now ≤ self.old.room }
+        requires long { length octets.now ≡ format_octets format.now }
+        ensures unpacked { IsUnpacked number format.now octets.now self.new }
+        ensures room { self.new.room ≡ self.old.room }
+    {
+        self.resize(number, format);
+        clear(&mut self.marks, self.count, true);
+        unpack_blocks(octets, self.size, self.count, &mut self.bits);
     }
 
     /// The bits of block `i`, to be written.
@@ -177,6 +215,28 @@ impl TtiBlocks {
     }
 }
 
+/// Reads so many blocks of a size from octets in which each is padded to whole octets, to the front of `out`.
+fn unpack_blocks(octets: &[u8], size: usize, count: usize, out: &mut [Bit])
+    requires octets { length octets.now ≡ count * div_ceil size 8 }
+    requires room { count * size ≤ length out.old }
+    ensures { (b : ℕ) → b < count → take size (drop (b * size) out.new) ≡ bits_from octets.now (8 * (b * div_ceil size 8)) size }
+{
+    let width = size.div_ceil(8);
+    for b in 0..count {
+        unpack_block(&octets[b * width..b * width + width], out, b * size, size);
+    }
+}
+
+/// Reads a block from its octets to a place of `out`.
+fn unpack_block(octets: &[u8], out: &mut [Bit], at: usize, size: usize)
+    requires octets { length octets.now ≡ div_ceil size 8 }
+    requires room { at + size ≤ length out.old }
+    ensures block { take size (drop at out.new) ≡ bits_from octets.now 0 size }
+    ensures before { take at out.new ≡ take at out.old }
+{
+    unpack(octets, &mut out[at..at + size]);
+}
+
 /// A format of a channel.
 fn format_of(side: &Side, channel: u8, format: u8) -> &Format
     requires side { IsSide side.now }
@@ -203,7 +263,7 @@ fn most_bits(side: &Side) -> usize
     most
 }
 
-fn most_of_channel(channel: &Trch) -> usize
+pub(crate) fn most_of_channel(channel: &Trch) -> usize
     ensures holds { HoldsFormats channel.now (length channel.now.formats) result }
     ensures small { result < 2 ^ 32 }
 {

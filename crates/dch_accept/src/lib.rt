@@ -6,11 +6,13 @@ mod blocks;
 mod clear;
 mod frame;
 mod refusal;
+mod set_blocks;
 
 pub use accepted::{Accepted, accept};
 pub use blocks::TtiBlocks;
 pub use frame::{FrameView, PhyFrame};
 pub use refusal::Refusal;
+pub use set_blocks::SetBlocks;
 
 #[cfg(test)]
 mod tests;

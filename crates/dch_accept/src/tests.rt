@@ -1,4 +1,4 @@
-use crate::{Accepted, PhyFrame, Refusal, TtiBlocks, accept};
+use crate::{Accepted, PhyFrame, Refusal, SetBlocks, TtiBlocks, accept};
 use dch_bits::{Bit, Trit};
 use dch_config::read;
 use dch_types::{Dir, Format};
@@ -41,6 +41,7 @@ fn plans_and_shared_channels(rt: HostRuntime) -> Result<(), Fail> {
     assert!(rt; accepted.has_ct(Dir::Up, 3));
     assert!(rt; !accepted.has_ct(Dir::Down, 2));
     let _plan = accepted.downlink_plan();
+    assert_eq!(rt; accepted.step_bytes(), 9_000_000);
     Ok(())
 }
 
@@ -91,5 +92,15 @@ fn blocks_written_and_marked(rt: HostRuntime) -> Result<(), Fail> {
     assert_eq!(rt; (blocks.format(), blocks.count()), (1, 2));
     blocks.bits_mut().fill(Bit::One);
     assert_eq!(rt; blocks.bits().len(), 0);
+    Ok(())
+}
+
+#[test]
+fn blocks_of_a_set(rt: HostRuntime) -> Result<(), Fail> {
+    let accepted = accepted(rt.alloc())?;
+    let mut set = SetBlocks::open(rt.alloc(), &accepted, Dir::Up, 1)?;
+    assert_eq!(rt; set.set(), 1);
+    set.clear();
+    assert_eq!(rt; set.set(), 1);
     Ok(())
 }

@@ -1,0 +1,11 @@
+pub mod Sums
+pub mod Fronts
+pub mod Checks
+pub mod Headers
+pub mod Transfers
+pub mod Written
+pub mod Unpacking
+pub mod Kept
+pub mod Refused
+pub mod Weights
+pub mod Back

@@ -1,0 +1,17 @@
+use Rattle.std.proofs.Common.{List, ℕ, ap, subst}
+use Rattle.std.specs.Prelude.{Bool, IfErr}
+use Rattle.dch_types.specs.declared.channel.Dir.TheVariants.{Down}
+use Rattle.dch_types.specs.declared.channel.Side.{Side}
+use Rattle.dch_types.specs.declared.config.Config.{Config}
+use Rattle.dch_config.specs.Bearers.{side_of}
+use Rattle.dch_iub.specs.Answers.{IsFault}
+use Rattle.dch_iub.proofs.Refused.{no_form_of}
+use Rattle.dch_iub.proofs.read.read_dl.Goals as goal
+
+pub returns-clause-no_form : goal.returns-clause-no_form
+returns-clause-no_form c =
+    let config = c.args.accepted.now.config in
+    let frame : List ℕ = c.args.frame.now in
+    no_form_of config Down c.args.set frame c.receive_dl.result
+    (subst (λ (side : Side). IfErr c.receive_dl.result (IsFault Down side config.payload_check c.args.set frame)) c.side_of-side.ensures.value
+    (subst (λ (g : Config). IfErr c.receive_dl.result (IsFault Down c.side_of-side.result.now g.payload_check c.args.set frame)) c.config.ensures.value c.receive_dl.ensures.refused))
