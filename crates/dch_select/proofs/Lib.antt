@@ -1,0 +1,5 @@
+pub mod Sharing
+pub mod Lists
+pub mod Counting
+pub mod Order
+pub mod Idle

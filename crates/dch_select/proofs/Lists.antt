@@ -1,0 +1,22 @@
+-- Lists of eight numbers.
+use Rattle.std.proofs.Common.{◌≡◌, ◌<◌, ◌+◌, ℕ, List, [], ◌∷◌, get_or, length, sym, ◌∙◌, arith}
+use Rattle.std.specs.Prelude.{map}
+use Rattle.std.specs.List.{range_with_len}
+use Rattle.std.proofs.lemmas.List.{get_or-replicate, ext_get_or}
+use Rattle.std.proofs.lemmas.List.FromFn.{get_or-map-range_with_len, length-map-range_with_len}
+use Rattle.dch_select.specs.Asked.{Asked}
+use Rattle.dch_select.specs.Best.{carried, carried_below}
+
+-- a list of zeros
+pub zero_at : (q : ℕ) → q < 8 → ◌≡◌ {A = ℕ} (get_or {A = ℕ} (0 ∷ 0 ∷ 0 ∷ 0 ∷ 0 ∷ 0 ∷ 0 ∷ 0 ∷ []) q 0) 0
+zero_at q less = get_or-replicate 8 q 0 0 less
+
+-- the list of bits carried, from its numbers
+pub carried_is : (asked : Asked) (c : ℕ) (xs : List ℕ) → length xs ≡ 8
+    → ((q : ℕ) → q < 8 → get_or xs q 0 ≡ carried_below asked c (q + 1) (length asked.side.channels)) → xs ≡ carried asked c
+unfolding carried
+carried_is asked c xs eight each =
+    let bits : ℕ → ℕ = λ priority. carried_below asked c priority (length asked.side.channels) in
+    ext_get_or 0 xs (map bits (range_with_len 1 8))
+    (eight ∙ sym (length-map-range_with_len bits 1 8))
+    (λ q inside. each q (omega arith) ∙ sym (get_or-map-range_with_len bits 1 8 q (q + 1) 0 (omega arith) (omega arith)))

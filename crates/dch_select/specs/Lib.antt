@@ -1,0 +1,5 @@
+pub mod Asked
+pub mod Best
+pub mod Candidates
+pub mod Choices
+pub mod Offered

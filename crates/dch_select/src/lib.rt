@@ -1,0 +1,15 @@
+//! The choice of a transport format combination for the channels whose TTI starts (TS 25.321 11.4).
+#![tactic(auto)]
+
+mod best;
+mod candidate;
+mod carried;
+mod choosing;
+mod head;
+mod moment;
+
+pub use choosing::choose;
+pub use head::Head;
+
+#[cfg(test)]
+mod tests;

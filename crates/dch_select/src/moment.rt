@@ -1,0 +1,147 @@
+ghost use Rattle.std.specs.Prelude.{◌≡◌, ◌<◌, ◌≤◌, ◌==◌, length, position, unwrap_or};
+ghost use Rattle.dch_types.specs.Limits.{IsChannel, is_idle, idle_format};
+ghost use Rattle.dch_types.specs.Parts.{channel_at, format_at, format_number};
+ghost use Rattle.dch_select.specs.Asked.{starts, format_in};
+ghost use Rattle.dch_select.specs.Offered.{offered, fits};
+
+use crate::head::Head;
+use dch_types::{Bearer, Dir, Format, Side, Trch};
+use std::marker::Model;
+
+/// A radio frame for which a combination is chosen.
+#[derive(Drop)]
+pub(crate) struct Moment<'a> {
+    pub(crate) dir: Dir,
+    pub(crate) side: &'a Side,
+    pub(crate) bearers: &'a [Bearer],
+    pub(crate) cfn: u8,
+    pub(crate) running: u16,
+    pub(crate) offers: &'a [Head],
+    pub(crate) blocked: &'a [bool],
+}
+
+impl<'a> Model for Moment<'a> {
+    ghost use Rattle.dch_select.specs.Asked.{Asked, IsAsked};
+
+    ghost Value = { Asked };
+
+    ghost view = { λ m. record { dir = m.dir; side = m.side.now; bearers = m.bearers.now; cfn = m.cfn; running = m.running; offers = m.offers.now; blocked = m.blocked.now } };
+
+    ghost invariant = { λ m. IsAsked (record { dir = m.dir; side = m.side.now; bearers = m.bearers.now; cfn = m.cfn; running = m.running; offers = m.offers.now; blocked = m.blocked.now }) };
+}
+
+impl Moment<'_> {
+    /// The channels of the direction.
+    pub(crate) fn channels(&self) -> &[Trch]
+        ensures value { result.now ≡ self.now.side.channels }
+        ensures few { length result.now ≤ 8 }
+    {
+        self.side.channels.as_slice()
+    }
+
+    /// Whether a TTI of channel `i` starts.
+    pub(crate) fn starts(&self, i: usize) -> bool
+        requires { i < length self.now.side.channels }
+        ensures { result ≡ starts self.now i }
+    {
+        self.cfn % self.channels()[i].frames == 0
+    }
+
+    /// The number of the format of channel `i` in a combination.
+    pub(crate) fn number(&self, combination: usize, i: usize) -> u8
+        requires combination { combination < length self.now.side.combinations }
+        requires channel { i < length self.now.side.channels }
+        ensures value { result ≡ format_number self.now.side combination i }
+        ensures within { result < length (channel_at self.now.side i).formats }
+    {
+        self.side.combinations.as_slice()[combination]
+            .formats
+            .as_slice()[i]
+    }
+
+    /// The format of channel `i` in a combination.
+    pub(crate) fn format(&self, combination: usize, i: usize) -> Format
+        requires combination { combination < length self.now.side.combinations }
+        requires channel { i < length self.now.side.channels }
+        ensures value { result ≡ format_in self.now combination i }
+        ensures few { result.number ≤ 64 }
+        ensures short { result.size ≤ 5000 }
+    {
+        format_of(self.channel(i), self.number(combination, i))
+    }
+
+    /// Channel `i`.
+    fn channel(&self, i: usize) -> &Trch
+        requires { i < length self.now.side.channels }
+        ensures value { result.now ≡ channel_at self.now.side i }
+        ensures good { IsChannel result.now }
+    {
+        &self.side.channels.as_slice()[i]
+    }
+
+    /// The number of the idle format of channel `i`.
+    pub(crate) fn idle(&self, i: usize) -> usize
+        requires { i < length self.now.side.channels }
+        ensures { result ≡ idle_format (channel_at self.now.side i) }
+    {
+        idle_format(&self.channels()[i])
+    }
+
+    /// The blocks of this size that a bearer has for channel `i`.
+    #[tactic(auto, unfolding(crate::specs::Offered::offered))]
+    pub(crate) fn offered(&self, i: usize, size: u16, bearer: usize) -> u16
+        requires { bearer < length self.now.bearers }
+        ensures { result ≡ offered self.now i size bearer }
+    {
+        if self.fits(i, size, bearer) {
+            self.offers[bearer].count
+        } else {
+            0
+        }
+    }
+
+    fn fits(&self, i: usize, size: u16, bearer: usize) -> bool
+        requires { bearer < length self.now.bearers }
+        ensures { result ≡ fits self.now i size bearer }
+    {
+        let number = match self.dir {
+            Dir::Up => self.bearers[bearer].up,
+            Dir::Down => self.bearers[bearer].down,
+        };
+        match number {
+            None => false,
+            Some(channel) => channel as usize == i && self.offers[bearer].size == size,
+        }
+    }
+}
+
+/// A format of a channel.
+fn format_of(channel: &Trch, format: u8) -> Format
+    requires good { IsChannel channel.now }
+    requires there { format < length channel.now.formats }
+    ensures value { result ≡ format_at channel.now format }
+    ensures few { result.number ≤ 64 }
+    ensures short { result.size ≤ 5000 }
+{
+    channel.formats.as_slice()[format as usize]
+}
+
+/// The number of the idle format of a channel: its first one in which no bit is sent.
+fn idle_format(channel: &Trch) -> usize
+    ensures { result ≡ idle_format channel.now }
+{
+    position_of_idle(channel.formats.as_slice()).unwrap_or(0)
+}
+
+fn position_of_idle(formats: &[Format]) -> Option<usize>
+    ensures { result ≡ position is_idle formats.now }
+{
+    formats.iter().position(|format| is_idle(format))
+}
+
+/// Whether no bit is sent in a format.
+pub(crate) fn is_idle(format: &Format) -> bool
+    ensures { result ≡ is_idle format.now }
+{
+    u32::from(format.number) * u32::from(format.size) == 0
+}
