@@ -1,0 +1,9 @@
+use Rattle.std.proofs.Common.{◌≡◌, ◌≤◌, ◌*◌}
+use Rattle.dch_legal.specs.Counted.{total, ways_with}
+use Rattle.dch_legal.proofs.counting.sum.Given as goal
+
+abbrev pub invariant-loop-combination : goal.invariant-loop-combination
+invariant-loop-combination l = record {
+  sum : l.sum ≡ total (ways_with l.side l.channel l.format l.frame l.previous) l.combination;
+  small : l.sum ≤ l.combination * 562949953421312;
+}
