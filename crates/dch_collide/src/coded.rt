@@ -1,0 +1,155 @@
+ghost use Rattle.std.specs.Prelude.{◌≡◌, ℕ, ◌<◌, ◌≤◌, ◌+◌, ◌*◌, List, false, true, length, slice_index_or};
+ghost use Rattle.dch_bits.specs.declared.bit.Bit.{Bit};
+ghost use Rattle.dch_conv.specs.Conv.{coded_length, outputs};
+ghost use Rattle.dch_collide.specs.Collisions.{copies_kept, IsFirstCollision, NoneCollide};
+ghost use Rattle.dch_collide.specs.Hidden.{coding_of, is_lost, IsHidden, IsFirstHidden};
+
+use crate::votes::{fill, removed};
+use dch_bits::{Bit, Vote};
+use dch_conv::Rate;
+use dch_trellis::Trellis;
+
+/// Whether two blocks of a rate collide. The first of them is looked for only where two quicker tests let it.
+pub fn find_coded(
+    trellis: &mut Trellis,
+    rate: Rate,
+    filler: usize,
+    kept: &[bool],
+    votes: &mut [Vote],
+    out: &mut [Bit],
+) -> bool
+    requires longest { trellis.old ≡ 504 }
+    requires short { length out.old ≤ 504 }
+    requires filler { filler ≤ length out.old }
+    requires coded { length kept.now ≡ coded_length rate (length out.old) }
+    requires votes { length kept.now ≤ length votes.old }
+    ensures found { result ≡ true → IsFirstCollision (coding_of rate) (length out.old) filler (copies_kept kept.now) out.new }
+    ensures none { result ≡ false → NoneCollide (coding_of rate) (length out.old) filler (copies_kept kept.now) }
+    ensures same { trellis.new ≡ trellis.old }
+{
+    let votes = &mut votes[..kept.len()];
+    if !has_lost_step(rate, filler, out.len(), kept) {
+        return false;
+    }
+    if !may_collide(trellis, rate, filler, kept, votes, out) {
+        return false;
+    }
+    last_start(trellis, rate, filler, kept, votes, out)
+}
+
+/// Whether some block may look like zeros. A sent bit votes for Zero with more weight than all lost bits have together,
+/// and a lost bit votes for One. Zeros cost as much as there are lost bits, and a block that looks like them costs less.
+fn may_collide(
+    trellis: &mut Trellis,
+    rate: Rate,
+    filler: usize,
+    kept: &[bool],
+    votes: &mut [Vote],
+    out: &mut [Bit],
+) -> bool
+    requires longest { trellis.old ≡ 504 }
+    requires some { 1 ≤ length out.old }
+    requires short { length out.old ≤ 504 }
+    requires filler { filler ≤ length out.old }
+    requires coded { length kept.now ≡ coded_length rate (length out.old) }
+    requires votes { length votes.old ≡ length kept.now }
+    ensures none { result ≡ false → NoneCollide (coding_of rate) (length out.old) filler (copies_kept kept.now) }
+    ensures same { trellis.new ≡ trellis.old }
+{
+    let removed = removed(kept);
+    fill(kept, removed + 1, 1, votes);
+    trellis.nearest(rate, votes, filler, out) < removed
+}
+
+/// Whether after the filler no output of some step is sent.
+fn has_lost_step(rate: Rate, filler: usize, size: usize, kept: &[bool]) -> bool
+    requires short { size ≤ 504 }
+    requires coded { length kept.now ≡ coded_length rate size }
+    ensures some { result ≡ true → 1 ≤ size }
+    ensures none { result ≡ false → (k : ℕ) → filler ≤ k → k < size → is_lost rate kept.now k ≡ false }
+{
+    for k in filler..size {
+        if is_lost(rate, kept, k) {
+            return true;
+        }
+    }
+    false
+}
+
+/// Whether no output of step `k` is sent.
+fn is_lost(rate: Rate, kept: &[bool], k: usize) -> bool
+    requires short { k < 504 }
+    requires inside { outputs rate * (k + 1) ≤ length kept.now }
+    ensures { result ≡ is_lost rate kept.now k }
+{
+    match rate {
+        Rate::Half => !kept[2 * k] && !kept[2 * k + 1],
+        Rate::Third => !kept[3 * k] && !kept[3 * k + 1] && !kept[3 * k + 2],
+    }
+}
+
+/// Looks for a block that is not told from zeros, with its first One as late as possible.
+fn last_start(
+    trellis: &mut Trellis,
+    rate: Rate,
+    filler: usize,
+    kept: &[bool],
+    votes: &mut [Vote],
+    out: &mut [Bit],
+) -> bool
+    requires longest { trellis.old ≡ 504 }
+    requires short { length out.old ≤ 504 }
+    requires filler { filler ≤ length out.old }
+    requires coded { length kept.now ≡ coded_length rate (length out.old) }
+    requires votes { length votes.old ≡ length kept.now }
+    ensures found { result ≡ true → IsFirstCollision (coding_of rate) (length out.old) filler (copies_kept kept.now) out.new }
+    ensures none { result ≡ false → NoneCollide (coding_of rate) (length out.old) filler (copies_kept kept.now) }
+    ensures same { trellis.new ≡ trellis.old }
+{
+    let size = out.len();
+    for done in 0..size - filler {
+        if starts(trellis, rate, size - 1 - done, kept, votes, out) {
+            return true;
+        }
+    }
+    false
+}
+
+/// Whether a block with its first One at bit `k` is not told from zeros; `out` becomes the first such block. All outputs
+/// of that step are the bit itself, so none is sent, and a vote asks for a One in the first.
+fn starts(
+    trellis: &mut Trellis,
+    rate: Rate,
+    k: usize,
+    kept: &[bool],
+    votes: &mut [Vote],
+    out: &mut [Bit],
+) -> bool
+    requires longest { trellis.old ≡ 504 }
+    requires inside { k < length out.old }
+    requires short { length out.old ≤ 504 }
+    requires coded { length kept.now ≡ coded_length rate (length out.old) }
+    requires votes { length votes.old ≡ length kept.now }
+    ensures found { result ≡ true → IsFirstHidden rate kept.now (length out.old) k out.new }
+    ensures none { result ≡ false → (other : List Bit) → IsHidden rate kept.now (length out.old) k other → ⊥ }
+    ensures same { trellis.new ≡ trellis.old }
+{
+    if !is_lost(rate, kept, k) {
+        return false;
+    }
+    let at = first_output(rate, k);
+    fill(kept, 1, 0, votes);
+    votes[at] = Vote { zeros: 0, ones: 1 };
+    trellis.nearest(rate, votes, k, out) == 0
+}
+
+/// The place of the first coded bit of step `k`.
+fn first_output(rate: Rate, k: usize) -> usize
+    requires { k < 504 }
+    ensures { result ≡ outputs rate * k }
+{
+    match rate {
+        Rate::Half => 2 * k,
+        Rate::Third => 3 * k,
+    }
+}
