@@ -1,7 +1,13 @@
 pub mod Bodies
 pub mod Building
+pub mod Chained
 pub mod Cuts
+pub mod Ends
 pub mod Following
+pub mod Handed
+pub mod Histories
+pub mod Known
 pub mod Marking
 pub mod Parts
+pub mod Reading
 pub mod Walking

@@ -1,3 +1,5 @@
+pub mod Handing
+pub mod History
 pub mod Queue
 pub mod Receiving
 pub mod Sending

@@ -1,10 +1,11 @@
-ghost use Rattle.std.specs.Prelude.{◌≡◌, ◌+◌, ◌-◌, ◌*◌, ◌<◌, ◌≤◌, ◌==◌, [], true, IfOk, Some, IsTrue, drop, length, nat_lt, slice_get, take};
+ghost use Rattle.std.specs.Prelude.{◌≡◌, ◌+◌, ◌-◌, ◌*◌, ◌<◌, ◌≤◌, ◌==◌, ◌++◌, ℕ, List, [], ◌∷◌, true, IfOk, Some, IsTrue, drop, length, nat_lt, slice_get, take};
 ghost use Rattle.dch_rlcpdu.specs.declared.marks.Mode.TheVariants.{Unacknowledged};
 ghost use Rattle.dch_rlcpdu.specs.Body.{fills};
 ghost use Rattle.dch_rlcpdu.specs.Marks.{are_marks};
 ghost use Rattle.dch_rlcpdu.specs.Um.{um_pdu};
 ghost use Rattle.circular_buffer.specs.Buffer.{buffer};
 ghost use Rattle.dch_filling.specs.Filling.{AreSome, IsCarried};
+ghost use Rattle.dch_rlcum.specs.History.{IsSenderOf, accepted, texts};
 ghost use Rattle.dch_rlcum.specs.Queue.{IsPlace, units_at, used_of};
 ghost use Rattle.dch_rlcum.specs.Sending.{after_build, after_offer, answer_of, blocks, builds, carried, carried_by, ends_in, is_unsent, leading, left_by, listed, marks_in, no_units, pdu_of, room_of, units_after};
 
@@ -70,7 +71,8 @@ impl UmSend {
     ) -> Result<UmSend, NoMemory>
         requires from { 3 ≤ pdu }
         requires most { pdu ≤ 125 }
-        ensures { IfOk result (λ s. s ≡ record { units = no_units; row = []; number = 0; pdu = pdu; buffer = buffer; mark_start = mark_start }) }
+        ensures empty { IfOk result (λ s. s ≡ record { units = no_units; row = []; number = 0; pdu = pdu; buffer = buffer; mark_start = mark_start }) }
+        ensures history { IfOk result (λ s. IsSenderOf [] [] s) }
     {
         let octets = HeapCircularBuffer::with_capacity(alloc, 64 * buffer as usize)?;
         let lengths = HeapCircularBuffer::with_capacity(alloc, buffer as usize)?;
@@ -91,6 +93,9 @@ impl UmSend {
     pub fn offer(&mut self, unit: &[u8]) -> Offer
         ensures answer { result ≡ answer_of unit.now self.old }
         ensures after { self.new ≡ after_offer result unit.now self.old }
+        ensures history { (units : List (List ℕ)) (cuts : List ℕ) → IsSenderOf units cuts self.old → IsSenderOf (accepted result unit.now units) cuts self.new }
+        // no PDU before is another one for it
+        ensures built { (units : List (List ℕ)) (cuts : List ℕ) → IsSenderOf units cuts self.old → texts self.old.pdu self.old.mark_start (accepted result unit.now units) cuts ≡ texts self.old.pdu self.old.mark_start units cuts }
     {
         if unit.is_empty() || unit.len() > 1500 {
             return Offer::WrongSize;
@@ -187,6 +192,21 @@ impl UmSend {
 
     /// Writes the next PDU. There is one.
     pub fn build(&mut self, out: &mut [u8])
+        requires some { is_unsent self.old.units ≡ true }
+        requires size { length out.old ≡ self.old.pdu }
+        ensures text { out.new ≡ pdu_of self.old }
+        ensures after { self.new ≡ after_build self.old }
+        // the octets are the most that find room with their marks
+        ensures most { IsCarried (room_of self.old.pdu self.old.mark_start self.old.units) 0 self.old.units.lengths (carried_by self.old) }
+        ensures history { (units : List (List ℕ)) (cuts : List ℕ) → IsSenderOf units cuts self.old → IsSenderOf units (cuts ++ length units ∷ []) self.new }
+        // it is the next of the list of PDUs
+        ensures next { (units : List (List ℕ)) (cuts : List ℕ) → IsSenderOf units cuts self.old → texts self.old.pdu self.old.mark_start units (cuts ++ length units ∷ []) ≡ texts self.old.pdu self.old.mark_start units cuts ++ out.new ∷ [] }
+    {
+        self.write_next(out);
+    }
+
+    /// Writes the next PDU, by what waits.
+    fn write_next(&mut self, out: &mut [u8])
         requires some { is_unsent self.old.units ≡ true }
         requires size { length out.old ≡ self.old.pdu }
         ensures text { out.new ≡ pdu_of self.old }

@@ -1,8 +1,10 @@
-use Rattle.std.proofs.Common.{◌≡◌, ◌<◌, false, ◌++◌, ◌∷◌, [], arith, ap, ap₂, sym, ◌∙◌, length, List, ℕ}
+use Rattle.std.proofs.Common.{subst, ◌≡◌, ◌<◌, false, ◌++◌, ◌∷◌, [], arith, ap, ap₂, sym, ◌∙◌, length, List, ℕ}
 use Rattle.std.specs.Prelude.{◌==◌}
 use Rattle.dch_rlcum.specs.Sending.{after_offer}
 use Rattle.dch_bits.specs.declared.offer.Offer.TheVariants.{Accepted}
 use Rattle.dch_rlcum.proofs.Building.{fill_taken, push_taken, queue_taken, with_fields, Takes}
+use Rattle.dch_rlcum.specs.History.{IsSenderOf}
+use Rattle.dch_rlcum.proofs.Histories.{sender_taken, texts_taken}
 use Rattle.dch_rlcum.proofs.send.UmSend.offer.Goals as goal
 use Rattle.dch_rlcum.proofs.send.UmSend.offer.Goals.{After-fill_from_slice}
 
@@ -33,3 +35,9 @@ pub returns-clause-after : goal.returns-clause-after
 returns-clause-after c =
     ap₂ (λ ls os. with_fields ls c.self.inside.sent c.self.inside.owed os c.self.inside.number c.self.inside.pdu c.self.inside.buffer c.self.inside.mark_start) (lengths c) (row c)
     ∙ ap (after_offer Accepted c.args.unit.now) c.self.view_is
+
+pub returns-clause-history : goal.returns-clause-history
+returns-clause-history c = λ units cuts is. subst (IsSenderOf (units ++ c.args.unit.now ∷ []) cuts) (sym (returns-clause-after c)) (sender_taken units cuts c.args.unit.now c.args.self.now (takes c).some is)
+
+pub returns-clause-built : goal.returns-clause-built
+returns-clause-built c = λ units cuts is. texts_taken units cuts c.args.unit.now c.args.self.now is
