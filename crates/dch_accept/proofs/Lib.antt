@@ -1,3 +1,4 @@
+pub mod Causes
 pub mod IdleFormats
 pub mod MorePlans
 pub mod Overwritten

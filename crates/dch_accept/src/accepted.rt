@@ -1,15 +1,21 @@
-ghost use Rattle.std.specs.Prelude.{◌≡◌, ◌<◌, length};
+ghost use Rattle.std.specs.Prelude.{◌≡◌, ◌<◌, length, replicate, IfOk};
+ghost use Rattle.dch_bits.specs.declared.bit.Bit.TheVariants.{Zero};
 ghost use Rattle.dch_types.specs.Limits.{IsUplink};
 ghost use Rattle.dch_config.specs.Good.{IsGood};
 ghost use Rattle.dch_config.specs.Bearers.{has_ct};
 ghost use Rattle.dch_match.specs.Uplinks.{IsPlan};
 ghost use Rattle.dch_match.specs.Downlinks.{IsDownlinkPlan};
+ghost use Rattle.dch_search.specs.Clear.{IsClear};
 ghost use Rattle.dch_accept.specs.Plans.{plan_at};
-ghost use Rattle.dch_accept.specs.Answers.{Accepts, Plans};
+ghost use Rattle.dch_removal.specs.Plans.{AreAllPlans};
+ghost use Rattle.dch_accept.specs.Answers.{Accepts, IsSearched, Plans, count_of};
 ghost use Rattle.dch_accept.specs.Reports.{step_bytes};
 
 use crate::refusal::Refusal;
+use dch_bits::{Bit, NoMemory};
 use dch_match::{DownlinkPlan, MatchError, UplinkPlan, downlink, uplink};
+use dch_removal::count;
+use dch_search::{Found, Search};
 use dch_types::{Config, Dir, Sequence, Uplink};
 use std::alloc::Global;
 use std::marker::Model;
@@ -20,29 +26,47 @@ pub struct Accepted {
     config: Config,
     uplink: Sequence<UplinkPlan>,
     downlink: DownlinkPlan,
+    count: u128,
 }
 
 impl Model for Accepted {
+    ghost use Rattle.std.specs.Prelude.{◌≡◌};
     ghost use Rattle.dch_accept.specs.Plans.{Planned, IsPlanned};
+    ghost use Rattle.dch_accept.specs.Answers.{count_of};
 
     ghost Value = { Planned };
 
     ghost view = { λ a. record { config = a.config; uplink = a.uplink; downlink = a.downlink } };
 
-    ghost invariant = { λ a. IsPlanned (record { config = a.config; uplink = a.uplink; downlink = a.downlink }) };
+    ghost invariant = { λ a. IsPlanned (record { config = a.config; uplink = a.uplink; downlink = a.downlink }) × (a.count ≡ count_of a.config) };
 }
 
-/// Plans the rate matching of a configuration. Refuses it where an uplink combination has no rate; otherwise keeps it.
+/// The most code blocks that are looked at for collisions, each under all legal sequences.
+const MOST_SEARCHES: u128 = 2048;
+
+/// Plans the rate matching of a configuration, and keeps it. Refuses it where an uplink combination has no rate, where too many
+/// code blocks may lose bits to be looked at, or where two of them are made one under a legal sequence of combinations.
 pub fn accept(alloc: Global, config: Config) -> Result<Accepted, Refusal>
     requires { IsGood config }
     ensures { Accepts config result }
 {
     let uplink = plans(alloc, &config.uplink)?;
     let downlink = downlink(alloc, &config.downlink)?;
+    let count = count(
+        &config.uplink,
+        uplink.as_slice(),
+        &config.downlink,
+        &downlink,
+    );
+    if count > MOST_SEARCHES {
+        return Err(Refusal::Sequences(count));
+    }
+    look_for_collisions(alloc, &config, uplink.as_slice(), &downlink)?;
     Ok(Accepted {
         config,
         uplink,
         downlink,
+        count,
     })
 }
 
@@ -61,11 +85,60 @@ fn plans(alloc: Global, config: &Uplink) -> Result<Sequence<UplinkPlan>, Refusal
     Ok(plans)
 }
 
+/// Looks for the first collision.
+fn look_for_collisions(
+    alloc: Global,
+    config: &Config,
+    plans: &[UplinkPlan],
+    plan: &DownlinkPlan,
+) -> Result<(), Refusal>
+    requires good { IsGood config.now }
+    requires plans { AreAllPlans config.now.uplink plans.now }
+    requires plan { IsDownlinkPlan config.now.downlink plan.now }
+    ensures { IsSearched config.now result }
+{
+    let mut search = Search::open(alloc)?;
+    if let Some(found) = search.uplink(alloc, &config.uplink, plans)? {
+        return Err(collision(alloc, Dir::Up, found)?);
+    }
+    if let Some(found) = search.downlink(alloc, &config.downlink, plan)? {
+        return Err(collision(alloc, Dir::Down, found)?);
+    }
+    Ok(())
+}
+
+/// A collision as a refusal: `first` is the block of zeros.
+fn collision(alloc: Global, dir: Dir, found: Found) -> Result<Refusal, NoMemory>
+    ensures { IfOk result (λ refusal. refusal ≡ Refusal.Collision dir found.channel found.format found.block found.sequence (replicate (length found.second) Zero) found.second) }
+{
+    let first = zeros(alloc, found.second.len())?;
+    Ok(Refusal::Collision {
+        dir,
+        channel: found.channel,
+        format: found.format,
+        block: found.block,
+        sequence: found.sequence,
+        first,
+        second: found.second,
+    })
+}
+
+/// A block of zeros.
+fn zeros(alloc: Global, size: usize) -> Result<Sequence<Bit>, NoMemory>
+    ensures { IfOk result (λ bits. bits ≡ replicate size Zero) }
+{
+    match vec![in alloc; Bit::Zero; size] {
+        Ok(bits) => Ok(Sequence::from(bits)),
+        Err(_) => Err(NoMemory),
+    }
+}
+
 impl Accepted {
     /// The configuration as it was read.
     pub fn config(&self) -> &Config
         ensures value { result.now ≡ self.now.config }
         ensures good { IsGood result.now }
+        ensures clear { IsClear result.now }
     {
         &self.config
     }
@@ -85,6 +158,14 @@ impl Accepted {
         ensures plan { IsDownlinkPlan self.now.config.downlink result.now }
     {
         &self.downlink
+    }
+
+    /// How many code blocks were looked at for collisions: those that may lose bits, each as often as there are legal sequences
+    /// of combinations for its channel and format, and in the downlink once.
+    pub fn count(&self) -> u128
+        ensures { result ≡ count_of self.now.config }
+    {
+        self.count
     }
 
     /// Whether the blocks of a channel begin with the C/T field: exactly where two or more bearers name it

@@ -56,6 +56,77 @@ fn the_first_combination_without_a_rate(rt: HostRuntime) -> Result<(), Fail> {
     Ok(())
 }
 
+/// A channel with a TTI of 80 ms, which may lose bits, beside one with a TTI of 10 ms, in all combinations. The downlink has
+/// one channel. `last` is the last format of the long TTI.
+fn long_and_short(alloc: Global, last: &str) -> Result<String, AllocError> {
+    let head = "[iub]\npayload_check = false\nqe = 0
+[uplink]\nlargest = 600\npl = 50
+combinations = [[0,0],[1,0],[2,0],[0,1],[1,1],[2,1]]
+channel = [
+  { tti = 80, code = \"third\", crc = 0, rm = 128, set = 0, formats = [[0,0],[4,392],";
+    let tail = "] },
+  { tti = 10, code = \"none\", crc = 0, rm = 200, set = 1, formats = [[0,0],[1,66]] }
+]
+[downlink]\nslot_bits = 10\ncodes = 1\nsf = 256\npositions = \"fixed\"
+combinations = [[0],[1]]
+channel = [{ tti = 10, code = \"none\", crc = 0, rm = 256, set = 0, formats = [[0,0],[1,150]] }]
+";
+    format!(in alloc; "{head}{last}{tail}")
+}
+
+/// Whether a configuration is accepted, and the count of code blocks that decides.
+fn counted(alloc: Global, text: &str) -> Result<(bool, u128), Fail> {
+    match accept(alloc, read(alloc, text.as_bytes())?) {
+        Ok(accepted) => Ok((true, accepted.count())),
+        Err(Refusal::Sequences(count)) => Ok((false, count)),
+        Err(_) => Err(Fail::new("another refusal")),
+    }
+}
+
+#[test]
+fn code_blocks_up_to_the_limit_and_past_it(rt: HostRuntime) -> Result<(), Fail> {
+    let text = speech(rt.alloc(), 600, 100)?;
+    assert!(rt; counted(rt.alloc(), text.as_str())? == (true, 2));
+    for (last, want) in [("[4,391]", (true, 2048)), ("[5,404]", (false, 2304))] {
+        let text = long_and_short(rt.alloc(), last)?;
+        assert!(rt; counted(rt.alloc(), text.as_str())? == want, "{last}");
+    }
+    Ok(())
+}
+
+#[test]
+fn every_tenth_bit_is_never_sent(rt: HostRuntime) -> Result<(), Fail> {
+    let text = "[iub]\npayload_check = false\nqe = 0
+[uplink]\nlargest = 150\npl = 100\ncombinations = [[0],[1]]
+channel = [{ tti = 10, code = \"none\", crc = 0, rm = 256, set = 0, formats = [[0,0],[1,150]] }]
+[downlink]\nslot_bits = 6\ncodes = 1\nsf = 256\npositions = \"fixed\"\ncombinations = [[0],[1]]
+channel = [{ tti = 10, code = \"none\", crc = 0, rm = 256, set = 0, formats = [[0,0],[1,100]] }]
+";
+    match accept(rt.alloc(), read(rt.alloc(), text.as_bytes())?) {
+        Err(
+            Refusal::Collision {
+                dir,
+                channel,
+                format,
+                block,
+                sequence,
+                first,
+                second,
+            },
+        ) => {
+            assert!(rt; dir == Dir::Down);
+            assert!(rt; (channel, format, block) == (0, 1, 0));
+            assert!(rt; sequence.as_slice() == [1].as_slice());
+            let mut expected = [Bit::Zero; 100];
+            assert!(rt; first.as_slice() == expected.as_slice());
+            expected[90] = Bit::One;
+            assert!(rt; second.as_slice() == expected.as_slice());
+        }
+        _ => return Err(Fail::new("no collision")),
+    }
+    Ok(())
+}
+
 #[test]
 fn a_frame_written_and_seen(rt: HostRuntime) -> Result<(), Fail> {
     let accepted = accepted(rt.alloc())?;

@@ -1,0 +1,22 @@
+use Rattle.std.proofs.Common.{◌≡◌, ◌==◌, ◌||◌, true, false, sym, ◌∙◌, ap}
+use Rattle.std.proofs.lemmas.Bool.{eq-eqb, ne_eqb}
+use Rattle.dch_types.specs.Parts.{format_number}
+use Rattle.dch_match.specs.Downlinks.{stands_below}
+use Rattle.dch_match.proofs.Greatest.{stands-zero, stands-more}
+use Rattle.dch_removal.proofs.losing.stands.Goals as goal
+use Rattle.dch_removal.proofs.losing.stands.Goals.{then-number_of-f, else-number_of-f}
+
+pub loop-c-init : goal.loop-c-init
+loop-c-init c = sym (stands-zero c.args.side.now c.args.i c.args.f)
+
+pub loop-c-preserved : goal.loop-c-preserved
+loop-c-preserved c =
+    let more = stands-more c.args.side.now c.args.i c.args.f c.loop-c.c in
+    elim c.if-number_of-f.branch [
+      | then-number_of-f w ↦
+          let is : (format_number c.args.side.now c.loop-c.c c.args.i == c.args.f) ≡ true = eq-eqb _ _ (sym c.number_of.ensures ∙ w.if-number_of-f.true) in
+          w.stands-is ∙ sym (more ∙ ap (λ b. b || stands_below c.args.side.now c.args.i c.args.f c.loop-c.c) is)
+      | else-number_of-f w ↦
+          let is : (format_number c.args.side.now c.loop-c.c c.args.i == c.args.f) ≡ false = ne_eqb _ _ (λ e. w.if-number_of-f.false (c.number_of.ensures ∙ e)) in
+          w.stands-is ∙ c.loop-c.invariant ∙ sym (more ∙ ap (λ b. b || stands_below c.args.side.now c.args.i c.args.f c.loop-c.c) is)
+    ]

@@ -1,0 +1,85 @@
+ghost use Rattle.std.specs.Prelude.{◌≡◌, ◌<◌, ◌≤◌, ◌==◌, ◌&&◌, length, nat_lt};
+ghost use Rattle.dch_types.specs.Limits.{IsSide, IsUplink, IsDownlink};
+ghost use Rattle.dch_types.specs.Parts.{channel_at, format_number};
+ghost use Rattle.dch_match.specs.Patterns.{IsWellFormed};
+ghost use Rattle.dch_match.specs.Downlinks.{IsDownlinkPlan, stands_below};
+ghost use Rattle.dch_removal.specs.Plans.{AreAllPlans};
+ghost use Rattle.dch_removal.specs.Counted.{removes, loses_below, uplink_loses, downlink_loses};
+
+use crate::parts::number_of;
+use dch_match::{DownlinkPlan, Pattern, UplinkPlan, kept};
+use dch_types::{Downlink, Side, Uplink};
+
+/// Whether some legal sequence of the uplink removes bits of a channel in a format: where a combination with that format sends
+/// fewer bits in a radio frame than there are.
+pub fn uplink_loses(config: &Uplink, plans: &[UplinkPlan], i: u8, f: u8) -> bool
+    requires good { IsUplink config.now }
+    requires plans { AreAllPlans config.now plans.now }
+    requires channel { i < length config.now.side.channels }
+    ensures { result ≡ uplink_loses config.now i f }
+{
+    let mut loses = false;
+    for c in 0..config.side.combinations.len() {
+        if gives_and_removes(config, plans, c, i, f) {
+            loses = true;
+        }
+    }
+    loses
+}
+
+/// Whether a combination gives a channel a format and removes bits of it.
+fn gives_and_removes(config: &Uplink, plans: &[UplinkPlan], c: usize, i: u8, f: u8) -> bool
+    requires good { IsUplink config.now }
+    requires plans { AreAllPlans config.now plans.now }
+    requires combination { c < length config.now.side.combinations }
+    requires channel { i < length config.now.side.channels }
+    ensures { result ≡ (format_number config.now.side c i == f && removes config.now i c) }
+{
+    number_of(&config.side, c, i) == f && removes(config, plans, c, i)
+}
+
+/// Whether a radio frame of a combination sends fewer bits of a channel than there are.
+fn removes(config: &Uplink, plans: &[UplinkPlan], c: usize, i: u8) -> bool
+    requires good { IsUplink config.now }
+    requires plans { AreAllPlans config.now plans.now }
+    requires combination { c < length config.now.side.combinations }
+    requires channel { i < length config.now.side.channels }
+    ensures { result ≡ removes config.now i c }
+{
+    let plan = &plans[c];
+    plan.sent[usize::from(i)] < plan.before[usize::from(i)]
+}
+
+/// Whether the pattern of a downlink format removes a bit of it, and the format stands in some combination.
+pub fn downlink_loses(config: &Downlink, plan: &DownlinkPlan, i: u8, f: u8) -> bool
+    requires good { IsDownlink config.now }
+    requires plan { IsDownlinkPlan config.now plan.now }
+    requires channel { i < length config.now.side.channels }
+    requires format { f < length (channel_at config.now.side i).formats }
+    ensures { result ≡ downlink_loses config.now i f }
+{
+    stands(&config.side, i, f) && loses(&plan.pattern(i, f))
+}
+
+/// Whether a format stands in some combination.
+fn stands(side: &Side, i: u8, f: u8) -> bool
+    requires good { IsSide side.now }
+    requires channel { i < length side.now.channels }
+    ensures { result ≡ stands_below side.now i f (length side.now.combinations) }
+{
+    let mut stands = false;
+    for c in 0..side.combinations.len() {
+        if number_of(side, c, i) == f {
+            stands = true;
+        }
+    }
+    stands
+}
+
+/// Whether a pattern removes a bit.
+fn loses(pattern: &Pattern) -> bool
+    requires { IsWellFormed pattern.now }
+    ensures { result ≡ loses_below pattern.now.kind pattern.now.len }
+{
+    kept(pattern) < pattern.len
+}

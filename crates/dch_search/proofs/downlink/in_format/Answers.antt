@@ -1,0 +1,26 @@
+use Rattle.std.proofs.Common.{arith, ap, refl, sym}
+use Rattle.dch_segment.specs.declared.cut.Plan.{Plan}
+use Rattle.dch_removal.specs.Copies.{downlink_copies}
+use Rattle.dch_search.proofs.Unpunctured.{downlink_whole}
+use Rattle.dch_search.proofs.Under.{hit_in_format}
+use Rattle.dch_search.proofs.Visits.{reach_first}
+use Rattle.dch_search.proofs.downlink.in_format.Goals as goal
+
+pub returns-then-not-downlink_loses-clause-none : goal.returns-then-not-downlink_loses-clause-none
+returns-then-not-downlink_loses-clause-none c same = downlink_whole c.args.config.now c.args.i c.args.f c.requires.good c.requires.channel (sym c.if-not-downlink_loses.ensures)
+
+pub returns-then-not-first-clause-none : goal.returns-then-not-first-clause-none
+returns-then-not-first-clause-none c same sequence legal = absurd (c.if-not-first.ensures.none refl sequence legal)
+
+pub make_hit-requires : goal.make_hit-requires
+make_hit-requires c = omega (arith, (c.in-Some.ensures.some c.first.new.out).there, c.shape_of-shape.ensures.few_blocks, ap (λ (p : Plan). p.blocks) c.shape_of-shape.ensures.plan)
+
+pub returns-in-Some-clause-some : goal.returns-in-Some-clause-some
+returns-in-Some-clause-some c =
+    let sent = downlink_copies c.args.config.now in
+    hit_in_format c.args.config.now.side sent c.args.i c.args.f c.in-Some.r c.shape_of-shape.result.plan.size c.first.new.out c.removed.new.block c.make_hit.result c.make_hit.ensures
+    (reach_first c.args.config.now.side sent c.args.i c.args.f c.first.new.out (c.if-not-first.ensures.found refl))
+    (omega (arith, c.shape_of-shape.ensures.room, c.removed.auto.block, c.requires.block)) (c.in-Some.ensures.some c.first.new.out)
+
+pub returns-clause-none : goal.returns-clause-none
+returns-clause-none c same sequence legal = c.in_default.ensures.none refl sequence

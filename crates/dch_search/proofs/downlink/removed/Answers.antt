@@ -1,0 +1,30 @@
+use Rattle.std.proofs.Common.{arith}
+use Rattle.dch_removal.specs.Copies.{downlink_copies}
+use Rattle.dch_search.proofs.Under.{if_some, found_under, clear_under}
+use Rattle.dch_search.proofs.downlink.removed.Goals as goal
+
+pub returns-clause-some : goal.returns-clause-some
+returns-clause-some c =
+    let side = c.args.config.now.side in
+    let sent = downlink_copies c.args.config.now in
+    let shape = c.args.shape.now in
+    if_some c.look.result
+    (λ r first sequence. found_under side sent c.args.i c.args.f shape.bits r sequence shape c.flag.new.kept _ c.requires.shape
+    (record {
+      whole = omega (arith, c.requires.shape.whole);
+      room = omega (arith, c.requires.shape.few, c.requires.shape.fits, c.flag.auto.kept, c.requires.kept);
+      told = c.flag.ensures sequence;
+    }) first)
+    c.look.ensures.some
+
+pub returns-clause-none : goal.returns-clause-none
+returns-clause-none c none sequence =
+    let side = c.args.config.now.side in
+    let sent = downlink_copies c.args.config.now in
+    let shape = c.args.shape.now in
+    clear_under side sent c.args.i c.args.f shape.bits sequence shape c.flag.new.kept c.requires.shape
+    (record {
+      whole = omega (arith, c.requires.shape.whole);
+      room = omega (arith, c.requires.shape.few, c.requires.shape.fits, c.flag.auto.kept, c.requires.kept);
+      told = c.flag.ensures sequence;
+    }) (c.look.ensures.none none)

@@ -1,0 +1,11 @@
+use Rattle.std.proofs.Common.{◌-◌}
+use Rattle.dch_removal.specs.Copies.{uplink_copies}
+use Rattle.dch_search.proofs.Order.{power, value}
+use Rattle.dch_search.proofs.Visits.{IsReached}
+use Rattle.dch_search.proofs.uplink.in_format.Given as goal
+
+abbrev pub invariant-sequences : goal.invariant-sequences
+invariant-sequences l = IsReached l.config.side (uplink_copies l.config) l.i l.f l.sequence
+
+abbrev pub decreases-sequences : goal.decreases-sequences
+decreases-sequences l = power l.sequence - value l.sequence

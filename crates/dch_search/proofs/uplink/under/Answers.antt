@@ -1,0 +1,28 @@
+use Rattle.std.proofs.Common.{arith}
+use Rattle.dch_removal.specs.Copies.{uplink_copies}
+use Rattle.dch_search.proofs.Under.{AreFlags, if_some, found_under, clear_under}
+use Rattle.dch_search.proofs.uplink.under.Goals as goal
+
+pub returns-clause-some : goal.returns-clause-some
+returns-clause-some c =
+    let side = c.args.config.now.side in
+    let sent = uplink_copies c.args.config.now in
+    let shape = c.args.shape.now in
+    let flags : AreFlags (sent c.args.i c.args.f c.args.sequence.now) shape shape.padded c.flag.new.kept = record {
+      whole = omega (arith, c.requires.shape.whole, c.requires.shape.fits);
+      room = omega (arith, c.requires.shape.few, c.flag.auto.kept, c.requires.kept);
+      told = c.flag.ensures;
+    } in
+    if_some c.look.result (λ r first. found_under side sent c.args.i c.args.f shape.padded r c.args.sequence.now shape c.flag.new.kept _ c.requires.shape flags first) c.look.ensures.some
+
+pub returns-clause-none : goal.returns-clause-none
+returns-clause-none c none =
+    let side = c.args.config.now.side in
+    let sent = uplink_copies c.args.config.now in
+    let shape = c.args.shape.now in
+    let flags : AreFlags (sent c.args.i c.args.f c.args.sequence.now) shape shape.padded c.flag.new.kept = record {
+      whole = omega (arith, c.requires.shape.whole, c.requires.shape.fits);
+      room = omega (arith, c.requires.shape.few, c.flag.auto.kept, c.requires.kept);
+      told = c.flag.ensures;
+    } in
+    clear_under side sent c.args.i c.args.f shape.padded c.args.sequence.now shape c.flag.new.kept c.requires.shape flags (c.look.ensures.none none)

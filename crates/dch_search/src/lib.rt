@@ -1,0 +1,13 @@
+//! The first collision in a direction of a configuration: two code blocks that rate matching makes one under a legal sequence
+//! of combinations. All memory but that of the answer is taken at opening.
+#![tactic(auto)]
+
+mod blocks;
+mod downlink;
+mod found;
+mod search;
+mod shape;
+mod uplink;
+
+pub use found::Found;
+pub use search::Search;

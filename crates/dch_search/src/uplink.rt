@@ -1,0 +1,171 @@
+ghost use Rattle.std.specs.Prelude.{◌≡◌, ◌<◌, ◌≤◌, None, length, take, IfOk, IfSome};
+ghost use Rattle.dch_types.specs.Limits.{IsUplink};
+ghost use Rattle.dch_types.specs.Parts.{channel_at};
+ghost use Rattle.dch_legal.specs.Sequences.{frames_of, IsLegal};
+ghost use Rattle.dch_removal.specs.Plans.{AreAllPlans};
+ghost use Rattle.dch_removal.specs.Copies.{uplink_copies, AreKept};
+ghost use Rattle.dch_search.specs.Clear.{IsClearUnder, IsClearFormat, IsClearChannel};
+ghost use Rattle.dch_search.specs.Found.{Finds};
+ghost use Rattle.dch_search.specs.Shapes.{IsFirstUnder, IsHitInFormat, IsHitInChannel, IsShape};
+
+use crate::blocks::look;
+use crate::found::{Found, Hit, keep, make_hit};
+use crate::search::Room;
+use crate::shape::{Shape, channel_of, shape_of};
+use dch_bits::{Bit, NoMemory};
+use dch_collide::Collider;
+use dch_legal::{first, next};
+use dch_match::UplinkPlan;
+use dch_removal::{uplink_kept, uplink_loses};
+use dch_types::Uplink;
+use std::alloc::Global;
+
+/// The first collision in the uplink.
+pub(crate) fn find(
+    alloc: Global,
+    room: &mut Room,
+    config: &Uplink,
+    plans: &[UplinkPlan],
+    block: &mut [Bit],
+) -> Result<Option<Found>, NoMemory>
+    requires good { IsUplink config.now }
+    requires plans { AreAllPlans config.now plans.now }
+    requires block { length block.old ≡ 131072 }
+    ensures { IfOk result (Finds config.now.side (uplink_copies config.now)) }
+{
+    let mut places = [0; 8];
+    for i in 0..config.side.channels.len() {
+        let i = i as u8;
+        let sequence = &mut places[..usize::from(channel_of(&config.side, i).frames)];
+        if let Some(hit) = in_channel(room, config, plans, i, sequence, block) {
+            return Ok(Some(keep(alloc, i, &hit, sequence, block)?));
+        }
+    }
+    Ok(None)
+}
+
+/// The first collision in a channel. Its sequence is left in `sequence`.
+fn in_channel(
+    room: &mut Room,
+    config: &Uplink,
+    plans: &[UplinkPlan],
+    i: u8,
+    sequence: &mut [u16],
+    block: &mut [Bit],
+) -> Option<Hit>
+    requires good { IsUplink config.now }
+    requires plans { AreAllPlans config.now plans.now }
+    requires channel { i < length config.now.side.channels }
+    requires room { length sequence.old ≡ frames_of config.now.side i }
+    requires block { length block.old ≡ 131072 }
+    ensures some { IfSome result (λ hit. IsHitInChannel config.now.side (uplink_copies config.now) i sequence.new block.new hit) }
+    ensures none { result ≡ None → IsClearChannel config.now.side (uplink_copies config.now) i }
+{
+    for f in 0..channel_of(&config.side, i).formats.len() {
+        let f = f as u8;
+        if let Some(hit) = in_format(room, config, plans, i, f, sequence, block) {
+            return Some(hit);
+        }
+    }
+    None
+}
+
+/// The first collision in a format: under each legal sequence, if some of them removes bits.
+fn in_format(
+    room: &mut Room,
+    config: &Uplink,
+    plans: &[UplinkPlan],
+    i: u8,
+    f: u8,
+    sequence: &mut [u16],
+    block: &mut [Bit],
+) -> Option<Hit>
+    requires good { IsUplink config.now }
+    requires plans { AreAllPlans config.now plans.now }
+    requires channel { i < length config.now.side.channels }
+    requires format { f < length (channel_at config.now.side i).formats }
+    requires room { length sequence.old ≡ frames_of config.now.side i }
+    requires block { length block.old ≡ 131072 }
+    ensures some { IfSome result (λ hit. IsHitInFormat config.now.side (uplink_copies config.now) i f sequence.new block.new hit) }
+    ensures none { result ≡ None → IsClearFormat config.now.side (uplink_copies config.now) i f }
+{
+    if !uplink_loses(config, plans, i, f) {
+        return None;
+    }
+    if !first(&config.side, i, f, sequence) {
+        return None;
+    }
+    let shape = shape_of(&config.side, i, f);
+    'sequences: loop {
+        if let Some(r) = under(
+            &mut room.collider,
+            &mut room.segment,
+            &mut room.kept,
+            config,
+            plans,
+            i,
+            f,
+            &shape,
+            sequence,
+            block,
+        ) {
+            return Some(make_hit(f, r, &shape));
+        }
+        if !next(&config.side, i, f, sequence) {
+            return None;
+        }
+    }
+}
+
+/// The first code block with a collision under a legal sequence.
+fn under(
+    collider: &mut Collider,
+    segment: &mut [bool],
+    kept: &mut [bool],
+    config: &Uplink,
+    plans: &[UplinkPlan],
+    i: u8,
+    f: u8,
+    shape: &Shape,
+    sequence: &[u16],
+    block: &mut [Bit],
+) -> Option<usize>
+    requires good { IsUplink config.now }
+    requires plans { AreAllPlans config.now plans.now }
+    requires channel { i < length config.now.side.channels }
+    requires format { f < length (channel_at config.now.side i).formats }
+    requires shape { IsShape config.now.side i f shape.now }
+    requires legal { IsLegal config.now.side i f sequence.now }
+    requires segment { length segment.old ≡ 131072 }
+    requires kept { length kept.old ≡ 131072 }
+    requires block { length block.old ≡ 131072 }
+    ensures some { IfSome result (λ r. IsFirstUnder config.now.side (uplink_copies config.now) i f sequence.now r (take shape.now.plan.size block.new)) }
+    ensures none { result ≡ None → IsClearUnder config.now.side (uplink_copies config.now) i f sequence.now }
+{
+    flag(config, plans, i, f, shape, sequence, segment, kept);
+    look(collider, shape, kept, block)
+}
+
+/// Flags the coded bits that are sent under a legal sequence, at the front of `kept`.
+fn flag(
+    config: &Uplink,
+    plans: &[UplinkPlan],
+    i: u8,
+    f: u8,
+    shape: &Shape,
+    sequence: &[u16],
+    segment: &mut [bool],
+    kept: &mut [bool],
+)
+    requires good { IsUplink config.now }
+    requires plans { AreAllPlans config.now plans.now }
+    requires channel { i < length config.now.side.channels }
+    requires shape { IsShape config.now.side i f shape.now }
+    requires legal { IsLegal config.now.side i f sequence.now }
+    requires segment { length segment.old ≡ 131072 }
+    requires room { length kept.old ≡ 131072 }
+    ensures { AreKept (uplink_copies config.now i f sequence.now) (take shape.now.padded kept.new) }
+{
+    let kept = &mut kept[..shape.padded];
+    uplink_kept(config, plans, i, f, sequence, segment, kept);
+}
