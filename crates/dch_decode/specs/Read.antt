@@ -1,5 +1,5 @@
 -- Joined bits as the votes for their coded bits are read (TS 25.212 4.2.2 and 4.2.3).
-use Rattle.std.specs.Prelude.{◌≡◌, ◌<◌, ◌*◌, ◌==◌, ℕ, List, length, map, take, drop, nat_lt, if◌then◌else◌}
+use Rattle.std.specs.Prelude.{◌≡◌, ◌<◌, ◌*◌, ℕ, List, length, map, take, drop, nat_lt, if◌then◌else◌}
 use Rattle.dch_bits.specs.declared.bit.Bit.{Bit}
 use Rattle.dch_bits.specs.declared.bit.Bit.TheVariants.{Zero, One}
 use Rattle.dch_bits.specs.declared.bit.Vote.{Vote}
@@ -10,6 +10,7 @@ use Rattle.dch_conv.specs.declared.rate.Rate.TheVariants.{Half as HalfRate, Thir
 use Rattle.dch_segment.specs.Segments.{plan_of}
 use Rattle.dch_segment.specs.declared.cut.Plan.{Plan}
 use Rattle.dch_coding.specs.Chain.{code_block}
+use Rattle.dch_search.specs.Clear.{filler_of}
 use Rattle.dch_trellis.specs.Nearest.{IsNearest}
 
 -- part i of a list that is cut into parts of one size
@@ -19,10 +20,6 @@ part i size xs = take size (drop (i * size) xs)
 -- a bit that is not coded: One where more ones than zeros were received
 abbrev pub majority : Vote → Bit
 majority vote = if nat_lt vote.zeros vote.ones then One else Zero
-
--- the filler zeros stand in the first code block
-abbrev pub filler_of : Plan → ℕ → ℕ
-filler_of plan r = if r == 0 then plan.filler else 0
 
 -- how a code block with so much filler is read: bit by bit, or as the nearest block of its code
 abbrev pub IsRead : Coding → List Vote → ℕ → List Bit → Type 0

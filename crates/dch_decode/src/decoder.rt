@@ -1,4 +1,4 @@
-ghost use Rattle.std.specs.Prelude.{◌≡◌, ◌≢◌, ◌+◌, ◌*◌, ◌^◌, ◌<◌, ◌≤◌, ℕ, List, length, take, slice_index_or, IfOk};
+ghost use Rattle.std.specs.Prelude.{◌≡◌, ◌≢◌, ◌+◌, ◌*◌, ◌^◌, ◌<◌, ◌≤◌, ℕ, List, length, take, slice_index_or};
 ghost use Rattle.dch_bits.specs.declared.bit.Bit.{Bit};
 ghost use Rattle.dch_bits.specs.declared.bit.Vote.{Vote};
 ghost use Rattle.dch_types.specs.declared.channel.Coding.TheVariants.{Uncoded};
@@ -6,8 +6,10 @@ ghost use Rattle.dch_types.specs.Lengths.{coded_block, coded_bits, joined_bits, 
 ghost use Rattle.dch_segment.specs.Segments.{plan_of};
 ghost use Rattle.dch_coding.specs.Chain.{coded_of};
 ghost use Rattle.dch_trellis.specs.Nearest.{disagreement};
-ghost use Rattle.dch_decode.specs.Read.{part, filler_of, IsRead, AreRead};
-ghost use Rattle.dch_decode.specs.Collisions.{AreCopies, HasNoCollision};
+ghost use Rattle.dch_decode.specs.Read.{part, IsRead, AreRead};
+ghost use Rattle.dch_search.specs.Clear.{filler_of};
+ghost use Rattle.dch_decode.specs.Copies.{AreCopies};
+ghost use Rattle.dch_search.specs.Clear.{HasNoCollision};
 ghost use Rattle.dch_decode.specs.declared.decoder.TheConstants.{BITS, LONGEST};
 
 use crate::block::read_block;
@@ -40,8 +42,8 @@ impl Decoder {
     pub fn open(alloc: Global) -> Result<Decoder, NoMemory> {
         Ok(Decoder {
             trellis: Trellis::open(alloc, LONGEST)?,
-            blocks: zeros(alloc, BITS)?,
-            joined: zeros(alloc, BITS)?,
+            blocks: vec![in alloc; Bit::Zero; BITS]?,
+            joined: vec![in alloc; Bit::Zero; BITS]?,
         })
     }
 
@@ -170,13 +172,4 @@ fn filler(plan: &Plan, r: usize) -> usize
     ensures { result ≡ filler_of plan.now r }
 {
     if r == 0 { plan.filler } else { 0 }
-}
-
-fn zeros(alloc: Global, count: usize) -> Result<Vec<Bit>, NoMemory>
-    ensures { IfOk result (λ bits. length bits.items ≡ count) }
-{
-    match vec![in alloc; Bit::Zero; count] {
-        Ok(bits) => Ok(bits),
-        Err(_) => Err(NoMemory),
-    }
 }

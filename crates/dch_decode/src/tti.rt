@@ -1,13 +1,11 @@
 ghost use Rattle.std.specs.Prelude.{◌≡◌, ◌+◌, ◌*◌, ◌<◌, ◌≤◌, ◌↔◌, ℕ, List, Bool, length, take, slice_index_or, false, IsTrue};
 ghost use Rattle.dch_bits.specs.declared.bit.Bit.{Bit};
 ghost use Rattle.dch_bits.specs.declared.bit.Vote.{Vote};
-ghost use Rattle.dch_types.specs.Lengths.{crc_size, joined_bits, tti_bits};
+ghost use Rattle.dch_types.specs.Lengths.{crc_size, tti_bits};
 ghost use Rattle.dch_crc.specs.Parity.{IsAttached};
-ghost use Rattle.dch_coding.specs.Ttis.{IsCodedTti};
 ghost use Rattle.dch_accept.specs.Blocks.{Held, bits_of};
 ghost use Rattle.dch_decode.specs.Read.{part};
-ghost use Rattle.dch_decode.specs.Collisions.{AreCopies, HasNoCollision};
-ghost use Rattle.dch_decode.specs.Received.{IsReceived, ArrivesAs};
+ghost use Rattle.dch_decode.specs.Received.{IsReceived, ReadsCopies};
 
 use crate::decoder::Decoder;
 use crate::transport::received;
@@ -32,9 +30,7 @@ impl Decoder {
         requires short { length votes.now ≤ 131072 }
         requires few { (j : ℕ) (v : Vote) → j < length votes.now → (slice_index_or votes.now j v).zeros + (slice_index_or votes.now j v).ones ≤ 460800 }
         ensures read { IsReceived channel.now number format.now votes.now out.new }
-        ensures undamaged { (blocks coded : List Bit) (kept : ℕ → ℕ) → length blocks ≡ bits_of format.now →
-            IsCodedTti channel.now format.now blocks coded → AreCopies votes.now coded kept →
-            HasNoCollision channel.now.coding (joined_bits channel.now format.now) kept → ArrivesAs blocks out.new }
+        ensures undamaged { ReadsCopies channel.now format.now votes.now out.new }
         ensures room { out.new.room ≡ out.old.room }
     {
         let joined = self.joined(channel, format, votes);

@@ -1,6 +1,6 @@
 -- The cells of a TTI whose radio frames are kept as they were written.
 use Rattle.std.proofs.Common.{◌≡◌, ◌+◌, ◌-◌, ◌*◌, ◌%◌, ◌/◌, ◌<◌, ◌≤◌, ℕ, zero, suc, List, length, get_or, arith, refl, ap, sym, ◌∙◌, inl, inr, add-one}
-use Rattle.std.specs.Prelude.{Some, nat_lt, true, false}
+use Rattle.std.specs.Prelude.{nat_lt, true, false, slice_index}
 use Rattle.std.proofs.lemmas.Bool.{cases_lt}
 use Rattle.std.proofs.lemmas.Bool.Decides.{nat_tests}
 use Rattle.std.proofs.lemmas.Nat.{mod_below}
@@ -10,7 +10,7 @@ use Rattle.dch_bits.specs.declared.bit.Bit.TheVariants.{Zero}
 use Rattle.dch_bits.specs.declared.bit.Trit.TheVariants.{Off}
 use Rattle.dch_types.specs.declared.channel.Side.{Side}
 use Rattle.dch_types.specs.Limits.{IsDownlink, IsFrames}
-use Rattle.dch_types.specs.Parts.{channel_at, format_number}
+use Rattle.dch_types.specs.Parts.{channel_at}
 use Rattle.dch_inter.specs.Places.{first_of, first_back_of, frame_of, place_of}
 use Rattle.dch_inter.proofs.FirstColumns.{first_of-back, first_back_of-inside, frame_of-below, frame_place}
 use Rattle.dch_match.specs.declared.pattern.Pattern.{Pattern}
@@ -23,24 +23,13 @@ use Rattle.dch_frame.proofs.Codes.{code_back-inside, code_place-back}
 use Rattle.dch_accept.specs.Plans.{Planned}
 use Rattle.dch_heard.specs.Kept.{Kept, Listened, frame_at, tti_place}
 use Rattle.dch_loaded.specs.Loaded.{Loaded, loaded_at}
-use Rattle.dch_dlphy.specs.Frames.{frame_cell, multiplexed_cell, places_before, places_of, sent_cell}
-use Rattle.dch_dlphy.specs.Kept.{IsHistoryOf}
+use Rattle.dch_heard.proofs.Sent.{sent_number}
+use Rattle.dch_dlphy.specs.Frames.{IsFrame, frame_cell, multiplexed_cell, places_before, places_of, sent_cell}
+use Rattle.dch_dlphy.specs.Kept.{IsHistoryOf, codes_in}
 use Rattle.dch_dlphy.specs.Loaded.{code_length, filled_cell, matching_of}
 use Rattle.dch_dlphy.specs.Read.{heard_cell, tti_cell, tti_pattern, tti_places}
 use Rattle.dch_dlphy.specs.Sent.{IsSentFrame, IsSentTti}
-
-before_channel : (planned : Planned) (tti : List Loaded) (cfn c i p : ℕ) → p < places_before planned c i → multiplexed_cell planned tti cfn c (i + 1) p ≡ multiplexed_cell planned tti cfn c i p
-unfolding multiplexed_cell
-before_channel planned tti cfn c i p before =
-    let test : nat_lt p (places_before planned c i) ≡ true = grind (arith, nat_tests) in
-    rw (add-one, test) refl
-
-at_channel : (planned : Planned) (tti : List Loaded) (cfn c i p : ℕ) → places_before planned c i ≤ p → p - places_before planned c i < places_of planned c i → multiplexed_cell planned tti cfn c (i + 1) p ≡ sent_cell planned tti cfn c i (p - places_before planned c i)
-unfolding multiplexed_cell
-at_channel planned tti cfn c i p past inside =
-    let first : nat_lt p (places_before planned c i) ≡ false = grind (arith, nat_tests) in
-    let second : nat_lt (p - places_before planned c i) (places_of planned c i) ≡ true = grind (arith, nat_tests) in
-    rw (add-one, first, second) refl
+use Rattle.dch_dlphy.proofs.Sent.{multiplexed_before, multiplexed_here}
 
 add_less : (a q : ℕ) → a + q - a ≡ q
 add_less a q = omega arith
@@ -54,21 +43,21 @@ multiplexed_at planned tti cfn c (suc count) i q inside early =
       | inl before ↦
           let room : places_before planned c i + places_of planned c i ≤ places_before planned c count = part_le (places_of planned c) i count before in
           ap (λ n. multiplexed_cell planned tti cfn c n (places_before planned c i + q)) (sym more)
-          ∙ before_channel planned tti cfn c count (places_before planned c i + q) (omega (arith, room, early))
+          ∙ multiplexed_before planned tti cfn c count (places_before planned c i + q) (omega (arith, room, early))
           ∙ multiplexed_at planned tti cfn c count i q before early
       | inr past ↦
           let here : i ≡ count = omega arith in
           let low : places_before planned c i + q - places_before planned c i < places_of planned c i = omega (arith, early) in
           ap (λ n. multiplexed_cell planned tti cfn c n (places_before planned c i + q)) (sym more)
           ∙ ap (λ n. multiplexed_cell planned tti cfn c (n + 1) (places_before planned c i + q)) (sym here)
-          ∙ at_channel planned tti cfn c i (places_before planned c i + q) (omega arith) low
+          ∙ multiplexed_here planned tti cfn c i (places_before planned c i + q) (omega arith) low
           ∙ ap (sent_cell planned tti cfn c i) (add_less (places_before planned c i) q)
     ]
 
 -- a multiplexed cell of a frame that is kept as it was written
-kept_cell : (planned : Planned) (i n : ℕ) (loaded : Loaded) (kept : Kept) (sent : IsSentFrame planned i n loaded kept) (p : ℕ) → IsDownlink planned.config.downlink → p < ndata_of planned.config.downlink → get_or kept.cells p Off ≡ multiplexed_cell planned sent.tti sent.cfn sent.combination (length planned.config.downlink.side.channels) p
+kept_cell : (planned : Planned) (i n c : ℕ) (loaded : Loaded) (kept : Kept) (sent : IsSentFrame planned i n c loaded kept) (p : ℕ) → IsDownlink planned.config.downlink → p < ndata_of planned.config.downlink → get_or kept.cells p Off ≡ multiplexed_cell planned sent.tti sent.cfn c (length planned.config.downlink.side.channels) p
 unfolding frame_cell
-kept_cell planned i n loaded kept sent p good inside =
+kept_cell planned i n c loaded kept sent p good inside =
     let ndata : ℕ = ndata_of planned.config.downlink in
     let v : ℕ = code_length planned in
     let long : length sent.frame.cells ≡ ndata = sent.written.long in
@@ -77,36 +66,28 @@ kept_cell planned i n loaded kept sent p good inside =
     let there : code_back v p < ndata = code_back-inside ndata v p whole some inside in
     sent.back.shown p (omega (arith, sent.back.whole, long, inside))
     ∙ sent.written.cells (code_back v p) (omega (arith, there, long))
-    ∙ ap (multiplexed_cell planned sent.tti sent.cfn sent.combination (length planned.config.downlink.side.channels)) (code_place-back v p some)
-
--- the frame's combination gives the channel the format in which its blocks were loaded
-pub sent_format : (planned : Planned) (reader : Listened) (i f n : ℕ) (blocks : List Bit) (sent : IsSentTti planned reader i f blocks) → (inside : n < (channel_at planned.config.downlink.side i).frames) → i < length planned.config.downlink.side.channels → format_number planned.config.downlink.side (sent.frames n inside).combination i ≡ f
-sent_format planned reader i f n blocks sent inside channel =
-    let frame = sent.frames n inside in
-    let both : Some (format_number planned.config.downlink.side frame.combination i) ≡ Some f = sym (frame.formats i channel) ∙ ap (λ (loaded : Loaded). loaded.format) frame.holds ∙ sent.from.format in
-    cc
+    ∙ ap (multiplexed_cell planned sent.tti sent.cfn c (length planned.config.downlink.side.channels)) (code_place-back v p some)
 
 -- the cell at place m of channel i in a frame that is kept as it was written
-frame_arrived : (planned : Planned) (i n m places : ℕ) (loaded : Loaded) (kept : Kept) (sent : IsSentFrame planned i n loaded kept) → IsDownlink planned.config.downlink → IsDownlinkPlan planned.config.downlink planned.downlink
-    → i < length planned.config.downlink.side.channels → sent.combination < length planned.config.downlink.side.combinations → places_of planned sent.combination i ≡ places → m < places
+frame_arrived : (planned : Planned) (i n c m places : ℕ) (loaded : Loaded) (kept : Kept) (sent : IsSentFrame planned i n c loaded kept) → IsDownlink planned.config.downlink → IsDownlinkPlan planned.config.downlink planned.downlink
+    → i < length planned.config.downlink.side.channels → c < length planned.config.downlink.side.combinations → places_of planned c i ≡ places → m < places
     → heard_cell planned i kept.combination kept.cells m ≡ get_or loaded.cells (n * places + m) Off
 unfolding sent_cell
-frame_arrived planned i n m places loaded kept sent good plan channel listed size early =
+frame_arrived planned i n c m places loaded kept sent good plan channel listed size early =
     let side : Side = planned.config.downlink.side in
-    let c : ℕ = sent.combination in
     let before : ℕ = places_before planned c i in
     let room : before + places_of planned c i ≤ ndata_of planned.config.downlink = omega (arith, part_le (places_of planned c) i (length side.channels) channel, plan.room c listed) in
     ap (λ combination. heard_cell planned i combination kept.cells m) sent.found
-    ∙ kept_cell planned i n loaded kept sent (before + m) good (omega (arith, room, size, early))
+    ∙ kept_cell planned i n c loaded kept sent (before + m) good (omega (arith, room, size, early))
     ∙ multiplexed_at planned sent.tti sent.cfn c (length side.channels) i m channel (omega (arith, size, early))
     ∙ ap (λ n. get_or (loaded_at sent.tti i).cells (n * places_of planned c i + m) Off) sent.number
     ∙ ap (λ (loaded : Loaded). get_or loaded.cells (n * places_of planned c i + m) Off) sent.holds
     ∙ ap (λ places. get_or loaded.cells (n * places + m) Off) size
 
 -- and so the cells of the TTI are those that were filled
-pub cell_arrived : (planned : Planned) (reader : Listened) (i f p : ℕ) (blocks : List Bit) (sent : IsSentTti planned reader i f blocks) → IsDownlink planned.config.downlink → IsDownlinkPlan planned.config.downlink planned.downlink → IsHistoryOf planned reader
+pub cell_arrived : (planned : Planned) (reader : Listened) (i f p : ℕ) (sequence : List ℕ) (blocks : List Bit) (sent : IsSentTti planned reader i f sequence blocks) → IsDownlink planned.config.downlink → IsDownlinkPlan planned.config.downlink planned.downlink → IsHistoryOf planned reader
     → i < length planned.config.downlink.side.channels → p < tti_places planned i f → tti_cell planned reader i (tti_places planned i f) p ≡ filled_cell (tti_pattern planned i f) sent.from.coded p
-cell_arrived planned reader i f p blocks sent good plan held channel inside =
+cell_arrived planned reader i f p sequence blocks sent good plan held channel inside =
     let side : Side = planned.config.downlink.side in
     let frames : ℕ = (channel_at side i).frames in
     let is : IsFrames frames = (good.side.channels i channel).frames in
@@ -119,14 +100,15 @@ cell_arrived planned reader i f p blocks sent good plan held channel inside =
     let below : n < frames = frame_of-below frames len p is (whole_rows frames places len some whole) inside in
     let low : m < places = place_inside frames places len p is some whole inside in
     let frame = sent.frames n below in
-    let size : places_of planned frame.combination i ≡ places = ap (λ f. (matching_of planned i f).cells) (sent_format planned reader i f n blocks sent below channel) in
-    let listed : frame.combination < length side.combinations = (held.each (tti_place reader.cfn frames n) (mod_below _ 8 (omega arith))).listed frame.combination frame.found in
+    let c : ℕ = slice_index sequence n in
+    let size : places_of planned c i ≡ places = ap (λ f. (matching_of planned i f).cells) (sent_number side (IsFrame planned) (codes_in planned) i f n c sent.loaded _ frame sent.from.format channel) in
+    let listed : c < length side.combinations = (held.each (tti_place reader.cfn frames n) (mod_below _ 8 (omega arith))).listed c frame.found in
     let height : len / frames ≡ places = rows_of frames places len some whole in
     let place : n * places + m ≡ first_back_of frames len p = ap (λ rows. n * rows + m) (sym height) ∙ frame_place frames len p in
     let there : first_back_of frames len p < len = first_back_of-inside frames len p is (whole_rows frames places len some whole) inside in
     let long : length sent.loaded.cells ≡ len = sent.from.cells.long in
     let coded : List Bit = sent.from.coded in
-    frame_arrived planned i n m places sent.loaded (frame_at side reader i n) frame good plan channel listed size low
+    frame_arrived planned i n c m places sent.loaded (frame_at side reader i n) frame good plan channel listed size low
     ∙ ap (λ k. get_or sent.loaded.cells k Off) place
     ∙ sent.from.cells.shown (first_back_of frames len p) (omega (arith, there, long))
     ∙ ap (λ len'. filled_cell (tti_pattern planned i f) coded (first_of frames len' (first_back_of frames len p))) long

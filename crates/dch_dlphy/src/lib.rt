@@ -19,6 +19,4 @@ pub use tti::DlTti;
 pub use writer::write;
 
 #[cfg(test)]
-mod reader_tests;
-#[cfg(test)]
 mod tests;

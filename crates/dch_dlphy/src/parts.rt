@@ -1,6 +1,6 @@
 ghost use Rattle.std.specs.Prelude.{◌≡◌, ◌<◌, ◌≤◌, ◌+◌, ◌*◌, ◌^◌, length};
 ghost use Rattle.dch_types.specs.Lengths.{tti_bits};
-ghost use Rattle.dch_types.specs.Limits.{IsChannel, IsDownlink, IsSide};
+ghost use Rattle.dch_types.specs.Limits.{IsChannel, IsDownlink};
 ghost use Rattle.dch_types.specs.Parts.{channel_at, format_at, format_number};
 ghost use Rattle.dch_match.specs.Downlinks.{ndata_of};
 ghost use Rattle.dch_match.specs.Patterns.{IsWellFormed, copies_below};
@@ -8,8 +8,9 @@ ghost use Rattle.dch_dlphy.specs.Frames.{places_before, places_of};
 ghost use Rattle.dch_dlphy.specs.Loaded.{matching_of};
 
 use dch_accept::Accepted;
+use dch_heard::format_number;
 use dch_match::Pattern;
-use dch_types::{Downlink, Format, Side, Trch};
+use dch_types::{Downlink, Trch};
 
 /// A channel of the downlink.
 pub fn channel_of(accepted: &Accepted, channel: u8) -> &Trch
@@ -17,15 +18,7 @@ pub fn channel_of(accepted: &Accepted, channel: u8) -> &Trch
     ensures value { result.now ≡ channel_at accepted.now.config.downlink.side channel }
     ensures good { IsChannel result.now }
 {
-    &accepted.config().downlink.side.channels.as_slice()[channel as usize]
-}
-
-/// A format of a channel.
-pub fn format_at(channel: &Trch, format: u8) -> &Format
-    requires { format < length channel.now.formats }
-    ensures { result.now ≡ format_at channel.now format }
-{
-    &channel.formats.as_slice()[format as usize]
+    dch_heard::channel_of(&accepted.config().downlink.side, channel)
 }
 
 /// The number of a channel's format in a combination.
@@ -35,8 +28,7 @@ pub fn format_of(accepted: &Accepted, combination: u16, channel: u8) -> u8
     ensures value { result ≡ format_number accepted.now.config.downlink.side combination channel }
     ensures inside { result < length (channel_at accepted.now.config.downlink.side channel).formats }
 {
-    let combinations = accepted.config().downlink.side.combinations.as_slice();
-    combinations[combination as usize].formats.as_slice()[channel as usize]
+    format_number(&accepted.config().downlink.side, combination, channel)
 }
 
 /// The rate matching of a TTI of a channel in a format.
@@ -73,16 +65,6 @@ pub fn places_in(accepted: &Accepted, combination: u16, channel: u8) -> usize
 {
     let format = format_of(accepted, combination, channel);
     accepted.downlink_plan().cells(channel, format) as usize
-}
-
-/// The radio frames of a channel's TTI.
-pub fn frames_of(side: &Side, channel: u8) -> u8
-    requires side { IsSide side.now }
-    requires channel { channel < length side.now.channels }
-    ensures value { result ≡ (channel_at side.now channel).frames }
-    ensures some { 0 < result }
-{
-    side.channels.as_slice()[channel as usize].frames
 }
 
 /// The cells of a code.

@@ -7,7 +7,7 @@ ghost use Rattle.dch_heard.specs.Kept.{kept_at};
 ghost use Rattle.dch_dlphy.specs.Kept.{AreMissing, HasDownlinkTfci, IsHistoryOf, IsReaderOf, Keeps};
 ghost use Rattle.dch_dlphy.specs.Outcomes.{IsOutcome, IsSentBack};
 ghost use Rattle.dch_dlphy.specs.Read.{IsTtiRead};
-ghost use Rattle.dch_dlphy.specs.Sent.{IsClear, IsSentTti};
+ghost use Rattle.dch_dlphy.specs.Sent.{IsSentTti};
 
 use crate::hearing::hear_tti;
 use crate::kept::hear;
@@ -99,8 +99,8 @@ impl DlReader {
         requires blocks { HoldsTtis accepted.now.config.downlink.side out.old.room }
         requires channel { channel < length accepted.now.config.downlink.side.channels }
         ensures outcome { IsOutcome accepted.now self.old.heard channel out.old result out.new }
-        ensures undamaged { (format : ℕ) (blocks : List Bit) → IsSentTti accepted.now self.old.heard channel format blocks →
-            IsClear accepted.now channel format → IsSentBack format blocks result out.new }
+        ensures undamaged { (format : ℕ) (sequence : List ℕ) (blocks : List Bit) →
+            IsSentTti accepted.now self.old.heard channel format sequence blocks → IsSentBack format blocks result out.new }
         ensures room { out.new.room ≡ out.old.room }
         ensures kept { self.new ≡ self.old }
     {
@@ -118,9 +118,10 @@ impl DlReader {
 
 impl Ears {
     fn open(alloc: Global) -> Result<Ears, NoMemory> {
+        let none = Vote { zeros: 0, ones: 0 };
         Ok(Ears {
             cells: vec![in alloc; Trit::Off; MOST_PLACES]?,
-            votes: no_votes(alloc, MOST_BITS)?,
+            votes: vec![in alloc; none; MOST_BITS]?,
             decoder: Decoder::open(alloc)?,
         })
     }
@@ -139,8 +140,8 @@ impl Ears {
         requires channel { channel < length accepted.now.config.downlink.side.channels }
         requires format { IsFormatOf accepted.now.config.downlink.side history.now channel format }
         ensures read { IsTtiRead accepted.now history.now channel out.new }
-        ensures undamaged { (blocks : List Bit) → IsSentTti accepted.now history.now channel format blocks →
-            IsClear accepted.now channel format → ArrivesAs blocks out.new }
+        ensures undamaged { (sequence : List ℕ) (blocks : List Bit) →
+            IsSentTti accepted.now history.now channel format sequence blocks → ArrivesAs blocks out.new }
         ensures number { out.new.format ≡ format }
         ensures room { out.new.room ≡ out.old.room }
     {
@@ -175,12 +176,12 @@ fn read_tti(
     requires channel { channel < length accepted.now.config.downlink.side.channels }
     requires format { IsFormatOf accepted.now.config.downlink.side history.now channel format }
     ensures read { IsTtiRead accepted.now history.now channel out.new }
-    ensures undamaged { (blocks : List Bit) → IsSentTti accepted.now history.now channel format blocks →
-        IsClear accepted.now channel format → ArrivesAs blocks out.new }
+    ensures undamaged { (sequence : List ℕ) (blocks : List Bit) →
+        IsSentTti accepted.now history.now channel format sequence blocks → ArrivesAs blocks out.new }
     ensures number { out.new.format ≡ format }
     ensures room { out.new.room ≡ out.old.room }
 {
-    // A radio frame has room for the places of its channels in each combination.
+    // A radio frame has room for the places of its channels in each combination, and no two code blocks collide.
     let (_config, _plan) = (accepted.config(), accepted.downlink_plan());
     let trch = channel_of(accepted, channel);
     let kind = format_of(trch, format);
@@ -191,13 +192,4 @@ fn read_tti(
     let votes = &mut votes[..pattern.len as usize];
     count_votes(&pattern, &cells[..kept(&pattern) as usize], votes);
     decoder.read(trch, format, kind, votes, out);
-}
-
-fn no_votes(alloc: Global, count: usize) -> Result<Vec<Vote>, NoMemory>
-    ensures { IfOk result (λ votes. length votes.items ≡ count) }
-{
-    match vec![in alloc; Vote { zeros: 0, ones: 0 }; count] {
-        Ok(votes) => Ok(votes),
-        Err(_) => Err(NoMemory),
-    }
 }

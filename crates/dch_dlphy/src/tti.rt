@@ -9,11 +9,12 @@ ghost use Rattle.dch_loaded.specs.Loaded.{loaded_at};
 ghost use Rattle.dch_dlphy.specs.Loaded.{IsLoaded, IsMatched, IsTtiOf};
 
 use crate::fill::fill_front;
-use crate::parts::{channel_of, code_length, format_at, pattern_of, places_of};
+use crate::parts::{channel_of, code_length, pattern_of, places_of};
 use dch_accept::Accepted;
 use dch_bits::{Bit, NoMemory, Trit};
 use dch_coding::TtiCoder;
 use dch_frame::Interleaver;
+use dch_heard::format_of;
 use dch_loaded::{MOST_CELLS, Slot, slots};
 use dch_match::Pattern;
 use dch_types::{Format, Trch};
@@ -64,7 +65,7 @@ impl Room {
         requires room { channel.now.frames * places ≤ 457920 }
         ensures { IsMatched channel.now format (record { pattern = pattern.now; cells = places }) blocks.now slot.new }
     {
-        let kind = format_at(channel, format);
+        let kind = format_of(channel, format);
         let bits = code_front(&mut self.coder, channel, kind, blocks, &mut self.coded);
         let frames = channel.frames as usize;
         let count = frames * places as usize;

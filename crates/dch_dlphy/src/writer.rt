@@ -8,10 +8,11 @@ ghost use Rattle.dch_dlphy.specs.Loaded.{AreLong, IsTtiOf};
 ghost use Rattle.dch_dlphy.specs.Frames.{IsFrame, frame_cell, multiplexed_cell, places_of, sent_cell};
 
 use crate::fill::leave_off;
-use crate::parts::{frame_length, frames_of, places_in};
+use crate::parts::{frame_length, places_in};
 use crate::tti::DlTti;
 use dch_accept::{Accepted, PhyFrame};
 use dch_bits::Trit;
+use dch_heard::frames_of;
 use dch_loaded::Slot;
 use dch_tfci::send;
 

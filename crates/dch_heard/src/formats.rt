@@ -1,10 +1,10 @@
 ghost use Rattle.std.specs.Prelude.{◌≡◌, ◌<◌, ℕ, Some, length};
 ghost use Rattle.dch_types.specs.Limits.{IsSide};
-ghost use Rattle.dch_types.specs.Parts.{channel_at, format_number};
+ghost use Rattle.dch_types.specs.Parts.{channel_at};
 ghost use Rattle.dch_heard.specs.Formats.{AreListed, FindsFormat, tti_format};
 
 use crate::history::History;
-use crate::parts::frames_of;
+use crate::parts::{format_number, frames_of};
 use dch_types::Side;
 
 /// The format that all radio frames of a channel's TTI give it, or the first frame that is missing or gives it another
@@ -39,16 +39,4 @@ fn format_in_frame(side: &Side, history: &History, channel: u8, n: u8) -> Option
 {
     let combination = history.frame(frames_of(side, channel), n).combination()?;
     Some(format_number(side, combination, channel))
-}
-
-/// The number of a channel's format in a combination.
-fn format_number(side: &Side, combination: u16, channel: u8) -> u8
-    requires side { IsSide side.now }
-    requires combination { combination < length side.now.combinations }
-    requires channel { channel < length side.now.channels }
-    ensures value { result ≡ format_number side.now combination channel }
-    ensures inside { result < length (channel_at side.now channel).formats }
-{
-    let combination = &side.combinations.as_slice()[combination as usize];
-    combination.formats.as_slice()[channel as usize]
 }

@@ -10,7 +10,7 @@ mod parts;
 pub use formats::format_of_tti;
 pub use history::History;
 pub use kept::KeptFrame;
-pub use parts::{channel_of, format_of, frames_of};
+pub use parts::{channel_of, format_number, format_of, frames_of};
 
 #[cfg(test)]
 mod tests;

@@ -1,6 +1,6 @@
 ghost use Rattle.std.specs.Prelude.{◌≡◌, ◌<◌, length};
 ghost use Rattle.dch_types.specs.Limits.{IsChannel, IsFrames, IsSide};
-ghost use Rattle.dch_types.specs.Parts.{channel_at, format_at};
+ghost use Rattle.dch_types.specs.Parts.{channel_at, format_at, format_number};
 
 use dch_types::{Format, Side, Trch};
 
@@ -31,4 +31,16 @@ pub fn format_of(channel: &Trch, format: u8) -> &Format
     ensures { result.now ≡ format_at channel.now format }
 {
     &channel.formats.as_slice()[format as usize]
+}
+
+/// The number of a channel's format in a combination.
+pub fn format_number(side: &Side, combination: u16, channel: u8) -> u8
+    requires side { IsSide side.now }
+    requires combination { combination < length side.now.combinations }
+    requires channel { channel < length side.now.channels }
+    ensures value { result ≡ format_number side.now combination channel }
+    ensures inside { result < length (channel_at side.now channel).formats }
+{
+    let combination = &side.combinations.as_slice()[combination as usize];
+    combination.formats.as_slice()[channel as usize]
 }

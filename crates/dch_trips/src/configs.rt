@@ -63,18 +63,19 @@ channel = [
 ]
 ";
 
-/// Two to six codes of 9,600 bits, TTIs of each length, and formats of blocks without bits.
+/// Two to six codes of 9,600 bits, TTIs of each length, and formats of blocks without bits. Only the channel with the shortest
+/// TTI loses bits, so there are few legal sequences to look at.
 pub const CODES: &str = "[uplink]
 largest = 57600
 pl = 70
 combinations = [
   [0,0,0,0],[0,0,0,2],[0,0,1,2],[0,1,1,2],[0,1,0,2],[0,2,0,2],[1,1,0,2],[2,1,0,2],
-  [3,2,0,2],[4,2,0,2],[4,1,1,2],[1,0,1,2],[3,0,1,2],[0,0,0,1],[0,1,0,1]
+  [3,2,0,2],[4,2,0,2],[5,1,1,2],[1,0,1,2],[3,0,1,2],[0,0,0,1],[0,1,0,1]
 ]
 channel = [
-  { tti = 10, code = \"third\", crc = 16, rm = 200, set = 0, formats = [[0,0],[24,280],[36,280],[48,280],[64,280]] },
+  { tti = 10, code = \"third\", crc = 16, rm = 200, set = 0, formats = [[0,0],[24,280],[36,280],[48,280],[64,280],[64,340]] },
   { tti = 20, code = \"half\", crc = 8, rm = 256, set = 1, formats = [[0,0],[3,0],[1,50]] },
-  { tti = 40, code = \"third\", crc = 24, rm = 190, set = 2, formats = [[0,0],[64,280]] },
+  { tti = 40, code = \"third\", crc = 24, rm = 256, set = 2, formats = [[0,0],[1,280]] },
   { tti = 80, code = \"half\", crc = 0, rm = 256, set = 3, formats = [[0,0],[4,0],[1,100]] }
 ]
 ";

@@ -15,7 +15,9 @@ use Rattle.dch_types.specs.Limits.{IsSide}
 use Rattle.dch_types.specs.Parts.{channel_at, format_number}
 use Rattle.dch_inter.specs.Places.{IsFrames, first_of, first_back_of, frame_of, place_of}
 use Rattle.dch_inter.proofs.FirstColumns.{first_of-back, frame_place}
-use Rattle.dch_match.specs.Uplinks.{IsPlan, before_of}
+use Rattle.dch_match.specs.Uplinks.{IsPlan, before_of, uplink_pattern}
+use Rattle.dch_removal.specs.Copies.{frame_copies}
+use Rattle.dch_removal.proofs.Sizes.{frame_size-plan}
 use Rattle.dch_match.specs.Patterns.{copies, copies_below}
 use Rattle.dch_frame.specs.Votes.{copies_as_votes}
 use Rattle.dch_match.specs.Matched.{frame_pattern}
@@ -31,7 +33,7 @@ use Rattle.dch_ulphy.specs.Frames.{frame_number, pattern_of, sent_cell, places_b
 use Rattle.dch_heard.specs.Kept.{Kept}
 use Rattle.dch_ulphy.specs.Loaded.{AreInterleaved, Loaded, loaded_at}
 use Rattle.dch_ulphy.specs.Read.{channel_cells, pattern_in}
-use Rattle.dch_ulphy.specs.Sent.{IsSentFrame, frame_copies}
+use Rattle.dch_ulphy.specs.Sent.{IsSentFrame}
 use Rattle.dch_ulphy.specs.Tables.{IsFrameSize, code_length}
 use Rattle.dch_ulphy.proofs.Sizes.{plan_sized}
 use Rattle.dch_ulphy.proofs.Sent.{multiplexed_before, multiplexed_here}
@@ -61,18 +63,18 @@ multiplexed_at planned tti cfn c (suc count) i q inside early = elim (cases_lt i
     add_less a q = omega arith
 
 -- a multiplexed cell of a frame that is kept as it was written
-kept_cell : (planned : Planned) (i n : ℕ) (loaded : Loaded) (kept : Kept) (sent : IsSentFrame planned i n loaded kept) (p : ℕ) → IsFrameSize (plan_at planned.uplink sent.combination).ndata → p < (plan_at planned.uplink sent.combination).ndata → get_or kept.cells p Off ≡ multiplexed_cell planned sent.tti sent.cfn sent.combination (length planned.config.uplink.side.channels) p
+kept_cell : (planned : Planned) (i n c : ℕ) (loaded : Loaded) (kept : Kept) (sent : IsSentFrame planned i n c loaded kept) (p : ℕ) → IsFrameSize (plan_at planned.uplink c).ndata → p < (plan_at planned.uplink c).ndata → get_or kept.cells p Off ≡ multiplexed_cell planned sent.tti sent.cfn c (length planned.config.uplink.side.channels) p
 unfolding frame_cell
-kept_cell planned i n loaded kept sent p size inside =
-    let ndata : ℕ = (plan_at planned.uplink sent.combination).ndata in
+kept_cell planned i n c loaded kept sent p size inside =
+    let ndata : ℕ = (plan_at planned.uplink c).ndata in
     let v : ℕ = code_length ndata in
-    let long : length sent.frame.cells ≡ ndata = sent.written.long in
+    let long : length sent.frame.cells ≡ ndata = sent.written.shows.long in
     let some : 0 < v = omega arith in
     let there : code_back v p < ndata = code_back-inside ndata v p size.whole some inside in
     sent.back.shown p (omega (arith, sent.back.whole, long))
     ∙ ap (λ m. get_or sent.frame.cells (code_back (code_length m) p) Off) long
-    ∙ sent.written.cells (code_back v p) (omega (arith, there, long))
-    ∙ ap (multiplexed_cell planned sent.tti sent.cfn sent.combination (length planned.config.uplink.side.channels)) (code_place-back v p some)
+    ∙ sent.written.shows.cells (code_back v p) (omega (arith, there, long))
+    ∙ ap (multiplexed_cell planned sent.tti sent.cfn c (length planned.config.uplink.side.channels)) (code_place-back v p some)
 
 -- the segment of frame n of a TTI of coded bits
 abbrev pub segment_bits : ℕ → ℕ → List Bit → ℕ → ℕ → List Bit
@@ -83,18 +85,17 @@ unfolding frame_pattern
 pattern_len planned i n c = refl
 
 -- the cells of channel i show the coded bits of its segment
-pub segment_shown : (planned : Planned) (i n : ℕ) (loaded : Loaded) (kept : Kept) (sent : IsSentFrame planned i n loaded kept) (coded : List Bit) (f rows k : ℕ)
-    → f ≡ (channel_at planned.config.uplink.side i).frames → rows ≡ before_of planned.config.uplink.side sent.combination i → n < f
+pub segment_shown : (planned : Planned) (i n c : ℕ) (loaded : Loaded) (kept : Kept) (sent : IsSentFrame planned i n c loaded kept) (coded : List Bit) (f rows k : ℕ)
+    → f ≡ (channel_at planned.config.uplink.side i).frames → rows ≡ before_of planned.config.uplink.side c i → n < f
     → AreInterleaved f coded loaded.cells → length loaded.cells ≡ rows * f
-    → i < length planned.config.uplink.side.channels → IsFrameSize (plan_at planned.uplink sent.combination).ndata
-    → places_before (plan_at planned.uplink sent.combination) i + slice_index (plan_at planned.uplink sent.combination).sent i ≤ (plan_at planned.uplink sent.combination).ndata
-    → k < slice_index (plan_at planned.uplink sent.combination).sent i
-    → origin_of (pattern_in planned i n sent.combination) k < rows
-    → get_or (channel_cells (plan_at planned.uplink sent.combination) i kept.cells) k Off ≡ as_cell (get_or (segment_bits f (rows * f) coded n rows) (origin_of (pattern_in planned i n sent.combination) k) Zero)
+    → i < length planned.config.uplink.side.channels → IsFrameSize (plan_at planned.uplink c).ndata
+    → places_before (plan_at planned.uplink c) i + slice_index (plan_at planned.uplink c).sent i ≤ (plan_at planned.uplink c).ndata
+    → k < slice_index (plan_at planned.uplink c).sent i
+    → origin_of (pattern_in planned i n c) k < rows
+    → get_or (channel_cells (plan_at planned.uplink c) i kept.cells) k Off ≡ as_cell (get_or (segment_bits f (rows * f) coded n rows) (origin_of (pattern_in planned i n c) k) Zero)
 unfolding sent_cell
-segment_shown planned i n loaded kept sent coded f rows k frames is frame cells long channel size room inside small =
+segment_shown planned i n c loaded kept sent coded f rows k frames is frame cells long channel size room inside small =
     let side = planned.config.uplink.side in
-    let c : ℕ = sent.combination in
     let plan : UplinkPlan = plan_at planned.uplink c in
     let pattern : Pattern = pattern_in planned i n c in
     let o : ℕ = origin_of pattern k in
@@ -103,7 +104,7 @@ segment_shown planned i n loaded kept sent coded f rows k frames is frame cells 
     let within : n * rows + o < rows * f = mul-add-lt n rows o f frame small in
     get_or-take (slice_index plan.sent i) (drop (places_before plan i) kept.cells) k Off inside
     ∙ get_or-drop (places_before plan i) kept.cells k Off
-    ∙ kept_cell planned i n loaded kept sent (places_before plan i + k) size (omega (arith, room, inside))
+    ∙ kept_cell planned i n c loaded kept sent (places_before plan i + k) size (omega (arith, room, inside))
     ∙ multiplexed_at planned sent.tti sent.cfn c (length side.channels) i k channel inside
     ∙ ap (λ (pattern : Pattern). get_or (loaded_at sent.tti i).cells (frame_number side i sent.cfn * pattern.len + origin_of pattern k) Off) of_number
     ∙ ap (λ n. get_or (loaded_at sent.tti i).cells (n * pattern.len + o) Off) sent.number
@@ -125,36 +126,36 @@ segment_bit f rows len coded n j frames some whole inside of =
     ∙ ap (λ i. get_or coded i Zero) (first_of-back f len j frames (whole_rows f rows len some whole) inside)
 
 -- what was loaded for a frame that is kept has whole segments
-pub sent_long : (planned : Planned) (i n : ℕ) (loaded : Loaded) (kept : Kept) (sent : IsSentFrame planned i n loaded kept) → IsSide planned.config.uplink.side → i < length planned.config.uplink.side.channels → sent.combination < length planned.config.uplink.side.combinations → length loaded.cells ≡ before_of planned.config.uplink.side sent.combination i * (channel_at planned.config.uplink.side i).frames
-sent_long planned i n loaded kept sent good channel listed =
+pub sent_long : (planned : Planned) (i n c : ℕ) (loaded : Loaded) (kept : Kept) (sent : IsSentFrame planned i n c loaded kept) → IsSide planned.config.uplink.side → i < length planned.config.uplink.side.channels → c < length planned.config.uplink.side.combinations → length loaded.cells ≡ before_of planned.config.uplink.side c i * (channel_at planned.config.uplink.side i).frames
+sent_long planned i n c loaded kept sent good channel listed =
     let side = planned.config.uplink.side in
-    let f : ℕ = format_number side sent.combination i in
-    let there : f < length (channel_at side i).formats = (good.combinations sent.combination listed).formats i channel in
-    ap (λ (loaded : Loaded). length loaded.cells) (sym sent.holds) ∙ sent.opened.long i channel f there (sent.formats i channel)
+    let f : ℕ = format_number side c i in
+    let there : f < length (channel_at side i).formats = (good.combinations c listed).formats i channel in
+    ap (λ (loaded : Loaded). length loaded.cells) (sym sent.holds) ∙ sent.written.opened.long i channel f there (sent.formats i channel)
 
 -- the votes of a frame that is kept as it was written are the copies of its coded bits
-pub frame_arrived : (planned : Planned) (i n : ℕ) (loaded : Loaded) (kept : Kept) (sent : IsSentFrame planned i n loaded kept) (coded : List Bit) (f rows : ℕ) (pattern : Pattern) (cells : List Trit) (votes : List Vote)
-    → IsSide planned.config.uplink.side → i < length planned.config.uplink.side.channels → sent.combination < length planned.config.uplink.side.combinations
-    → IsPlan planned.config.uplink sent.combination (plan_at planned.uplink sent.combination)
-    → f ≡ (channel_at planned.config.uplink.side i).frames → IsFrames f → n < f → rows ≡ before_of planned.config.uplink.side sent.combination i
+pub frame_arrived : (planned : Planned) (i n c : ℕ) (loaded : Loaded) (kept : Kept) (sent : IsSentFrame planned i n c loaded kept) (coded : List Bit) (f rows : ℕ) (pattern : Pattern) (cells : List Trit) (votes : List Vote)
+    → IsSide planned.config.uplink.side → i < length planned.config.uplink.side.channels → c < length planned.config.uplink.side.combinations
+    → IsPlan planned.config.uplink c (plan_at planned.uplink c)
+    → f ≡ (channel_at planned.config.uplink.side i).frames → IsFrames f → n < f → rows ≡ before_of planned.config.uplink.side c i
     → AreInterleaved f coded loaded.cells
-    → pattern ≡ pattern_in planned i n sent.combination → cells ≡ channel_cells (plan_at planned.uplink sent.combination) i kept.cells
-    → length cells ≡ copies_below pattern.kind pattern.len → length cells ≡ slice_index (plan_at planned.uplink sent.combination).sent i → length votes ≡ rows * f
+    → pattern ≡ pattern_in planned i n c → cells ≡ channel_cells (plan_at planned.uplink c) i kept.cells
+    → length cells ≡ copies_below pattern.kind pattern.len → length cells ≡ slice_index (plan_at planned.uplink c).sent i → length votes ≡ rows * f
     → ((bits : List Bit) → ((k : ℕ) → k < length cells → get_or cells k Off ≡ as_cell (get_or bits (origin_of pattern k) Zero)) → (j : ℕ) (v : Vote) → j < length votes → frame_of f (length votes) j ≡ n → get_or votes j v ≡ copies_as_votes (get_or bits (place_of f (length votes) j) Zero) (copies pattern.kind (place_of f (length votes) j)))
-    → (j : ℕ) (v : Vote) → j < length votes → frame_of f (length votes) j ≡ n → get_or votes j v ≡ copies_as_votes (get_or coded j Zero) (frame_copies planned i n kept.combination (place_of f (length votes) j))
-frame_arrived planned i n loaded kept sent coded f rows pattern cells votes good channel listed is_plan frames few frame is shown same_pattern same_cells kept_all sized whole undamaged j v inside of =
+    → (j : ℕ) (v : Vote) → j < length votes → frame_of f (length votes) j ≡ n → get_or votes j v ≡ copies_as_votes (get_or coded j Zero) (frame_copies planned.config.uplink i n c (place_of f (length votes) j))
+frame_arrived planned i n c loaded kept sent coded f rows pattern cells votes good channel listed is_plan frames few frame is shown same_pattern same_cells kept_all sized whole undamaged j v inside of =
     let side = planned.config.uplink.side in
-    let plan : UplinkPlan = plan_at planned.uplink sent.combination in
+    let plan : UplinkPlan = plan_at planned.uplink c in
     let bits : List Bit = segment_bits f (rows * f) coded n rows in
     let some : 0 < f = omega arith in
-    let long : length loaded.cells ≡ rows * f = sent_long planned i n loaded kept sent good channel listed ∙ ap (λ rows. rows * (channel_at side i).frames) (sym is) ∙ ap (λ f. rows * f) (sym frames) in
+    let long : length loaded.cells ≡ rows * f = sent_long planned i n c loaded kept sent good channel listed ∙ ap (λ rows. rows * (channel_at side i).frames) (sym is) ∙ ap (λ f. rows * f) (sym frames) in
     let room : places_before plan i + slice_index plan.sent i ≤ plan.ndata = omega (arith, part_le (slice_index plan.sent) i (length side.channels) channel, is_plan.all_sent) in
-    let high : pattern.len ≡ rows = ap (λ (pattern : Pattern). pattern.len) same_pattern ∙ pattern_len planned i n sent.combination ∙ sym is in
+    let high : pattern.len ≡ rows = ap (λ (pattern : Pattern). pattern.len) same_pattern ∙ pattern_len planned i n c ∙ sym is in
     let cell : (k : ℕ) → k < length cells → get_or cells k Off ≡ as_cell (get_or bits (origin_of pattern k) Zero) =
     λ k early.
     let small : origin_of pattern k < rows = omega (arith, origin_of-inside pattern k (omega (arith, kept_all, early)), high) in
     ap (λ cells. get_or cells k Off) same_cells
-    ∙ segment_shown planned i n loaded kept sent coded f rows k frames is frame shown long channel (plan_sized _ _ _ is_plan) room (omega (arith, sized, early)) (subst (λ (pattern : Pattern). origin_of pattern k < rows) same_pattern small)
+    ∙ segment_shown planned i n c loaded kept sent coded f rows k frames is frame shown long channel (plan_sized _ _ _ is_plan) room (omega (arith, sized, early)) (subst (λ (pattern : Pattern). origin_of pattern k < rows) same_pattern small)
     ∙ ap (λ (pattern : Pattern). as_cell (get_or bits (origin_of pattern k) Zero)) (sym same_pattern) in
     let m : ℕ = place_of f (length votes) j in
     let bit : get_or bits m Zero ≡ get_or coded j Zero =
@@ -162,4 +163,4 @@ frame_arrived planned i n loaded kept sent coded f rows pattern cells votes good
     undamaged bits cell j v inside of
     ∙ ap (λ bit. copies_as_votes bit (copies pattern.kind m)) bit
     ∙ ap (λ (pattern : Pattern). copies_as_votes (get_or coded j Zero) (copies pattern.kind m)) same_pattern
-    ∙ ap (λ combination. copies_as_votes (get_or coded j Zero) (frame_copies planned i n combination m)) (sym sent.found)
+    ∙ ap (λ size. copies_as_votes (get_or coded j Zero) (copies (uplink_pattern side c size i n).kind m)) (sym (frame_size-plan planned.config.uplink c plan is_plan))

@@ -5,4 +5,3 @@ pub mod Sent
 pub mod SentBack
 pub mod Sizes
 pub mod Ttis
-pub mod Written

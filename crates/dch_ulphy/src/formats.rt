@@ -1,6 +1,7 @@
 ghost use Rattle.std.specs.Prelude.{◌≡◌, ◌<◌, length};
 ghost use Rattle.dch_types.specs.Limits.{IsChannel, IsFrames};
 ghost use Rattle.dch_types.specs.Parts.{channel_at};
+ghost use Rattle.dch_search.specs.Clear.{IsClear};
 ghost use Rattle.dch_heard.specs.Formats.{FindsFormat};
 ghost use Rattle.dch_ulphy.specs.Kept.{IsReaderOf};
 
@@ -29,11 +30,12 @@ pub fn frames_of(accepted: &Accepted, channel: u8) -> u8
     dch_heard::frames_of(&accepted.config().uplink.side, channel)
 }
 
-/// A channel of the uplink.
+/// A channel of the uplink. No two of its code blocks collide.
 pub fn channel_of(accepted: &Accepted, channel: u8) -> &Trch
     requires { channel < length accepted.now.config.uplink.side.channels }
     ensures value { result.now ≡ channel_at accepted.now.config.uplink.side channel }
     ensures good { IsChannel result.now }
+    ensures clear { IsClear accepted.now.config }
 {
     dch_heard::channel_of(&accepted.config().uplink.side, channel)
 }

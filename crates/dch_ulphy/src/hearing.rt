@@ -6,12 +6,13 @@ ghost use Rattle.dch_types.specs.Parts.{channel_at};
 ghost use Rattle.dch_inter.specs.Places.{frame_of, place_of};
 ghost use Rattle.dch_match.specs.Uplinks.{before_of};
 ghost use Rattle.dch_frame.specs.Votes.{copies_as_votes};
+ghost use Rattle.dch_removal.specs.Copies.{frame_copies};
 ghost use Rattle.dch_ulphy.specs.Frames.{places_before};
 ghost use Rattle.dch_heard.specs.Kept.{frame_at};
 ghost use Rattle.dch_ulphy.specs.Kept.{IsKeptOf, IsReaderOf};
 ghost use Rattle.dch_ulphy.specs.Loaded.{AreInterleaved, Loaded};
 ghost use Rattle.dch_ulphy.specs.Read.{channel_cells, frame_votes, tti_votes};
-ghost use Rattle.dch_ulphy.specs.Sent.{AreSentFrames, IsSentFrame, frame_copies, tti_copies};
+ghost use Rattle.dch_ulphy.specs.Sent.{AreSentFrames, IsSentFrame, tti_copies};
 
 use crate::formats::frames_of;
 use dch_accept::Accepted;
@@ -38,10 +39,10 @@ pub fn hear_tti(
     requires whole { length votes.old ≡ length counted.old * (channel_at accepted.now.config.uplink.side channel).frames }
     ensures votes { (j : ℕ) (v : Vote) → j < length votes.new →
         slice_index_or votes.new j v ≡ tti_votes accepted.now history.now channel (length votes.new) j }
-    ensures undamaged { (coded : List Bit) (loaded : Loaded) → AreSentFrames accepted.now history.now channel loaded →
+    ensures undamaged { (coded : List Bit) (sequence : List ℕ) (loaded : Loaded) → AreSentFrames accepted.now history.now channel sequence loaded →
         AreInterleaved (channel_at accepted.now.config.uplink.side channel).frames coded loaded.cells →
         (j : ℕ) (v : Vote) → j < length votes.new →
-        slice_index_or votes.new j v ≡ copies_as_votes (slice_index_or coded j Zero) (tti_copies accepted.now history.now channel (length votes.new) j) }
+        slice_index_or votes.new j v ≡ copies_as_votes (slice_index_or coded j Zero) (tti_copies accepted.now.config.uplink channel sequence (length votes.new) j) }
     ensures few { (j : ℕ) (v : Vote) → j < length votes.new →
         (slice_index_or votes.new j v).zeros + (slice_index_or votes.new j v).ones ≤ 57600 }
 {
@@ -80,11 +81,11 @@ fn hear_frame(
     ensures few { (j : ℕ) (v : Vote) → j < length votes.new →
         frame_of (channel_at accepted.now.config.uplink.side channel).frames (length votes.new) j ≡ n →
         (slice_index_or votes.new j v).zeros + (slice_index_or votes.new j v).ones ≤ 57600 }
-    ensures undamaged { (coded : List Bit) (loaded : Loaded) → IsSentFrame accepted.now channel n loaded kept.now →
+    ensures undamaged { (coded : List Bit) (c : ℕ) (loaded : Loaded) → IsSentFrame accepted.now channel n c loaded kept.now →
         AreInterleaved (channel_at accepted.now.config.uplink.side channel).frames coded loaded.cells →
         (j : ℕ) (v : Vote) → j < length votes.new →
         frame_of (channel_at accepted.now.config.uplink.side channel).frames (length votes.new) j ≡ n →
-        slice_index_or votes.new j v ≡ copies_as_votes (slice_index_or coded j Zero) (frame_copies accepted.now channel n kept.now.combination
+        slice_index_or votes.new j v ≡ copies_as_votes (slice_index_or coded j Zero) (frame_copies accepted.now.config.uplink channel n c
         (place_of (channel_at accepted.now.config.uplink.side channel).frames (length votes.new) j)) }
     ensures same { (j : ℕ) (v : Vote) → j < length votes.new →
         frame_of (channel_at accepted.now.config.uplink.side channel).frames (length votes.new) j ≢ n →

@@ -1,6 +1,7 @@
 ghost use Rattle.std.specs.Prelude.{◌≡◌, ◌≢◌, ◌<◌, ◌≤◌, ◌%◌, ℕ, List, length, IfOk};
 ghost use Rattle.dch_bits.specs.declared.bit.Bit.{Bit};
 ghost use Rattle.dch_types.specs.Parts.{channel_at, format_at};
+ghost use Rattle.dch_legal.specs.Sequences.{IsLegal};
 ghost use Rattle.dch_accept.specs.Blocks.{HoldsTtis};
 ghost use Rattle.dch_decode.specs.Received.{ArrivesAs};
 ghost use Rattle.dch_heard.specs.Kept.{kept_at};
@@ -8,7 +9,7 @@ ghost use Rattle.dch_ulphy.specs.Kept.{AreMissing, HasUplinkTfci, IsReaderOf, Ke
 ghost use Rattle.dch_ulphy.specs.Outcomes.{IsOutcome, IsSentBack};
 ghost use Rattle.dch_heard.specs.Formats.{IsFormatOf};
 ghost use Rattle.dch_ulphy.specs.Read.{IsTtiRead};
-ghost use Rattle.dch_ulphy.specs.Sent.{IsClear, IsSentTti};
+ghost use Rattle.dch_ulphy.specs.Sent.{IsSentTti};
 
 use crate::formats::{channel_of, format_of_tti};
 use crate::hearing::hear_tti;
@@ -94,8 +95,8 @@ impl UlReader {
         requires blocks { HoldsTtis accepted.now.config.uplink.side out.old.room }
         requires channel { channel < length accepted.now.config.uplink.side.channels }
         ensures outcome { IsOutcome accepted.now self.old channel out.old result out.new }
-        ensures undamaged { (format : ℕ) (blocks : List Bit) → IsSentTti accepted.now self.old channel format blocks →
-            IsClear accepted.now self.old channel format → IsSentBack format blocks result out.new }
+        ensures undamaged { (format : ℕ) (sequence : List ℕ) (blocks : List Bit) → IsLegal accepted.now.config.uplink.side channel format sequence →
+            IsSentTti accepted.now self.old channel format sequence blocks → IsSentBack format blocks result out.new }
         ensures room { out.new.room ≡ out.old.room }
         ensures kept { self.new ≡ self.old }
     {
@@ -112,9 +113,10 @@ impl UlReader {
 
 impl Ears {
     fn open(alloc: Global) -> Result<Ears, NoMemory> {
+        let none = Vote { zeros: 0, ones: 0 };
         Ok(Ears {
-            counted: no_votes(alloc, MOST_BITS)?,
-            votes: no_votes(alloc, MOST_BITS)?,
+            counted: vec![in alloc; none; MOST_BITS]?,
+            votes: vec![in alloc; none; MOST_BITS]?,
             decoder: Decoder::open(alloc)?,
         })
     }
@@ -133,8 +135,8 @@ impl Ears {
         requires channel { channel < length accepted.now.config.uplink.side.channels }
         requires format { IsFormatOf accepted.now.config.uplink.side history.now channel format }
         ensures read { IsTtiRead accepted.now history.now channel out.new }
-        ensures undamaged { (blocks : List Bit) → IsSentTti accepted.now history.now channel format blocks →
-            IsClear accepted.now history.now channel format → ArrivesAs blocks out.new }
+        ensures undamaged { (sequence : List ℕ) (blocks : List Bit) → IsLegal accepted.now.config.uplink.side channel format sequence →
+            IsSentTti accepted.now history.now channel format sequence blocks → ArrivesAs blocks out.new }
         ensures number { out.new.format ≡ format }
         ensures room { out.new.room ≡ out.old.room }
     {
@@ -169,8 +171,8 @@ fn read_tti(
     requires channel { channel < length accepted.now.config.uplink.side.channels }
     requires format { IsFormatOf accepted.now.config.uplink.side history.now channel format }
     ensures read { IsTtiRead accepted.now history.now channel out.new }
-    ensures undamaged { (blocks : List Bit) → IsSentTti accepted.now history.now channel format blocks →
-        IsClear accepted.now history.now channel format → ArrivesAs blocks out.new }
+    ensures undamaged { (sequence : List ℕ) (blocks : List Bit) → IsLegal accepted.now.config.uplink.side channel format sequence →
+        IsSentTti accepted.now history.now channel format sequence blocks → ArrivesAs blocks out.new }
     ensures number { out.new.format ≡ format }
     ensures room { out.new.room ≡ out.old.room }
 {
@@ -182,13 +184,4 @@ fn read_tti(
     let votes = &mut votes[..rows * frames];
     hear_tti(accepted, history, channel, &mut counted[..rows], votes);
     decoder.read(trch, format, kind, &votes[..bits], out);
-}
-
-fn no_votes(alloc: Global, count: usize) -> Result<Vec<Vote>, NoMemory>
-    ensures { IfOk result (λ votes. length votes.items ≡ count) }
-{
-    match vec![in alloc; Vote { zeros: 0, ones: 0 }; count] {
-        Ok(votes) => Ok(votes),
-        Err(_) => Err(NoMemory),
-    }
 }

@@ -1,7 +1,5 @@
 ghost use Rattle.std.specs.Prelude.{◌≡◌, ◌<◌, ◌≤◌, ◌+◌, ◌*◌, ◌^◌, ℕ, length, slice_index, slice_index_or};
 ghost use Rattle.dch_bits.specs.declared.bit.Trit.TheVariants.{Off};
-ghost use Rattle.dch_types.specs.Limits.{IsSide};
-ghost use Rattle.dch_types.specs.Parts.{channel_at};
 ghost use Rattle.dch_types.specs.declared.channel.Dir.TheVariants.{Up};
 ghost use Rattle.dch_accept.specs.Frames.{IsOpenedFor};
 ghost use Rattle.dch_accept.specs.Plans.{plan_at};
@@ -13,10 +11,10 @@ use crate::tti::UlTti;
 use dch_accept::{Accepted, PhyFrame};
 use dch_bits::Trit;
 use dch_frame::rate_match;
+use dch_heard::frames_of;
 use dch_loaded::Slot;
 use dch_match::frame;
 use dch_tfci::send;
-use dch_types::Side;
 
 /// Writes the radio frame of a CFN in a combination: its TFCI, and of each channel the radio frame of its TTI that is on
 /// (TS 25.212 4.2.5 to 4.2.12, 4.3.3).
@@ -95,7 +93,7 @@ fn write_channel(
     ensures { (q : ℕ) → q < length out.new → slice_index_or out.new q Off ≡ sent_cell accepted.now slots.now cfn combination i q }
 {
     let config = &accepted.config().uplink;
-    let n = cfn % frames_of(&config.side, i);
+    let n = cfn % frames_of(&config.side, i as u8);
     let pattern = frame(
         config,
         combination,
@@ -104,16 +102,6 @@ fn write_channel(
         n,
     );
     rate_match(&pattern, segment(slot_of(slots, i), n, pattern.len), out);
-}
-
-/// The radio frames of a channel's TTI.
-fn frames_of(side: &Side, i: usize) -> u8
-    requires side { IsSide side.now }
-    requires channel { i < length side.now.channels }
-    ensures value { result ≡ (channel_at side.now i).frames }
-    ensures some { 0 < result }
-{
-    side.channels.as_slice()[i].frames
 }
 
 /// What is loaded of a channel.

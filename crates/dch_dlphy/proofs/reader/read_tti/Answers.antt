@@ -12,6 +12,7 @@ use Rattle.dch_match.specs.Patterns.{copies_below}
 use Rattle.dch_frame.specs.Votes.{votes_of}
 use Rattle.dch_frame.proofs.Kept.{copies_inside}
 use Rattle.dch_decode.specs.Received.{IsReceived}
+use Rattle.dch_search.specs.Clear.{IsClear}
 use Rattle.dch_dlphy.specs.Read.{AreKeptCells, tti_places}
 use Rattle.dch_dlphy.proofs.Heard.{kept_cells, tti_read}
 use Rattle.dch_dlphy.proofs.SentBack.{tti_arrives}
@@ -46,7 +47,7 @@ returns-clause-read c =
     (subst (λ (channel : Trch). IsReceived channel f c.format_of-kind.result.now votes c.read.new.out) same c.read.ensures.read))
 
 pub returns-clause-undamaged : goal.returns-clause-undamaged
-returns-clause-undamaged c blocks =
+returns-clause-undamaged c sequence blocks =
     let planned = c.args.accepted.now in
     let i : ℕ = c.args.channel in
     let f : ℕ = c.args.format in
@@ -54,8 +55,9 @@ returns-clause-undamaged c blocks =
     let long : length heard ≡ tti_places planned i f = search rules in
     let fits : c.kept.result ≤ length heard = search rules in
     let good : IsGood planned.config = subst IsGood c.config-config.ensures.value c.config-config.ensures.good in
+    let clear : IsClear planned.config = subst IsClear c.config-config.ensures.value c.config-config.ensures.clear in
     let plan : IsDownlinkPlan planned.config.downlink planned.downlink = subst (IsDownlinkPlan planned.config.downlink) c.downlink_plan-plan.ensures.value c.downlink_plan-plan.ensures.plan in
     let kept : AreKeptCells planned c.args.history.now i f (take c.kept.result heard) = kept_cells planned c.args.history.now i f c.kept.result c.pattern_of-pattern.result heard c.pattern_of-pattern.ensures.value c.kept.ensures.sum long fits c.hear_tti.ensures in
-    tti_arrives planned c.args.history.now i f c.channel_of-trch.result.now c.format_of-kind.result.now c.pattern_of-pattern.result (take c.kept.result heard) c.count_votes.new.out c.read.new.out blocks
+    tti_arrives planned c.args.history.now i f sequence c.channel_of-trch.result.now c.format_of-kind.result.now c.pattern_of-pattern.result (take c.kept.result heard) c.count_votes.new.out c.read.new.out blocks
     c.channel_of-trch.ensures.value c.format_of-kind.ensures c.pattern_of-pattern.ensures.value good.downlink plan c.requires.opened c.requires.channel kept
-    (omega (arith, length-take-le c.kept.result heard fits, fits, long)) c.count_votes.ensures.undamaged c.read.ensures.undamaged
+    (omega (arith, length-take-le c.kept.result heard fits, fits, long)) c.count_votes.ensures.undamaged c.read.ensures.undamaged clear

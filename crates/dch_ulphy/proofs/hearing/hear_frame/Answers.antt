@@ -42,7 +42,7 @@ returns-clause-few c j v inside frame =
     omega (arith, few, room, c.channel_cells-cells.ensures.long, c.uplink_plan-plan.ensures.plan.most, largest_most _ good.uplink.largest)
 
 pub returns-clause-undamaged : goal.returns-clause-undamaged
-returns-clause-undamaged c coded loaded sent shown j v inside of =
+returns-clause-undamaged c coded d loaded sent shown j v inside of =
     let planned = c.args.accepted.now in
     let i : ℕ = c.args.channel in
     let n : ℕ = c.args.n in
@@ -50,25 +50,25 @@ returns-clause-undamaged c coded loaded sent shown j v inside of =
     let value = c.config.ensures.value in
     let good : IsGood planned.config = subst IsGood value c.config.ensures.good in
     let found : c.args.kept.now.combination ≡ Some c.in-Some.combination = sym c.combination.ensures ∙ c.in-Some.is in
-    let same : c.in-Some.combination ≡ sent.combination = let both = sym found ∙ sent.found in cc in
-    let listed : sent.combination < length side.combinations = c.requires.kept.listed sent.combination sent.found in
-    let plan : c.uplink_plan-plan.result.now ≡ plan_at planned.uplink sent.combination = c.uplink_plan-plan.ensures.value ∙ ap (plan_at planned.uplink) same in
-    let is_plan : IsPlan planned.config.uplink sent.combination (plan_at planned.uplink sent.combination) =
-    subst (IsPlan planned.config.uplink sent.combination) plan (subst (λ c'. IsPlan planned.config.uplink c' c.uplink_plan-plan.result.now) same c.uplink_plan-plan.ensures.plan) in
+    let same : c.in-Some.combination ≡ d = let both = sym found ∙ sent.found in cc in
+    let listed : d < length side.combinations = c.requires.kept.listed d sent.found in
+    let plan : c.uplink_plan-plan.result.now ≡ plan_at planned.uplink d = c.uplink_plan-plan.ensures.value ∙ ap (plan_at planned.uplink) same in
+    let is_plan : IsPlan planned.config.uplink d (plan_at planned.uplink d) =
+    subst (IsPlan planned.config.uplink d) plan (subst (λ c'. IsPlan planned.config.uplink c' c.uplink_plan-plan.result.now) same c.uplink_plan-plan.ensures.plan) in
     let frames = c.frames_of-frames.ensures.value in
-    let pattern : c.frame-pattern.result ≡ pattern_in planned i n sent.combination =
+    let pattern : c.frame-pattern.result ≡ pattern_in planned i n d =
     c.frame-pattern.ensures.value
     ∙ ap (λ (config : Config). uplink_pattern config.uplink.side c.in-Some.combination c.uplink_plan-plan.result.now.ndata i n) value
     ∙ ap (λ (plan : UplinkPlan). uplink_pattern side c.in-Some.combination plan.ndata i n) plan
-    ∙ ap (λ c'. uplink_pattern side c' (plan_at planned.uplink sent.combination).ndata i n) same in
-    let cells : c.channel_cells-cells.result.now ≡ channel_cells (plan_at planned.uplink sent.combination) i c.args.kept.now.cells =
-    c.channel_cells-cells.ensures.cells ∙ ap (λ (plan : UplinkPlan). channel_cells plan i c.cells.result.now) plan ∙ ap (channel_cells (plan_at planned.uplink sent.combination) i) c.cells.ensures in
+    ∙ ap (λ c'. uplink_pattern side c' (plan_at planned.uplink d).ndata i n) same in
+    let cells : c.channel_cells-cells.result.now ≡ channel_cells (plan_at planned.uplink d) i c.args.kept.now.cells =
+    c.channel_cells-cells.ensures.cells ∙ ap (λ (plan : UplinkPlan). channel_cells plan i c.cells.result.now) plan ∙ ap (channel_cells (plan_at planned.uplink d) i) c.cells.ensures in
     let sized = c.channel_cells-cells.ensures.long ∙ ap (λ (plan : UplinkPlan). slice_index plan.sent i) plan in
-    let rows : length c.args.counted.now ≡ before_of side sent.combination i = c.requires.counted sent.combination sent.found in
+    let rows : length c.args.counted.now ≡ before_of side d i = c.requires.counted d sent.found in
     let kept_all : length c.channel_cells-cells.result.now ≡ copies_below c.frame-pattern.result.kind c.frame-pattern.result.len =
-    sized ∙ is_plan.sent i c.requires.channel ∙ ap (λ (plan : UplinkPlan). sent_of side sent.combination plan.ndata i) (sym plan) ∙ ap (λ c'. sent_of side c' c.uplink_plan-plan.result.now.ndata i) (sym same) ∙ ap (λ (config : Config). sent_of config.uplink.side c.in-Some.combination c.uplink_plan-plan.result.now.ndata i) (sym value) ∙ sym c.frame-pattern.ensures.kept in
+    sized ∙ is_plan.sent i c.requires.channel ∙ ap (λ (plan : UplinkPlan). sent_of side d plan.ndata i) (sym plan) ∙ ap (λ c'. sent_of side c' c.uplink_plan-plan.result.now.ndata i) (sym same) ∙ ap (λ (config : Config). sent_of config.uplink.side c.in-Some.combination c.uplink_plan-plan.result.now.ndata i) (sym value) ∙ sym c.frame-pattern.ensures.kept in
     let whole : length c.hear.new.votes ≡ length c.args.counted.now * (channel_at side i).frames = c.hear.auto.votes ∙ c.requires.whole in
-    frame_arrived planned i n loaded c.args.kept.now sent coded (channel_at side i).frames (length c.args.counted.now) c.frame-pattern.result c.channel_cells-cells.result.now c.hear.new.votes
+    frame_arrived planned i n d loaded c.args.kept.now sent coded (channel_at side i).frames (length c.args.counted.now) c.frame-pattern.result c.channel_cells-cells.result.now c.hear.new.votes
     good.uplink.side c.requires.channel listed is_plan refl (good.uplink.side.channels i c.requires.channel).frames c.requires.frame rows shown pattern cells kept_all sized whole
     (subst (λ f. (bits : List Bit) → ((k : ℕ) → k < length c.channel_cells-cells.result.now → get_or c.channel_cells-cells.result.now k Off ≡ as_cell (get_or bits (origin_of c.frame-pattern.result k) Zero)) → (j : ℕ) (v : Vote) → j < length c.hear.new.votes → frame_of f (length c.hear.new.votes) j ≡ n → get_or c.hear.new.votes j v ≡ copies_as_votes (get_or bits (place_of f (length c.hear.new.votes) j) Zero) (copies c.frame-pattern.result.kind (place_of f (length c.hear.new.votes) j))) frames c.hear.ensures.undamaged)
     j v inside of

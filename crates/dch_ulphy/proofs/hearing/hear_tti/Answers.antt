@@ -36,10 +36,10 @@ returns-clause-few c j v inside =
     c.loop-n.invariant.few j v inside (omega (arith, below, ap (λ f. frame_of f len j) value))
 
 pub returns-clause-undamaged : goal.returns-clause-undamaged
-returns-clause-undamaged c coded loaded sent shown j v inside =
+returns-clause-undamaged c coded sequence loaded sent shown j v inside =
     let f : ℕ = c.frames_of-frames.result in
     let len : ℕ = length c.loop-n.votes in
     let value = c.frames_of-frames.ensures.value in
     let whole : len ≡ length c.args.counted.now * f = c.loop-n.auto.votes ∙ c.requires.whole ∙ ap (λ f. length c.args.counted.now * f) (sym value) in
     let below : frame_of f len j < f = frame_of-below f len j c.frames_of-frames.ensures.frames (whole_rows f (length c.args.counted.now) len c.frames_of-frames.ensures.some whole) inside in
-    c.loop-n.invariant.undamaged coded loaded sent shown j v inside (omega (arith, below, ap (λ f. frame_of f len j) value))
+    c.loop-n.invariant.undamaged coded sequence loaded sent shown j v inside (omega (arith, below, ap (λ f. frame_of f len j) value))

@@ -1,5 +1,9 @@
-use Rattle.dch_ulphy.proofs.Written.{kept-written}
+use Rattle.std.proofs.Common.{refl, inl}
+use Rattle.dch_heard.proofs.Written.{kept-written}
+use Rattle.dch_ulphy.specs.Kept.{cells_in}
+use Rattle.dch_ulphy.specs.Tables.{code_length}
 use Rattle.dch_ulphy.proofs.laws.written_frame_law.Goals as goal
 
 pub returns : goal.returns
-returns c = kept-written
+returns c = λ planned tti cfn d frame kept listed few is keeps.
+    kept-written planned.config.uplink.side (cells_in planned) code_length 30 d frame.tfci frame.cells kept (inl refl) listed few is.tfci is.long keeps
