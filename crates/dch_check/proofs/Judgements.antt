@@ -1,6 +1,6 @@
--- No text is both a configuration and refused.
-use Rattle.std.proofs.Common.{◌≡◌, ℕ, List, [], Option, None, Some, Err, ap, sym, ◌∙◌, arith}
-use Rattle.std.specs.Prelude.{Contains}
+-- No text is both accepted and refused.
+use Rattle.std.proofs.Common.{◌≡◌, ℕ, List, [], Option, None, Some, Err, ap, sym, ◌∙◌, subst, ⊎_elim, arith}
+use Rattle.std.specs.Prelude.{Contains, Ok}
 use Rattle.toml.specs.Data.{Members}
 use Rattle.dch_types.specs.declared.config.Config.{Config}
 use Rattle.dch_tree.specs.declared.fault.Fault.{Fault}
@@ -9,7 +9,16 @@ use Rattle.dch_config.specs.Limits.{limit_refusal}
 use Rattle.dch_config.specs.Reading.{IsConfig, IsDocument, IsRefused, Reads}
 use Rattle.dch_config.specs.declared.error.ConfigError.{ConfigError}
 use Rattle.dch_config.specs.declared.error.ConfigError.TheVariants.{NoMemory, NotToml, Key, Range}
-use Rattle.dch_check.specs.Refusals.{refusal, IsConfiguration, Refuses}
+use Rattle.dch_bits.specs.declared.bit.Bit.{Bit}
+use Rattle.dch_types.specs.declared.channel.Dir.{Dir}
+use Rattle.dch_types.specs.declared.channel.Dir.TheVariants.{Up, Down}
+use Rattle.dch_search.specs.Clear.{IsClear}
+use Rattle.dch_accept.specs.Answers.{HaveAllRates, count_of, IsCause, IsCollision}
+use Rattle.dch_accept.specs.declared.refusal.Refusal.{Refusal}
+use Rattle.dch_accept.specs.declared.refusal.Refusal.TheVariants as why
+use Rattle.dch_check.specs.Acceptance.{acceptance_refusal}
+use Rattle.dch_check.specs.Refusals.{refusal}
+use Rattle.dch_check.specs.Verdicts.{IsAccepted, IsAcceptedBy, IsUnread, IsUnaccepted, Refuses}
 
 some_one : {T : Type 0} (x y : T) → Some x ≡ Some y → x ≡ y
 some_one x y same = cc
@@ -38,5 +47,33 @@ by_error text line tree config (Range path) document good reads shown = no_fault
 by_error text line tree config e document good reads shown =
     no_limit tree config e good (rw (one_tree text reads.0 tree reads.1 document) at reads.2)
 
-pub one_judgement : (text line : List ℕ) → IsConfiguration text → Refuses text line → ⊥
-one_judgement text line good refused = by_error text line good.1.0 good.0 refused.why good.1.1 good.1.2 refused.reads refused.shown
+-- a text is read as one configuration
+one_config : (text : List ℕ) (a b : Config) → Reads text (Ok a) → Reads text (Ok b) → a ≡ b
+one_config text a b first second =
+    first.2.value ∙ ap config_of (one_tree text first.0 second.0 first.1 second.1) ∙ sym second.2.value
+
+-- where nothing collides there is no first collision
+none_collides : (config : Config) (dir : Dir) (i f r : ℕ) (sequence : List ℕ) (first second : List Bit) → IsClear config → IsCollision config dir i f r sequence first second → ⊥
+none_collides config Up i f r sequence first second clear c =
+    clear.up i c.is.collides.there f sequence c.is.collides.here.here.legal r c.is.collides.here.here.here.there _ _ c.is.collides.here.here.here.here.collides
+none_collides config Down i f r sequence first second clear c =
+    clear.down i c.is.collides.there f sequence c.is.collides.here.here.legal r c.is.collides.here.here.here.there _ _ c.is.collides.here.here.here.here.collides
+
+-- what is accepted has no cause to be refused
+no_cause : (config : Config) (line other : List ℕ) (why : Refusal) → IsAcceptedBy config line → IsCause config why → acceptance_refusal why ≡ Some other → ⊥
+no_cause config line other why.NoMemory accepted cause shown = cc
+no_cause config line other (why.NoRate c) accepted cause shown = accepted.rates c cause.there cause.none
+no_cause config line other (why.Sequences n) accepted cause shown = absurd (omega (arith, accepted.few, cause.more))
+no_cause config line other (why.Collision dir i f r sequence first second) accepted cause shown =
+    none_collides config dir i f r sequence first second accepted.clear cause
+
+not_unread : (text line other : List ℕ) → IsAccepted text line → IsUnread text other → ⊥
+not_unread text line other good unread = by_error text other good.reads.0 good.config unread.why good.reads.1 good.reads.2 unread.reads unread.shown
+
+not_unaccepted : (text line other : List ℕ) → IsAccepted text line → IsUnaccepted text other → ⊥
+not_unaccepted text line other good refused =
+    let same : good.config ≡ refused.config = one_config text good.config refused.config good.reads refused.reads in
+    no_cause refused.config line other refused.refused.why (subst (λ c. IsAcceptedBy c line) same good.accepted) refused.refused.cause refused.refused.shown
+
+pub one_judgement : (text line other : List ℕ) → IsAccepted text line → Refuses text other → ⊥
+one_judgement text line other good refused = ⊎_elim (not_unread text line other good) (not_unaccepted text line other good) refused

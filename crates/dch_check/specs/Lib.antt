@@ -1,2 +1,4 @@
+pub mod Acceptance
 pub mod Front
 pub mod Refusals
+pub mod Verdicts

@@ -1,13 +1,9 @@
--- The line that answers a configuration.
-use Rattle.std.specs.Prelude.{◌≡◌, ℕ, List, ◌++◌, Option, Some, None, Ok, Err, codes, decimal, string_bytes}
+-- The line that answers a text which is not read as a configuration.
+use Rattle.std.specs.Prelude.{ℕ, List, ◌++◌, Option, Some, None, codes, decimal}
 use Rattle.dch_types.specs.declared.channel.Dir.{Dir}
 use Rattle.dch_types.specs.declared.channel.Dir.TheVariants.{Up, Down}
-use Rattle.dch_types.specs.declared.config.Config.{Config}
-use Rattle.dch_config.specs.Reading.{Reads}
 use Rattle.dch_config.specs.declared.error.ConfigError.{ConfigError}
 use Rattle.dch_config.specs.declared.error.ConfigError.TheVariants.{NoMemory, NotToml, Key, Range, TrchCount, FormatCount, NoIdleFormat, CombinationCount, NoSuchFormat, NotClosed, BlockSize, NoCheck, PduSize, Window, TtiBits}
-use Rattle.dch_check.specs.declared.verdict.Verdict.{Verdict}
-use Rattle.dch_check.specs.declared.verdict.Verdict.TheVariants.{Good, Refused}
 
 abbrev pub dir_name : Dir → List ℕ
 dir_name Up = codes "up"
@@ -46,27 +42,3 @@ refusal (NoCheck b) = Some (of_bearer 20 b)
 refusal (PduSize b) = Some (of_bearer 21 b)
 refusal (Window b) = Some (of_bearer 22 b)
 refusal (TtiBits dir i) = Some (of_place 23 dir (codes "channel") i)
-
--- a text is a configuration
-abbrev pub IsConfiguration : List ℕ → Type 0
-IsConfiguration text = (config : Config) × Reads text (Ok config)
-
--- a text is refused by this line
-pub record Refuses (text line : List ℕ) : Type 0 where
-  pub why : ConfigError
-  pub reads : Reads text (Err why)
-  pub shown : refusal why ≡ Some line
-
--- the line where the configuration is good and all was taken
-abbrev pub checked : List ℕ
-checked = codes "checked\n"
-
--- the judgement of a text
-abbrev pub Judges : List ℕ → Verdict → Type 0
-Judges text Good = IsConfiguration text
-Judges text (Refused line) = Refuses text (string_bytes line)
-
--- the line of a judgement
-abbrev pub verdict_line : Verdict → List ℕ
-verdict_line Good = checked
-verdict_line (Refused line) = string_bytes line

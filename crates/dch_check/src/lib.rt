@@ -1,6 +1,7 @@
 //! The configuration at the front of an input, and its judgement.
 #![tactic(auto)]
 
+mod acceptance;
 mod front;
 mod refusal;
 mod verdict;

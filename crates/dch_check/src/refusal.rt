@@ -72,7 +72,7 @@ fn bearer_line(alloc: Global, number: u8, bearer: u8) -> Result<String, NoMemory
     Ok(line)
 }
 
-fn dir_name(dir: Dir) -> &'static str
+pub fn dir_name(dir: Dir) -> &'static str
     ensures { result.now ≡ dir_name dir }
 {
     match dir {

@@ -1,16 +1,20 @@
 ghost use Rattle.std.specs.Prelude.{◌≡◌, IfOk};
-ghost use Rattle.dch_check.specs.Refusals.{Judges, verdict_line};
+ghost use Rattle.dch_config.specs.Good.{IsGood};
+ghost use Rattle.dch_check.specs.Verdicts.{Judges, JudgesConfig, verdict_line};
 
+use crate::acceptance::{acceptance_line, accepted_line};
 use crate::refusal::refusal_line;
+use dch_accept::accept;
 use dch_bits::NoMemory;
 use dch_config::read;
+use dch_types::Config;
 use std::alloc::Global;
 
 /// The judgement of a configuration.
 #[derive(Drop)]
 pub enum Verdict {
-    /// It keeps all its limits.
-    Good,
+    /// It is accepted, as this line says.
+    Accepted(String),
     /// It is refused, by this line.
     Refused(String),
 }
@@ -21,20 +25,37 @@ impl Verdict {
         ensures { result.now ≡ verdict_line self.now }
     {
         match self {
-            Verdict::Good => b"checked\n",
+            Verdict::Accepted(line) => line.as_bytes(),
             Verdict::Refused(line) => line.as_bytes(),
         }
     }
 }
 
-/// Judges the text of a configuration.
+/// Judges the text of a configuration: reads it, and accepts what it says.
 pub fn judge(alloc: Global, text: &[u8]) -> Result<Verdict, NoMemory>
     ensures { IfOk result (Judges text.now) }
 {
     match read(alloc, text) {
-        Ok(_config) => Ok(Verdict::Good),
+        Ok(config) => judge_config(alloc, config),
         Err(error) => {
             let line = refusal_line(alloc, &error)?;
+            Ok(Verdict::Refused(line))
+        }
+    }
+}
+
+/// Judges a configuration that was read.
+fn judge_config(alloc: Global, config: Config) -> Result<Verdict, NoMemory>
+    requires { IsGood config }
+    ensures { IfOk result (JudgesConfig config) }
+{
+    match accept(alloc, config) {
+        Ok(accepted) => {
+            let line = accepted_line(alloc, accepted.count())?;
+            Ok(Verdict::Accepted(line))
+        }
+        Err(refusal) => {
+            let line = acceptance_line(alloc, &refusal)?;
             Ok(Verdict::Refused(line))
         }
     }

@@ -1,15 +1,15 @@
 -- What `check` answers by its judgement, and that it answers whole inputs.
-use Rattle.std.proofs.Common.{◌≡◌, ◌⊎◌, ◌≤◌, ◌++◌, ℕ, List, [], length, refl, ap, sym, ◌∙◌, subst, length-append, true, arith, inl, inr, IfSome, None, Some, ⊎_elim}
-use Rattle.std.specs.Prelude.{Result, Ok, Err, string_bytes}
+use Rattle.std.proofs.Common.{◌≡◌, ◌⊎◌, ◌≤◌, ◌++◌, ℕ, List, [], length, refl, ap, sym, ◌∙◌, subst, length-append, arith, inl, inr, IfSome, None, Some, ⊎_elim}
+use Rattle.std.specs.Prelude.{Ok, Err, string_bytes}
 use Rattle.std.specs.declared.option.Option.{Option}
 use Rattle.std.specs.Io.KnownBytes.{IsAtEnd}
 use Rattle.std.proofs.KnownBytes.{Appends-nil}
 use Rattle.dch_io.specs.Causes.{Rose}
 use Rattle.dch_io.specs.Ends.{End, span}
 use Rattle.dch_check.specs.Front.{configuration_of}
-use Rattle.dch_check.specs.Refusals.{IsConfiguration, Refuses, checked}
+use Rattle.dch_check.specs.Verdicts.{IsAccepted, Refuses}
 use Rattle.dch_check.specs.declared.verdict.Verdict.{Verdict}
-use Rattle.dch_check.specs.declared.verdict.Verdict.TheVariants.{Good, Refused as RefusedBy}
+use Rattle.dch_check.specs.declared.verdict.Verdict.TheVariants.{Accepted as AcceptedBy, Refused as RefusedBy}
 use Rattle.dch_check.proofs.Fronts.{configuration_more}
 use Rattle.dch_check.proofs.Judgements.{one_judgement}
 use Rattle.dch_top.specs.Bounds.{most_bytes}
@@ -20,13 +20,13 @@ use Rattle.dch_top.proofs.Complete.{consumed, all_consumed}
 
 -- the line of a judgement is written, or a front of it
 pub answered : (a b k l : Option (List ℕ)) (f g h i : ℕ) (verdict : Verdict) (status : Status) → Judged (span a b f g) (Ok verdict) → Answers (span k l h i) verdict status → Checks (span a b f g) (span k l h i) status
-answered a b k l f g h i Good Done judged writes = record { taken = judged.taken; written = checked; takes = judged.takes; writes = writes; answers = (judged.finds, refl) }
-answered a b k l f g h i Good WriteFault judged breaks = record {
+answered a b k l f g h i (AcceptedBy line) Done judged writes = record { taken = judged.taken; written = string_bytes line; takes = judged.takes; writes = writes; answers = judged.finds }
+answered a b k l f g h i (AcceptedBy line) WriteFault judged breaks = record {
   taken = judged.taken;
   written = breaks.written;
   takes = judged.takes;
   writes = breaks.writes;
-  answers = record { fails = breaks.fails; line = checked; answers = inl (judged.finds, refl); cut = breaks.cut };
+  answers = record { fails = breaks.fails; line = string_bytes line; answers = inl judged.finds; cut = breaks.cut };
 }
 answered a b k l f g h i (RefusedBy line) Refused judged writes = record { taken = judged.taken; written = string_bytes line; takes = judged.takes; writes = writes; answers = judged.finds }
 answered a b k l f g h i (RefusedBy line) WriteFault judged breaks = record {
@@ -50,22 +50,22 @@ judged_whole : (source : End) (input taken more : List ℕ) → input ≡ taken 
 judged_whole source input taken more cut all ended =
     ⊎_elim (λ done. sym (configuration_more taken more done) ∙ sym (ap configuration_of cut)) (λ end. sym (ap configuration_of (all end))) ended
 
--- a good configuration is answered without a fault
+-- an accepted configuration is answered without a fault
 pub good_answered : (before now k l : Option (List ℕ)) (f g h i : ℕ) (status : Status) → Checks (span before now f g) (span k l h i) status
-    → IfSome before (λ input. IsConfiguration (configuration_of input) → length input ≤ most_bytes → ¬ Rose f g → ¬ Rose h i → (status ≡ Done) ⊎ (status ≡ NoMemory))
+    → IfSome before (λ input. (line : List ℕ) → IsAccepted (configuration_of input) line → length input ≤ most_bytes → ¬ Rose f g → ¬ Rose h i → (status ≡ Done) ⊎ (status ≡ NoMemory))
 good_answered None now k l f g h i status run = tt
-good_answered (Some input) now k l f g h i Done run = λ good size s t. inl refl
-good_answered (Some input) now k l f g h i NoMemory run = λ good size s t. inr refl
+good_answered (Some input) now k l f g h i Done run = λ line good size s t. inl refl
+good_answered (Some input) now k l f g h i NoMemory run = λ line good size s t. inr refl
 good_answered (Some input) now k l f g h i Usage run = absurd run.answers
-good_answered (Some input) now k l f g h i ReadFault run = λ good size s t. absurd (s run.answers.0.fails)
-good_answered (Some input) now k l f g h i WriteFault run = λ good size s t. absurd (t run.answers.fails)
-good_answered (Some input) now k l f g h i TooLong run = λ good size s t.
+good_answered (Some input) now k l f g h i ReadFault run = λ line good size s t. absurd (s run.answers.0.fails)
+good_answered (Some input) now k l f g h i WriteFault run = λ line good size s t. absurd (t run.answers.fails)
+good_answered (Some input) now k l f g h i TooLong run = λ line good size s t.
     let more = consumed input run.taken now run.takes in
     absurd (omega (arith, run.answers.0.long, ap length more.1, length-append run.taken more.0))
-good_answered (Some input) now k l f g h i Refused run = λ good size s t.
+good_answered (Some input) now k l f g h i Refused run = λ line good size s t.
     let more = consumed input run.taken now run.takes in
     let same = judged_whole (span (Some input) now f g) input run.taken more.0 more.1 (all_consumed input run.taken now run.takes) run.answers.ended in
-    absurd (one_judgement (configuration_of input) run.written good (subst (λ text. Refuses text run.written) same run.answers.refuses))
+    absurd (one_judgement (configuration_of input) line run.written good (subst (λ text. Refuses text run.written) same run.answers.refuses))
 
 -- and so is a refused one
 pub refused_answered : (before now k l : Option (List ℕ)) (f g h i : ℕ) (status : Status) → Checks (span before now f g) (span k l h i) status
@@ -80,5 +80,5 @@ refused_answered (Some input) now k l f g h i TooLong run = λ line refused size
     let more = consumed input run.taken now run.takes in
     absurd (omega (arith, run.answers.0.long, ap length more.1, length-append run.taken more.0))
 refused_answered (Some input) now k l f g h i Done run = λ line refused size s t.
-    let whole = all_consumed input run.taken now run.takes run.answers.0.end in
-    absurd (one_judgement (configuration_of input) line (subst IsConfiguration (sym (ap configuration_of whole)) run.answers.0.good) refused)
+    let whole = all_consumed input run.taken now run.takes run.answers.end in
+    absurd (one_judgement (configuration_of input) run.written line (subst (λ t. IsAccepted t run.written) (sym (ap configuration_of whole)) run.answers.good) refused)

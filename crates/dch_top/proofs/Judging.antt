@@ -1,7 +1,7 @@
 -- How the configuration of an input is gathered and judged, piece by piece.
-use Rattle.std.proofs.Common.{◌≡◌, ◌+◌, ◌-◌, ◌<◌, ◌≤◌, ℕ, List, [], ◌++◌, Option, true, false, length, take, arith, refl, ap, sym, ◌∙◌, subst, append-nil, inl, inr, length-append}
+use Rattle.std.proofs.Common.{◌≡◌, ◌+◌, ◌-◌, ◌≤◌, ℕ, List, [], ◌++◌, Option, true, false, length, take, arith, refl, ap, sym, ◌∙◌, subst, append-nil, inl, inr, length-append}
 use Rattle.std.specs.Prelude.{Result, Ok, Err, String, string_bytes}
-use Rattle.std.specs.Io.KnownBytes.{Consumes, IsAtEnd}
+use Rattle.std.specs.Io.KnownBytes.{Consumes}
 use Rattle.std.proofs.KnownBytes.{Consumes-trans, Consumes-nil, Consumes-kept}
 use Rattle.std.proofs.lemmas.Bool.{false≢true}
 use Rattle.std.proofs.lemmas.List.{nil_from_length, take-append-le, take_all}
@@ -10,13 +10,13 @@ use Rattle.std.specs.declared.alloc.Global.{Global}
 use Rattle.dch_io.specs.Ends.{End, span}
 use Rattle.dch_io.specs.declared.feed.TheConstants.{LIMIT, PIECE}
 use Rattle.dch_check.specs.Front.{Gathered, configuration_of, gathered, is_complete, nothing, settled}
-use Rattle.dch_check.specs.Refusals.{IsConfiguration, Judges, Refuses}
+use Rattle.dch_check.specs.Verdicts.{IsAccepted, Refuses}
 use Rattle.dch_check.specs.declared.verdict.Verdict.{Verdict}
-use Rattle.dch_check.specs.declared.verdict.Verdict.TheVariants.{Good, Refused as RefusedBy}
-use Rattle.dch_check.proofs.Fronts.{gathered_on, settled_all, complete_more, configuration_more}
-use Rattle.dch_top.specs.Checked.{Finds, HasEnded, IsGoodSoFar, IsOneMore, IsPiece, Judged, JudgesText, PassesOver, ReadsOn}
+use Rattle.dch_check.specs.declared.verdict.Verdict.TheVariants.{Accepted as AcceptedBy, Refused as RefusedBy}
+use Rattle.dch_check.proofs.Fronts.{gathered_on, settled_all, configuration_more}
+use Rattle.dch_top.specs.Checked.{IsPiece, Judged, JudgesText, PassesOver, ReadsOn}
 use Rattle.dch_top.specs.declared.command.Status.{Status}
-use Rattle.dch_top.specs.declared.command.Status.TheVariants.{Ok as Done, Refused, Usage, ReadFault, WriteFault, NoMemory, TooLong}
+use Rattle.dch_top.specs.declared.command.Status.TheVariants.{ReadFault, NoMemory, TooLong}
 
 -- the rest of an input is taken, and has not ended
 pub record Passing (source : End) (first count : ℕ) : Type 0 where
@@ -125,13 +125,13 @@ no_memory a b c f g h count front piece status gathering next same = rw same (re
 pub judged_at_end : (a b c : Option (List ℕ)) (f g h count : ℕ) (front : Gathered) (piece : List ℕ) (found : Result Verdict Status) → Gathering (span a b f g) front count → IsPiece (span b c g h) count piece
     → length piece ≡ 0 → JudgesText (settled front) found → Judged (span a c f h) found
 judged_at_end a b c f g h count front piece (Err status) gathering next none judges = no_memory a b c f g h count front piece status gathering next judges
-judged_at_end a b c f g h count front piece (Ok Good) gathering next none judges =
+judged_at_end a b c f g h count front piece (Ok (AcceptedBy line)) gathering next none judges =
     let text : settled front ≡ configuration_of gathering.taken = ap settled gathering.gathers ∙ settled_all gathering.taken in
     let nil : piece ≡ [] = nil_from_length piece none in
     record {
       taken = gathering.taken;
       takes = subst (Consumes a c) (ap (λ l. gathering.taken ++ l) nil ∙ append-nil gathering.taken) (Consumes-trans a b c gathering.taken piece gathering.takes next.takes);
-      finds = record { end = next.end none; within = omega (arith, gathering.counted, gathering.within); good = subst IsConfiguration text judges };
+      finds = record { end = next.end none; within = omega (arith, gathering.counted, gathering.within); good = subst (λ t. IsAccepted t (string_bytes line)) text judges };
     }
 judged_at_end a b c f g h count front piece (Ok (RefusedBy line)) gathering next none judges =
     let text : settled front ≡ configuration_of gathering.taken = ap settled gathering.gathers ∙ settled_all gathering.taken in
@@ -200,12 +200,12 @@ judged_refused a b f g count next line complete judges = record {
 pub judged_nothing : (a b : Option (List ℕ)) (f g count : ℕ) (next : Gathered) (status : Status) → Completes (span a b f g) next count → status ≡ NoMemory → Judged (span a b f g) (Err status)
 judged_nothing a b f g count next status complete same = rw same (record { taken = complete.taken ++ complete.piece; takes = complete.takes; finds = tt })
 
--- a good configuration stays good, whatever follows
-good_more : (bytes more : List ℕ) → is_complete bytes ≡ true → IsConfiguration (configuration_of bytes) → IsConfiguration (configuration_of (bytes ++ more))
-good_more bytes more done good = subst IsConfiguration (sym (configuration_more bytes more done)) good
+-- an accepted configuration stays so, whatever follows
+good_more : (bytes more line : List ℕ) → is_complete bytes ≡ true → IsAccepted (configuration_of bytes) line → IsAccepted (configuration_of (bytes ++ more)) line
+good_more bytes more line done good = subst (λ t. IsAccepted t line) (sym (configuration_more bytes more done)) good
 
-pub judged_good : (a b c : Option (List ℕ)) (f g h count : ℕ) (next : Gathered) → Completes (span a b f g) next count → JudgesText (settled next) (Ok Good) → PassesOver (span b c g h) count (Ok tt) → Judged (span a c f h) (Ok Good)
-judged_good a b c f g h count next complete judges passes =
+pub judged_good : (a b c : Option (List ℕ)) (f g h count : ℕ) (next : Gathered) (line : String Global) → Completes (span a b f g) next count → JudgesText (settled next) (Ok (AcceptedBy line)) → PassesOver (span b c g h) count (Ok tt) → Judged (span a c f h) (Ok (AcceptedBy line))
+judged_good a b c f g h count next line complete judges passes =
     let bytes : List ℕ = complete.taken ++ complete.piece in
     record {
       taken = bytes ++ passes.more;
@@ -213,12 +213,12 @@ judged_good a b c f g h count next complete judges passes =
       finds = record {
         end = passes.ends.0;
         within = omega (arith, passes.ends.1, complete.counted, length-append bytes passes.more);
-        good = good_more bytes passes.more complete.done (subst IsConfiguration complete.text judges);
+        good = good_more bytes passes.more (string_bytes line) complete.done (subst (λ t. IsAccepted t (string_bytes line)) complete.text judges);
       };
     }
 
-pub judged_fault : (a b c : Option (List ℕ)) (f g h count : ℕ) (next : Gathered) (status : Status) → Completes (span a b f g) next count → JudgesText (settled next) (Ok Good) → PassesOver (span b c g h) count (Err status) → Judged (span a c f h) (Err status)
-judged_fault a b c f g h count next ReadFault complete judges passes =
+pub judged_fault : (a b c : Option (List ℕ)) (f g h count : ℕ) (next : Gathered) (line : String Global) (status : Status) → Completes (span a b f g) next count → JudgesText (settled next) (Ok (AcceptedBy line)) → PassesOver (span b c g h) count (Err status) → Judged (span a c f h) (Err status)
+judged_fault a b c f g h count next line ReadFault complete judges passes =
     let bytes : List ℕ = complete.taken ++ complete.piece in
     record {
       taken = bytes ++ passes.more;
@@ -226,10 +226,10 @@ judged_fault a b c f g h count next ReadFault complete judges passes =
       finds = record {
         fails = omega (arith, complete.later, passes.ends.0);
         within = omega (arith, passes.ends.1, complete.counted, length-append bytes passes.more);
-        good = λ done. good_more bytes passes.more complete.done (subst IsConfiguration complete.text judges);
+        good = λ done. (string_bytes line, good_more bytes passes.more (string_bytes line) complete.done (subst (λ t. IsAccepted t (string_bytes line)) complete.text judges));
       };
     }
-judged_fault a b c f g h count next TooLong complete judges passes =
+judged_fault a b c f g h count next line TooLong complete judges passes =
     let bytes : List ℕ = complete.taken ++ complete.piece in
     let rest : ℕ = LIMIT - length bytes in
     let split : LIMIT ≡ length bytes + rest = omega (arith, complete.counted, complete.within) in
@@ -239,7 +239,7 @@ judged_fault a b c f g h count next TooLong complete judges passes =
       takes = Consumes-trans a b c bytes passes.more complete.takes passes.takes;
       finds = record {
         long = omega (arith, passes.ends, complete.counted, length-append bytes passes.more);
-        good = rw front_is (λ done. good_more bytes (take rest passes.more) complete.done (subst IsConfiguration complete.text judges));
+        good = rw front_is (λ done. (string_bytes line, good_more bytes (take rest passes.more) (string_bytes line) complete.done (subst (λ t. IsAccepted t (string_bytes line)) complete.text judges)));
       };
     }
-judged_fault a b c f g h count next status complete judges passes = absurd passes.ends
+judged_fault a b c f g h count next line status complete judges passes = absurd passes.ends

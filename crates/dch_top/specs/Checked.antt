@@ -1,22 +1,22 @@
 -- What `check` answers, by the bytes that it took and wrote.
-use Rattle.std.specs.Prelude.{◌≡◌, ◌<◌, ◌≤◌, ◌⊎◌, ◌+◌, ℕ, List, [], ◌++◌, Bool, true, false, length, take, Result, Ok, Err, string_bytes}
+use Rattle.std.specs.Prelude.{◌≡◌, ◌<◌, ◌≤◌, ◌⊎◌, ◌+◌, ℕ, List, [], ◌++◌, true, false, length, take, Result, Ok, Err, string_bytes}
 use Rattle.std.specs.Borrow.{Bor}
 use Rattle.std.specs.Io.KnownBytes.{Consumes, Appends, IsAtEnd, Keeps}
 use Rattle.dch_io.specs.Ends.{End, Breaks, Fails, IsCutShort}
 use Rattle.dch_io.specs.declared.feed.TheConstants.{LIMIT, PIECE}
 use Rattle.dch_check.specs.Front.{configuration_of, is_complete}
-use Rattle.dch_check.specs.Refusals.{IsConfiguration, Judges, Refuses, checked}
+use Rattle.dch_check.specs.Verdicts.{IsAccepted, Judges, Refuses}
 use Rattle.dch_check.specs.declared.verdict.Verdict.{Verdict}
-use Rattle.dch_check.specs.declared.verdict.Verdict.TheVariants.{Good, Refused as RefusedBy}
+use Rattle.dch_check.specs.declared.verdict.Verdict.TheVariants.{Accepted as AcceptedBy, Refused as RefusedBy}
 use Rattle.dch_top.specs.Bounds.{most_bytes, most_of_a_piece}
 use Rattle.dch_top.specs.declared.command.Status.{Status}
 use Rattle.dch_top.specs.declared.command.Status.TheVariants.{Ok as Done, Refused, Usage, ReadFault, WriteFault, NoMemory, TooLong}
 
--- the input was taken to its end, and its configuration is good
-pub record IsGoodInput (source : End) (taken : List ℕ) : Type 0 where
+-- the input was taken to its end, and its configuration is accepted by this line
+pub record IsGoodInput (source : End) (taken line : List ℕ) : Type 0 where
   pub end : IsAtEnd source.now
   pub within : length taken ≤ most_bytes
-  pub good : IsConfiguration (configuration_of taken)
+  pub good : IsAccepted (configuration_of taken) line
 
 -- the configuration is complete: the line `---` was taken, or the input ended
 abbrev pub HasEnded : End → List ℕ → Type 0
@@ -35,7 +35,7 @@ pub record IsRefusedInput (source : End) (taken line : List ℕ) : Type 0 where
 
 -- no configuration that is complete is refused
 abbrev pub IsGoodSoFar : List ℕ → Type 0
-IsGoodSoFar taken = is_complete taken ≡ true → IsConfiguration (configuration_of taken)
+IsGoodSoFar taken = is_complete taken ≡ true → (line : List ℕ) × IsAccepted (configuration_of taken) line
 
 -- a read failed
 pub record FailsJudging (source : End) (taken : List ℕ) : Type 0 where
@@ -52,12 +52,12 @@ pub record IsBeyond (taken : List ℕ) : Type 0 where
 pub record FailsAnswering (source sink : End) (taken written : List ℕ) : Type 0 where
   pub fails : Fails sink
   pub line : List ℕ
-  pub answers : (IsGoodInput source taken × (line ≡ checked)) ⊎ IsRefusedInput source taken line
+  pub answers : IsGoodInput source taken line ⊎ IsRefusedInput source taken line
   pub cut : IsCutShort written line
 
 -- what is written where the bytes taken are these
 abbrev pub ChecksTaken : End → End → List ℕ → List ℕ → Status → Type 0
-ChecksTaken source sink taken written Done = IsGoodInput source taken × (written ≡ checked)
+ChecksTaken source sink taken written Done = IsGoodInput source taken written
 ChecksTaken source sink taken written Refused = IsRefusedInput source taken written
 ChecksTaken source sink taken written Usage = ⊥
 ChecksTaken source sink taken written ReadFault = FailsJudging source taken × (written ≡ [])
@@ -75,7 +75,7 @@ pub record Checks (source sink : End) (status : Status) : Type 0 where
 
 -- what judging the bytes taken finds
 abbrev pub Finds : End → List ℕ → Result Verdict Status → Type 0
-Finds source taken (Ok Good) = IsGoodInput source taken
+Finds source taken (Ok (AcceptedBy line)) = IsGoodInput source taken (string_bytes line)
 Finds source taken (Ok (RefusedBy line)) = IsRefusedInput source taken (string_bytes line)
 Finds source taken (Err ReadFault) = FailsJudging source taken
 Finds source taken (Err NoMemory) = Unit {0}
@@ -95,8 +95,8 @@ JudgesText text (Err status) = status ≡ NoMemory
 
 -- what writing the line of a judgement does
 abbrev pub Answers : End → Verdict → Status → Type 0
-Answers sink Good Done = Appends sink.before sink.now checked
-Answers sink Good WriteFault = Breaks sink checked
+Answers sink (AcceptedBy line) Done = Appends sink.before sink.now (string_bytes line)
+Answers sink (AcceptedBy line) WriteFault = Breaks sink (string_bytes line)
 Answers sink (RefusedBy line) Refused = Appends sink.before sink.now (string_bytes line)
 Answers sink (RefusedBy line) WriteFault = Breaks sink (string_bytes line)
 Answers sink _ _ = ⊥

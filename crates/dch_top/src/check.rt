@@ -10,7 +10,7 @@ use dch_check::{Front, Verdict, judge};
 use dch_io::{Failed, LIMIT, PIECE, Sink, Source, new_piece, read_piece, write_all};
 use std::alloc::Global;
 
-/// Runs `check`: judges the configuration as soon as it is complete, and takes the rest of the input after a good one.
+/// Runs `check`: judges the configuration as soon as it is complete, and takes the rest of the input after one that is accepted.
 pub fn check<S: Source, K: Sink>(alloc: Global, source: &mut S, sink: &mut K) -> Status
     ensures { Checks (end_of S.left S.faults source.old source.new) (end_of K.taken K.faults sink.old sink.new) result }
 {
@@ -26,7 +26,7 @@ fn answer<K: Sink>(verdict: &Verdict, sink: &mut K) -> Status
 {
     match write_all(sink, verdict.line()) {
         Ok(()) => match verdict {
-            Verdict::Good => Status::Ok,
+            Verdict::Accepted(_) => Status::Ok,
             Verdict::Refused(_) => Status::Refused,
         },
         Err(_failed) => Status::WriteFault,
@@ -61,10 +61,11 @@ fn judge_pieces<S: Source>(
         count += piece.len();
         front = gather(front, piece)?;
         if front.is_complete() {
-            return match judge_front(alloc, &front)? {
-                Verdict::Good => {
+            let verdict = judge_front(alloc, &front)?;
+            return match verdict {
+                Verdict::Accepted(line) => {
                     pass_over(source, room, count)?;
-                    Ok(Verdict::Good)
+                    Ok(Verdict::Accepted(line))
                 }
                 Verdict::Refused(line) => Ok(Verdict::Refused(line)),
             };

@@ -3,7 +3,7 @@ ghost use Rattle.dch_io.specs.Causes.{Rose};
 ghost use Rattle.dch_io.specs.Ends.{end_of};
 ghost use Rattle.dch_script.specs.Lines.{lines_of, rest_of};
 ghost use Rattle.dch_check.specs.Front.{configuration_of};
-ghost use Rattle.dch_check.specs.Refusals.{IsConfiguration, Refuses};
+ghost use Rattle.dch_check.specs.Verdicts.{IsAccepted, Refuses};
 ghost use Rattle.dch_words.specs.declared.words.Verb.TheVariants.{Check, Encode};
 ghost use Rattle.dch_top.specs.Bounds.{most_bytes};
 ghost use Rattle.dch_top.specs.Ran.{Ran, Asks, IsNoCommand, Misuses, AreGood};
@@ -58,7 +58,7 @@ pub fn run<S: Source, K: Sink>(
         → (result ≡ Status.Ok) ⊎ (result ≡ Status.NoMemory)) }
 
     // A configuration without a fault is judged.
-    ensures good { Asks words.now Check → IfSome (S.left source.old) (λ input. IsConfiguration (configuration_of input) → length input ≤ most_bytes
+    ensures good { Asks words.now Check → IfSome (S.left source.old) (λ input. (line : List ℕ) → IsAccepted (configuration_of input) line → length input ≤ most_bytes
         → ¬ Rose (S.faults source.old) (S.faults source.new) → ¬ Rose (K.faults sink.old) (K.faults sink.new)
         → (result ≡ Status.Ok) ⊎ (result ≡ Status.NoMemory)) }
     ensures refused { Asks words.now Check → IfSome (S.left source.old) (λ input. (line : List ℕ) → Refuses (configuration_of input) line → length input ≤ most_bytes

@@ -168,11 +168,12 @@ channel = [
   { tti = 40, code = \"third\", crc = 16, rm = 180, set = 1, formats = [[0,0],[1,148]] }
 ]";
 
-/// Speech in three classes with signalling, with the window of its acknowledged bearer.
-fn speech(alloc: Global, window: u16) -> Result<String, AllocError> {
+/// Speech in three classes with signalling, with the window of its acknowledged bearer, the greatest uplink frame and the
+/// puncturing limit.
+fn speech(alloc: Global, window: u16, largest: u16, pl: u8) -> Result<String, AllocError> {
     format!(in alloc;
         "[iub]\npayload_check = true\nqe = 0
-[uplink]\nlargest = 600\npl = 100\n{SPEECH_CHANNELS}
+[uplink]\nlargest = {largest}\npl = {pl}\n{SPEECH_CHANNELS}
 [downlink]\nslot_bits = 34\ncodes = 1\nsf = 128\npositions = \"fixed\"\n{SPEECH_CHANNELS}
 [[bearer]]\nmode = \"tm\"\nup = 0\ndown = 0\npriority = 2\nbuffer = 8
 [[bearer]]\nmode = \"tm\"\nup = 1\ndown = 1\npriority = 2\nbuffer = 8
@@ -188,10 +189,10 @@ fn configurations_and_their_judgement(rt: HostRuntime) -> Result<(), Fail> {
     let both = "[[0],[1]]";
     let plain = "[[0,0],[1,150]]";
     let cases = [
-        (tiny(alloc, "none", 0, plain, both)?, "checked\n"),
-        (speech(alloc, 128)?, "checked\n"),
-        (speech(alloc, 2048)?, "checked\n"),
-        (speech(alloc, 2049)?, "refused 22 bearer=4\n"),
+        (tiny(alloc, "none", 0, plain, both)?, "accepted count=0\n"),
+        (speech(alloc, 2048, 600, 100)?, "accepted count=2\n"),
+        (speech(alloc, 2049, 600, 100)?, "refused 22 bearer=4\n"),
+        (speech(alloc, 128, 150, 40)?, "refused 25 combination=2\n"),
         (
             tiny(alloc, "turbo", 0, plain, both)?,
             "refused 12 range=uplink.channel.0.code\n",
@@ -212,7 +213,7 @@ fn configurations_and_their_judgement(rt: HostRuntime) -> Result<(), Fail> {
         (format!(in alloc; "")?, "refused 11 key=downlink\n"),
     ];
     for (text, line) in cases {
-        let status = if line == "checked\n" {
+        let status = if line.starts_with("accepted") {
             Status::Ok
         } else {
             Status::Refused
@@ -225,6 +226,95 @@ fn configurations_and_their_judgement(rt: HostRuntime) -> Result<(), Fail> {
                 assert_eq!(rt; sink.bytes(), line.as_bytes());
             }
         }
+    }
+    Ok(())
+}
+
+/// Channel 0 has a TTI of 80 ms and two formats of so many blocks and bits; channel 1 has a TTI of 10 ms and no coding.
+fn eight_frames(alloc: Global, second: &str) -> Result<String, AllocError> {
+    format!(in alloc;
+        "[iub]\npayload_check = false\nqe = 0
+[uplink]\nlargest = 600\npl = 50\ncombinations = [[0,0],[1,0],[2,0],[0,1],[1,1],[2,1]]
+channel = [
+  {{ tti = 80, code = \"third\", crc = 0, rm = 128, set = 0, formats = [[0,0],[4,392],{second}] }},
+  {{ tti = 10, code = \"none\", crc = 0, rm = 200, set = 1, formats = [[0,0],[1,66]] }}
+]
+[downlink]\nslot_bits = 10\ncodes = 1\nsf = 256\npositions = \"fixed\"\ncombinations = [[0],[1]]
+channel = [{{ tti = 10, code = \"none\", crc = 0, rm = 256, set = 0, formats = [[0,0],[1,150]] }}]\n"
+    )
+}
+
+const PACKET_CHANNELS: &str = "combinations = [
+  [0,0,0,0,0],[1,0,0,0,0],[2,1,1,0,0],[0,0,0,1,0],[1,0,0,1,0],[2,1,1,1,0],
+  [0,0,0,0,1],[1,0,0,0,1],[2,1,1,0,1],[0,0,0,1,1],[1,0,0,1,1],[2,1,1,1,1],
+  [0,0,0,0,2],[1,0,0,0,2],[2,1,1,0,2],[0,0,0,1,2],[1,0,0,1,2],[2,1,1,1,2],
+  [0,0,0,0,3],[1,0,0,0,3],[2,1,1,0,3],[0,0,0,1,3],[1,0,0,1,3],[2,1,1,1,3],
+  [0,0,0,0,4],[1,0,0,0,4],[2,1,1,0,4],[0,0,0,1,4],[1,0,0,1,4],[2,1,1,1,4],
+  [0,0,0,0,5],[1,0,0,0,5],[2,1,1,0,5],[0,0,0,1,5],[1,0,0,1,5],[2,1,1,1,5]
+]
+channel = [
+  { tti = 20, code = \"third\", crc = 12, rm = 200, set = 0, formats = [[0,0],[1,39],[1,81]] },
+  { tti = 20, code = \"third\", crc = 0, rm = 190, set = 0, formats = [[0,0],[1,103]] },
+  { tti = 20, code = \"half\", crc = 0, rm = 235, set = 0, formats = [[0,0],[1,60]] },
+  { tti = 40, code = \"third\", crc = 16, rm = 190, set = 1, formats = [[0,0],[1,148]] },
+  { tti = 10, code = \"half\", crc = 16, rm = 130, set = 2, formats = [[0,0],[1,336],[2,336],[4,336],[8,336],[12,336]] }
+]";
+
+/// Speech beside packets of up to twelve blocks every 10 ms.
+fn packets(alloc: Global) -> Result<String, AllocError> {
+    format!(in alloc;
+        "[iub]\npayload_check = true\nqe = 0
+[uplink]\nlargest = 9600\npl = 100\n{PACKET_CHANNELS}
+[downlink]\nslot_bits = 608\ncodes = 1\nsf = 8\npositions = \"fixed\"\n{PACKET_CHANNELS}\n"
+    )
+}
+
+/// A downlink channel of 100 bits in frames of 90 cells.
+const SHORT_FRAMES: &str = "[iub]
+payload_check = false
+qe = 0
+[uplink]
+largest = 150
+pl = 100
+combinations = [[0],[1]]
+channel = [{ tti = 10, code = \"none\", crc = 0, rm = 256, set = 0, formats = [[0,0],[1,150]] }]
+[downlink]
+slot_bits = 6
+codes = 1
+sf = 256
+positions = \"fixed\"
+combinations = [[0],[1]]
+channel = [{ tti = 10, code = \"none\", crc = 0, rm = 256, set = 0, formats = [[0,0],[1,100]] }]
+";
+
+const LOST_BIT: &str = "refused 40 down channel=0 format=1 block=0 sequence=1 \
+first=0000000000000000000000000000000000000000000000000000000000000000000000000000000000000000000000000000 \
+second=0000000000000000000000000000000000000000000000000000000000000000000000000000000000000000001000000000\n";
+
+#[test]
+fn counts_and_a_collision(rt: HostRuntime) -> Result<(), Fail> {
+    let alloc = rt.alloc();
+    for (text, status, line) in [
+        (
+            eight_frames(alloc, "[4,391]")?,
+            Status::Ok,
+            "accepted count=2048\n",
+        ),
+        (
+            eight_frames(alloc, "[5,404]")?,
+            Status::Refused,
+            "refused 27 count=2304\n",
+        ),
+        (packets(alloc)?, Status::Ok, "accepted count=21\n"),
+        (
+            format!(in alloc; "{SHORT_FRAMES}")?,
+            Status::Refused,
+            LOST_BIT,
+        ),
+    ] {
+        let (answer, sink) = answered(alloc, "check", text.as_bytes(), 65_536, &[], &[])?;
+        assert_eq!(rt; answer, status);
+        assert_eq!(rt; sink.bytes(), line.as_bytes());
     }
     Ok(())
 }

@@ -1,7 +1,7 @@
-use Rattle.std.proofs.Common.{◌≡◌, length, rules, sym, Err, Ok, eqb-true}
+use Rattle.std.proofs.Common.{◌≡◌, length, rules, sym, Err, eqb-true}
 use Rattle.dch_top.proofs.Judging.{gathers_fault, gathers_piece, no_memory, judged_at_end, completes_with, judged_refused, judged_nothing, judged_good, judged_fault}
 use Rattle.dch_top.proofs.check.judge_pieces.Goals as goal
-use Rattle.dch_top.proofs.check.judge_pieces.Goals.{in-Good+in_ok-pass_over-in-Good, in-Refused}
+use Rattle.dch_top.proofs.check.judge_pieces.Goals.{in-Accepted+in_ok-pass_over-in-Accepted, in-Refused}
 
 pub returns-in_err-piece : goal.returns-in_err-piece
 returns-in_err-piece g c =
@@ -18,24 +18,24 @@ returns-in_err-front g c =
     let same : c.from_residual-in_err-front.result ≡ Err c.in_err-front.field-0.0 = search rules in
     rw same (no_memory _ _ _ _ _ _ c.pieces.count c.pieces.front c.in_ok-piece.piece.now c.in_err-front.field-0.0 c.pieces.invariant c.in_ok-piece.ensures.reads c.in_err-front.ensures.err)
 
-pub returns-in_err-judge_front : goal.returns-in_err-judge_front
-returns-in_err-judge_front g c =
-    let same : c.from_residual-in_err-judge_front.result ≡ Err c.in_err-judge_front.field-0.0 = search rules in
+pub returns-in_err-verdict : goal.returns-in_err-verdict
+returns-in_err-verdict g c =
+    let same : c.from_residual-in_err-verdict.result ≡ Err c.in_err-verdict.field-0.0 = search rules in
     let whole = completes_with _ _ _ _ _ _ c.pieces.count c.pieces.front c.in_ok-front.front c.in_ok-piece.piece.now c.read_on.ensures.later c.pieces.invariant c.in_ok-piece.ensures.reads c.in_ok-front.ensures.ok (sym c.if-is_complete.ensures) in
-    rw same (judged_nothing _ _ _ _ _ c.in_ok-front.front c.in_err-judge_front.field-0.0 whole c.in_err-judge_front.ensures)
+    rw same (judged_nothing _ _ _ _ _ c.in_ok-front.front c.in_err-verdict.field-0.0 whole c.in_err-verdict.ensures)
 
-pub returns-in_err-pass_over-in-Good : goal.returns-in_err-pass_over-in-Good
-returns-in_err-pass_over-in-Good g c =
-    let same : c.from_residual-in_err-pass_over-in-Good.result ≡ Err c.in_err-pass_over-in-Good.field-0.0 = search rules in
+pub returns-in_err-pass_over-in-Accepted : goal.returns-in_err-pass_over-in-Accepted
+returns-in_err-pass_over-in-Accepted g c =
+    let same : c.from_residual-in_err-pass_over-in-Accepted.result ≡ Err c.in_err-pass_over-in-Accepted.field-0.0 = search rules in
     let whole = completes_with _ _ _ _ _ _ c.pieces.count c.pieces.front c.in_ok-front.front c.in_ok-piece.piece.now c.read_on.ensures.later c.pieces.invariant c.in_ok-piece.ensures.reads c.in_ok-front.ensures.ok (sym c.if-is_complete.ensures) in
-    rw same (judged_fault _ _ _ _ _ _ _ c.in_ok-front.front c.in_err-pass_over-in-Good.field-0.0 whole (rw c.in-Good.is at c.in_ok-judge_front.ensures) c.in_err-pass_over-in-Good.ensures.passes)
+    rw same (judged_fault _ _ _ _ _ _ _ c.in_ok-front.front c.in-Accepted.line c.in_err-pass_over-in-Accepted.field-0.0 whole (rw c.in-Accepted.is at c.in_ok-verdict.ensures) c.in_err-pass_over-in-Accepted.ensures.passes)
 
 pub returns-then-is_complete : goal.returns-then-is_complete
 returns-then-is_complete g c =
     let whole = completes_with _ _ _ _ _ _ c.pieces.count c.pieces.front c.in_ok-front.front c.in_ok-piece.piece.now c.read_on.ensures.later c.pieces.invariant c.in_ok-piece.ensures.reads c.in_ok-front.ensures.ok (sym c.if-is_complete.ensures) in
-    elim c.match-branch-4.branch [
-      | in-Good+in_ok-pass_over-in-Good w ↦ rw (w.source-is, w.result-is) (judged_good _ _ _ _ _ _ _ c.in_ok-front.front whole (rw w.in-Good.is at c.in_ok-judge_front.ensures) w.in_ok-pass_over-in-Good.ensures.passes)
-      | in-Refused w ↦ rw (w.source-is, w.result-is) (judged_refused _ _ _ _ _ c.in_ok-front.front w.in-Refused.line whole (rw w.in-Refused.is at c.in_ok-judge_front.ensures))
+    elim c.match-verdict.branch [
+      | in-Accepted+in_ok-pass_over-in-Accepted w ↦ rw (w.source-is, w.result-is) (judged_good _ _ _ _ _ _ _ c.in_ok-front.front w.in-Accepted.line whole (rw w.in-Accepted.is at c.in_ok-verdict.ensures) w.in_ok-pass_over-in-Accepted.ensures.passes)
+      | in-Refused w ↦ rw (w.source-is, w.result-is) (judged_refused _ _ _ _ _ c.in_ok-front.front w.in-Refused.line whole (rw w.in-Refused.is at c.in_ok-verdict.ensures))
     ]
 
 pub pieces-preserved : goal.pieces-preserved

@@ -1,0 +1,63 @@
+-- The judgement of a text: its configuration is read and accepted, or refused.
+use Rattle.std.specs.Prelude.{◌≡◌, ◌≤◌, ◌⊎◌, ℕ, List, Some, Ok, Err, string_bytes}
+use Rattle.dch_types.specs.declared.config.Config.{Config}
+use Rattle.dch_config.specs.Reading.{Reads}
+use Rattle.dch_config.specs.declared.error.ConfigError.{ConfigError}
+use Rattle.dch_search.specs.Clear.{IsClear}
+use Rattle.dch_accept.specs.Answers.{HaveAllRates, count_of, IsCause}
+use Rattle.dch_accept.specs.declared.refusal.Refusal.{Refusal}
+use Rattle.dch_check.specs.Acceptance.{acceptance_refusal, accepted_line}
+use Rattle.dch_check.specs.Refusals.{refusal}
+use Rattle.dch_check.specs.declared.verdict.Verdict.{Verdict}
+use Rattle.dch_check.specs.declared.verdict.Verdict.TheVariants.{Accepted, Refused}
+
+-- a configuration is accepted, and this is the line that says so: each uplink combination has a rate, not too many code blocks
+-- may lose bits, and no two of them collide
+pub record IsAcceptedBy (config : Config) (line : List ℕ) : Type 0 where
+  pub rates : HaveAllRates config
+  pub few : count_of config ≤ 2048
+  pub clear : IsClear config
+  pub shown : line ≡ accepted_line (count_of config)
+
+-- it is not accepted, and this line says why
+pub record IsRefusedBy (config : Config) (line : List ℕ) : Type 0 where
+  pub why : Refusal
+  pub cause : IsCause config why
+  pub shown : acceptance_refusal why ≡ Some line
+
+-- the judgement of a configuration
+abbrev pub JudgesConfig : Config → Verdict → Type 0
+JudgesConfig config (Accepted line) = IsAcceptedBy config (string_bytes line)
+JudgesConfig config (Refused line) = IsRefusedBy config (string_bytes line)
+
+-- a text is read as a configuration that is accepted, and this is the line that says so
+pub record IsAccepted (text line : List ℕ) : Type 0 where
+  pub config : Config
+  pub reads : Reads text (Ok config)
+  pub accepted : IsAcceptedBy config line
+
+-- a text is not read as a configuration, and this line says why
+pub record IsUnread (text line : List ℕ) : Type 0 where
+  pub why : ConfigError
+  pub reads : Reads text (Err why)
+  pub shown : refusal why ≡ Some line
+
+-- a text is read as a configuration that is not accepted, and this line says why
+pub record IsUnaccepted (text line : List ℕ) : Type 0 where
+  pub config : Config
+  pub reads : Reads text (Ok config)
+  pub refused : IsRefusedBy config line
+
+-- a text is refused by this line
+abbrev pub Refuses : List ℕ → List ℕ → Type 0
+Refuses text line = IsUnread text line ⊎ IsUnaccepted text line
+
+-- the judgement of a text
+abbrev pub Judges : List ℕ → Verdict → Type 0
+Judges text (Accepted line) = IsAccepted text (string_bytes line)
+Judges text (Refused line) = Refuses text (string_bytes line)
+
+-- the line of a judgement
+abbrev pub verdict_line : Verdict → List ℕ
+verdict_line (Accepted line) = string_bytes line
+verdict_line (Refused line) = string_bytes line
