@@ -2,7 +2,7 @@
 use Rattle.std.proofs.Common.{◌≡◌, ℕ, List, ◌∷◌, drop, refl, ap, sym, subst, ◌∙◌}
 use Rattle.dch_bits.specs.declared.bit.Bit.{Bit}
 use Rattle.dch_bits.specs.declared.bit.Bit.TheVariants.{One}
-use Rattle.dch_crc.specs.Parity.{IsCheck, IsParity, header_polynomial, payload_polynomial, number_of_bits}
+use Rattle.dch_crc.specs.Parity.{IsCheck, header_polynomial, payload_polynomial, number_of_bits}
 use Rattle.dch_crc.proofs.Unique.{parity_one}
 
 one_check : (low a : List Bit) (x y : ℕ) → IsCheck (One ∷ low) a x → IsCheck (One ∷ low) a y → x ≡ y

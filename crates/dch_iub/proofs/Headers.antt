@@ -1,8 +1,7 @@
 -- The header of a frame.
-use Rattle.std.proofs.Common.{◌≡◌, ◌≢◌, ◌<◌, ◌≤◌, ◌+◌, ◌-◌, ◌*◌, ◌/◌, ◌%◌, ◌∙◌, ℕ, zero, suc, List, length, take, get_or, arith, ap, ap₂, sym, subst, refl, get_or-set_other, get_or-set_same}
-use Rattle.std.specs.Prelude.{slice_set, slice_index, if◌then◌else◌, ◌==◌}
+use Rattle.std.proofs.Common.{◌≡◌, ◌≢◌, ◌<◌, ◌+◌, ◌*◌, ◌/◌, ◌%◌, ◌∙◌, ℕ, zero, suc, List, length, get_or, arith, ap, sym, get_or-set_other, get_or-set_same}
+use Rattle.std.specs.Prelude.{slice_set, if◌then◌else◌, ◌==◌}
 use Rattle.std.specs.Int.{bit_at}
-use Rattle.dch_bits.specs.declared.bit.Bit.{Bit}
 use Rattle.dch_bits.specs.declared.bit.Bit.TheVariants.{Zero, One}
 use Rattle.dch_bits.specs.Octets.{bit_of_octets, octet_bit}
 use Rattle.dch_accept.specs.Padded.{bits_from}

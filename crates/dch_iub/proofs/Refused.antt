@@ -1,22 +1,20 @@
 -- A frame that is refused has no read form, and what was taken is in the read form.
-use Rattle.std.proofs.Common.{◌≡◌, ◌≢◌, ◌+◌, ◌*◌, ◌%◌, ◌<◌, ◌≤◌, ℕ, List, length, arith, ap, ap₂, sym, subst, ◌∙◌, inl, inr}
-use Rattle.std.specs.Prelude.{slice_index, true, Bool, Result, Ok, Err, IfOk, IfErr, OnErr}
+use Rattle.std.proofs.Common.{◌≡◌, ◌<◌, ℕ, List, length, arith, sym, subst, ◌∙◌, inl, inr}
+use Rattle.std.specs.Prelude.{slice_index, Result, Ok, Err, IfOk, IfErr, OnErr}
 use Rattle.dch_types.specs.declared.channel.Dir.TheVariants.{Up}
 use Rattle.dch_iub.specs.declared.read.IubUl.{IubUl}
-use Rattle.std.specs.Int.{div_ceil}
 use Rattle.dch_types.specs.declared.channel.Dir.{Dir}
-use Rattle.dch_types.specs.declared.channel.Side.{Side}
 use Rattle.dch_types.specs.declared.channel.Trch.{Trch}
 use Rattle.dch_types.specs.declared.config.Config.{Config}
-use Rattle.dch_types.specs.Parts.{channel_at, format_at}
+use Rattle.dch_types.specs.Parts.{channel_at}
 use Rattle.dch_config.specs.Bearers.{side_of}
-use Rattle.dch_accept.specs.Blocks.{Held, block_at}
+use Rattle.dch_accept.specs.Blocks.{Held}
 use Rattle.dch_accept.specs.HeldSets.{AreIdleFormats, HeldSet, HasFormat, IsSetOf, held_at}
 use Rattle.dch_accept.specs.Blocks.{HoldsFormats}
 use Rattle.dch_iub.specs.declared.error.IubError.{IubError}
 use Rattle.dch_iub.specs.declared.error.IubError.TheVariants.{Short, HeaderCheck, Control, Format, Length, PayloadCheck}
-use Rattle.dch_iub.specs.Shape.{ForSet, check_octets, frame_octets, header_octets, number_place, payload_end}
-use Rattle.dch_iub.specs.Forms.{IsPayloadCheck, IsReadForm, StandAt}
+use Rattle.dch_iub.specs.Shape.{ForSet, header_octets}
+use Rattle.dch_iub.specs.Forms.{IsPayloadCheck, IsReadForm}
 use Rattle.dch_iub.specs.Answers.{AreRead, IsCause, number_in}
 use Rattle.dch_iub.specs.Taken.{IsKept, IsMarkedAs, IsReceived, IsTaken}
 use Rattle.dch_iub.proofs.Sums.{frame_octets-same, payload_end-same}

@@ -1,17 +1,16 @@
 -- Parts of a frame in octets whose front stayed as it was.
-use Rattle.std.proofs.Common.{◌≡◌, ◌+◌, ◌-◌, ◌*◌, ◌/◌, ◌%◌, ◌<◌, ◌≤◌, ℕ, List, length, take, get_or, arith, ap, ap₂, sym, subst, ◌∙◌}
+use Rattle.std.proofs.Common.{◌≡◌, ◌+◌, ◌-◌, ◌*◌, ◌/◌, ◌%◌, ◌<◌, ◌≤◌, ℕ, List, length, take, get_or, arith, ap, sym, subst, ◌∙◌}
 use Rattle.std.specs.Prelude.{slice_index}
 use Rattle.std.specs.Int.{div_ceil}
 use Rattle.dch_bits.specs.declared.bit.Bit.{Bit}
 use Rattle.dch_types.specs.declared.channel.Side.{Side}
-use Rattle.dch_types.specs.Parts.{channel_at, format_at}
+use Rattle.dch_types.specs.Parts.{channel_at}
 use Rattle.dch_crc.specs.Parity.{IsCheck, header_polynomial}
-use Rattle.dch_accept.specs.Blocks.{Held}
 use Rattle.dch_accept.specs.HeldSets.{HeldSet, HasFormat, held_at}
 use Rattle.dch_accept.specs.Padded.{bits_from, format_octets}
 use Rattle.dch_iub.specs.Shape.{ForSet, sum_before, header_octets, number_place, blocks_end, blocks_place, octets_before, format_in}
-use Rattle.dch_iub.specs.Forms.{IsHeader, IsHeaderCheck}
-use Rattle.dch_iub.specs.Steps.{IsFront, AreNamed, AreWritten}
+use Rattle.dch_iub.specs.Forms.{IsHeader}
+use Rattle.dch_iub.specs.Steps.{IsFront, AreNamed}
 use Rattle.dch_iub.proofs.Fronts.{front_at, front_less, bits_from-front, all_packed_front}
 use Rattle.dch_iub.proofs.Sums.{sum_before-fits, channel_octets}
 

@@ -1,5 +1,5 @@
 -- Blocks that were read from their octets stand there.
-use Rattle.std.proofs.Common.{◌≡◌, ◌+◌, ◌-◌, ◌*◌, ◌<◌, ◌≤◌, ℕ, List, length, take, drop, arith, ap, ap₂, sym, subst, ◌∙◌, true}
+use Rattle.std.proofs.Common.{◌≡◌, ◌+◌, ◌*◌, ◌<◌, ◌≤◌, ℕ, List, length, take, drop, arith, ap, sym, subst, ◌∙◌, true}
 use Rattle.std.specs.Int.{div_ceil}
 use Rattle.std.proofs.lemmas.Grind.{div_ceil_times}
 use Rattle.std.proofs.lemmas.List.{length-replicate}
@@ -7,8 +7,7 @@ use Rattle.std.proofs.lemmas.Nat.{row_fits}
 use Rattle.dch_types.specs.declared.channel.Format.{Format}
 use Rattle.dch_types.specs.declared.channel.Trch.{Trch}
 use Rattle.dch_types.specs.Parts.{format_at}
-use Rattle.dch_accept.specs.Blocks.{Held, block_at}
-use Rattle.dch_accept.specs.HeldSets.{HasFormat}
+use Rattle.dch_accept.specs.Blocks.{Held}
 use Rattle.dch_accept.specs.Padded.{IsUnpacked, bits_from, format_octets}
 use Rattle.dch_iub.specs.Taken.{IsTaken}
 use Rattle.dch_iub.proofs.Fronts.{bits_from-part_at}

@@ -1,7 +1,6 @@
 -- The length of a frame by the bits that its blocks take.
-use Rattle.std.proofs.Common.{◌≡◌, ◌+◌, ◌*◌, ◌<◌, ◌≤◌, ℕ, zero, suc, List, length, arith, ap, ap₂, sym, subst, ◌∙◌, refl, true, false}
-use Rattle.std.specs.Prelude.{if◌then◌else◌, ◌==◌, Bool, slice_index}
-use Rattle.std.specs.Int.{div_ceil}
+use Rattle.std.proofs.Common.{◌≡◌, ◌+◌, ◌*◌, ◌<◌, ◌≤◌, ℕ, zero, suc, List, length, arith, refl, true, false}
+use Rattle.std.specs.Prelude.{if◌then◌else◌, ◌==◌, Bool}
 use Rattle.std.proofs.lemmas.Bool.{eqb-true}
 use Rattle.dch_types.specs.declared.channel.Dir.{Dir}
 use Rattle.dch_types.specs.declared.channel.Dir.TheVariants.{Up, Down}
@@ -11,7 +10,7 @@ use Rattle.dch_types.specs.Parts.{channel_at}
 use Rattle.dch_config.specs.Bearers.{side_of}
 use Rattle.dch_accept.specs.Padded.{format_octets}
 use Rattle.dch_iub.specs.Longest.{weight}
-use Rattle.dch_iub.specs.Shape.{AreFormats, ForSet, check_octets, format_in, frame_octets, header_octets, marks_before, octets_before, payload_end, sum_before, tail_octets}
+use Rattle.dch_iub.specs.Shape.{ForSet, format_in, frame_octets, payload_end, sum_before}
 
 choice_le : (b : Bool) (x y : ℕ) → (b ≡ true → x ≤ y) → (if b then x else 0) ≤ (if b then y else 0)
 choice_le true x y less = less refl

@@ -1,15 +1,13 @@
 -- What was written is in the written form.
-use Rattle.std.proofs.Common.{◌≡◌, ◌+◌, ◌-◌, ◌*◌, ◌<◌, ◌≤◌, ℕ, List, length, take, drop, get_or, arith, ap, ap₂, sym, subst, ◌∙◌, length-take, length-drop, refl, true}
-use Rattle.std.specs.Prelude.{slice_index}
+use Rattle.std.proofs.Common.{◌≡◌, ◌+◌, ◌*◌, ◌<◌, ◌≤◌, ℕ, List, length, drop, arith, ap, ap₂, sym, ◌∙◌, length-drop, true}
 use Rattle.std.specs.Int.{div_ceil}
 use Rattle.std.proofs.lemmas.Grind.{div_ceil_times}
 use Rattle.std.proofs.lemmas.List.{get_or_past, length-take-le}
 use Rattle.std.proofs.lemmas.Nat.{row_fits}
-use Rattle.dch_bits.specs.declared.bit.Bit.{Bit}
 use Rattle.dch_bits.specs.declared.bit.Bit.TheVariants.{Zero}
 use Rattle.dch_bits.specs.Octets.{bit_of_octets}
 use Rattle.dch_types.specs.declared.channel.Dir.{Dir}
-use Rattle.dch_types.specs.declared.channel.Dir.TheVariants.{Up, Down}
+use Rattle.dch_types.specs.declared.channel.Dir.TheVariants.{Up}
 use Rattle.dch_types.specs.declared.channel.Side.{Side}
 use Rattle.dch_types.specs.declared.channel.Trch.{Trch}
 use Rattle.dch_types.specs.declared.config.Config.{Config}
@@ -17,10 +15,9 @@ use Rattle.dch_types.specs.Parts.{channel_at, format_at}
 use Rattle.dch_config.specs.Bearers.{side_of}
 use Rattle.dch_accept.specs.Blocks.{Held, block_at}
 use Rattle.dch_accept.specs.HeldSets.{HeldSet, HasFormat, held_at}
-use Rattle.dch_accept.specs.Padded.{bits_from}
 use Rattle.dch_accept.proofs.Unpacked.{bits_are}
 use Rattle.dch_iub.specs.Shape.{ForSet, frame_octets, header_octets, payload_end, blocks_end, mark_count, marks_before, format_in}
-use Rattle.dch_iub.specs.Forms.{ArePadded, AreMarked, IsPayloadCheck, IsTail, IsTailPadded, IsUplinkTail, IsWrittenForm, StandAt}
+use Rattle.dch_iub.specs.Forms.{ArePadded, AreMarked, IsPayloadCheck, IsTail, IsTailPadded, IsWrittenForm, StandAt}
 use Rattle.dch_iub.specs.Steps.{ArePacked, IsFront, IsMarked}
 use Rattle.dch_iub.proofs.Sums.{sum_before-fits}
 use Rattle.dch_iub.proofs.Transfers.{AreOf}

@@ -8,7 +8,7 @@ use Rattle.dch_types.specs.declared.channel.Side.{Side}
 use Rattle.dch_types.specs.Parts.{channel_at}
 use Rattle.dch_accept.specs.Blocks.{Held, block_at}
 use Rattle.dch_accept.specs.HeldSets.{HeldSet, held_at}
-use Rattle.dch_iub.specs.Shape.{ForSet, blocks_place, mark_count, marks_before, number_place}
+use Rattle.dch_iub.specs.Shape.{blocks_place, mark_count, marks_before, number_place}
 use Rattle.dch_iub.specs.Forms.{IsHeader, mark_of}
 
 -- so many octets from a place on hold bits, and zeros after them

@@ -1,10 +1,10 @@
 -- What the steps of reading a frame leave in the blocks of a set.
-use Rattle.std.specs.Prelude.{◌≡◌, ◌≢◌, ◌+◌, ◌<◌, ℕ, List, Bool, true, false, length, replicate, slice_index, slice_index_or}
+use Rattle.std.specs.Prelude.{◌≡◌, ◌≢◌, ◌+◌, ◌<◌, ℕ, List, Bool, true, false, length, slice_index, slice_index_or}
 use Rattle.dch_bits.specs.Octets.{bit_of_octets}
 use Rattle.dch_types.specs.declared.channel.Dir.{Dir}
 use Rattle.dch_types.specs.declared.channel.Side.{Side}
 use Rattle.dch_types.specs.declared.channel.Trch.{Trch}
-use Rattle.dch_types.specs.Parts.{channel_at, format_at}
+use Rattle.dch_types.specs.Parts.{channel_at}
 use Rattle.dch_accept.specs.Blocks.{Held}
 use Rattle.dch_accept.specs.HeldSets.{HeldSet, HasFormat, held_at}
 use Rattle.dch_iub.specs.Answers.{IsGoodFrame}

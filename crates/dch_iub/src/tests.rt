@@ -1,3 +1,4 @@
+use crate::shape::{channel_of, side_of};
 use crate::{IubError, frame_len, longest, read_dl, read_ul, write_dl, write_ul};
 use dch_accept::{Accepted, SetBlocks, accept};
 use dch_bits::NoMemory;
@@ -157,6 +158,40 @@ fn an_uplink_frame_both_ways(rt: HostRuntime) -> Result<(), Fail> {
     frame[5] = 0x08;
     let mut out = [0xff; 24];
     assert!(rt; sent_again(rt.alloc(), &accepted, &frame, &mut out)?);
+    assert!(rt; out == frame);
+    Ok(())
+}
+
+/// Reads a downlink frame, adds its blocks to another set, and writes that.
+fn added(
+    alloc: Global,
+    accepted: &Accepted,
+    frame: &[u8],
+    out: &mut [u8],
+) -> Result<bool, NoMemory> {
+    let mut blocks = SetBlocks::open(alloc, accepted, Dir::Down, 0)?;
+    let mut other = SetBlocks::open(alloc, accepted, Dir::Down, 0)?;
+    let Ok(cfn) = read_dl(accepted, 0, frame, &mut blocks) else {
+        return Ok(false);
+    };
+    let side = side_of(accepted, Dir::Down);
+    if side.channels.len() != 1 || channel_of(side, 0).set != 0 {
+        return Ok(false);
+    }
+    other.add(0, blocks.channel(0));
+    if frame_len(accepted, Dir::Down, &other) != out.len() {
+        return Ok(false);
+    }
+    write_dl(accepted, 0, cfn, &other, out);
+    Ok(true)
+}
+
+#[test]
+fn a_frame_of_added_blocks(rt: HostRuntime) -> Result<(), Fail> {
+    let accepted = accepted(rt.alloc(), true)?;
+    let frame = [0x8a, 0x00, 0x01, 0x01, 0x80, 0x05];
+    let mut out = [0xff; 6];
+    assert!(rt; added(rt.alloc(), &accepted, &frame, &mut out)?);
     assert!(rt; out == frame);
     Ok(())
 }

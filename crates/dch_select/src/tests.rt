@@ -91,3 +91,57 @@ fn a_channel_whose_tti_goes_on(rt: HostRuntime) -> Result<(), Fail> {
     }
     Ok(())
 }
+
+/// The combinations of seven channels with two formats each: all 128.
+fn all_combinations(alloc: Global) -> Result<String, AllocError> {
+    let mut text = String::new(alloc);
+    text.push('[')?;
+    for c in 0..128u8 {
+        if c > 0 {
+            text.push(',')?;
+        }
+        let (a, b, d) = (c / 64 % 2, c / 32 % 2, c / 16 % 2);
+        let (e, f, g, h) = (c / 8 % 2, c / 4 % 2, c / 2 % 2, c % 2);
+        let combination = format!(in alloc; "[{a},{b},{d},{e},{f},{g},{h}]")?;
+        text.push_str(&combination)?;
+    }
+    text.push(']')?;
+    Ok(text)
+}
+
+/// Seven channels, which carry a PDU each or none, and sixteen bearers on them, of priorities 1 to 8.
+fn greatest_text(alloc: Global) -> Result<String, AllocError> {
+    let channel =
+        "{ tti = 10, code = \"none\", crc = 8, rm = 256, set = 0, formats = [[0,0],[1,28]] }";
+    let combinations = all_combinations(alloc)?;
+    let mut text = format!(in alloc;
+        "[iub]\npayload_check = false\nqe = 0
+[uplink]\nlargest = 300\npl = 100\ncombinations = {combinations}
+channel = [{channel},{channel},{channel},{channel},{channel},{channel},{channel}]
+[downlink]\nslot_bits = 10\ncodes = 1\nsf = 256\npositions = \"fixed\"\ncombinations = [[0]]
+channel = [{{ tti = 10, code = \"none\", crc = 0, rm = 256, set = 0, formats = [[0,0]] }}]
+"
+    )?;
+    for b in 0..16u8 {
+        let (channel, logical, priority) = (b % 7, b / 7 + 1, b / 2 + 1);
+        let bearer = format!(in alloc;
+            "[[bearer]]\nmode = \"um\"\nup = {channel}\nlogical = {logical}\npriority = {priority}\nbuffer = 16\n"
+        )?;
+        text.push_str(&bearer)?;
+    }
+    Ok(text)
+}
+
+#[test]
+fn a_choice_of_128_for_sixteen_bearers(rt: HostRuntime) -> Result<(), Fail> {
+    let text = greatest_text(rt.alloc())?;
+    let config = read(rt.alloc(), text.as_bytes())?;
+    let accepted = accept(rt.alloc(), config)?;
+    let config = accepted.config();
+    assert_eq!(rt; config.bearers.len(), 16);
+    assert_eq!(rt; config.uplink.side.combinations.len(), 128);
+    let offers = [Head { size: 28, count: 2 }; 16];
+    let chosen = choose(&accepted, Dir::Up, 0, 0, &offers, &[false; 128]);
+    assert_eq!(rt; chosen, 127);
+    Ok(())
+}

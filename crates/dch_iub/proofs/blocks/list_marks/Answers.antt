@@ -1,14 +1,13 @@
-use Rattle.std.proofs.Common.{◌≡◌, ◌+◌, ◌*◌, ◌<◌, ◌≤◌, ◌∙◌, ℕ, List, length, take, arith, ap, sym, subst, below_more}
+use Rattle.std.proofs.Common.{◌≡◌, ◌+◌, ◌<◌, ◌≤◌, ◌∙◌, ℕ, List, length, arith, ap, sym, subst, below_more}
 use Rattle.std.specs.Prelude.{if◌then◌else◌, ◌==◌, slice_index}
 use Rattle.dch_bits.specs.declared.bit.Bit.{Bit}
-use Rattle.dch_types.specs.declared.channel.Side.{Side}
 use Rattle.dch_types.specs.Parts.{channel_at, format_at}
 use Rattle.dch_accept.specs.Blocks.{Held}
-use Rattle.dch_accept.specs.HeldSets.{HeldSet, held_at}
+use Rattle.dch_accept.specs.HeldSets.{held_at}
 use Rattle.dch_iub.specs.Shape.{marks_before, format_in}
 use Rattle.dch_iub.specs.Steps.{AreListed}
 use Rattle.dch_iub.proofs.Fronts.{listed_front}
-use Rattle.dch_iub.proofs.Sums.{sum_before-step, sum_before-up, sum_before-fits, marks_before-next}
+use Rattle.dch_iub.proofs.Sums.{sum_before-up, sum_before-fits, marks_before-next}
 use Rattle.dch_iub.proofs.blocks.list_marks.Goals as goal
 
 pub list_channel-at-requires-clause-room : goal.list_channel-at-requires-clause-room

@@ -1,15 +1,14 @@
 use Rattle.std.proofs.Common.{◌≡◌, ◌+◌, ◌*◌, ◌<◌, ◌≤◌, ◌∙◌, ℕ, List, length, take, arith, ap, sym, subst, below_more}
 use Rattle.std.specs.Prelude.{if◌then◌else◌, ◌==◌, slice_index}
 use Rattle.std.specs.Int.{div_ceil}
-use Rattle.dch_types.specs.declared.channel.Side.{Side}
 use Rattle.dch_types.specs.Parts.{channel_at, format_at}
 use Rattle.dch_accept.specs.Blocks.{Held}
-use Rattle.dch_accept.specs.HeldSets.{HeldSet, held_at}
+use Rattle.dch_accept.specs.HeldSets.{held_at}
 use Rattle.dch_accept.specs.Padded.{format_octets}
 use Rattle.dch_iub.specs.Shape.{blocks_place, format_in, octets_before}
 use Rattle.dch_iub.specs.Steps.{ArePacked}
 use Rattle.dch_iub.proofs.Fronts.{front_less, all_packed_front}
-use Rattle.dch_iub.proofs.Sums.{sum_before-step, sum_before-up, sum_before-fits, blocks_place-next, channel_octets}
+use Rattle.dch_iub.proofs.Sums.{sum_before-up, sum_before-fits, blocks_place-next, channel_octets}
 use Rattle.dch_iub.proofs.blocks.write_blocks.Goals as goal
 
 pub write_channel-at-requires-clause-room : goal.write_channel-at-requires-clause-room

@@ -1,4 +1,4 @@
-use Rattle.std.proofs.Common.{◌≡◌, ◌-◌, ◌*◌, ◌/◌, ℕ, List, get_or, subst}
+use Rattle.std.proofs.Common.{◌-◌, ◌*◌, ◌/◌, ℕ, get_or, subst}
 use Rattle.std.proofs.lemmas.Bool.{eqb-true, eq-eqb}
 use Rattle.dch_crc.specs.Parity.{IsCheck, header_polynomial}
 use Rattle.dch_accept.specs.Padded.{bits_from}

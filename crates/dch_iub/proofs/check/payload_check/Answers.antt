@@ -1,4 +1,4 @@
-use Rattle.std.proofs.Common.{◌≡◌, ◌+◌, ◌-◌, ◌*◌, ◌≤◌, ◌∙◌, ℕ, List, length, take, drop, arith, ap, subst, length-drop}
+use Rattle.std.proofs.Common.{◌≡◌, ◌-◌, ◌*◌, ◌∙◌, ℕ, List, length, take, drop, arith, ap, subst, length-drop}
 use Rattle.std.proofs.lemmas.List.{length-take-le}
 use Rattle.dch_bits.specs.declared.bit.Bit.{Bit}
 use Rattle.dch_crc.specs.Parity.{IsCheck, payload_polynomial}

@@ -1,4 +1,4 @@
-use Rattle.std.proofs.Common.{◌≡◌, ◌<◌, ◌≤◌, ℕ, List, length, sym, subst}
+use Rattle.std.proofs.Common.{◌<◌, ◌≤◌, ℕ, List, length, sym, subst}
 use Rattle.dch_iub.specs.Shape.{frame_octets}
 use Rattle.std.specs.Prelude.{slice_index}
 use Rattle.dch_types.specs.declared.channel.Side.{Side}

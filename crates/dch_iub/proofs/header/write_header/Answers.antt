@@ -1,14 +1,13 @@
-use Rattle.std.proofs.Common.{◌≡◌, ◌≢◌, ◌<◌, ◌≤◌, ◌+◌, ◌-◌, ◌*◌, ◌/◌, ◌%◌, ◌∙◌, ℕ, List, length, take, get_or, arith, ap, ap₂, sym, subst, get_or-set_other, get_or-set_same}
+use Rattle.std.proofs.Common.{◌≡◌, ◌≢◌, ◌<◌, ◌≤◌, ◌-◌, ◌*◌, ◌/◌, ◌∙◌, ℕ, List, length, get_or, arith, sym, subst, get_or-set_other, get_or-set_same}
 use Rattle.std.specs.Prelude.{slice_set, slice_index}
 use Rattle.std.proofs.Math.ListN.{length-set}
 use Rattle.dch_bits.specs.declared.bit.Bit.{Bit}
-use Rattle.dch_bits.specs.Octets.{bit_of_octets, octet_bit}
 use Rattle.dch_crc.specs.Parity.{IsCheck, header_polynomial}
 use Rattle.dch_types.specs.Limits.{IsChannel}
 use Rattle.dch_types.specs.Parts.{channel_at}
 use Rattle.dch_accept.specs.Padded.{bits_from}
 use Rattle.dch_iub.specs.Shape.{header_octets, number_place}
-use Rattle.dch_iub.proofs.Fronts.{bits_from-same, front_at}
+use Rattle.dch_iub.proofs.Fronts.{front_at}
 use Rattle.dch_iub.proofs.Headers.{header_bits}
 use Rattle.dch_iub.proofs.header.write_header.Goals as goal
 

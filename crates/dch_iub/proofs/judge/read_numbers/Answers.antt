@@ -1,7 +1,5 @@
-use Rattle.std.proofs.Common.{◌≡◌, ◌+◌, ◌≤◌, ℕ, length, arith}
-use Rattle.std.specs.Prelude.{if◌then◌else◌, ◌==◌}
-use Rattle.dch_types.specs.Parts.{channel_at}
-use Rattle.dch_iub.specs.Shape.{number_place, sum_before}
+use Rattle.std.proofs.Common.{◌+◌, ◌≤◌, ℕ, length, arith}
+use Rattle.dch_iub.specs.Shape.{sum_before}
 use Rattle.dch_iub.proofs.Sums.{sum_before-next, sum_before-up}
 use Rattle.dch_iub.proofs.judge.read_numbers.Goals as goal
 

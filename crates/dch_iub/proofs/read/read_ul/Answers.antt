@@ -1,9 +1,8 @@
-use Rattle.std.proofs.Common.{List, ℕ, ap, subst}
-use Rattle.std.specs.Prelude.{Bool, IfErr, IfOk}
+use Rattle.std.proofs.Common.{List, ℕ, subst}
+use Rattle.std.specs.Prelude.{IfErr, IfOk}
 use Rattle.dch_types.specs.declared.channel.Dir.TheVariants.{Up}
 use Rattle.dch_types.specs.declared.channel.Side.{Side}
 use Rattle.dch_types.specs.declared.config.Config.{Config}
-use Rattle.dch_config.specs.Bearers.{side_of}
 use Rattle.dch_accept.specs.HeldSets.{HeldSet}
 use Rattle.dch_iub.specs.Answers.{IsFault}
 use Rattle.dch_iub.specs.Taken.{IsReceived}

@@ -1,6 +1,5 @@
-use Rattle.std.proofs.Common.{◌≡◌, ◌<◌, ◌∙◌, ℕ, List, length, ap, sym, subst}
+use Rattle.std.proofs.Common.{◌<◌, ◌∙◌, ℕ, List, length, ap, sym, subst}
 use Rattle.dch_types.specs.declared.channel.Side.{Side}
-use Rattle.dch_config.specs.Bearers.{side_of}
 use Rattle.dch_iub.specs.Shape.{formats_of, frame_octets}
 use Rattle.dch_iub.proofs.Sums.{frame_octets-same, formats_of-at}
 use Rattle.dch_iub.proofs.shape.frame_len.Goals as goal

@@ -1,4 +1,4 @@
-use Rattle.std.proofs.Common.{◌≡◌, ◌+◌, ◌*◌, ◌≤◌, ℕ}
+use Rattle.std.proofs.Common.{◌≡◌, ◌+◌, ◌*◌, ◌≤◌}
 use Rattle.dch_iub.specs.Shape.{number_place, octets_before, marks_before}
 use Rattle.dch_iub.proofs.shape.shape_of.Given as goal
 

@@ -1,6 +1,6 @@
-use Rattle.std.proofs.Common.{◌≡◌, ◌≢◌, ◌+◌, ◌*◌, ◌<◌, ◌≤◌, ◌∙◌, ℕ, List, length, arith, ap, sym, subst, refl, below_more}
-use Rattle.std.specs.Prelude.{if◌then◌else◌, ◌==◌, slice_index}
-use Rattle.dch_types.specs.Parts.{channel_at, format_at}
+use Rattle.std.proofs.Common.{◌≡◌, ◌≢◌, ◌+◌, ◌<◌, ◌∙◌, ℕ, List, length, arith, sym, subst, refl, below_more}
+use Rattle.std.specs.Prelude.{slice_index}
+use Rattle.dch_types.specs.Parts.{channel_at}
 use Rattle.dch_accept.specs.Blocks.{Held}
 use Rattle.dch_accept.specs.HeldSets.{HeldSet, held_at}
 use Rattle.dch_iub.specs.Forms.{AreMarked}

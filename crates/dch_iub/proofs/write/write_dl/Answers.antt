@@ -1,15 +1,14 @@
 use Rattle.std.proofs.Common.{◌≡◌, ◌+◌, ◌<◌, ◌∙◌, ℕ, List, length, ap, ap₂, sym, subst}
-use Rattle.std.specs.Prelude.{true, Bool, slice_index}
+use Rattle.std.specs.Prelude.{Bool, slice_index}
 use Rattle.dch_types.specs.declared.channel.Dir.TheVariants.{Down}
 use Rattle.dch_types.specs.declared.channel.Side.{Side}
 use Rattle.dch_types.specs.declared.config.Config.{Config}
 use Rattle.dch_config.specs.Bearers.{side_of}
 use Rattle.dch_accept.specs.HeldSets.{held_at}
 use Rattle.dch_iub.specs.Forms.{IsPayloadCheck}
-use Rattle.dch_iub.specs.Shape.{ForSet, payload_end, check_octets, formats_of, frame_octets, header_octets}
+use Rattle.dch_iub.specs.Shape.{payload_end, check_octets, formats_of, frame_octets, header_octets}
 use Rattle.dch_iub.specs.Steps.{IsFront}
 use Rattle.dch_iub.proofs.Sums.{frame_octets-same, formats_of-at}
-use Rattle.dch_iub.proofs.Transfers.{AreOf}
 use Rattle.dch_iub.proofs.Written.{written}
 use Rattle.dch_iub.proofs.write.write_dl.Goals as goal
 
