@@ -1,0 +1,4 @@
+mod Examples
+pub mod Listing
+pub mod Lists
+pub mod Reading

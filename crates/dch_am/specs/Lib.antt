@@ -1,0 +1,13 @@
+pub mod Numbers
+pub mod Rules
+pub mod Names
+pub mod Status
+pub mod Bodies
+pub mod Sender
+pub mod Building
+pub mod Acknowledging
+pub mod Discards
+pub mod Receiver
+pub mod Moves
+pub mod Telling
+pub mod Listed

@@ -1,0 +1,6 @@
+//! Two ends of a bearer in acknowledged mode (TS 25.322 11.3): what holds whatever is offered, built, lost and delivered.
+#![tactic(auto)]
+
+mod laws;
+
+pub use laws::in_order_law;
