@@ -1,0 +1,60 @@
+-- PDUs in flight, place by place.
+use Rattle.std.proofs.Common.{◌≡◌, ◌+◌, ◌<◌, ℕ, zero, suc, List, [], ◌∷◌, Bool, true, false, cond, length, set, drop, arith, refl, sym, ap, ◌∙◌, subst}
+use Rattle.std.proofs.lemmas.Bool.{both_ways}
+use Rattle.std.proofs.lemmas.List.{drop_more}
+use Rattle.dch_flight.specs.declared.flown.Flown.{Flown}
+use Rattle.dch_flight.specs.Flights.{at, blank, acknowledged, unwanted, changed_below, first_wanted, front_acked, IsBounded, IsFirstWanted}
+
+-- one place more is changed
+pub changed_next : (change : Flown → Flown) (i : ℕ) (flown : List Flown) → i < length flown → set (changed_below change i flown) i (change (at (changed_below change i flown) i)) ≡ changed_below change (i + 1) flown
+changed_next change i [] l = absurd (omega arith)
+changed_next change zero (f ∷ flown) l = refl
+changed_next change (suc i) (f ∷ flown) l = let e : suc i + 1 ≡ suc (i + 1) = omega arith in ap (λ xs. change f ∷ xs) (changed_next change i flown (omega arith)) ∙ ap (λ k. changed_below change k (f ∷ flown)) (sym e)
+
+pub length-changed : (change : Flown → Flown) (i : ℕ) (flown : List Flown) → length (changed_below change i flown) ≡ length flown
+length-changed change zero flown = refl
+length-changed change (suc i) [] = refl
+length-changed change (suc i) (f ∷ flown) = ap suc (length-changed change i flown)
+
+pub front_here : (flown : List Flown) (i : ℕ) → i < length flown → (at flown i).acked ≡ true → front_acked (drop i flown) ≡ 1 + front_acked (drop (i + 1) flown)
+front_here flown i l e = ap front_acked (drop_more flown i blank l) ∙ ap (λ b. cond b (suc (front_acked (drop (i + 1) flown))) 0) e ∙ omega arith
+
+pub front_none : (flown : List Flown) (i : ℕ) → i < length flown → (at flown i).acked ≡ false → front_acked (drop i flown) ≡ 0
+front_none flown i l e = ap front_acked (drop_more flown i blank l) ∙ ap (λ b. cond b (suc (front_acked (drop (i + 1) flown))) 0) e
+
+-- what is wanted after a change that wants nothing was wanted before
+wanted_before : (change : Flown → Flown) → ((f : Flown) → (change f).wanted ≡ true → f.wanted ≡ true) → (to : ℕ) (flown : List Flown) (i : ℕ) → (at (changed_below change to flown) i).wanted ≡ true → (at flown i).wanted ≡ true
+wanted_before change less zero flown i e = e
+wanted_before change less (suc to) [] i e = e
+wanted_before change less (suc to) (f ∷ flown) zero e = less f e
+wanted_before change less (suc to) (f ∷ flown) (suc i) e = wanted_before change less to flown i e
+
+bounded : (change : Flown → Flown) → ((f : Flown) → (change f).wanted ≡ true → f.wanted ≡ true) → (to : ℕ) (flown : List Flown) (low high : ℕ) → IsBounded flown low high → IsBounded (changed_below change to flown) low high
+bounded change less to flown low high b = record { wanted = λ i e. b.wanted i (wanted_before change less to flown i e) }
+
+acknowledged_less : (f : Flown) → (acknowledged f).wanted ≡ true → f.wanted ≡ true
+acknowledged_less f e = either f.named e
+  where
+    either : (b : Bool) → (cond b f (record f { acked = true; wanted = false })).wanted ≡ true → f.wanted ≡ true
+    either true e = e
+    either false e = absurd (cc)
+
+unwanted_less : (f : Flown) → (unwanted f).wanted ≡ true → f.wanted ≡ true
+unwanted_less f e = absurd (cc)
+
+pub acknowledged_bounded : (to : ℕ) (flown now : List Flown) (low high : ℕ) → now ≡ changed_below acknowledged to flown → IsBounded flown low high → IsBounded now low high
+acknowledged_bounded to flown now low high e b = subst (λ xs. IsBounded xs low high) (sym e) (bounded acknowledged acknowledged_less to flown low high b)
+
+pub unwanted_bounded : (to : ℕ) (flown now : List Flown) (low high : ℕ) → now ≡ changed_below unwanted to flown → IsBounded flown low high → IsBounded now low high
+unwanted_bounded to flown now low high e b = subst (λ xs. IsBounded xs low high) (sym e) (bounded unwanted unwanted_less to flown low high b)
+
+-- the first that is wanted
+pub first_is : (flown : List Flown) (k : ℕ) → IsFirstWanted flown k → k ≡ first_wanted flown
+first_is [] k is = omega (arith, is.within)
+first_is (f ∷ flown) k is = go f.wanted refl k is (λ j h. first_is flown j h)
+  where
+    go : (b : Bool) → f.wanted ≡ b → (k : ℕ) → IsFirstWanted (f ∷ flown) k → ((j : ℕ) → IsFirstWanted flown j → j ≡ first_wanted flown) → k ≡ cond b 0 (suc (first_wanted flown))
+    go true e zero is rest = refl
+    go true e (suc k) is rest = absurd (both_ways f.wanted (is.before 0 (omega arith)) e)
+    go false e zero is rest = absurd (both_ways f.wanted e (is.here (omega arith)))
+    go false e (suc k) is rest = ap suc (rest k (record { before = λ i l. is.before (suc i) (omega arith); here = λ l. is.here (omega arith); within = omega (arith, is.within) }))

@@ -1,0 +1,61 @@
+-- The PDUs of a sender that are in flight (TS 25.322 9.4, 11.5.3): those from the lowest number that is not acknowledged on.
+use Rattle.std.specs.Prelude.{◌≡◌, ◌+◌, ◌≤◌, ◌<◌, ◌&&◌, ◌||◌, ℕ, zero, suc, List, [], ◌∷◌, Bool, true, false, not, length, nat_lt, nat_le, slice_index_or, if◌then◌else◌}
+use Rattle.dch_flight.specs.declared.flown.Flown.{Flown}
+
+-- no PDU
+abbrev pub blank : Flown
+blank = record { text = []; full = false; ends = 0; goes_on = false; builds = 0; acked = false; wanted = false; named = false }
+
+-- a PDU that was just built
+abbrev pub sent_once : List ℕ → Bool → ℕ → Bool → Flown
+sent_once text full ends goes_on = record { text = text; full = full; ends = ends; goes_on = goes_on; builds = 1; acked = false; wanted = false; named = false }
+
+-- the PDU at a place
+abbrev pub at : List Flown → ℕ → Flown
+at flown i = slice_index_or flown i blank
+
+-- it is named missing: it is wanted again, unless it is acknowledged or stands before a place
+abbrev pub named_from : ℕ → ℕ → Flown → Flown
+named_from low i f = record f { named = true; wanted = f.wanted || (not f.acked && nat_le low i) }
+
+-- it is not named any more
+abbrev pub unnamed : Flown → Flown
+unnamed f = record f { named = false }
+
+-- it is acknowledged, unless it is named missing
+abbrev pub acknowledged : Flown → Flown
+acknowledged f = if f.named then f else record f { acked = true; wanted = false }
+
+-- it is not wanted
+abbrev pub unwanted : Flown → Flown
+unwanted f = record f { wanted = false }
+
+-- it is built once more. More than 255 times are not counted
+abbrev pub built : Flown → Flown
+built f = record f { wanted = false; builds = if nat_lt f.builds 255 then f.builds + 1 else f.builds }
+
+-- the PDUs before a place are changed
+abbrev pub changed_below : (Flown → Flown) → ℕ → List Flown → List Flown
+changed_below change zero flown = flown
+changed_below change (suc to) [] = []
+changed_below change (suc to) (f ∷ flown) = change f ∷ changed_below change to flown
+
+-- the first PDU that is wanted stands there, or none is and this is the end
+pub record IsFirstWanted (flown : List Flown) (first : ℕ) : Type 0 where
+  pub before : (i : ℕ) → i < first → (at flown i).wanted ≡ false
+  pub here : first < length flown → (at flown first).wanted ≡ true
+  pub within : first ≤ length flown
+
+-- where that is
+abbrev pub first_wanted : List Flown → ℕ
+first_wanted [] = 0
+first_wanted (f ∷ flown) = if f.wanted then 0 else suc (first_wanted flown)
+
+-- how many PDUs in front are acknowledged
+abbrev pub front_acked : List Flown → ℕ
+front_acked [] = 0
+front_acked (f ∷ flown) = if f.acked then suc (front_acked flown) else 0
+
+-- every PDU that is wanted stands from one place to before another
+pub record IsBounded (flown : List Flown) (low high : ℕ) : Type 0 where
+  pub wanted : (i : ℕ) → (at flown i).wanted ≡ true → (low ≤ i) × (i < high)

@@ -1,0 +1,41 @@
+ghost use Rattle.std.specs.Prelude.{◌≡◌};
+ghost use Rattle.dch_flight.specs.Flights.{sent_once};
+
+/// A PDU in flight.
+#[derive(Clone, Copy)]
+pub struct Flown {
+    /// What is sent behind the fixed header, after an octet whose last bit tells whether a mark follows.
+    pub text: [u8; 125],
+    /// The mark 0 stands first.
+    pub full: bool,
+    /// How many units have their end mark in it.
+    pub ends: u8,
+    /// A unit goes on behind its last octet.
+    pub goes_on: bool,
+    /// How often it was built, at most 255.
+    pub builds: u8,
+    /// It is acknowledged, though a PDU before it isn't.
+    pub acked: bool,
+    /// It was requested and not built since.
+    pub wanted: bool,
+    /// The status that is being heard names it missing.
+    pub named: bool,
+}
+
+impl Flown {
+    /// A PDU that was just built.
+    pub fn new(text: [u8; 125], full: bool, ends: u8, goes_on: bool) -> Flown
+        ensures { result ≡ sent_once text full ends goes_on }
+    {
+        Flown {
+            text,
+            full,
+            ends,
+            goes_on,
+            builds: 1,
+            acked: false,
+            wanted: false,
+            named: false,
+        }
+    }
+}

@@ -1,0 +1,4 @@
+pub mod Said
+pub mod Line
+pub mod Standing
+pub mod Polling

@@ -1,0 +1,5 @@
+pub mod Reading
+pub mod Filled
+pub mod Texts
+pub mod Built
+pub mod Left
