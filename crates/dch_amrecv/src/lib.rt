@@ -1,0 +1,10 @@
+//! The receiving side of RLC acknowledged mode (TS 25.322 4.2.1.3, 11.3.3, 11.6.3).
+#![tactic(auto)]
+
+mod holder;
+mod moves;
+mod recv;
+mod telling;
+
+pub use dch_am::{MrwTaken, Taken};
+pub use recv::AmRecv;

@@ -1,0 +1,124 @@
+ghost use Rattle.std.specs.Prelude.{◌≡◌, ◌+◌, ◌*◌, ◌<◌, ◌≤◌, ◌==◌, ℕ, [], IfOk, Some, length, true};
+ghost use Rattle.dch_am.specs.Moves.{after_control as after_moves, control_answer as moves_answer};
+ghost use Rattle.dch_am.specs.Receiver.{Receiver, after_pdu, opened_receiver, taken};
+ghost use Rattle.dch_am.specs.Telling.{after_telling as after_told, is_due as is_told, tells_now, tick_receiver};
+ghost use Rattle.dch_window.specs.Places.{body_in};
+ghost use Rattle.dch_units.specs.Taking.{handed_of, written};
+ghost use Rattle.dch_status.specs.Reading.{status_of};
+ghost use Rattle.dch_amrecv.specs.Holding.{after_unit, is_due, opened, rules_of};
+ghost use Rattle.dch_amrecv.specs.Standing.{IsSame, Stands, said};
+
+use crate::holder::Holder;
+use crate::moves::last_move;
+use dch_am::{MrwTaken, Taken};
+use dch_bits::NoMemory;
+use dch_rlcpdu::{Body, Handed};
+use dch_status::StatusView;
+use dch_types::AmRules;
+use std::alloc::Global;
+use std::marker::Model;
+
+/// The receiving side of an acknowledged bearer. All memory is taken when it is opened.
+#[derive(Drop)]
+pub struct AmRecv {
+    holder: Holder,
+}
+
+impl Model for AmRecv {
+    ghost use Rattle.dch_amrecv.specs.Holding.{Holding};
+
+    ghost Value = { Holding };
+
+    ghost view = { λ r. r.holder };
+}
+
+impl AmRecv {
+    /// A receiver before its first PDU. PDUs of `pdu` octets come, and statuses go in PDUs of `reply` octets.
+    pub fn open(alloc: Global, pdu: usize, reply: usize, rules: AmRules) -> Result<AmRecv, NoMemory>
+        requires pdu { pdu ≤ 126 }
+        requires least { 6 ≤ reply }
+        requires most { reply ≤ 126 }
+        requires window { rules.window ≤ 2048 }
+        ensures value { IfOk result (λ r. r ≡ opened rules pdu reply) }
+        ensures stands { IfOk result (λ r. (buffer : ℕ) → Stands r 0 (opened_receiver (rules_of buffer rules))) }
+    {
+        let holder = Holder::open(alloc, pdu, reply, rules)?;
+        Ok(AmRecv { holder })
+    }
+
+    /// Takes a PDU (TS 25.322 11.3.3). All units that ended before it have been handed up. Marks and octets of the body are together
+    /// at most two fewer than the octets of a PDU.
+    pub fn pdu(&mut self, sn: u16, poll: bool, body: &Body<'_>) -> Taken
+        requires settled { self.old.kept.units.waiting ≡ [] }
+        requires number { sn < 4096 }
+        requires small { length body.now.marks + length body.now.octets + 2 ≤ self.old.pdu }
+        ensures answer { (buffer given : ℕ) (r : Receiver) → Stands self.old given r → result ≡ taken (rules_of buffer self.old.rules) r sn }
+        ensures stands { (buffer given : ℕ) (r : Receiver) → Stands self.old given r →
+            Stands self.new given (after_pdu (rules_of buffer self.old.rules) (taken (rules_of buffer self.old.rules) r sn) r sn poll (body_in body.now)) }
+        ensures same { IsSame self.old self.new }
+    {
+        self.holder.pdu(sn, poll, body)
+    }
+
+    /// No unit that ended waits.
+    pub fn settled(&self) -> bool
+        ensures value { result ≡ (length self.now.kept.units.waiting == 0) }
+    {
+        self.holder.settled()
+    }
+
+    /// Hands up the first unit that waits, at the front of `out`, which has 1,500 octets. A unit of more octets is overlong.
+    pub fn next_unit(&mut self, out: &mut [u8]) -> Option<Handed>
+        requires { length out.old ≡ 1500 }
+        ensures answer { result ≡ handed_of self.old.kept.units.waiting }
+        ensures unit { out.new ≡ written self.old.kept.units.waiting out.old }
+        ensures rest { self.new ≡ after_unit self.old }
+        ensures stands { (given : ℕ) (r : Receiver) → 0 < length self.old.kept.units.waiting → Stands self.old given r → Stands self.new (given + 1) r }
+        ensures same { IsSame self.old self.new }
+    {
+        self.holder.next_unit(out)
+    }
+
+    /// A status, or an MRW_ACK, is due (TS 25.322 9.7.2).
+    pub fn status_due(&self) -> bool
+        ensures value { result ≡ is_due self.now }
+        ensures due { (given : ℕ) (r : Receiver) → Stands self.now given r → result ≡ is_told r }
+    {
+        self.holder.is_due()
+    }
+
+    /// Writes what is due: an MRW_ACK, a status, or both. With `reply` octets.
+    pub fn write_status(&mut self, out: &mut [u8])
+        requires due { is_due self.old ≡ true }
+        requires size { length out.old ≡ self.old.reply }
+        ensures fields { (given : ℕ) (r : Receiver) → Stands self.old given r → status_of out.new ≡ said (tells_now (8 * self.old.reply) r) }
+        ensures stands { (buffer given : ℕ) (r : Receiver) → Stands self.old given r → Stands self.new given (after_told (rules_of buffer self.old.rules) r) }
+        ensures same { IsSame self.old self.new }
+    {
+        self.holder.tell(out)
+    }
+
+    /// Obeys the last MRW of a status (TS 25.322 11.6.3). All units that ended before it have been handed up.
+    pub fn control(&mut self, status: &StatusView<'_>) -> MrwTaken
+        requires settled { self.old.kept.units.waiting ≡ [] }
+        ensures answer { (buffer given : ℕ) (r : Receiver) → Stands self.old given r → result ≡ moves_answer (rules_of buffer self.old.rules) r status.now }
+        ensures stands { (buffer given : ℕ) (r : Receiver) → Stands self.old given r → Stands self.new given (after_moves (rules_of buffer self.old.rules) r status.now) }
+        ensures same { IsSame self.old self.new }
+    {
+        match last_move(status) {
+            Some((sn, n)) => self.holder.obey(sn, n),
+            None => MrwTaken::Nothing,
+        }
+    }
+
+    /// One tick of the timers.
+    pub fn tick(&mut self)
+        ensures stands { (buffer given : ℕ) (r : Receiver) → Stands self.old given r → Stands self.new given (tick_receiver (rules_of buffer self.old.rules) r) }
+        ensures same { IsSame self.old self.new }
+    {
+        self.holder.tick()
+    }
+
+    /// Gives all memory back.
+    pub fn close(self) {}
+}
