@@ -8,3 +8,6 @@ mod telling;
 
 pub use dch_am::{MrwTaken, Taken};
 pub use recv::AmRecv;
+
+#[cfg(test)]
+mod tests;
