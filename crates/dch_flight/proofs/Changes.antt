@@ -1,9 +1,10 @@
 -- PDUs in flight, place by place.
-use Rattle.std.proofs.Common.{◌≡◌, ◌+◌, ◌<◌, ℕ, zero, suc, List, [], ◌∷◌, Bool, true, false, cond, length, set, drop, arith, refl, sym, ap, ◌∙◌, subst}
+use Rattle.std.proofs.Common.{◌≡◌, ◌+◌, ◌<◌, ◌≤◌, ℕ, zero, suc, List, [], ◌∷◌, Bool, true, false, cond, length, set, drop, arith, refl, sym, ap, ◌∙◌, subst}
+use Rattle.std.specs.Prelude.{min}
 use Rattle.std.proofs.lemmas.Bool.{both_ways}
 use Rattle.std.proofs.lemmas.List.{drop_more}
 use Rattle.dch_flight.specs.declared.flown.Flown.{Flown}
-use Rattle.dch_flight.specs.Flights.{at, blank, acknowledged, unwanted, changed_below, first_wanted, front_acked, IsBounded, IsFirstWanted}
+use Rattle.dch_flight.specs.Flights.{at, blank, acknowledged, unwanted, changed_below, first_wanted, front_acked, wanted_in, IsBounded, IsFirstWanted}
 
 -- one place more is changed
 pub changed_next : (change : Flown → Flown) (i : ℕ) (flown : List Flown) → i < length flown → set (changed_below change i flown) i (change (at (changed_below change i flown) i)) ≡ changed_below change (i + 1) flown
@@ -58,3 +59,40 @@ first_is (f ∷ flown) k is = go f.wanted refl k is (λ j h. first_is flown j h)
     go true e (suc k) is rest = absurd (both_ways f.wanted (is.before 0 (omega arith)) e)
     go false e zero is rest = absurd (both_ways f.wanted e (is.here (omega arith)))
     go false e (suc k) is rest = ap suc (rest k (record { before = λ i l. is.before (suc i) (omega arith); here = λ l. is.here (omega arith); within = omega (arith, is.within) }))
+
+-- how many are wanted from a place on
+pub wanted_here : (flown : List Flown) (i : ℕ) → i < length flown → (at flown i).wanted ≡ true → wanted_in (drop i flown) ≡ 1 + wanted_in (drop (i + 1) flown)
+wanted_here flown i l e = ap wanted_in (drop_more flown i blank l) ∙ ap (λ b. cond b (suc (wanted_in (drop (i + 1) flown))) (wanted_in (drop (i + 1) flown))) e ∙ omega arith
+
+pub wanted_not : (flown : List Flown) (i : ℕ) → i < length flown → (at flown i).wanted ≡ false → wanted_in (drop i flown) ≡ wanted_in (drop (i + 1) flown)
+wanted_not flown i l e = ap wanted_in (drop_more flown i blank l) ∙ ap (λ b. cond b (suc (wanted_in (drop (i + 1) flown))) (wanted_in (drop (i + 1) flown))) e
+
+-- where all that are wanted stand from one place to before another
+is_not : (b : Bool) → (b ≡ true → ⊥) → b ≡ false
+is_not true ne = absurd (ne refl)
+is_not false ne = refl
+
+wanted_low : (flown : List Flown) (k : ℕ) → ((j : ℕ) → j < k → (at flown j).wanted ≡ false) → wanted_in (drop k flown) ≡ wanted_in flown
+wanted_low flown zero none = refl
+wanted_low [] (suc k) none = refl
+wanted_low (f ∷ flown) (suc k) none = wanted_low flown k (λ j l. none (suc j) (omega arith)) ∙ ap (λ b. cond b (suc (wanted_in flown)) (wanted_in flown)) (sym (none 0 (omega arith)))
+
+wanted_none : (flown : List Flown) → ((j : ℕ) → (at flown j).wanted ≡ false) → wanted_in flown ≡ 0
+wanted_none [] none = refl
+wanted_none (f ∷ flown) none = ap (λ b. cond b (suc (wanted_in flown)) (wanted_in flown)) (none 0) ∙ wanted_none flown (λ j. none (suc j))
+
+wanted_high : (flown : List Flown) (k : ℕ) → ((j : ℕ) → k ≤ j → (at flown j).wanted ≡ false) → wanted_in (drop k flown) ≡ 0
+wanted_high flown zero none = wanted_none flown (λ j. none j (omega arith))
+wanted_high [] (suc k) none = refl
+wanted_high (f ∷ flown) (suc k) none = wanted_high flown k (λ j l. none (suc j) (omega arith))
+
+pub wanted_from : (flown : List Flown) (low high : ℕ) → IsBounded flown low high → wanted_in (drop low flown) ≡ wanted_in flown
+wanted_from flown low high is = wanted_low flown low (λ j l. is_not (at flown j).wanted (λ e. omega (arith, (is.wanted j e).0)))
+
+pub wanted_to : (flown : List Flown) (low high k : ℕ) → min high (length flown) ≤ k → IsBounded flown low high → wanted_in (drop k flown) ≡ 0
+wanted_to flown low high k past is = wanted_high flown k (λ j l. is_not (at flown j).wanted (λ e. omega (arith, l, past, (is.wanted j e).1, inside flown j e)))
+  where
+    inside : (xs : List Flown) (j : ℕ) → (at xs j).wanted ≡ true → j < length xs
+    inside [] j e = absurd (cc)
+    inside (x ∷ xs) zero e = omega arith
+    inside (x ∷ xs) (suc j) e = omega (arith, inside xs j e)

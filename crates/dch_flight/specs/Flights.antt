@@ -51,6 +51,11 @@ abbrev pub first_wanted : List Flown → ℕ
 first_wanted [] = 0
 first_wanted (f ∷ flown) = if f.wanted then 0 else suc (first_wanted flown)
 
+-- how many are wanted
+abbrev pub wanted_in : List Flown → ℕ
+wanted_in [] = 0
+wanted_in (f ∷ flown) = if f.wanted then suc (wanted_in flown) else wanted_in flown
+
 -- how many PDUs in front are acknowledged
 abbrev pub front_acked : List Flown → ℕ
 front_acked [] = 0

@@ -1,6 +1,6 @@
-ghost use Rattle.std.specs.Prelude.{◌≡◌, ◌+◌, ◌-◌, ◌<◌, ◌≤◌, ◌++◌, ℕ, [], ◌∷◌, false, true, IfOk, length, drop, slice_set};
+ghost use Rattle.std.specs.Prelude.{◌≡◌, ◌+◌, ◌-◌, ◌<◌, ◌≤◌, ◌++◌, ℕ, [], ◌∷◌, false, true, IfOk, length, drop, min, slice_set};
 ghost use Rattle.circular_buffer.specs.Buffer.{buffer};
-ghost use Rattle.dch_flight.specs.Flights.{at, named_from, unnamed, acknowledged, unwanted, built, changed_below, first_wanted, front_acked, IsFirstWanted, IsBounded};
+ghost use Rattle.dch_flight.specs.Flights.{at, named_from, unnamed, acknowledged, unwanted, built, changed_below, first_wanted, front_acked, wanted_in, IsFirstWanted, IsBounded};
 
 use crate::flown::Flown;
 use crate::places::{acknowledge_at, at_place, build_at, name_at, unname_at, unwant_at};
@@ -125,6 +125,13 @@ impl Flight {
         first_wanted(&self.ring, self.low, self.high)
     }
 
+    /// How many PDUs are wanted, at most so many.
+    pub fn wanted(&self, most: usize) -> usize
+        ensures { result ≡ min most (wanted_in self.now.items) }
+    {
+        wanted(&self.ring, self.low, self.high, most)
+    }
+
     /// How many PDUs from a place on are acknowledged, up to the first that isn't.
     pub fn acked_from(&self, from: usize) -> usize
         requires { from ≤ length self.now.items }
@@ -176,6 +183,24 @@ fn first_wanted(ring: &HeapCircularBuffer<Flown>, low: usize, high: usize) -> us
         }
     }
     ring.len()
+}
+
+/// How many PDUs are wanted, at most so many, where all that are stand from one place to before another.
+fn wanted(ring: &HeapCircularBuffer<Flown>, low: usize, high: usize, most: usize) -> usize
+    requires { IsBounded ring.now.items low high }
+    ensures { result ≡ min most (wanted_in ring.now.items) }
+{
+    let past = high.min(ring.len());
+    let mut count = 0;
+    for i in low..past {
+        if count >= most {
+            return most;
+        }
+        if at_place(ring, i).wanted {
+            count += 1;
+        }
+    }
+    count.min(most)
 }
 
 fn acknowledge_below(ring: &mut HeapCircularBuffer<Flown>, to: usize)

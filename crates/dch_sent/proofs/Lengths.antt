@@ -47,11 +47,11 @@ same_line flown now window next running size room is = record {
   few = omega (arith, is.few);
   most = is.most;
   number = is.number;
-  discard = subst (λ n. IfSome running (λ r. r.at < n)) (sym size) is.discard;
+  discard = subst (λ n. IfSome running (λ r. (r.at < n) × (r.n < 16))) (sym size) is.discard;
 }
 
 pub ended_line : (flown now : Buffer Flown) (window next : ℕ) (running : Option Running) → length now.items ≡ length flown.items → now.capacity ≡ flown.capacity → IsLine flown.items flown.capacity window next running → IsLine now.items now.capacity window next None
 ended_line flown now window next running size room is = record { room = room ∙ is.room; few = omega (arith, is.few); most = is.most; number = is.number; discard = tt }
 
-pub begun_line : (flown now : Buffer Flown) (window next : ℕ) (running : Option Running) (r : Running) → length now.items ≡ length flown.items → now.capacity ≡ flown.capacity → r.at < length flown.items → IsLine flown.items flown.capacity window next running → IsLine now.items now.capacity window next (Some r)
-begun_line flown now window next running r size room inside is = record { room = room ∙ is.room; few = omega (arith, is.few); most = is.most; number = is.number; discard = omega arith }
+pub begun_line : (flown now : Buffer Flown) (window next : ℕ) (running : Option Running) (r : Running) → length now.items ≡ length flown.items → now.capacity ≡ flown.capacity → r.at < length flown.items → r.n < 16 → IsLine flown.items flown.capacity window next running → IsLine now.items now.capacity window next (Some r)
+begun_line flown now window next running r size room inside small is = record { room = room ∙ is.room; few = omega (arith, is.few); most = is.most; number = is.number; discard = (omega arith, small) }

@@ -5,14 +5,14 @@ use Rattle.std.proofs.lemmas.Bool.{and_parts, cases_lt, eqb-true, le-ltb, lt-ltb
 use Rattle.dch_flight.specs.declared.flown.Flown.{Flown}
 use Rattle.dch_flight.specs.Flights.{at, changed_below, unwanted}
 use Rattle.dch_flight.proofs.Changes.{length-changed}
-use Rattle.dch_am.specs.Numbers.{has, less, below}
+use Rattle.dch_am.specs.Numbers.{has, less, below, wrapped}
 use Rattle.dch_am.specs.Rules.{Rules}
 use Rattle.dch_am.specs.Sender.{Sender, Discard, first_open}
 use Rattle.dch_am.specs.Acknowledging.{floor}
 use Rattle.dch_am.specs.Discards.{after_mrw, discards_at, mrw_due}
 use Rattle.dch_am.proofs.Lists.{has-less, has-below}
 use Rattle.dch_sent.specs.declared.line.Running.{Running}
-use Rattle.dch_sent.specs.Line.{Line, discarding, is_due, moving, repeating, run_timer, ticked}
+use Rattle.dch_sent.specs.Line.{Line, discarding, is_due, mark_in, moving, number_at, place_in, repeating, run_timer, ticked}
 use Rattle.dch_sent.specs.Standing.{IsFlown, IsPolled, IsRunning, IsWanted, Stands, timed, timer_of}
 use Rattle.dch_sent.proofs.Naming.{at-changed_below}
 
@@ -143,3 +143,14 @@ moves_stand rules l s d is e = record {
   polled = λ out. let p : IsPolled s l.polled (length l.flown) = is.polled out in record { number = p.number; inside = p.inside };
   running = subst (λ ticks. IsRunning (repeating ticks l.running) (Some (record d { due = false; timer = rules.discard_repeat })) (first_open s) (length l.flown)) (sym (ap (λ (r : Rules). r.discard_repeat) is.rules_are)) (run_repeats rules.discard_repeat l.running d (first_open s) (length l.flown) (subst (λ x. IsRunning l.running x (first_open s) (length l.flown)) e is.running));
 }
+
+-- numbers of PDUs in flight
+pub number_is : (rules : Rules) (l : Line) (s : Sender) (place : ℕ) → place ≤ length l.flown → Stands rules l s → number_at place l ≡ wrapped (first_open s + place)
+number_is rules l s place le is = omega (arith, is.flying, is.next, is.few, is.most)
+
+mrw_by : (rules : Rules) (l : Line) (s : Sender) (r : Option Running) (d : Discard) → IsRunning r (Some d) (first_open s) (length l.flown) → Stands rules l s → (number_at (place_in r) l ≡ wrapped d.k) × (mark_in r ≡ d.n)
+mrw_by rules l s None d is stands = absurd is
+mrw_by rules l s (Some r) d is stands = (number_is rules l s r.at (omega (arith, is.inside)) stands ∙ ap wrapped is.k, is.n)
+
+pub mrw_is : (rules : Rules) (l : Line) (s : Sender) (d : Discard) → Stands rules l s → s.discard ≡ Some d → (number_at (place_in l.running) l ≡ wrapped d.k) × (mark_in l.running ≡ d.n)
+mrw_is rules l s d is e = mrw_by rules l s l.running d (subst (λ x. IsRunning l.running x (first_open s) (length l.flown)) e is.running) is

@@ -2,7 +2,6 @@
 use Rattle.std.specs.Prelude.{◌≡◌, ◌<◌, ◌≤◌, IfSome, ◌+◌, ◌-◌, ◌||◌, ◌==◌, true, ℕ, List, [], Bool, false, drop, length, min, nat_lt, Option, Some, None, if◌then◌else◌}
 use Rattle.dch_flight.specs.declared.flown.Flown.{Flown}
 use Rattle.dch_flight.specs.Flights.{at, acknowledged, unwanted, changed_below, front_acked}
-use Rattle.dch_types.specs.declared.bearer.AmRules.{AmRules}
 use Rattle.dch_am.specs.Rules.{Rules}
 use Rattle.dch_am.specs.Numbers.{wrapped}
 use Rattle.dch_am.specs.declared.answers.StatusTaken.{StatusTaken}
@@ -24,10 +23,6 @@ pub record Line : Type 0 where
   pub rules : Rules
   pub built : ℕ  -- the PDUs built since the last poll for their number
   pub ended : ℕ  -- the units ended since the last poll for their number
-
--- the rules of a bearer whose units may hold so many blocks
-abbrev pub rules_of : ℕ → AmRules → Rules
-rules_of buffer r = record { window = r.window; buffer = buffer; poll_pdus = r.poll_pdus; poll_units = r.poll_units; poll_window = r.poll_window; poll_timer = r.poll_timer; missing = r.missing; status_period = r.status_period; status_prohibit = r.status_prohibit; discard_age = r.discard_age; discard_sent = r.discard_sent; discard_repeat = r.discard_repeat }
 
 -- at opening
 abbrev pub opened_line : Rules → Line
@@ -118,13 +113,13 @@ after_answer (Outside i) said l = l
 abbrev pub after_hearing : List Said → Line → Line
 after_hearing said l = after_answer (answer_of said l) said l
 
--- the ring has room for the window, numbers have 12 bits, and the PDU of a discard is in flight
+-- the ring has room for the window, numbers have 12 bits, and the PDU of a discard is in flight with a place of four bits
 pub record IsLine (flown : List Flown) (capacity window next : ℕ) (running : Option Running) : Type 0 where
   pub room : capacity ≡ window
   pub few : length flown ≤ window
   pub most : window ≤ 2048
   pub number : next < 4096
-  pub discard : IfSome running (λ r. r.at < length flown)
+  pub discard : IfSome running (λ r. (r.at < length flown) × (r.n < 16))
 
 -- a tick of the poll timer and of a discard's
 abbrev pub run_timer : Option Running → Option Running

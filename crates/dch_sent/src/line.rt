@@ -1,16 +1,16 @@
-ghost use Rattle.std.specs.Prelude.{ℕ, Some, true, ◌≡◌, ◌+◌, ◌-◌, ◌<◌, ◌≤◌, ◌++◌, ◌∷◌, false, IfOk, length, slice_set};
-ghost use Rattle.dch_flight.specs.Flights.{at, built, front_acked};
+ghost use Rattle.std.specs.Prelude.{ℕ, Some, true, ◌≡◌, ◌+◌, ◌-◌, ◌<◌, ◌≤◌, ◌++◌, ◌∷◌, false, IfOk, is_some, length, min, slice_set};
+ghost use Rattle.dch_flight.specs.Flights.{at, built, front_acked, wanted_in};
 ghost use Rattle.dch_said.specs.Sayings.{said_by};
 ghost use Rattle.dch_am.specs.Acknowledging.{after_fields, status_answer};
 ghost use Rattle.dch_am.specs.Discards.{after_mrw, discards_at, mrw_due};
-ghost use Rattle.dch_am.specs.Rules.{Rules};
-ghost use Rattle.dch_am.specs.Numbers.{has};
+ghost use Rattle.dch_am.specs.Rules.{Rules, rules_of};
+ghost use Rattle.dch_am.specs.Numbers.{has, wrapped};
 ghost use Rattle.dch_am.specs.Bodies.{after_body, ends_of, is_left, next_body};
 ghost use Rattle.dch_am.specs.Building.{Again, New, Last, after_choice, again_polls, anew_polls, choice, once_more_polls};
 ghost use Rattle.dch_am.specs.Sender.{Discard, Sender, first_open, next_new, opened_sender};
 ghost use Rattle.dch_sent.specs.Standing.{AreKept, chosen, IsNew, Sends, Stands, timed};
 ghost use Rattle.dch_sent.specs.Polling.{again_line, again_poll, counted, crosses, is_far, last_line, last_poll, new_line, new_poll, picked, poll_of, sent_line};
-ghost use Rattle.dch_sent.specs.Line.{after_ending, after_hearing, after_told, answer_of, ending, number_at, outside_from, base_after, floor_of, freed, left_front, listened, opened_line, rules_of, run_on, run_timer, repeating, ticked, discarding, is_due, moving, place_in, mark_in};
+ghost use Rattle.dch_sent.specs.Line.{after_ending, after_hearing, after_told, answer_of, ending, number_at, outside_from, base_after, floor_of, freed, left_front, listened, opened_line, run_on, run_timer, repeating, ticked, discarding, is_due, moving, place_in, mark_in};
 
 use crate::hear::{below, ending, name, outside, tells, unname};
 use dch_am::StatusTaken;
@@ -55,7 +55,8 @@ pub struct Line {
 }
 
 impl Model for Line {
-    ghost use Rattle.dch_sent.specs.Line.{Line, IsLine, rules_of};
+    ghost use Rattle.dch_sent.specs.Line.{Line, IsLine};
+    ghost use Rattle.dch_am.specs.Rules.{rules_of};
 
     ghost Value = { Line };
 
@@ -84,6 +85,43 @@ impl Line {
             built: 0,
             ended: 0,
         })
+    }
+
+    /// The PDU in flight at a place.
+    pub fn at(&self, place: u16) -> Flown
+        requires { place < length self.now.flown }
+        ensures { result ≡ at self.now.flown place }
+    {
+        self.flight.at(place as usize)
+    }
+
+    /// How many PDUs are wanted, at most so many.
+    pub fn wanted(&self, most: usize) -> usize
+        ensures { result ≡ min most (wanted_in self.now.flown) }
+    {
+        self.flight.wanted(most)
+    }
+
+    /// How many PDUs may be in flight.
+    pub fn window(&self) -> usize
+        ensures count { result ≡ self.now.window }
+        ensures few { length self.now.flown ≤ result }
+    {
+        self.rules.window as usize
+    }
+
+    /// A poll is owed.
+    pub fn is_owed(&self) -> bool
+        ensures { result ≡ self.now.owed }
+    {
+        self.owed
+    }
+
+    /// A discard runs.
+    pub fn is_discarding(&self) -> bool
+        ensures { result ≡ is_some self.now.running }
+    {
+        self.running.is_some()
     }
 
     /// How many PDUs are in flight.
@@ -253,7 +291,8 @@ impl Line {
 
     /// A discard begins with the PDU at a place and its mark `n`.
     pub fn discard(&mut self, place: u16, n: u8)
-        requires { place < length self.old.flown }
+        requires inside { place < length self.old.flown }
+        requires mark { n < 16 }
         ensures after { self.new ≡ discarding place n self.old }
         ensures history { (rules : Rules) (s : Sender) (i : ℕ) → Stands rules self.old s → Stands rules self.new (discards_at s i (Some (first_open s + place, n))) }
     {
@@ -261,7 +300,8 @@ impl Line {
     }
 
     fn begins(&mut self, place: u16, n: u8)
-        requires { place < length self.old.flown }
+        requires inside { place < length self.old.flown }
+        requires mark { n < 16 }
         ensures after { self.new ≡ discarding place n self.old }
     {
         self.flight.unwant(place as usize);
@@ -294,6 +334,16 @@ impl Line {
     pub fn mrw(&self) -> (u16, u8)
         requires { is_due self.now.running ≡ true }
         ensures number { result ≡ (number_at (place_in self.now.running) self.now, mark_in self.now.running) }
+        ensures small { (result.0 < 4096) × (result.1 < 16) }
+        ensures history { (rules : Rules) (s : Sender) (d : Discard) → Stands rules self.now s → s.discard ≡ Some d → (result.0 ≡ wrapped d.k) × (result.1 ≡ d.n) }
+    {
+        self.moved_to()
+    }
+
+    fn moved_to(&self) -> (u16, u8)
+        requires { is_due self.now.running ≡ true }
+        ensures number { result ≡ (number_at (place_in self.now.running) self.now, mark_in self.now.running) }
+        ensures small { (result.0 < 4096) × (result.1 < 16) }
     {
         match self.running {
             None => (self.number_at(0), 0),
@@ -315,8 +365,17 @@ impl Line {
         self.running = repeating(self.running, self.rules.discard_repeat);
     }
 
-    /// The 12-bit number of the PDU at a place.
-    fn number_at(&self, place: u16) -> u16
+    /// The 12-bit number of the PDU at a place, or of the next new one.
+    pub fn number_at(&self, place: u16) -> u16
+        requires { place ≤ length self.now.flown }
+        ensures number { result ≡ number_at place self.now }
+        ensures small { result < 4096 }
+        ensures history { (rules : Rules) (s : Sender) → Stands rules self.now s → result ≡ wrapped (first_open s + place) }
+    {
+        self.number_of(place)
+    }
+
+    fn number_of(&self, place: u16) -> u16
         requires { place ≤ length self.now.flown }
         ensures number { result ≡ number_at place self.now }
         ensures small { result < 4096 }

@@ -1,16 +1,17 @@
 -- The PDU that is built, and what waits behind it.
-use Rattle.std.proofs.Common.{◌≡◌, ◌+◌, ◌-◌, ◌*◌, ◌%◌, ◌≤◌, ℕ, suc, List, [], ◌∷◌, ◌++◌, Bool, true, false, cond, not, ◌&&◌, length, take, drop, replicate, arith, refl, sym, ap, ap₂, ◌∙◌, subst, length-append}
+use Rattle.std.proofs.Common.{◌≡◌, ◌+◌, ◌-◌, ◌*◌, ◌%◌, ◌≤◌, ℕ, suc, List, [], ◌∷◌, ◌++◌, Bool, false, not, ◌&&◌, length, take, drop, replicate, arith, refl, sym, ap, ap₂, ◌∙◌, subst, length-append}
 use Rattle.std.specs.Prelude.{nat_lt, slice_index_or}
-use Rattle.std.proofs.lemmas.Bool.{ltb-true}
 use Rattle.std.proofs.lemmas.List.{length-replicate, take_at}
 use Rattle.dch_filling.specs.Filling.{AreSome}
-use Rattle.dch_filling.specs.Pdus.{front, padding}
+use Rattle.dch_filling.specs.Pdus.{front}
 use Rattle.dch_filling.proofs.Joined.{left_some}
-use Rattle.dch_am.specs.Bodies.{Body, carried, ends_at, leading, marks_of, next_body, sizes}
+use Rattle.dch_am.specs.Bodies.{Body, carried, marks_of, next_body, sizes}
 use Rattle.dch_am.specs.Building.{anew}
 use Rattle.dch_am.specs.Listed.{IsListed}
 use Rattle.dch_am.specs.Sender.{Sender}
-use Rattle.dch_am.proofs.Reading.{AllFull}
+use Rattle.dch_am.specs.Cuts.{AllFull}
+use Rattle.dch_am.specs.Short.{IsShort}
+use Rattle.dch_am.proofs.Short.{room_is, short_next}
 use Rattle.dch_rlcpdu.specs.Marks.{indicators, more}
 use Rattle.dch_rlcpdu.specs.Body.{padded}
 use Rattle.dch_rlcpdu.specs.Um.{um_pdu}
@@ -21,33 +22,22 @@ use Rattle.dch_unsent.specs.declared.scan.Scan.{Scan}
 use Rattle.dch_unsent.specs.Scanning.{no_marks, read_marks, scanned}
 use Rattle.dch_unsent.specs.Keeping.{cleared, content, Has, IsSized, Keeps}
 use Rattle.dch_unsent.proofs.Reading.{bit_back, more_le, read_back}
-use Rattle.dch_unsent.proofs.Filled.{IsShort, Tells, short_next, tells}
+use Rattle.dch_unsent.proofs.Filled.{Tells, tells}
 use Rattle.dch_unsent.proofs.Texts.{text_is}
 
 all_full : (us : List (List ℕ)) → AreSome (sizes us) → AllFull us
 all_full [] some = tt
 all_full (u ∷ us) some = (some.0, all_full us some.1)
 
-listed_full : (d : ℕ) (s : Sender) → IsListed d s → AllFull s.unsent.units
+-- no unit that waits is empty
+pub listed_full : (d : ℕ) (s : Sender) → IsListed d s → AllFull s.unsent.units
 listed_full d s is = all_full s.unsent.units (subst AreSome (sym is.lengths) (left_some (front d false (sizes s.accepted) s.cuts).from (sizes s.accepted) is.some))
 
 length-indicators : (ms : List ℕ) → length (indicators ms) ≡ length ms
 length-indicators [] = refl
 length-indicators (m ∷ ms) = ap suc (length-indicators ms)
 
-length-ends : (at : ℕ) (ps : List (List ℕ)) → length (ends_at at ps) ≡ length ps
-length-ends at [] = refl
-length-ends at (p ∷ ps) = ap suc (length-ends (at + length p) ps)
-
--- marks and octets find room
-room_is : (d : ℕ) (b : Body) → IsShort d b → length (marks_of d b) + length (carried b) ≤ d
-room_is d b is = go (nat_lt (length (leading b) + length (carried b) + length b.pieces) d) refl
-  where
-    go : (c : Bool) → nat_lt (length (leading b) + length (carried b) + length b.pieces) d ≡ c → length (marks_of d b) + length (carried b) ≤ d
-    go true e = omega (arith, ltb-true _ _ e, length-append (leading b) (ends_at 0 b.pieces ++ padding d (length (leading b) + length (carried b) + length b.pieces)), length-append (ends_at 0 b.pieces) (padding d (length (leading b) + length (carried b) + length b.pieces)), length-ends 0 b.pieces, ap (λ c. length (cond {A = List ℕ} c (127 ∷ []) [])) e)
-    go false e = omega (arith, is.short, length-append (leading b) (ends_at 0 b.pieces ++ padding d (length (leading b) + length (carried b) + length b.pieces)), length-append (ends_at 0 b.pieces) (padding d (length (leading b) + length (carried b) + length b.pieces)), length-ends 0 b.pieces, ap (λ c. length (cond {A = List ℕ} c (127 ∷ []) [])) e)
-
-length-content : (d : ℕ) (b : Body) → IsShort d b → length (content d b) ≡ d + 1
+pub length-content : (d : ℕ) (b : Body) → IsShort d b → length (content d b) ≡ d + 1
 length-content d b is = omega (arith, room_is d b is, length-append (indicators (marks_of d b)) (padded (d + 1 - 1 - length (marks_of d b)) (carried b)), length-indicators (marks_of d b), length-append (carried b) (replicate (d + 1 - 1 - length (marks_of d b) - length (carried b)) 0), length-replicate {A = ℕ} (d + 1 - 1 - length (marks_of d b) - length (carried b)) 0)
 
 -- the number is taken off
@@ -71,6 +61,7 @@ built_is d s v now size text marks goes is keeps listed = (
     full = ap (λ (m : Scan). m.full) scan ∙ t.full;
     ends = ap (λ (m : Scan). m.ends) scan ∙ t.ends;
     goes_on = is.goes_is ∙ (ap₂ (λ (m : Scan) n. not m.closed && nat_lt (m.last + m.marks) n) scan less ∙ t.goes_on);
+    short = short;
   },
   record {
     size = ap (λ (x : Sending). x.pdu) is.after ∙ keeps.size;

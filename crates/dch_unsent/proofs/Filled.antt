@@ -1,36 +1,14 @@
 -- What the marks of a filled PDU tell.
-use Rattle.std.proofs.Common.{◌≡◌, ◌+◌, ◌-◌, ◌<◌, ◌≤◌, ℕ, suc, List, [], ◌∷◌, ◌++◌, Bool, true, false, cond, not, ◌&&◌, ◌||◌, length, take, arith, refl, sym, ap, ap₂, ◌∙◌, subst, length-append}
+use Rattle.std.proofs.Common.{◌≡◌, ◌+◌, ◌<◌, ◌≤◌, ℕ, suc, List, [], ◌∷◌, ◌++◌, Bool, true, false, cond, not, ◌&&◌, ◌||◌, length, arith, refl, sym, ap, ap₂, ◌∙◌, subst, length-append}
 use Rattle.std.specs.Prelude.{nat_lt, ◌==◌}
-use Rattle.std.proofs.lemmas.Bool.{cond_both, eqb-true, lt-ltb, le-ltb, ltb-true, ltb-false}
+use Rattle.std.proofs.lemmas.Bool.{lt-ltb, le-ltb, ltb-true, ltb-false}
 use Rattle.std.proofs.lemmas.Bool.Decides.{nat_tests}
-use Rattle.std.proofs.lemmas.List.{length-take-le}
 use Rattle.dch_filling.specs.Pdus.{padding}
-use Rattle.dch_am.specs.Bodies.{Body, Filled, Unsent, carried, ends_at, ends_of, is_empty, joined, leading, marks_of, next_body, one_more_piece, place, placed, room_for}
-use Rattle.dch_am.proofs.Reading.{AllFull}
+use Rattle.dch_am.specs.Bodies.{Body, carried, ends_at, ends_of, is_empty, joined, leading, marks_of}
+use Rattle.dch_am.specs.Cuts.{AllFull}
+use Rattle.dch_am.specs.Short.{IsShort}
 use Rattle.dch_unsent.specs.declared.scan.Scan.{Scan}
 use Rattle.dch_unsent.specs.Scanning.{no_marks, scanned, with_mark}
-
--- the octets and marks of pieces, and octets behind them
-pub record IsPlacedIn (free : ℕ) (f : Filled) : Type 0 where
-  pub some : AllFull f.pieces
-  pub short : length (joined f.pieces) + length f.pieces + length f.rest ≤ free
-  pub rest : length (joined f.pieces) + length f.pieces + length f.rest < free → f.rest ≡ []
-
-pub placed_in : (free : ℕ) (us : List (List ℕ)) → AllFull us → IsPlacedIn free (place free us)
-placed_in free [] full = record { some = tt; short = omega arith; rest = λ l. refl }
-placed_in free (u ∷ us) full =
-    cond_both (nat_lt (length u) free) _ _ (IsPlacedIn free)
-    (λ less. more (ltb-true _ _ less) (placed_in (free - length u - 1) us full.1))
-    (λ most. cond_both (length u == free) _ _ (IsPlacedIn free)
-    (λ same. record { some = tt; short = omega (arith, eqb-true _ _ same); rest = λ l. absurd (omega (arith, l, eqb-true _ _ same)) })
-    (λ other. let le : free ≤ length u = ltb-false _ _ most in let n : length (take free u) ≡ free = length-take-le free u le in record { some = tt; short = omega arith; rest = λ l. absurd (omega (arith, l)) }))
-  where
-    more : length u < free → IsPlacedIn (free - length u - 1) (place (free - length u - 1) us) → IsPlacedIn free (one_more_piece u (place (free - length u - 1) us))
-    more less is = record {
-      some = (full.0, is.some);
-      short = omega (arith, is.short, length-append u (joined (place (free - length u - 1) us).pieces));
-      rest = λ l. is.rest (omega (arith, l, length-append u (joined (place (free - length u - 1) us).pieces)));
-    }
 
 -- the last of ends
 abbrev pub last_of : ℕ → List ℕ → ℕ
@@ -82,11 +60,6 @@ pub record Tells (d : ℕ) (b : Body) (s : Scan) : Type 0 where
   pub ends : s.ends ≡ ends_of b
   pub goes_on : (not s.closed && nat_lt (s.last + s.marks) d) ≡ not (is_empty b.rest)
 
-pub record IsShort (d : ℕ) (b : Body) : Type 0 where
-  pub some : AllFull b.pieces
-  pub short : length (leading b) + length (carried b) + length b.pieces ≤ d
-  pub rest : length (leading b) + length (carried b) + length b.pieces < d → b.rest ≡ []
-
 begun : (b : Body) → scanned no_marks (leading b) ≡ scan_of b.full (length (leading b)) (length (leading b)) 0 false
 begun b = go b.full
   where
@@ -136,27 +109,3 @@ tells d b small is = subst (Tells d b) (sym whole) (either (nat_lt spent d) refl
         left : (xs : List ℕ) → b.rest ≡ xs → nat_lt (0 + length (joined b.pieces) + (length (leading b) + length b.pieces)) d ≡ not (is_empty xs)
         left [] q = le-ltb _ _ (omega (arith, size, ap length q, ltb-false _ _ e))
         left (x ∷ xs) q = lt-ltb _ _ (omega (arith, size, ap length q, is.short))
-
--- the next PDU is filled
-pub short_next : (d : ℕ) (q : Unsent) → 1 ≤ d → AllFull q.units → IsShort d (next_body d q)
-short_next d q one full = go q.owed refl
-  where
-    go : (c : Bool) → q.owed ≡ c → IsShort d (next_body d q)
-    go true e =
-        let room : room_for d q.owed ≡ d - 1 = ap (room_for d) e in
-        let is : IsPlacedIn (room_for d q.owed) (placed d q) = placed_in (room_for d q.owed) q.units full in
-        let lead : length (leading (next_body d q)) ≡ 1 = ap (λ b. length (cond {A = List ℕ} b (0 ∷ []) [])) e in
-        record {
-          some = is.some;
-          short = omega (arith, is.short, lead, room, length-append (joined (placed d q).pieces) (placed d q).rest);
-          rest = λ l. is.rest (omega (arith, l, lead, room, length-append (joined (placed d q).pieces) (placed d q).rest));
-        }
-    go false e =
-        let room : room_for d q.owed ≡ d = ap (room_for d) e in
-        let is : IsPlacedIn (room_for d q.owed) (placed d q) = placed_in (room_for d q.owed) q.units full in
-        let lead : length (leading (next_body d q)) ≡ 0 = ap (λ b. length (cond {A = List ℕ} b (0 ∷ []) [])) e in
-        record {
-          some = is.some;
-          short = omega (arith, is.short, lead, room, length-append (joined (placed d q).pieces) (placed d q).rest);
-          rest = λ l. is.rest (omega (arith, l, lead, room, length-append (joined (placed d q).pieces) (placed d q).rest));
-        }

@@ -3,3 +3,5 @@ pub mod Filled
 pub mod Texts
 pub mod Built
 pub mod Left
+pub mod Room
+pub mod Fills

@@ -1,8 +1,9 @@
 -- What waits in a sender of the acknowledged mode, as a sender of the unacknowledged mode without its header keeps it (TS 25.322 9.2.2.8).
-use Rattle.std.specs.Prelude.{◌≡◌, ◌+◌, ◌-◌, ◌≤◌, ◌%◌, ◌++◌, ℕ, List, [], ◌∷◌, false, not, replicate}
-use Rattle.dch_am.specs.Bodies.{Body, carried, ends_of, is_empty, marks_of}
+use Rattle.std.specs.Prelude.{◌≡◌, ◌+◌, ◌-◌, ◌≤◌, ◌%◌, ◌++◌, ℕ, zero, suc, List, [], ◌∷◌, false, not, replicate, if◌then◌else◌}
+use Rattle.dch_am.specs.Bodies.{Body, Unsent, after_body, carried, ends_of, is_empty, is_left, marks_of}
 use Rattle.dch_am.specs.Listed.{IsListed}
 use Rattle.dch_am.specs.Sender.{Sender}
+use Rattle.dch_am.specs.Short.{IsShort}
 use Rattle.dch_flight.specs.declared.flown.Flown.{Flown}
 use Rattle.dch_rlcpdu.specs.Um.{um_pdu}
 use Rattle.dch_rlcum.specs.History.{IsSenderOf}
@@ -29,9 +30,15 @@ pub record Has (d : ℕ) (f : Flown) (b : Body) : Type 0 where
   pub full : f.full ≡ b.full
   pub ends : f.ends ≡ ends_of b
   pub goes_on : f.goes_on ≡ not (is_empty b.rest)
+  pub short : IsShort d b
 
 -- how many octets such a text has
 pub record IsSized (size pdu : ℕ) : Type 0 where
   pub same : size ≡ pdu
   pub from : 5 ≤ pdu
   pub most : pdu ≤ 125
+
+-- how many PDUs could be filled one after another, at most so many
+unfoldable pub fills : ℕ → ℕ → Unsent → ℕ
+fills zero d q = 0
+fills (suc most) d q = if is_left q then suc (fills most d (after_body d q)) else 0

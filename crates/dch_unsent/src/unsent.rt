@@ -3,9 +3,11 @@ ghost use Rattle.dch_am.specs.Bodies.{is_left, next_body};
 ghost use Rattle.dch_am.specs.Building.{anew};
 ghost use Rattle.dch_am.specs.Sender.{Sender, after_offer, opened_sender};
 ghost use Rattle.dch_am.specs.Listed.{IsListed};
+ghost use Rattle.dch_rlcum.specs.Sending.{after_offer as after_offering};
 ghost use Rattle.dch_rlcum.specs.Sending.{after_build, answer_of, builds, is_unsent, no_units, pdu_of};
 ghost use Rattle.dch_rlcum.specs.History.{IsSenderOf, texts};
-ghost use Rattle.dch_unsent.specs.Keeping.{cleared, Has, Keeps};
+ghost use Rattle.dch_flight.specs.Flights.{sent_once};
+ghost use Rattle.dch_unsent.specs.Keeping.{cleared, fills, Has, Keeps};
 
 use crate::scan::{Scan, read_marks};
 use dch_bits::{NoMemory, Offer};
@@ -24,6 +26,7 @@ pub struct Unsent {
 
 impl Model for Unsent {
     ghost use Rattle.dch_rlcum.specs.Sending.{Sending};
+    ghost use Rattle.dch_flight.specs.Flights.{sent_once};
     ghost use Rattle.dch_unsent.specs.Keeping.{IsSized};
 
     ghost Value = { Sending };
@@ -51,6 +54,7 @@ impl Unsent {
     /// Offers a unit of 1 to 1,500 octets, which is accepted where its blocks find room beside those of the units that wait.
     pub fn offer(&mut self, unit: &[u8]) -> Offer
         ensures answer { result ≡ answer_of unit.now self.old }
+        ensures after { self.new ≡ after_offering result unit.now self.old }
         ensures history { (d : ℕ) (s : Sender) → Keeps d self.old s → IsListed d (after_offer result s unit.now) → Keeps d self.new (after_offer result s unit.now) }
     {
         self.fresh.offer(unit)
@@ -72,6 +76,13 @@ impl Unsent {
 
     /// How many PDUs could be filled one after another, at most 64.
     pub fn available(&self) -> u16
+        ensures value { result ≡ builds 64 self.now.pdu self.now.mark_start self.now.units }
+        ensures history { (d : ℕ) (s : Sender) → Keeps d self.now s → result ≡ fills 64 d s.unsent }
+    {
+        self.count()
+    }
+
+    fn count(&self) -> u16
         ensures { result ≡ builds 64 self.now.pdu self.now.mark_start self.now.units }
     {
         self.fresh.available()
@@ -81,6 +92,7 @@ impl Unsent {
     pub fn build(&mut self) -> Flown
         requires { is_unsent self.old.units ≡ true }
         ensures after { self.new ≡ after_build self.old }
+        ensures fresh { result ≡ sent_once result.text result.full result.ends result.goes_on }
         ensures history { (d : ℕ) (s : Sender) → Keeps d self.old s → IsListed d (anew d s) → Has d result (next_body d s.unsent) × Keeps d self.new (anew d s) }
     {
         let size = self.size;

@@ -7,4 +7,4 @@ use Rattle.dch_sent.proofs.Ticking.{discards_stand}
 use Rattle.dch_sent.proofs.line.Line.discard.Goals as goal
 
 pub returns-clause-history : goal.returns-clause-history
-returns-clause-history c = λ rules s i is. subst (λ l. Stands rules l (discards_at s i (Some (first_open s + c.args.place, c.args.n)))) (sym c.begins.ensures.after) (discards_stand rules c.args.self.now s c.args.place c.args.n i c.requires is)
+returns-clause-history c = λ rules s i is. subst (λ l. Stands rules l (discards_at s i (Some (first_open s + c.args.place, c.args.n)))) (sym c.begins.ensures.after) (discards_stand rules c.args.self.now s c.args.place c.args.n i c.requires.inside is)
