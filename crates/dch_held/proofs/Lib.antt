@@ -1,0 +1,4 @@
+pub mod Ages
+pub mod Holding
+pub mod Keeping
+pub mod Sums
