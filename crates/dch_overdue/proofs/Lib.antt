@@ -1,0 +1,4 @@
+pub mod Within
+pub mod Ending
+pub mod Sending
+pub mod Taking

@@ -1,0 +1,16 @@
+use Rattle.std.proofs.Common.{◌∙◌, ap, sym, subst, length}
+use Rattle.std.specs.Prelude.{IfSome}
+use Rattle.dch_am.specs.Discards.{discards}
+use Rattle.dch_am.specs.Rules.{Rules}
+use Rattle.dch_held.specs.Holding.{Holds}
+use Rattle.dch_sent.specs.Standing.{Stands}
+use Rattle.dch_overdue.specs.Discarding.{discarded_by}
+use Rattle.dch_overdue.proofs.Within.{IsWithin, overdue_within}
+use Rattle.dch_overdue.proofs.Taking.{overdue_is}
+use Rattle.dch_overdue.proofs.pass.overdue.Goals as goal
+
+pub returns-clause-within : goal.returns-clause-within
+returns-clause-within c = subst (λ o. IfSome o (IsWithin c.args.held.now (length c.args.line.now.flown))) (sym c.last.ensures.value) (overdue_within c.args.rules.now c.args.held.now c.args.line.now.flown)
+
+pub returns-clause-history : goal.returns-clause-history
+returns-clause-history c = λ r buffer d s e stands holds cut has. ap (λ (x : Rules). discards x s (length s.accepted)) e ∙ (overdue_is buffer d c.args.rules.now c.args.line.now c.args.held.now s c.last.ensures.small.0 c.last.ensures.small.1 (subst (λ (x : Rules). Stands x c.args.line.now s) e stands) (subst (λ (x : Rules). Holds x c.args.held.now s) e holds) cut has ∙ ap (λ o. discarded_by o s) (sym c.last.ensures.value))
