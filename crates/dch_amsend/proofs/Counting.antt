@@ -1,0 +1,267 @@
+-- How many PDUs could be built one after another.
+use Rattle.std.proofs.Common.{◌≡◌, ◌+◌, ◌-◌, ◌*◌, ◌<◌, ◌≤◌, ℕ, zero, suc, List, [], ◌∷◌, ◌++◌, Bool, true, false, cond, ◌&&◌, ◌||◌, length, min, set, arith, refl, sym, ap, ap₂, ◌∙◌, length-append, length-set}
+use Rattle.std.specs.Prelude.{nat_lt, nat_le}
+use Rattle.std.proofs.lemmas.Bool.{and_parts, lt-ltb, ltb-true, ltb-false}
+use Rattle.dch_flight.specs.declared.flown.Flown.{Flown}
+use Rattle.dch_flight.specs.Flights.{at, built, first_wanted, sent_once, wanted_in}
+use Rattle.dch_am.specs.Numbers.{has}
+use Rattle.dch_am.specs.Rules.{Rules}
+use Rattle.dch_am.specs.Bodies.{Unsent, after_body, ends_of, is_left, next_body}
+use Rattle.dch_am.specs.Sender.{Sender, first_open, next_new}
+use Rattle.dch_am.specs.Building.{Choice, Again as Requested, New as Fresh, Last as Latest, NoPdu as Nothing, after_build, after_choice, again, anew, builds_within, choice, is_pdu, once_more, passes, polls}
+use Rattle.dch_sent.specs.declared.line.Pick.TheVariants.{Again, New, Last, NoPdu}
+use Rattle.dch_sent.specs.Line.{Line}
+use Rattle.dch_sent.specs.Polling.{again_line, last_line, new_line}
+use Rattle.dch_sent.specs.Standing.{Stands, chosen}
+use Rattle.dch_sent.proofs.Picking.{picked_is}
+use Rattle.dch_sent.proofs.Sending.{again_sends, last_sends, new_sends}
+use Rattle.dch_unsent.specs.Keeping.{fills}
+use Rattle.dch_amsend.specs.Counting.{builds_of}
+
+-- one that is wanted is built
+wanted_less : (xs : List Flown) (i : ℕ) (f : Flown) → i < length xs → (at xs i).wanted ≡ true → f.wanted ≡ false → wanted_in xs ≡ suc (wanted_in (set xs i f))
+wanted_less [] i f l w n = absurd (omega arith)
+wanted_less (x ∷ xs) zero f l w n = ap (λ b. cond b (suc (wanted_in xs)) (wanted_in xs)) w ∙ ap (λ b. suc (cond b (suc (wanted_in xs)) (wanted_in xs))) (sym n)
+wanted_less (x ∷ xs) (suc i) f l w n = go x.wanted (wanted_less xs i f (omega arith) w n)
+  where
+    go : (b : Bool) → wanted_in xs ≡ suc (wanted_in (set xs i f)) → cond b (suc (wanted_in xs)) (wanted_in xs) ≡ suc (cond b (suc (wanted_in (set xs i f))) (wanted_in (set xs i f)))
+    go true e = ap suc e
+    go false e = e
+
+-- one that isn't wanted is built again, or is new
+wanted_same : (xs : List Flown) (i : ℕ) (f : Flown) → i < length xs → (at xs i).wanted ≡ false → f.wanted ≡ false → wanted_in (set xs i f) ≡ wanted_in xs
+wanted_same [] i f l w n = absurd (omega arith)
+wanted_same (x ∷ xs) zero f l w n = ap (λ b. cond b (suc (wanted_in xs)) (wanted_in xs)) n ∙ ap (λ b. cond b (suc (wanted_in xs)) (wanted_in xs)) (sym w)
+wanted_same (x ∷ xs) (suc i) f l w n = ap (λ k. cond x.wanted (suc k) k) (wanted_same xs i f (omega arith) w n)
+
+wanted_new : (xs : List Flown) (f : Flown) → f.wanted ≡ false → wanted_in (xs ++ f ∷ []) ≡ wanted_in xs
+wanted_new [] f n = ap (λ b. cond b 1 0) n
+wanted_new (x ∷ xs) f n = ap (λ k. cond x.wanted (suc k) k) (wanted_new xs f n)
+
+-- the first that is wanted, and none
+first_is_wanted : (xs : List Flown) → first_wanted xs < length xs → (at xs (first_wanted xs)).wanted ≡ true
+first_is_wanted [] l = absurd (omega arith)
+first_is_wanted (x ∷ xs) l = go x.wanted refl l (λ h. first_is_wanted xs h)
+  where
+    go : (b : Bool) → x.wanted ≡ b → cond b 0 (suc (first_wanted xs)) < suc (length xs) → (first_wanted xs < length xs → (at xs (first_wanted xs)).wanted ≡ true) → (at (x ∷ xs) (cond b 0 (suc (first_wanted xs)))).wanted ≡ true
+    go true e h rest = e
+    go false e h rest = rest (omega arith)
+
+pub none_wanted : (xs : List Flown) → length xs ≤ first_wanted xs → wanted_in xs ≡ 0
+none_wanted [] l = refl
+none_wanted (x ∷ xs) l = go x.wanted l (λ h. none_wanted xs h)
+  where
+    go : (b : Bool) → suc (length xs) ≤ cond b 0 (suc (first_wanted xs)) → (length xs ≤ first_wanted xs → wanted_in xs ≡ 0) → cond b (suc (wanted_in xs)) (wanted_in xs) ≡ 0
+    go true h rest = absurd (omega arith)
+    go false h rest = rest (omega arith)
+
+pub none_at : (xs : List Flown) (i : ℕ) → i < length xs → length xs ≤ first_wanted xs → (at xs i).wanted ≡ false
+none_at [] i l none = absurd (omega arith)
+none_at (x ∷ xs) i l none = go x.wanted refl none i l (λ j a b. none_at xs j a b)
+  where
+    go : (b : Bool) → x.wanted ≡ b → suc (length xs) ≤ cond b 0 (suc (first_wanted xs)) → (i : ℕ) → i < suc (length xs) → ((j : ℕ) → j < length xs → length xs ≤ first_wanted xs → (at xs j).wanted ≡ false) → (at (x ∷ xs) i).wanted ≡ false
+    go true e h i l rest = absurd (omega arith)
+    go false e h zero l rest = e
+    go false e h (suc i) l rest = rest i (omega arith) (omega arith)
+
+-- a PDU pays the poll that is owed
+paid : (rules : Rules) (s : Sender) (reason : Bool) → cond (polls rules s reason) false s.owed ≡ false
+paid rules s reason = go reason s.owed (passes rules.poll_pdus (s.builds - 1) s.builds) (nat_lt 0 rules.poll_window && nat_le (rules.poll_window * rules.window) (100 * (next_new s - first_open s)))
+  where
+    go : (a b c e : Bool) → cond (a || b || c || e) false b ≡ false
+    go true b c e = refl
+    go false true c e = refl
+    go false false true e = refl
+    go false false false true = refl
+    go false false false false = refl
+
+-- a build that gives a PDU is counted
+one_more : (n : ℕ) (rules : Rules) (d : ℕ) (s : Sender) (c : Choice) → choice rules s ≡ c → is_pdu c ≡ true → builds_within (suc n) rules d s ≡ suc (builds_within n rules d (after_choice c rules d s))
+one_more n rules d s c e is = ap (λ b. cond b (suc (builds_within n rules d (after_build rules d s))) 0) (ap is_pdu e ∙ is) ∙ ap (λ x. suc (builds_within n rules d (after_choice x rules d s))) e
+
+pub no_more : (n : ℕ) (rules : Rules) (d : ℕ) (s : Sender) → choice rules s ≡ Nothing → builds_within (suc n) rules d s ≡ 0
+no_more n rules d s e = ap (λ b. cond b (suc (builds_within n rules d (after_build rules d s))) 0) (ap is_pdu e)
+
+-- no more than so many are filled, and one bound more counts one more at the most
+fills_few : (n d : ℕ) (q : Unsent) → fills n d q ≤ n
+unfolding fills
+fills_few zero d q = omega arith
+fills_few (suc n) d q = go (is_left q) (fills_few n d (after_body d q))
+  where
+    go : (b : Bool) → fills n d (after_body d q) ≤ n → cond b (suc (fills n d (after_body d q))) 0 ≤ suc n
+    go true l = omega arith
+    go false l = omega arith
+
+fills_next : (n d : ℕ) (q : Unsent) → fills n d q ≡ min n (fills (suc n) d q)
+unfolding fills
+fills_next zero d q = omega arith
+fills_next (suc n) d q = go (is_left q) (fills_next n d (after_body d q))
+  where
+    go : (b : Bool) → fills n d (after_body d q) ≡ min n (fills (suc n) d (after_body d q)) → cond b (suc (fills n d (after_body d q))) 0 ≡ min (suc n) (cond b (suc (fills (suc n) d (after_body d q))) 0)
+    go true e = omega (arith, e)
+    go false e = omega arith
+
+fills_left : (n d : ℕ) (q : Unsent) → is_left q ≡ true → fills (suc n) d q ≡ suc (fills n d (after_body d q))
+unfolding fills
+fills_left n d q e = ap (λ b. cond b (suc (fills n d (after_body d q))) 0) e
+
+pub fills_none : (n d : ℕ) (q : Unsent) → is_left q ≡ false → fills n d q ≡ 0
+unfolding fills
+fills_none zero d q e = refl
+fills_none (suc n) d q e = ap (λ b. cond b (suc (fills n d (after_body d q))) 0) e
+
+-- numbers of builds
+count_again : (n w room f g flying : ℕ) (b : Bool) → f ≡ min n g → suc (min n (builds_of w (min room f) false flying)) ≡ min (suc n) (builds_of (suc w) (min room g) b flying)
+count_again n w room f g flying b e = go (nat_lt 0 (w + min room f)) (nat_lt 0 (suc w + min room g)) refl refl
+  where
+    go : (x y : Bool) → nat_lt 0 (w + min room f) ≡ x → nat_lt 0 (suc w + min room g) ≡ y → suc (min n (cond x (w + min room f) 0)) ≡ min (suc n) (cond y (suc w + min room g) (cond (b && nat_lt 0 flying) 1 0))
+    go true true ex ey = omega (arith, e)
+    go false true ex ey = omega (arith, e, ltb-false _ _ ex)
+    go x false ex ey = absurd (omega (arith, ltb-false _ _ ey))
+
+count_new : (n room f flying : ℕ) (b : Bool) → 0 < room → suc (min n (builds_of 0 (min (room - 1) f) false (flying + 1))) ≡ min (suc n) (builds_of 0 (min room (suc f)) b flying)
+count_new n room f flying b one = go (nat_lt 0 (0 + min (room - 1) f)) (nat_lt 0 (0 + min room (suc f))) refl refl
+  where
+    go : (x y : Bool) → nat_lt 0 (0 + min (room - 1) f) ≡ x → nat_lt 0 (0 + min room (suc f)) ≡ y → suc (min n (cond x (0 + min (room - 1) f) 0)) ≡ min (suc n) (cond y (0 + min room (suc f)) (cond (b && nat_lt 0 flying) 1 0))
+    go true true ex ey = omega arith
+    go false true ex ey = omega (arith, ltb-false _ _ ex)
+    go x false ex ey = absurd (omega (arith, ltb-false _ _ ey))
+
+count_last : (n flying : ℕ) → 0 < flying → suc (min n (builds_of 0 0 false flying)) ≡ min (suc n) (builds_of 0 0 true flying)
+count_last n flying one = let first : suc (min n 0) ≡ min (suc n) 1 = omega arith in first ∙ ap (λ b. min (suc n) (cond b 1 0)) (sym (lt-ltb 0 flying one))
+
+-- what a build leaves: the poll is paid, and nothing else counts
+record Left (rules : Rules) (l : Line) (s : Sender) (wanted flying : ℕ) (q : Unsent) : Type 0 where
+  stands : Stands rules l s
+  none_owed : s.owed ≡ false
+  wanted_is : wanted_in l.flown ≡ wanted
+  flying_is : length l.flown ≡ flying
+  unsent_is : s.unsent ≡ q
+
+-- the count for a line and a sender
+abbrev counted : ℕ → Rules → ℕ → Line → Sender → ℕ
+counted n rules d l s = min n (builds_of (wanted_in l.flown) (min (rules.window - length l.flown) (fills n d s.unsent)) s.owed (length l.flown))
+
+left_counted : (n : ℕ) (rules : Rules) (d : ℕ) (l : Line) (s : Sender) (wanted flying : ℕ) (q : Unsent) → Left rules l s wanted flying q → builds_within n rules d s ≡ min n (builds_of (wanted_in l.flown) (min (rules.window - length l.flown) (fills n d s.unsent)) s.owed (length l.flown)) → builds_within n rules d s ≡ min n (builds_of wanted (min (rules.window - flying) (fills n d q)) false flying)
+left_counted n rules d l s wanted flying q is e =
+    e ∙ (ap₂ (λ (w : ℕ) (k : ℕ). min n (builds_of w (min (rules.window - k) (fills n d s.unsent)) s.owed k)) is.wanted_is is.flying_is
+    ∙ ap₂ (λ (x : Unsent) (b : Bool). min n (builds_of wanted (min (rules.window - flying) (fills n d x)) b flying)) is.unsent_is is.none_owed)
+
+again_left : (rules : Rules) (d : ℕ) (l : Line) (s : Sender) → first_wanted l.flown < length l.flown → Stands rules l s → (w : ℕ) → wanted_in l.flown ≡ suc w → Left rules (again_line (first_wanted l.flown) l) (after_choice (Requested (first_open s + first_wanted l.flown)) rules d s) w (length l.flown) s.unsent
+again_left rules d l s inside is w e = record {
+  stands = (again_sends rules l s (first_wanted l.flown) d inside is).stands;
+  none_owed = paid rules (again s (first_open s + first_wanted l.flown)) _;
+  wanted_is = omega (arith, e, wanted_less l.flown (first_wanted l.flown) (built (at l.flown (first_wanted l.flown))) inside (first_is_wanted l.flown inside) refl);
+  flying_is = length-set l.flown (first_wanted l.flown) (built (at l.flown (first_wanted l.flown)));
+  unsent_is = refl;
+}
+
+new_left : (rules : Rules) (d : ℕ) (l : Line) (s : Sender) → length l.flown < rules.window → Stands rules l s → Left rules (new_line (sent_once [] false (ends_of (next_body d s.unsent)) false) (is_left (after_body d s.unsent)) l) (after_choice Fresh rules d s) (wanted_in l.flown) (length l.flown + 1) (after_body d s.unsent)
+new_left rules d l s room is = record {
+  stands = (new_sends rules l s (sent_once [] false (ends_of (next_body d s.unsent)) false) (is_left (after_body d s.unsent)) d room (record { acked = refl; wanted = refl; named = refl; builds = refl; ends_are = refl }) refl is).stands;
+  none_owed = paid rules (anew d s) _;
+  wanted_is = wanted_new l.flown (sent_once [] false (ends_of (next_body d s.unsent)) false) refl;
+  flying_is = length-append l.flown (sent_once [] false (ends_of (next_body d s.unsent)) false ∷ []);
+  unsent_is = refl;
+}
+
+-- the last PDU's number, and that it isn't requested where none is wanted
+pub last_is : (rules : Rules) (l : Line) (s : Sender) → 0 < length l.flown → Stands rules l s → first_open s + (length l.flown - 1) ≡ next_new s - 1
+last_is rules l s one is = omega (arith, is.flying)
+
+pub last_not : (rules : Rules) (l : Line) (s : Sender) → 0 < length l.flown → length l.flown ≤ first_wanted l.flown → Stands rules l s → has (first_open s + (length l.flown - 1)) s.requested ≡ false
+last_not rules l s one none is = sym (is.flown (length l.flown - 1) (omega arith)).wanted ∙ none_at l.flown (length l.flown - 1) (omega arith) none
+
+last_left : (rules : Rules) (d : ℕ) (l : Line) (s : Sender) → 0 < length l.flown → length l.flown ≤ first_wanted l.flown → Stands rules l s → Left rules (last_line (length l.flown - 1) l) (after_choice (Latest (first_open s + (length l.flown - 1))) rules d s) (wanted_in l.flown) (length l.flown) s.unsent
+last_left rules d l s one none is = record {
+  stands = (last_sends rules l s (length l.flown - 1) d (omega arith) (last_is rules l s one is) (last_not rules l s one none is) is).stands;
+  none_owed = paid rules (once_more s) false;
+  wanted_is = wanted_same l.flown (length l.flown - 1) (built (at l.flown (length l.flown - 1))) (omega arith) (none_at l.flown (length l.flown - 1) (omega arith) none) refl;
+  flying_is = length-set l.flown (length l.flown - 1) (built (at l.flown (length l.flown - 1)));
+  unsent_is = refl;
+}
+
+-- the tests of a choice
+record IsChoice (rules : Rules) (l : Line) (s : Sender) (a b c : Bool) : Type 0 where
+  first : nat_lt (first_wanted l.flown) (length l.flown) ≡ a
+  second : (nat_lt (length l.flown) rules.window && is_left s.unsent) ≡ b
+  third : (s.owed && nat_lt 0 (length l.flown)) ≡ c
+  choice_is : choice rules s ≡ cond a (Requested (first_open s + first_wanted l.flown)) (cond b Fresh (cond c (Latest (first_open s + (length l.flown - 1))) Nothing))
+
+chosen_cond : (low : ℕ) (a b c : Bool) (x z : ℕ) → chosen low (cond a (Again x) (cond b New (cond c (Last z) NoPdu))) ≡ cond a (Requested (low + x)) (cond b Fresh (cond c (Latest (low + z)) Nothing))
+chosen_cond low true b c x z = refl
+chosen_cond low false true c x z = refl
+chosen_cond low false false true x z = refl
+chosen_cond low false false false x z = refl
+
+is_choice : (rules : Rules) (l : Line) (s : Sender) (a b c : Bool) → Stands rules l s → nat_lt (first_wanted l.flown) (length l.flown) ≡ a → (nat_lt (length l.flown) rules.window && is_left s.unsent) ≡ b → (s.owed && nat_lt 0 (length l.flown)) ≡ c → IsChoice rules l s a b c
+is_choice rules l s a b c is e1 e2 e3 = record {
+  first = e1;
+  second = e2;
+  third = e3;
+  choice_is =
+      sym (picked_is rules l s (is_left s.unsent) is refl)
+      ∙ (chosen_cond (first_open s) (nat_lt (first_wanted l.flown) (length l.flown)) (nat_lt (length l.flown) l.window && is_left s.unsent) (l.owed && nat_lt 0 (length l.flown)) (first_wanted l.flown) (length l.flown - 1)
+      ∙ (ap₂ (λ x y. cond x (Requested (first_open s + first_wanted l.flown)) (cond y Fresh (cond (l.owed && nat_lt 0 (length l.flown)) (Latest (first_open s + (length l.flown - 1))) Nothing))) e1 (ap (λ w. nat_lt (length l.flown) w && is_left s.unsent) is.window ∙ e2)
+      ∙ ap (λ z. cond a (Requested (first_open s + first_wanted l.flown)) (cond b Fresh (cond z (Latest (first_open s + (length l.flown - 1))) Nothing))) (ap (λ o. o && nat_lt 0 (length l.flown)) is.owed ∙ e3)));
+}
+
+none_fresh : (m d len room : ℕ) (q : Unsent) → (nat_lt len room && is_left q) ≡ false → min (room - len) (fills m d q) ≡ 0
+none_fresh m d len room q e = go (nat_lt len room) (is_left q) refl refl e
+  where
+    go : (a b : Bool) → nat_lt len room ≡ a → is_left q ≡ b → (a && b) ≡ false → min (room - len) (fills m d q) ≡ 0
+    go true true e1 e2 h = absurd (cc)
+    go true false e1 e2 h = omega (arith, fills_none m d q e2)
+    go false b e1 e2 h = omega (arith, ltb-false _ _ e1)
+
+-- the count of a definition's builds is that of a line
+pub counts : (n : ℕ) (rules : Rules) (d : ℕ) (l : Line) (s : Sender) → Stands rules l s → builds_within n rules d s ≡ counted n rules d l s
+counts zero rules d l s is = omega arith
+counts (suc n) rules d l s is = go (nat_lt (first_wanted l.flown) (length l.flown)) (nat_lt (length l.flown) rules.window && is_left s.unsent) (s.owed && nat_lt 0 (length l.flown)) (is_choice rules l s _ _ _ is refl refl refl) (λ m t st. counts n rules d m t st)
+  where
+    room : ℕ
+    room = rules.window - length l.flown
+
+    go : (a b c : Bool) → IsChoice rules l s a b c → ((m : Line) (t : Sender) → Stands rules m t → builds_within n rules d t ≡ counted n rules d m t) → builds_within (suc n) rules d s ≡ counted (suc n) rules d l s
+    go true b c ch rest =
+        let inside : first_wanted l.flown < length l.flown = ltb-true _ _ ch.first in
+        let w : ℕ = wanted_in (set l.flown (first_wanted l.flown) (built (at l.flown (first_wanted l.flown)))) in
+        let e : wanted_in l.flown ≡ suc w = wanted_less l.flown (first_wanted l.flown) (built (at l.flown (first_wanted l.flown))) inside (first_is_wanted l.flown inside) refl in
+        let t : Sender = after_choice (Requested (first_open s + first_wanted l.flown)) rules d s in
+        let lf : Left rules (again_line (first_wanted l.flown) l) t w (length l.flown) s.unsent = again_left rules d l s inside is w e in
+        one_more n rules d s (Requested (first_open s + first_wanted l.flown)) ch.choice_is refl
+        ∙ (ap suc (left_counted n rules d (again_line (first_wanted l.flown) l) t w (length l.flown) s.unsent lf (rest (again_line (first_wanted l.flown) l) t lf.stands))
+        ∙ (count_again n w (rules.window - length l.flown) (fills n d s.unsent) (fills (suc n) d s.unsent) (length l.flown) s.owed (fills_next n d s.unsent)
+        ∙ ap (λ k. min (suc n) (builds_of k (min (rules.window - length l.flown) (fills (suc n) d s.unsent)) s.owed (length l.flown))) (sym e)))
+    go false true c ch rest =
+        let none : wanted_in l.flown ≡ 0 = none_wanted l.flown (ltb-false _ _ ch.first) in
+        let parts = and_parts _ _ ch.second in
+        let below : length l.flown < rules.window = ltb-true _ _ parts.0 in
+        let m : Line = new_line (sent_once [] false (ends_of (next_body d s.unsent)) false) (is_left (after_body d s.unsent)) l in
+        let t : Sender = after_choice Fresh rules d s in
+        let lf : Left rules m t (wanted_in l.flown) (length l.flown + 1) (after_body d s.unsent) = new_left rules d l s below is in
+        let less : rules.window - (length l.flown + 1) ≡ rules.window - length l.flown - 1 = omega arith in
+        one_more n rules d s Fresh ch.choice_is refl
+        ∙ (ap suc (left_counted n rules d m t (wanted_in l.flown) (length l.flown + 1) (after_body d s.unsent) lf (rest m t lf.stands))
+        ∙ (ap₂ (λ w k. suc (min n (builds_of w (min k (fills n d (after_body d s.unsent))) false (length l.flown + 1)))) none less
+        ∙ (count_new n (rules.window - length l.flown) (fills n d (after_body d s.unsent)) (length l.flown) s.owed (omega arith)
+        ∙ ap₂ (λ w k. min (suc n) (builds_of w (min (rules.window - length l.flown) k) s.owed (length l.flown))) (sym none) (sym (fills_left n d s.unsent parts.1)))))
+    go false false true ch rest =
+        let first : length l.flown ≤ first_wanted l.flown = ltb-false _ _ ch.first in
+        let none : wanted_in l.flown ≡ 0 = none_wanted l.flown first in
+        let parts = and_parts _ _ ch.third in
+        let one : 0 < length l.flown = ltb-true _ _ parts.1 in
+        let t : Sender = after_choice (Latest (first_open s + (length l.flown - 1))) rules d s in
+        let lf : Left rules (last_line (length l.flown - 1) l) t (wanted_in l.flown) (length l.flown) s.unsent = last_left rules d l s one first is in
+        one_more n rules d s (Latest (first_open s + (length l.flown - 1))) ch.choice_is refl
+        ∙ (ap suc (left_counted n rules d (last_line (length l.flown - 1) l) t (wanted_in l.flown) (length l.flown) s.unsent lf (rest (last_line (length l.flown - 1) l) t lf.stands))
+        ∙ (ap₂ (λ w k. suc (min n (builds_of w k false (length l.flown)))) none (none_fresh n d (length l.flown) rules.window s.unsent ch.second)
+        ∙ (count_last n (length l.flown) one
+        ∙ (ap (λ b. min (suc n) (builds_of 0 0 b (length l.flown))) (sym parts.0)
+        ∙ ap₂ (λ w k. min (suc n) (builds_of w k s.owed (length l.flown))) (sym none) (sym (none_fresh (suc n) d (length l.flown) rules.window s.unsent ch.second))))))
+    go false false false ch rest =
+        let none : wanted_in l.flown ≡ 0 = none_wanted l.flown (ltb-false _ _ ch.first) in
+        let zero_of : 0 ≡ min (suc n) 0 = omega arith in
+        no_more n rules d s ch.choice_is
+        ∙ (zero_of ∙ (ap (λ b. min (suc n) (cond b 1 0)) (sym ch.third)
+        ∙ ap₂ (λ w k. min (suc n) (builds_of w k s.owed (length l.flown))) (sym none) (sym (none_fresh (suc n) d (length l.flown) rules.window s.unsent ch.second))))

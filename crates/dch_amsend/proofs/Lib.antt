@@ -1,0 +1,4 @@
+pub mod Counting
+pub mod Framing
+pub mod Events
+pub mod Sending

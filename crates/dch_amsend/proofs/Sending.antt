@@ -1,0 +1,240 @@
+-- Each event leaves a running sender standing for the sender after it.
+use Rattle.std.proofs.Common.{◌≡◌, ◌⊎◌, ⊎_elim, ◌+◌, ◌-◌, ◌<◌, ◌≤◌, ℕ, zero, suc, List, [], ◌∷◌, Bool, true, false, cond, not, ◌&&◌, ◌||◌, length, Option, Some, None, arith, refl, sym, ap, ap₂, ◌∙◌, subst, length-append}
+use Rattle.std.specs.Prelude.{nat_lt, nat_le, is_some, slice_index, ◌==◌}
+use Rattle.std.proofs.lemmas.Bool.{cond_both, le-ltb, lt-ltb, ltb-false, or_right}
+use Rattle.std.proofs.lemmas.Bool.Decides.{nat_tests}
+use Rattle.dch_bits.specs.declared.offer.Offer.{Offer}
+use Rattle.dch_bits.specs.declared.offer.Offer.TheVariants.{Accepted, Full, WrongSize}
+use Rattle.dch_am.specs.declared.answers.StatusTaken.{StatusTaken}
+use Rattle.dch_am.specs.declared.answers.StatusTaken.TheVariants.{Taken, Outside}
+use Rattle.dch_am.specs.Acknowledging.{after_ack, after_acks, after_answer, after_fields, after_telling_of, all_names, ended_at, ends_discard, lsn_of, status_answer, tells, told}
+use Rattle.dch_am.specs.Bodies.{ends_of, is_empty, next_body}
+use Rattle.dch_am.specs.Building.{Choice, Again, New, Last, NoPdu, after_build, after_choice, anew, body_at, choice}
+use Rattle.dch_am.specs.Discards.{after_mrw, after_tick, can_take, discards, discards_at, due_by_age, due_by_sending, mrw_due, place_from, sent_enough, tick_sender}
+use Rattle.dch_am.specs.Rules.{Rules, rules_of}
+use Rattle.dch_am.specs.Sender.{Discard, Sender, after_offer, blocks, first_open, held, next_new, offered}
+use Rattle.dch_held.specs.Held.{Held}
+use Rattle.dch_held.specs.Holding.{AreAcknowledged, Holds, IsAlike, IsTicked}
+use Rattle.dch_held.proofs.Holding.{holds_as}
+use Rattle.dch_overdue.specs.declared.scan.Overdue.{Overdue}
+use Rattle.dch_overdue.specs.Discarding.{discarded_by}
+use Rattle.dch_sent.specs.Line.{Line}
+use Rattle.dch_sent.specs.Standing.{Stands as LineStands}
+use Rattle.dch_unsent.specs.Keeping.{Has}
+use Rattle.dch_flight.specs.Flights.{at}
+use Rattle.dch_am.specs.Cuts.{IsCut}
+use Rattle.dch_sent.specs.Standing.{IsRunning, timed, timer_of}
+use Rattle.dch_sent.specs.declared.line.Running.{Running}
+use Rattle.dch_status.specs.Fields.{Field, NoMoreField, WindowField, AckField, ListField, BitmapField, MrwField, MrwAckField}
+use Rattle.dch_amsend.specs.Outgoing.{IsOutgoing, Outgoing, new_ends}
+use Rattle.dch_amsend.specs.Standing.{IsMoved, IsMrw, Sending, Stands, after_moving}
+
+-- a status changes neither units nor PDUs nor what is counted of them
+record Unchanged (s now : Sender) : Type 0 where
+  accepted : now.accepted ≡ s.accepted
+  bodies : now.bodies ≡ s.bodies
+  accepted_at : now.accepted_at ≡ s.accepted_at
+  ticks : now.ticks ≡ s.ticks
+  dropped : now.dropped ≡ s.dropped
+  gone : now.gone ≡ s.gone
+
+unchanged_itself : (s : Sender) → Unchanged s s
+unchanged_itself s = record { accepted = refl; bodies = refl; accepted_at = refl; ticks = refl; dropped = refl; gone = refl }
+
+unchanged_twice : (a b c : Sender) → Unchanged a b → Unchanged b c → Unchanged a c
+unchanged_twice a b c p q = record { accepted = q.accepted ∙ p.accepted; bodies = q.bodies ∙ p.bodies; accepted_at = q.accepted_at ∙ p.accepted_at; ticks = q.ticks ∙ p.ticks; dropped = q.dropped ∙ p.dropped; gone = q.gone ∙ p.gone }
+
+unchanged_ends : (s : Sender) (o : Option ℕ) → Unchanged s (ends_discard s o)
+unchanged_ends s None = unchanged_itself s
+unchanged_ends s (Some m) = record { accepted = refl; bodies = refl; accepted_at = refl; ticks = refl; dropped = refl; gone = refl }
+
+unchanged_acks : (s : Sender) (fields : List Field) → Unchanged s (after_acks s fields)
+unchanged_acks s [] = unchanged_itself s
+unchanged_acks s (MrwAckField n sn ∷ fields) = unchanged_twice s (after_ack s (record { number = sn; n = n })) _ (unchanged_ends s (ended_at (next_new s) s.discard (record { number = sn; n = n }))) (unchanged_acks (after_ack s (record { number = sn; n = n })) fields)
+unchanged_acks s (NoMoreField ∷ fields) = unchanged_acks s fields
+unchanged_acks s (WindowField size ∷ fields) = unchanged_acks s fields
+unchanged_acks s (AckField lsn ∷ fields) = unchanged_acks s fields
+unchanged_acks s (ListField pairs ∷ fields) = unchanged_acks s fields
+unchanged_acks s (BitmapField first bits ∷ fields) = unchanged_acks s fields
+unchanged_acks s (MrwField last n ∷ fields) = unchanged_acks s fields
+
+unchanged_telling : (s : Sender) (fields : List Field) → Unchanged s (after_telling_of s fields)
+unchanged_telling s fields = cond_both (tells fields) (told s (all_names (first_open s) (next_new s) fields) (lsn_of (first_open s) fields)) s (Unchanged s) (λ _. record { accepted = refl; bodies = refl; accepted_at = refl; ticks = refl; dropped = refl; gone = refl }) (λ _. unchanged_itself s)
+
+unchanged_answer : (s : Sender) (fields : List Field) (t : StatusTaken) → Unchanged s (after_answer t s fields)
+unchanged_answer s fields Taken = unchanged_twice s (after_acks s fields) _ (unchanged_acks s fields) (unchanged_telling (after_acks s fields) fields)
+unchanged_answer s fields (Outside i) = unchanged_itself s
+
+unchanged_fields : (rules : Rules) (s : Sender) (fields : List Field) → Unchanged s (after_fields rules s fields)
+unchanged_fields rules s fields = unchanged_answer s fields (status_answer rules s fields)
+
+-- PDUs in front are acknowledged
+pub acknowledged : (rules : Rules) (d : ℕ) (v w : Outgoing) (s : Sender) (fields : List Field) → IsOutgoing rules d v s → IsOutgoing rules d w (after_fields rules s fields) → length w.line.flown ≤ length v.line.flown → AreAcknowledged (length v.line.flown - length w.line.flown) s (after_fields rules s fields)
+acknowledged rules d v w s fields is now fewer = let u : Unchanged s (after_fields rules s fields) = unchanged_fields rules s fields in record {
+  accepted = u.accepted;
+  bodies = u.bodies;
+  accepted_at = u.accepted_at;
+  ticks = u.ticks;
+  dropped = u.dropped;
+  gone = u.gone;
+  low = omega (arith, is.line.flying, now.line.flying, fewer, ap length u.bodies);
+}
+
+-- a build of a PDU in flight changes nothing that is held
+again_alike : (rules : Rules) (d : ℕ) (s : Sender) (c : Choice) → None ≡ new_ends d s c → IsAlike s (after_choice c rules d s)
+again_alike rules d s (Again k) e = record { accepted = refl; bodies = refl; accepted_at = refl; ticks = refl; dropped = refl; gone = refl; low = refl }
+again_alike rules d s New e = absurd (cc)
+again_alike rules d s (Last k) e = record { accepted = refl; bodies = refl; accepted_at = refl; ticks = refl; dropped = refl; gone = refl; low = refl }
+again_alike rules d s NoPdu e = record { accepted = refl; bodies = refl; accepted_at = refl; ticks = refl; dropped = refl; gone = refl; low = refl }
+
+pub again_holds : (rules : Rules) (d : ℕ) (h : Held) (s : Sender) → None ≡ new_ends d s (choice rules s) → Holds rules h s → Holds rules h (after_build rules d s)
+again_holds rules d h s e is = holds_as rules h s (after_build rules d s) (again_alike rules d s (choice rules s) e) is
+
+-- a new PDU
+pub record IsFresh (rules : Rules) (d : ℕ) (s : Sender) (n : ℕ) : Type 0 where
+  pub chosen : choice rules s ≡ New
+  pub ends : n ≡ ends_of (next_body d s.unsent)
+
+fresh_by : (rules : Rules) (d : ℕ) (s : Sender) (n : ℕ) (c : Choice) → choice rules s ≡ c → Some n ≡ new_ends d s c → IsFresh rules d s n
+fresh_by rules d s n (Again k) e q = absurd (cc)
+fresh_by rules d s n New e q = record { chosen = e; ends = cc }
+fresh_by rules d s n (Last k) e q = absurd (cc)
+fresh_by rules d s n NoPdu e q = absurd (cc)
+
+pub is_fresh : (rules : Rules) (d : ℕ) (s : Sender) (n : ℕ) → Some n ≡ new_ends d s (choice rules s) → IsFresh rules d s n
+is_fresh rules d s n q = fresh_by rules d s n (choice rules s) refl q
+
+-- the lowest open number stays
+pub fresh_low : (rules : Rules) (d : ℕ) (v w : Outgoing) (s : Sender) → IsOutgoing rules d v s → IsOutgoing rules d w (after_choice New rules d s) → length w.line.flown ≡ length v.line.flown + 1 → first_open (anew d s) ≡ first_open s
+fresh_low rules d v w s is now longer = omega (arith, is.line.flying, now.line.flying, longer, length-append s.bodies (next_body d s.unsent ∷ []))
+
+pub fresh_holds : (rules : Rules) (d : ℕ) (h : Held) (s : Sender) → choice rules s ≡ New → Holds rules h (anew d s) → Holds rules h (after_build rules d s)
+fresh_holds rules d h s chosen is = subst (λ c. Holds rules h (after_choice c rules d s)) (sym chosen) (holds_as rules h (anew d s) (after_choice New rules d s) (record { accepted = refl; bodies = refl; accepted_at = refl; ticks = refl; dropped = refl; gone = refl; low = refl }) is)
+
+-- one tick
+pub ticked : (s : Sender) → IsTicked s (timed s)
+ticked s = record { accepted = refl; bodies = refl; accepted_at = refl; ticks = refl; dropped = refl; gone = refl; low = refl }
+
+-- where no discard runs, the last unit that is due is discarded
+pub tick_none : (rules : Rules) (s : Sender) → s.discard ≡ None → tick_sender rules s ≡ discards rules (timed s) (length s.accepted)
+tick_none rules s e = ap (after_tick rules (record s { timer = s.timer - 1; owed = s.owed || (s.timer == 1); ticks = s.ticks + 1 })) e ∙ ap (λ x. discards rules (record s { timer = s.timer - 1; owed = s.owed || (s.timer == 1); ticks = s.ticks + 1; discard = x }) (length s.accepted)) (e ∙ sym (ap timer_of e))
+
+pub tick_some : (rules : Rules) (s : Sender) → is_some s.discard ≡ true → tick_sender rules s ≡ timed s
+tick_some rules s e = go s.discard refl e
+  where
+    go : (x : Option Discard) → s.discard ≡ x → is_some x ≡ true → tick_sender rules s ≡ timed s
+    go None q h = absurd (cc)
+    go (Some d) q h = ap (after_tick rules (record s { timer = s.timer - 1; owed = s.owed || (s.timer == 1); ticks = s.ticks + 1 })) q ∙ ap (λ y. record s { timer = s.timer - 1; owed = s.owed || (s.timer == 1); ticks = s.ticks + 1; discard = timer_of y }) (sym q)
+
+some_timer : (x : Option Discard) → is_some (timer_of x) ≡ is_some x
+some_timer None = refl
+some_timer (Some d) = refl
+
+pub still_some : (s : Sender) → is_some (timed s).discard ≡ is_some s.discard
+still_some s = some_timer s.discard
+
+none_is : (x : Option Discard) → is_some x ≡ false → x ≡ None
+none_is None e = refl
+none_is (Some d) e = absurd (cc)
+
+pub no_discard : (s : Sender) → is_some (timed s).discard ≡ false → s.discard ≡ None
+no_discard s e = none_is s.discard (sym (still_some s) ∙ e)
+
+-- where neither age nor sending discards, nothing is
+cannot : (rules : Rules) (s : Sender) (i : ℕ) (p : Option (ℕ × ℕ)) → rules.discard_age ≡ 0 → rules.discard_sent ≡ 0 → can_take rules s i p ≡ false
+cannot rules s i None age sent = refl
+cannot rules s i (Some p) age sent = ap₂ (λ a b. nat_le (first_open s) p.0 && nat_le p.1 15 && nat_le s.dropped i && (a || b)) by_age by_sending ∙ never (nat_le (first_open s) p.0 && nat_le p.1 15 && nat_le s.dropped i)
+  where
+    by_age : due_by_age rules s i ≡ false
+    by_age = ap (λ n. nat_lt 0 n && nat_le rules.discard_age (s.ticks - slice_index s.accepted_at i)) age
+
+    by_sending : due_by_sending rules s i ≡ false
+    by_sending = ap (λ n. nat_lt 0 n && sent_enough rules s i s.requested) sent
+
+    never : (b : Bool) → (b && false) ≡ false
+    never true = refl
+    never false = refl
+
+pub nothing_due : (rules : Rules) (s : Sender) (n : ℕ) → rules.discard_age ≡ 0 → rules.discard_sent ≡ 0 → discards rules s n ≡ s
+nothing_due rules s zero age sent = refl
+nothing_due rules s (suc i) age sent = ap (λ b. cond b (discards_at s i (place_from s.bodies 0 i)) (discards rules s i)) (cannot rules s i (place_from s.bodies 0 i) age sent) ∙ nothing_due rules s i age sent
+
+-- the sizes of an offer
+pub empty_is : (xs : List ℕ) → (length xs == 0) ≡ is_empty xs
+empty_is [] = refl
+empty_is (x ∷ xs) = longer (length xs)
+  where
+    longer : (n : ℕ) → (suc n == 0) ≡ false
+    longer n = grind (arith, nat_tests)
+
+-- what was sent and what is held stand for the same sender
+pub stands_by : (rules : Rules) (v : Sending) (s now : Sender) (out : Outgoing) (h : Held) → Stands rules v s → out.size ≡ v.outgoing.size → IsOutgoing rules (v.outgoing.size - 2) out now → Holds rules h now → Stands rules (record { outgoing = out; held = h; rules = v.rules }) now
+stands_by rules v s now out h is size goes holds = record {
+  rules_are = is.rules_are;
+  outgoing = subst (λ n. IsOutgoing rules (n - 2) out now) (sym size) goes;
+  held = holds;
+}
+
+-- what an offer is answered
+pub offered_wrong : (rules : Rules) (s : Sender) (unit : List ℕ) (none : Bool) → none ≡ (length unit == 0) → (none ≡ true) ⊎ ((none ≡ false) × (1500 < length unit)) → offered rules s unit ≡ WrongSize
+offered_wrong rules s unit none e size = ap (λ b. cond b WrongSize (cond (nat_lt rules.buffer (blocks (held s) + blocks (unit ∷ []))) Full Accepted)) (⊎_elim
+    (λ (m : none ≡ true). ap (λ b. b || nat_lt 1500 (length unit)) (sym (empty_is unit) ∙ (sym e ∙ m)))
+    (λ (m : (none ≡ false) × (1500 < length unit)). or_right _ _ (lt-ltb 1500 (length unit) m.1))
+    size)
+
+pub offered_accepted : (rules : Rules) (s : Sender) (unit : List ℕ) (none full : Bool) → none ≡ (length unit == 0) → none ≡ false → length unit ≤ 1500 → full ≡ nat_lt rules.buffer (blocks (held s) + blocks (unit ∷ [])) → full ≡ false → offered rules s unit ≡ Accepted
+offered_accepted rules s unit none full e none_e size full_e full_is =
+    ap₂ (λ a b. cond (a || b) WrongSize (cond (nat_lt rules.buffer (blocks (held s) + blocks (unit ∷ []))) Full Accepted)) (sym (empty_is unit) ∙ (sym e ∙ none_e)) (le-ltb 1500 (length unit) size)
+    ∙ ap (λ b. cond b Full Accepted) (sym full_e ∙ full_is)
+
+-- the sender after an offer
+pub offer_stands : (rules : Rules) (v : Sending) (s : Sender) (unit : List ℕ) (o : Offer) → offered rules s unit ≡ o → Stands rules v (after_offer o s unit) → Stands rules v (after_offer (offered rules s unit) s unit)
+offer_stands rules v s unit o e is = subst (λ x. Stands rules v (after_offer x s unit)) (sym e) is
+
+-- an MRW is written
+pub moving_stands : (rules : Rules) (v : Sending) (s : Sender) (out : Outgoing) → Stands rules v s → mrw_due s.discard ≡ true → out.size ≡ v.outgoing.size → ((x : Discard) → s.discard ≡ Some x → IsOutgoing rules (v.outgoing.size - 2) out (after_mrw rules s x)) → Stands rules (record { outgoing = out; held = v.held; rules = v.rules }) (after_moving rules s s.discard)
+moving_stands rules v s out is due size goes = go s.discard refl due
+  where
+    go : (x : Option Discard) → s.discard ≡ x → mrw_due x ≡ true → Stands rules (record { outgoing = out; held = v.held; rules = v.rules }) (after_moving rules s x)
+    go None e d = absurd (cc)
+    go (Some x) e d = stands_by rules v s (after_mrw rules s x) out v.held is size (goes x e) (holds_as rules v.held s (after_mrw rules s x) (record { accepted = refl; bodies = refl; accepted_at = refl; ticks = refl; dropped = refl; gone = refl; low = refl }) is.held)
+
+pub mrw_by : (s : Sender) (out : List ℕ) → mrw_due s.discard ≡ true → ((x : Discard) → s.discard ≡ Some x → IsMoved out x) → IsMrw out s.discard
+mrw_by s out due is = go s.discard refl due
+  where
+    go : (x : Option Discard) → s.discard ≡ x → mrw_due x ≡ true → IsMrw out x
+    go None e d = absurd (cc)
+    go (Some x) e d = is x e
+
+-- the unit that is found
+pub found_by : (rules : Rules) (v : Sending) (s : Sender) (l : Line) (found : Option Overdue) → Stands rules v s → l ≡ v.outgoing.line → (rules ≡ rules_of rules.buffer v.rules → LineStands rules l s → Holds rules v.held s → IsCut s.accepted s.unsent s.bodies → ((i : ℕ) → i < length l.flown → Has (v.outgoing.size - 2) (at l.flown i) (body_at s.bodies (first_open s + i))) → discards rules s (length s.accepted) ≡ discarded_by found s) → discards rules s (length s.accepted) ≡ discarded_by found s
+found_by rules v s l found is e h = h is.rules_are (subst (λ x. LineStands rules x s) (sym e) is.outgoing.line) is.held is.outgoing.cut (subst (λ (x : Line). (i : ℕ) → i < length x.flown → Has (v.outgoing.size - 2) (at x.flown i) (body_at s.bodies (first_open s + i))) (sym e) is.outgoing.flown)
+
+some_by : (r : Option Running) (d : Option Discard) (low n : ℕ) → IsRunning r d low n → is_some r ≡ is_some d
+some_by None None low n is = refl
+some_by None (Some d) low n is = absurd is
+some_by (Some r) None low n is = absurd is
+some_by (Some r) (Some d) low n is = refl
+
+-- what a tick does once the timers have run
+pub tick_by : (rules : Rules) (v : Sending) (s : Sender) (may : Bool) → Stands rules v (timed s) → may ≡ ((nat_lt 0 v.rules.discard_age || nat_lt 0 v.rules.discard_sent) && not (is_some v.outgoing.line.running)) → tick_sender rules s ≡ cond may (discards rules (timed s) (length s.accepted)) (timed s)
+tick_by rules v s may is e = go (is_some s.discard) (nat_lt 0 rules.discard_age) (nat_lt 0 rules.discard_sent) refl refl refl ∙ ap (λ b. cond b (discards rules (timed s) (length s.accepted)) (timed s)) (sym may_is)
+  where
+    same : is_some v.outgoing.line.running ≡ is_some s.discard
+    same = some_by v.outgoing.line.running (timed s).discard (first_open (timed s)) (length v.outgoing.line.flown) is.outgoing.line.running ∙ still_some s
+
+    may_is : may ≡ ((nat_lt 0 rules.discard_age || nat_lt 0 rules.discard_sent) && not (is_some s.discard))
+    may_is = e ∙ (ap (λ b. (nat_lt 0 v.rules.discard_age || nat_lt 0 v.rules.discard_sent) && not b) same ∙ ap₂ (λ a b. (nat_lt 0 a || nat_lt 0 b) && not (is_some s.discard)) (sym (ap (λ (r : Rules). r.discard_age) is.rules_are)) (sym (ap (λ (r : Rules). r.discard_sent) is.rules_are)))
+
+    off : (n : ℕ) → nat_lt 0 n ≡ false → n ≡ 0
+    off n h = omega (arith, ltb-false 0 n h)
+
+    never : (a : Bool) → (a && false) ≡ false
+    never true = refl
+    never false = refl
+
+    go : (x a b : Bool) → is_some s.discard ≡ x → nat_lt 0 rules.discard_age ≡ a → nat_lt 0 rules.discard_sent ≡ b → tick_sender rules s ≡ cond ((nat_lt 0 rules.discard_age || nat_lt 0 rules.discard_sent) && not (is_some s.discard)) (discards rules (timed s) (length s.accepted)) (timed s)
+    go true a b ex ea eb = tick_some rules s ex ∙ ap (λ c. cond c (discards rules (timed s) (length s.accepted)) (timed s)) (sym (ap (λ y. (nat_lt 0 rules.discard_age || nat_lt 0 rules.discard_sent) && not y) ex ∙ never (nat_lt 0 rules.discard_age || nat_lt 0 rules.discard_sent)))
+    go false false false ex ea eb = tick_none rules s (none_is s.discard ex) ∙ (nothing_due rules (timed s) (length s.accepted) (off rules.discard_age ea) (off rules.discard_sent eb) ∙ ap₂ (λ y z. cond ((y || z) && not (is_some s.discard)) (discards rules (timed s) (length s.accepted)) (timed s)) (sym ea) (sym eb))
+    go false true b ex ea eb = tick_none rules s (none_is s.discard ex) ∙ (ap₂ (λ y z. cond ((y || nat_lt 0 rules.discard_sent) && not z) (discards rules (timed s) (length s.accepted)) (timed s)) (sym ea) (sym ex))
+    go false false true ex ea eb = tick_none rules s (none_is s.discard ex) ∙ (ap₂ (λ y z. cond (y && not z) (discards rules (timed s) (length s.accepted)) (timed s)) (sym (ap₂ (λ y z. y || z) ea eb)) (sym ex))

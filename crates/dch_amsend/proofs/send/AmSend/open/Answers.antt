@@ -1,0 +1,12 @@
+use Rattle.std.proofs.Common.{◌-◌, refl, subst, sym}
+use Rattle.dch_am.specs.Sender.{opened_sender}
+use Rattle.dch_am.specs.Rules.{rules_of}
+use Rattle.dch_amsend.specs.Outgoing.{IsOutgoing}
+use Rattle.dch_amsend.proofs.send.AmSend.open.Goals as goal
+
+pub returns-clause-stands : goal.returns-clause-stands
+returns-clause-stands c = record {
+  rules_are = refl;
+  outgoing = subst (λ n. IsOutgoing (rules_of c.args.buffer c.args.rules) (n - 2) c.in_ok-outgoing.outgoing opened_sender) (sym c.in_ok-outgoing.ensures.size) c.in_ok-outgoing.ensures.history;
+  held = c.in_ok-held.ensures.history (rules_of c.args.buffer c.args.rules) refl refl;
+}

@@ -1,0 +1,256 @@
+ghost use Rattle.std.specs.Prelude.{◌≡◌, ◌+◌, ◌-◌, ◌<◌, ◌≤◌, ◌∷◌, ℕ, is_some, true, IfOk, IfSome, Some, length};
+ghost use Rattle.dch_flight.specs.Flights.{at};
+ghost use Rattle.dch_bits.specs.declared.offer.Offer.TheVariants.{Accepted};
+ghost use Rattle.dch_am.specs.Acknowledging.{after_fields, status_answer};
+ghost use Rattle.dch_am.specs.Building.{after_build, after_choice, available, body_of_choice, choice, New};
+ghost use Rattle.dch_am.specs.Bodies.{ends_of, next_body};
+ghost use Rattle.dch_am.specs.Discards.{after_mrw, discards_at, mrw_due};
+ghost use Rattle.dch_am.specs.Numbers.{wrapped};
+ghost use Rattle.dch_am.specs.Rules.{Rules, rules_of};
+ghost use Rattle.dch_am.specs.Sender.{Discard, Sender, after_offer, first_open, offered, opened_sender};
+ghost use Rattle.dch_am.specs.Short.{IsShort};
+ghost use Rattle.dch_rlcum.specs.Sending.{is_unsent};
+ghost use Rattle.dch_sent.specs.Line.{is_due, number_at};
+ghost use Rattle.dch_sent.specs.Polling.{again_line, again_poll, last_line, last_poll};
+ghost use Rattle.dch_sent.specs.Standing.{timed};
+ghost use Rattle.dch_status.specs.Fields.{mrw_fields};
+ghost use Rattle.dch_status.specs.Reading.{status_of};
+ghost use Rattle.dch_status.specs.Writing.{IsText, mrw_text};
+ghost use Rattle.dch_amsend.specs.Framing.{framed};
+ghost use Rattle.dch_amsend.specs.Outgoing.{IsOutgoing, available_of, more_of, new_ends, next_pdu, pdu_of_choice, with_line};
+
+use crate::frame::write_frame;
+use dch_am::StatusTaken;
+use dch_bits::{NoMemory, Offer};
+use dch_sent::{Line, Pick};
+use dch_status::{StatusView, write_mrw};
+use dch_types::AmRules;
+use dch_unsent::Unsent;
+use std::alloc::Global;
+use std::marker::Model;
+
+/// What a sender has sent, and the units that wait to be sent.
+#[derive(Drop)]
+pub struct Outgoing {
+    line: Line,
+    waiting: Unsent,
+    size: usize,
+}
+
+impl Model for Outgoing {
+    ghost use Rattle.std.specs.Prelude.{◌≤◌};
+    ghost use Rattle.dch_amsend.specs.Outgoing.{Outgoing};
+
+    ghost Value = { Outgoing };
+
+    ghost view = { λ v. record { size = v.size; line = v.line; waiting = v.waiting } };
+
+    ghost invariant = { λ v. (6 ≤ v.size) × (v.size ≤ 126) };
+}
+
+impl Outgoing {
+    /// Nothing is sent, and nothing waits. PDUs have `pdu` octets, 6 to 126. All memory is taken here.
+    pub fn open(
+        alloc: Global,
+        pdu: usize,
+        buffer: u16,
+        rules: AmRules,
+    ) -> Result<Outgoing, NoMemory>
+        requires from { 6 ≤ pdu }
+        requires most { pdu ≤ 126 }
+        requires window { rules.window ≤ 2048 }
+        ensures size { IfOk result (λ v. v.size ≡ pdu) }
+        ensures none { IfOk result (λ v. length v.line.flown ≡ 0) }
+        ensures window { IfOk result (λ v. v.line.window ≡ rules.window) }
+        ensures history { IfOk result (λ v. IsOutgoing (rules_of buffer rules) (pdu - 2) v opened_sender) }
+    {
+        let line = Line::open(alloc, buffer, rules)?;
+        let waiting = Unsent::open(alloc, pdu, buffer)?;
+        Ok(Outgoing {
+            line,
+            waiting,
+            size: pdu,
+        })
+    }
+
+    /// A unit waits, which the sender has accepted.
+    pub fn offer(&mut self, unit: &[u8]) -> Offer
+        ensures size { self.new.size ≡ self.old.size }
+        ensures line { self.new.line ≡ self.old.line }
+        ensures history { (rules : Rules) (d : ℕ) (s : Sender) → IsOutgoing rules d self.old s → offered rules s unit.now ≡ Accepted → (result ≡ Accepted) × IsOutgoing rules d self.new (after_offer Accepted s unit.now) }
+    {
+        self.waiting.offer(unit)
+    }
+
+    /// How many PDUs could be built one after another, at most 64.
+    pub fn available(&self) -> u16
+        ensures value { result ≡ available_of self.now }
+        ensures history { (rules : Rules) (d : ℕ) (s : Sender) → IsOutgoing rules d self.now s → result ≡ available rules d s }
+    {
+        self.count()
+    }
+
+    fn count(&self) -> u16
+        ensures value { result ≡ available_of self.now }
+    {
+        let room = self.line.window() - self.line.len();
+        let wanted = self.line.wanted(64);
+        let fresh = room.min(self.waiting.available() as usize);
+        let builds = if wanted + fresh > 0 {
+            wanted + fresh
+        } else if self.line.is_owed() && self.line.len() > 0 {
+            1
+        } else {
+            0
+        };
+        builds.min(64) as u16
+    }
+
+    /// How many PDUs are in flight.
+    pub fn len(&self) -> usize
+        ensures count { result ≡ length self.now.line.flown }
+        ensures few { result ≤ 2048 }
+    {
+        self.line.len()
+    }
+
+    /// What was sent.
+    pub fn line(&self) -> &Line
+        ensures { result.now ≡ self.now.line }
+    {
+        &self.line
+    }
+
+    /// Builds the next PDU. Answers how many units end in it, where it is a new one.
+    pub fn build(&mut self, out: &mut [u8]) -> Option<u8>
+        requires some { 0 < available_of self.old }
+        requires size { length out.old ≡ self.old.size }
+        ensures size { self.new.size ≡ self.old.size }
+        ensures window { self.new.line.window ≡ self.old.line.window }
+        ensures count { length self.new.line.flown ≡ length self.old.line.flown + more_of result }
+        ensures room { IfSome result (λ n. length self.old.line.flown < self.old.line.window) }
+        ensures history { (rules : Rules) (d : ℕ) (s : Sender) → IsOutgoing rules d self.old s →
+            (out.new ≡ next_pdu rules d s) × (result ≡ new_ends d s (choice rules s)) × IsOutgoing rules d self.new (after_build rules d s) × IsShort d (body_of_choice (choice rules s) d s) }
+    {
+        match self.line.pick(self.waiting.is_left()) {
+            Pick::Again(place) => {
+                self.again(place, out);
+                None
+            }
+            Pick::New => Some(self.anew(out)),
+            Pick::Last(place) => {
+                self.last(place, out);
+                None
+            }
+            Pick::NoPdu => None,
+        }
+    }
+
+    /// The PDU at a place, which is wanted, is built again.
+    fn again(&mut self, place: u16, out: &mut [u8])
+        requires place { place < length self.old.line.flown }
+        requires size { length out.old ≡ self.old.size }
+        ensures after { self.new ≡ with_line (again_line place self.old.line) self.old }
+        ensures text { out.new ≡ framed (number_at place self.old.line) (again_poll place self.old.line) (at self.old.line.flown place).text self.old.size }
+    {
+        let number = self.line.number_at(place);
+        let flown = self.line.at(place);
+        let poll = self.line.again(place);
+        write_frame(&flown.text, number, poll, out);
+    }
+
+    /// The last PDU is built again, for an owed poll.
+    fn last(&mut self, place: u16, out: &mut [u8])
+        requires place { place < length self.old.line.flown }
+        requires size { length out.old ≡ self.old.size }
+        ensures after { self.new ≡ with_line (last_line place self.old.line) self.old }
+        ensures text { out.new ≡ framed (number_at place self.old.line) (last_poll place self.old.line) (at self.old.line.flown place).text self.old.size }
+    {
+        let number = self.line.number_at(place);
+        let flown = self.line.at(place);
+        let poll = self.line.last(place);
+        write_frame(&flown.text, number, poll, out);
+    }
+
+    /// A new PDU is built. Answers how many units end in it.
+    fn anew(&mut self, out: &mut [u8]) -> u8
+        requires room { length self.old.line.flown < self.old.line.window }
+        requires some { is_unsent self.old.waiting.units ≡ true }
+        requires size { length out.old ≡ self.old.size }
+        ensures size { self.new.size ≡ self.old.size }
+        ensures window { self.new.line.window ≡ self.old.line.window }
+        ensures count { length self.new.line.flown ≡ length self.old.line.flown + 1 }
+        ensures history { (rules : Rules) (d : ℕ) (s : Sender) → IsOutgoing rules d self.old s → choice rules s ≡ New →
+            (out.new ≡ pdu_of_choice rules d s New) × (result ≡ ends_of (next_body d s.unsent)) × IsOutgoing rules d self.new (after_choice New rules d s) × IsShort d (next_body d s.unsent) }
+    {
+        let number = self.line.number_at(self.line.len() as u16);
+        let flown = self.waiting.build();
+        let left = self.waiting.is_left();
+        let poll = self.line.push(flown, left);
+        write_frame(&flown.text, number, poll, out);
+        flown.ends
+    }
+
+    /// Hears a status.
+    pub fn status(&mut self, status: &StatusView<'_>) -> StatusTaken
+        ensures size { self.new.size ≡ self.old.size }
+        ensures window { self.new.line.window ≡ self.old.line.window }
+        ensures fewer { length self.new.line.flown ≤ length self.old.line.flown }
+        ensures history { (rules : Rules) (d : ℕ) (s : Sender) → IsOutgoing rules d self.old s →
+            (result ≡ status_answer rules s status.now) × IsOutgoing rules d self.new (after_fields rules s status.now) }
+    {
+        self.line.hear(status)
+    }
+
+    /// One tick of the timers.
+    pub fn tick(&mut self)
+        ensures size { self.new.size ≡ self.old.size }
+        ensures window { self.new.line.window ≡ self.old.line.window }
+        ensures count { length self.new.line.flown ≡ length self.old.line.flown }
+        ensures history { (rules : Rules) (d : ℕ) (s : Sender) → IsOutgoing rules d self.old s → IsOutgoing rules d self.new (timed s) }
+    {
+        self.line.tick()
+    }
+
+    /// A discard begins with the PDU at a place and its mark.
+    pub fn discard(&mut self, place: u16, mark: u8)
+        requires place { place < length self.old.line.flown }
+        requires mark { mark < 16 }
+        ensures size { self.new.size ≡ self.old.size }
+        ensures window { self.new.line.window ≡ self.old.line.window }
+        ensures count { length self.new.line.flown ≡ length self.old.line.flown }
+        ensures history { (rules : Rules) (d : ℕ) (s : Sender) (i : ℕ) → IsOutgoing rules d self.old s → IsOutgoing rules d self.new (discards_at s i (Some (first_open s + place, mark))) }
+    {
+        self.line.discard(place, mark)
+    }
+
+    /// A discard runs.
+    pub fn is_discarding(&self) -> bool
+        ensures { result ≡ is_some self.now.line.running }
+    {
+        self.line.is_discarding()
+    }
+
+    /// An MRW is due.
+    pub fn mrw_due(&self) -> bool
+        ensures value { result ≡ is_due self.now.line.running }
+        ensures history { (rules : Rules) (d : ℕ) (s : Sender) → IsOutgoing rules d self.now s → result ≡ mrw_due s.discard }
+    {
+        self.line.mrw_due()
+    }
+
+    /// Writes the MRW that is due.
+    pub fn write_mrw(&mut self, out: &mut [u8])
+        requires due { is_due self.old.line.running ≡ true }
+        requires size { length out.old ≡ self.old.size }
+        ensures size { self.new.size ≡ self.old.size }
+        ensures window { self.new.line.window ≡ self.old.line.window }
+        ensures count { length self.new.line.flown ≡ length self.old.line.flown }
+        ensures history { (rules : Rules) (d : ℕ) (s : Sender) (x : Discard) → IsOutgoing rules d self.old s → s.discard ≡ Some x →
+            IsText out.new (0 ∷ mrw_text (wrapped x.k) x.n) × (status_of out.new ≡ Some (mrw_fields (wrapped x.k) x.n)) × IsOutgoing rules d self.new (after_mrw rules s x) }
+    {
+        let (number, mark) = self.line.mrw();
+        write_mrw(number, mark, out);
+        self.line.moves();
+    }
+}

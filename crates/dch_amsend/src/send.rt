@@ -1,0 +1,188 @@
+ghost use Rattle.std.specs.Prelude.{◌≡◌, ◌<◌, ◌≤◌, ◌&&◌, ◌||◌, not, ℕ, true, IfOk, is_some, length, nat_lt};
+ghost use Rattle.dch_am.specs.Acknowledging.{after_fields, status_answer};
+ghost use Rattle.dch_am.specs.Building.{after_build, available, body_of_choice, choice};
+ghost use Rattle.dch_am.specs.Discards.{discards, mrw_due, tick_sender};
+ghost use Rattle.dch_am.specs.Rules.{Rules, rules_of};
+ghost use Rattle.dch_am.specs.Sender.{Sender, after_offer, discarded, offered, opened_sender};
+ghost use Rattle.dch_am.specs.Short.{IsShort};
+ghost use Rattle.dch_held.specs.Held.{capped};
+ghost use Rattle.dch_sent.specs.Line.{is_due};
+ghost use Rattle.dch_sent.specs.Standing.{timed};
+ghost use Rattle.dch_amsend.specs.Outgoing.{available_of, next_pdu};
+ghost use Rattle.dch_amsend.specs.Standing.{IsMrw, IsSame, Stands, after_moving, room_in};
+
+use crate::outgoing::Outgoing;
+use dch_am::StatusTaken;
+use dch_bits::{NoMemory, Offer};
+use dch_held::Held;
+use dch_overdue::overdue;
+use dch_status::StatusView;
+use dch_types::AmRules;
+use std::alloc::Global;
+use std::marker::Model;
+
+/// The sending side of an acknowledged bearer (TS 25.322 4.2.1.3). All memory is taken when it is opened.
+#[derive(Drop)]
+pub struct AmSend {
+    outgoing: Outgoing,
+    held: Held,
+    rules: AmRules,
+}
+
+impl Model for AmSend {
+    ghost use Rattle.std.specs.Prelude.{◌≡◌, length};
+    ghost use Rattle.dch_amsend.specs.Standing.{Sending};
+
+    ghost Value = { Sending };
+
+    ghost view = { λ v. record { outgoing = v.outgoing; held = v.held; rules = v.rules } };
+
+    ghost invariant = { λ v. (length v.held.ends ≡ length v.outgoing.line.flown) × (v.held.window ≡ v.outgoing.line.window) };
+}
+
+impl AmSend {
+    /// A sender that has accepted no unit. PDUs have `pdu` octets, 6 to 126, and units hold at most `buffer` blocks of 64 octets, 1 to 4,096.
+    pub fn open(alloc: Global, pdu: usize, buffer: u16, rules: AmRules) -> Result<AmSend, NoMemory>
+        requires from { 6 ≤ pdu }
+        requires most { pdu ≤ 126 }
+        requires window { rules.window ≤ 2048 }
+        ensures size { IfOk result (λ v. v.outgoing.size ≡ pdu) }
+        ensures stands { IfOk result (λ v. Stands (rules_of buffer rules) v opened_sender) }
+    {
+        let outgoing = Outgoing::open(alloc, pdu, buffer, rules)?;
+        let held = Held::open(alloc, buffer, rules.window)?;
+        Ok(AmSend {
+            outgoing,
+            held,
+            rules,
+        })
+    }
+
+    /// Offers a unit. One that hasn't 1 to 1,500 octets has a wrong size; otherwise it is accepted where its blocks of 64 octets find room
+    /// beside those of the units that are held, which are all units that aren't acknowledged with all PDUs before their ends.
+    pub fn offer(&mut self, unit: &[u8]) -> Offer
+        ensures answer { (rules : Rules) (s : Sender) → Stands rules self.old s → result ≡ offered rules s unit.now }
+        ensures stands { (rules : Rules) (s : Sender) → Stands rules self.old s → Stands rules self.new (after_offer (offered rules s unit.now) s unit.now) }
+        ensures same { IsSame self.old self.new }
+    {
+        if unit.is_empty() || unit.len() > 1500 {
+            return Offer::WrongSize;
+        }
+        if !self.held.has_room(unit.len()) {
+            return Offer::Full;
+        }
+        match self.outgoing.offer(unit) {
+            Offer::Accepted => {
+                self.held.offer(unit.len());
+                Offer::Accepted
+            }
+            answer => answer,
+        }
+    }
+
+    /// How many PDUs could be built one after another, with no other event between, at most 64 (TS 25.322 11.3.2).
+    pub fn available(&self) -> u16
+        ensures value { result ≡ available_of self.now.outgoing }
+        ensures available { (rules : Rules) (s : Sender) → Stands rules self.now s → result ≡ available rules (room_in self.now) s }
+    {
+        self.outgoing.available()
+    }
+
+    /// Builds the next PDU: the lowest requested one, else a new one, else the last one again for an owed poll.
+    pub fn build(&mut self, out: &mut [u8])
+        requires some { 0 < available_of self.old.outgoing }
+        requires size { length out.old ≡ self.old.outgoing.size }
+        ensures pdu { (rules : Rules) (s : Sender) → Stands rules self.old s → out.new ≡ next_pdu rules (room_in self.old) s }
+        // it says all that it holds
+        ensures short { (rules : Rules) (s : Sender) → Stands rules self.old s → IsShort (room_in self.old) (body_of_choice (choice rules s) (room_in self.old) s) }
+        ensures stands { (rules : Rules) (s : Sender) → Stands rules self.old s → Stands rules self.new (after_build rules (room_in self.old) s) }
+        ensures same { IsSame self.old self.new }
+    {
+        if let Some(ends) = self.outgoing.build(out) {
+            self.held.built(ends);
+        }
+    }
+
+    /// Hears a status (TS 25.322 11.5.3): its MRW_ACKs act first; then the first number that isn't in the window refuses it whole.
+    pub fn status(&mut self, status: &StatusView<'_>) -> StatusTaken
+        ensures answer { (rules : Rules) (s : Sender) → Stands rules self.old s → result ≡ status_answer rules s status.now }
+        ensures stands { (rules : Rules) (s : Sender) → Stands rules self.old s → Stands rules self.new (after_fields rules s status.now) }
+        ensures same { IsSame self.old self.new }
+    {
+        let before = self.outgoing.len();
+        let taken = self.outgoing.status(status);
+        self.held.leave(before - self.outgoing.len());
+        taken
+    }
+
+    /// One tick of 10 ms: of the poll timer, the ages of units and a running discard's timer. Where no discard runs, the last unit that is
+    /// due is discarded with all before it.
+    pub fn tick(&mut self)
+        ensures stands { (rules : Rules) (s : Sender) → Stands rules self.old s → Stands rules self.new (tick_sender rules s) }
+        ensures same { IsSame self.old self.new }
+    {
+        self.count();
+        if self.may_discard() {
+            self.discard();
+        }
+    }
+
+    /// Units may be discarded now: a rule for it is on, and no discard runs.
+    fn may_discard(&self) -> bool
+        ensures { result ≡ ((nat_lt 0 self.now.rules.discard_age || nat_lt 0 self.now.rules.discard_sent) && not (is_some self.now.outgoing.line.running)) }
+    {
+        (self.rules.discard_age > 0 || self.rules.discard_sent > 0)
+            && !self.outgoing.is_discarding()
+    }
+
+    /// The timers and the ages.
+    fn count(&mut self)
+        ensures stands { (rules : Rules) (s : Sender) → Stands rules self.old s → Stands rules self.new (timed s) }
+        ensures same { IsSame self.old self.new }
+    {
+        self.outgoing.tick();
+        if self.rules.discard_age > 0 {
+            self.held.tick();
+        }
+    }
+
+    /// The last unit that is due is discarded with all before it.
+    fn discard(&mut self)
+        ensures stands { (rules : Rules) (s : Sender) → Stands rules self.old s → Stands rules self.new (discards rules s (length s.accepted)) }
+        ensures same { IsSame self.old self.new }
+    {
+        if let Some(found) = overdue(self.outgoing.line(), &self.held, &self.rules) {
+            self.outgoing.discard(found.place, found.mark);
+            self.held.discard(found.unit as usize + 1);
+        }
+    }
+
+    /// How many units were discarded since opening. The count ends at the greatest number.
+    pub fn discarded(&self) -> u64
+        ensures { (rules : Rules) (s : Sender) → Stands rules self.now s → result ≡ capped (discarded s) }
+    {
+        self.held.discarded()
+    }
+
+    /// An MRW is due, which tells the receiver of discarded units (TS 25.322 11.6.2).
+    pub fn control_due(&self) -> bool
+        ensures value { result ≡ is_due self.now.outgoing.line.running }
+        ensures due { (rules : Rules) (s : Sender) → Stands rules self.now s → result ≡ mrw_due s.discard }
+    {
+        self.outgoing.mrw_due()
+    }
+
+    /// Writes the MRW that is due.
+    pub fn write_control(&mut self, out: &mut [u8])
+        requires due { is_due self.old.outgoing.line.running ≡ true }
+        requires size { length out.old ≡ self.old.outgoing.size }
+        ensures mrw { (rules : Rules) (s : Sender) → Stands rules self.old s → IsMrw out.new s.discard }
+        ensures stands { (rules : Rules) (s : Sender) → Stands rules self.old s → Stands rules self.new (after_moving rules s s.discard) }
+        ensures same { IsSame self.old self.new }
+    {
+        self.outgoing.write_mrw(out)
+    }
+
+    /// Gives all memory back.
+    pub fn close(self) {}
+}
