@@ -1,26 +1,25 @@
 -- Each event, at what is held and at the receiver that it stands for.
-use Rattle.std.proofs.Common.{◌≡◌, ◌+◌, ◌-◌, ◌*◌, ◌%◌, ◌<◌, ◌≤◌, ◌⊎◌, ℕ, zero, suc, List, [], ◌∷◌, ◌++◌, Bool, true, false, not, ◌||◌, ◌&&◌, cond, Option, Some, None, IfSome, is_some, length, map, take, drop, max, length-drop, arith, refl, sym, ap, ap₂, ◌∙◌, ⊎_elim, subst}
+use Rattle.std.proofs.Common.{◌≡◌, ◌+◌, ◌-◌, ◌%◌, ◌<◌, ◌≤◌, ℕ, zero, suc, List, [], ◌∷◌, ◌++◌, Bool, true, false, ◌||◌, ◌&&◌, cond, Option, Some, None, IfSome, is_some, length, map, take, drop, max, length-drop, arith, refl, sym, ap, ap₂, ◌∙◌}
 use Rattle.std.specs.Prelude.{◌==◌, nat_lt, nat_le, if◌then◌else◌}
-use Rattle.std.proofs.lemmas.Bool.{both_ways, cases_lt, cond_both, eq-eqb, eqb-true, eqb-false, or_left, or_right}
+use Rattle.std.proofs.lemmas.Bool.{cond_both, eq-eqb, or_left}
 use Rattle.std.proofs.lemmas.Bool.Decides.{nat_tests}
 use Rattle.dch_types.specs.declared.bearer.AmRules.{AmRules}
 use Rattle.dch_am.specs.declared.answers.Taken.{Taken}
 use Rattle.dch_am.specs.declared.answers.Taken.TheVariants.{Kept as KeptPdu, Duplicate, Outside}
 use Rattle.dch_am.specs.declared.answers.MrwTaken.{MrwTaken}
 use Rattle.dch_am.specs.declared.answers.MrwTaken.TheVariants.{Nothing, Obeyed, Old, Outside as OutsideMove}
-use Rattle.dch_am.specs.Bodies.{Body, Reading}
-use Rattle.dch_am.specs.Numbers.{has, below, top, run_of, wrapped, ahead}
+use Rattle.dch_am.specs.Bodies.{Body}
+use Rattle.dch_am.specs.Numbers.{has, below, wrapped, ahead}
 use Rattle.dch_am.specs.Receiver.{Receiver, after_highest, after_pdu, body_of, expected, got, numbers, opened_receiver, read_on, taken, with_pdu}
-use Rattle.dch_am.specs.Status.{MrwAck}
 use Rattle.dch_am.specs.Moves.{after_move as moves_after, after_move_in, answer_to, moved, trimmed, with_ack, with_move}
 use Rattle.dch_am.specs.Telling.{tick_receiver}
 use Rattle.dch_am.proofs.Lists.{Is, run_in}
 use Rattle.dch_window.specs.Places.{front, is_kept, put}
 use Rattle.dch_window.proofs.Putting.{length-put}
-use Rattle.dch_units.specs.Taking.{Waiting, dropped}
-use Rattle.dch_inorder.specs.Lines.{Kept, greater, passed, run_on, with_body}
-use Rattle.dch_amrecv.specs.Holding.{Holding, after_answer, after_control, after_move, after_tick, after_unit, answer, control_answer, move_answer, moved_on, opened, rules_of, with_ack as holds_ack, with_owed}
-use Rattle.dch_amrecv.specs.Standing.{AreUnits, IsPast, IsSame, Stands, came, live, place, sent_ack}
+use Rattle.dch_inorder.specs.Lines.{greater, passed, run_on, with_body}
+use Rattle.dch_amrecv.specs.Holding.{Holding, after_answer, after_control, after_move, after_tick, after_unit, answer, control_answer, move_answer, moved_on, opened, with_ack as holds_ack, with_owed}
+use Rattle.dch_am.specs.Rules.{rules_of}
+use Rattle.dch_amrecv.specs.Standing.{IsPast, IsSame, Stands, came, live, place, sent_ack}
 use Rattle.dch_amrecv.proofs.Whole.{units_dropped}
 use Rattle.dch_amrecv.proofs.Settling.{Pending, Settled, expected_is, has_from, has_got, highest_got, kept_place, place-drop, place-put, settles}
 

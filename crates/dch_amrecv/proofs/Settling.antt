@@ -1,16 +1,15 @@
 -- The expected number moves over the gap-free run.
-use Rattle.std.proofs.Common.{◌≡◌, ◌+◌, ◌-◌, ◌%◌, ◌<◌, ◌≤◌, ◌⊎◌, ℕ, zero, suc, List, [], ◌∷◌, ◌++◌, Bool, true, false, ◌||◌, cond, Option, Some, None, is_some, length, take, drop, max, length-drop, arith, refl, sym, ap, ap₂, ◌∙◌, ⊎_elim, subst}
+use Rattle.std.proofs.Common.{◌≡◌, ◌+◌, ◌-◌, ◌<◌, ◌≤◌, ℕ, zero, suc, List, [], ◌∷◌, ◌++◌, Bool, true, false, ◌||◌, cond, Option, Some, None, is_some, length, drop, max, length-drop, arith, refl, sym, ap, ◌∙◌, ⊎_elim, subst}
 use Rattle.std.specs.Prelude.{◌==◌, nat_lt}
-use Rattle.std.proofs.lemmas.Bool.{both_ways, cases_lt, eq-eqb, eqb-true, eqb-false, or_right}
+use Rattle.std.proofs.lemmas.Bool.{both_ways, cases_lt}
 use Rattle.std.proofs.lemmas.Bool.Decides.{nat_tests}
-use Rattle.dch_am.specs.Bodies.{Body, Reading}
-use Rattle.dch_am.specs.Numbers.{has, below, top, run_of, wrapped}
+use Rattle.dch_am.specs.Bodies.{Body}
+use Rattle.dch_am.specs.Numbers.{has, below, top, run_of}
 use Rattle.dch_am.specs.Receiver.{Receiver, after_highest, body_of, expected, got, numbers, read_on}
-use Rattle.dch_am.proofs.Lists.{Is, has-append, has-below, run_le, run_in, run_out, run_reaches}
+use Rattle.dch_am.proofs.Lists.{Is, has-append, has-below, run_le, run_in, run_reaches}
 use Rattle.dch_window.specs.Places.{front, is_kept, put}
 use Rattle.dch_window.proofs.Fronts.{front_le}
-use Rattle.dch_units.specs.Taking.{Waiting}
-use Rattle.dch_inorder.specs.Lines.{Kept, run_on, took_run, trim_left}
+use Rattle.dch_inorder.specs.Lines.{Kept, run_on}
 use Rattle.dch_amrecv.specs.Standing.{AreUnits, IsPast, came, live, place}
 use Rattle.dch_amrecv.proofs.Whole.{units_run, trim_run}
 

@@ -1,17 +1,23 @@
 -- What a receiver tells, at what is held and at the receiver that it stands for.
-use Rattle.std.proofs.Common.{◌≡◌, ◌+◌, ◌-◌, ◌*◌, ◌%◌, ◌<◌, ◌≤◌, ℕ, zero, suc, List, [], ◌∷◌, Bool, true, false, not, ◌||◌, ◌&&◌, cond, Option, Some, None, is_some, length, map, take, arith, refl, sym, ap, ap₂, ◌∙◌}
+use Rattle.std.proofs.Common.{◌≡◌, ◌+◌, ◌-◌, ◌%◌, ℕ, zero, suc, List, [], ◌∷◌, ◌++◌, Bool, true, false, not, ◌||◌, ◌&&◌, Option, Some, None, length, map, take, arith, refl, sym, ap, ap₂, subst, ◌∙◌}
 use Rattle.std.specs.Prelude.{◌==◌, nat_lt, if◌then◌else◌}
-use Rattle.std.proofs.lemmas.Bool.{cond_both}
 use Rattle.std.proofs.lemmas.Bool.Decides.{nat_tests}
 use Rattle.dch_am.specs.Bodies.{Body}
 use Rattle.dch_am.specs.Numbers.{has, less, range, wrapped}
 use Rattle.dch_am.specs.Receiver.{Receiver, after_highest, expected, got}
-use Rattle.dch_am.specs.Status.{MrwAck, fields_of, missing, most, runs, runs_from, status_of, status_over, wrapped_pair}
+use Rattle.dch_am.specs.Status.{MrwAck, fields_of, missing, most, runs, runs_from, status_of, wrapped_pair}
 use Rattle.dch_am.specs.Telling.{after_telling as after_told, due_of, is_due as is_told, plain_due as plain_told, telling, tells_now}
-use Rattle.dch_status.specs.Fields.{Field, status_fields, mrw_status_fields}
+use Rattle.dch_status.specs.Fields.{status_fields, mrw_status_fields}
 use Rattle.dch_window.specs.Places.{is_kept, vacant}
-use Rattle.dch_amrecv.specs.Holding.{Holding, after_telling, fields_told, gaps, is_due, lsn_told, numbered, pairs_told, plain_due, rules_of, some_ack}
+use Rattle.dch_amrecv.specs.Holding.{Holding, after_telling, fields_told, gaps, is_due, lsn_told, numbered, pairs_told, plain_due, some_ack}
+use Rattle.dch_am.specs.Rules.{rules_of}
 use Rattle.dch_amrecv.specs.Standing.{Stands, said, sent_ack}
+use Rattle.dch_amrecv.specs.Texts.{IsHeard, IsTold, text_told, told_text}
+use Rattle.dch_am.specs.Status.{Told}
+use Rattle.dch_status.specs.Reading.{status_of as fields_in}
+use Rattle.dch_status.specs.Writing.{IsText, mrw_ack_text, status_text}
+use Rattle.dch_rlcpdu.specs.declared.am.AmView.TheVariants.{Status}
+use Rattle.dch_rlcpdu.proofs.AmPdus.{am_back, status_written}
 use Rattle.dch_amrecv.proofs.Events.{there}
 
 due_same : (o : Option MrwAck) (b : Bool) → (some_ack (sent_ack o) || b) ≡ due_of o b
@@ -116,3 +122,20 @@ pub fields_are : (h : Holding) (bits given : ℕ) (r : Receiver) → is_due h �
 fields_are h bits given r due s =
     let p : plain_due h ≡ plain_told r = plain_same h given r s in
     ap₂ (λ (o : Option (ℕ × ℕ)) b. Some (fields_told o b bits h)) s.ack p ∙ told_same h bits given r r.ack (plain_told r) s (sym (ap₂ (λ (o : Option (ℕ × ℕ)) b. some_ack o || b) s.ack p) ∙ due)
+
+text_same : (out : List ℕ) (h : Holding) (bits given : ℕ) (r : Receiver) (o : Option MrwAck) (plain : Bool) → Stands h given r → (some_ack (sent_ack o) || plain) ≡ true → IsText out (0 ∷ text_told (sent_ack o) plain bits h) → IsTold out (telling bits r o plain)
+text_same out h bits given r None false s due is = absurd (cc)
+text_same out h bits given r None true s due is = subst (λ xs. IsText out (0 ∷ xs)) (ap₂ status_text (sym (pairs_are h bits given r s)) (sym (lsn_is h bits given r s))) is
+text_same out h bits given r (Some a) false s due is = is
+text_same out h bits given r (Some a) true s due is = subst (λ xs. IsText out (0 ∷ xs)) (ap₂ (λ (ps : List (ℕ × ℕ)) (l : ℕ). mrw_ack_text a.n (wrapped a.number) ++ status_text ps l) (sym (pairs_are h (bits - 20) given r s)) (sym (lsn_is h (bits - 20) given r s))) is
+
+pub text_is : (out : List ℕ) (h : Holding) (bits given : ℕ) (r : Receiver) → is_due h ≡ true → Stands h given r → IsText out (0 ∷ text_told h.ack (plain_due h) bits h) → IsTold out (tells_now bits r)
+text_is out h bits given r due s is =
+    let p : plain_due h ≡ plain_told r = plain_same h given r s in
+    text_same out h bits given r r.ack (plain_told r) s (sym (ap₂ (λ (o : Option (ℕ × ℕ)) b. some_ack o || b) s.ack p) ∙ due)
+    (subst (IsText out) (ap₂ (λ (o : Option (ℕ × ℕ)) b. 0 ∷ text_told o b bits h) s.ack p) is)
+
+-- the other end reads what was written
+pub heard : (out : List ℕ) (o : Option Told) → fields_in out ≡ said o → IsTold out o → IsHeard out o
+heard out None says is = is
+heard out (Some t) says is = am_back out (Status (fields_of t)) (status_written out (told_text t) (fields_of t) is says)

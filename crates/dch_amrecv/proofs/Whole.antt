@@ -1,10 +1,10 @@
 -- Units of which no more than 1,501 octets are kept, beside the whole ones.
-use Rattle.std.proofs.Common.{◌≡◌, ◌+◌, ◌-◌, ◌<◌, ◌≤◌, ℕ, zero, suc, List, [], ◌∷◌, ◌++◌, Bool, true, false, cond, Option, Some, None, length, take, drop, map, arith, refl, sym, ap, ap₂, ◌∙◌, length-append, length-take}
+use Rattle.std.proofs.Common.{◌≡◌, ◌+◌, ◌<◌, ◌≤◌, ℕ, zero, suc, List, [], ◌∷◌, ◌++◌, Bool, true, false, Option, Some, None, length, take, drop, map, arith, refl, sym, ap, ap₂, ◌∙◌, length-append, length-take}
 use Rattle.std.specs.Prelude.{◌==◌}
 use Rattle.std.proofs.lemmas.Bool.{eq-eqb, eqb-true, eqb-false}
 use Rattle.std.proofs.lemmas.List.{drop-append-le}
 use Rattle.dch_am.specs.Bodies.{Body, Reading, ended as end_unit, read_body, read_full, read_pieces, read_rest}
-use Rattle.dch_am.specs.Receiver.{Receiver, body_of, dead_pieces, read_one, read_run, read_trimmed}
+use Rattle.dch_am.specs.Receiver.{body_of, dead_pieces, read_one, read_run, read_trimmed}
 use Rattle.dch_units.specs.Taking.{Waiting, added, dropped, ended, ended_units, took_full, took_one, took_pieces}
 use Rattle.dch_inorder.specs.Lines.{took_run, trim_left}
 use Rattle.dch_amrecv.specs.Standing.{AreUnits, IsPast, live, place}

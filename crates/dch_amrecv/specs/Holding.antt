@@ -1,13 +1,12 @@
 -- What a running receiver of acknowledged mode holds, with numbers of 12 bits (TS 25.322 9.4, 11.3.3, 11.6.3), and what each call makes of it.
-use Rattle.std.specs.Prelude.{◌+◌, ◌-◌, ◌*◌, ◌%◌, ℕ, List, [], ◌∷◌, Bool, true, false, not, length, map, take, Option, Some, None, ◌&&◌, ◌||◌, nat_lt, nat_le, ◌==◌, if◌then◌else◌}
+use Rattle.std.specs.Prelude.{◌+◌, ◌-◌, ◌%◌, ℕ, List, Bool, true, false, not, length, map, take, Option, Some, None, ◌&&◌, ◌||◌, nat_lt, nat_le, ◌==◌, if◌then◌else◌}
 use Rattle.dch_types.specs.declared.bearer.AmRules.{AmRules}
 use Rattle.dch_am.specs.declared.answers.Taken.{Taken}
 use Rattle.dch_am.specs.declared.answers.Taken.TheVariants.{Kept as KeptPdu, Duplicate, Outside}
 use Rattle.dch_am.specs.declared.answers.MrwTaken.{MrwTaken}
 use Rattle.dch_am.specs.declared.answers.MrwTaken.TheVariants.{Nothing, Obeyed, Old, Outside as OutsideMove}
 use Rattle.dch_am.specs.Bodies.{Body}
-use Rattle.dch_am.specs.Numbers.{ahead, wrapped}
-use Rattle.dch_am.specs.Rules.{Rules}
+use Rattle.dch_am.specs.Numbers.{ahead}
 use Rattle.dch_am.specs.Status.{most, runs}
 use Rattle.dch_status.specs.Fields.{Field, mrw_ack_fields, mrw_status_fields, status_fields}
 use Rattle.dch_inorder.specs.Lines.{Kept, nothing, passed, run_on, with_body, handed}
@@ -132,20 +131,3 @@ abbrev pub fields_told : Option (ℕ × ℕ) → Bool → ℕ → Holding → Li
 fields_told None plain bits h = status_fields (pairs_told bits h) (lsn_told bits h)
 fields_told (Some a) false bits h = mrw_ack_fields a.1 a.0
 fields_told (Some a) true bits h = mrw_status_fields a.1 a.0 (pairs_told (bits - 20) h) (lsn_told (bits - 20) h)
-
--- the rules of a bearer with a buffer
-abbrev pub rules_of : ℕ → AmRules → Rules
-rules_of buffer r = record {
-  window = r.window;
-  buffer = buffer;
-  poll_pdus = r.poll_pdus;
-  poll_units = r.poll_units;
-  poll_window = r.poll_window;
-  poll_timer = r.poll_timer;
-  missing = r.missing;
-  status_period = r.status_period;
-  status_prohibit = r.status_prohibit;
-  discard_age = r.discard_age;
-  discard_sent = r.discard_sent;
-  discard_repeat = r.discard_repeat;
-}

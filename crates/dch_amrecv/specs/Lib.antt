@@ -1,3 +1,4 @@
 pub mod Holding
 pub mod Standing
 pub mod Moves
+pub mod Texts

@@ -1,5 +1,5 @@
 -- When what a running receiver holds stands for all that came to it (TS 25.322 9.4).
-use Rattle.std.specs.Prelude.{◌≡◌, ◌+◌, ◌<◌, ◌≤◌, ◌%◌, ℕ, zero, suc, List, [], ◌∷◌, Bool, true, false, length, map, drop, take, Option, Some, None, ◌==◌, if◌then◌else◌}
+use Rattle.std.specs.Prelude.{◌≡◌, ◌+◌, ◌≤◌, ℕ, zero, suc, List, [], ◌∷◌, Bool, true, false, length, map, drop, take, Option, Some, None, ◌==◌, if◌then◌else◌}
 use Rattle.dch_am.specs.Bodies.{Body, Reading}
 use Rattle.dch_am.specs.Numbers.{has, wrapped}
 use Rattle.dch_am.specs.Status.{MrwAck, Told, fields_of}

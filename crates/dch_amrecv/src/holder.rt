@@ -1,9 +1,11 @@
-ghost use Rattle.std.specs.Prelude.{◌≡◌, ◌+◌, ◌*◌, ◌<◌, ◌≤◌, ◌==◌, [], All, IfOk, Some, length, take, true};
+ghost use Rattle.std.specs.Prelude.{◌≡◌, ◌+◌, ◌*◌, ◌<◌, ◌≤◌, ◌==◌, [], ◌∷◌, All, IfOk, Some, length, take, true};
 ghost use Rattle.dch_units.specs.Taking.{handed_of, written};
 ghost use Rattle.dch_window.specs.Places.{body_in};
 ghost use Rattle.dch_amrecv.specs.Holding.{after_answer, after_move, after_telling, after_tick, after_unit, answer, fields_told, is_due, lsn_told, move_answer, opened, pairs_told, plain_due};
 ghost use Rattle.dch_am.specs.Status.{fits};
 ghost use Rattle.dch_status.specs.Reading.{status_of};
+ghost use Rattle.dch_status.specs.Writing.{IsText};
+ghost use Rattle.dch_amrecv.specs.Texts.{text_told};
 
 use crate::telling::{most, number};
 use dch_am::{MrwTaken, Taken};
@@ -153,6 +155,7 @@ impl Holder {
         requires due { is_due self.old ≡ true }
         requires size { length out.old ≡ self.old.reply }
         ensures fields { status_of out.new ≡ Some (fields_told self.old.ack (plain_due self.old) (8 * self.old.reply) self.old) }
+        ensures text { IsText out.new (0 ∷ text_told self.old.ack (plain_due self.old) (8 * self.old.reply) self.old) }
         ensures after { self.new ≡ after_telling self.old }
     {
         self.write(out);
@@ -168,7 +171,8 @@ impl Holder {
     fn write(&self, out: &mut [u8])
         requires due { is_due self.now ≡ true }
         requires size { length out.old ≡ self.now.reply }
-        ensures { status_of out.new ≡ Some (fields_told self.now.ack (plain_due self.now) (8 * self.now.reply) self.now) }
+        ensures fields { status_of out.new ≡ Some (fields_told self.now.ack (plain_due self.now) (8 * self.now.reply) self.now) }
+        ensures text { IsText out.new (0 ∷ text_told self.now.ack (plain_due self.now) (8 * self.now.reply) self.now) }
     {
         match self.ack {
             None => {

@@ -5,8 +5,10 @@ ghost use Rattle.dch_am.specs.Telling.{after_telling as after_told, is_due as is
 ghost use Rattle.dch_window.specs.Places.{body_in};
 ghost use Rattle.dch_units.specs.Taking.{handed_of, written};
 ghost use Rattle.dch_status.specs.Reading.{status_of};
-ghost use Rattle.dch_amrecv.specs.Holding.{after_unit, is_due, opened, rules_of};
+ghost use Rattle.dch_amrecv.specs.Holding.{after_unit, is_due, opened};
+ghost use Rattle.dch_am.specs.Rules.{rules_of};
 ghost use Rattle.dch_amrecv.specs.Standing.{IsSame, Stands, said};
+ghost use Rattle.dch_amrecv.specs.Texts.{IsHeard, IsTold};
 
 use crate::holder::Holder;
 use crate::moves::last_move;
@@ -92,8 +94,13 @@ impl AmRecv {
         requires due { is_due self.old ≡ true }
         requires size { length out.old ≡ self.old.reply }
         ensures fields { (given : ℕ) (r : Receiver) → Stands self.old given r → status_of out.new ≡ said (tells_now (8 * self.old.reply) r) }
+        // just that, and zeros behind it
+        ensures text { (given : ℕ) (r : Receiver) → Stands self.old given r → IsTold out.new (tells_now (8 * self.old.reply) r) }
+        // the other end reads that
+        ensures read { (given : ℕ) (r : Receiver) → Stands self.old given r → IsHeard out.new (tells_now (8 * self.old.reply) r) }
         ensures stands { (buffer given : ℕ) (r : Receiver) → Stands self.old given r → Stands self.new given (after_told (rules_of buffer self.old.rules) r) }
         ensures same { IsSame self.old self.new }
+        ensures kept { self.new.kept ≡ self.old.kept }
     {
         self.holder.tell(out)
     }
@@ -115,6 +122,7 @@ impl AmRecv {
     pub fn tick(&mut self)
         ensures stands { (buffer given : ℕ) (r : Receiver) → Stands self.old given r → Stands self.new given (tick_receiver (rules_of buffer self.old.rules) r) }
         ensures same { IsSame self.old self.new }
+        ensures kept { self.new.kept ≡ self.old.kept }
     {
         self.holder.tick()
     }

@@ -1,4 +1,4 @@
-use Rattle.std.proofs.Common.{◌≡◌, ◌<◌, arith, length}
+use Rattle.std.proofs.Common.{arith}
 use Rattle.dch_amrecv.specs.Holding.{numbered}
 use Rattle.dch_amrecv.proofs.Runs.{changed_more}
 use Rattle.dch_amrecv.proofs.telling.number.Goals as goal

@@ -1,4 +1,4 @@
-use Rattle.std.proofs.Common.{◌≡◌, ◌<◌, ◌∙◌, ℕ, All, List, ◌++◌, arith, ap, drop, map, refl, subst, sym, take}
+use Rattle.std.proofs.Common.{◌≡◌, ◌<◌, ◌∙◌, All, ◌++◌, arith, ap, drop, map, refl, subst, sym, take}
 use Rattle.dch_am.specs.Status.{fits, most, runs}
 use Rattle.dch_window.specs.Places.{vacant}
 use Rattle.dch_amrecv.specs.Holding.{numbered, pairs_told}

@@ -1,6 +1,7 @@
 use Rattle.std.proofs.Common.{◌≡◌, ◌∙◌, Some, ap, subst, sym}
 use Rattle.dch_am.specs.Moves.{after_move_in}
-use Rattle.dch_amrecv.specs.Holding.{after_move, move_answer, rules_of}
+use Rattle.dch_amrecv.specs.Holding.{after_move, move_answer}
+use Rattle.dch_am.specs.Rules.{rules_of}
 use Rattle.dch_amrecv.specs.Standing.{IsSame, Stands}
 use Rattle.dch_amrecv.proofs.Events.{control_stands, same_move}
 use Rattle.dch_amrecv.proofs.recv.AmRecv.control.Goals as goal

@@ -1,4 +1,4 @@
-use Rattle.std.proofs.Common.{◌≡◌, ◌+◌, ◌∙◌, ap, refl, subst, sym}
+use Rattle.std.proofs.Common.{◌+◌, ◌∙◌, ap, refl, subst, sym}
 use Rattle.dch_amrecv.specs.Holding.{after_unit}
 use Rattle.dch_amrecv.specs.Standing.{IsSame, Stands}
 use Rattle.dch_amrecv.proofs.Events.{unit_stands}

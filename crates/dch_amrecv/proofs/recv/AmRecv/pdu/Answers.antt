@@ -1,7 +1,8 @@
 use Rattle.std.proofs.Common.{◌≡◌, ◌∙◌, ap, ap₂, subst, sym}
 use Rattle.dch_am.specs.Receiver.{after_pdu, taken}
 use Rattle.dch_window.specs.Places.{body_in}
-use Rattle.dch_amrecv.specs.Holding.{after_answer, answer, rules_of}
+use Rattle.dch_amrecv.specs.Holding.{after_answer, answer}
+use Rattle.dch_am.specs.Rules.{rules_of}
 use Rattle.dch_amrecv.specs.Standing.{IsSame, Stands}
 use Rattle.dch_amrecv.proofs.Events.{answer_is, pdu_stands, same_answer}
 use Rattle.dch_amrecv.proofs.recv.AmRecv.pdu.Goals as goal

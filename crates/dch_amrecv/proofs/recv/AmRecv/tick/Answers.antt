@@ -5,3 +5,6 @@ use Rattle.dch_amrecv.proofs.recv.AmRecv.tick.Goals as goal
 
 pub returns-clause-same : goal.returns-clause-same
 returns-clause-same c = subst (IsSame c.args.self.now) (sym (c.tick.ensures ∙ ap after_tick c.self.view_is)) (record { rules = refl; pdu = refl; reply = refl })
+
+pub returns-clause-kept : goal.returns-clause-kept
+returns-clause-kept c = ap (λ h. h.kept) (c.tick.ensures ∙ ap after_tick c.self.view_is)

@@ -1,7 +1,10 @@
-use Rattle.std.proofs.Common.{◌≡◌, ◌*◌, ◌∙◌, Some, ap, refl, subst, sym}
+use Rattle.std.proofs.Common.{◌*◌, ◌∙◌, ◌∷◌, Some, ap, refl, subst, sym}
 use Rattle.dch_amrecv.specs.Holding.{after_telling, fields_told, plain_due}
 use Rattle.dch_amrecv.specs.Standing.{IsSame}
-use Rattle.dch_amrecv.proofs.Tells.{fields_are}
+use Rattle.dch_am.specs.Telling.{tells_now}
+use Rattle.dch_status.specs.Writing.{IsText}
+use Rattle.dch_amrecv.specs.Texts.{text_told}
+use Rattle.dch_amrecv.proofs.Tells.{fields_are, heard, text_is}
 use Rattle.dch_amrecv.proofs.recv.AmRecv.write_status.Goals as goal
 
 pub returns-clause-fields : goal.returns-clause-fields
@@ -10,5 +13,16 @@ returns-clause-fields c given r s =
     ∙ (ap (λ h. Some (fields_told h.ack (plain_due h) (8 * h.reply) h)) c.self.view_is
     ∙ fields_are c.args.self.now (8 * c.args.self.now.reply) given r c.requires.due s)
 
+pub returns-clause-text : goal.returns-clause-text
+returns-clause-text c given r s =
+    text_is c.tell.new.out c.args.self.now (8 * c.args.self.now.reply) given r c.requires.due s
+    (subst (λ h. IsText c.tell.new.out (0 ∷ text_told h.ack (plain_due h) (8 * h.reply) h)) c.self.view_is c.tell.ensures.text)
+
+pub returns-clause-read : goal.returns-clause-read
+returns-clause-read c given r s = heard c.tell.new.out (tells_now (8 * c.args.self.now.reply) r) (returns-clause-fields c given r s) (returns-clause-text c given r s)
+
 pub returns-clause-same : goal.returns-clause-same
 returns-clause-same c = subst (IsSame c.args.self.now) (sym (c.tell.ensures.after ∙ ap after_telling c.self.view_is)) (record { rules = refl; pdu = refl; reply = refl })
+
+pub returns-clause-kept : goal.returns-clause-kept
+returns-clause-kept c = ap (λ h. h.kept) (c.tell.ensures.after ∙ ap after_telling c.self.view_is)
