@@ -1,6 +1,18 @@
-//! Two ends of a bearer in acknowledged mode (TS 25.322 11.3): what holds whatever is offered, built, lost and delivered.
+//! Two ends of a bearer in acknowledged mode (TS 25.322 11.3): what holds whatever is offered, built, lost and delivered, and two that run.
 #![tactic(auto)]
 
+mod inside;
 mod laws;
+mod outcome;
+mod run;
+mod running;
+mod setup;
 
+pub use inside::are_inside;
 pub use laws::in_order_law;
+pub use outcome::PairEnd;
+pub use run::run_pair;
+pub use setup::{End, PairEvent, PairSetup};
+
+#[cfg(test)]
+mod tests;
