@@ -1,6 +1,6 @@
 -- The cells of a TTI whose radio frames are kept as they were written.
 use Rattle.std.proofs.Common.{◌≡◌, ◌+◌, ◌-◌, ◌*◌, ◌%◌, ◌/◌, ◌<◌, ◌≤◌, ℕ, zero, suc, List, length, get_or, arith, refl, ap, sym, ◌∙◌, inl, inr, add-one}
-use Rattle.std.specs.Prelude.{nat_lt, true, false, slice_index}
+use Rattle.std.specs.Prelude.{nat_lt, true, slice_index}
 use Rattle.std.proofs.lemmas.Bool.{cases_lt}
 use Rattle.std.proofs.lemmas.Bool.Decides.{nat_tests}
 use Rattle.std.proofs.lemmas.Nat.{mod_below}

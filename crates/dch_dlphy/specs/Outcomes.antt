@@ -6,8 +6,8 @@ use Rattle.dch_accept.specs.Plans.{Planned}
 use Rattle.dch_decode.specs.Received.{ArrivesAs}
 use Rattle.dch_heard.specs.Formats.{IsBadFrame}
 use Rattle.dch_heard.specs.Kept.{Listened}
-use Rattle.dch_dlphy.specs.declared.outcome.TtiOutcome.{TtiOutcome}
-use Rattle.dch_dlphy.specs.declared.outcome.TtiOutcome.TheVariants.{Blocks, BadFrame}
+use Rattle.dch_heard.specs.declared.outcome.TtiOutcome.{TtiOutcome}
+use Rattle.dch_heard.specs.declared.outcome.TtiOutcome.TheVariants.{Blocks, BadFrame}
 use Rattle.dch_dlphy.specs.Read.{IsTtiRead}
 
 -- the blocks of the TTI, or its first bad frame, which leaves the blocks as they were

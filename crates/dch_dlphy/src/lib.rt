@@ -6,14 +6,13 @@ mod fill;
 mod hearing;
 mod kept;
 mod laws;
-mod outcome;
 mod parts;
 mod reader;
 mod tti;
 mod writer;
 
+pub use dch_heard::TtiOutcome;
 pub use laws::written_frame_law;
-pub use outcome::TtiOutcome;
 pub use reader::DlReader;
 pub use tti::DlTti;
 pub use writer::write;

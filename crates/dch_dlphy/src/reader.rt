@@ -11,13 +11,12 @@ ghost use Rattle.dch_dlphy.specs.Sent.{IsSentTti};
 
 use crate::hearing::hear_tti;
 use crate::kept::hear;
-use crate::outcome::TtiOutcome;
 use crate::parts::{channel_of, code_length, frame_length, pattern_of, places_of};
 use dch_accept::{Accepted, FrameView, TtiBlocks};
 use dch_bits::{NoMemory, Trit, Vote};
 use dch_decode::Decoder;
 use dch_frame::{Interleaver, count_votes};
-use dch_heard::{History, format_of, format_of_tti};
+use dch_heard::{History, TtiOutcome, format_of, format_of_tti};
 use dch_match::kept;
 use std::alloc::Global;
 use std::marker::Model;

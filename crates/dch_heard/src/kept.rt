@@ -53,8 +53,7 @@ impl KeptFrame {
 
     /// No frame is there.
     pub fn miss(&mut self)
-        ensures none { self.new.combination ≡ None }
-        ensures room { self.new.room ≡ self.old.room }
+        ensures { self.new ≡ record self.old { combination = None } }
     {
         self.combination = None;
     }

@@ -5,11 +5,13 @@
 mod formats;
 mod history;
 mod kept;
+mod outcome;
 mod parts;
 
 pub use formats::format_of_tti;
 pub use history::History;
 pub use kept::KeptFrame;
+pub use outcome::TtiOutcome;
 pub use parts::{channel_of, format_number, format_of, frames_of};
 
 #[cfg(test)]

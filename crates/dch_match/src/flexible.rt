@@ -71,7 +71,7 @@ fn greatest(side: &Side) -> u64
 }
 
 /// Whether a format of a channel stands in a combination.
-fn stands(side: &Side, i: usize, f: usize) -> bool
+pub fn stands(side: &Side, i: usize, f: usize) -> bool
     requires good { IsSide side.now }
     requires channel { i < length side.now.channels }
     ensures { result ≡ stands_below side.now i f (length side.now.combinations) }

@@ -1,14 +1,14 @@
 ghost use Rattle.std.specs.Prelude.{◌≡◌, ◌<◌, ◌≤◌, ◌==◌, ◌&&◌, length, nat_lt};
-ghost use Rattle.dch_types.specs.Limits.{IsSide, IsUplink, IsDownlink};
+ghost use Rattle.dch_types.specs.Limits.{IsUplink, IsDownlink};
 ghost use Rattle.dch_types.specs.Parts.{channel_at, format_number};
 ghost use Rattle.dch_match.specs.Patterns.{IsWellFormed};
-ghost use Rattle.dch_match.specs.Downlinks.{IsDownlinkPlan, stands_below};
+ghost use Rattle.dch_match.specs.Downlinks.{IsDownlinkPlan};
 ghost use Rattle.dch_removal.specs.Plans.{AreAllPlans};
 ghost use Rattle.dch_removal.specs.Counted.{removes, loses_below, uplink_loses, downlink_loses};
 
 use crate::parts::number_of;
-use dch_match::{DownlinkPlan, Pattern, UplinkPlan, kept};
-use dch_types::{Downlink, Side, Uplink};
+use dch_match::{DownlinkPlan, Pattern, UplinkPlan, kept, stands};
+use dch_types::{Downlink, Uplink};
 
 /// Whether some legal sequence of the uplink removes bits of a channel in a format: where a combination with that format sends
 /// fewer bits in a radio frame than there are.
@@ -58,22 +58,7 @@ pub fn downlink_loses(config: &Downlink, plan: &DownlinkPlan, i: u8, f: u8) -> b
     requires format { f < length (channel_at config.now.side i).formats }
     ensures { result ≡ downlink_loses config.now i f }
 {
-    stands(&config.side, i, f) && loses(&plan.pattern(i, f))
-}
-
-/// Whether a format stands in some combination.
-fn stands(side: &Side, i: u8, f: u8) -> bool
-    requires good { IsSide side.now }
-    requires channel { i < length side.now.channels }
-    ensures { result ≡ stands_below side.now i f (length side.now.combinations) }
-{
-    let mut stands = false;
-    for c in 0..side.combinations.len() {
-        if number_of(side, c, i) == f {
-            stands = true;
-        }
-    }
-    stands
+    stands(&config.side, usize::from(i), usize::from(f)) && loses(&plan.pattern(i, f))
 }
 
 /// Whether a pattern removes a bit.

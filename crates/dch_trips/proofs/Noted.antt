@@ -1,8 +1,8 @@
 -- The formats that a trip notes of what it loads.
-use Rattle.std.proofs.Common.{◌≡◌, ◌≢◌, ℕ, List, sym, ◌∙◌, subst, ap, inl, inr}
+use Rattle.std.proofs.Common.{◌≡◌, ◌≢◌, ℕ, List, sym, ◌∙◌, ap, inl, inr}
 use Rattle.std.specs.Prelude.{Option, Some, None, slice_index_or}
 use Rattle.std.proofs.lemmas.Bool.{cases_eq}
-use Rattle.dch_ulphy.specs.Loaded.{Loaded, loaded_at}
+use Rattle.dch_loaded.specs.Loaded.{Loaded, loaded_at}
 use Rattle.dch_trips.specs.Trips.{AreNoted}
 
 -- one more channel is loaded and noted

@@ -1,6 +1,6 @@
 ghost use Rattle.std.specs.Prelude.{◌≡◌, length};
 
-use dch_bits::{Bit, Trit};
+use dch_bits::Bit;
 
 /// Writes bits that look like chance, the same ones for the same number.
 pub fn fill(bits: &mut [Bit], number: u32)
@@ -14,26 +14,5 @@ pub fn fill(bits: &mut [Bit], number: u32)
         } else {
             Bit::Zero
         };
-    }
-}
-
-/// Turns one cell in so many, from the first on; none for 0. A cell that is Off stays Off.
-pub fn turn(cells: &mut [Trit], every: usize)
-    ensures { length cells.new ≡ length cells.old }
-{
-    if every > 0 {
-        for k in 0..cells.len() {
-            if k % every == 0 {
-                cells[k] = turned(cells[k]);
-            }
-        }
-    }
-}
-
-fn turned(cell: Trit) -> Trit {
-    match cell {
-        Trit::Zero => Trit::One,
-        Trit::One => Trit::Zero,
-        Trit::Off => Trit::Off,
     }
 }

@@ -1,14 +1,20 @@
-//! Trips of transport blocks: into uplink radio frames, over a channel that damages cells, and back. Tests and the
+//! Trips of transport blocks: into radio frames, over the air, which damages and loses them, and back. Tests and the
 //! measurement of speed make them.
 #![tactic(auto)]
 
+mod air;
 mod chance;
 mod configs;
+mod ends;
+mod given;
+mod trip;
 mod uplink;
 
-pub use chance::{fill, turn};
+pub use air::Air;
 pub use configs::{CODES, DOWNLINK, PACKETS, SPEECH, TINY};
-pub use uplink::UplinkTrip;
+pub use ends::Ends;
+pub use trip::Trip;
+pub use uplink::UplinkEnds;
 
 #[cfg(test)]
 mod tests;

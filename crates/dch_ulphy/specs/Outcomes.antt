@@ -4,8 +4,8 @@ use Rattle.dch_bits.specs.declared.bit.Bit.{Bit}
 use Rattle.dch_accept.specs.Blocks.{Held}
 use Rattle.dch_accept.specs.Plans.{Planned}
 use Rattle.dch_decode.specs.Received.{ArrivesAs}
-use Rattle.dch_ulphy.specs.declared.outcome.TtiOutcome.{TtiOutcome}
-use Rattle.dch_ulphy.specs.declared.outcome.TtiOutcome.TheVariants.{Blocks, BadFrame}
+use Rattle.dch_heard.specs.declared.outcome.TtiOutcome.{TtiOutcome}
+use Rattle.dch_heard.specs.declared.outcome.TtiOutcome.TheVariants.{Blocks, BadFrame}
 use Rattle.dch_heard.specs.Kept.{Listened}
 use Rattle.dch_heard.specs.Formats.{IsBadFrame}
 use Rattle.dch_ulphy.specs.Read.{IsTtiRead}

@@ -6,15 +6,14 @@ mod formats;
 mod hearing;
 mod kept;
 mod laws;
-mod outcome;
 mod pad;
 mod reader;
 mod tables;
 mod tti;
 mod writer;
 
+pub use dch_heard::TtiOutcome;
 pub use laws::written_frame_law;
-pub use outcome::TtiOutcome;
 pub use reader::UlReader;
 pub use tti::UlTti;
 pub use writer::write;

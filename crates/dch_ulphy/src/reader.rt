@@ -14,13 +14,12 @@ ghost use Rattle.dch_ulphy.specs.Sent.{IsSentTti};
 use crate::formats::{channel_of, format_of_tti};
 use crate::hearing::hear_tti;
 use crate::kept::hear;
-use crate::outcome::TtiOutcome;
 use crate::pad::MOST_BITS;
 use crate::tables::Tables;
 use dch_accept::{Accepted, FrameView, TtiBlocks};
 use dch_bits::{NoMemory, Vote};
 use dch_decode::Decoder;
-use dch_heard::{History, format_of};
+use dch_heard::{History, TtiOutcome, format_of};
 use std::alloc::Global;
 use std::marker::Model;
 
