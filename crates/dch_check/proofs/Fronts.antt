@@ -1,11 +1,12 @@
 -- What has come of a configuration, piece by piece.
-use Rattle.std.proofs.Common.{◌≡◌, ◌+◌, ℕ, List, [], ◌∷◌, ◌++◌, Bool, true, false, None, Some, take, drop, refl, ap, sym, ◌∙◌, append_assoc, append-nil}
-use Rattle.std.specs.Prelude.{◌||◌, if◌then◌else◌}
+use Rattle.std.proofs.Common.{◌≡◌, ◌+◌, ℕ, zero, suc, arith, List, [], ◌∷◌, ◌++◌, Bool, true, false, None, Some, take, drop, refl, ap, sym, ◌∙◌, append_assoc, append-nil}
+use Rattle.std.specs.Prelude.{◌==◌, ◌||◌, if◌then◌else◌}
+use Rattle.std.proofs.lemmas.Bool.{false_from_ne_true}
 use Rattle.std.proofs.lemmas.List.{take-append-drop}
 use Rattle.memchr.specs.Find.{IsFirstByte, is_byte}
 use Rattle.dch_script.specs.Lines.{lines_after, rest_after, lines_of, rest_of}
 use Rattle.dch_script.proofs.Lines.{lines_after-append, rest_after-append, no_feed, one_feed}
-use Rattle.dch_check.specs.Front.{Gathered, configuration_of, front_of, gathered, has_mark, is_complete, is_mark, nothing, settled, with_line}
+use Rattle.dch_check.specs.Front.{Gathered, behind, behind_mark, configuration_of, front_of, gathered, has_mark, is_complete, is_mark, nothing, settled, with_line}
 
 -- the text before the line `---` of some lines and others
 pub front_of-append : (a b : List (List ℕ)) → front_of (a ++ b) ≡ front_of a ++ (if has_mark a then [] else front_of b)
@@ -114,3 +115,35 @@ configuration_more a b done =
     let last : List (List ℕ) = rest_of (a ++ b) ∷ [] in
     let whole : configuration_of (a ++ b) ≡ front_of (first ++ (next ++ last)) = ap (λ l. front_of (l ++ last)) (lines_after-append [] a b) ∙ ap front_of (append_assoc first next last) in
     whole ∙ front_of-append first (next ++ last) ∙ rw (front_of-append first (rest_of a ∷ []), done) refl
+
+-- a part that ends the line that has begun: what follows it is left, where that line is `---`
+behind_end : (text line left : List ℕ) (marked : Bool) → behind (ended text line marked) left ≡ (if marked then left else behind_mark [] left)
+behind_end text line left true = refl
+behind_end text line left false = refl
+
+behind_part : (begun bytes : List ℕ) (at : ℕ) → IsFirstByte (is_byte 10) bytes (Some at)
+    → behind_mark begun bytes ≡ (if is_mark (begun ++ take (at + 1) bytes) then drop (at + 1) bytes else behind_mark [] (drop (at + 1) bytes))
+behind_part begun [] at first = absurd (omega (arith, first.0.high))
+behind_part begun (c ∷ bytes) zero first = rw first.1 refl
+behind_part begun (c ∷ bytes) (suc at) first =
+    let miss : (c == 10) ≡ false = false_from_ne_true (c == 10) (first.0.before 0 (omega arith) (omega arith)) in
+    let here : IsFirstByte (is_byte 10) bytes (Some at) = (record { low = omega arith; high = omega (arith, first.0.high); before = λ k low high. first.0.before (suc k) (omega arith) (omega arith) }, first.1) in
+    let step : suc at + 1 ≡ suc (at + 1) = omega arith in
+    rw (miss, step) (behind_part (begun ++ c ∷ []) bytes at here ∙ ap (λ l. if is_mark l then drop (at + 1) bytes else behind_mark [] (drop (at + 1) bytes)) (append_assoc begun (c ∷ []) (take (at + 1) bytes)))
+
+pub behind_feed : (old : Gathered) (bytes : List ℕ) (at : ℕ) → old.complete ≡ false → IsFirstByte (is_byte 10) bytes (Some at)
+    → behind (with_line (record old { line = old.line ++ take (at + 1) bytes })) (drop (at + 1) bytes) ≡ behind old bytes
+behind_feed old bytes at going first =
+    let line : List ℕ = old.line ++ take (at + 1) bytes in
+    rw going (behind_end old.text line (drop (at + 1) bytes) (is_mark line) ∙ sym (behind_part old.line bytes at first))
+
+-- bytes in which the line that has begun goes on
+behind_none : (begun bytes : List ℕ) → IsFirstByte (is_byte 10) bytes None → behind_mark begun bytes ≡ []
+behind_none begun [] none = refl
+behind_none begun (c ∷ bytes) none =
+    let miss : (c == 10) ≡ false = false_from_ne_true (c == 10) (none 0 (omega arith) (omega arith)) in
+    rw miss (behind_none (begun ++ c ∷ []) bytes (λ k low high. none (suc k) (omega arith) (omega arith)))
+
+pub behind_rest : (old : Gathered) (bytes : List ℕ) → old.complete ≡ false → IsFirstByte (is_byte 10) bytes None
+    → behind (record old { line = old.line ++ bytes }) [] ≡ behind old bytes
+behind_rest old bytes going none = rw going (sym (behind_none old.line bytes none))

@@ -1,5 +1,5 @@
 -- The configuration at the front of an input: all bytes before the first line `---`.
-use Rattle.std.specs.Prelude.{ℕ, List, [], ◌∷◌, ◌++◌, Bool, true, false, ◌||◌, codes, if◌then◌else◌}
+use Rattle.std.specs.Prelude.{ℕ, ◌==◌, List, [], ◌∷◌, ◌++◌, Bool, true, false, ◌||◌, codes, if◌then◌else◌}
 use Rattle.std.specs.List.{list_any}
 use Rattle.std.specs.Str.{bytes_eq}
 use Rattle.dch_script.specs.Lines.{lines_after, rest_after, lines_of, rest_of}
@@ -24,6 +24,11 @@ is_complete bytes = has_mark (lines_of bytes)
 abbrev pub configuration_of : List ℕ → List ℕ
 configuration_of bytes = front_of (lines_of bytes ++ rest_of bytes ∷ [])
 
+-- the bytes that follow the line `---`, where it ends in some bytes after the beginning of a line; none where it doesn't
+abbrev pub behind_mark : List ℕ → List ℕ → List ℕ
+behind_mark begun [] = []
+behind_mark begun (c ∷ bytes) = if c == 10 then (if is_mark (begun ++ c ∷ []) then bytes else behind_mark [] bytes) else behind_mark (begun ++ c ∷ []) bytes
+
 -- what has come: the text of whole lines, the line that has begun, and whether the line `---` has come
 pub record Gathered : Type 0 where
   pub text : List ℕ
@@ -44,6 +49,10 @@ with_lines old lines rest = record { text = old.text ++ front_of lines; line = i
 -- what has come with these bytes; none counts after the line `---`
 abbrev pub gathered : Gathered → List ℕ → Gathered
 gathered old bytes = if old.complete then old else with_lines old (lines_after old.line bytes) (rest_after old.line bytes)
+
+-- what follows the line `---`, which may have come before these bytes
+abbrev pub behind : Gathered → List ℕ → List ℕ
+behind old bytes = if old.complete then bytes else behind_mark old.line bytes
 
 -- the text of the configuration, where the input ends here or the line `---` has come
 abbrev pub settled : Gathered → List ℕ

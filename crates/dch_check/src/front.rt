@@ -1,5 +1,5 @@
 ghost use Rattle.std.specs.Prelude.{◌≡◌, ◌<◌, ◌≤◌, ◌++◌, length, false, IfOk, OnOk};
-ghost use Rattle.dch_check.specs.Front.{Gathered, gathered, is_mark, nothing, settled, with_line};
+ghost use Rattle.dch_check.specs.Front.{Gathered, behind, gathered, is_mark, nothing, settled, with_line};
 
 use bytes::BytesMut;
 use dch_bits::NoMemory;
@@ -60,11 +60,22 @@ impl Front {
     pub fn follow(mut self, piece: &[u8]) -> Result<Front, NoMemory>
         ensures { IfOk result (λ front. front ≡ gathered self piece.now) }
     {
+        match self.follow_to_mark(piece) {
+            Ok(_left) => Ok(self),
+            Err(NoMemory) => Err(NoMemory),
+        }
+    }
+
+    /// Goes on by the next piece of the input. Answers what follows the line `---` in it: nothing where that line hasn't come.
+    pub fn follow_to_mark<'a>(&mut self, piece: &'a [u8]) -> Result<&'a [u8], NoMemory>
+        ensures front { OnOk result (self.new ≡ gathered self.old piece.entry.now) }
+        ensures left { IfOk result (λ left. left.now ≡ behind self.old piece.entry.now) }
+    {
         let mut left = piece;
-        while !left.is_empty() && !self.complete {
+        'lines: while !left.is_empty() && !self.complete {
             left = self.take_line(left)?;
         }
-        Ok(self)
+        Ok(left)
     }
 
     /// Goes on to the end of the line, or of the bytes where it doesn't end in them. Answers the bytes that are left.
@@ -73,6 +84,7 @@ impl Front {
         requires some { 0 < length bytes.now }
         ensures shorter { IfOk result (λ left. length left.now < length bytes.entry.now) }
         ensures goes_on { IfOk result (λ left. gathered self.new left.now ≡ gathered self.old bytes.entry.now) }
+        ensures leaves { IfOk result (λ left. behind self.new left.now ≡ behind self.old bytes.entry.now) }
     {
         match memchr(b'\n', bytes) {
             Some(at) => {

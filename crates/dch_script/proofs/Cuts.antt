@@ -5,6 +5,8 @@ use Rattle.std.proofs.lemmas.Bool.{false_from_ne_true}
 use Rattle.memchr.specs.Find.{IsFirstByte, is_byte}
 use Rattle.dch_script.specs.declared.event.LineError.TheVariants.{Count}
 use Rattle.dch_script.specs.Code.{code_words}
+use Rattle.dch_script.specs.Forms.{alone, one}
+use Rattle.dch_script.specs.Said.{Said}
 use Rattle.dch_script.specs.Words.{words_from, words_of}
 
 -- the words of a text after the front of its first word, cut at its first space
@@ -31,3 +33,16 @@ too_many a b d front [] = refl
 too_many a b d front (c ∷ text) =
     elim (c == 32) as (λ t. code_words (a ∷ (b ∷ (d ∷ (if t then front ∷ words_from [] text else words_from (front ++ c ∷ []) text)))) ≡ Err Count)
     [ true ↦ refl | false ↦ too_many a b d (front ++ c ∷ []) text ]
+
+-- a text has a word, so that a form without further words is refused before it, and one of one word after another
+pub not_alone : (said : Said) (front text : List ℕ) → alone said (words_from front text) ≡ Err Count
+not_alone said front [] = refl
+not_alone said front (c ∷ text) =
+    elim (c == 32) as (λ t. alone said (if t then front ∷ words_from [] text else words_from (front ++ c ∷ []) text) ≡ Err Count)
+    [ true ↦ refl | false ↦ not_alone said (front ++ c ∷ []) text ]
+
+pub not_one : (a front text : List ℕ) → one (a ∷ words_from front text) ≡ Err Count
+not_one a front [] = refl
+not_one a front (c ∷ text) =
+    elim (c == 32) as (λ t. one (a ∷ (if t then front ∷ words_from [] text else words_from (front ++ c ∷ []) text)) ≡ Err Count)
+    [ true ↦ refl | false ↦ not_one a (front ++ c ∷ []) text ]

@@ -1,2 +1,11 @@
+pub mod Contents
 pub mod Cuts
+pub mod Decimals
+pub mod Judged
+pub mod Kept
 pub mod Lines
+pub mod LinkKept
+pub mod NodesKept
+pub mod Shown
+pub mod Values
+pub mod Within

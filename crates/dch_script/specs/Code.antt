@@ -63,3 +63,4 @@ meaning line = if nat_lt longest (length (content line)) then Err Long else (if 
 abbrev pub IsSaid : Result CodeLine LineError → Result Event LineError → Type 0
 IsSaid said (Ok (Code coding crc bits)) = (said ≡ Ok (record { coding = coding; crc = crc; bits = bits.now })) × (is_bits 5000 bits.now ≡ true)
 IsSaid said (Err error) = said ≡ Err error
+IsSaid said (Ok event) = ⊥

@@ -1,5 +1,15 @@
 pub mod Code
+pub mod Forms
+pub mod Good
 pub mod Held
 pub mod Lines
+pub mod Link
+pub mod Meaning
+pub mod Nodes
+pub mod Numbers
+pub mod Parts
 pub mod Report
+pub mod Said
+pub mod Texts
+pub mod Units
 pub mod Words

@@ -1,33 +1,30 @@
-ghost use Rattle.std.specs.Prelude.{◌≡◌, ◌==◌, ◌||◌};
-ghost use Rattle.std.specs.List.{list_all};
-ghost use Rattle.dch_script.specs.Code.{IsSaid, meaning, line_words, code_words, code_of, coding_of, crc_of, is_bits};
+ghost use Rattle.std.specs.Prelude.{◌≡◌};
+ghost use Rattle.dch_script.specs.Code.{IsSaid, meaning, line_words, code_words, code_of, coding_of, crc_of};
 ghost use Rattle.dch_script.specs.Words.{words_of, later_words};
 
+use crate::content::content_of;
 use crate::event::{Command, Event, LineError};
+use crate::texts::{LONGEST_BLOCK, is_bits};
 use crate::words::cut_word;
 use dch_types::{Coding, Crc};
 
 /// The most bytes of a line, its line feed apart.
 pub const LONGEST_LINE: usize = 1_048_576;
 
-const LONGEST_BLOCK: usize = 5000;
-
-/// Reads an event line of a command, with its line feed where the input has one. Of a line that is too long, the first
-/// 1,048,577 bytes are enough.
-#[tactic(auto, unfolding(crate::specs::Code::meaning))]
+/// Reads an event line of `encode`, with its line feed where the input has one. Of a line that is too long, the first
+/// 1,048,577 bytes are enough. The lines of the other commands are read under a configuration, by `parse_in`.
+#[tactic(auto, using(crate::proofs::Contents::meaning_by_content))]
 pub fn parse<'a>(command: Command, line: &'a [u8]) -> Result<Event<'a>, LineError>
+    requires { command ≡ Command.Encode }
     ensures { IsSaid (meaning line.entry.now) result }
 {
-    let Command::Encode = command;
-    match line {
-        [content @ .., b'\n'] if content.len() > LONGEST_LINE => Err(LineError::Long),
-        [content @ .., b'\n'] => code_line(content),
-        _ if line.len() > LONGEST_LINE => Err(LineError::Long),
-        _ => Err(LineError::Cut),
-    }
+    let Command::Encode = command else {
+        unreachable!();
+    };
+    code_line(content_of(line)?)
 }
 
-fn code_line(content: &[u8]) -> Result<Event<'_>, LineError>
+pub fn code_line(content: &[u8]) -> Result<Event<'_>, LineError>
     ensures { IsSaid (line_words (words_of content.entry.now)) result }
 {
     let (first, rest) = cut_word(content);
@@ -88,21 +85,4 @@ fn read_crc(word: &[u8]) -> Option<Crc>
         b"24" => Some(Crc::C24),
         _ => None,
     }
-}
-
-/// Whether a word is a text of 1 to `most` bits, or a dot for none.
-fn is_bits(word: &[u8], most: usize) -> bool
-    ensures { result ≡ is_bits most word.now }
-{
-    match word {
-        b"." => true,
-        [] => false,
-        _ => word.len() <= most && are_letters(word),
-    }
-}
-
-fn are_letters(word: &[u8]) -> bool
-    ensures { result ≡ list_all (λ c. c == 48 || c == 49) word.now }
-{
-    word.iter().all(|c| *c == b'0' || *c == b'1')
 }

@@ -2,10 +2,23 @@
 #![tactic(auto)]
 
 mod code;
+mod content;
 mod event;
+mod judge;
+mod link;
+mod nodes;
+mod numbers;
+mod parts;
 mod report;
+mod texts;
+mod units;
 mod words;
 
 pub use code::{LONGEST_LINE, parse};
 pub use event::{Command, Event, LineError};
+pub use judge::parse_in;
+pub use numbers::decimal_law;
 pub use report::{Line, Report};
+
+#[cfg(test)]
+mod tests;

@@ -1,19 +1,126 @@
-ghost use Rattle.std.specs.Prelude.{◌≡◌, ◌+◌, ◌≤◌, ◌++◌, [], length, map, decimal, IfOk};
-ghost use Rattle.dch_bits.specs.Text.{letter_of};
-ghost use Rattle.dch_script.specs.Report.{line_text, bits_shown};
+ghost use Rattle.std.specs.Prelude.{◌≡◌, ◌+◌, ◌*◌, ◌≤◌, ◌++◌, [], length, map, codes, decimal, IfOk};
+ghost use Rattle.dch_bits.specs.Text.{letter_of, cell_letter};
+ghost use Rattle.hex.specs.Hex.{encode_lower};
+ghost use Rattle.dch_script.specs.Report.{bits_shown, cells_shown, dir_word, iub_text, line_text, octets_shown, pair_text, phy_text, place_text, unit_text, words_text};
 
-use dch_bits::{Bit, NoMemory, bits_text};
+use dch_bits::{Bit, NoMemory, Trit, bits_text, trits_text};
+use dch_types::Dir;
+use hex::encode_to_slice;
 use itoa::Buffer;
 use std::alloc::Global;
 use std::marker::Model;
 
-/// A line of a report.
+/// A line of a report. A direction is that in which the data travels.
 #[derive(Clone, Copy, Debug)]
 pub enum Line<'a> {
+    /// `open`: the configuration is accepted, and all memory is taken.
+    Open,
+    /// `took DIR BEARER`: a unit was accepted.
+    Took {
+        dir: Dir,
+        bearer: u8,
+    },
+    /// `full DIR BEARER`: a unit was not accepted, since the buffer has no room for it.
+    Full {
+        dir: Dir,
+        bearer: u8,
+    },
+    /// `wrong DIR BEARER`: a unit was not accepted, since it has a wrong size.
+    Wrong {
+        dir: Dir,
+        bearer: u8,
+    },
+    /// `iubdown SET HEX` or `iubup SET HEX`: an Iub frame is sent.
+    Iub {
+        dir: Dir,
+        set: u8,
+        frame: &'a [u8],
+    },
+    /// `phydown TFCI CELLS` or `phyup TFCI CELLS`: a radio frame is sent.
+    Phy {
+        dir: Dir,
+        tfci: &'a [Bit],
+        cells: &'a [Trit],
+    },
+    /// `phydown none`: no radio frame is sent.
+    PhyNone,
+    /// `badtti DIR CHANNEL N`: a TTI can't be read, since its radio frame N is bad.
+    BadTti {
+        dir: Dir,
+        channel: u8,
+        frame: u8,
+    },
+    /// `bad DIR CHANNEL N`: block N of a TTI isn't taken.
+    Bad {
+        dir: Dir,
+        channel: u8,
+        block: u8,
+    },
+    /// `iubbad DIR SET N`: an Iub frame is refused by the cause with this number.
+    IubBad {
+        dir: Dir,
+        set: u8,
+        number: u8,
+    },
+    /// `reserved DIR CHANNEL`: the C/T field of a block is the reserved one.
+    Reserved {
+        dir: Dir,
+        channel: u8,
+    },
+    /// `nobearer DIR CHANNEL CT`: no bearer of the channel has this logical channel.
+    NoBearer {
+        dir: Dir,
+        channel: u8,
+        ct: u8,
+    },
+    /// `nobody DIR CHANNEL`: the channel has no bearer.
+    Nobody {
+        dir: Dir,
+        channel: u8,
+    },
+    /// `pdubad DIR BEARER N`: a PDU is refused by the cause with this number.
+    PduBad {
+        dir: Dir,
+        bearer: u8,
+        number: u8,
+    },
+    /// `outside DIR BEARER`: a PDU or a status is outside the window.
+    Outside {
+        dir: Dir,
+        bearer: u8,
+    },
+    /// `overlong DIR BEARER`: a unit of more than 1,500 octets ended.
+    Overlong {
+        dir: Dir,
+        bearer: u8,
+    },
+    /// `got DIR BEARER BITS`: a unit of a transparent bearer is handed up.
+    GotBits {
+        dir: Dir,
+        bearer: u8,
+        bits: &'a [Bit],
+    },
+    /// `got DIR BEARER HEX`: a unit is handed up.
+    GotOctets {
+        dir: Dir,
+        bearer: u8,
+        octets: &'a [u8],
+    },
+    /// `false DIR CHANNEL`: blocks are taken as good that were not given so.
+    Differs {
+        dir: Dir,
+        channel: u8,
+    },
     /// `coded BITS`: the coded bits of a transport block.
-    Coded { bits: &'a [Bit] },
+    Coded {
+        bits: &'a [Bit],
+    },
+    /// `end frames=N`: the end of a script of so many radio frames.
+    EndFrames(u64),
     /// `end lines=N`: the end of `encode`, after so many lines that aren't empty.
     EndLines(u64),
+    /// `accepted count=N`: the end of `check`.
+    Accepted(u128),
 }
 
 /// A text of lines in memory that is taken once.
@@ -72,16 +179,7 @@ impl Report {
         ensures text { self.new ≡ record self.old { text = self.old.text ++ line_text line.now } }
         ensures len { length self.new.text ≡ length self.old.text + length (line_text line.now) }
     {
-        match line {
-            Line::Coded { bits } => {
-                self.put_text(b"coded ");
-                self.put_bits(bits);
-            }
-            Line::EndLines(count) => {
-                self.put_text(b"end lines=");
-                self.put_number(*count);
-            }
-        }
+        self.put_words(line);
         self.put_text(b"\n");
     }
 
@@ -105,9 +203,163 @@ impl Report {
         self.put_text(Buffer::new().format(number).as_bytes());
     }
 
+    /// Appends a line without its line feed.
+    fn put_words(&mut self, line: &Line<'_>)
+        requires { length self.old.text + length (words_text line.now) ≤ self.old.most }
+        ensures text { self.new ≡ record self.old { text = self.old.text ++ words_text line.now } }
+        ensures len { length self.new.text ≡ length self.old.text + length (words_text line.now) }
+    {
+        match *line {
+            Line::Open => self.put_text(b"open"),
+            Line::Took { dir, bearer } => self.put_place(b"took ", dir, bearer),
+            Line::Full { dir, bearer } => self.put_place(b"full ", dir, bearer),
+            Line::Wrong { dir, bearer } => self.put_place(b"wrong ", dir, bearer),
+            Line::Iub { dir, set, frame } => self.put_iub(dir, set, frame),
+            Line::Phy { dir, tfci, cells } => self.put_phy(dir, tfci, cells),
+            Line::PhyNone => self.put_text(b"phydown none"),
+            Line::BadTti {
+                dir,
+                channel,
+                frame,
+            } => self.put_pair(b"badtti ", dir, channel, frame),
+            Line::Bad {
+                dir,
+                channel,
+                block,
+            } => self.put_pair(b"bad ", dir, channel, block),
+            Line::IubBad { dir, set, number } => self.put_pair(b"iubbad ", dir, set, number),
+            Line::Reserved { dir, channel } => self.put_place(b"reserved ", dir, channel),
+            Line::NoBearer { dir, channel, ct } => self.put_pair(b"nobearer ", dir, channel, ct),
+            Line::Nobody { dir, channel } => self.put_place(b"nobody ", dir, channel),
+            Line::PduBad {
+                dir,
+                bearer,
+                number,
+            } => self.put_pair(b"pdubad ", dir, bearer, number),
+            Line::Outside { dir, bearer } => self.put_place(b"outside ", dir, bearer),
+            Line::Overlong { dir, bearer } => self.put_place(b"overlong ", dir, bearer),
+            Line::GotBits { dir, bearer, bits } => self.put_unit_bits(dir, bearer, bits),
+            Line::GotOctets {
+                dir,
+                bearer,
+                octets,
+            } => self.put_unit_octets(dir, bearer, octets),
+            Line::Differs { dir, channel } => self.put_place(b"false ", dir, channel),
+            Line::Coded { bits } => self.put_coded(bits),
+            Line::EndFrames(count) => self.put_count(b"end frames=", u128::from(count)),
+            Line::EndLines(count) => self.put_count(b"end lines=", u128::from(count)),
+            Line::Accepted(count) => self.put_count(b"accepted count=", count),
+        }
+    }
+
+    fn put_count(&mut self, word: &[u8], count: u128)
+        requires { length self.old.text + length (word.now ++ decimal count) ≤ self.old.most }
+        ensures text { self.new ≡ record self.old { text = self.old.text ++ (word.now ++ decimal count) } }
+        ensures len { length self.new.text ≡ length self.old.text + length (word.now ++ decimal count) }
+    {
+        self.put_text(word);
+        self.put_text(Buffer::new().format(count).as_bytes());
+    }
+
+    /// A word, a direction and a number.
+    #[tactic(auto, unfolding(crate::specs::Report::place_text))]
+    fn put_place(&mut self, word: &[u8], dir: Dir, number: u8)
+        requires { length self.old.text + length (place_text word.now dir number) ≤ self.old.most }
+        ensures text { self.new ≡ record self.old { text = self.old.text ++ place_text word.now dir number } }
+        ensures len { length self.new.text ≡ length self.old.text + length (place_text word.now dir number) }
+    {
+        self.put_text(word);
+        self.put_dir(dir);
+        self.put_text(b" ");
+        self.put_number(u64::from(number));
+    }
+
+    /// The same, with one more number.
+    #[tactic(auto, unfolding(crate::specs::Report::pair_text))]
+    fn put_pair(&mut self, word: &[u8], dir: Dir, number: u8, more: u8)
+        requires { length self.old.text + length (pair_text word.now dir number more) ≤ self.old.most }
+        ensures text { self.new ≡ record self.old { text = self.old.text ++ pair_text word.now dir number more } }
+        ensures len { length self.new.text ≡ length self.old.text + length (pair_text word.now dir number more) }
+    {
+        self.put_place(word, dir, number);
+        self.put_text(b" ");
+        self.put_number(u64::from(more));
+    }
+
+    fn put_dir(&mut self, dir: Dir)
+        requires { length self.old.text + length (dir_word dir) ≤ self.old.most }
+        ensures text { self.new ≡ record self.old { text = self.old.text ++ dir_word dir } }
+        ensures len { length self.new.text ≡ length self.old.text + length (dir_word dir) }
+    {
+        match dir {
+            Dir::Up => self.put_text(b"up"),
+            Dir::Down => self.put_text(b"down"),
+        }
+    }
+
+    #[tactic(auto, unfolding(crate::specs::Report::iub_text))]
+    fn put_iub(&mut self, dir: Dir, set: u8, frame: &[u8])
+        requires { length self.old.text + length (iub_text dir set frame.now) ≤ self.old.most }
+        ensures text { self.new ≡ record self.old { text = self.old.text ++ iub_text dir set frame.now } }
+        ensures len { length self.new.text ≡ length self.old.text + length (iub_text dir set frame.now) }
+    {
+        self.put_text(b"iub");
+        self.put_dir(dir);
+        self.put_text(b" ");
+        self.put_number(u64::from(set));
+        self.put_text(b" ");
+        self.put_octets(frame);
+    }
+
+    #[tactic(auto, unfolding(crate::specs::Report::phy_text))]
+    fn put_phy(&mut self, dir: Dir, tfci: &[Bit], cells: &[Trit])
+        requires { length self.old.text + length (phy_text dir tfci.now cells.now) ≤ self.old.most }
+        ensures text { self.new ≡ record self.old { text = self.old.text ++ phy_text dir tfci.now cells.now } }
+        ensures len { length self.new.text ≡ length self.old.text + length (phy_text dir tfci.now cells.now) }
+    {
+        self.put_text(b"phy");
+        self.put_dir(dir);
+        self.put_text(b" ");
+        self.put_bits(tfci);
+        self.put_text(b" ");
+        self.put_cells(cells);
+    }
+
+    #[tactic(auto, unfolding(crate::specs::Report::unit_text))]
+    fn put_unit_bits(&mut self, dir: Dir, bearer: u8, bits: &[Bit])
+        requires { length self.old.text + length (unit_text dir bearer (bits_shown bits.now)) ≤ self.old.most }
+        ensures text { self.new ≡ record self.old { text = self.old.text ++ unit_text dir bearer (bits_shown bits.now) } }
+        ensures len { length self.new.text ≡ length self.old.text + length (unit_text dir bearer (bits_shown bits.now)) }
+    {
+        self.put_place(b"got ", dir, bearer);
+        self.put_text(b" ");
+        self.put_bits(bits);
+    }
+
+    #[tactic(auto, unfolding(crate::specs::Report::unit_text))]
+    fn put_unit_octets(&mut self, dir: Dir, bearer: u8, octets: &[u8])
+        requires { length self.old.text + length (unit_text dir bearer (octets_shown octets.now)) ≤ self.old.most }
+        ensures text { self.new ≡ record self.old { text = self.old.text ++ unit_text dir bearer (octets_shown octets.now) } }
+        ensures len { length self.new.text ≡ length self.old.text + length (unit_text dir bearer (octets_shown octets.now)) }
+    {
+        self.put_place(b"got ", dir, bearer);
+        self.put_text(b" ");
+        self.put_octets(octets);
+    }
+
+    fn put_coded(&mut self, bits: &[Bit])
+        requires { length self.old.text + length (codes "coded " ++ bits_shown bits.now) ≤ self.old.most }
+        ensures text { self.new ≡ record self.old { text = self.old.text ++ (codes "coded " ++ bits_shown bits.now) } }
+        ensures len { length self.new.text ≡ length self.old.text + length (codes "coded " ++ bits_shown bits.now) }
+    {
+        self.put_text(b"coded ");
+        self.put_bits(bits);
+    }
+
     fn put_bits(&mut self, bits: &[Bit])
         requires { length self.old.text + length (bits_shown bits.now) ≤ self.old.most }
-        ensures { self.new ≡ record self.old { text = self.old.text ++ bits_shown bits.now } }
+        ensures text { self.new ≡ record self.old { text = self.old.text ++ bits_shown bits.now } }
+        ensures len { length self.new.text ≡ length self.old.text + length (bits_shown bits.now) }
     {
         match bits {
             [] => self.put_text(b"."),
@@ -122,5 +374,57 @@ impl Report {
         let end = self.used + bits.len();
         bits_text(bits, &mut self.room[self.used..end]);
         self.used = end;
+    }
+
+    fn put_cells(&mut self, cells: &[Trit])
+        requires { length self.old.text + length (cells_shown cells.now) ≤ self.old.most }
+        ensures text { self.new ≡ record self.old { text = self.old.text ++ cells_shown cells.now } }
+        ensures len { length self.new.text ≡ length self.old.text + length (cells_shown cells.now) }
+    {
+        match cells {
+            [] => self.put_text(b"."),
+            [_, ..] => self.put_cell_letters(cells),
+        }
+    }
+
+    fn put_cell_letters(&mut self, cells: &[Trit])
+        requires { length self.old.text + length cells.now ≤ self.old.most }
+        ensures { self.new ≡ record self.old { text = self.old.text ++ map cell_letter cells.now } }
+    {
+        let end = self.used + cells.len();
+        trits_text(cells, &mut self.room[self.used..end]);
+        self.used = end;
+    }
+
+    fn put_octets(&mut self, octets: &[u8])
+        requires { length self.old.text + length (octets_shown octets.now) ≤ self.old.most }
+        ensures text { self.new ≡ record self.old { text = self.old.text ++ octets_shown octets.now } }
+        ensures len { length self.new.text ≡ length self.old.text + length (octets_shown octets.now) }
+    {
+        match octets {
+            [] => self.put_text(b"."),
+            [_, ..] => self.put_hex(octets),
+        }
+    }
+
+    #[tactic(auto, using(crate::proofs::Shown::encode_lower_len))]
+    fn put_hex(&mut self, octets: &[u8])
+        requires { length self.old.text + length (encode_lower octets.now) ≤ self.old.most }
+        ensures { self.new ≡ record self.old { text = self.old.text ++ encode_lower octets.now } }
+    {
+        let end = self.used + 2 * octets.len();
+        hex_text(octets, &mut self.room[self.used..end]);
+        self.used = end;
+    }
+}
+
+/// Writes octets in lower-case hexadecimal.
+fn hex_text(octets: &[u8], out: &mut [u8])
+    requires { length out.old ≡ 2 * length octets.now }
+    ensures { out.new ≡ encode_lower octets.now }
+{
+    match encode_to_slice(octets, out) {
+        Ok(()) => {}
+        Err(_) => unreachable!(),
     }
 }

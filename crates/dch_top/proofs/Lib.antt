@@ -1,10 +1,5 @@
 pub mod Blocks
 pub mod Checks
 pub mod Complete
-pub mod Cuts
 pub mod Judging
-pub mod Parts
-pub mod Pieces
-pub mod Runs
-pub mod Steps
 pub mod Texts

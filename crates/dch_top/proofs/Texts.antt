@@ -1,11 +1,8 @@
--- The lengths of last lines.
+-- The length of the last line of `encode`.
 use Rattle.std.proofs.Common.{◌<◌, ◌≤◌, ◌^◌, ◌++◌, ℕ, length, arith, length-append}
 use Rattle.std.specs.Prelude.{decimal, codes}
-use Rattle.std.proofs.lemmas.Fmt.{length-decimal-le}
+use Rattle.dch_desk.proofs.Texts.{decimal_short}
 use Rattle.dch_top.specs.Said.{closing}
-
-pub decimal_short : (n : ℕ) → n < 2 ^ 64 → length (decimal n) ≤ 20
-decimal_short n small = length-decimal-le 20 n (omega arith) (omega arith) small
 
 pub closing_short : (n : ℕ) → n < 2 ^ 64 → length (closing n) ≤ 31
 unfolding closing

@@ -1,6 +1,4 @@
-pub mod Bounds
 pub mod Checked
-pub mod Desk
-pub mod Pieces
+pub mod Overlong
 pub mod Ran
 pub mod Said

@@ -1,119 +1,39 @@
 -- What a run answers, by the bytes that it took and wrote.
-use Rattle.std.specs.Prelude.{◌≡◌, ◌<◌, ◌≤◌, ◌⊎◌, ℕ, List, [], ◌∷◌, ◌++◌, All, IsOk, length, take, true, map, String, codes, string_bytes}
+use Rattle.std.specs.Prelude.{◌≡◌, ◌⊎◌, ℕ, List, [], All, IsOk, true, map, String, codes, string_bytes}
 use Rattle.std.specs.declared.alloc.Global.{Global}
-use Rattle.std.specs.Io.KnownBytes.{Consumes, Appends, IsAtEnd}
-use Rattle.dch_script.specs.Code.{longest, meaning}
-use Rattle.dch_script.specs.declared.event.LineError.{LineError}
-use Rattle.dch_script.specs.declared.event.LineError.TheVariants.{Long, Cut}
+use Rattle.std.specs.Io.KnownBytes.{Consumes, Appends}
+use Rattle.dch_io.specs.Ends.{End, Fails, IsCutShort}
+use Rattle.dch_script.specs.Code.{meaning}
 use Rattle.dch_words.specs.Says.{IsCommand, Says}
 use Rattle.dch_words.specs.declared.words.Verb.{Verb}
 use Rattle.dch_words.specs.declared.words.Verb.TheVariants.{Check, Encode}
 use Rattle.dch_words.specs.declared.words.Words.{Words}
-use Rattle.dch_io.specs.Ends.{End, Fails, IsCutShort}
-use Rattle.dch_script.specs.Lines.{lines_of, rest_of}
-use Rattle.dch_top.specs.Bounds.{most_bytes, most_of_a_piece}
+use Rattle.dch_desk.specs.Desk.{Work}
+use Rattle.dch_desk.specs.Followed.{FollowsInput}
+use Rattle.dch_desk.specs.Said.{is_empty}
+use Rattle.dch_desk.specs.declared.stop.Outcome.TheVariants.{Ok as Done, Refused as MetMalformed, ReadFault as FailedReading, WriteFault as FailedWriting, TooLong as TookTooMuch}
 use Rattle.dch_top.specs.Checked.{Checks}
-use Rattle.dch_top.specs.Said.{IsMalformed, is_empty, LinesSay, spoken, closing, refusal}
+use Rattle.dch_top.specs.Said.{encoding}
 use Rattle.dch_top.specs.declared.command.Status.{Status}
 use Rattle.dch_top.specs.declared.command.Status.TheVariants.{Ok, Refused, Usage, ReadFault, WriteFault, NoMemory, TooLong}
 
--- after these lines a whole line of the bytes taken is malformed
-pub record HasMalformed (taken : List ℕ) (good : List (List ℕ)) (why : LineError) : Type 0 where
-  pub line : List ℕ
-  pub more : List (List ℕ)
-  pub lines : lines_of taken ≡ good ++ (line ∷ more)
-  pub malformed : IsMalformed line why
+-- the work of `encode` before its first line
+abbrev pub beginning : Work (Unit {0})
+beginning = record { clerk = tt; line = []; text = []; bytes = 0; lines = 0; spoken = 0 }
 
--- these are the whole lines taken, and more bytes than a line may have follow without a line feed
-pub record IsOverlong (taken : List ℕ) (good : List (List ℕ)) : Type 0 where
-  pub lines : lines_of taken ≡ good
-  pub long : longest < length (rest_of taken)
+-- the source gave nothing, and the sink took nothing
+abbrev pub IsUntouched : End → End → Type 0
+IsUntouched source sink = Consumes source.before source.now [] × Appends sink.before sink.now []
 
--- these are the whole lines taken, and the input ended within a line
-pub record IsCutOff (source : End) (taken : List ℕ) (good : List (List ℕ)) : Type 0 where
-  pub end : IsAtEnd source.now
-  pub lines : lines_of taken ≡ good
-  pub some : 0 < length (rest_of taken)
-  pub short : length (rest_of taken) ≤ longest
-
--- a line is refused, after these good ones
-abbrev pub IsRefused : End → List ℕ → List (List ℕ) → LineError → Type 0
-IsRefused source taken good why = HasMalformed taken good why ⊎ (((why ≡ Long) × IsOverlong taken good) ⊎ ((why ≡ Cut) × IsCutOff source taken good))
-
--- the input was read to its end, each line of it is good, and the text of all is written
-pub record IsWhole (source : End) (taken written : List ℕ) : Type 0 where
-  pub end : IsAtEnd source.now
-  pub within : length taken ≤ most_bytes
-  pub ended : rest_of taken ≡ []
-  pub text : List ℕ
-  pub says : LinesSay (lines_of taken) text
-  pub all : written ≡ text ++ closing (spoken (lines_of taken))
-
--- the text of the good lines before a malformed one is written, and the line that says so
-pub record Refuses (source : End) (taken written : List ℕ) : Type 0 where
-  pub within : length taken ≤ most_bytes
-  pub good : List (List ℕ)
-  pub why : LineError
-  pub refused : IsRefused source taken good why
-  pub text : List ℕ
-  pub says : LinesSay good text
-  pub all : written ≡ text ++ refusal (length good) why
-
--- a read failed; each whole line taken is good, and its text is written
-pub record FailsReading (source : End) (taken written : List ℕ) : Type 0 where
-  pub fails : Fails source
-  pub within : length taken ≤ most_bytes
-  pub short : length (rest_of taken) ≤ longest
-  pub says : LinesSay (lines_of taken) written
-
--- what may follow the text of good lines: nothing, or the closing or refusal line
-abbrev pub MayFollow : End → List ℕ → List (List ℕ) → List ℕ → Type 0
-MayFollow source taken good last = (last ≡ []) ⊎ (((IsAtEnd source.now × (lines_of taken ≡ good) × (rest_of taken ≡ [])) × (last ≡ closing (spoken good))) ⊎ ((why : LineError) × (IsRefused source taken good why × (last ≡ refusal (length good) why))))
-
--- a write failed; a front of the text of some lines and of what may follow them is written, and the text of all
--- lines that came before the last piece
-pub record FailsWriting (source sink : End) (taken written : List ℕ) : Type 0 where
-  pub fails : Fails sink
-  pub within : length taken ≤ most_bytes
-  pub good : List (List ℕ)
-  pub more : List (List ℕ)
-  pub lines : lines_of taken ≡ good ++ more
-  pub text : List ℕ
-  pub says : LinesSay good text
-  pub last : List ℕ
-  pub follows : MayFollow source taken good last
-  pub cut : IsCutShort written (text ++ last)
-  pub old : List ℕ
-  pub piece : List ℕ
-  pub pieces : taken ≡ old ++ piece
-  pub small : length piece ≤ most_of_a_piece
-  pub old_text : List ℕ
-  pub old_says : LinesSay (lines_of old) old_text
-  pub since : List ℕ
-  pub begins : written ≡ old_text ++ since
-
--- more bytes were taken than may come; the text of the whole lines within the limit is written
-pub record IsTooLong (taken written : List ℕ) : Type 0 where
-  pub long : most_bytes < length taken
-  pub says : LinesSay (lines_of (take most_bytes taken)) written
-
--- what is written where the bytes taken are these
-abbrev pub AnswersTaken : End → End → List ℕ → List ℕ → Status → Type 0
-AnswersTaken source sink taken written Ok = IsWhole source taken written
-AnswersTaken source sink taken written Refused = Refuses source taken written
-AnswersTaken source sink taken written Usage = ⊥
-AnswersTaken source sink taken written ReadFault = FailsReading source taken written
-AnswersTaken source sink taken written WriteFault = FailsWriting source sink taken written
-AnswersTaken source sink taken written NoMemory = (taken ≡ []) × (written ≡ [])
-AnswersTaken source sink taken written TooLong = IsTooLong taken written
-
--- the source gave some bytes, and the sink took the answer to them
-pub record Encodes (source sink : End) (status : Status) : Type 0 where
-  pub taken : List ℕ
-  pub written : List ℕ
-  pub takes : Consumes source.before source.now taken
-  pub writes : Appends sink.before sink.now written
-  pub answers : AnswersTaken source sink taken written status
+-- what `encode` does: it follows the lines of its input
+abbrev pub Encodes : End → End → Status → Type 0
+Encodes source sink Ok = FollowsInput encoding source sink beginning tt [] Done
+Encodes source sink Refused = FollowsInput encoding source sink beginning tt [] MetMalformed
+Encodes source sink Usage = ⊥
+Encodes source sink ReadFault = FollowsInput encoding source sink beginning tt [] FailedReading
+Encodes source sink WriteFault = FollowsInput encoding source sink beginning tt [] FailedWriting
+Encodes source sink NoMemory = IsUntouched source sink
+Encodes source sink TooLong = FollowsInput encoding source sink beginning tt [] TookTooMuch
 
 abbrev pub usage : List ℕ
 usage = codes "usage: dch COMMAND [COUNT] [--start N] [--quiet]\n"

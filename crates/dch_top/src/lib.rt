@@ -3,10 +3,9 @@
 
 mod bench;
 mod check;
+mod coder;
 mod command;
-mod desk;
 mod encode;
-mod stop;
 
 pub use bench::Bench;
 pub use command::{Status, run};
