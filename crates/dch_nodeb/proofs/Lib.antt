@@ -1,0 +1,12 @@
+pub mod Arriving
+pub mod Departing
+pub mod Giving
+pub mod Going
+pub mod Keeping
+pub mod Lengths
+pub mod Opening
+pub mod Reading
+pub mod Receiving
+pub mod Serving
+pub mod Steady
+pub mod Texts

@@ -1,0 +1,142 @@
+-- The sets that are served one after another.
+use Rattle.std.proofs.Common.{◌≡◌, ◌≢◌, ◌+◌, ◌<◌, ◌∙◌, ◌++◌, ℕ, zero, suc, List, [], length, get_or, arith, refl, ap, ap₂, sym, subst, inl, inr, true, eq-eqb, add-one, append_assoc, length-append, get_or-set_same, get_or-set_other, None, ◌∷◌, append-nil}
+use Rattle.std.proofs.lemmas.List.{get_or_append_left, get_or_default, get_or_push, length-set}
+use Rattle.dch_types.specs.declared.channel.Dir.TheVariants.{Up}
+use Rattle.dch_accept.specs.HeldSets.{HeldSet}
+use Rattle.dch_iub.specs.Forms.{IsWrittenForm}
+use Rattle.dch_script.specs.Report.{iub_text}
+use Rattle.dch_nodeb.specs.Sending.{SendsUp}
+use Rattle.dch_nodeb.specs.Sets.{ends, set_frames, started}
+use Rattle.std.specs.Prelude.{◌==◌, if◌then◌else◌, slice_set}
+use Rattle.std.proofs.lemmas.Bool.Decides.{eqb_tells}
+use Rattle.dch_accept.specs.Plans.{Planned}
+use Rattle.dch_heard.specs.Kept.{Listened}
+use Rattle.dch_script.specs.Held.{Held as Text}
+use Rattle.dch_nodeb.specs.Moves.{AreNewLetters, AreServed, Served}
+use Rattle.dch_nodeb.specs.Opened.{AreLettersOf, IsLetterOf, IsReceiverOf}
+use Rattle.dch_nodeb.specs.Steps.{AreRead, ServesSet, as_line, joined}
+use Rattle.dch_nodeb.specs.Values.{Letter, Receiver, letter_at}
+
+-- the texts with another one for a set
+with_text : (ℕ → List ℕ) → ℕ → List ℕ → ℕ → List ℕ
+with_text texts set text s = if s == set then text else texts s
+
+with_text-here : (texts : ℕ → List ℕ) (set : ℕ) (text : List ℕ) → with_text texts set text set ≡ text
+unfolding with_text
+with_text-here texts set text = rw (eq-eqb set set refl) refl
+
+with_text-other : (texts : ℕ → List ℕ) (set : ℕ) (text : List ℕ) (s : ℕ) → s ≢ set → with_text texts set text s ≡ texts s
+unfolding with_text
+with_text-other texts set text s other = elim (eqb_tells s set) [
+  | inl same ↦ absurd (other same.1)
+  | inr is ↦ rw is.0 refl
+]
+
+-- texts that are the same
+joined-same : (f g : ℕ → List ℕ) (n : ℕ) → ((s : ℕ) → s < n → f s ≡ g s) → joined f n ≡ joined g n
+joined-same f g zero same = refl
+joined-same f g (suc n) same = ap₂ (λ (a b : List ℕ). a ++ b) (joined-same f g n (λ s early. same s (omega arith))) (same n (omega arith))
+
+joined-next : (texts : ℕ → List ℕ) (set : ℕ) (text : List ℕ) → joined (with_text texts set text) (set + 1) ≡ joined texts set ++ text
+joined-next texts set text =
+    rw add-one (ap₂ (λ (a b : List ℕ). a ++ b)
+    (joined-same (with_text texts set text) texts set (λ s early. with_text-other texts set text s (omega arith)))
+    (with_text-here texts set text))
+
+-- one more set was served
+pub served_next : (planned : Planned) (heard : Listened) (set : ℕ) (letters : List Letter) (letter : Letter) (receiver next : Receiver) (before now after : Text)
+    → AreServed planned heard set letters receiver before now → set < 8 → Served planned heard set letter next now after
+    → AreServed planned heard (set + 1) (slice_set letters set letter) next before after
+served_next planned heard set letters letter receiver next before now after are inside served =
+    let new : List Letter = slice_set letters set letter in
+    let room : set < length letters = subst (λ n. set < n) (sym are.letters_opened.all) inside in
+    let texts : ℕ → List ℕ = with_text are.texts set served.text in
+    let own : letter_at new set ≡ letter = get_or-set_same letters set letter _ room in
+    let others : (s : ℕ) → s ≢ set → letter_at new s ≡ letter_at letters s = (λ s other. get_or-set_other letters set s letter _ other) in
+    let here : ServesSet planned heard set (texts set) (letter_at new set).sent =
+    subst (λ (t : List ℕ). ServesSet planned heard set t (letter_at new set).sent) (sym (with_text-here are.texts set served.text))
+    (subst (λ (l : Letter). ServesSet planned heard set served.text l.sent) (sym own) served.serves) in
+    let there : (s : ℕ) → s < set → ServesSet planned heard s (texts s) (letter_at new s).sent =
+    (λ s early.
+    let apart : s ≢ set = omega arith in
+    subst (λ (t : List ℕ). ServesSet planned heard s t (letter_at new s).sent) (sym (with_text-other are.texts set served.text s apart))
+    (subst (λ (l : Letter). ServesSet planned heard s (are.texts s) l.sent) (sym (others s apart)) (are.sets s early))) in
+    let long : joined texts (set + 1) ≡ joined are.texts set ++ served.text = joined-next are.texts set served.text in
+    record {
+      texts = texts;
+      sets = λ s early. elim (eqb_tells s set) [
+        | inl same ↦ subst (λ k. ServesSet planned heard k (texts k) (letter_at new k).sent) (sym same.1) here
+        | inr other ↦ there s (let apart : s ≢ set = other.1 in omega arith)
+      ];
+      later = λ s late few. ap (λ (l : Letter). l.sent) (others s (omega arith)) ∙ are.later s (omega arith) few;
+      few = rw long (rw length-append (omega (arith, are.few, served.few)));
+      told = served.told ∙ ap (λ (t : Text). record t { text = t.text ++ served.text }) are.told ∙ ap (λ (t : List ℕ). record before { text = t }) (append_assoc before.text (joined are.texts set) served.text ∙ ap (λ (t : List ℕ). before.text ++ t) (sym long));
+      letters_opened = record {
+        all = length-set letters set letter ∙ are.letters_opened.all;
+        each = λ s few. elim (eqb_tells s set) [
+          | inl same ↦ subst (λ k. IsLetterOf planned k (letter_at new k)) (sym same.1) (subst (λ (l : Letter). IsLetterOf planned set l) (sym own) served.letter_opened)
+          | inr other ↦ subst (λ (l : Letter). IsLetterOf planned s l) (sym (others s other.1)) (are.letters_opened.each s few)
+        ];
+      };
+      receiver_opened = served.receiver_opened;
+      same = served.same;
+    }
+
+-- the frame of a set was sent
+pub sent_up : (planned : Planned) (heard : Listened) (set start : ℕ) (old new : Letter) (receiver : Receiver) (before after : Text) → SendsUp planned set start old new before after → AreRead planned heard set old.held
+    → ends (set_frames planned.config.uplink.side set) heard.cfn ≡ true → start ≡ started (set_frames planned.config.uplink.side set) heard.cfn → IsReceiverOf planned receiver → receiver.heard ≡ heard
+    → Served planned heard set new receiver before after
+sent_up planned heard set start old new receiver before after sends read over begun opened same = record {
+  text = as_line (iub_text Up set sends.octets);
+  few = sends.few;
+  serves = inr (inr (record {
+    over = over;
+    held = new.held;
+    read = subst (λ (h : HeldSet). AreRead planned heard set h) (sym sends.held) read;
+    octets = sends.octets;
+    written = subst (λ n. IsWrittenForm planned.config Up set sends.octets n planned.config.qe new.held) begun sends.written;
+    told = refl;
+    sent = sends.sent;
+  }));
+  told = sends.told;
+  letter_opened = sends.opened;
+  receiver_opened = opened;
+  same = same;
+}
+
+-- no set was served yet
+pub none_served : (planned : Planned) (letters : List Letter) (receiver : Receiver) (before : Text) → AreLettersOf planned letters → IsReceiverOf planned receiver
+    → ((s : ℕ) → s < 8 → (letter_at letters s).sent ≡ None) → AreServed planned receiver.heard 0 letters receiver before before
+none_served planned letters receiver before are opened quiet = record {
+  texts = λ s. [];
+  sets = λ s early. absurd (omega arith);
+  later = λ s late few. quiet s few;
+  few = omega arith;
+  told = ap (λ (t : List ℕ). record before { text = t }) (sym (append-nil before.text));
+  letters_opened = are;
+  receiver_opened = opened;
+  same = refl;
+}
+
+-- a letter, whatever stands for one past the end
+pub letter_in : (planned : Planned) (letters : List Letter) (set : ℕ) (other : Letter) → AreLettersOf planned letters → set < 8 → get_or letters set other ≡ letter_at letters set
+letter_in planned letters set other are few = get_or_default letters set other _ (omega (arith, are.all))
+
+-- a new letter at the end
+pub new_letter : (planned : Planned) (count : ℕ) (letters : List Letter) (letter : Letter) → AreNewLetters planned count letters → IsLetterOf planned count letter → letter.sent ≡ None
+    → AreNewLetters planned (count + 1) (letters ++ letter ∷ [])
+new_letter planned count letters letter are is quiet =
+    let own : letter_at (letters ++ letter ∷ []) count ≡ letter = get_or_push letters letter _ count are.all in
+    let others : (s : ℕ) → s < count → letter_at (letters ++ letter ∷ []) s ≡ letter_at letters s =
+    (λ s early. get_or_append_left letters (letter ∷ []) _ s (omega (arith, are.all))) in
+    record {
+      all = omega (arith, length-append letters (letter ∷ []), are.all);
+      each = λ s early. elim (eqb_tells s count) [
+        | inl same ↦ subst (λ n. IsLetterOf planned n (letter_at (letters ++ letter ∷ []) n)) (sym same.1) (subst (λ (l : Letter). IsLetterOf planned count l) (sym own) is)
+        | inr other ↦ (let apart : s ≢ count = other.1 in let less : s < count = omega arith in subst (λ (l : Letter). IsLetterOf planned s l) (sym (others s less)) (are.each s less))
+      ];
+      quiet = λ s early. elim (eqb_tells s count) [
+        | inl same ↦ ap (λ n. (letter_at (letters ++ letter ∷ []) n).sent) same.1 ∙ ap (λ (l : Letter). l.sent) own ∙ quiet
+        | inr other ↦ (let apart : s ≢ count = other.1 in let less : s < count = omega arith in ap (λ (l : Letter). l.sent) (others s less) ∙ are.quiet s less)
+      ];
+    }

@@ -1,0 +1,26 @@
+use Rattle.std.proofs.Common.{◌≡◌, ◌+◌, ◌∙◌, ℕ, ap, ap₂, sym, subst}
+use Rattle.dch_types.specs.declared.channel.Side.{Side}
+use Rattle.dch_types.specs.declared.channel.Trch.{Trch}
+use Rattle.dch_types.specs.Parts.{channel_at}
+use Rattle.dch_accept.specs.HeldSets.{held_at}
+use Rattle.dch_nodeb.specs.Moves.{AreGiven}
+use Rattle.dch_nodeb.specs.Sets.{starts}
+use Rattle.dch_nodeb.specs.Values.{Sender, place_at}
+use Rattle.dch_nodeb.proofs.Giving.{given_off, given_on}
+use Rattle.dch_nodeb.proofs.downlink.load.Goals as goal
+use Rattle.dch_nodeb.proofs.downlink.load.Goals.{then-starts, else-starts}
+
+pub loop-i-preserved : goal.loop-i-preserved
+loop-i-preserved c =
+    let planned = c.args.accepted.now in
+    let i : ℕ = c.loop-i.i in
+    let channel : c.channel_of-channel.result.now ≡ channel_at planned.config.downlink.side i = c.channel_of-channel.ensures.value ∙ ap (λ (side : Side). channel_at side i) c.downlink-side.ensures.value in
+    let test : starts (channel_at planned.config.downlink.side i).frames c.args.cfn ≡ c.starts.result =
+    ap₂ (λ (t : Trch) (n : ℕ). starts t.frames n) (sym channel) (sym c.from.ensures) ∙ sym c.starts.ensures.value in
+    elim c.if-starts.branch [
+      | then-starts w ↦ subst (λ (sender : Sender). AreGiven planned c.args.cfn (i + 1) c.args.places.now c.args.sender.now sender) (sym w.sender-is)
+          (given_on planned c.args.cfn i c.args.places.now w.blocks_of.result.now c.args.sender.now c.loop-i.sender w.load.new.self c.loop-i.invariant (test ∙ w.if-starts.true)
+          (w.blocks_of.ensures ∙ ap (λ (t : Trch). held_at (place_at c.args.places.now t.set).held.blocks i) channel) w.load.ensures)
+      | else-starts w ↦ subst (λ (sender : Sender). AreGiven planned c.args.cfn (i + 1) c.args.places.now c.args.sender.now sender) (sym w.sender-is)
+          (given_off planned c.args.cfn i c.args.places.now c.args.sender.now c.loop-i.sender c.loop-i.invariant (test ∙ w.if-starts.false))
+    ]

@@ -1,0 +1,10 @@
+pub mod History
+pub mod Moves
+pub mod Opened
+pub mod Rooms
+pub mod Sending
+pub mod Sets
+pub mod Standing
+pub mod State
+pub mod Steps
+pub mod Values

@@ -1,0 +1,182 @@
+-- What the parts of a Node B do in a step, each by itself.
+use Rattle.std.specs.Prelude.{◌≡◌, ◌≢◌, ◌<◌, ◌≤◌, ◌*◌, ◌%◌, ◌⊎◌, ◌++◌, ℕ, List, [], Option, Some, None, true, false, codes, length, slice_index}
+use Rattle.dch_types.specs.declared.channel.Dir.TheVariants.{Down}
+use Rattle.dch_types.specs.declared.channel.Side.{Side}
+use Rattle.dch_types.specs.declared.config.Config.{Config}
+use Rattle.dch_types.specs.Parts.{channel_at, format_number}
+use Rattle.dch_accept.specs.Blocks.{Held}
+use Rattle.dch_accept.specs.Frames.{Frame}
+use Rattle.dch_accept.specs.HeldSets.{IsIdleSet, IsSetOf, held_at}
+use Rattle.dch_accept.specs.Plans.{Planned}
+use Rattle.dch_loaded.specs.Loaded.{loaded_at}
+use Rattle.dch_heard.specs.Kept.{Listened, kept_at}
+use Rattle.dch_dlphy.specs.Frames.{IsFrame}
+use Rattle.dch_dlphy.specs.Loaded.{IsLoaded}
+use Rattle.dch_iub.specs.Answers.{IsCause}
+use Rattle.dch_iub.specs.Forms.{IsReadForm}
+use Rattle.dch_iub.specs.declared.error.IubError.{IubError}
+use Rattle.dch_script.specs.Held.{Held as Text}
+use Rattle.dch_script.specs.Report.{pair_text}
+use Rattle.dch_nodeb.specs.Opened.{AreLettersOf, ArePlacesOf, IsLetterOf, IsReceiverOf, IsSenderOf}
+use Rattle.dch_nodeb.specs.Sets.{set_frames, starts}
+use Rattle.dch_nodeb.specs.State.{Radio}
+use Rattle.dch_nodeb.specs.Steps.{KeepsRadio, ServesSet, as_line, joined, radio_text, refusal_number}
+use Rattle.dch_nodeb.specs.Values.{Letter, Place, Receiver, Sender, letter_at, place_at, radio_if}
+
+-- places for the first sets, with idle formats and no frame
+pub record AreNewPlaces (planned : Planned) (count : ℕ) (places : List Place) : Type 0 where
+  pub all : length places ≡ count
+  pub empty : (s : ℕ) → s < count → (place_at places s).cfn ≡ None
+  pub idle : (s : ℕ) → s < count → IsIdleSet planned.config Down s (place_at places s).held
+
+-- a place has a frame that was read
+pub record IsFilled (planned : Planned) (set : ℕ) (octets : List ℕ) (place : Place) : Type 0 where
+  pub cfn : ℕ
+  pub named : place.cfn ≡ Some cfn
+  pub read : IsReadForm planned.config Down set octets cfn 0 place.held
+
+-- a frame was read without a word
+pub record IsTaken (planned : Planned) (set : ℕ) (octets : List ℕ) (new : Place) (text : List ℕ) : Type 0 where
+  pub filled : IsFilled planned set octets new
+  pub quiet : text ≡ []
+
+-- or refused, which is told
+pub record IsRefused (planned : Planned) (set : ℕ) (octets : List ℕ) (old new : Place) (text : List ℕ) : Type 0 where
+  pub error : IubError
+  pub cause : IsCause planned.config Down set octets error
+  pub same : new ≡ old
+  pub told : text ≡ as_line (pair_text (codes "iubbad ") Down set (refusal_number error))
+
+-- an Iub frame came for a set
+pub record Keeps (planned : Planned) (set : ℕ) (octets : List ℕ) (old new : List Place) (before after : Text) : Type 0 where
+  pub opened : ArePlacesOf planned new
+  pub others : (s : ℕ) → s ≢ set → place_at new s ≡ place_at old s
+  pub text : List ℕ
+  pub few : length text ≤ 300
+  pub took : IsTaken planned set octets (place_at new set) text ⊎ IsRefused planned set octets (place_at old set) (place_at new set) text
+  pub told : after ≡ record before { text = before.text ++ text }
+
+-- a place is ready for a TTI that starts at a CFN: it has the blocks of its frame where that is the one of this CFN, and else of the
+-- idle formats; and it is empty
+pub record IsReady (cfn : ℕ) (old new : Place) : Type 0 where
+  pub fits : old.cfn ≡ Some cfn → new.held ≡ old.held
+  pub other : old.cfn ≢ Some cfn → (config : Config) (set : ℕ) → IsSetOf config Down set old.held → IsIdleSet config Down set new.held
+  pub empty : new.cfn ≡ None
+
+-- and so are those of the first sets whose TTI starts; all others are as they were
+pub record AreReady (planned : Planned) (cfn count : ℕ) (old new : List Place) : Type 0 where
+  pub opened : ArePlacesOf planned new
+  pub on : (s : ℕ) → s < count → starts (set_frames planned.config.downlink.side s) cfn ≡ true → IsReady cfn (place_at old s) (place_at new s)
+  pub off : (s : ℕ) → s < count → starts (set_frames planned.config.downlink.side s) cfn ≡ false → place_at new s ≡ place_at old s
+  pub later : (s : ℕ) → count ≤ s → place_at new s ≡ place_at old s
+
+-- the blocks of channel i are loaded, in the format that is noted
+pub record IsGiven (planned : Planned) (i : ℕ) (held : Held) (sender : Sender) : Type 0 where
+  pub loaded : IsLoaded planned i held.format held.bits (loaded_at sender.running.loaded i)
+  pub noted : slice_index sender.formats i ≡ held.format
+
+-- channel i is as it was
+pub record IsUntouched (i : ℕ) (old new : Sender) : Type 0 where
+  pub loaded : loaded_at new.running.loaded i ≡ loaded_at old.running.loaded i
+  pub noted : slice_index new.formats i ≡ slice_index old.formats i
+
+-- a channel was loaded, and no other one
+pub record Loads (planned : Planned) (channel : ℕ) (held : Held) (old new : Sender) : Type 0 where
+  pub opened : IsSenderOf planned new
+  pub given : IsGiven planned channel held new
+  pub others : (i : ℕ) → i ≢ channel → IsUntouched i old new
+  pub sent : new.sent ≡ old.sent
+
+-- the first channels whose TTI starts were loaded with the blocks of the places, and no other ones
+pub record AreGiven (planned : Planned) (cfn count : ℕ) (places : List Place) (old new : Sender) : Type 0 where
+  pub opened : IsSenderOf planned new
+  pub on : (i : ℕ) → i < count → starts (channel_at planned.config.downlink.side i).frames cfn ≡ true
+      → IsGiven planned i (held_at (place_at places (channel_at planned.config.downlink.side i).set).held.blocks i) new
+  pub off : (i : ℕ) → i < count → starts (channel_at planned.config.downlink.side i).frames cfn ≡ false → IsUntouched i old new
+  pub later : (i : ℕ) → count ≤ i → IsUntouched i old new
+  pub sent : new.sent ≡ old.sent
+
+-- the channels are noted in the formats of combination c
+abbrev pub RunsIn : Side → ℕ → List ℕ → Type 0
+RunsIn side c formats = (i : ℕ) → i < length side.channels → slice_index formats i ≡ format_number side c i
+
+-- no combination of the first ones has the noted formats
+abbrev pub RunsInNone : Side → ℕ → List ℕ → Type 0
+RunsInNone side count formats = (c : ℕ) → c < count → ¬ RunsIn side c formats
+
+-- the first combination with the noted formats
+pub record IsFirst (side : Side) (formats : List ℕ) (c : ℕ) : Type 0 where
+  pub listed : c < length side.combinations
+  pub runs : RunsIn side c formats
+  pub first : RunsInNone side c formats
+
+abbrev pub FindsFirst : Side → List ℕ → Option ℕ → Type 0
+FindsFirst side formats None = RunsInNone side (length side.combinations) formats
+FindsFirst side formats (Some c) = IsFirst side formats c
+
+-- a radio frame that is written of what is loaded
+pub record IsWritten (planned : Planned) (cfn : ℕ) (sender : Sender) (radio : Radio) : Type 0 where
+  pub combination : ℕ
+  pub is : IsFirst planned.config.downlink.side sender.formats combination
+  pub frame : Frame
+  pub written : IsFrame planned sender.running.loaded cfn combination frame
+  pub tfci : radio.tfci ≡ frame.tfci
+  pub cells : radio.cells ≡ frame.cells
+
+abbrev pub Writes : Planned → ℕ → Sender → Option Radio → Type 0
+Writes planned cfn sender None = RunsInNone planned.config.downlink.side (length planned.config.downlink.side.combinations) sender.formats
+Writes planned cfn sender (Some radio) = IsWritten planned cfn sender radio
+
+-- a radio frame was sent, or none
+pub record Sends (planned : Planned) (cfn : ℕ) (old new : Sender) (before after : Text) : Type 0 where
+  pub opened : IsSenderOf planned new
+  pub running : new.running ≡ old.running
+  pub formats : new.formats ≡ old.formats
+  pub writes : Writes planned cfn old (radio_if new.sent new.frame)
+  pub few : length (as_line (radio_text (radio_if new.sent new.frame))) ≤ 60000
+  pub told : after ≡ record before { text = before.text ++ as_line (radio_text (radio_if new.sent new.frame)) }
+
+-- the radio frame of the CFN is due: places are made ready, the channels that start are loaded, and the frame is sent
+pub record Departs (planned : Planned) (cfn : ℕ) (old new : List Place) (sender sent : Sender) (before after : Text) : Type 0 where
+  pub ready : AreReady planned cfn 8 old new
+  pub loaded : Sender
+  pub given : AreGiven planned cfn (length planned.config.downlink.side.channels) new sender loaded
+  pub sends : Sends planned cfn loaded sent before after
+
+-- a radio frame is kept for a CFN, or that it is missing
+pub record Hears (planned : Planned) (cfn : ℕ) (radio : Option Radio) (old new : Listened) : Type 0 where
+  pub last : new.cfn ≡ cfn
+  pub kept : KeepsRadio planned radio (kept_at new.frames (cfn % 8))
+  pub others : (k : ℕ) → k ≢ cfn % 8 → kept_at new.frames k ≡ kept_at old.frames k
+
+-- a set was served
+pub record Served (planned : Planned) (heard : Listened) (set : ℕ) (letter : Letter) (receiver : Receiver) (before after : Text) : Type 0 where
+  pub text : List ℕ
+  pub few : length text ≤ 300000
+  pub serves : ServesSet planned heard set text letter.sent
+  pub told : after ≡ record before { text = before.text ++ text }
+  pub letter_opened : IsLetterOf planned set letter
+  pub receiver_opened : IsReceiverOf planned receiver
+  pub same : receiver.heard ≡ heard
+
+-- the first sets were served, and the others send nothing
+pub record AreServed (planned : Planned) (heard : Listened) (count : ℕ) (letters : List Letter) (receiver : Receiver) (before after : Text) : Type 0 where
+  pub texts : ℕ → List ℕ
+  pub sets : (s : ℕ) → s < count → ServesSet planned heard s (texts s) (letter_at letters s).sent
+  pub later : (s : ℕ) → count ≤ s → s < 8 → (letter_at letters s).sent ≡ None
+  pub few : length (joined texts count) ≤ count * 300000
+  pub told : after ≡ record before { text = before.text ++ joined texts count }
+  pub letters_opened : AreLettersOf planned letters
+  pub receiver_opened : IsReceiverOf planned receiver
+  pub same : receiver.heard ≡ heard
+
+-- an uplink radio frame came, or is missing, and all sets were served
+pub record Receives (planned : Planned) (cfn : ℕ) (radio : Option Radio) (old : Listened) (letters : List Letter) (receiver : Receiver) (before after : Text) : Type 0 where
+  pub hears : Hears planned cfn radio old receiver.heard
+  pub served : AreServed planned receiver.heard 8 letters receiver before after
+
+-- the letters of the first sets are new
+pub record AreNewLetters (planned : Planned) (count : ℕ) (letters : List Letter) : Type 0 where
+  pub all : length letters ≡ count
+  pub each : (s : ℕ) → s < count → IsLetterOf planned s (letter_at letters s)
+  pub quiet : (s : ℕ) → s < count → (letter_at letters s).sent ≡ None

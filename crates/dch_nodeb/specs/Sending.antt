@@ -1,0 +1,35 @@
+-- Uplink Iub frames as they are sent and shown.
+use Rattle.std.specs.Prelude.{◌≡◌, ◌<◌, ◌≤◌, ◌++◌, ℕ, List, Option, Some, None, length}
+use Rattle.std.specs.Borrow.{Bor}
+use Rattle.dch_types.specs.declared.channel.Dir.TheVariants.{Up}
+use Rattle.dch_accept.specs.Plans.{Planned}
+use Rattle.dch_iub.specs.Forms.{IsWrittenForm}
+use Rattle.dch_script.specs.Held.{Held as Text}
+use Rattle.dch_script.specs.Report.{iub_text}
+use Rattle.dch_nodeb.specs.Opened.{IsLetterOf}
+use Rattle.dch_nodeb.specs.Steps.{as_line}
+use Rattle.dch_nodeb.specs.Values.{Letter, letter_at}
+
+-- octets that are lent, as a list
+abbrev pub octets_of : Option (Bor (List ℕ)) → Option (List ℕ)
+octets_of None = None
+octets_of (Some octets) = Some octets.now
+
+-- the first letters show nothing any more
+pub record AreHiddenTo (count : ℕ) (old new : List Letter) : Type 0 where
+  pub all : length new ≡ length old
+  pub each : (s : ℕ) → s < count → letter_at new s ≡ record (letter_at old s) { sent = None }
+  pub later : (s : ℕ) → count ≤ s → letter_at new s ≡ letter_at old s
+
+abbrev pub AreHidden : List Letter → List Letter → Type 0
+AreHidden old new = AreHiddenTo 8 old new
+
+-- the frame of a set's blocks is written and told
+pub record SendsUp (planned : Planned) (set start : ℕ) (old new : Letter) (before after : Text) : Type 0 where
+  pub opened : IsLetterOf planned set new
+  pub held : new.held ≡ old.held
+  pub octets : List ℕ
+  pub sent : new.sent ≡ Some octets
+  pub written : IsWrittenForm planned.config Up set octets start planned.config.qe new.held
+  pub few : length (as_line (iub_text Up set octets)) ≤ 300000
+  pub told : after ≡ record before { text = before.text ++ as_line (iub_text Up set octets) }

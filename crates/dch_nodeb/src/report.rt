@@ -1,0 +1,89 @@
+ghost use Rattle.std.specs.Prelude.{◌≡◌, ◌<◌, ◌≤◌, ◌+◌, ◌++◌, codes, length};
+ghost use Rattle.dch_types.specs.declared.channel.Dir.TheVariants.{Up, Down};
+ghost use Rattle.dch_script.specs.Report.{iub_text, pair_text, phy_text};
+ghost use Rattle.dch_nodeb.specs.Rooms.{HasRoomFor};
+ghost use Rattle.dch_nodeb.specs.Steps.{as_line, refusal_number};
+
+use dch_accept::FrameView;
+use dch_iub::IubError;
+use dch_script::{Line, Report};
+use dch_types::Dir;
+
+/// Reports an uplink Iub frame.
+pub fn put_iub(report: &mut Report, set: u8, frame: &[u8])
+    requires few { length frame.now ≤ 140000 }
+    requires room { HasRoomFor report.old 300000 }
+    ensures told { report.new ≡ record report.old { text = report.old.text ++ as_line (iub_text Up set frame.now) } }
+    ensures few { length (as_line (iub_text Up set frame.now)) ≤ 300000 }
+{
+    report.put(&Line::Iub {
+        dir: Dir::Up,
+        set,
+        frame,
+    });
+}
+
+/// Reports that the TTI of a channel can't be read.
+pub fn put_bad_tti(report: &mut Report, channel: u8, frame: u8)
+    requires room { HasRoomFor report.old 300 }
+    ensures told { report.new ≡ record report.old { text = report.old.text ++ as_line (pair_text (codes "badtti ") Up channel frame) } }
+    ensures few { length (as_line (pair_text (codes "badtti ") Up channel frame)) ≤ 300 }
+{
+    report.put(&Line::BadTti {
+        dir: Dir::Up,
+        channel,
+        frame,
+    });
+}
+
+/// Reports the cause for which an Iub frame is refused.
+pub fn put_refusal(report: &mut Report, set: u8, error: IubError)
+    requires room { HasRoomFor report.old 300 }
+    ensures told { report.new ≡ record report.old { text = report.old.text ++ as_line (pair_text (codes "iubbad ") Down set (refusal_number error)) } }
+    ensures few { length (as_line (pair_text (codes "iubbad ") Down set (refusal_number error))) ≤ 300 }
+{
+    report.put(&Line::IubBad {
+        dir: Dir::Down,
+        set,
+        number: refusal_number(error),
+    });
+}
+
+/// The number of a refusal.
+fn refusal_number(error: IubError) -> u8
+    ensures value { result ≡ refusal_number error }
+    ensures small { result ≤ 6 }
+{
+    match error {
+        IubError::Short => 1,
+        IubError::HeaderCheck => 2,
+        IubError::Control => 3,
+        IubError::Format(_) => 4,
+        IubError::Length => 5,
+        IubError::PayloadCheck => 6,
+    }
+}
+
+/// Reports a downlink radio frame.
+pub fn put_radio(report: &mut Report, frame: FrameView<'_>)
+    requires tfci { length frame.tfci.now ≤ 120 }
+    requires cells { length frame.cells.now ≤ 57240 }
+    requires room { HasRoomFor report.old 60000 }
+    ensures told { report.new ≡ record report.old { text = report.old.text ++ as_line (phy_text Down frame.entry.tfci.now frame.entry.cells.now) } }
+    ensures few { length (as_line (phy_text Down frame.entry.tfci.now frame.entry.cells.now)) ≤ 60000 }
+{
+    report.put(&Line::Phy {
+        dir: Dir::Down,
+        tfci: frame.tfci,
+        cells: frame.cells,
+    });
+}
+
+/// Reports that no downlink radio frame is sent.
+pub fn put_no_radio(report: &mut Report)
+    requires { HasRoomFor report.old 60000 }
+    ensures told { report.new ≡ record report.old { text = report.old.text ++ as_line (codes "phydown none") } }
+    ensures few { length (as_line (codes "phydown none")) ≤ 60000 }
+{
+    report.put(&Line::PhyNone);
+}
