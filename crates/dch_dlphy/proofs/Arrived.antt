@@ -22,7 +22,7 @@ use Rattle.dch_frame.proofs.Carried.{place_inside, rows_of, whole_rows}
 use Rattle.dch_frame.proofs.Codes.{code_back-inside, code_place-back}
 use Rattle.dch_accept.specs.Plans.{Planned}
 use Rattle.dch_heard.specs.Kept.{Kept, Listened, frame_at, tti_place}
-use Rattle.dch_loaded.specs.Loaded.{Loaded, loaded_at}
+use Rattle.dch_ttibuf.specs.Loaded.{Loaded, loaded_at}
 use Rattle.dch_heard.proofs.Sent.{sent_number}
 use Rattle.dch_dlphy.specs.Frames.{IsFrame, frame_cell, multiplexed_cell, places_before, places_of, sent_cell}
 use Rattle.dch_dlphy.specs.Kept.{IsHistoryOf, codes_in}

@@ -2,7 +2,7 @@ ghost use Rattle.std.specs.Prelude.{◌≡◌, ◌<◌, ◌≤◌, ℕ, List, So
 ghost use Rattle.dch_accept.specs.Frames.{Frame};
 ghost use Rattle.dch_accept.specs.Plans.{Planned};
 ghost use Rattle.dch_heard.specs.Kept.{Kept};
-ghost use Rattle.dch_loaded.specs.Loaded.{Loaded};
+ghost use Rattle.dch_ttibuf.specs.Loaded.{Loaded};
 ghost use Rattle.dch_dlphy.specs.Frames.{IsFrame};
 ghost use Rattle.dch_dlphy.specs.Kept.{AreBack, IsKept};
 

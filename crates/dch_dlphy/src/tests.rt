@@ -1,5 +1,5 @@
 ghost use Rattle.std.specs.Prelude.{◌≡◌, ◌<◌, true, length};
-ghost use Rattle.dch_loaded.specs.Loaded.{AreFormats};
+ghost use Rattle.dch_ttibuf.specs.Loaded.{AreFormats};
 ghost use Rattle.dch_dlphy.specs.Loaded.{IsTtiOf};
 
 use crate::parts::{pattern_of, places_of};
@@ -83,10 +83,10 @@ fn is_ready(accepted: &Accepted, tti: &DlTti, combination: u16) -> bool
     if combination as usize >= side.combinations.len() {
         return false;
     }
-    let slots = tti.slots();
+    let tti_buffers = tti.tti_buffers();
     for i in 0..side.channels.len() {
         let format = crate::parts::format_of(accepted, combination, i as u8);
-        if slots[i].format() != Some(format) {
+        if tti_buffers[i].format() != Some(format) {
             return false;
         }
     }

@@ -5,7 +5,7 @@ ghost use Rattle.dch_types.specs.Parts.{channel_at, format_at};
 ghost use Rattle.dch_match.specs.Patterns.{IsWellFormed, copies_below};
 ghost use Rattle.dch_coding.specs.Ttis.{IsCodedTti};
 ghost use Rattle.dch_accept.specs.Blocks.{bits_of};
-ghost use Rattle.dch_loaded.specs.Loaded.{loaded_at};
+ghost use Rattle.dch_ttibuf.specs.Loaded.{loaded_at};
 ghost use Rattle.dch_dlphy.specs.Loaded.{IsLoaded, IsMatched, IsTtiOf};
 
 use crate::fill::fill_front;
@@ -15,8 +15,8 @@ use dch_bits::{Bit, NoMemory, Trit};
 use dch_coding::TtiCoder;
 use dch_frame::Interleaver;
 use dch_heard::format_of;
-use dch_loaded::{MOST_CELLS, Slot, slots};
 use dch_match::Pattern;
+use dch_ttibuf::{MOST_CELLS, TtiBuffer, tti_buffers};
 use dch_types::{Format, Trch};
 use std::alloc::Global;
 use std::marker::Model;
@@ -54,7 +54,7 @@ impl Room {
         pattern: &Pattern,
         places: u32,
         blocks: &[Bit],
-        slot: &mut Slot,
+        buffer: &mut TtiBuffer,
     )
         requires channel { IsChannel channel.now }
         requires format { format < length channel.now.formats }
@@ -63,7 +63,7 @@ impl Room {
         requires len { pattern.now.len ≡ tti_bits channel.now (format_at channel.now format) }
         requires fits { copies_below pattern.now.kind pattern.now.len ≤ channel.now.frames * places }
         requires room { channel.now.frames * places ≤ 457920 }
-        ensures { IsMatched channel.now format (record { pattern = pattern.now; cells = places }) blocks.now slot.new }
+        ensures { IsMatched channel.now format (record { pattern = pattern.now; cells = places }) blocks.now buffer.new }
     {
         let kind = format_of(channel, format);
         let bits = code_front(&mut self.coder, channel, kind, blocks, &mut self.coded);
@@ -76,7 +76,7 @@ impl Room {
             &mut self.tti,
             count,
         );
-        slot.load(format, frames, &self.tti[..count]);
+        buffer.load(format, frames, &self.tti[..count]);
     }
 }
 
@@ -104,7 +104,7 @@ fn code_front(
 pub struct DlTti {
     room: Room,
     interleaver: Interleaver,
-    slots: Vec<Slot>,
+    tti_buffers: Vec<TtiBuffer>,
 }
 
 impl Model for DlTti {
@@ -112,7 +112,7 @@ impl Model for DlTti {
 
     ghost Value = { Running };
 
-    ghost view = { λ t. record { loaded = t.slots.items; code = t.interleaver } };
+    ghost view = { λ t. record { loaded = t.tti_buffers.items; code = t.interleaver } };
 }
 
 impl DlTti {
@@ -124,7 +124,7 @@ impl DlTti {
         Ok(DlTti {
             room: Room::open(alloc)?,
             interleaver: Interleaver::open(alloc, code_length(config))?,
-            slots: slots(alloc, config.side.channels.len())?,
+            tti_buffers: tti_buffers(alloc, config.side.channels.len())?,
         })
     }
 
@@ -142,17 +142,18 @@ impl DlTti {
         let trch = channel_of(accepted, channel);
         let pattern = pattern_of(accepted, channel, format);
         let places = places_of(accepted, channel, format);
-        let slot = &mut self.slots[channel as usize];
-        self.room.load(trch, format, &pattern, places, blocks, slot);
+        let buffer = &mut self.tti_buffers[channel as usize];
+        self.room
+            .load(trch, format, &pattern, places, blocks, buffer);
     }
 }
 
 impl DlTti {
     /// What is loaded of each channel.
-    pub(crate) fn slots(&self) -> &[Slot]
+    pub(crate) fn tti_buffers(&self) -> &[TtiBuffer]
         ensures { result.now ≡ self.now.loaded }
     {
-        &self.slots
+        &self.tti_buffers
     }
 
     /// The second interleaver of a code.

@@ -3,7 +3,7 @@ ghost use Rattle.dch_bits.specs.declared.bit.Trit.TheVariants.{Off};
 ghost use Rattle.dch_types.specs.declared.channel.Dir.TheVariants.{Down};
 ghost use Rattle.dch_match.specs.Downlinks.{ndata_of};
 ghost use Rattle.dch_accept.specs.Frames.{IsOpenedFor};
-ghost use Rattle.dch_loaded.specs.Loaded.{AreFormats};
+ghost use Rattle.dch_ttibuf.specs.Loaded.{AreFormats};
 ghost use Rattle.dch_dlphy.specs.Loaded.{AreLong, IsTtiOf};
 ghost use Rattle.dch_dlphy.specs.Frames.{IsFrame, frame_cell, multiplexed_cell, places_of, sent_cell};
 
@@ -13,8 +13,8 @@ use crate::tti::DlTti;
 use dch_accept::{Accepted, PhyFrame};
 use dch_bits::Trit;
 use dch_heard::frames_of;
-use dch_loaded::Slot;
 use dch_tfci::send;
+use dch_ttibuf::TtiBuffer;
 
 /// Writes the radio frame of a CFN in a combination: its TFCI, and of each channel the radio frame of its TTI that is on
 /// (TS 25.212 4.2.6 to 4.2.12, 4.3.3, 4.3.5).
@@ -53,19 +53,25 @@ fn write_cells(
     ensures { (k : ℕ) → k < count → slice_index_or out.new k Off ≡ frame_cell accepted.now tti.now.loaded cfn combination k }
 {
     let (cells, stream) = out.split_at_mut(count);
-    multiplex(accepted, tti.slots(), cfn, combination, stream);
+    multiplex(accepted, tti.tti_buffers(), cfn, combination, stream);
     tti.interleaver().write(stream, cells);
 }
 
 /// Writes the channels' cells one after another. Nothing is sent in the places past the last of them (the second insertion
 /// of DTX indications, TS 25.212 4.2.9.2).
-fn multiplex(accepted: &Accepted, slots: &[Slot], cfn: u8, combination: u16, out: &mut [Trit])
-    requires long { AreLong accepted.now slots.now }
+fn multiplex(
+    accepted: &Accepted,
+    tti_buffers: &[TtiBuffer],
+    cfn: u8,
+    combination: u16,
+    out: &mut [Trit],
+)
+    requires long { AreLong accepted.now tti_buffers.now }
     requires combination { combination < length accepted.now.config.downlink.side.combinations }
-    requires formats { AreFormats accepted.now.config.downlink.side combination slots.now }
+    requires formats { AreFormats accepted.now.config.downlink.side combination tti_buffers.now }
     requires room { length out.old ≡ ndata_of accepted.now.config.downlink }
     requires small { length out.old ≤ 57240 }
-    ensures { (p : ℕ) → p < length out.new → slice_index_or out.new p Off ≡ multiplexed_cell accepted.now slots.now cfn combination (length accepted.now.config.downlink.side.channels) p }
+    ensures { (p : ℕ) → p < length out.new → slice_index_or out.new p Off ≡ multiplexed_cell accepted.now tti_buffers.now cfn combination (length accepted.now.config.downlink.side.channels) p }
 {
     let channels = accepted.config().downlink.side.channels.len();
     let mut at = 0;
@@ -73,7 +79,7 @@ fn multiplex(accepted: &Accepted, slots: &[Slot], cfn: u8, combination: u16, out
         let end = at + places_in(accepted, combination, i as u8);
         write_channel(
             accepted,
-            slots,
+            tti_buffers,
             cfn,
             combination,
             i as u8,
@@ -88,21 +94,21 @@ fn multiplex(accepted: &Accepted, slots: &[Slot], cfn: u8, combination: u16, out
 /// Writes what a channel sends: the segment of one radio frame.
 fn write_channel(
     accepted: &Accepted,
-    slots: &[Slot],
+    tti_buffers: &[TtiBuffer],
     cfn: u8,
     combination: u16,
     i: u8,
     out: &mut [Trit],
 )
-    requires long { AreLong accepted.now slots.now }
+    requires long { AreLong accepted.now tti_buffers.now }
     requires combination { combination < length accepted.now.config.downlink.side.combinations }
-    requires formats { AreFormats accepted.now.config.downlink.side combination slots.now }
+    requires formats { AreFormats accepted.now.config.downlink.side combination tti_buffers.now }
     requires channel { i < length accepted.now.config.downlink.side.channels }
     requires room { length out.old ≡ places_of accepted.now combination i }
-    ensures { (q : ℕ) → q < length out.new → slice_index_or out.new q Off ≡ sent_cell accepted.now slots.now cfn combination i q }
+    ensures { (q : ℕ) → q < length out.new → slice_index_or out.new q Off ≡ sent_cell accepted.now tti_buffers.now cfn combination i q }
 {
     let n = cfn % frames_of(&accepted.config().downlink.side, i);
-    copy_segment(slots[i as usize].cells(), n, out);
+    copy_segment(tti_buffers[i as usize].cells(), n, out);
 }
 
 /// Copies the cells of radio frame `n` of a TTI whose frames have so many cells as `out`.

@@ -12,7 +12,7 @@ use Rattle.dch_accept.specs.Blocks.{Held}
 use Rattle.dch_accept.specs.declared.set_blocks.Idle.{Idle}
 use Rattle.dch_accept.specs.HeldSets.{HeldSet, IsIdleSet, IsSetOf, idle_at}
 use Rattle.dch_accept.specs.Plans.{Planned}
-use Rattle.dch_loaded.specs.Loaded.{Loaded, loaded_at}
+use Rattle.dch_ttibuf.specs.Loaded.{Loaded, loaded_at}
 use Rattle.dch_dlphy.specs.Loaded.{IsLoaded, Running}
 use Rattle.dch_script.specs.Held.{Held as Text}
 use Rattle.dch_nodeb.specs.Moves.{AreGiven, AreReady, Departs, IsReady, RunsIn, Writes}

@@ -5,7 +5,7 @@ use Rattle.dch_types.specs.Parts.{channel_at}
 use Rattle.dch_accept.specs.Blocks.{Held}
 use Rattle.dch_accept.specs.HeldSets.{held_at}
 use Rattle.dch_accept.specs.Plans.{Planned}
-use Rattle.dch_loaded.specs.Loaded.{Loaded}
+use Rattle.dch_ttibuf.specs.Loaded.{Loaded}
 use Rattle.dch_dlphy.specs.Loaded.{IsLoaded}
 use Rattle.dch_nodeb.specs.Moves.{AreGiven, IsGiven, IsUntouched, Loads}
 use Rattle.dch_nodeb.specs.Sets.{starts}

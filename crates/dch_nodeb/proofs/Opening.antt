@@ -4,7 +4,7 @@ use Rattle.std.specs.Prelude.{◌%◌}
 use Rattle.dch_types.specs.Limits.{IsSide}
 use Rattle.dch_types.specs.Parts.{channel_at}
 use Rattle.dch_accept.specs.Plans.{Planned}
-use Rattle.dch_loaded.specs.Loaded.{loaded_at}
+use Rattle.dch_ttibuf.specs.Loaded.{loaded_at}
 use Rattle.dch_ulphy.specs.Kept.{AreMissing}
 use Rattle.dch_dlphy.specs.Loaded.{IsLoaded}
 use Rattle.dch_nodeb.specs.Moves.{AreGiven, AreNewLetters, AreNewPlaces}

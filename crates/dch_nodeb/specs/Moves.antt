@@ -8,7 +8,7 @@ use Rattle.dch_accept.specs.Blocks.{Held}
 use Rattle.dch_accept.specs.Frames.{Frame}
 use Rattle.dch_accept.specs.HeldSets.{IsIdleSet, IsSetOf, held_at}
 use Rattle.dch_accept.specs.Plans.{Planned}
-use Rattle.dch_loaded.specs.Loaded.{loaded_at}
+use Rattle.dch_ttibuf.specs.Loaded.{loaded_at}
 use Rattle.dch_heard.specs.Kept.{Listened, kept_at}
 use Rattle.dch_dlphy.specs.Frames.{IsFrame}
 use Rattle.dch_dlphy.specs.Loaded.{IsLoaded}

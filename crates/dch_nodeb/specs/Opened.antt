@@ -5,7 +5,7 @@ use Rattle.dch_accept.specs.Blocks.{HoldsTtis}
 use Rattle.dch_accept.specs.Frames.{IsOpenedFor}
 use Rattle.dch_accept.specs.HeldSets.{IsSetOf}
 use Rattle.dch_accept.specs.Plans.{Planned}
-use Rattle.dch_loaded.specs.Loaded.{Loaded, loaded_at}
+use Rattle.dch_ttibuf.specs.Loaded.{Loaded, loaded_at}
 use Rattle.dch_dlphy.specs.Loaded.{IsTtiOf}
 use Rattle.dch_ulphy.specs.Kept.{IsReaderOf}
 use Rattle.dch_iub.specs.Longest.{IsLongest}

@@ -2,7 +2,7 @@
 use Rattle.std.proofs.Common.{◌≡◌, ◌≢◌, ℕ, List, sym, ◌∙◌, ap, inl, inr}
 use Rattle.std.specs.Prelude.{Option, Some, None, slice_index_or}
 use Rattle.std.proofs.lemmas.Bool.{cases_eq}
-use Rattle.dch_loaded.specs.Loaded.{Loaded, loaded_at}
+use Rattle.dch_ttibuf.specs.Loaded.{Loaded, loaded_at}
 use Rattle.dch_trips.specs.Trips.{AreNoted}
 
 -- one more channel is loaded and noted

@@ -5,7 +5,7 @@ use Rattle.dch_config.specs.Bearers.{side_of}
 use Rattle.dch_accept.specs.Blocks.{HoldsTtis}
 use Rattle.dch_accept.specs.Frames.{IsOpenedFor}
 use Rattle.dch_accept.specs.Plans.{Planned}
-use Rattle.dch_loaded.specs.Loaded.{Loaded, loaded_at}
+use Rattle.dch_ttibuf.specs.Loaded.{Loaded, loaded_at}
 use Rattle.dch_trips.specs.declared.trip.Trip.{Trip}
 
 -- each format that is noted was loaded

@@ -5,7 +5,7 @@ ghost use Rattle.dch_config.specs.Bearers.{side_of};
 ghost use Rattle.dch_accept.specs.Blocks.{HoldsTtis, bits_of};
 ghost use Rattle.dch_accept.specs.Frames.{IsOpenedFor};
 ghost use Rattle.dch_accept.specs.Plans.{Planned};
-ghost use Rattle.dch_loaded.specs.Loaded.{AreFormats, Loaded, loaded_at};
+ghost use Rattle.dch_ttibuf.specs.Loaded.{AreFormats, Loaded, loaded_at};
 
 use dch_accept::{Accepted, PhyFrame, TtiBlocks};
 use dch_bits::Bit;

@@ -11,7 +11,7 @@ use Rattle.dch_bits.specs.declared.bit.Trit.TheVariants.{Off}
 use Rattle.dch_inter.specs.Places.{IsFrames, first_column, first_of}
 use Rattle.dch_inter.proofs.FirstColumns.{frame_of_column, frame_of-below}
 use Rattle.dch_frame.specs.Stages.{as_cell}
-use Rattle.dch_loaded.specs.Loaded.{AreInterleaved as AreCellsInterleaved}
+use Rattle.dch_ttibuf.specs.Loaded.{AreInterleaved as AreCellsInterleaved}
 use Rattle.dch_ulphy.specs.Loaded.{AreInterleaved, padded}
 
 -- the first interleaver names places of its input

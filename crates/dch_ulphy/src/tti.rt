@@ -9,7 +9,7 @@ use crate::tables::Tables;
 use dch_accept::Accepted;
 use dch_bits::{Bit, NoMemory, Trit};
 use dch_coding::TtiCoder;
-use dch_loaded::{Slot, slots};
+use dch_ttibuf::{TtiBuffer, tti_buffers};
 use dch_types::Trch;
 use std::alloc::Global;
 use std::marker::Model;
@@ -21,7 +21,7 @@ pub struct UlTti {
     coded: Vec<Bit>,
     padded: Vec<Trit>,
     tables: Tables,
-    slots: Vec<Slot>,
+    tti_buffers: Vec<TtiBuffer>,
 }
 
 impl Model for UlTti {
@@ -30,7 +30,7 @@ impl Model for UlTti {
 
     ghost Value = { List Loaded };
 
-    ghost view = { λ t. t.slots.items };
+    ghost view = { λ t. t.tti_buffers.items };
 
     ghost invariant = { λ t. (length t.coded.items ≡ 131072) × (length t.padded.items ≡ 131072) };
 }
@@ -46,7 +46,7 @@ impl UlTti {
             coded: vec![in alloc; Bit::Zero; MOST_BITS]?,
             padded: vec![in alloc; Trit::Off; MOST_BITS]?,
             tables: Tables::open(alloc)?,
-            slots: slots(alloc, channels)?,
+            tti_buffers: tti_buffers(alloc, channels)?,
         })
     }
 
@@ -62,7 +62,7 @@ impl UlTti {
         ensures same { (i : ℕ) → i ≢ channel → loaded_at self.new i ≡ loaded_at self.old i }
     {
         let trch = &accepted.config().uplink.side.channels.as_slice()[channel as usize];
-        let slot = &mut self.slots[channel as usize];
+        let buffer = &mut self.tti_buffers[channel as usize];
         load(
             &mut self.coder,
             trch,
@@ -70,17 +70,17 @@ impl UlTti {
             blocks,
             &mut self.coded,
             &mut self.padded,
-            slot,
+            buffer,
         );
     }
 }
 
 impl UlTti {
     /// What is loaded of each channel.
-    pub(crate) fn slots(&self) -> &[Slot]
+    pub(crate) fn tti_buffers(&self) -> &[TtiBuffer]
         ensures { result.now ≡ self.now }
     {
-        &self.slots
+        &self.tti_buffers
     }
 
     /// The tables of the second interleaver.
@@ -97,20 +97,20 @@ fn load(
     blocks: &[Bit],
     coded: &mut [Bit],
     padded: &mut [Trit],
-    slot: &mut Slot,
+    buffer: &mut TtiBuffer,
 )
     requires channel { IsChannel channel.now }
     requires format { format < length channel.now.formats }
     requires blocks { length blocks.now ≡ bits_of (format_at channel.now format) }
     requires room { length coded.old ≡ 131072 }
     requires padded { length padded.old ≡ 131072 }
-    ensures loaded { IsLoaded channel.now format blocks.now slot.new }
-    ensures long { IsLong channel.now slot.new }
+    ensures loaded { IsLoaded channel.now format blocks.now buffer.new }
+    ensures long { IsLong channel.now buffer.new }
 {
     let kind = &channel.formats.as_slice()[format as usize];
     let coded = &mut coded[..channel.tti_bits(kind) as usize];
     coder.code(channel, kind, blocks, coded);
     let frames = channel.frames as usize;
     let len = pad(frames, coded, padded);
-    slot.load(format, frames, &padded[..len]);
+    buffer.load(format, frames, &padded[..len]);
 }

@@ -12,9 +12,9 @@ use dch_accept::{Accepted, PhyFrame};
 use dch_bits::Trit;
 use dch_frame::rate_match;
 use dch_heard::frames_of;
-use dch_loaded::Slot;
 use dch_match::frame;
 use dch_tfci::send;
+use dch_ttibuf::TtiBuffer;
 
 /// Writes the radio frame of a CFN in a combination: its TFCI, and of each channel the radio frame of its TTI that is on
 /// (TS 25.212 4.2.5 to 4.2.12, 4.3.3).
@@ -53,25 +53,38 @@ fn write_cells(
     ensures { (k : ℕ) → k < count → slice_index_or out.new k Off ≡ frame_cell accepted.now tti.now cfn combination k }
 {
     let (cells, stream) = out.split_at_mut(count);
-    multiplex(accepted, tti.slots(), cfn, combination, stream);
+    multiplex(accepted, tti.tti_buffers(), cfn, combination, stream);
     tti.tables().interleave(stream, cells);
 }
 
 /// Writes the channels' cells one after another.
-fn multiplex(accepted: &Accepted, slots: &[Slot], cfn: u8, combination: u16, out: &mut [Trit])
-    requires opened { IsTtiOf accepted.now.config.uplink.side slots.now }
+fn multiplex(
+    accepted: &Accepted,
+    tti_buffers: &[TtiBuffer],
+    cfn: u8,
+    combination: u16,
+    out: &mut [Trit],
+)
+    requires opened { IsTtiOf accepted.now.config.uplink.side tti_buffers.now }
     requires combination { combination < length accepted.now.config.uplink.side.combinations }
-    requires formats { AreFormats accepted.now.config.uplink.side combination slots.now }
+    requires formats { AreFormats accepted.now.config.uplink.side combination tti_buffers.now }
     requires room { length out.old ≡ (plan_at accepted.now.uplink combination).ndata }
     requires small { length out.old < 2 ^ 32 }
-    ensures { (p : ℕ) → p < length out.new → slice_index_or out.new p Off ≡ multiplexed_cell accepted.now slots.now cfn combination (length accepted.now.config.uplink.side.channels) p }
+    ensures { (p : ℕ) → p < length out.new → slice_index_or out.new p Off ≡ multiplexed_cell accepted.now tti_buffers.now cfn combination (length accepted.now.config.uplink.side.channels) p }
 {
     let channels = accepted.config().uplink.side.channels.len();
     let plan = accepted.uplink_plan(combination);
     let mut at = 0;
     for i in 0..channels {
         let end = at + plan.sent[i] as usize;
-        write_channel(accepted, slots, cfn, combination, i, &mut out[at..end]);
+        write_channel(
+            accepted,
+            tti_buffers,
+            cfn,
+            combination,
+            i,
+            &mut out[at..end],
+        );
         at = end;
     }
 }
@@ -79,18 +92,18 @@ fn multiplex(accepted: &Accepted, slots: &[Slot], cfn: u8, combination: u16, out
 /// Writes what a channel sends: the segment of one radio frame, after rate matching.
 fn write_channel(
     accepted: &Accepted,
-    slots: &[Slot],
+    tti_buffers: &[TtiBuffer],
     cfn: u8,
     combination: u16,
     i: usize,
     out: &mut [Trit],
 )
-    requires opened { IsTtiOf accepted.now.config.uplink.side slots.now }
+    requires opened { IsTtiOf accepted.now.config.uplink.side tti_buffers.now }
     requires combination { combination < length accepted.now.config.uplink.side.combinations }
-    requires formats { AreFormats accepted.now.config.uplink.side combination slots.now }
+    requires formats { AreFormats accepted.now.config.uplink.side combination tti_buffers.now }
     requires channel { i < length accepted.now.config.uplink.side.channels }
     requires room { length out.old ≡ slice_index (plan_at accepted.now.uplink combination).sent i }
-    ensures { (q : ℕ) → q < length out.new → slice_index_or out.new q Off ≡ sent_cell accepted.now slots.now cfn combination i q }
+    ensures { (q : ℕ) → q < length out.new → slice_index_or out.new q Off ≡ sent_cell accepted.now tti_buffers.now cfn combination i q }
 {
     let config = &accepted.config().uplink;
     let n = cfn % frames_of(&config.side, i as u8);
@@ -101,24 +114,28 @@ fn write_channel(
         i as u8,
         n,
     );
-    rate_match(&pattern, segment(slot_of(slots, i), n, pattern.len), out);
+    rate_match(
+        &pattern,
+        segment(buffer_of(tti_buffers, i), n, pattern.len),
+        out,
+    );
 }
 
 /// What is loaded of a channel.
-fn slot_of(slots: &[Slot], i: usize) -> &Slot
-    requires { i < length slots.now }
-    ensures { result.now ≡ loaded_at slots.now i }
+fn buffer_of(tti_buffers: &[TtiBuffer], i: usize) -> &TtiBuffer
+    requires { i < length tti_buffers.now }
+    ensures { result.now ≡ loaded_at tti_buffers.now i }
 {
-    &slots[i]
+    &tti_buffers[i]
 }
 
 /// The cells of radio frame `n` of a TTI whose frames have so many cells.
-fn segment(slot: &Slot, n: u8, cells: u32) -> &[Trit]
-    requires { n * cells + cells ≤ length slot.now.cells }
+fn segment(buffer: &TtiBuffer, n: u8, cells: u32) -> &[Trit]
+    requires { n * cells + cells ≤ length buffer.now.cells }
     ensures long { length result.now ≡ cells }
-    ensures shown { (m : ℕ) → m < cells → slice_index_or result.now m Off ≡ slice_index_or slot.now.cells (n * cells + m) Off }
+    ensures shown { (m : ℕ) → m < cells → slice_index_or result.now m Off ≡ slice_index_or buffer.now.cells (n * cells + m) Off }
 {
     let cells = cells as usize;
     let from = n as usize * cells;
-    &slot.cells()[from..from + cells]
+    &buffer.cells()[from..from + cells]
 }

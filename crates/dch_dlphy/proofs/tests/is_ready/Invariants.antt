@@ -1,6 +1,6 @@
 use Rattle.std.proofs.Common.{◌≡◌, ◌<◌, ℕ, Some}
 use Rattle.dch_types.specs.Parts.{format_number}
-use Rattle.dch_loaded.specs.Loaded.{loaded_at}
+use Rattle.dch_ttibuf.specs.Loaded.{loaded_at}
 use Rattle.dch_dlphy.proofs.tests.is_ready.Given as goal
 
 abbrev pub invariant-loop-i : goal.invariant-loop-i

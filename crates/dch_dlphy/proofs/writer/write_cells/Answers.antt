@@ -26,4 +26,4 @@ returns c k inside =
     get_or_append_left cells stream Off k (omega (arith, front, inside))
     ∙ c.write.ensures k Off (omega (arith, front, inside))
     ∙ c.multiplex.ensures (code_place len k) (omega (arith, long, there))
-    ∙ frame_is c.args.accepted.now c.args.tti.now.loaded c.slots.result.now c.args.cfn c.args.combination k len c.slots.ensures code
+    ∙ frame_is c.args.accepted.now c.args.tti.now.loaded c.tti_buffers.result.now c.args.cfn c.args.combination k len c.tti_buffers.ensures code

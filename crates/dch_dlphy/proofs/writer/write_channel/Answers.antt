@@ -4,7 +4,7 @@ use Rattle.dch_bits.specs.declared.bit.Trit.{Trit}
 use Rattle.dch_bits.specs.declared.bit.Trit.TheVariants.{Off}
 use Rattle.dch_types.specs.declared.config.Config.{Config}
 use Rattle.dch_types.specs.Parts.{channel_at}
-use Rattle.dch_loaded.specs.Loaded.{frame_number}
+use Rattle.dch_ttibuf.specs.Loaded.{frame_number}
 use Rattle.dch_dlphy.specs.Frames.{places_of}
 use Rattle.dch_dlphy.proofs.Sent.{sent_is}
 use Rattle.dch_dlphy.proofs.writer.write_channel.Goals as goal
@@ -19,4 +19,4 @@ returns c q inside =
     let size : places ≡ places_of planned c.args.combination i = c.copy_segment.auto.out ∙ c.requires.room in
     c.copy_segment.ensures q inside
     ∙ ap (λ (cells : List Trit). get_or cells (n * places + q) Off) c.cells.ensures
-    ∙ sent_is planned c.args.slots.now c.args.cfn c.args.combination i q n places c.index-slots-i.result size frame (c.index-slots-i.is ∙ get_or_default c.args.slots.now i _ _ (omega (arith, c.requires.channel, c.requires.long.channels)))
+    ∙ sent_is planned c.args.tti_buffers.now c.args.cfn c.args.combination i q n places c.index-tti_buffers-i.result size frame (c.index-tti_buffers-i.is ∙ get_or_default c.args.tti_buffers.now i _ _ (omega (arith, c.requires.channel, c.requires.long.channels)))

@@ -20,7 +20,7 @@ fits uplink c i n at room plan held same is inside all place whole =
     omega (arith, size, part_le (slice_index plan.sent) i (length uplink.side.channels) (omega (arith, inside, all)), plan_is.all_sent)
 
 pub loop-i-init : goal.loop-i-init
-loop-i-init c = multiplexed_none c.args.accepted.now c.args.slots.now c.args.cfn c.args.combination c.args.out.now
+loop-i-init c = multiplexed_none c.args.accepted.now c.args.tti_buffers.now c.args.cfn c.args.combination c.args.out.now
 
 pub slice_bounds-write_channel-end : goal.slice_bounds-write_channel-end
 slice_bounds-write_channel-end c =
@@ -50,4 +50,4 @@ loop-i-preserved c =
     fits planned.config.uplink c.args.combination i c.len-channels.result at (length out) (plan_at planned.uplink c.args.combination) c.uplink_plan-plan.result.now c.uplink_plan-plan.ensures.value c.uplink_plan-plan.ensures.plan (omega arith) all c.loop-i.invariant.place (c.loop-i.auto.out ∙ c.requires.room) in
     let size = ap (λ (plan : UplinkPlan). slice_index plan.sent i) c.uplink_plan-plan.ensures.value in
     let long : length c.write_channel.new.out ≡ n = c.write_channel.auto.out ∙ length_code out at n room in
-    multiplexed_more planned c.args.slots.now c.args.cfn c.args.combination out c.write_channel.new.out i at n (at + n - at) c.loop-i.invariant size room long c.write_channel.ensures
+    multiplexed_more planned c.args.tti_buffers.now c.args.cfn c.args.combination out c.write_channel.new.out i at n (at + n - at) c.loop-i.invariant size room long c.write_channel.ensures

@@ -20,4 +20,4 @@ returns c k inside =
     ∙ c.interleave.ensures k (omega (arith, front, inside))
     ∙ ap (λ m. get_or stream (code_place (code_length m) k) Off) long
     ∙ c.multiplex.ensures (code_place (code_length n) k) (omega (arith, long, there))
-    ∙ frame_is c.args.accepted.now c.args.tti.now c.slots.result.now c.args.cfn c.args.combination k n c.slots.ensures c.requires.count
+    ∙ frame_is c.args.accepted.now c.args.tti.now c.tti_buffers.result.now c.args.cfn c.args.combination k n c.tti_buffers.ensures c.requires.count

@@ -8,4 +8,4 @@ pub returns : goal.returns
 returns c =
     let side = c.args.accepted.now.config.uplink.side in
     let channels : c.len-channels.result ≡ length side.channels = c.len-channels.ensures ∙ ap (λ (config : Config). length config.uplink.side.channels) c.config.ensures.value in
-    tti_empty side c.in_ok-slots.field-0.items (subst (λ n. AreEmpty n c.in_ok-slots.field-0.items) channels c.in_ok-slots.ensures)
+    tti_empty side c.in_ok-tti_buffers.field-0.items (subst (λ n. AreEmpty n c.in_ok-tti_buffers.field-0.items) channels c.in_ok-tti_buffers.ensures)

@@ -2,8 +2,8 @@ use Rattle.std.proofs.Common.{◌≡◌, ◌+◌, ◌-◌, ◌*◌, ◌/◌, ◌
 use Rattle.std.proofs.Math.Nat.{mul-le-mul_left}
 use Rattle.dch_bits.specs.declared.bit.Trit.{Trit}
 use Rattle.dch_frame.proofs.Codes.{length_code}
-use Rattle.dch_loaded.proofs.Segments.{tti_more, whole_rows}
-use Rattle.dch_loaded.proofs.slot.interleave.Goals as goal
+use Rattle.dch_ttibuf.proofs.Segments.{tti_more, whole_rows}
+use Rattle.dch_ttibuf.proofs.tti_buffer.interleave.Goals as goal
 
 pub loop-n-preserved : goal.loop-n-preserved
 loop-n-preserved c =

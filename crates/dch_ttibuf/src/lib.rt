@@ -1,6 +1,6 @@
 //! What is loaded of transport channels for their running TTIs, as their radio frames carry it (TS 25.212 4.2.5, 4.2.6).
 #![tactic(auto)]
 
-mod slot;
+mod tti_buffer;
 
-pub use slot::{MOST_CELLS, Slot, slots};
+pub use tti_buffer::{MOST_CELLS, TtiBuffer, tti_buffers};

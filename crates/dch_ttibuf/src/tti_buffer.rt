@@ -1,7 +1,7 @@
 ghost use Rattle.std.specs.Prelude.{◌≡◌, ◌<◌, ◌≤◌, ◌+◌, ◌*◌, ◌%◌, ℕ, None, Some, length, slice_index_or, take, IfOk};
 ghost use Rattle.dch_bits.specs.declared.bit.Trit.TheVariants.{Off};
 ghost use Rattle.dch_inter.specs.Places.{IsFrames, first_of};
-ghost use Rattle.dch_loaded.specs.Loaded.{AreEmpty, AreInterleaved};
+ghost use Rattle.dch_ttibuf.specs.Loaded.{AreEmpty, AreInterleaved};
 
 use dch_bits::{NoMemory, Trit};
 use dch_frame::segment;
@@ -13,15 +13,15 @@ pub const MOST_CELLS: usize = 457_920;
 
 /// The TTI of a channel as its radio frames carry it.
 #[derive(Drop)]
-pub struct Slot {
+pub struct TtiBuffer {
     format: Option<u8>,
     cells: Vec<Trit>,
     len: usize,
 }
 
-impl Model for Slot {
+impl Model for TtiBuffer {
     ghost use Rattle.std.specs.Prelude.{◌≡◌, ◌≤◌, length, take};
-    ghost use Rattle.dch_loaded.specs.Loaded.{Loaded};
+    ghost use Rattle.dch_ttibuf.specs.Loaded.{Loaded};
 
     ghost Value = { Loaded };
 
@@ -30,12 +30,12 @@ impl Model for Slot {
     ghost invariant = { λ s. (s.len ≤ length s.cells.items) × (length s.cells.items ≡ 457920) };
 }
 
-impl Slot {
+impl TtiBuffer {
     /// Takes the memory for one TTI. Nothing is loaded.
-    pub fn open(alloc: Global) -> Result<Slot, NoMemory>
-        ensures { IfOk result (λ slot. slot.format ≡ None) }
+    pub fn open(alloc: Global) -> Result<TtiBuffer, NoMemory>
+        ensures { IfOk result (λ buffer. buffer.format ≡ None) }
     {
-        Ok(Slot {
+        Ok(TtiBuffer {
             format: None,
             cells: vec![in alloc; Trit::Off; MOST_CELLS]?,
             len: 0,
@@ -97,12 +97,12 @@ fn interleave(frames: usize, tti: &[Trit], out: &mut [Trit])
 }
 
 /// Takes the memory for the TTIs of so many channels.
-pub fn slots(alloc: Global, count: usize) -> Result<Vec<Slot>, NoMemory>
-    ensures { IfOk result (λ slots. AreEmpty count slots.items) }
+pub fn tti_buffers(alloc: Global, count: usize) -> Result<Vec<TtiBuffer>, NoMemory>
+    ensures { IfOk result (λ tti_buffers. AreEmpty count tti_buffers.items) }
 {
-    let mut slots = Vec::new(alloc);
+    let mut tti_buffers = Vec::new(alloc);
     for _i in 0..count {
-        slots.push(Slot::open(alloc)?)?;
+        tti_buffers.push(TtiBuffer::open(alloc)?)?;
     }
-    Ok(slots)
+    Ok(tti_buffers)
 }
