@@ -21,13 +21,13 @@ use Rattle.dch_frame.specs.Stages.{as_cell, code_back, origin_of}
 use Rattle.dch_frame.proofs.Carried.{place_inside, rows_of, whole_rows}
 use Rattle.dch_frame.proofs.Codes.{code_back-inside, code_place-back}
 use Rattle.dch_accept.specs.Plans.{Planned}
-use Rattle.dch_heard.specs.Kept.{Kept, Listened, frame_at, tti_place}
+use Rattle.dch_rxframes.specs.RxFrames.{RxFrame, RxFrames, frame_at, tti_place}
 use Rattle.dch_ttibuf.specs.Loaded.{Loaded, loaded_at}
-use Rattle.dch_heard.proofs.Sent.{sent_number}
-use Rattle.dch_dlphy.specs.Frames.{IsFrame, frame_cell, multiplexed_cell, places_before, places_of, sent_cell}
-use Rattle.dch_dlphy.specs.Kept.{IsHistoryOf, codes_in}
+use Rattle.dch_rxframes.proofs.Sent.{sent_number}
+use Rattle.dch_dlphy.specs.Frames.{IsFrame, frame_cell, multiplexed_cell, bits_before, bits_per_frame, sent_cell}
+use Rattle.dch_dlphy.specs.Kept.{AreRxFramesOf, codes_in}
 use Rattle.dch_dlphy.specs.Loaded.{code_length, filled_cell, matching_of}
-use Rattle.dch_dlphy.specs.Read.{heard_cell, tti_cell, tti_pattern, tti_places}
+use Rattle.dch_dlphy.specs.Read.{received_cell, tti_cell, tti_pattern, bits_per_tti}
 use Rattle.dch_dlphy.specs.Sent.{IsSentFrame, IsSentTti}
 use Rattle.dch_dlphy.proofs.Sent.{multiplexed_before, multiplexed_here}
 
@@ -35,27 +35,27 @@ add_less : (a q : ℕ) → a + q - a ≡ q
 add_less a q = omega arith
 
 -- a place of channel i shows what that channel sends, however many channels follow
-multiplexed_at : (planned : Planned) (tti : List Loaded) (cfn c count i q : ℕ) → i < count → q < places_of planned c i → multiplexed_cell planned tti cfn c count (places_before planned c i + q) ≡ sent_cell planned tti cfn c i q
+multiplexed_at : (planned : Planned) (tti : List Loaded) (cfn c count i q : ℕ) → i < count → q < bits_per_frame planned c i → multiplexed_cell planned tti cfn c count (bits_before planned c i + q) ≡ sent_cell planned tti cfn c i q
 multiplexed_at planned tti cfn c zero i q inside early = absurd (omega arith)
 multiplexed_at planned tti cfn c (suc count) i q inside early =
     let more : count + 1 ≡ suc count = add-one count in
     elim (cases_lt i count) [
       | inl before ↦
-          let room : places_before planned c i + places_of planned c i ≤ places_before planned c count = part_le (places_of planned c) i count before in
-          ap (λ n. multiplexed_cell planned tti cfn c n (places_before planned c i + q)) (sym more)
-          ∙ multiplexed_before planned tti cfn c count (places_before planned c i + q) (omega (arith, room, early))
+          let room : bits_before planned c i + bits_per_frame planned c i ≤ bits_before planned c count = part_le (bits_per_frame planned c) i count before in
+          ap (λ n. multiplexed_cell planned tti cfn c n (bits_before planned c i + q)) (sym more)
+          ∙ multiplexed_before planned tti cfn c count (bits_before planned c i + q) (omega (arith, room, early))
           ∙ multiplexed_at planned tti cfn c count i q before early
       | inr past ↦
           let here : i ≡ count = omega arith in
-          let low : places_before planned c i + q - places_before planned c i < places_of planned c i = omega (arith, early) in
-          ap (λ n. multiplexed_cell planned tti cfn c n (places_before planned c i + q)) (sym more)
-          ∙ ap (λ n. multiplexed_cell planned tti cfn c (n + 1) (places_before planned c i + q)) (sym here)
-          ∙ multiplexed_here planned tti cfn c i (places_before planned c i + q) (omega arith) low
-          ∙ ap (sent_cell planned tti cfn c i) (add_less (places_before planned c i) q)
+          let low : bits_before planned c i + q - bits_before planned c i < bits_per_frame planned c i = omega (arith, early) in
+          ap (λ n. multiplexed_cell planned tti cfn c n (bits_before planned c i + q)) (sym more)
+          ∙ ap (λ n. multiplexed_cell planned tti cfn c (n + 1) (bits_before planned c i + q)) (sym here)
+          ∙ multiplexed_here planned tti cfn c i (bits_before planned c i + q) (omega arith) low
+          ∙ ap (sent_cell planned tti cfn c i) (add_less (bits_before planned c i) q)
     ]
 
 -- a multiplexed cell of a frame that is kept as it was written
-kept_cell : (planned : Planned) (i n c : ℕ) (loaded : Loaded) (kept : Kept) (sent : IsSentFrame planned i n c loaded kept) (p : ℕ) → IsDownlink planned.config.downlink → p < ndata_of planned.config.downlink → get_or kept.cells p Off ≡ multiplexed_cell planned sent.tti sent.cfn c (length planned.config.downlink.side.channels) p
+kept_cell : (planned : Planned) (i n c : ℕ) (loaded : Loaded) (kept : RxFrame) (sent : IsSentFrame planned i n c loaded kept) (p : ℕ) → IsDownlink planned.config.downlink → p < ndata_of planned.config.downlink → get_or kept.cells p Off ≡ multiplexed_cell planned sent.tti sent.cfn c (length planned.config.downlink.side.channels) p
 unfolding frame_cell
 kept_cell planned i n c loaded kept sent p good inside =
     let ndata : ℕ = ndata_of planned.config.downlink in
@@ -69,31 +69,31 @@ kept_cell planned i n c loaded kept sent p good inside =
     ∙ ap (multiplexed_cell planned sent.tti sent.cfn c (length planned.config.downlink.side.channels)) (code_place-back v p some)
 
 -- the cell at place m of channel i in a frame that is kept as it was written
-frame_arrived : (planned : Planned) (i n c m places : ℕ) (loaded : Loaded) (kept : Kept) (sent : IsSentFrame planned i n c loaded kept) → IsDownlink planned.config.downlink → IsDownlinkPlan planned.config.downlink planned.downlink
-    → i < length planned.config.downlink.side.channels → c < length planned.config.downlink.side.combinations → places_of planned c i ≡ places → m < places
-    → heard_cell planned i kept.combination kept.cells m ≡ get_or loaded.cells (n * places + m) Off
+frame_arrived : (planned : Planned) (i n c m places : ℕ) (loaded : Loaded) (kept : RxFrame) (sent : IsSentFrame planned i n c loaded kept) → IsDownlink planned.config.downlink → IsDownlinkPlan planned.config.downlink planned.downlink
+    → i < length planned.config.downlink.side.channels → c < length planned.config.downlink.side.combinations → bits_per_frame planned c i ≡ places → m < places
+    → received_cell planned i kept.combination kept.cells m ≡ get_or loaded.cells (n * places + m) Off
 unfolding sent_cell
 frame_arrived planned i n c m places loaded kept sent good plan channel listed size early =
     let side : Side = planned.config.downlink.side in
-    let before : ℕ = places_before planned c i in
-    let room : before + places_of planned c i ≤ ndata_of planned.config.downlink = omega (arith, part_le (places_of planned c) i (length side.channels) channel, plan.room c listed) in
-    ap (λ combination. heard_cell planned i combination kept.cells m) sent.found
+    let before : ℕ = bits_before planned c i in
+    let room : before + bits_per_frame planned c i ≤ ndata_of planned.config.downlink = omega (arith, part_le (bits_per_frame planned c) i (length side.channels) channel, plan.room c listed) in
+    ap (λ combination. received_cell planned i combination kept.cells m) sent.found
     ∙ kept_cell planned i n c loaded kept sent (before + m) good (omega (arith, room, size, early))
     ∙ multiplexed_at planned sent.tti sent.cfn c (length side.channels) i m channel (omega (arith, size, early))
-    ∙ ap (λ n. get_or (loaded_at sent.tti i).cells (n * places_of planned c i + m) Off) sent.number
-    ∙ ap (λ (loaded : Loaded). get_or loaded.cells (n * places_of planned c i + m) Off) sent.holds
+    ∙ ap (λ n. get_or (loaded_at sent.tti i).cells (n * bits_per_frame planned c i + m) Off) sent.number
+    ∙ ap (λ (loaded : Loaded). get_or loaded.cells (n * bits_per_frame planned c i + m) Off) sent.holds
     ∙ ap (λ places. get_or loaded.cells (n * places + m) Off) size
 
 -- and so the cells of the TTI are those that were filled
-pub cell_arrived : (planned : Planned) (reader : Listened) (i f p : ℕ) (sequence : List ℕ) (blocks : List Bit) (sent : IsSentTti planned reader i f sequence blocks) → IsDownlink planned.config.downlink → IsDownlinkPlan planned.config.downlink planned.downlink → IsHistoryOf planned reader
-    → i < length planned.config.downlink.side.channels → p < tti_places planned i f → tti_cell planned reader i (tti_places planned i f) p ≡ filled_cell (tti_pattern planned i f) sent.from.coded p
+pub cell_arrived : (planned : Planned) (reader : RxFrames) (i f p : ℕ) (sequence : List ℕ) (blocks : List Bit) (sent : IsSentTti planned reader i f sequence blocks) → IsDownlink planned.config.downlink → IsDownlinkPlan planned.config.downlink planned.downlink → AreRxFramesOf planned reader
+    → i < length planned.config.downlink.side.channels → p < bits_per_tti planned i f → tti_cell planned reader i (bits_per_tti planned i f) p ≡ filled_cell (tti_pattern planned i f) sent.from.coded p
 cell_arrived planned reader i f p sequence blocks sent good plan held channel inside =
     let side : Side = planned.config.downlink.side in
     let frames : ℕ = (channel_at side i).frames in
     let is : IsFrames frames = (good.side.channels i channel).frames in
     let some : 0 < frames = omega (arith, is) in
     let places : ℕ = (matching_of planned i f).cells in
-    let len : ℕ = tti_places planned i f in
+    let len : ℕ = bits_per_tti planned i f in
     let whole : len ≡ places * frames = omega arith in
     let n : ℕ = frame_of frames len p in
     let m : ℕ = place_of frames len p in
@@ -101,7 +101,7 @@ cell_arrived planned reader i f p sequence blocks sent good plan held channel in
     let low : m < places = place_inside frames places len p is some whole inside in
     let frame = sent.frames n below in
     let c : ℕ = slice_index sequence n in
-    let size : places_of planned c i ≡ places = ap (λ f. (matching_of planned i f).cells) (sent_number side (IsFrame planned) (codes_in planned) i f n c sent.loaded _ frame sent.from.format channel) in
+    let size : bits_per_frame planned c i ≡ places = ap (λ f. (matching_of planned i f).cells) (sent_number side (IsFrame planned) (codes_in planned) i f n c sent.loaded _ frame sent.from.format channel) in
     let listed : c < length side.combinations = (held.each (tti_place reader.cfn frames n) (mod_below _ 8 (omega arith))).listed c frame.found in
     let height : len / frames ≡ places = rows_of frames places len some whole in
     let place : n * places + m ≡ first_back_of frames len p = ap (λ rows. n * rows + m) (sym height) ∙ frame_place frames len p in

@@ -13,10 +13,10 @@ use Rattle.dch_match.specs.Patterns.{copies}
 use Rattle.dch_legal.specs.Sequences.{IsLegal}
 use Rattle.dch_search.specs.Clear.{HasNoCollision, IsClear, joined_in}
 use Rattle.dch_accept.specs.Plans.{Planned}
-use Rattle.dch_heard.specs.Kept.{Listened, tti_place}
-use Rattle.dch_heard.proofs.Sent.{sent_number}
+use Rattle.dch_rxframes.specs.RxFrames.{RxFrames, tti_place}
+use Rattle.dch_rxframes.proofs.Sent.{sent_number}
 use Rattle.dch_dlphy.specs.Frames.{IsFrame}
-use Rattle.dch_dlphy.specs.Kept.{IsHistoryOf, codes_in}
+use Rattle.dch_dlphy.specs.Kept.{AreRxFramesOf, codes_in}
 use Rattle.dch_dlphy.specs.Read.{tti_pattern}
 use Rattle.dch_dlphy.specs.Sent.{IsSentTti}
 
@@ -38,7 +38,7 @@ one_legal side i f c listed format =
     }
 
 -- so the format is one of those that acceptance looked at
-pub downlink_clear : (planned : Planned) (reader : Listened) (i f : ℕ) (sequence : List ℕ) (blocks : List Bit) → IsDownlink planned.config.downlink → IsDownlinkPlan planned.config.downlink planned.downlink → IsHistoryOf planned reader → i < length planned.config.downlink.side.channels
+pub downlink_clear : (planned : Planned) (reader : RxFrames) (i f : ℕ) (sequence : List ℕ) (blocks : List Bit) → IsDownlink planned.config.downlink → IsDownlinkPlan planned.config.downlink planned.downlink → AreRxFramesOf planned reader → i < length planned.config.downlink.side.channels
     → IsSentTti planned reader i f sequence blocks → IsClear planned.config → HasNoCollision (channel_at planned.config.downlink.side i).coding (joined_in planned.config.downlink.side i f) (copies (tti_pattern planned i f).kind)
 downlink_clear planned reader i f sequence blocks good plan held channel sent clear =
     let side : Side = planned.config.downlink.side in

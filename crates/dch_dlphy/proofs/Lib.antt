@@ -1,7 +1,7 @@
 pub mod Arrived
 pub mod Clear
 pub mod Filled
-pub mod Heard
+pub mod Demultiplexed
 pub mod Rooms
 pub mod Sent
 pub mod SentBack

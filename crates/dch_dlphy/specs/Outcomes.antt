@@ -4,14 +4,14 @@ use Rattle.dch_bits.specs.declared.bit.Bit.{Bit}
 use Rattle.dch_accept.specs.Blocks.{Held}
 use Rattle.dch_accept.specs.Plans.{Planned}
 use Rattle.dch_decode.specs.Received.{ArrivesAs}
-use Rattle.dch_heard.specs.Formats.{IsBadFrame}
-use Rattle.dch_heard.specs.Kept.{Listened}
-use Rattle.dch_heard.specs.declared.outcome.TtiOutcome.{TtiOutcome}
-use Rattle.dch_heard.specs.declared.outcome.TtiOutcome.TheVariants.{Blocks, BadFrame}
+use Rattle.dch_rxframes.specs.Formats.{IsBadFrame}
+use Rattle.dch_rxframes.specs.RxFrames.{RxFrames}
+use Rattle.dch_rxframes.specs.declared.outcome.TtiOutcome.{TtiOutcome}
+use Rattle.dch_rxframes.specs.declared.outcome.TtiOutcome.TheVariants.{Blocks, BadFrame}
 use Rattle.dch_dlphy.specs.Read.{IsTtiRead}
 
 -- the blocks of the TTI, or its first bad frame, which leaves the blocks as they were
-abbrev pub IsOutcome : Planned → Listened → ℕ → Held → TtiOutcome → Held → Type 0
+abbrev pub IsOutcome : Planned → RxFrames → ℕ → Held → TtiOutcome → Held → Type 0
 IsOutcome planned reader i before Blocks after = IsTtiRead planned reader i after
 IsOutcome planned reader i before (BadFrame n) after = IsBadFrame planned.config.downlink.side reader i n × (after ≡ before)
 

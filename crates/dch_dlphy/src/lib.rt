@@ -2,16 +2,16 @@
 //! frames that were received (TS 25.212 4.2).
 #![tactic(auto)]
 
+mod demultiplexing;
 mod fill;
-mod hearing;
-mod kept;
 mod laws;
 mod parts;
 mod reader;
+mod reception;
 mod tti;
 mod writer;
 
-pub use dch_heard::TtiOutcome;
+pub use dch_rxframes::TtiOutcome;
 pub use laws::written_frame_law;
 pub use reader::DlReader;
 pub use tti::DlTti;

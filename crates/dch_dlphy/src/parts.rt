@@ -4,12 +4,12 @@ ghost use Rattle.dch_types.specs.Limits.{IsChannel, IsDownlink};
 ghost use Rattle.dch_types.specs.Parts.{channel_at, format_at, format_number};
 ghost use Rattle.dch_match.specs.Downlinks.{ndata_of};
 ghost use Rattle.dch_match.specs.Patterns.{IsWellFormed, copies_below};
-ghost use Rattle.dch_dlphy.specs.Frames.{places_before, places_of};
+ghost use Rattle.dch_dlphy.specs.Frames.{bits_before, bits_per_frame};
 ghost use Rattle.dch_dlphy.specs.Loaded.{matching_of};
 
 use dch_accept::Accepted;
-use dch_heard::format_number;
 use dch_match::Pattern;
+use dch_rxframes::format_number;
 use dch_types::{Downlink, Trch};
 
 /// A channel of the downlink.
@@ -18,11 +18,11 @@ pub fn channel_of(accepted: &Accepted, channel: u8) -> &Trch
     ensures value { result.now ≡ channel_at accepted.now.config.downlink.side channel }
     ensures good { IsChannel result.now }
 {
-    dch_heard::channel_of(&accepted.config().downlink.side, channel)
+    dch_rxframes::channel_of(&accepted.config().downlink.side, channel)
 }
 
 /// The number of a channel's format in a combination.
-pub fn format_of(accepted: &Accepted, combination: u16, channel: u8) -> u8
+pub fn tfi(accepted: &Accepted, combination: u16, channel: u8) -> u8
     requires combination { combination < length accepted.now.config.downlink.side.combinations }
     requires channel { channel < length accepted.now.config.downlink.side.channels }
     ensures value { result ≡ format_number accepted.now.config.downlink.side combination channel }
@@ -43,7 +43,7 @@ pub fn pattern_of(accepted: &Accepted, channel: u8, format: u8) -> Pattern
 }
 
 /// The places of a channel in each radio frame of a TTI in a format.
-pub fn places_of(accepted: &Accepted, channel: u8, format: u8) -> u32
+pub fn bits_per_frame(accepted: &Accepted, channel: u8, format: u8) -> u32
     requires channel { channel < length accepted.now.config.downlink.side.channels }
     requires format { format < length (channel_at accepted.now.config.downlink.side channel).formats }
     ensures value { result ≡ (matching_of accepted.now channel format).cells }
@@ -57,13 +57,13 @@ pub fn places_of(accepted: &Accepted, channel: u8, format: u8) -> u32
 
 /// The places of a channel in a radio frame of a combination. With those of the channels before it they lie within the
 /// frame.
-pub fn places_in(accepted: &Accepted, combination: u16, channel: u8) -> usize
+pub fn bits_in_frame(accepted: &Accepted, combination: u16, channel: u8) -> usize
     requires combination { combination < length accepted.now.config.downlink.side.combinations }
     requires channel { channel < length accepted.now.config.downlink.side.channels }
-    ensures value { result ≡ places_of accepted.now combination channel }
-    ensures inside { places_before accepted.now combination channel + result ≤ ndata_of accepted.now.config.downlink }
+    ensures value { result ≡ bits_per_frame accepted.now combination channel }
+    ensures inside { bits_before accepted.now combination channel + result ≤ ndata_of accepted.now.config.downlink }
 {
-    let format = format_of(accepted, combination, channel);
+    let format = tfi(accepted, combination, channel);
     accepted.downlink_plan().cells(channel, format) as usize
 }
 

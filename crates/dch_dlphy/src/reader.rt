@@ -2,22 +2,22 @@ ghost use Rattle.std.specs.Prelude.{◌≡◌, ◌≢◌, ◌<◌, ◌%◌, ℕ,
 ghost use Rattle.dch_bits.specs.declared.bit.Bit.{Bit};
 ghost use Rattle.dch_accept.specs.Blocks.{HoldsTtis};
 ghost use Rattle.dch_decode.specs.Received.{ArrivesAs};
-ghost use Rattle.dch_heard.specs.Formats.{IsFormatOf};
-ghost use Rattle.dch_heard.specs.Kept.{kept_at};
-ghost use Rattle.dch_dlphy.specs.Kept.{AreMissing, HasDownlinkTfci, IsHistoryOf, IsReaderOf, Keeps};
+ghost use Rattle.dch_rxframes.specs.Formats.{IsFormatOf};
+ghost use Rattle.dch_rxframes.specs.RxFrames.{rx_frame_at};
+ghost use Rattle.dch_dlphy.specs.Kept.{AreMissing, HasDownlinkTfci, AreRxFramesOf, IsReaderOf, Keeps};
 ghost use Rattle.dch_dlphy.specs.Outcomes.{IsOutcome, IsSentBack};
 ghost use Rattle.dch_dlphy.specs.Read.{IsTtiRead};
 ghost use Rattle.dch_dlphy.specs.Sent.{IsSentTti};
 
-use crate::hearing::hear_tti;
-use crate::kept::hear;
-use crate::parts::{channel_of, code_length, frame_length, pattern_of, places_of};
+use crate::demultiplexing::demultiplex_tti;
+use crate::parts::{bits_per_frame, channel_of, code_length, frame_length, pattern_of};
+use crate::reception::receive_frame;
 use dch_accept::{Accepted, FrameView, TtiBlocks};
 use dch_bits::{NoMemory, Trit, Vote};
 use dch_decode::Decoder;
 use dch_frame::{Interleaver, count_votes};
-use dch_heard::{History, TtiOutcome, format_of, format_of_tti};
 use dch_match::kept;
+use dch_rxframes::{ReceivedFrames, TtiOutcome, format_of, format_of_tti};
 use std::alloc::Global;
 use std::marker::Model;
 
@@ -30,9 +30,9 @@ const MOST_BITS: usize = 131_072;
 /// Received downlink radio frames, and the room to read the TTIs of the channels from them.
 #[derive(Drop)]
 pub struct DlReader {
-    history: History,
+    rx_frames: ReceivedFrames,
     interleaver: Interleaver,
-    ears: Ears,
+    scratch: RxScratch,
 }
 
 impl Model for DlReader {
@@ -40,12 +40,12 @@ impl Model for DlReader {
 
     ghost Value = { Receiver };
 
-    ghost view = { λ r. record { heard = r.history; code = r.interleaver } };
+    ghost view = { λ r. record { rx_frames = r.rx_frames; code = r.interleaver } };
 }
 
 /// The room to gather the cells of a TTI, to count their votes and to decode it.
 #[derive(Drop)]
-struct Ears {
+struct RxScratch {
     cells: Vec<Trit>,
     votes: Vec<Vote>,
     decoder: Decoder,
@@ -56,14 +56,14 @@ struct Ears {
 impl DlReader {
     /// Takes all memory that receiving wants. No frame is there.
     pub fn open(alloc: Global, accepted: &Accepted) -> Result<DlReader, NoMemory>
-        ensures missing { IfOk result (λ reader. AreMissing accepted.now 8 reader.heard.frames) }
+        ensures missing { IfOk result (λ reader. AreMissing accepted.now 8 reader.rx_frames.frames) }
         ensures opened { IfOk result (IsReaderOf accepted.now) }
     {
         let config = &accepted.config().downlink;
         Ok(DlReader {
-            history: History::open(alloc, frame_length(config))?,
+            rx_frames: ReceivedFrames::open(alloc, frame_length(config))?,
             interleaver: Interleaver::open(alloc, code_length(config))?,
-            ears: Ears::open(alloc)?,
+            scratch: RxScratch::open(alloc)?,
         })
     }
 
@@ -73,21 +73,21 @@ impl DlReader {
     pub fn push(&mut self, accepted: &Accepted, cfn: u8, frame: Option<FrameView<'_>>)
         requires opened { IsReaderOf accepted.now self.old }
         requires tfci { HasDownlinkTfci accepted.now frame }
-        ensures kept { Keeps accepted.now frame.entry (kept_at self.new.heard.frames (cfn % 8)) }
-        ensures others { (k : ℕ) → k ≢ cfn % 8 → kept_at self.new.heard.frames k ≡ kept_at self.old.heard.frames k }
-        ensures last { self.new.heard.cfn ≡ cfn }
+        ensures kept { Keeps accepted.now frame.entry (rx_frame_at self.new.rx_frames.frames (cfn % 8)) }
+        ensures others { (k : ℕ) → k ≢ cfn % 8 → rx_frame_at self.new.rx_frames.frames k ≡ rx_frame_at self.old.rx_frames.frames k }
+        ensures last { self.new.rx_frames.cfn ≡ cfn }
         ensures opened { IsReaderOf accepted.now self.new }
     {
         match frame {
-            Some(frame) => hear(
+            Some(frame) => receive_frame(
                 accepted,
                 &self.interleaver,
                 cfn,
                 frame.tfci,
                 frame.cells,
-                &mut self.history,
+                &mut self.rx_frames,
             ),
-            None => self.history.miss(cfn),
+            None => self.rx_frames.miss(cfn),
         }
     }
 
@@ -97,17 +97,17 @@ impl DlReader {
         requires opened { IsReaderOf accepted.now self.old }
         requires blocks { HoldsTtis accepted.now.config.downlink.side out.old.room }
         requires channel { channel < length accepted.now.config.downlink.side.channels }
-        ensures outcome { IsOutcome accepted.now self.old.heard channel out.old result out.new }
+        ensures outcome { IsOutcome accepted.now self.old.rx_frames channel out.old result out.new }
         ensures undamaged { (format : ℕ) (sequence : List ℕ) (blocks : List Bit) →
-            IsSentTti accepted.now self.old.heard channel format sequence blocks → IsSentBack format blocks result out.new }
+            IsSentTti accepted.now self.old.rx_frames channel format sequence blocks → IsSentBack format blocks result out.new }
         ensures room { out.new.room ≡ out.old.room }
         ensures kept { self.new ≡ self.old }
     {
         let side = &accepted.config().downlink.side;
-        match format_of_tti(side, &self.history, channel) {
+        match format_of_tti(side, &self.rx_frames, channel) {
             Ok(format) => {
-                self.ears
-                    .read(accepted, &self.history, channel, format, out);
+                self.scratch
+                    .read(accepted, &self.rx_frames, channel, format, out);
                 TtiOutcome::Blocks
             }
             Err(n) => TtiOutcome::BadFrame(n),
@@ -115,10 +115,10 @@ impl DlReader {
     }
 }
 
-impl Ears {
-    fn open(alloc: Global) -> Result<Ears, NoMemory> {
+impl RxScratch {
+    fn open(alloc: Global) -> Result<RxScratch, NoMemory> {
         let none = Vote { zeros: 0, ones: 0 };
-        Ok(Ears {
+        Ok(RxScratch {
             cells: vec![in alloc; Trit::Off; MOST_PLACES]?,
             votes: vec![in alloc; none; MOST_BITS]?,
             decoder: Decoder::open(alloc)?,
@@ -129,24 +129,24 @@ impl Ears {
     fn read(
         &mut self,
         accepted: &Accepted,
-        history: &History,
+        rx_frames: &ReceivedFrames,
         channel: u8,
         format: u8,
         out: &mut TtiBlocks,
     )
-        requires opened { IsHistoryOf accepted.now history.now }
+        requires opened { AreRxFramesOf accepted.now rx_frames.now }
         requires blocks { HoldsTtis accepted.now.config.downlink.side out.old.room }
         requires channel { channel < length accepted.now.config.downlink.side.channels }
-        requires format { IsFormatOf accepted.now.config.downlink.side history.now channel format }
-        ensures read { IsTtiRead accepted.now history.now channel out.new }
+        requires format { IsFormatOf accepted.now.config.downlink.side rx_frames.now channel format }
+        ensures read { IsTtiRead accepted.now rx_frames.now channel out.new }
         ensures undamaged { (sequence : List ℕ) (blocks : List Bit) →
-            IsSentTti accepted.now history.now channel format sequence blocks → ArrivesAs blocks out.new }
+            IsSentTti accepted.now rx_frames.now channel format sequence blocks → ArrivesAs blocks out.new }
         ensures number { out.new.format ≡ format }
         ensures room { out.new.room ≡ out.old.room }
     {
         read_tti(
             accepted,
-            history,
+            rx_frames,
             channel,
             format,
             &mut self.cells,
@@ -160,7 +160,7 @@ impl Ears {
 /// Gathers the cells of a TTI, counts their votes and decodes it.
 fn read_tti(
     accepted: &Accepted,
-    history: &History,
+    rx_frames: &ReceivedFrames,
     channel: u8,
     format: u8,
     cells: &mut [Trit],
@@ -168,15 +168,15 @@ fn read_tti(
     decoder: &mut Decoder,
     out: &mut TtiBlocks,
 )
-    requires opened { IsHistoryOf accepted.now history.now }
+    requires opened { AreRxFramesOf accepted.now rx_frames.now }
     requires cells { length cells.old ≡ 457920 }
     requires votes { length votes.old ≡ 131072 }
     requires blocks { HoldsTtis accepted.now.config.downlink.side out.old.room }
     requires channel { channel < length accepted.now.config.downlink.side.channels }
-    requires format { IsFormatOf accepted.now.config.downlink.side history.now channel format }
-    ensures read { IsTtiRead accepted.now history.now channel out.new }
+    requires format { IsFormatOf accepted.now.config.downlink.side rx_frames.now channel format }
+    ensures read { IsTtiRead accepted.now rx_frames.now channel out.new }
     ensures undamaged { (sequence : List ℕ) (blocks : List Bit) →
-        IsSentTti accepted.now history.now channel format sequence blocks → ArrivesAs blocks out.new }
+        IsSentTti accepted.now rx_frames.now channel format sequence blocks → ArrivesAs blocks out.new }
     ensures number { out.new.format ≡ format }
     ensures room { out.new.room ≡ out.old.room }
 {
@@ -185,9 +185,9 @@ fn read_tti(
     let trch = channel_of(accepted, channel);
     let kind = format_of(trch, format);
     let pattern = pattern_of(accepted, channel, format);
-    let places = places_of(accepted, channel, format) as usize;
+    let places = bits_per_frame(accepted, channel, format) as usize;
     let cells = &mut cells[..places * trch.frames as usize];
-    hear_tti(accepted, history, channel, format, cells);
+    demultiplex_tti(accepted, rx_frames, channel, format, cells);
     let votes = &mut votes[..pattern.len as usize];
     count_votes(&pattern, &cells[..kept(&pattern) as usize], votes);
     decoder.read(trch, format, kind, votes, out);

@@ -2,7 +2,7 @@ ghost use Rattle.std.specs.Prelude.{◌≡◌, ◌<◌, true, length};
 ghost use Rattle.dch_ttibuf.specs.Loaded.{AreFormats};
 ghost use Rattle.dch_dlphy.specs.Loaded.{IsTtiOf};
 
-use crate::parts::{pattern_of, places_of};
+use crate::parts::{bits_per_frame, pattern_of};
 use crate::{DlTti, write};
 use dch_accept::{Accepted, PhyFrame, accept};
 use dch_bits::{Bit, Trit, read_bits_text, read_trits_text};
@@ -85,7 +85,7 @@ fn is_ready(accepted: &Accepted, tti: &DlTti, combination: u16) -> bool
     }
     let tti_buffers = tti.tti_buffers();
     for i in 0..side.channels.len() {
-        let format = crate::parts::format_of(accepted, combination, i as u8);
+        let format = crate::parts::tfi(accepted, combination, i as u8);
         if tti_buffers[i].format() != Some(format) {
             return false;
         }
@@ -163,7 +163,7 @@ fn amounts(accepted: &Accepted, channel: u8, format: u8) -> Option<(u32, u32, u3
     if pattern.len == 0 {
         return None;
     }
-    let places = places_of(accepted, channel, format);
+    let places = bits_per_frame(accepted, channel, format);
     let last = keeps(&pattern, pattern.len - 1);
     Some((kept(&pattern), keeps(&pattern, 0), last, places))
 }

@@ -9,13 +9,13 @@ ghost use Rattle.dch_ttibuf.specs.Loaded.{loaded_at};
 ghost use Rattle.dch_dlphy.specs.Loaded.{IsLoaded, IsMatched, IsTtiOf};
 
 use crate::fill::fill_front;
-use crate::parts::{channel_of, code_length, pattern_of, places_of};
+use crate::parts::{bits_per_frame, channel_of, code_length, pattern_of};
 use dch_accept::Accepted;
 use dch_bits::{Bit, NoMemory, Trit};
 use dch_coding::TtiCoder;
 use dch_frame::Interleaver;
-use dch_heard::format_of;
 use dch_match::Pattern;
+use dch_rxframes::format_of;
 use dch_ttibuf::{MOST_CELLS, TtiBuffer, tti_buffers};
 use dch_types::{Format, Trch};
 use std::alloc::Global;
@@ -141,7 +141,7 @@ impl DlTti {
     {
         let trch = channel_of(accepted, channel);
         let pattern = pattern_of(accepted, channel, format);
-        let places = places_of(accepted, channel, format);
+        let places = bits_per_frame(accepted, channel, format);
         let buffer = &mut self.tti_buffers[channel as usize];
         self.room
             .load(trch, format, &pattern, places, blocks, buffer);

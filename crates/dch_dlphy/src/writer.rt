@@ -5,14 +5,14 @@ ghost use Rattle.dch_match.specs.Downlinks.{ndata_of};
 ghost use Rattle.dch_accept.specs.Frames.{IsOpenedFor};
 ghost use Rattle.dch_ttibuf.specs.Loaded.{AreFormats};
 ghost use Rattle.dch_dlphy.specs.Loaded.{AreLong, IsTtiOf};
-ghost use Rattle.dch_dlphy.specs.Frames.{IsFrame, frame_cell, multiplexed_cell, places_of, sent_cell};
+ghost use Rattle.dch_dlphy.specs.Frames.{IsFrame, frame_cell, multiplexed_cell, bits_per_frame, sent_cell};
 
 use crate::fill::leave_off;
-use crate::parts::{frame_length, places_in};
+use crate::parts::{bits_in_frame, frame_length};
 use crate::tti::DlTti;
 use dch_accept::{Accepted, PhyFrame};
 use dch_bits::Trit;
-use dch_heard::frames_of;
+use dch_rxframes::frames_of;
 use dch_tfci::send;
 use dch_ttibuf::TtiBuffer;
 
@@ -76,7 +76,7 @@ fn multiplex(
     let channels = accepted.config().downlink.side.channels.len();
     let mut at = 0;
     for i in 0..channels {
-        let end = at + places_in(accepted, combination, i as u8);
+        let end = at + bits_in_frame(accepted, combination, i as u8);
         write_channel(
             accepted,
             tti_buffers,
@@ -104,7 +104,7 @@ fn write_channel(
     requires combination { combination < length accepted.now.config.downlink.side.combinations }
     requires formats { AreFormats accepted.now.config.downlink.side combination tti_buffers.now }
     requires channel { i < length accepted.now.config.downlink.side.channels }
-    requires room { length out.old ≡ places_of accepted.now combination i }
+    requires room { length out.old ≡ bits_per_frame accepted.now combination i }
     ensures { (q : ℕ) → q < length out.new → slice_index_or out.new q Off ≡ sent_cell accepted.now tti_buffers.now cfn combination i q }
 {
     let n = cfn % frames_of(&accepted.config().downlink.side, i);

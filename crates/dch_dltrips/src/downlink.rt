@@ -3,7 +3,7 @@ ghost use Rattle.std.specs.Prelude.{IfOk};
 use dch_accept::{Accepted, PhyFrame, TtiBlocks};
 use dch_bits::{Bit, NoMemory};
 use dch_dlphy::{DlReader, DlTti, write};
-use dch_heard::TtiOutcome;
+use dch_rxframes::TtiOutcome;
 use dch_trips::Ends;
 use dch_types::Dir;
 use std::alloc::Global;

@@ -3,14 +3,14 @@
 #![tactic(auto)]
 
 mod cells;
-mod hearing;
+mod dematching;
 mod interleaver;
 mod matching;
 mod segments;
 mod votes;
 
 pub use cells::show;
-pub use hearing::hear;
+pub use dematching::rate_dematch;
 pub use interleaver::Interleaver;
 pub use matching::rate_match;
 pub use segments::{put_segment, segment};

@@ -98,7 +98,7 @@ fn votes_of_received_cells(rt: HostRuntime) {
         assert_eq!(rt; (votes[m].zeros, votes[m].ones), wanted[m], "bit {m}");
     }
     let mut tti = [Vote { zeros: 7, ones: 7 }; 6];
-    hear(2, 1, &two_repeated(), &cells, &mut votes, &mut tti);
+    rate_dematch(2, 1, &two_repeated(), &cells, &mut votes, &mut tti);
     for m in 0..3 {
         assert_eq!(rt; (tti[2 * m].zeros, tti[2 * m].ones), (7, 7));
         assert_eq!(rt; (tti[2 * m + 1].zeros, tti[2 * m + 1].ones), wanted[m]);

@@ -57,7 +57,7 @@ opened_node planned first places empty sender receiver letters good eighth new g
 -- and it stands for what has not happened
 pub opened_stands : (planned : Planned) (first : ℕ) (places : List Place) (empty sender : Sender) (receiver : Receiver) (letters : List Letter) → IsSide planned.config.downlink.side → first % 8 ≡ 0
     → AreNewPlaces planned 8 places → empty.sent ≡ false → AreGiven planned first (length planned.config.downlink.side.channels) places empty sender
-    → AreMissing planned 8 receiver.heard.frames → AreNewLetters planned 8 letters
+    → AreMissing planned 8 receiver.rx_frames.frames → AreNewLetters planned 8 letters
     → StandsFor planned first [] [] (record { cfn = first; places = places; sender = sender; receiver = receiver; letters = letters })
 opened_stands planned first places empty sender receiver letters good eighth new quiet given missing written =
     let none : sender.sent ≡ false = given.sent ∙ quiet in

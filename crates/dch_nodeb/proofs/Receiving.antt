@@ -3,7 +3,7 @@ use Rattle.std.proofs.Common.{◌+◌, ◌<◌, ℕ, List, refl, ap, sym, subst,
 use Rattle.std.specs.Prelude.{◌%◌}
 use Rattle.std.proofs.lemmas.Bool.Decides.{eqb_tells}
 use Rattle.dch_accept.specs.Plans.{Planned}
-use Rattle.dch_heard.specs.Kept.{Kept, Listened, kept_at}
+use Rattle.dch_rxframes.specs.RxFrames.{RxFrame, RxFrames, rx_frame_at}
 use Rattle.dch_script.specs.Held.{Held as Text}
 use Rattle.dch_nodeb.specs.Moves.{Hears, Receives}
 use Rattle.dch_nodeb.specs.Standing.{IsQuiet, Stands, Stepped}
@@ -12,27 +12,27 @@ use Rattle.dch_nodeb.specs.Steps.{KeepsRadio, joined}
 use Rattle.dch_nodeb.specs.Values.{Letter, Node, Receiver, letter_at}
 
 -- the frames that are kept then
-frames_kept : (planned : Planned) (state : State) (radio : Option Radio) (old new : Listened) → Hears planned state.cfn radio old new
-    → ((k : ℕ) → k < 8 → KeepsRadio planned (state.frames k) (kept_at old.frames k)) → (k : ℕ) → k < 8 → KeepsRadio planned ((coming state radio).frames k) (kept_at new.frames k)
+frames_kept : (planned : Planned) (state : State) (radio : Option Radio) (old new : RxFrames) → Hears planned state.cfn radio old new
+    → ((k : ℕ) → k < 8 → KeepsRadio planned (state.frames k) (rx_frame_at old.frames k)) → (k : ℕ) → k < 8 → KeepsRadio planned ((coming state radio).frames k) (rx_frame_at new.frames k)
 frames_kept planned state radio old new hears before k few = elim (eqb_tells k (state.cfn % 8)) [
-  | inl same ↦ rw same.0 (subst (λ n. KeepsRadio planned radio (kept_at new.frames n)) (sym same.1) hears.kept)
-  | inr other ↦ rw other.0 (subst (λ (kept : Kept). KeepsRadio planned (state.frames k) kept) (sym (hears.others k other.1)) (before k few))
+  | inl same ↦ rw same.0 (subst (λ n. KeepsRadio planned radio (rx_frame_at new.frames n)) (sym same.1) hears.kept)
+  | inr other ↦ rw other.0 (subst (λ (kept : RxFrame). KeepsRadio planned (state.frames k) kept) (sym (hears.others k other.1)) (before k few))
 ]
 
 received_at : (planned : Planned) (state : State) (node : Node) (radio : Option Radio) (letters : List Letter) (receiver : Receiver) (before after : Text) → IsQuiet node
-    → Receives planned state.cfn radio node.receiver.heard letters receiver before after → Stands planned state node
+    → Receives planned state.cfn radio node.receiver.rx_frames letters receiver before after → Stands planned state node
     → Stepped planned state (Comes radio) (record node { cfn = (node.cfn + 1) % 256; receiver = receiver; letters = letters }) before.text after.text
 received_at planned state node radio letters receiver before after quiet receives stands =
     let next : State = coming state radio in
     let served = receives.served in
-    let frames : (k : ℕ) → k < 8 → KeepsRadio planned (next.frames k) (kept_at receiver.heard.frames k) =
-    frames_kept planned state radio node.receiver.heard receiver.heard receives.hears stands.frames in
+    let frames : (k : ℕ) → k < 8 → KeepsRadio planned (next.frames k) (rx_frame_at receiver.rx_frames.frames k) =
+    frames_kept planned state radio node.receiver.rx_frames receiver.rx_frames receives.hears stands.frames in
     record {
       next = next;
       output = record { text = joined served.texts 8; sent = None; iub = λ s. (letter_at letters s).sent };
       step = record {
         state = refl;
-        heard = receiver.heard;
+        rx_frames = receiver.rx_frames;
         kept = record { last = receives.hears.last; kept = frames };
         texts = served.texts;
         sets = served.sets;
@@ -46,8 +46,8 @@ received_at planned state node radio letters receiver before after quiet receive
 
 -- the step of a radio frame that comes, or is missing
 pub received : (planned : Planned) (state : State) (node : Node) (radio : Option Radio) (letters : List Letter) (receiver : Receiver) (before after : Text) → IsQuiet node
-    → Receives planned node.cfn radio node.receiver.heard letters receiver before after → Stands planned state node
+    → Receives planned node.cfn radio node.receiver.rx_frames letters receiver before after → Stands planned state node
     → Stepped planned state (Comes radio) (record node { cfn = (node.cfn + 1) % 256; receiver = receiver; letters = letters }) before.text after.text
 received planned state node radio letters receiver before after quiet receives stands =
     received_at planned state node radio letters receiver before after quiet
-    (subst (λ cfn. Receives planned cfn radio node.receiver.heard letters receiver before after) stands.cfn receives) stands
+    (subst (λ cfn. Receives planned cfn radio node.receiver.rx_frames letters receiver before after) stands.cfn receives) stands

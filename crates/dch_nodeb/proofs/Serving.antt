@@ -10,7 +10,7 @@ use Rattle.dch_nodeb.specs.Sets.{ends, set_frames, started}
 use Rattle.std.specs.Prelude.{◌==◌, if◌then◌else◌, slice_set}
 use Rattle.std.proofs.lemmas.Bool.Decides.{eqb_tells}
 use Rattle.dch_accept.specs.Plans.{Planned}
-use Rattle.dch_heard.specs.Kept.{Listened}
+use Rattle.dch_rxframes.specs.RxFrames.{RxFrames}
 use Rattle.dch_script.specs.Held.{Held as Text}
 use Rattle.dch_nodeb.specs.Moves.{AreNewLetters, AreServed, Served}
 use Rattle.dch_nodeb.specs.Opened.{AreLettersOf, IsLetterOf, IsReceiverOf}
@@ -44,28 +44,28 @@ joined-next texts set text =
     (with_text-here texts set text))
 
 -- one more set was served
-pub served_next : (planned : Planned) (heard : Listened) (set : ℕ) (letters : List Letter) (letter : Letter) (receiver next : Receiver) (before now after : Text)
-    → AreServed planned heard set letters receiver before now → set < 8 → Served planned heard set letter next now after
-    → AreServed planned heard (set + 1) (slice_set letters set letter) next before after
-served_next planned heard set letters letter receiver next before now after are inside served =
+pub served_next : (planned : Planned) (rx_frames : RxFrames) (set : ℕ) (letters : List Letter) (letter : Letter) (receiver next : Receiver) (before now after : Text)
+    → AreServed planned rx_frames set letters receiver before now → set < 8 → Served planned rx_frames set letter next now after
+    → AreServed planned rx_frames (set + 1) (slice_set letters set letter) next before after
+served_next planned rx_frames set letters letter receiver next before now after are inside served =
     let new : List Letter = slice_set letters set letter in
     let room : set < length letters = subst (λ n. set < n) (sym are.letters_opened.all) inside in
     let texts : ℕ → List ℕ = with_text are.texts set served.text in
     let own : letter_at new set ≡ letter = get_or-set_same letters set letter _ room in
     let others : (s : ℕ) → s ≢ set → letter_at new s ≡ letter_at letters s = (λ s other. get_or-set_other letters set s letter _ other) in
-    let here : ServesSet planned heard set (texts set) (letter_at new set).sent =
-    subst (λ (t : List ℕ). ServesSet planned heard set t (letter_at new set).sent) (sym (with_text-here are.texts set served.text))
-    (subst (λ (l : Letter). ServesSet planned heard set served.text l.sent) (sym own) served.serves) in
-    let there : (s : ℕ) → s < set → ServesSet planned heard s (texts s) (letter_at new s).sent =
+    let here : ServesSet planned rx_frames set (texts set) (letter_at new set).sent =
+    subst (λ (t : List ℕ). ServesSet planned rx_frames set t (letter_at new set).sent) (sym (with_text-here are.texts set served.text))
+    (subst (λ (l : Letter). ServesSet planned rx_frames set served.text l.sent) (sym own) served.serves) in
+    let there : (s : ℕ) → s < set → ServesSet planned rx_frames s (texts s) (letter_at new s).sent =
     (λ s early.
     let apart : s ≢ set = omega arith in
-    subst (λ (t : List ℕ). ServesSet planned heard s t (letter_at new s).sent) (sym (with_text-other are.texts set served.text s apart))
-    (subst (λ (l : Letter). ServesSet planned heard s (are.texts s) l.sent) (sym (others s apart)) (are.sets s early))) in
+    subst (λ (t : List ℕ). ServesSet planned rx_frames s t (letter_at new s).sent) (sym (with_text-other are.texts set served.text s apart))
+    (subst (λ (l : Letter). ServesSet planned rx_frames s (are.texts s) l.sent) (sym (others s apart)) (are.sets s early))) in
     let long : joined texts (set + 1) ≡ joined are.texts set ++ served.text = joined-next are.texts set served.text in
     record {
       texts = texts;
       sets = λ s early. elim (eqb_tells s set) [
-        | inl same ↦ subst (λ k. ServesSet planned heard k (texts k) (letter_at new k).sent) (sym same.1) here
+        | inl same ↦ subst (λ k. ServesSet planned rx_frames k (texts k) (letter_at new k).sent) (sym same.1) here
         | inr other ↦ there s (let apart : s ≢ set = other.1 in omega arith)
       ];
       later = λ s late few. ap (λ (l : Letter). l.sent) (others s (omega arith)) ∙ are.later s (omega arith) few;
@@ -83,16 +83,16 @@ served_next planned heard set letters letter receiver next before now after are 
     }
 
 -- the frame of a set was sent
-pub sent_up : (planned : Planned) (heard : Listened) (set start : ℕ) (old new : Letter) (receiver : Receiver) (before after : Text) → SendsUp planned set start old new before after → AreRead planned heard set old.held
-    → ends (set_frames planned.config.uplink.side set) heard.cfn ≡ true → start ≡ started (set_frames planned.config.uplink.side set) heard.cfn → IsReceiverOf planned receiver → receiver.heard ≡ heard
-    → Served planned heard set new receiver before after
-sent_up planned heard set start old new receiver before after sends read over begun opened same = record {
+pub sent_up : (planned : Planned) (rx_frames : RxFrames) (set start : ℕ) (old new : Letter) (receiver : Receiver) (before after : Text) → SendsUp planned set start old new before after → AreRead planned rx_frames set old.held
+    → ends (set_frames planned.config.uplink.side set) rx_frames.cfn ≡ true → start ≡ started (set_frames planned.config.uplink.side set) rx_frames.cfn → IsReceiverOf planned receiver → receiver.rx_frames ≡ rx_frames
+    → Served planned rx_frames set new receiver before after
+sent_up planned rx_frames set start old new receiver before after sends read over begun opened same = record {
   text = as_line (iub_text Up set sends.octets);
   few = sends.few;
   serves = inr (inr (record {
     over = over;
     held = new.held;
-    read = subst (λ (h : HeldSet). AreRead planned heard set h) (sym sends.held) read;
+    read = subst (λ (h : HeldSet). AreRead planned rx_frames set h) (sym sends.held) read;
     octets = sends.octets;
     written = subst (λ n. IsWrittenForm planned.config Up set sends.octets n planned.config.qe new.held) begun sends.written;
     told = refl;
@@ -106,7 +106,7 @@ sent_up planned heard set start old new receiver before after sends read over be
 
 -- no set was served yet
 pub none_served : (planned : Planned) (letters : List Letter) (receiver : Receiver) (before : Text) → AreLettersOf planned letters → IsReceiverOf planned receiver
-    → ((s : ℕ) → s < 8 → (letter_at letters s).sent ≡ None) → AreServed planned receiver.heard 0 letters receiver before before
+    → ((s : ℕ) → s < 8 → (letter_at letters s).sent ≡ None) → AreServed planned receiver.rx_frames 0 letters receiver before before
 none_served planned letters receiver before are opened quiet = record {
   texts = λ s. [];
   sets = λ s early. absurd (omega arith);

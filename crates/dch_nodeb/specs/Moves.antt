@@ -9,7 +9,7 @@ use Rattle.dch_accept.specs.Frames.{Frame}
 use Rattle.dch_accept.specs.HeldSets.{IsIdleSet, IsSetOf, held_at}
 use Rattle.dch_accept.specs.Plans.{Planned}
 use Rattle.dch_ttibuf.specs.Loaded.{loaded_at}
-use Rattle.dch_heard.specs.Kept.{Listened, kept_at}
+use Rattle.dch_rxframes.specs.RxFrames.{RxFrames, rx_frame_at}
 use Rattle.dch_dlphy.specs.Frames.{IsFrame}
 use Rattle.dch_dlphy.specs.Loaded.{IsLoaded}
 use Rattle.dch_iub.specs.Answers.{IsCause}
@@ -144,36 +144,36 @@ pub record Departs (planned : Planned) (cfn : ℕ) (old new : List Place) (sende
   pub sends : Sends planned cfn loaded sent before after
 
 -- a radio frame is kept for a CFN, or that it is missing
-pub record Hears (planned : Planned) (cfn : ℕ) (radio : Option Radio) (old new : Listened) : Type 0 where
+pub record Hears (planned : Planned) (cfn : ℕ) (radio : Option Radio) (old new : RxFrames) : Type 0 where
   pub last : new.cfn ≡ cfn
-  pub kept : KeepsRadio planned radio (kept_at new.frames (cfn % 8))
-  pub others : (k : ℕ) → k ≢ cfn % 8 → kept_at new.frames k ≡ kept_at old.frames k
+  pub kept : KeepsRadio planned radio (rx_frame_at new.frames (cfn % 8))
+  pub others : (k : ℕ) → k ≢ cfn % 8 → rx_frame_at new.frames k ≡ rx_frame_at old.frames k
 
 -- a set was served
-pub record Served (planned : Planned) (heard : Listened) (set : ℕ) (letter : Letter) (receiver : Receiver) (before after : Text) : Type 0 where
+pub record Served (planned : Planned) (rx_frames : RxFrames) (set : ℕ) (letter : Letter) (receiver : Receiver) (before after : Text) : Type 0 where
   pub text : List ℕ
   pub few : length text ≤ 300000
-  pub serves : ServesSet planned heard set text letter.sent
+  pub serves : ServesSet planned rx_frames set text letter.sent
   pub told : after ≡ record before { text = before.text ++ text }
   pub letter_opened : IsLetterOf planned set letter
   pub receiver_opened : IsReceiverOf planned receiver
-  pub same : receiver.heard ≡ heard
+  pub same : receiver.rx_frames ≡ rx_frames
 
 -- the first sets were served, and the others send nothing
-pub record AreServed (planned : Planned) (heard : Listened) (count : ℕ) (letters : List Letter) (receiver : Receiver) (before after : Text) : Type 0 where
+pub record AreServed (planned : Planned) (rx_frames : RxFrames) (count : ℕ) (letters : List Letter) (receiver : Receiver) (before after : Text) : Type 0 where
   pub texts : ℕ → List ℕ
-  pub sets : (s : ℕ) → s < count → ServesSet planned heard s (texts s) (letter_at letters s).sent
+  pub sets : (s : ℕ) → s < count → ServesSet planned rx_frames s (texts s) (letter_at letters s).sent
   pub later : (s : ℕ) → count ≤ s → s < 8 → (letter_at letters s).sent ≡ None
   pub few : length (joined texts count) ≤ count * 300000
   pub told : after ≡ record before { text = before.text ++ joined texts count }
   pub letters_opened : AreLettersOf planned letters
   pub receiver_opened : IsReceiverOf planned receiver
-  pub same : receiver.heard ≡ heard
+  pub same : receiver.rx_frames ≡ rx_frames
 
 -- an uplink radio frame came, or is missing, and all sets were served
-pub record Receives (planned : Planned) (cfn : ℕ) (radio : Option Radio) (old : Listened) (letters : List Letter) (receiver : Receiver) (before after : Text) : Type 0 where
-  pub hears : Hears planned cfn radio old receiver.heard
-  pub served : AreServed planned receiver.heard 8 letters receiver before after
+pub record Receives (planned : Planned) (cfn : ℕ) (radio : Option Radio) (old : RxFrames) (letters : List Letter) (receiver : Receiver) (before after : Text) : Type 0 where
+  pub hears : Hears planned cfn radio old receiver.rx_frames
+  pub served : AreServed planned receiver.rx_frames 8 letters receiver before after
 
 -- the letters of the first sets are new
 pub record AreNewLetters (planned : Planned) (count : ℕ) (letters : List Letter) : Type 0 where

@@ -29,7 +29,7 @@ AreNoted planned formats tti =
 
 -- what receives radio frames fits the uplink
 pub record IsReceiverOf (planned : Planned) (receiver : Receiver) : Type 0 where
-  pub heard : IsReaderOf planned receiver.heard
+  pub rx_frames : IsReaderOf planned receiver.rx_frames
   pub tti : HoldsTtis planned.config.uplink.side receiver.tti.room
 
 -- an Iub frame of a set, with room for the longest one

@@ -4,7 +4,7 @@ use Rattle.dch_types.specs.declared.channel.Side.{Side}
 use Rattle.dch_types.specs.Parts.{channel_at}
 use Rattle.dch_accept.specs.declared.frame.FrameView.{FrameView}
 use Rattle.dch_accept.specs.Plans.{Planned}
-use Rattle.dch_heard.specs.Kept.{kept_at}
+use Rattle.dch_rxframes.specs.RxFrames.{rx_frame_at}
 use Rattle.dch_iub.specs.Shape.{ForSet}
 use Rattle.dch_nodeb.specs.declared.event.NodeBEvent.{NodeBEvent}
 use Rattle.dch_nodeb.specs.declared.event.NodeBEvent.TheVariants.{Iub, Down as Due, Phy}
@@ -51,7 +51,7 @@ pub record Stands (planned : Planned) (state : State) (node : Node) : Type 0 whe
   pub cfn : node.cfn ≡ state.cfn
   pub kept : (s : ℕ) → s < 8 → KeepsFrame planned.config.downlink.side s (state.kept s) (place_at node.places s)
   pub given : AreAllLoaded planned state.given node.sender.running.loaded
-  pub frames : (k : ℕ) → k < 8 → KeepsRadio planned (state.frames k) (kept_at node.receiver.heard.frames k)
+  pub frames : (k : ℕ) → k < 8 → KeepsRadio planned (state.frames k) (rx_frame_at node.receiver.rx_frames.frames k)
 
 -- it shows what the last step sent
 pub record Shows (output : Output) (node : Node) : Type 0 where

@@ -4,7 +4,7 @@ use Rattle.dch_accept.specs.Blocks.{Held}
 use Rattle.dch_accept.specs.Frames.{Frame}
 use Rattle.dch_accept.specs.HeldSets.{HeldSet}
 use Rattle.dch_dlphy.specs.Loaded.{Running}
-use Rattle.dch_heard.specs.Kept.{Listened}
+use Rattle.dch_rxframes.specs.RxFrames.{RxFrames}
 use Rattle.dch_nodeb.specs.State.{Radio}
 
 -- a place for the downlink Iub frame of a set: the CFN of the frame, if one is kept, and the blocks
@@ -30,7 +30,7 @@ radio_if false frame = None
 
 -- the radio frames that came, and room for the blocks of a TTI
 pub record Receiver : Type 0 where
-  pub heard : Listened
+  pub rx_frames : RxFrames
   pub tti : Held
 
 -- an uplink Iub frame: its blocks, its octets where the last step sent it, and how many there is room for

@@ -7,7 +7,7 @@ use crate::place::{Place, blocks_of, ready};
 use crate::sender::Sender;
 use crate::sets::{downlink, starts};
 use dch_accept::Accepted;
-use dch_heard::channel_of;
+use dch_rxframes::channel_of;
 use dch_script::Report;
 
 /// Loads the blocks that the places have for the channels whose TTI starts at a CFN.

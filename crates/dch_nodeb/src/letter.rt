@@ -85,10 +85,10 @@ impl Letter {
         requires opened { IsLetterOf accepted.now set self.old }
         requires quiet { self.old.sent ≡ None }
         requires receiver { IsReceiverOf accepted.now receiver.old }
-        requires over { ends (set_frames accepted.now.config.uplink.side set) receiver.old.heard.cfn ≡ true }
-        requires start { start ≡ started (set_frames accepted.now.config.uplink.side set) receiver.old.heard.cfn }
+        requires over { ends (set_frames accepted.now.config.uplink.side set) receiver.old.rx_frames.cfn ≡ true }
+        requires start { start ≡ started (set_frames accepted.now.config.uplink.side set) receiver.old.rx_frames.cfn }
         requires room { HasRoomFor report.old 300000 }
-        ensures { Served accepted.now receiver.old.heard set self.new receiver.new report.old report.new }
+        ensures { Served accepted.now receiver.old.rx_frames set self.new receiver.new report.old report.new }
     {
         match receiver.read_set(accepted, set, &mut self.blocks) {
             Ok(()) => self.send(accepted, set, start, report),

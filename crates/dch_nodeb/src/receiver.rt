@@ -2,7 +2,7 @@ ghost use Rattle.std.specs.Prelude.{◌≡◌, ◌≢◌, ◌<◌, ℕ, length, 
 ghost use Rattle.dch_types.specs.declared.channel.Dir.TheVariants.{Up};
 ghost use Rattle.dch_types.specs.Parts.{channel_at};
 ghost use Rattle.dch_accept.specs.HeldSets.{IsSetOf, held_at};
-ghost use Rattle.dch_heard.specs.Formats.{IsBadFrame};
+ghost use Rattle.dch_rxframes.specs.Formats.{IsBadFrame};
 ghost use Rattle.dch_ulphy.specs.Kept.{AreMissing};
 ghost use Rattle.dch_ulphy.specs.Read.{IsTtiRead};
 ghost use Rattle.dch_nodeb.specs.Moves.{Hears};
@@ -13,7 +13,7 @@ ghost use Rattle.dch_nodeb.specs.Steps.{AreRead, IsBadTti};
 use crate::sets::uplink;
 use dch_accept::{Accepted, FrameView, SetBlocks, TtiBlocks};
 use dch_bits::NoMemory;
-use dch_heard::channel_of;
+use dch_rxframes::channel_of;
 use dch_types::Dir;
 use dch_ulphy::{TtiOutcome, UlReader};
 use std::alloc::Global;
@@ -38,14 +38,14 @@ impl Model for Receiver {
 
     ghost Value = { Receiver };
 
-    ghost view = { λ r. record { heard = r.reader; tti = r.tti } };
+    ghost view = { λ r. record { rx_frames = r.reader; tti = r.tti } };
 }
 
 impl Receiver {
     /// Takes all memory that receiving wants. No frame is there.
     pub fn open(alloc: Global, accepted: &Accepted) -> Result<Receiver, NoMemory>
         ensures opened { IfOk result (IsReceiverOf accepted.now) }
-        ensures missing { IfOk result (λ receiver. AreMissing accepted.now 8 receiver.heard.frames) }
+        ensures missing { IfOk result (λ receiver. AreMissing accepted.now 8 receiver.rx_frames.frames) }
     {
         Ok(Receiver {
             reader: UlReader::open(alloc, accepted)?,
@@ -57,7 +57,7 @@ impl Receiver {
     pub fn push(&mut self, accepted: &Accepted, cfn: u8, frame: Option<FrameView<'_>>)
         requires opened { IsReceiverOf accepted.now self.old }
         requires tfci { HasTfci frame }
-        ensures hears { Hears accepted.now cfn (radio_of frame.entry) self.old.heard self.new.heard }
+        ensures hears { Hears accepted.now cfn (radio_of frame.entry) self.old.rx_frames self.new.rx_frames }
         ensures opened { IsReceiverOf accepted.now self.new }
     {
         self.reader.push(accepted, cfn, frame);
@@ -72,11 +72,11 @@ impl Receiver {
     ) -> Result<(), BadTti>
         requires opened { IsReceiverOf accepted.now self.old }
         requires blocks { IsSetOf accepted.now.config Up set blocks.old }
-        ensures read { IfOk result (λ _. AreRead accepted.now self.old.heard set blocks.new) }
-        ensures bad { IfErr result (λ bad. IsBadTti accepted.now.config.uplink.side self.old.heard set bad.channel bad.frame) }
+        ensures read { IfOk result (λ _. AreRead accepted.now self.old.rx_frames set blocks.new) }
+        ensures bad { IfErr result (λ bad. IsBadTti accepted.now.config.uplink.side self.old.rx_frames set bad.channel bad.frame) }
         ensures blocks { IsSetOf accepted.now.config Up set blocks.new }
         ensures opened { IsReceiverOf accepted.now self.new }
-        ensures same { self.new.heard ≡ self.old.heard }
+        ensures same { self.new.rx_frames ≡ self.old.rx_frames }
     {
         let side = uplink(accepted);
         for i in 0..side.channels.len() {
@@ -103,12 +103,12 @@ impl Receiver {
         requires blocks { IsSetOf accepted.now.config Up set blocks.old }
         requires channel { channel < length accepted.now.config.uplink.side.channels }
         requires member { (channel_at accepted.now.config.uplink.side channel).set ≡ set }
-        ensures read { IfOk result (λ _. IsTtiRead accepted.now self.old.heard channel (held_at blocks.new.blocks channel)) }
-        ensures bad { IfErr result (λ bad. (bad.channel ≡ channel) × IsBadFrame accepted.now.config.uplink.side self.old.heard channel bad.frame) }
+        ensures read { IfOk result (λ _. IsTtiRead accepted.now self.old.rx_frames channel (held_at blocks.new.blocks channel)) }
+        ensures bad { IfErr result (λ bad. (bad.channel ≡ channel) × IsBadFrame accepted.now.config.uplink.side self.old.rx_frames channel bad.frame) }
         ensures others { (j : ℕ) → j ≢ channel → held_at blocks.new.blocks j ≡ held_at blocks.old.blocks j }
         ensures blocks { IsSetOf accepted.now.config Up set blocks.new }
         ensures opened { IsReceiverOf accepted.now self.new }
-        ensures same { self.new.heard ≡ self.old.heard }
+        ensures same { self.new.rx_frames ≡ self.old.rx_frames }
     {
         match self.reader.read(accepted, channel, &mut self.tti) {
             TtiOutcome::Blocks => {

@@ -13,7 +13,7 @@ use crate::sets::downlink;
 use dch_accept::{Accepted, FrameView, PhyFrame, TtiBlocks};
 use dch_bits::NoMemory;
 use dch_dlphy::{DlTti, write};
-use dch_heard::format_number;
+use dch_rxframes::format_number;
 use dch_script::Report;
 use dch_types::{Dir, Side};
 use std::alloc::Global;

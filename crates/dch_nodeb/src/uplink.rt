@@ -20,12 +20,12 @@ fn serve(
     letter: &mut Letter,
     report: &mut Report,
 )
-    requires last { receiver.old.heard.cfn ≡ cfn }
+    requires last { receiver.old.rx_frames.cfn ≡ cfn }
     requires receiver { IsReceiverOf accepted.now receiver.old }
     requires letter { IsLetterOf accepted.now set letter.old }
     requires quiet { letter.old.sent ≡ None }
     requires room { HasRoomFor report.old 300000 }
-    ensures { Served accepted.now receiver.old.heard set letter.new receiver.new report.old report.new }
+    ensures { Served accepted.now receiver.old.rx_frames set letter.new receiver.new report.old report.new }
 {
     let frames = set_frames(uplink(accepted), set);
     if starts(frames, u16::from(cfn) + 1) {
@@ -47,7 +47,7 @@ pub fn receive(
     requires quiet { (s : ℕ) → s < 8 → (letter_at letters.old s).sent ≡ None }
     requires tfci { HasTfci frame }
     requires room { HasRoomFor report.old 2400000 }
-    ensures { Receives accepted.now cfn (radio_of frame.entry) receiver.old.heard letters.new receiver.new report.old report.new }
+    ensures { Receives accepted.now cfn (radio_of frame.entry) receiver.old.rx_frames letters.new receiver.new report.old report.new }
 {
     receiver.push(accepted, cfn, frame);
     for set in 0..SETS {

@@ -9,7 +9,7 @@ ghost use Rattle.dch_ttibuf.specs.Loaded.{AreFormats, Loaded, loaded_at};
 
 use dch_accept::{Accepted, PhyFrame, TtiBlocks};
 use dch_bits::Bit;
-use dch_heard::TtiOutcome;
+use dch_rxframes::TtiOutcome;
 use dch_types::Dir;
 
 /// Both ends of a direction: the TTIs that are loaded to be sent, and the radio frames that were received.

@@ -7,7 +7,7 @@ ghost use Rattle.dch_accept.specs.Blocks.{HoldsTtis, bits_of};
 use crate::chance::fill;
 use dch_accept::{Accepted, TtiBlocks};
 use dch_bits::Bit;
-use dch_heard::format_number;
+use dch_rxframes::format_number;
 use dch_types::{Dir, Side};
 
 /// The channels and combinations of a direction.

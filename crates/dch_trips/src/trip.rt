@@ -9,7 +9,7 @@ use crate::ends::Ends;
 use crate::given::{are_given, are_zeros, fits, formats_of, give, note, nothing, side_of};
 use dch_accept::{Accepted, PhyFrame, TtiBlocks};
 use dch_bits::NoMemory;
-use dch_heard::{TtiOutcome, format_number, frames_of};
+use dch_rxframes::{TtiOutcome, format_number, frames_of};
 use std::alloc::Global;
 
 /// Both ends of a direction, and the air between them.

@@ -3,7 +3,7 @@ ghost use Rattle.std.specs.Prelude.{IfOk};
 use crate::ends::Ends;
 use dch_accept::{Accepted, PhyFrame, TtiBlocks};
 use dch_bits::{Bit, NoMemory};
-use dch_heard::TtiOutcome;
+use dch_rxframes::TtiOutcome;
 use dch_types::Dir;
 use dch_ulphy::{UlReader, UlTti, write};
 use std::alloc::Global;

@@ -29,8 +29,8 @@ use Rattle.dch_frame.proofs.Carried.{rows_of, whole_rows, place_inside}
 use Rattle.dch_frame.proofs.Codes.{code_back-inside, code_place-back}
 use Rattle.dch_frame.proofs.Kept.{origin_of-inside}
 use Rattle.dch_accept.specs.Plans.{Planned, plan_at}
-use Rattle.dch_ulphy.specs.Frames.{frame_number, pattern_of, sent_cell, places_before, multiplexed_cell, frame_cell}
-use Rattle.dch_heard.specs.Kept.{Kept}
+use Rattle.dch_ulphy.specs.Frames.{frame_number, pattern_of, sent_cell, bits_before, multiplexed_cell, frame_cell}
+use Rattle.dch_rxframes.specs.RxFrames.{RxFrame}
 use Rattle.dch_ulphy.specs.Loaded.{AreInterleaved, Loaded, loaded_at}
 use Rattle.dch_ulphy.specs.Read.{channel_cells, pattern_in}
 use Rattle.dch_ulphy.specs.Sent.{IsSentFrame}
@@ -39,23 +39,23 @@ use Rattle.dch_ulphy.proofs.Sizes.{plan_sized}
 use Rattle.dch_ulphy.proofs.Sent.{multiplexed_before, multiplexed_here}
 
 -- a place of channel i shows what that channel sends, however many channels follow
-pub multiplexed_at : (planned : Planned) (tti : List Loaded) (cfn c count i q : ℕ) → i < count → q < slice_index (plan_at planned.uplink c).sent i → multiplexed_cell planned tti cfn c count (places_before (plan_at planned.uplink c) i + q) ≡ sent_cell planned tti cfn c i q
+pub multiplexed_at : (planned : Planned) (tti : List Loaded) (cfn c count i q : ℕ) → i < count → q < slice_index (plan_at planned.uplink c).sent i → multiplexed_cell planned tti cfn c count (bits_before (plan_at planned.uplink c) i + q) ≡ sent_cell planned tti cfn c i q
 multiplexed_at planned tti cfn c zero i q inside early = absurd (omega arith)
 multiplexed_at planned tti cfn c (suc count) i q inside early = elim (cases_lt i count) [
   | inl before ↦
       let sent = slice_index (plan_at planned.uplink c).sent in
-      let room : places_before (plan_at planned.uplink c) i + sent i ≤ places_before (plan_at planned.uplink c) count = part_le sent i count before in
+      let room : bits_before (plan_at planned.uplink c) i + sent i ≤ bits_before (plan_at planned.uplink c) count = part_le sent i count before in
       let more : count + 1 ≡ suc count = add-one count in
-      ap (λ n. multiplexed_cell planned tti cfn c n (places_before (plan_at planned.uplink c) i + q)) (sym more)
-      ∙ multiplexed_before planned tti cfn c count (places_before (plan_at planned.uplink c) i + q) (omega (arith, room, early))
+      ap (λ n. multiplexed_cell planned tti cfn c n (bits_before (plan_at planned.uplink c) i + q)) (sym more)
+      ∙ multiplexed_before planned tti cfn c count (bits_before (plan_at planned.uplink c) i + q) (omega (arith, room, early))
       ∙ multiplexed_at planned tti cfn c count i q before early
   | inr past ↦
       let here : i ≡ count = omega arith in
       let more : count + 1 ≡ suc count = add-one count in
-      ap (λ n. multiplexed_cell planned tti cfn c n (places_before (plan_at planned.uplink c) i + q)) (sym more)
-      ∙ ap (λ i. multiplexed_cell planned tti cfn c (count + 1) (places_before (plan_at planned.uplink c) i + q)) here
-      ∙ multiplexed_here planned tti cfn c count (places_before (plan_at planned.uplink c) count + q) (omega arith)
-      ∙ ap (λ q. sent_cell planned tti cfn c count q) (add_less (places_before (plan_at planned.uplink c) count) q)
+      ap (λ n. multiplexed_cell planned tti cfn c n (bits_before (plan_at planned.uplink c) i + q)) (sym more)
+      ∙ ap (λ i. multiplexed_cell planned tti cfn c (count + 1) (bits_before (plan_at planned.uplink c) i + q)) here
+      ∙ multiplexed_here planned tti cfn c count (bits_before (plan_at planned.uplink c) count + q) (omega arith)
+      ∙ ap (λ q. sent_cell planned tti cfn c count q) (add_less (bits_before (plan_at planned.uplink c) count) q)
       ∙ ap (λ i. sent_cell planned tti cfn c i q) (sym here)
 ]
   where
@@ -63,7 +63,7 @@ multiplexed_at planned tti cfn c (suc count) i q inside early = elim (cases_lt i
     add_less a q = omega arith
 
 -- a multiplexed cell of a frame that is kept as it was written
-kept_cell : (planned : Planned) (i n c : ℕ) (loaded : Loaded) (kept : Kept) (sent : IsSentFrame planned i n c loaded kept) (p : ℕ) → IsFrameSize (plan_at planned.uplink c).ndata → p < (plan_at planned.uplink c).ndata → get_or kept.cells p Off ≡ multiplexed_cell planned sent.tti sent.cfn c (length planned.config.uplink.side.channels) p
+kept_cell : (planned : Planned) (i n c : ℕ) (loaded : Loaded) (kept : RxFrame) (sent : IsSentFrame planned i n c loaded kept) (p : ℕ) → IsFrameSize (plan_at planned.uplink c).ndata → p < (plan_at planned.uplink c).ndata → get_or kept.cells p Off ≡ multiplexed_cell planned sent.tti sent.cfn c (length planned.config.uplink.side.channels) p
 unfolding frame_cell
 kept_cell planned i n c loaded kept sent p size inside =
     let ndata : ℕ = (plan_at planned.uplink c).ndata in
@@ -85,11 +85,11 @@ unfolding frame_pattern
 pattern_len planned i n c = refl
 
 -- the cells of channel i show the coded bits of its segment
-pub segment_shown : (planned : Planned) (i n c : ℕ) (loaded : Loaded) (kept : Kept) (sent : IsSentFrame planned i n c loaded kept) (coded : List Bit) (f rows k : ℕ)
+pub segment_shown : (planned : Planned) (i n c : ℕ) (loaded : Loaded) (kept : RxFrame) (sent : IsSentFrame planned i n c loaded kept) (coded : List Bit) (f rows k : ℕ)
     → f ≡ (channel_at planned.config.uplink.side i).frames → rows ≡ before_of planned.config.uplink.side c i → n < f
     → AreInterleaved f coded loaded.cells → length loaded.cells ≡ rows * f
     → i < length planned.config.uplink.side.channels → IsFrameSize (plan_at planned.uplink c).ndata
-    → places_before (plan_at planned.uplink c) i + slice_index (plan_at planned.uplink c).sent i ≤ (plan_at planned.uplink c).ndata
+    → bits_before (plan_at planned.uplink c) i + slice_index (plan_at planned.uplink c).sent i ≤ (plan_at planned.uplink c).ndata
     → k < slice_index (plan_at planned.uplink c).sent i
     → origin_of (pattern_in planned i n c) k < rows
     → get_or (channel_cells (plan_at planned.uplink c) i kept.cells) k Off ≡ as_cell (get_or (segment_bits f (rows * f) coded n rows) (origin_of (pattern_in planned i n c) k) Zero)
@@ -102,9 +102,9 @@ segment_shown planned i n c loaded kept sent coded f rows k frames is frame cell
     let high : pattern.len ≡ rows = pattern_len planned i n c ∙ sym is in
     let of_number : pattern_of planned sent.cfn c i ≡ pattern = ap (λ n. pattern_in planned i n c) sent.number in
     let within : n * rows + o < rows * f = mul-add-lt n rows o f frame small in
-    get_or-take (slice_index plan.sent i) (drop (places_before plan i) kept.cells) k Off inside
-    ∙ get_or-drop (places_before plan i) kept.cells k Off
-    ∙ kept_cell planned i n c loaded kept sent (places_before plan i + k) size (omega (arith, room, inside))
+    get_or-take (slice_index plan.sent i) (drop (bits_before plan i) kept.cells) k Off inside
+    ∙ get_or-drop (bits_before plan i) kept.cells k Off
+    ∙ kept_cell planned i n c loaded kept sent (bits_before plan i + k) size (omega (arith, room, inside))
     ∙ multiplexed_at planned sent.tti sent.cfn c (length side.channels) i k channel inside
     ∙ ap (λ (pattern : Pattern). get_or (loaded_at sent.tti i).cells (frame_number side i sent.cfn * pattern.len + origin_of pattern k) Off) of_number
     ∙ ap (λ n. get_or (loaded_at sent.tti i).cells (n * pattern.len + o) Off) sent.number
@@ -126,7 +126,7 @@ segment_bit f rows len coded n j frames some whole inside of =
     ∙ ap (λ i. get_or coded i Zero) (first_of-back f len j frames (whole_rows f rows len some whole) inside)
 
 -- what was loaded for a frame that is kept has whole segments
-pub sent_long : (planned : Planned) (i n c : ℕ) (loaded : Loaded) (kept : Kept) (sent : IsSentFrame planned i n c loaded kept) → IsSide planned.config.uplink.side → i < length planned.config.uplink.side.channels → c < length planned.config.uplink.side.combinations → length loaded.cells ≡ before_of planned.config.uplink.side c i * (channel_at planned.config.uplink.side i).frames
+pub sent_long : (planned : Planned) (i n c : ℕ) (loaded : Loaded) (kept : RxFrame) (sent : IsSentFrame planned i n c loaded kept) → IsSide planned.config.uplink.side → i < length planned.config.uplink.side.channels → c < length planned.config.uplink.side.combinations → length loaded.cells ≡ before_of planned.config.uplink.side c i * (channel_at planned.config.uplink.side i).frames
 sent_long planned i n c loaded kept sent good channel listed =
     let side = planned.config.uplink.side in
     let f : ℕ = format_number side c i in
@@ -134,7 +134,7 @@ sent_long planned i n c loaded kept sent good channel listed =
     ap (λ (loaded : Loaded). length loaded.cells) (sym sent.holds) ∙ sent.written.opened.long i channel f there (sent.formats i channel)
 
 -- the votes of a frame that is kept as it was written are the copies of its coded bits
-pub frame_arrived : (planned : Planned) (i n c : ℕ) (loaded : Loaded) (kept : Kept) (sent : IsSentFrame planned i n c loaded kept) (coded : List Bit) (f rows : ℕ) (pattern : Pattern) (cells : List Trit) (votes : List Vote)
+pub frame_arrived : (planned : Planned) (i n c : ℕ) (loaded : Loaded) (kept : RxFrame) (sent : IsSentFrame planned i n c loaded kept) (coded : List Bit) (f rows : ℕ) (pattern : Pattern) (cells : List Trit) (votes : List Vote)
     → IsSide planned.config.uplink.side → i < length planned.config.uplink.side.channels → c < length planned.config.uplink.side.combinations
     → IsPlan planned.config.uplink c (plan_at planned.uplink c)
     → f ≡ (channel_at planned.config.uplink.side i).frames → IsFrames f → n < f → rows ≡ before_of planned.config.uplink.side c i
@@ -149,7 +149,7 @@ frame_arrived planned i n c loaded kept sent coded f rows pattern cells votes go
     let bits : List Bit = segment_bits f (rows * f) coded n rows in
     let some : 0 < f = omega arith in
     let long : length loaded.cells ≡ rows * f = sent_long planned i n c loaded kept sent good channel listed ∙ ap (λ rows. rows * (channel_at side i).frames) (sym is) ∙ ap (λ f. rows * f) (sym frames) in
-    let room : places_before plan i + slice_index plan.sent i ≤ plan.ndata = omega (arith, part_le (slice_index plan.sent) i (length side.channels) channel, is_plan.all_sent) in
+    let room : bits_before plan i + slice_index plan.sent i ≤ plan.ndata = omega (arith, part_le (slice_index plan.sent) i (length side.channels) channel, is_plan.all_sent) in
     let high : pattern.len ≡ rows = ap (λ (pattern : Pattern). pattern.len) same_pattern ∙ pattern_len planned i n c ∙ sym is in
     let cell : (k : ℕ) → k < length cells → get_or cells k Off ≡ as_cell (get_or bits (origin_of pattern k) Zero) =
     λ k early.

@@ -1,5 +1,5 @@
 pub mod Arrived
-pub mod Heard
+pub mod Demultiplexed
 pub mod Padded
 pub mod Sent
 pub mod SentBack

@@ -8,8 +8,8 @@ use Rattle.dch_removal.specs.Copies.{frame_copies}
 use Rattle.dch_accept.specs.Blocks.{bits_of}
 use Rattle.dch_accept.specs.Frames.{Frame}
 use Rattle.dch_accept.specs.Plans.{Planned}
-use Rattle.dch_heard.specs.Kept.{Kept, Listened}
-use Rattle.dch_heard.specs.Sent.{AreSentFrames as AreSentFramesBy, IsSentFrame as IsSentFrameBy}
+use Rattle.dch_rxframes.specs.RxFrames.{RxFrame, RxFrames}
+use Rattle.dch_rxframes.specs.Sent.{AreSentFrames as AreSentFramesBy, IsSentFrame as IsSentFrameBy}
 use Rattle.dch_ulphy.specs.Frames.{IsFrame}
 use Rattle.dch_ulphy.specs.Loaded.{IsLoaded, IsTtiOf, Loaded}
 use Rattle.dch_ulphy.specs.Tables.{code_length}
@@ -20,11 +20,11 @@ pub record IsWritten (planned : Planned) (tti : List Loaded) (cfn c : ℕ) (fram
   pub shows : IsFrame planned tti cfn c frame
 
 -- a frame is kept as it was written in combination c, as frame n of the TTI of channel i, of which this was loaded
-abbrev pub IsSentFrame : Planned → ℕ → ℕ → ℕ → Loaded → Kept → Type 0
+abbrev pub IsSentFrame : Planned → ℕ → ℕ → ℕ → Loaded → RxFrame → Type 0
 IsSentFrame planned i n c loaded kept = IsSentFrameBy planned.config.uplink.side (IsWritten planned) code_length i n c loaded kept
 
 -- and so are all frames of the TTI, each in its combination of a sequence
-abbrev pub AreSentFrames : Planned → Listened → ℕ → List ℕ → Loaded → Type 0
+abbrev pub AreSentFrames : Planned → RxFrames → ℕ → List ℕ → Loaded → Type 0
 AreSentFrames planned reader i sequence loaded = AreSentFramesBy planned.config.uplink.side (IsWritten planned) code_length reader i sequence loaded
 
 -- the copies of coded bit j of a TTI of so many bits that are sent in a sequence of combinations
@@ -35,7 +35,7 @@ tti_copies uplink i sequence len j =
     frame_copies uplink i n (slice_index sequence n) (place_of frames len j)
 
 -- blocks in format f were loaded for channel i, and all frames of the TTI are kept as they were written meanwhile
-pub record IsSentTti (planned : Planned) (reader : Listened) (i f : ℕ) (sequence : List ℕ) (blocks : List Bit) : Type 0 where
+pub record IsSentTti (planned : Planned) (reader : RxFrames) (i f : ℕ) (sequence : List ℕ) (blocks : List Bit) : Type 0 where
   pub loaded : Loaded
   pub from : IsLoaded (channel_at planned.config.uplink.side i) f blocks loaded
   pub whole : length blocks ≡ bits_of (format_at (channel_at planned.config.uplink.side i) f)

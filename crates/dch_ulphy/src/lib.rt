@@ -2,17 +2,17 @@
 //! frames that were received (TS 25.212 4.2).
 #![tactic(auto)]
 
+mod demultiplexing;
 mod formats;
-mod hearing;
-mod kept;
 mod laws;
 mod pad;
 mod reader;
+mod reception;
 mod tables;
 mod tti;
 mod writer;
 
-pub use dch_heard::TtiOutcome;
+pub use dch_rxframes::TtiOutcome;
 pub use laws::written_frame_law;
 pub use reader::UlReader;
 pub use tti::UlTti;

@@ -4,45 +4,45 @@ ghost use Rattle.dch_types.specs.Parts.{channel_at, format_at};
 ghost use Rattle.dch_legal.specs.Sequences.{IsLegal};
 ghost use Rattle.dch_accept.specs.Blocks.{HoldsTtis};
 ghost use Rattle.dch_decode.specs.Received.{ArrivesAs};
-ghost use Rattle.dch_heard.specs.Kept.{kept_at};
+ghost use Rattle.dch_rxframes.specs.RxFrames.{rx_frame_at};
 ghost use Rattle.dch_ulphy.specs.Kept.{AreMissing, HasUplinkTfci, IsReaderOf, Keeps};
 ghost use Rattle.dch_ulphy.specs.Outcomes.{IsOutcome, IsSentBack};
-ghost use Rattle.dch_heard.specs.Formats.{IsFormatOf};
+ghost use Rattle.dch_rxframes.specs.Formats.{IsFormatOf};
 ghost use Rattle.dch_ulphy.specs.Read.{IsTtiRead};
 ghost use Rattle.dch_ulphy.specs.Sent.{IsSentTti};
 
+use crate::demultiplexing::demultiplex_tti;
 use crate::formats::{channel_of, format_of_tti};
-use crate::hearing::hear_tti;
-use crate::kept::hear;
 use crate::pad::MOST_BITS;
+use crate::reception::receive_frame;
 use crate::tables::Tables;
 use dch_accept::{Accepted, FrameView, TtiBlocks};
 use dch_bits::{NoMemory, Vote};
 use dch_decode::Decoder;
-use dch_heard::{History, TtiOutcome, format_of};
+use dch_rxframes::{ReceivedFrames, TtiOutcome, format_of};
 use std::alloc::Global;
 use std::marker::Model;
 
 /// Received uplink radio frames, and the room to read the TTIs of the channels from them.
 #[derive(Drop)]
 pub struct UlReader {
-    history: History,
+    rx_frames: ReceivedFrames,
     tables: Tables,
-    ears: Ears,
+    scratch: RxScratch,
 }
 
 impl Model for UlReader {
     ghost use Rattle.dch_decode.specs.Received.{ArrivesAs};
-    ghost use Rattle.dch_heard.specs.Kept.{Listened};
+    ghost use Rattle.dch_rxframes.specs.RxFrames.{RxFrames};
 
-    ghost Value = { Listened };
+    ghost Value = { RxFrames };
 
-    ghost view = { λ r. r.history };
+    ghost view = { λ r. r.rx_frames };
 }
 
 /// The room to count the votes of a TTI and to decode it.
 #[derive(Drop)]
-struct Ears {
+struct RxScratch {
     counted: Vec<Vote>,
     votes: Vec<Vote>,
     decoder: Decoder,
@@ -57,9 +57,9 @@ impl UlReader {
         ensures opened { IfOk result (IsReaderOf accepted.now) }
     {
         Ok(UlReader {
-            history: History::open(alloc, accepted.config().uplink.largest as usize)?,
+            rx_frames: ReceivedFrames::open(alloc, accepted.config().uplink.largest as usize)?,
             tables: Tables::open(alloc)?,
-            ears: Ears::open(alloc)?,
+            scratch: RxScratch::open(alloc)?,
         })
     }
 
@@ -69,21 +69,21 @@ impl UlReader {
     pub fn push(&mut self, accepted: &Accepted, cfn: u8, frame: Option<FrameView<'_>>)
         requires opened { IsReaderOf accepted.now self.old }
         requires tfci { HasUplinkTfci frame }
-        ensures kept { Keeps accepted.now frame.entry (kept_at self.new.frames (cfn % 8)) }
-        ensures others { (k : ℕ) → k ≢ cfn % 8 → kept_at self.new.frames k ≡ kept_at self.old.frames k }
+        ensures kept { Keeps accepted.now frame.entry (rx_frame_at self.new.frames (cfn % 8)) }
+        ensures others { (k : ℕ) → k ≢ cfn % 8 → rx_frame_at self.new.frames k ≡ rx_frame_at self.old.frames k }
         ensures last { self.new.cfn ≡ cfn }
         ensures opened { IsReaderOf accepted.now self.new }
     {
         match frame {
-            Some(frame) => hear(
+            Some(frame) => receive_frame(
                 accepted,
                 &self.tables,
                 cfn,
                 frame.tfci,
                 frame.cells,
-                &mut self.history,
+                &mut self.rx_frames,
             ),
-            None => self.history.miss(cfn),
+            None => self.rx_frames.miss(cfn),
         }
     }
 
@@ -99,10 +99,10 @@ impl UlReader {
         ensures room { out.new.room ≡ out.old.room }
         ensures kept { self.new ≡ self.old }
     {
-        match format_of_tti(accepted, &self.history, channel) {
+        match format_of_tti(accepted, &self.rx_frames, channel) {
             Ok(format) => {
-                self.ears
-                    .read(accepted, &self.history, channel, format, out);
+                self.scratch
+                    .read(accepted, &self.rx_frames, channel, format, out);
                 TtiOutcome::Blocks
             }
             Err(n) => TtiOutcome::BadFrame(n),
@@ -110,10 +110,10 @@ impl UlReader {
     }
 }
 
-impl Ears {
-    fn open(alloc: Global) -> Result<Ears, NoMemory> {
+impl RxScratch {
+    fn open(alloc: Global) -> Result<RxScratch, NoMemory> {
         let none = Vote { zeros: 0, ones: 0 };
-        Ok(Ears {
+        Ok(RxScratch {
             counted: vec![in alloc; none; MOST_BITS]?,
             votes: vec![in alloc; none; MOST_BITS]?,
             decoder: Decoder::open(alloc)?,
@@ -124,24 +124,24 @@ impl Ears {
     fn read(
         &mut self,
         accepted: &Accepted,
-        history: &History,
+        rx_frames: &ReceivedFrames,
         channel: u8,
         format: u8,
         out: &mut TtiBlocks,
     )
-        requires opened { IsReaderOf accepted.now history.now }
+        requires opened { IsReaderOf accepted.now rx_frames.now }
         requires blocks { HoldsTtis accepted.now.config.uplink.side out.old.room }
         requires channel { channel < length accepted.now.config.uplink.side.channels }
-        requires format { IsFormatOf accepted.now.config.uplink.side history.now channel format }
-        ensures read { IsTtiRead accepted.now history.now channel out.new }
+        requires format { IsFormatOf accepted.now.config.uplink.side rx_frames.now channel format }
+        ensures read { IsTtiRead accepted.now rx_frames.now channel out.new }
         ensures undamaged { (sequence : List ℕ) (blocks : List Bit) → IsLegal accepted.now.config.uplink.side channel format sequence →
-            IsSentTti accepted.now history.now channel format sequence blocks → ArrivesAs blocks out.new }
+            IsSentTti accepted.now rx_frames.now channel format sequence blocks → ArrivesAs blocks out.new }
         ensures number { out.new.format ≡ format }
         ensures room { out.new.room ≡ out.old.room }
     {
         read_tti(
             accepted,
-            history,
+            rx_frames,
             channel,
             format,
             &mut self.counted,
@@ -155,7 +155,7 @@ impl Ears {
 /// Counts the votes of a TTI and decodes it.
 fn read_tti(
     accepted: &Accepted,
-    history: &History,
+    rx_frames: &ReceivedFrames,
     channel: u8,
     format: u8,
     counted: &mut [Vote],
@@ -163,15 +163,15 @@ fn read_tti(
     decoder: &mut Decoder,
     out: &mut TtiBlocks,
 )
-    requires opened { IsReaderOf accepted.now history.now }
+    requires opened { IsReaderOf accepted.now rx_frames.now }
     requires counted { length counted.old ≡ 131072 }
     requires votes { length votes.old ≡ 131072 }
     requires blocks { HoldsTtis accepted.now.config.uplink.side out.old.room }
     requires channel { channel < length accepted.now.config.uplink.side.channels }
-    requires format { IsFormatOf accepted.now.config.uplink.side history.now channel format }
-    ensures read { IsTtiRead accepted.now history.now channel out.new }
+    requires format { IsFormatOf accepted.now.config.uplink.side rx_frames.now channel format }
+    ensures read { IsTtiRead accepted.now rx_frames.now channel out.new }
     ensures undamaged { (sequence : List ℕ) (blocks : List Bit) → IsLegal accepted.now.config.uplink.side channel format sequence →
-        IsSentTti accepted.now history.now channel format sequence blocks → ArrivesAs blocks out.new }
+        IsSentTti accepted.now rx_frames.now channel format sequence blocks → ArrivesAs blocks out.new }
     ensures number { out.new.format ≡ format }
     ensures room { out.new.room ≡ out.old.room }
 {
@@ -181,6 +181,6 @@ fn read_tti(
     let frames = trch.frames as usize;
     let rows = bits.div_ceil(frames);
     let votes = &mut votes[..rows * frames];
-    hear_tti(accepted, history, channel, &mut counted[..rows], votes);
+    demultiplex_tti(accepted, rx_frames, channel, &mut counted[..rows], votes);
     decoder.read(trch, format, kind, &votes[..bits], out);
 }

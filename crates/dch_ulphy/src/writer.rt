@@ -11,8 +11,8 @@ use crate::tti::UlTti;
 use dch_accept::{Accepted, PhyFrame};
 use dch_bits::Trit;
 use dch_frame::rate_match;
-use dch_heard::frames_of;
 use dch_match::frame;
+use dch_rxframes::frames_of;
 use dch_tfci::send;
 use dch_ttibuf::TtiBuffer;
 

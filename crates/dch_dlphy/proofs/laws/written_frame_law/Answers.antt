@@ -2,7 +2,7 @@ use Rattle.std.proofs.Common.{Bool, true, false, cond, refl, inl, inr}
 use Rattle.dch_types.specs.declared.channel.Dir.TheVariants.{Down}
 use Rattle.dch_tfci.specs.Tfci.{IsSize}
 use Rattle.dch_accept.specs.Frames.{tfci_bits}
-use Rattle.dch_heard.proofs.Written.{kept-written}
+use Rattle.dch_rxframes.proofs.Written.{kept-written}
 use Rattle.dch_dlphy.specs.Kept.{cells_in, codes_in}
 use Rattle.dch_dlphy.proofs.laws.written_frame_law.Goals as goal
 

@@ -13,8 +13,8 @@ use Rattle.dch_frame.specs.Votes.{votes_of}
 use Rattle.dch_frame.proofs.Kept.{copies_inside}
 use Rattle.dch_decode.specs.Received.{IsReceived}
 use Rattle.dch_search.specs.Clear.{IsClear}
-use Rattle.dch_dlphy.specs.Read.{AreKeptCells, tti_places}
-use Rattle.dch_dlphy.proofs.Heard.{kept_cells, tti_read}
+use Rattle.dch_dlphy.specs.Read.{AreKeptCells, bits_per_tti}
+use Rattle.dch_dlphy.proofs.Demultiplexed.{kept_cells, tti_read}
 use Rattle.dch_dlphy.proofs.SentBack.{tti_arrives}
 use Rattle.dch_dlphy.proofs.reader.read_tti.Goals as goal
 
@@ -22,9 +22,9 @@ pub read-requires-clause-few : goal.read-requires-clause-few
 read-requires-clause-few c j v inside =
     let pattern : Pattern = c.pattern_of-pattern.result in
     let long : length c.count_votes.new.out ≡ pattern.len = search rules in
-    let all : copies_below pattern.kind pattern.len ≤ (channel_at c.args.accepted.now.config.downlink.side c.args.channel).frames * c.places_of-places.result =
-    subst (λ (pattern : Pattern). copies_below pattern.kind pattern.len ≤ (channel_at c.args.accepted.now.config.downlink.side c.args.channel).frames * c.places_of-places.result) (sym c.pattern_of-pattern.ensures.value) c.places_of-places.ensures.fits in
-    omega (arith, c.count_votes.ensures.few j v inside, copies_inside pattern j (omega (arith, inside, long)), all, c.places_of-places.ensures.room)
+    let all : copies_below pattern.kind pattern.len ≤ (channel_at c.args.accepted.now.config.downlink.side c.args.channel).frames * c.bits_per_frame-places.result =
+    subst (λ (pattern : Pattern). copies_below pattern.kind pattern.len ≤ (channel_at c.args.accepted.now.config.downlink.side c.args.channel).frames * c.bits_per_frame-places.result) (sym c.pattern_of-pattern.ensures.value) c.bits_per_frame-places.ensures.fits in
+    omega (arith, c.count_votes.ensures.few j v inside, copies_inside pattern j (omega (arith, inside, long)), all, c.bits_per_frame-places.ensures.room)
 
 pub returns-clause-read : goal.returns-clause-read
 returns-clause-read c =
@@ -32,17 +32,17 @@ returns-clause-read c =
     let i : ℕ = c.args.channel in
     let f : ℕ = c.args.format in
     let pattern : Pattern = c.pattern_of-pattern.result in
-    let heard : List Trit = c.hear_tti.new.out in
+    let rx_frames : List Trit = c.demultiplex_tti.new.out in
     let votes : List Vote = c.count_votes.new.out in
-    let long : length heard ≡ tti_places planned i f = search rules in
-    let fits : c.kept.result ≤ length heard = search rules in
+    let long : length rx_frames ≡ bits_per_tti planned i f = search rules in
+    let fits : c.kept.result ≤ length rx_frames = search rules in
     let same = c.channel_of-trch.ensures.value in
     let kind : c.format_of-kind.result.now ≡ format_at (channel_at planned.config.downlink.side i) f = c.format_of-kind.ensures ∙ ap (λ (channel : Trch). format_at channel f) same in
     let sized : length votes ≡ pattern.len = search rules in
-    let kept : AreKeptCells planned c.args.history.now i f (take c.kept.result heard) = kept_cells planned c.args.history.now i f c.kept.result pattern heard c.pattern_of-pattern.ensures.value c.kept.ensures.sum long fits c.hear_tti.ensures in
-    tti_read planned c.args.history.now i f (take c.kept.result heard) votes c.read.new.out c.requires.format kept
+    let kept : AreKeptCells planned c.args.rx_frames.now i f (take c.kept.result rx_frames) = kept_cells planned c.args.rx_frames.now i f c.kept.result pattern rx_frames c.pattern_of-pattern.ensures.value c.kept.ensures.sum long fits c.demultiplex_tti.ensures in
+    tti_read planned c.args.rx_frames.now i f (take c.kept.result rx_frames) votes c.read.new.out c.requires.format kept
     (sized ∙ c.pattern_of-pattern.ensures.len)
-    (λ j v inside. c.count_votes.ensures.votes j v inside ∙ ap (λ (pattern : Pattern). votes_of pattern (take c.kept.result heard) j) c.pattern_of-pattern.ensures.value)
+    (λ j v inside. c.count_votes.ensures.votes j v inside ∙ ap (λ (pattern : Pattern). votes_of pattern (take c.kept.result rx_frames) j) c.pattern_of-pattern.ensures.value)
     (subst (λ (format : Format). IsReceived (channel_at planned.config.downlink.side i) f format votes c.read.new.out) kind
     (subst (λ (channel : Trch). IsReceived channel f c.format_of-kind.result.now votes c.read.new.out) same c.read.ensures.read))
 
@@ -51,13 +51,13 @@ returns-clause-undamaged c sequence blocks =
     let planned = c.args.accepted.now in
     let i : ℕ = c.args.channel in
     let f : ℕ = c.args.format in
-    let heard : List Trit = c.hear_tti.new.out in
-    let long : length heard ≡ tti_places planned i f = search rules in
-    let fits : c.kept.result ≤ length heard = search rules in
+    let rx_frames : List Trit = c.demultiplex_tti.new.out in
+    let long : length rx_frames ≡ bits_per_tti planned i f = search rules in
+    let fits : c.kept.result ≤ length rx_frames = search rules in
     let good : IsGood planned.config = subst IsGood c.config-config.ensures.value c.config-config.ensures.good in
     let clear : IsClear planned.config = subst IsClear c.config-config.ensures.value c.config-config.ensures.clear in
     let plan : IsDownlinkPlan planned.config.downlink planned.downlink = subst (IsDownlinkPlan planned.config.downlink) c.downlink_plan-plan.ensures.value c.downlink_plan-plan.ensures.plan in
-    let kept : AreKeptCells planned c.args.history.now i f (take c.kept.result heard) = kept_cells planned c.args.history.now i f c.kept.result c.pattern_of-pattern.result heard c.pattern_of-pattern.ensures.value c.kept.ensures.sum long fits c.hear_tti.ensures in
-    tti_arrives planned c.args.history.now i f sequence c.channel_of-trch.result.now c.format_of-kind.result.now c.pattern_of-pattern.result (take c.kept.result heard) c.count_votes.new.out c.read.new.out blocks
+    let kept : AreKeptCells planned c.args.rx_frames.now i f (take c.kept.result rx_frames) = kept_cells planned c.args.rx_frames.now i f c.kept.result c.pattern_of-pattern.result rx_frames c.pattern_of-pattern.ensures.value c.kept.ensures.sum long fits c.demultiplex_tti.ensures in
+    tti_arrives planned c.args.rx_frames.now i f sequence c.channel_of-trch.result.now c.format_of-kind.result.now c.pattern_of-pattern.result (take c.kept.result rx_frames) c.count_votes.new.out c.read.new.out blocks
     c.channel_of-trch.ensures.value c.format_of-kind.ensures c.pattern_of-pattern.ensures.value good.downlink plan c.requires.opened c.requires.channel kept
-    (omega (arith, length-take-le c.kept.result heard fits, fits, long)) c.count_votes.ensures.undamaged c.read.ensures.undamaged clear
+    (omega (arith, length-take-le c.kept.result rx_frames fits, fits, long)) c.count_votes.ensures.undamaged c.read.ensures.undamaged clear

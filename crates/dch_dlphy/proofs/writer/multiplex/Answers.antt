@@ -15,12 +15,12 @@ loop-i-preserved c =
     let planned = c.args.accepted.now in
     let i : ℕ = c.loop-i.i in
     let at : ℕ = c.loop-i.at in
-    let n : ℕ = c.places_in.result in
+    let n : ℕ = c.bits_in_frame.result in
     let out : List Trit = c.loop-i.out in
-    let frame : at + n ≤ ndata_of planned.config.downlink = omega (arith, c.places_in.ensures.inside, c.loop-i.invariant.place) in
+    let frame : at + n ≤ ndata_of planned.config.downlink = omega (arith, c.bits_in_frame.ensures.inside, c.loop-i.invariant.place) in
     let room : at + n ≤ length out = omega (arith, frame, c.loop-i.auto.out, c.requires.room) in
     let long : length c.write_channel.new.out ≡ n = c.write_channel.auto.out ∙ length_code out at n room in
-    multiplexed_more planned c.args.tti_buffers.now c.args.cfn c.args.combination out c.write_channel.new.out i at n (at + n - at) c.loop-i.invariant c.places_in.ensures.value frame room long c.write_channel.ensures
+    multiplexed_more planned c.args.tti_buffers.now c.args.cfn c.args.combination out c.write_channel.new.out i at n (at + n - at) c.loop-i.invariant c.bits_in_frame.ensures.value frame room long c.write_channel.ensures
 
 pub returns : goal.returns
 returns c p inside =

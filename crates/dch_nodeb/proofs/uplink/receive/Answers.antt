@@ -1,5 +1,5 @@
 use Rattle.std.proofs.Common.{sym, subst}
-use Rattle.dch_heard.specs.Kept.{Listened}
+use Rattle.dch_rxframes.specs.RxFrames.{RxFrames}
 use Rattle.dch_nodeb.specs.Moves.{Served}
 use Rattle.dch_nodeb.specs.Opened.{IsLetterOf}
 use Rattle.dch_nodeb.specs.Values.{Letter}
@@ -17,6 +17,6 @@ serve-requires-clause-letter c =
 
 pub loop-set-preserved : goal.loop-set-preserved
 loop-set-preserved c =
-    served_next c.args.accepted.now c.push.new.self.heard c.loop-set.set c.loop-set.letters c.serve.new.letter c.loop-set.receiver c.serve.new.receiver c.args.report.now c.loop-set.report c.serve.new.report
+    served_next c.args.accepted.now c.push.new.self.rx_frames c.loop-set.set c.loop-set.letters c.serve.new.letter c.loop-set.receiver c.serve.new.receiver c.args.report.now c.loop-set.report c.serve.new.report
     c.loop-set.invariant c.loop-set-test.true
-    (subst (λ (heard : Listened). Served c.args.accepted.now heard c.loop-set.set c.serve.new.letter c.serve.new.receiver c.loop-set.report c.serve.new.report) c.loop-set.invariant.same c.serve.ensures)
+    (subst (λ (rx_frames : RxFrames). Served c.args.accepted.now rx_frames c.loop-set.set c.serve.new.letter c.serve.new.receiver c.loop-set.report c.serve.new.report) c.loop-set.invariant.same c.serve.ensures)

@@ -1,5 +1,5 @@
 use Rattle.std.proofs.Common.{refl, inl}
-use Rattle.dch_heard.proofs.Written.{kept-written}
+use Rattle.dch_rxframes.proofs.Written.{kept-written}
 use Rattle.dch_ulphy.specs.Kept.{cells_in}
 use Rattle.dch_ulphy.specs.Tables.{code_length}
 use Rattle.dch_ulphy.proofs.laws.written_frame_law.Goals as goal

@@ -8,12 +8,12 @@ use Rattle.dch_match.specs.Uplinks.{IsPlan}
 use Rattle.dch_match.proofs.SharesLemmas.{part_le}
 use Rattle.dch_frame.proofs.Codes.{length_code}
 use Rattle.dch_accept.specs.Plans.{plan_at}
-use Rattle.dch_ulphy.specs.Frames.{places_before}
+use Rattle.dch_ulphy.specs.Frames.{bits_before}
 use Rattle.dch_ulphy.proofs.Sent.{multiplexed_none, multiplexed_more}
 use Rattle.dch_ulphy.proofs.writer.multiplex.Goals as goal
 
 -- the places of a channel lie within the frame
-fits : (uplink : Uplink) (c i n at room : ℕ) (plan held : UplinkPlan) → held ≡ plan → IsPlan uplink c held → i < n → n ≡ length uplink.side.channels → at ≡ places_before plan i → room ≡ plan.ndata → at + slice_index held.sent i ≤ room
+fits : (uplink : Uplink) (c i n at room : ℕ) (plan held : UplinkPlan) → held ≡ plan → IsPlan uplink c held → i < n → n ≡ length uplink.side.channels → at ≡ bits_before plan i → room ≡ plan.ndata → at + slice_index held.sent i ≤ room
 fits uplink c i n at room plan held same is inside all place whole =
     let plan_is : IsPlan uplink c plan = subst (IsPlan uplink c) same is in
     let size : slice_index held.sent i ≡ slice_index plan.sent i = ap (λ (plan : UplinkPlan). slice_index plan.sent i) same in

@@ -17,7 +17,7 @@ returns-in-Err-clause-bad c =
     let i : ℕ = c.loop-i.i in
     let channel : c.channel_of.result.now ≡ channel_at planned.config.uplink.side i = c.channel_of.ensures.value ∙ ap (λ (side : Side). channel_at side i) c.uplink-side.ensures.value in
     let inside : i < length planned.config.uplink.side.channels = subst (λ (side : Side). i < length side.channels) c.uplink-side.ensures.value (subst (λ n. i < n) c.len-i-end.ensures c.loop-i-test.true) in
-    bad_first planned c.args.self.now.heard c.loop-i.self.heard c.args.set i c.in-Err.bad.channel c.in-Err.bad.frame c.loop-i.blocks c.loop-i.invariant.same inside
+    bad_first planned c.args.self.now.rx_frames c.loop-i.self.rx_frames c.args.set i c.in-Err.bad.channel c.in-Err.bad.frame c.loop-i.blocks c.loop-i.invariant.same inside
     (ap (λ (t : Trch). t.set) (sym channel) ∙ c.if-channel_of-set.true) c.loop-i.invariant.read c.in-Err.ensures.bad.0 c.in-Err.ensures.bad.1
 
 pub loop-i-preserved : goal.loop-i-preserved
@@ -27,19 +27,19 @@ loop-i-preserved c =
     let channel : c.channel_of.result.now ≡ channel_at planned.config.uplink.side i = c.channel_of.ensures.value ∙ ap (λ (side : Side). channel_at side i) c.uplink-side.ensures.value in
     elim c.if-channel_of-set.branch [
       | then-channel_of-set+in-Ok w ↦ record {
-        read = subst (λ (blocks : HeldSet). (j : ℕ) → j < i + 1 → (channel_at planned.config.uplink.side j).set ≡ c.args.set → IsTtiRead planned c.args.self.now.heard j (held_at blocks.blocks j)) (sym w.blocks-is)
-            (read_on planned c.args.self.now.heard c.loop-i.self.heard c.args.set i c.loop-i.blocks w.read.new.blocks c.loop-i.invariant.same c.loop-i.invariant.read w.in-Ok.ensures.read w.in-Ok.ensures.others);
+        read = subst (λ (blocks : HeldSet). (j : ℕ) → j < i + 1 → (channel_at planned.config.uplink.side j).set ≡ c.args.set → IsTtiRead planned c.args.self.now.rx_frames j (held_at blocks.blocks j)) (sym w.blocks-is)
+            (read_on planned c.args.self.now.rx_frames c.loop-i.self.rx_frames c.args.set i c.loop-i.blocks w.read.new.blocks c.loop-i.invariant.same c.loop-i.invariant.read w.in-Ok.ensures.read w.in-Ok.ensures.others);
         blocks = subst (λ (blocks : HeldSet). IsSetOf planned.config Up c.args.set blocks) (sym w.blocks-is) w.in-Ok.ensures.blocks;
         opened = subst (λ (r : Receiver). IsReceiverOf planned r) (sym w.self-is) w.in-Ok.ensures.opened;
-        same = ap (λ (r : Receiver). r.heard) w.self-is ∙ w.in-Ok.ensures.same ∙ c.loop-i.invariant.same;
+        same = ap (λ (r : Receiver). r.rx_frames) w.self-is ∙ w.in-Ok.ensures.same ∙ c.loop-i.invariant.same;
       }
       | else-channel_of-set w ↦
           let other : (channel_at planned.config.uplink.side i).set ≢ c.args.set = (λ (e : (channel_at planned.config.uplink.side i).set ≡ c.args.set). w.if-channel_of-set.false (ap (λ (t : Trch). t.set) channel ∙ e)) in
           record {
-            read = subst (λ (blocks : HeldSet). (j : ℕ) → j < i + 1 → (channel_at planned.config.uplink.side j).set ≡ c.args.set → IsTtiRead planned c.args.self.now.heard j (held_at blocks.blocks j)) (sym w.blocks-is)
-                (read_off planned c.args.self.now.heard c.args.set i c.loop-i.blocks c.loop-i.invariant.read other);
+            read = subst (λ (blocks : HeldSet). (j : ℕ) → j < i + 1 → (channel_at planned.config.uplink.side j).set ≡ c.args.set → IsTtiRead planned c.args.self.now.rx_frames j (held_at blocks.blocks j)) (sym w.blocks-is)
+                (read_off planned c.args.self.now.rx_frames c.args.set i c.loop-i.blocks c.loop-i.invariant.read other);
             blocks = subst (λ (blocks : HeldSet). IsSetOf planned.config Up c.args.set blocks) (sym w.blocks-is) c.loop-i.invariant.blocks;
             opened = subst (λ (r : Receiver). IsReceiverOf planned r) (sym w.self-is) c.loop-i.invariant.opened;
-            same = ap (λ (r : Receiver). r.heard) w.self-is ∙ c.loop-i.invariant.same;
+            same = ap (λ (r : Receiver). r.rx_frames) w.self-is ∙ c.loop-i.invariant.same;
           }
     ]

@@ -8,8 +8,8 @@ use Rattle.dch_nodeb.proofs.receiver.Receiver.read_set.Given as goal
 
 abbrev pub invariant-loop-i : goal.invariant-loop-i
 invariant-loop-i l = record {
-  read : (j : ℕ) → j < l.i → (channel_at l.accepted.config.uplink.side j).set ≡ l.set → IsTtiRead l.accepted l.fn.self.heard j (held_at l.blocks.blocks j);
+  read : (j : ℕ) → j < l.i → (channel_at l.accepted.config.uplink.side j).set ≡ l.set → IsTtiRead l.accepted l.fn.self.rx_frames j (held_at l.blocks.blocks j);
   blocks : IsSetOf l.accepted.config Up l.set l.blocks;
   opened : IsReceiverOf l.accepted l.self;
-  same : l.self.heard ≡ l.fn.self.heard;
+  same : l.self.rx_frames ≡ l.fn.self.rx_frames;
 }

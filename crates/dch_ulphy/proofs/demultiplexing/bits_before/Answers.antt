@@ -1,0 +1,19 @@
+use Rattle.std.proofs.Common.{◌+◌, ◌≤◌, arith, ap, sym, ◌∙◌}
+use Rattle.std.specs.Prelude.{slice_index}
+use Rattle.dch_match.specs.Shares.{total}
+use Rattle.dch_match.proofs.SharesLemmas.{total-zero, total-more, part_le}
+use Rattle.dch_ulphy.proofs.demultiplexing.bits_before.Goals as goal
+
+pub loop-before-init : goal.loop-before-init
+loop-before-init c = sym (total-zero (slice_index c.args.plan.now.sent))
+
+pub overflow_add-places : goal.overflow_add-places
+overflow_add-places c =
+    let sent = slice_index c.args.plan.now.sent in
+    let room : total sent c.loop-before.before + sent c.loop-before.before ≤ total sent c.args.channel = part_le sent c.loop-before.before c.args.channel (omega arith) in
+    omega (arith, room, c.loop-before.invariant, c.requires.small)
+
+pub loop-before-preserved : goal.loop-before-preserved
+loop-before-preserved c =
+    let sent = slice_index c.args.plan.now.sent in
+    ap (λ places. places + sent c.loop-before.before) c.loop-before.invariant ∙ sym (total-more sent c.loop-before.before)

@@ -1,0 +1,45 @@
+use Rattle.std.proofs.Common.{◌≡◌, ◌*◌, ◌<◌, ℕ, length, arith, ap, sym, ◌∙◌}
+use Rattle.dch_inter.specs.Places.{frame_of}
+use Rattle.dch_inter.proofs.FirstColumns.{frame_of-below}
+use Rattle.dch_frame.proofs.Carried.{whole_rows}
+use Rattle.dch_rxframes.specs.RxFrames.{rx_frame_at, tti_place}
+use Rattle.dch_ulphy.proofs.Demultiplexed.{heard_none, heard_more}
+use Rattle.dch_ulphy.proofs.demultiplexing.demultiplex_tti.Goals as goal
+
+pub loop-n-init : goal.loop-n-init
+loop-n-init c = heard_none _ _ _ _
+
+pub loop-n-preserved : goal.loop-n-preserved
+loop-n-preserved c =
+    let reader = c.args.rx_frames.now in
+    heard_more c.args.accepted.now reader c.args.channel c.loop-n.n c.loop-n.votes c.demultiplex_frame.new.votes c.frame.result.now c.demultiplex_frame.auto.votes
+    (c.frame.ensures ∙ ap (λ f. rx_frame_at reader.frames (tti_place reader.cfn f c.loop-n.n)) c.frames_of-frames.ensures.value)
+    c.demultiplex_frame.ensures.votes c.demultiplex_frame.ensures.few c.demultiplex_frame.ensures.same
+    (omega (arith, c.frames_of-frames.ensures.value, c.loop-n-test.true)) c.demultiplex_frame.ensures.undamaged c.loop-n.invariant
+
+pub returns-clause-votes : goal.returns-clause-votes
+returns-clause-votes c j v inside =
+    let f : ℕ = c.frames_of-frames.result in
+    let len : ℕ = length c.loop-n.votes in
+    let value = c.frames_of-frames.ensures.value in
+    let whole : len ≡ length c.args.counted.now * f = c.loop-n.auto.votes ∙ c.requires.whole ∙ ap (λ f. length c.args.counted.now * f) (sym value) in
+    let below : frame_of f len j < f = frame_of-below f len j c.frames_of-frames.ensures.frames (whole_rows f (length c.args.counted.now) len c.frames_of-frames.ensures.some whole) inside in
+    c.loop-n.invariant.votes j v inside (omega (arith, below, ap (λ f. frame_of f len j) value))
+
+pub returns-clause-few : goal.returns-clause-few
+returns-clause-few c j v inside =
+    let f : ℕ = c.frames_of-frames.result in
+    let len : ℕ = length c.loop-n.votes in
+    let value = c.frames_of-frames.ensures.value in
+    let whole : len ≡ length c.args.counted.now * f = c.loop-n.auto.votes ∙ c.requires.whole ∙ ap (λ f. length c.args.counted.now * f) (sym value) in
+    let below : frame_of f len j < f = frame_of-below f len j c.frames_of-frames.ensures.frames (whole_rows f (length c.args.counted.now) len c.frames_of-frames.ensures.some whole) inside in
+    c.loop-n.invariant.few j v inside (omega (arith, below, ap (λ f. frame_of f len j) value))
+
+pub returns-clause-undamaged : goal.returns-clause-undamaged
+returns-clause-undamaged c coded sequence loaded sent shown j v inside =
+    let f : ℕ = c.frames_of-frames.result in
+    let len : ℕ = length c.loop-n.votes in
+    let value = c.frames_of-frames.ensures.value in
+    let whole : len ≡ length c.args.counted.now * f = c.loop-n.auto.votes ∙ c.requires.whole ∙ ap (λ f. length c.args.counted.now * f) (sym value) in
+    let below : frame_of f len j < f = frame_of-below f len j c.frames_of-frames.ensures.frames (whole_rows f (length c.args.counted.now) len c.frames_of-frames.ensures.some whole) inside in
+    c.loop-n.invariant.undamaged coded sequence loaded sent shown j v inside (omega (arith, below, ap (λ f. frame_of f len j) value))
