@@ -7,14 +7,14 @@ ghost use Rattle.dch_match.specs.Uplinks.{IsPlan};
 ghost use Rattle.dch_match.specs.Downlinks.{IsDownlinkPlan};
 ghost use Rattle.dch_search.specs.Clear.{IsClear};
 ghost use Rattle.dch_accept.specs.Plans.{plan_at};
-ghost use Rattle.dch_removal.specs.Plans.{AreAllPlans};
+ghost use Rattle.dch_puncture.specs.Plans.{AreAllPlans};
 ghost use Rattle.dch_accept.specs.Answers.{Accepts, IsSearched, Plans, count_of};
 ghost use Rattle.dch_accept.specs.Reports.{step_bytes};
 
 use crate::refusal::Refusal;
 use dch_bits::{Bit, NoMemory};
 use dch_match::{DownlinkPlan, MatchError, UplinkPlan, downlink, uplink};
-use dch_removal::count;
+use dch_puncture::count;
 use dch_search::{Found, Search};
 use dch_types::{Config, Dir, Sequence, Uplink};
 use std::alloc::Global;

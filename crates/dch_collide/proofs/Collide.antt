@@ -16,7 +16,7 @@ use Rattle.dch_conv.proofs.Codes.{length-encoded}
 use Rattle.dch_trellis.specs.Nearest.{differing, disagreement, all_copies, IsBlock, IsFirst, IsNearest}
 use Rattle.dch_trellis.specs.Search.{no_votes}
 use Rattle.dch_collide.specs.Collisions.{IsCollision, IsFirstCollision, NoneCollide, copies_kept}
-use Rattle.dch_collide.specs.Hidden.{coding_of, is_lost, vote_for, removed, AreVotes, IsHidden, IsFirstHidden}
+use Rattle.dch_collide.specs.Hidden.{coding_of, is_punctured, vote_for, removed, AreVotes, IsHidden, IsFirstHidden}
 use Rattle.dch_collide.proofs.Linear.{sum, get_or-sum, length-sum, encoded-sum, encoded-start, encoded-first, encoded-zeros, start-inside, first-inside, get_or-zeros}
 use Rattle.dch_collide.proofs.Blocks.{leading, leading-zero, leading-one, first_when, sum-zeros, sum-same}
 use Rattle.dch_collide.proofs.Costs.{free_at, free_all, all_copies-le, vote-few, some-cost}
@@ -167,21 +167,21 @@ sent-start rate kept size k t at other inside within place hidden = by_flag (get
         let none : get_or (encoded rate other) at Zero ≡ Zero = hidden.silent at (omega (arith, place, start-inside rate size k t inside within)) flag in
         cc
 
-pub lost-start : (rate : Rate) (kept : List Bool) (size k : ℕ) (other : List Bit) → k < size → is_lost rate kept k ≡ false → IsHidden rate kept size k other → ⊥
+pub lost-start : (rate : Rate) (kept : List Bool) (size k : ℕ) (other : List Bit) → k < size → is_punctured rate kept k ≡ false → IsHidden rate kept size k other → ⊥
 lost-start Half kept size k other inside some hidden =
     let first : get_or kept (2 * k) false ≡ false = sent-start Half kept size k 0 (2 * k) other inside (omega arith) (omega arith) hidden in
     let second : get_or kept (2 * k + 1) false ≡ false = sent-start Half kept size k 1 (2 * k + 1) other inside (omega arith) (omega arith) hidden in
-    let lost : is_lost Half kept k ≡ true = rw (first, second) refl in
+    let lost : is_punctured Half kept k ≡ true = rw (first, second) refl in
     cc
 lost-start Third kept size k other inside some hidden =
     let first : get_or kept (3 * k) false ≡ false = sent-start Third kept size k 0 (3 * k) other inside (omega arith) (omega arith) hidden in
     let second : get_or kept (3 * k + 1) false ≡ false = sent-start Third kept size k 1 (3 * k + 1) other inside (omega arith) (omega arith) hidden in
     let third : get_or kept (3 * k + 2) false ≡ false = sent-start Third kept size k 2 (3 * k + 2) other inside (omega arith) (omega arith) hidden in
-    let lost : is_lost Third kept k ≡ true = rw (first, second, third) refl in
+    let lost : is_punctured Third kept k ≡ true = rw (first, second, third) refl in
     cc
 
 -- the first output of a step that is lost is not sent
-pub lost-first : (rate : Rate) (kept : List Bool) (at k : ℕ) → at ≡ outputs rate * k → is_lost rate kept k ≡ true → get_or kept at false ≡ false
+pub lost-first : (rate : Rate) (kept : List Bool) (at k : ℕ) → at ≡ outputs rate * k → is_punctured rate kept k ≡ true → get_or kept at false ≡ false
 lost-first Half kept at k place lost = rw place (by_flags (get_or kept (2 * k) false) (not (get_or kept (2 * k + 1) false)) lost)
   where
     by_flags : (a b : Bool) → (not a && b) ≡ true → a ≡ false
@@ -195,7 +195,7 @@ lost-first Third kept at k place lost = rw place (by_flags (get_or kept (3 * k) 
     by_flags true false c lost = cc
 
 -- where no step is lost no two blocks collide
-pub none-lost-step : (rate : Rate) (kept : List Bool) (size filler : ℕ) → ((k : ℕ) → filler ≤ k → k < size → is_lost rate kept k ≡ false) → NoneCollide (coding_of rate) size filler (copies_kept kept)
+pub none-lost-step : (rate : Rate) (kept : List Bool) (size filler : ℕ) → ((k : ℕ) → filler ≤ k → k < size → is_punctured rate kept k ≡ false) → NoneCollide (coding_of rate) size filler (copies_kept kept)
 none-lost-step rate kept size filler some = none-hidden rate kept size filler (λ k other late inside hidden. lost-start rate kept size k other inside (some k late inside) hidden)
 
 -- the copies of the votes

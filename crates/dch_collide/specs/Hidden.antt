@@ -28,9 +28,9 @@ pub record IsFirstHidden (rate : Rate) (kept : List Bool) (size k : ℕ) (block 
   pub first : (other : List Bit) → IsHidden rate kept size k other → IsFirst block other
 
 -- no output of step k is sent
-abbrev pub is_lost : Rate → List Bool → ℕ → Bool
-is_lost HalfRate kept k = not (slice_index_or kept (2 * k) false) && not (slice_index_or kept (2 * k + 1) false)
-is_lost ThirdRate kept k = not (slice_index_or kept (3 * k) false) && not (slice_index_or kept (3 * k + 1) false) && not (slice_index_or kept (3 * k + 2) false)
+abbrev pub is_punctured : Rate → List Bool → ℕ → Bool
+is_punctured HalfRate kept k = not (slice_index_or kept (2 * k) false) && not (slice_index_or kept (2 * k + 1) false)
+is_punctured ThirdRate kept k = not (slice_index_or kept (3 * k) false) && not (slice_index_or kept (3 * k + 1) false) && not (slice_index_or kept (3 * k + 2) false)
 
 -- the vote for a coded bit: so many times Zero where it is sent, so many times One where it is not
 abbrev pub vote_for : ℕ → ℕ → Bool → Vote

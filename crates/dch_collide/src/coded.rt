@@ -2,7 +2,7 @@ ghost use Rattle.std.specs.Prelude.{◌≡◌, ℕ, ◌<◌, ◌≤◌, ◌+◌,
 ghost use Rattle.dch_bits.specs.declared.bit.Bit.{Bit};
 ghost use Rattle.dch_conv.specs.Conv.{coded_length, outputs};
 ghost use Rattle.dch_collide.specs.Collisions.{copies_kept, IsFirstCollision, NoneCollide};
-ghost use Rattle.dch_collide.specs.Hidden.{coding_of, is_lost, IsHidden, IsFirstHidden};
+ghost use Rattle.dch_collide.specs.Hidden.{coding_of, is_punctured, IsHidden, IsFirstHidden};
 
 use crate::votes::{fill, removed};
 use dch_bits::{Bit, Vote};
@@ -28,7 +28,7 @@ pub fn find_coded(
     ensures same { trellis.new ≡ trellis.old }
 {
     let votes = &mut votes[..kept.len()];
-    if !has_lost_step(rate, filler, out.len(), kept) {
+    if !has_punctured_step(rate, filler, out.len(), kept) {
         return false;
     }
     if !may_collide(trellis, rate, filler, kept, votes, out) {
@@ -62,14 +62,14 @@ fn may_collide(
 }
 
 /// Whether after the filler no output of some step is sent.
-fn has_lost_step(rate: Rate, filler: usize, size: usize, kept: &[bool]) -> bool
+fn has_punctured_step(rate: Rate, filler: usize, size: usize, kept: &[bool]) -> bool
     requires short { size ≤ 504 }
     requires coded { length kept.now ≡ coded_length rate size }
     ensures some { result ≡ true → 1 ≤ size }
-    ensures none { result ≡ false → (k : ℕ) → filler ≤ k → k < size → is_lost rate kept.now k ≡ false }
+    ensures none { result ≡ false → (k : ℕ) → filler ≤ k → k < size → is_punctured rate kept.now k ≡ false }
 {
     for k in filler..size {
-        if is_lost(rate, kept, k) {
+        if is_punctured(rate, kept, k) {
             return true;
         }
     }
@@ -77,10 +77,10 @@ fn has_lost_step(rate: Rate, filler: usize, size: usize, kept: &[bool]) -> bool
 }
 
 /// Whether no output of step `k` is sent.
-fn is_lost(rate: Rate, kept: &[bool], k: usize) -> bool
+fn is_punctured(rate: Rate, kept: &[bool], k: usize) -> bool
     requires short { k < 504 }
     requires inside { outputs rate * (k + 1) ≤ length kept.now }
-    ensures { result ≡ is_lost rate kept.now k }
+    ensures { result ≡ is_punctured rate kept.now k }
 {
     match rate {
         Rate::Half => !kept[2 * k] && !kept[2 * k + 1],
@@ -134,7 +134,7 @@ fn starts(
     ensures none { result ≡ false → (other : List Bit) → IsHidden rate kept.now (length out.old) k other → ⊥ }
     ensures same { trellis.new ≡ trellis.old }
 {
-    if !is_lost(rate, kept, k) {
+    if !is_punctured(rate, kept, k) {
         return false;
     }
     let at = first_output(rate, k);

@@ -15,8 +15,8 @@ use Rattle.dch_segment.specs.declared.cut.Plan.{Plan}
 use Rattle.dch_segment.specs.Segments.{plan_of}
 use Rattle.dch_segment.proofs.Sizes.{size_short, filler_few}
 use Rattle.dch_coding.proofs.Lengths.{blocks_short}
-use Rattle.dch_removal.specs.Copies.{bits_in, padded_in}
-use Rattle.dch_removal.proofs.Sizes.{some_frames}
+use Rattle.dch_puncture.specs.Copies.{bits_in, padded_in}
+use Rattle.dch_puncture.proofs.Sizes.{some_frames}
 use Rattle.dch_search.specs.declared.shape.Shape.{Shape}
 use Rattle.dch_search.specs.Clear.{joined_in}
 use Rattle.dch_search.specs.Shapes.{IsShape}

@@ -13,7 +13,7 @@ use Rattle.dch_types.specs.Parts.{channel_at}
 use Rattle.dch_segment.specs.declared.cut.Plan.{Plan}
 use Rattle.dch_collide.specs.Collisions.{copies_kept}
 use Rattle.dch_collide.proofs.Collide.{sent-one, one-sent}
-use Rattle.dch_removal.specs.Copies.{AreKept}
+use Rattle.dch_puncture.specs.Copies.{AreSentFlags}
 use Rattle.dch_search.specs.declared.found.Found.{Found}
 use Rattle.dch_search.specs.declared.found.Hit.{Hit}
 use Rattle.dch_search.specs.declared.shape.Shape.{Shape}
@@ -29,18 +29,18 @@ if_some (Some r) up here = up r here
 if_some None up here = here
 
 -- the first flags of a list tell which coded bits are sent
-pub record AreFlags (sent : ℕ → ℕ) (shape : Shape) (n : ℕ) (kept : List Bool) : Type 0 where
+pub record AreFlags (sent : ℕ → ℕ) (shape : Shape) (n : ℕ) (sent_flags : List Bool) : Type 0 where
   pub whole : shape.plan.blocks * coded_block shape.coding shape.plan.size ≤ n
-  pub room : n ≤ length kept
-  pub told : AreKept sent (take n kept)
+  pub room : n ≤ length sent_flags
+  pub told : AreSentFlags sent (take n sent_flags)
 
-flag_is : (sent : ℕ → ℕ) (shape : Shape) (n : ℕ) (kept : List Bool) (r t : ℕ) → AreFlags sent shape n kept → r < shape.plan.blocks → t < coded_block shape.coding shape.plan.size
-    → get_or kept (r * coded_block shape.coding shape.plan.size + t) false ≡ nat_lt 0 (sent (r * coded_block shape.coding shape.plan.size + t))
-flag_is sent shape n kept r t flags row place =
+flag_is : (sent : ℕ → ℕ) (shape : Shape) (n : ℕ) (sent_flags : List Bool) (r t : ℕ) → AreFlags sent shape n sent_flags → r < shape.plan.blocks → t < coded_block shape.coding shape.plan.size
+    → get_or sent_flags (r * coded_block shape.coding shape.plan.size + t) false ≡ nat_lt 0 (sent (r * coded_block shape.coding shape.plan.size + t))
+flag_is sent shape n sent_flags r t flags row place =
     let j : ℕ = r * coded_block shape.coding shape.plan.size + t in
     let inside : j < shape.plan.blocks * coded_block shape.coding shape.plan.size = bit_inside r shape.plan.blocks (coded_block shape.coding shape.plan.size) t (shape.plan.blocks * coded_block shape.coding shape.plan.size) refl row place in
     let below : j < n = omega (arith, inside, flags.whole) in
-    sym (get_or-take n kept j false below) ∙ flags.told j (omega (arith, below, length-take-le n kept flags.room))
+    sym (get_or-take n sent_flags j false below) ∙ flags.told j (omega (arith, below, length-take-le n sent_flags flags.room))
 
 positive : (m : ℕ) → nat_lt 0 m ≡ true → 0 < m
 positive m is = grind (arith, nat_tests)
@@ -48,23 +48,23 @@ positive m is = grind (arith, nat_tests)
 above : (m : ℕ) → 0 < m → nat_lt 0 m ≡ true
 above m some = grind (arith, nat_tests)
 
-there : (sent : ℕ → ℕ) (shape : Shape) (n : ℕ) (kept : List Bool) → AreFlags sent shape n kept → AreAllSentToo shape.coding shape.plan (copies_kept kept) sent
-there sent shape n kept flags r t row place some =
-    positive (sent (r * coded_block shape.coding shape.plan.size + t)) (sym (flag_is sent shape n kept r t flags row place) ∙ one-sent kept (r * coded_block shape.coding shape.plan.size + t) some)
+there : (sent : ℕ → ℕ) (shape : Shape) (n : ℕ) (sent_flags : List Bool) → AreFlags sent shape n sent_flags → AreAllSentToo shape.coding shape.plan (copies_kept sent_flags) sent
+there sent shape n sent_flags flags r t row place some =
+    positive (sent (r * coded_block shape.coding shape.plan.size + t)) (sym (flag_is sent shape n sent_flags r t flags row place) ∙ one-sent sent_flags (r * coded_block shape.coding shape.plan.size + t) some)
 
-back : (sent : ℕ → ℕ) (shape : Shape) (n : ℕ) (kept : List Bool) → AreFlags sent shape n kept → AreAllSentToo shape.coding shape.plan sent (copies_kept kept)
-back sent shape n kept flags r t row place some =
-    sent-one kept (r * coded_block shape.coding shape.plan.size + t) (flag_is sent shape n kept r t flags row place ∙ above (sent (r * coded_block shape.coding shape.plan.size + t)) some)
+back : (sent : ℕ → ℕ) (shape : Shape) (n : ℕ) (sent_flags : List Bool) → AreFlags sent shape n sent_flags → AreAllSentToo shape.coding shape.plan sent (copies_kept sent_flags)
+back sent shape n sent_flags flags r t row place some =
+    sent-one sent_flags (r * coded_block shape.coding shape.plan.size + t) (flag_is sent shape n sent_flags r t flags row place ∙ above (sent (r * coded_block shape.coding shape.plan.size + t)) some)
 
-pub found_under : (side : Side) (sent : Copies) (i f n r : ℕ) (sequence : List ℕ) (shape : Shape) (kept : List Bool) (block : List Bit) → IsShape side i f shape → AreFlags (sent i f sequence) shape n kept → IsFirstBlock shape.coding shape.plan (copies_kept kept) r block → IsFirstUnder side sent i f sequence r block
-found_under side sent i f n r sequence shape kept block is flags first =
-    let here : IsFirstBlock shape.coding shape.plan (sent i f sequence) r block = block_by shape.coding shape.plan (copies_kept kept) (sent i f sequence) r block (there (sent i f sequence) shape n kept flags) (back (sent i f sequence) shape n kept flags) first in
+pub found_under : (side : Side) (sent : Copies) (i f n r : ℕ) (sequence : List ℕ) (shape : Shape) (sent_flags : List Bool) (block : List Bit) → IsShape side i f shape → AreFlags (sent i f sequence) shape n sent_flags → IsFirstBlock shape.coding shape.plan (copies_kept sent_flags) r block → IsFirstUnder side sent i f sequence r block
+found_under side sent i f n r sequence shape sent_flags block is flags first =
+    let here : IsFirstBlock shape.coding shape.plan (sent i f sequence) r block = block_by shape.coding shape.plan (copies_kept sent_flags) (sent i f sequence) r block (there (sent i f sequence) shape n sent_flags flags) (back (sent i f sequence) shape n sent_flags flags) first in
     subst (λ (p : Plan). IsFirstBlock (channel_at side i).coding p (sent i f sequence) r block) is.plan
     (subst (λ (code : Coding). IsFirstBlock code shape.plan (sent i f sequence) r block) is.coding here)
 
-pub clear_under : (side : Side) (sent : Copies) (i f n : ℕ) (sequence : List ℕ) (shape : Shape) (kept : List Bool) → IsShape side i f shape → AreFlags (sent i f sequence) shape n kept → AreClearBlocks shape.coding shape.plan (copies_kept kept) → IsClearUnder side sent i f sequence
-clear_under side sent i f n sequence shape kept is flags clear =
-    let here : AreClearBlocks shape.coding shape.plan (sent i f sequence) = blocks_by shape.coding shape.plan (copies_kept kept) (sent i f sequence) (there (sent i f sequence) shape n kept flags) clear in
+pub clear_under : (side : Side) (sent : Copies) (i f n : ℕ) (sequence : List ℕ) (shape : Shape) (sent_flags : List Bool) → IsShape side i f shape → AreFlags (sent i f sequence) shape n sent_flags → AreClearBlocks shape.coding shape.plan (copies_kept sent_flags) → IsClearUnder side sent i f sequence
+clear_under side sent i f n sequence shape sent_flags is flags clear =
+    let here : AreClearBlocks shape.coding shape.plan (sent i f sequence) = blocks_by shape.coding shape.plan (copies_kept sent_flags) (sent i f sequence) (there (sent i f sequence) shape n sent_flags flags) clear in
     subst (λ (p : Plan). AreClearBlocks (channel_at side i).coding p (sent i f sequence)) is.plan
     (subst (λ (code : Coding). AreClearBlocks code shape.plan (sent i f sequence)) is.coding here)
 

@@ -24,9 +24,9 @@ use Rattle.dch_match.specs.Matched.{matched, frame_pattern}
 use Rattle.dch_match.specs.Uplinks.{before_of, sent_of}
 use Rattle.dch_match.specs.Downlinks.{pattern_of, stands_below}
 use Rattle.dch_legal.specs.Sequences.{IsLegal}
-use Rattle.dch_removal.specs.Copies.{frame_size, bits_in, padded_in, frame_copies, uplink_copies, downlink_copies}
-use Rattle.dch_removal.specs.Counted.{removes, removes_below, uplink_loses, loses_below, downlink_loses}
-use Rattle.dch_removal.proofs.Sizes.{some_frames}
+use Rattle.dch_puncture.specs.Copies.{frame_size, bits_in, padded_in, frame_copies, uplink_copies, downlink_copies}
+use Rattle.dch_puncture.specs.Counted.{removes, removes_below, uplink_punctures, punctures_below, downlink_punctures}
+use Rattle.dch_puncture.proofs.Sizes.{some_frames}
 use Rattle.dch_search.specs.Clear.{filler_of, block_copies, joined_in, IsClearFormat}
 use Rattle.dch_search.proofs.Whole.{whole_none}
 
@@ -63,11 +63,11 @@ stands_none side i f (suc n) c none inside same =
       | inr other ↦ stands_none side i f n c parts.1 (omega arith) same
     ]
 
-loses_none : (kind : Kind) (n m : ℕ) → loses_below kind n ≡ false → m < n → 0 < copies kind m
-unfolding loses_below
+loses_none : (kind : Kind) (n m : ℕ) → punctures_below kind n ≡ false → m < n → 0 < copies kind m
+unfolding punctures_below
 loses_none kind zero m none inside = absurd (omega arith)
 loses_none kind (suc n) m none inside =
-    let parts = neither (copies kind n == 0) (loses_below kind n) none in
+    let parts = neither (copies kind n == 0) (punctures_below kind n) none in
     elim (cases_eq m n) [
       | inl here ↦ let some : 0 < copies kind n = positive (copies kind n) parts.0 in rw here some
       | inr other ↦ loses_none kind n m parts.1 (omega arith)
@@ -113,7 +113,7 @@ unfolding frame_pattern
 frame_kept uplink i n c m none = all_kept (before_of uplink.side c i) (sent_of uplink.side c (frame_size uplink c) i) _ m (not_fewer (sent_of uplink.side c (frame_size uplink c) i) (before_of uplink.side c i) none)
 
 -- and each coded bit of a TTI is, under a legal sequence of such combinations
-tti_kept : (uplink : Uplink) (i f j : ℕ) (sequence : List ℕ) → IsUplink uplink → i < length uplink.side.channels → uplink_loses uplink i f ≡ false → IsLegal uplink.side i f sequence → j < bits_in uplink.side i f → 0 < uplink_copies uplink i f sequence j
+tti_kept : (uplink : Uplink) (i f j : ℕ) (sequence : List ℕ) → IsUplink uplink → i < length uplink.side.channels → uplink_punctures uplink i f ≡ false → IsLegal uplink.side i f sequence → j < bits_in uplink.side i f → 0 < uplink_copies uplink i f sequence j
 unfolding uplink_copies
 tti_kept uplink i f j sequence good inside none legal bit =
     let side : Side = uplink.side in
@@ -127,7 +127,7 @@ tti_kept uplink i f j sequence good inside none legal bit =
     frame_kept uplink i n (slice_index sequence n) (place_of frames len j)
     (removes_none uplink i f (length side.combinations) (slice_index sequence n) none (legal.there n there) (legal.format n there))
 
-pub uplink_whole : (uplink : Uplink) (i f : ℕ) → IsUplink uplink → i < length uplink.side.channels → uplink_loses uplink i f ≡ false → IsClearFormat uplink.side (uplink_copies uplink) i f
+pub uplink_whole : (uplink : Uplink) (i f : ℕ) → IsUplink uplink → i < length uplink.side.channels → uplink_punctures uplink i f ≡ false → IsClearFormat uplink.side (uplink_copies uplink) i f
 uplink_whole uplink i f good inside none sequence legal r block =
     let side : Side = uplink.side in
     let coding : Coding = (channel_at side i).coding in
@@ -145,13 +145,13 @@ stands side i f sequence good inside legal = by_test (stands_below side i f (len
         let some : 0 < length sequence = omega (arith, legal.whole, some_frames (channel_at side i).frames (good.channels i inside).frames) in
         absurd (stands_none side i f (length side.combinations) (slice_index sequence 0) is (legal.there 0 some) (legal.format 0 some))
 
-pub downlink_whole : (downlink : Downlink) (i f : ℕ) → IsDownlink downlink → i < length downlink.side.channels → downlink_loses downlink i f ≡ false → IsClearFormat downlink.side (downlink_copies downlink) i f
+pub downlink_whole : (downlink : Downlink) (i f : ℕ) → IsDownlink downlink → i < length downlink.side.channels → downlink_punctures downlink i f ≡ false → IsClearFormat downlink.side (downlink_copies downlink) i f
 downlink_whole downlink i f good inside none sequence legal r block =
     let side : Side = downlink.side in
     let coding : Coding = (channel_at side i).coding in
     let plan : Plan = plan_of (joined_in side i f) coding in
     let kind : Kind = (pattern_of downlink i f).kind in
-    let lost : loses_below kind (bits_in side i f) ≡ false = not_both (stands_below side i f (length side.combinations)) (loses_below kind (bits_in side i f)) none (stands side i f sequence good.side inside legal) in
+    let lost : punctures_below kind (bits_in side i f) ≡ false = not_both (stands_below side i f (length side.combinations)) (punctures_below kind (bits_in side i f)) none (stands side i f sequence good.side inside legal) in
     whole_none coding plan.size (filler_of plan r) (block_copies coding plan (downlink_copies downlink i f sequence) r)
     (λ t within. loses_none kind (bits_in side i f) (r * coded_block coding plan.size + t) lost (bit_inside r plan.blocks (coded_block coding plan.size) t (bits_in side i f) (bits_are side i f) block within))
 

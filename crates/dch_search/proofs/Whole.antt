@@ -7,15 +7,15 @@ use Rattle.dch_types.specs.declared.channel.Coding.TheVariants.{Uncoded, Half, T
 use Rattle.dch_types.specs.Lengths.{coded_block}
 use Rattle.dch_conv.specs.declared.rate.Rate.TheVariants.{Half as HalfRate, Third as ThirdRate}
 use Rattle.dch_collide.specs.Collisions.{NoneCollide, copies_kept}
-use Rattle.dch_collide.specs.Hidden.{is_lost}
+use Rattle.dch_collide.specs.Hidden.{is_punctured}
 use Rattle.dch_collide.proofs.Collide.{none-lost-step}
 use Rattle.dch_collide.proofs.Plain.{none-lost}
 use Rattle.dch_search.proofs.Carried.{none_by}
 
-half_kept : (size k : ℕ) → k < size → is_lost HalfRate (replicate (2 * (size + 8)) true) k ≡ false
+half_kept : (size k : ℕ) → k < size → is_punctured HalfRate (replicate (2 * (size + 8)) true) k ≡ false
 half_kept size k inside = rw (get_or-replicate (2 * (size + 8)) (2 * k) true false (omega arith)) refl
 
-third_kept : (size k : ℕ) → k < size → is_lost ThirdRate (replicate (3 * (size + 8)) true) k ≡ false
+third_kept : (size k : ℕ) → k < size → is_punctured ThirdRate (replicate (3 * (size + 8)) true) k ≡ false
 third_kept size k inside = rw (get_or-replicate (3 * (size + 8)) (3 * k) true false (omega arith)) refl
 
 pub whole_none : (coding : Coding) (size filler : ℕ) (sent : ℕ → ℕ) → ((t : ℕ) → t < coded_block coding size → 0 < sent t) → NoneCollide coding size filler sent

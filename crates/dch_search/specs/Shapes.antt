@@ -6,7 +6,7 @@ use Rattle.dch_types.specs.declared.channel.Side.{Side}
 use Rattle.dch_types.specs.Lengths.{coded_block}
 use Rattle.dch_types.specs.Parts.{channel_at}
 use Rattle.dch_segment.specs.Segments.{plan_of}
-use Rattle.dch_removal.specs.Copies.{bits_in, padded_in}
+use Rattle.dch_puncture.specs.Copies.{bits_in, padded_in}
 use Rattle.dch_search.specs.declared.found.Hit.{Hit}
 use Rattle.dch_search.specs.declared.shape.Shape.{Shape}
 use Rattle.dch_search.specs.Clear.{joined_in, Copies}

@@ -16,19 +16,19 @@ use dch_types::Coding;
 pub(crate) fn look(
     collider: &mut Collider,
     shape: &Shape,
-    kept: &[bool],
+    sent_flags: &[bool],
     block: &mut [Bit],
 ) -> Option<usize>
     requires filler { shape.now.plan.filler ≤ shape.now.plan.size }
     requires short { shape.now.coding ≢ Uncoded → shape.now.plan.size ≤ 504 }
     requires size { shape.now.plan.size ≤ 131072 }
-    requires kept { shape.now.plan.blocks * coded_block shape.now.coding shape.now.plan.size ≤ length kept.now }
+    requires sent_flags { shape.now.plan.blocks * coded_block shape.now.coding shape.now.plan.size ≤ length sent_flags.now }
     requires room { shape.now.plan.size ≤ length block.old }
-    ensures some { IfSome result (λ r. IsFirstBlock shape.now.coding shape.now.plan (copies_kept kept.now) r (take shape.now.plan.size block.new)) }
-    ensures none { result ≡ None → AreClearBlocks shape.now.coding shape.now.plan (copies_kept kept.now) }
+    ensures some { IfSome result (λ r. IsFirstBlock shape.now.coding shape.now.plan (copies_kept sent_flags.now) r (take shape.now.plan.size block.new)) }
+    ensures none { result ≡ None → AreClearBlocks shape.now.coding shape.now.plan (copies_kept sent_flags.now) }
 {
     let block = &mut block[..shape.plan.size];
-    first_block(collider, shape.coding, &shape.plan, kept, block)
+    first_block(collider, shape.coding, &shape.plan, sent_flags, block)
 }
 
 /// The first code block of a TTI in whose place two blocks collide, where the flags tell which coded bits are sent. The first
@@ -37,19 +37,19 @@ fn first_block(
     collider: &mut Collider,
     coding: Coding,
     plan: &Plan,
-    kept: &[bool],
+    sent_flags: &[bool],
     block: &mut [Bit],
 ) -> Option<usize>
     requires plan { plan.now.filler ≤ plan.now.size }
     requires short { coding ≢ Uncoded → plan.now.size ≤ 504 }
     requires size { plan.now.size ≤ 131072 }
-    requires kept { plan.now.blocks * coded_block coding plan.now.size ≤ length kept.now }
+    requires sent_flags { plan.now.blocks * coded_block coding plan.now.size ≤ length sent_flags.now }
     requires room { length block.old ≡ plan.now.size }
-    ensures some { IfSome result (λ r. IsFirstBlock coding plan.now (copies_kept kept.now) r block.new) }
-    ensures none { result ≡ None → AreClearBlocks coding plan.now (copies_kept kept.now) }
+    ensures some { IfSome result (λ r. IsFirstBlock coding plan.now (copies_kept sent_flags.now) r block.new) }
+    ensures none { result ≡ None → AreClearBlocks coding plan.now (copies_kept sent_flags.now) }
 {
     for r in 0..plan.blocks {
-        if collides(collider, coding, plan, r, kept, block) {
+        if collides(collider, coding, plan, r, sent_flags, block) {
             return Some(r);
         }
     }
@@ -62,21 +62,26 @@ fn collides(
     coding: Coding,
     plan: &Plan,
     r: usize,
-    kept: &[bool],
+    sent_flags: &[bool],
     block: &mut [Bit],
 ) -> bool
     requires plan { plan.now.filler ≤ plan.now.size }
     requires short { coding ≢ Uncoded → plan.now.size ≤ 504 }
     requires size { plan.now.size ≤ 131072 }
-    requires kept { plan.now.blocks * coded_block coding plan.now.size ≤ length kept.now }
+    requires sent_flags { plan.now.blocks * coded_block coding plan.now.size ≤ length sent_flags.now }
     requires room { length block.old ≡ plan.now.size }
     requires there { r < plan.now.blocks }
-    ensures found { result ≡ true → IsFirstInBlock coding plan.now (copies_kept kept.now) r block.new }
-    ensures none { result ≡ false → IsClearBlock coding plan.now (copies_kept kept.now) r }
+    ensures found { result ≡ true → IsFirstInBlock coding plan.now (copies_kept sent_flags.now) r block.new }
+    ensures none { result ≡ false → IsClearBlock coding plan.now (copies_kept sent_flags.now) r }
 {
     let coded = coding.coded_block(plan.size as u64) as usize;
     let from = r * coded;
-    collider.find(coding, filler(plan, r), &kept[from..from + coded], block)
+    collider.find(
+        coding,
+        filler(plan, r),
+        &sent_flags[from..from + coded],
+        block,
+    )
 }
 
 /// The filler bits of code block `r`.

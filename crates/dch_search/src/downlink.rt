@@ -3,7 +3,7 @@ ghost use Rattle.dch_types.specs.Limits.{IsDownlink};
 ghost use Rattle.dch_types.specs.Parts.{channel_at};
 ghost use Rattle.dch_match.specs.Downlinks.{IsDownlinkPlan};
 ghost use Rattle.dch_legal.specs.Sequences.{frames_of};
-ghost use Rattle.dch_removal.specs.Copies.{downlink_copies, AreKept};
+ghost use Rattle.dch_puncture.specs.Copies.{downlink_copies, AreSentFlags};
 ghost use Rattle.dch_search.specs.Clear.{IsClearUnder, IsClearFormat, IsClearChannel};
 ghost use Rattle.dch_search.specs.Found.{Finds};
 ghost use Rattle.dch_search.specs.Shapes.{IsFirstUnder, IsHitInFormat, IsHitInChannel, IsShape};
@@ -16,7 +16,7 @@ use dch_bits::{Bit, NoMemory};
 use dch_collide::Collider;
 use dch_legal::first;
 use dch_match::DownlinkPlan;
-use dch_removal::{downlink_kept, downlink_loses};
+use dch_puncture::{downlink_punctures, downlink_sent_flags};
 use dch_types::Downlink;
 use std::alloc::Global;
 
@@ -89,7 +89,7 @@ fn in_format(
     ensures some { IfSome result (λ hit. IsHitInFormat config.now.side (downlink_copies config.now) i f sequence.new block.new hit) }
     ensures none { result ≡ None → IsClearFormat config.now.side (downlink_copies config.now) i f }
 {
-    if !downlink_loses(config, plan, i, f) {
+    if !downlink_punctures(config, plan, i, f) {
         return None;
     }
     if !first(&config.side, i, f, sequence) {
@@ -98,7 +98,7 @@ fn in_format(
     let shape = shape_of(&config.side, i, f);
     if let Some(r) = removed(
         &mut room.collider,
-        &mut room.kept,
+        &mut room.sent_flags,
         config,
         plan,
         i,
@@ -114,7 +114,7 @@ fn in_format(
 /// The first code block with a collision, whatever the sequence.
 fn removed(
     collider: &mut Collider,
-    kept: &mut [bool],
+    sent_flags: &mut [bool],
     config: &Downlink,
     plan: &DownlinkPlan,
     i: u8,
@@ -127,24 +127,31 @@ fn removed(
     requires channel { i < length config.now.side.channels }
     requires format { f < length (channel_at config.now.side i).formats }
     requires shape { IsShape config.now.side i f shape.now }
-    requires kept { length kept.old ≡ 131072 }
+    requires sent_flags { length sent_flags.old ≡ 131072 }
     requires block { length block.old ≡ 131072 }
     ensures some { IfSome result (λ r. (sequence : List ℕ) → IsFirstUnder config.now.side (downlink_copies config.now) i f sequence r (take shape.now.plan.size block.new)) }
     ensures none { result ≡ None → (sequence : List ℕ) → IsClearUnder config.now.side (downlink_copies config.now) i f sequence }
 {
-    flag(config, plan, i, f, shape, kept);
-    look(collider, shape, kept, block)
+    flag(config, plan, i, f, shape, sent_flags);
+    look(collider, shape, sent_flags, block)
 }
 
-/// Flags the coded bits that are sent, at the front of `kept`.
-fn flag(config: &Downlink, plan: &DownlinkPlan, i: u8, f: u8, shape: &Shape, kept: &mut [bool])
+/// Flags the coded bits that are sent, at the front of `sent_flags`.
+fn flag(
+    config: &Downlink,
+    plan: &DownlinkPlan,
+    i: u8,
+    f: u8,
+    shape: &Shape,
+    sent_flags: &mut [bool],
+)
     requires plan { IsDownlinkPlan config.now plan.now }
     requires channel { i < length config.now.side.channels }
     requires format { f < length (channel_at config.now.side i).formats }
     requires shape { IsShape config.now.side i f shape.now }
-    requires room { length kept.old ≡ 131072 }
-    ensures { (sequence : List ℕ) → AreKept (downlink_copies config.now i f sequence) (take shape.now.bits kept.new) }
+    requires room { length sent_flags.old ≡ 131072 }
+    ensures { (sequence : List ℕ) → AreSentFlags (downlink_copies config.now i f sequence) (take shape.now.bits sent_flags.new) }
 {
-    let kept = &mut kept[..shape.bits];
-    downlink_kept(config, plan, i, f, kept);
+    let sent_flags = &mut sent_flags[..shape.bits];
+    downlink_sent_flags(config, plan, i, f, sent_flags);
 }

@@ -1,8 +1,8 @@
 ghost use Rattle.std.specs.Prelude.{◌≡◌, length, IfOk};
 ghost use Rattle.dch_types.specs.Limits.{IsUplink, IsDownlink};
 ghost use Rattle.dch_match.specs.Downlinks.{IsDownlinkPlan};
-ghost use Rattle.dch_removal.specs.Plans.{AreAllPlans};
-ghost use Rattle.dch_removal.specs.Copies.{uplink_copies, downlink_copies};
+ghost use Rattle.dch_puncture.specs.Plans.{AreAllPlans};
+ghost use Rattle.dch_puncture.specs.Copies.{uplink_copies, downlink_copies};
 ghost use Rattle.dch_search.specs.Found.{Finds};
 ghost use Rattle.dch_search.specs.declared.search.TheConstants.{MOST_BITS};
 
@@ -29,9 +29,9 @@ pub struct Search {
 pub(crate) struct Room {
     pub collider: Collider,
     pub segment: Vec<bool>,
-    pub kept: Vec<bool>,
+    pub sent_flags: Vec<bool>,
     ghost segment_room: { length segment.items ≡ MOST_BITS },
-    ghost kept_room: { length kept.items ≡ MOST_BITS },
+    ghost kept_room: { length sent_flags.items ≡ MOST_BITS },
 }
 
 impl Search {
@@ -40,7 +40,7 @@ impl Search {
         let room = Room {
             collider: Collider::open(alloc)?,
             segment: flags(alloc, MOST_BITS)?,
-            kept: flags(alloc, MOST_BITS)?,
+            sent_flags: flags(alloc, MOST_BITS)?,
         };
         Ok(Search {
             room,

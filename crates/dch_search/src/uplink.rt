@@ -2,8 +2,8 @@ ghost use Rattle.std.specs.Prelude.{◌≡◌, ◌<◌, ◌≤◌, None, length,
 ghost use Rattle.dch_types.specs.Limits.{IsUplink};
 ghost use Rattle.dch_types.specs.Parts.{channel_at};
 ghost use Rattle.dch_legal.specs.Sequences.{frames_of, IsLegal};
-ghost use Rattle.dch_removal.specs.Plans.{AreAllPlans};
-ghost use Rattle.dch_removal.specs.Copies.{uplink_copies, AreKept};
+ghost use Rattle.dch_puncture.specs.Plans.{AreAllPlans};
+ghost use Rattle.dch_puncture.specs.Copies.{uplink_copies, AreSentFlags};
 ghost use Rattle.dch_search.specs.Clear.{IsClearUnder, IsClearFormat, IsClearChannel};
 ghost use Rattle.dch_search.specs.Found.{Finds};
 ghost use Rattle.dch_search.specs.Shapes.{IsFirstUnder, IsHitInFormat, IsHitInChannel, IsShape};
@@ -16,7 +16,7 @@ use dch_bits::{Bit, NoMemory};
 use dch_collide::Collider;
 use dch_legal::{first, next};
 use dch_match::UplinkPlan;
-use dch_removal::{uplink_kept, uplink_loses};
+use dch_puncture::{uplink_punctures, uplink_sent_flags};
 use dch_types::Uplink;
 use std::alloc::Global;
 
@@ -89,7 +89,7 @@ fn in_format(
     ensures some { IfSome result (λ hit. IsHitInFormat config.now.side (uplink_copies config.now) i f sequence.new block.new hit) }
     ensures none { result ≡ None → IsClearFormat config.now.side (uplink_copies config.now) i f }
 {
-    if !uplink_loses(config, plans, i, f) {
+    if !uplink_punctures(config, plans, i, f) {
         return None;
     }
     if !first(&config.side, i, f, sequence) {
@@ -100,7 +100,7 @@ fn in_format(
         if let Some(r) = under(
             &mut room.collider,
             &mut room.segment,
-            &mut room.kept,
+            &mut room.sent_flags,
             config,
             plans,
             i,
@@ -121,7 +121,7 @@ fn in_format(
 fn under(
     collider: &mut Collider,
     segment: &mut [bool],
-    kept: &mut [bool],
+    sent_flags: &mut [bool],
     config: &Uplink,
     plans: &[UplinkPlan],
     i: u8,
@@ -137,16 +137,16 @@ fn under(
     requires shape { IsShape config.now.side i f shape.now }
     requires legal { IsLegal config.now.side i f sequence.now }
     requires segment { length segment.old ≡ 131072 }
-    requires kept { length kept.old ≡ 131072 }
+    requires sent_flags { length sent_flags.old ≡ 131072 }
     requires block { length block.old ≡ 131072 }
     ensures some { IfSome result (λ r. IsFirstUnder config.now.side (uplink_copies config.now) i f sequence.now r (take shape.now.plan.size block.new)) }
     ensures none { result ≡ None → IsClearUnder config.now.side (uplink_copies config.now) i f sequence.now }
 {
-    flag(config, plans, i, f, shape, sequence, segment, kept);
-    look(collider, shape, kept, block)
+    flag(config, plans, i, f, shape, sequence, segment, sent_flags);
+    look(collider, shape, sent_flags, block)
 }
 
-/// Flags the coded bits that are sent under a legal sequence, at the front of `kept`.
+/// Flags the coded bits that are sent under a legal sequence, at the front of `sent_flags`.
 fn flag(
     config: &Uplink,
     plans: &[UplinkPlan],
@@ -155,7 +155,7 @@ fn flag(
     shape: &Shape,
     sequence: &[u16],
     segment: &mut [bool],
-    kept: &mut [bool],
+    sent_flags: &mut [bool],
 )
     requires good { IsUplink config.now }
     requires plans { AreAllPlans config.now plans.now }
@@ -163,9 +163,9 @@ fn flag(
     requires shape { IsShape config.now.side i f shape.now }
     requires legal { IsLegal config.now.side i f sequence.now }
     requires segment { length segment.old ≡ 131072 }
-    requires room { length kept.old ≡ 131072 }
-    ensures { AreKept (uplink_copies config.now i f sequence.now) (take shape.now.padded kept.new) }
+    requires room { length sent_flags.old ≡ 131072 }
+    ensures { AreSentFlags (uplink_copies config.now i f sequence.now) (take shape.now.padded sent_flags.new) }
 {
-    let kept = &mut kept[..shape.padded];
-    uplink_kept(config, plans, i, f, sequence, segment, kept);
+    let sent_flags = &mut sent_flags[..shape.padded];
+    uplink_sent_flags(config, plans, i, f, sequence, segment, sent_flags);
 }

@@ -11,7 +11,7 @@ use Rattle.dch_frame.specs.Votes.{copies_as_votes}
 use Rattle.dch_accept.specs.Plans.{Planned}
 use Rattle.dch_rxframes.specs.RxFrames.{RxFrame, RxFrames, frame_at}
 use Rattle.dch_ulphy.specs.Loaded.{AreInterleaved, Loaded}
-use Rattle.dch_removal.specs.Copies.{frame_copies}
+use Rattle.dch_puncture.specs.Copies.{frame_copies}
 use Rattle.dch_ulphy.specs.Read.{frame_votes, tti_votes}
 use Rattle.dch_ulphy.specs.Sent.{AreSentFrames, IsSentFrame, tti_copies}
 

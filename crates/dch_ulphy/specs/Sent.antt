@@ -4,7 +4,7 @@ use Rattle.dch_bits.specs.declared.bit.Bit.{Bit}
 use Rattle.dch_types.specs.declared.config.Uplink.{Uplink}
 use Rattle.dch_types.specs.Parts.{channel_at, format_at}
 use Rattle.dch_inter.specs.Places.{frame_of, place_of}
-use Rattle.dch_removal.specs.Copies.{frame_copies}
+use Rattle.dch_puncture.specs.Copies.{frame_copies}
 use Rattle.dch_accept.specs.Blocks.{bits_of}
 use Rattle.dch_accept.specs.Frames.{Frame}
 use Rattle.dch_accept.specs.Plans.{Planned}

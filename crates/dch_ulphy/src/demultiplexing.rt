@@ -6,7 +6,7 @@ ghost use Rattle.dch_types.specs.Parts.{channel_at};
 ghost use Rattle.dch_inter.specs.Places.{frame_of, place_of};
 ghost use Rattle.dch_match.specs.Uplinks.{before_of};
 ghost use Rattle.dch_frame.specs.Votes.{copies_as_votes};
-ghost use Rattle.dch_removal.specs.Copies.{frame_copies};
+ghost use Rattle.dch_puncture.specs.Copies.{frame_copies};
 ghost use Rattle.dch_ulphy.specs.Frames.{bits_before};
 ghost use Rattle.dch_rxframes.specs.RxFrames.{frame_at};
 ghost use Rattle.dch_ulphy.specs.Kept.{IsKeptOf, IsReaderOf};

@@ -9,12 +9,12 @@ nearest-requires-clause-few c =
 
 pub returns-clause-found : goal.returns-clause-found
 returns-clause-found c = λ none.
-    nearest-first c.args.rate c.args.kept.now (length c.args.out.now) c.args.k c.first_output-at.result c.nearest.result c.fill.new.votes c.nearest.new.out c.first_output-at.ensures c.requires.inside (omega arith) c.requires.coded c.fill.ensures (lost-first c.args.rate c.args.kept.now c.first_output-at.result c.args.k c.first_output-at.ensures (sym c.is_lost.ensures ∙ c.if-not-is_lost.false)) c.nearest.ensures.nearest c.nearest.ensures.copies none
+    nearest-first c.args.rate c.args.kept.now (length c.args.out.now) c.args.k c.first_output-at.result c.nearest.result c.fill.new.votes c.nearest.new.out c.first_output-at.ensures c.requires.inside (omega arith) c.requires.coded c.fill.ensures (lost-first c.args.rate c.args.kept.now c.first_output-at.result c.args.k c.first_output-at.ensures (sym c.is_punctured.ensures ∙ c.if-not-is_punctured.false)) c.nearest.ensures.nearest c.nearest.ensures.copies none
 
 pub returns-clause-none : goal.returns-clause-none
 returns-clause-none c = λ some other hidden.
     nearest-none c.args.rate c.args.kept.now (length c.args.out.now) c.args.k c.first_output-at.result c.nearest.result c.fill.new.votes c.nearest.new.out c.first_output-at.ensures c.requires.inside (omega arith) c.requires.coded c.fill.ensures c.nearest.ensures.nearest c.nearest.ensures.copies some other hidden
 
-pub returns-then-not-is_lost-clause-none : goal.returns-then-not-is_lost-clause-none
-returns-then-not-is_lost-clause-none c = λ same other hidden.
-    lost-start c.args.rate c.args.kept.now (length c.args.out.now) c.args.k other c.requires.inside (sym c.is_lost.ensures ∙ c.if-not-is_lost.true) hidden
+pub returns-then-not-is_punctured-clause-none : goal.returns-then-not-is_punctured-clause-none
+returns-then-not-is_punctured-clause-none c = λ same other hidden.
+    lost-start c.args.rate c.args.kept.now (length c.args.out.now) c.args.k other c.requires.inside (sym c.is_punctured.ensures ∙ c.if-not-is_punctured.true) hidden

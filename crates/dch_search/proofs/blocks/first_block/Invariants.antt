@@ -4,4 +4,4 @@ use Rattle.dch_search.specs.Clear.{IsClearBlock}
 use Rattle.dch_search.proofs.blocks.first_block.Given as goal
 
 abbrev pub invariant-loop-r : goal.invariant-loop-r
-invariant-loop-r l = (r : ℕ) → r < l.r → IsClearBlock l.coding l.plan (copies_kept l.kept) r
+invariant-loop-r l = (r : ℕ) → r < l.r → IsClearBlock l.coding l.plan (copies_kept l.sent_flags) r

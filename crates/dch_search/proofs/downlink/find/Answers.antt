@@ -1,5 +1,5 @@
 use Rattle.std.proofs.Common.{arith, refl, below_more}
-use Rattle.dch_removal.specs.Copies.{downlink_copies}
+use Rattle.dch_puncture.specs.Copies.{downlink_copies}
 use Rattle.dch_search.specs.Clear.{IsClearChannel}
 use Rattle.dch_search.proofs.Under.{found_of}
 use Rattle.dch_search.proofs.downlink.find.Goals as goal

@@ -1,6 +1,6 @@
 use Rattle.std.proofs.Common.{length, arith, ap, refl, below_more}
 use Rattle.dch_types.specs.declared.channel.Trch.{Trch}
-use Rattle.dch_removal.specs.Copies.{downlink_copies}
+use Rattle.dch_puncture.specs.Copies.{downlink_copies}
 use Rattle.dch_search.specs.Clear.{IsClearFormat}
 use Rattle.dch_search.proofs.Under.{hit_in_channel, clear_channel}
 use Rattle.dch_search.proofs.downlink.in_channel.Goals as goal

@@ -1,13 +1,13 @@
 use Rattle.std.proofs.Common.{arith, ap, refl, sym}
 use Rattle.dch_segment.specs.declared.cut.Plan.{Plan}
-use Rattle.dch_removal.specs.Copies.{downlink_copies}
+use Rattle.dch_puncture.specs.Copies.{downlink_copies}
 use Rattle.dch_search.proofs.Unpunctured.{downlink_whole}
 use Rattle.dch_search.proofs.Under.{hit_in_format}
 use Rattle.dch_search.proofs.Visits.{reach_first}
 use Rattle.dch_search.proofs.downlink.in_format.Goals as goal
 
-pub returns-then-not-downlink_loses-clause-none : goal.returns-then-not-downlink_loses-clause-none
-returns-then-not-downlink_loses-clause-none c same = downlink_whole c.args.config.now c.args.i c.args.f c.requires.good c.requires.channel (sym c.if-not-downlink_loses.ensures)
+pub returns-then-not-downlink_punctures-clause-none : goal.returns-then-not-downlink_punctures-clause-none
+returns-then-not-downlink_punctures-clause-none c same = downlink_whole c.args.config.now c.args.i c.args.f c.requires.good c.requires.channel (sym c.if-not-downlink_punctures.ensures)
 
 pub returns-then-not-first-clause-none : goal.returns-then-not-first-clause-none
 returns-then-not-first-clause-none c same sequence legal = absurd (c.if-not-first.ensures.none refl sequence legal)

@@ -1,5 +1,5 @@
 use Rattle.std.proofs.Common.{arith}
-use Rattle.dch_removal.specs.Copies.{downlink_copies}
+use Rattle.dch_puncture.specs.Copies.{downlink_copies}
 use Rattle.dch_search.proofs.Under.{if_some, found_under, clear_under}
 use Rattle.dch_search.proofs.downlink.removed.Goals as goal
 
@@ -9,10 +9,10 @@ returns-clause-some c =
     let sent = downlink_copies c.args.config.now in
     let shape = c.args.shape.now in
     if_some c.look.result
-    (λ r first sequence. found_under side sent c.args.i c.args.f shape.bits r sequence shape c.flag.new.kept _ c.requires.shape
+    (λ r first sequence. found_under side sent c.args.i c.args.f shape.bits r sequence shape c.flag.new.sent_flags _ c.requires.shape
     (record {
       whole = omega (arith, c.requires.shape.whole);
-      room = omega (arith, c.requires.shape.few, c.requires.shape.fits, c.flag.auto.kept, c.requires.kept);
+      room = omega (arith, c.requires.shape.few, c.requires.shape.fits, c.flag.auto.sent_flags, c.requires.sent_flags);
       told = c.flag.ensures sequence;
     }) first)
     c.look.ensures.some
@@ -22,9 +22,9 @@ returns-clause-none c none sequence =
     let side = c.args.config.now.side in
     let sent = downlink_copies c.args.config.now in
     let shape = c.args.shape.now in
-    clear_under side sent c.args.i c.args.f shape.bits sequence shape c.flag.new.kept c.requires.shape
+    clear_under side sent c.args.i c.args.f shape.bits sequence shape c.flag.new.sent_flags c.requires.shape
     (record {
       whole = omega (arith, c.requires.shape.whole);
-      room = omega (arith, c.requires.shape.few, c.requires.shape.fits, c.flag.auto.kept, c.requires.kept);
+      room = omega (arith, c.requires.shape.few, c.requires.shape.fits, c.flag.auto.sent_flags, c.requires.sent_flags);
       told = c.flag.ensures sequence;
     }) (c.look.ensures.none none)

@@ -1,12 +1,12 @@
 use Rattle.std.proofs.Common.{arith, refl, sym}
-use Rattle.dch_removal.specs.Copies.{uplink_copies}
+use Rattle.dch_puncture.specs.Copies.{uplink_copies}
 use Rattle.dch_search.proofs.Unpunctured.{uplink_whole}
 use Rattle.dch_search.proofs.Under.{hit_in_format}
 use Rattle.dch_search.proofs.Visits.{reach_first, reach_next, reach_all, next_falls}
 use Rattle.dch_search.proofs.uplink.in_format.Goals as goal
 
-pub returns-then-not-uplink_loses-clause-none : goal.returns-then-not-uplink_loses-clause-none
-returns-then-not-uplink_loses-clause-none c same = uplink_whole c.args.config.now c.args.i c.args.f c.requires.good c.requires.channel (sym c.if-not-uplink_loses.ensures)
+pub returns-then-not-uplink_punctures-clause-none : goal.returns-then-not-uplink_punctures-clause-none
+returns-then-not-uplink_punctures-clause-none c same = uplink_whole c.args.config.now c.args.i c.args.f c.requires.good c.requires.channel (sym c.if-not-uplink_punctures.ensures)
 
 pub returns-then-not-first-clause-none : goal.returns-then-not-first-clause-none
 returns-then-not-first-clause-none c same sequence legal = absurd (c.if-not-first.ensures.none refl sequence legal)

@@ -1,5 +1,5 @@
 use Rattle.std.proofs.Common.{◌-◌}
-use Rattle.dch_removal.specs.Copies.{uplink_copies}
+use Rattle.dch_puncture.specs.Copies.{uplink_copies}
 use Rattle.dch_search.proofs.Order.{power, value}
 use Rattle.dch_search.proofs.Visits.{IsReached}
 use Rattle.dch_search.proofs.uplink.in_format.Given as goal

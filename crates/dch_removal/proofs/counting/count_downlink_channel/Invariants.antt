@@ -1,7 +1,0 @@
-use Rattle.std.proofs.Common.{◌≡◌, ◌≤◌, ◌*◌, ◌^◌}
-use Rattle.dch_legal.specs.Counted.{total}
-use Rattle.dch_removal.specs.Counted.{downlink_count}
-use Rattle.dch_removal.proofs.counting.count_downlink_channel.Given as goal
-
-abbrev pub invariant-loop-f : goal.invariant-loop-f
-invariant-loop-f l = (l.sum ≡ total (downlink_count l.config l.i) l.f) × (l.sum ≤ l.f * 2 ^ 75)

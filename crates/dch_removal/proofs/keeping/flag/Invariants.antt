@@ -1,7 +1,0 @@
-use Rattle.std.proofs.Common.{◌≡◌}
-use Rattle.dch_match.specs.Patterns.{copies}
-use Rattle.dch_removal.proofs.Flags.{AreTold}
-use Rattle.dch_removal.proofs.keeping.flag.Given as goal
-
-abbrev pub invariant-loop-m : goal.invariant-loop-m
-invariant-loop-m l = (l.walk ≡ record { pattern = l.pattern; bit = l.m }) × AreTold (copies l.pattern.kind) l.kept l.m
