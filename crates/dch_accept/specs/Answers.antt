@@ -11,8 +11,8 @@ use Rattle.dch_match.specs.declared.uplink_plan.UplinkPlan.{UplinkPlan}
 use Rattle.dch_match.specs.Uplinks.{demand_of, set2}
 use Rattle.dch_puncture.specs.Copies.{uplink_copies, downlink_copies}
 use Rattle.dch_puncture.specs.Counted.{search_count}
-use Rattle.dch_search.specs.Clear.{Copies, IsClear, IsClearSide}
-use Rattle.dch_search.specs.Found.{IsFirstOf}
+use Rattle.dch_collision.specs.Clear.{Copies, IsClear, IsClearSide}
+use Rattle.dch_collision.specs.Found.{IsFirstOf}
 use Rattle.dch_accept.specs.declared.refusal.Refusal.{Refusal}
 use Rattle.dch_accept.specs.declared.refusal.Refusal.TheVariants.{NoMemory, NoRate, Sequences, Collision}
 use Rattle.dch_accept.specs.Plans.{Planned, ArePlans}

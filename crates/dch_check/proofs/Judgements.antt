@@ -12,7 +12,7 @@ use Rattle.dch_config.specs.declared.error.ConfigError.TheVariants.{NoMemory, No
 use Rattle.dch_bits.specs.declared.bit.Bit.{Bit}
 use Rattle.dch_types.specs.declared.channel.Dir.{Dir}
 use Rattle.dch_types.specs.declared.channel.Dir.TheVariants.{Up, Down}
-use Rattle.dch_search.specs.Clear.{IsClear}
+use Rattle.dch_collision.specs.Clear.{IsClear}
 use Rattle.dch_accept.specs.Answers.{HaveAllRates, count_of, IsCause, IsCollision}
 use Rattle.dch_accept.specs.declared.refusal.Refusal.{Refusal}
 use Rattle.dch_accept.specs.declared.refusal.Refusal.TheVariants as why

@@ -3,7 +3,7 @@ use Rattle.std.specs.Prelude.{◌≡◌, ◌≤◌, ◌⊎◌, ℕ, List, Some, 
 use Rattle.dch_types.specs.declared.config.Config.{Config}
 use Rattle.dch_config.specs.Reading.{Reads}
 use Rattle.dch_config.specs.declared.error.ConfigError.{ConfigError}
-use Rattle.dch_search.specs.Clear.{IsClear}
+use Rattle.dch_collision.specs.Clear.{IsClear}
 use Rattle.dch_accept.specs.Answers.{HaveAllRates, count_of, IsCause}
 use Rattle.dch_accept.specs.declared.refusal.Refusal.{Refusal}
 use Rattle.dch_check.specs.Acceptance.{acceptance_refusal, accepted_line}

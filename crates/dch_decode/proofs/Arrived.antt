@@ -17,7 +17,7 @@ use Rattle.dch_accept.specs.BlockLending.{with_bits}
 use Rattle.dch_accept.specs.Frames.{overwritten}
 use Rattle.dch_decode.specs.Read.{part, AreRead}
 use Rattle.dch_decode.specs.Copies.{AreCopies}
-use Rattle.dch_search.specs.Clear.{HasNoCollision}
+use Rattle.dch_collision.specs.Clear.{HasNoCollision}
 use Rattle.dch_decode.specs.Received.{IsReceived, ArrivesAs}
 use Rattle.dch_decode.proofs.Lengths.{joined_le}
 use Rattle.dch_decode.proofs.Parts.{length-part, get_or-part}

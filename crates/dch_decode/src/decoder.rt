@@ -7,9 +7,9 @@ ghost use Rattle.dch_segment.specs.Segments.{plan_of};
 ghost use Rattle.dch_coding.specs.Chain.{coded_of};
 ghost use Rattle.dch_trellis.specs.Nearest.{disagreement};
 ghost use Rattle.dch_decode.specs.Read.{part, IsRead, AreRead};
-ghost use Rattle.dch_search.specs.Clear.{filler_of};
+ghost use Rattle.dch_collision.specs.Clear.{filler_of};
 ghost use Rattle.dch_decode.specs.Copies.{AreCopies};
-ghost use Rattle.dch_search.specs.Clear.{HasNoCollision};
+ghost use Rattle.dch_collision.specs.Clear.{HasNoCollision};
 ghost use Rattle.dch_decode.specs.declared.decoder.TheConstants.{BITS, LONGEST};
 
 use crate::block::read_block;

@@ -11,7 +11,7 @@ use Rattle.dch_match.specs.declared.pattern.Pattern.{Pattern}
 use Rattle.dch_match.specs.Downlinks.{IsDownlinkPlan}
 use Rattle.dch_match.specs.Patterns.{copies}
 use Rattle.dch_legal.specs.Sequences.{IsLegal}
-use Rattle.dch_search.specs.Clear.{HasNoCollision, IsClear, joined_in}
+use Rattle.dch_collision.specs.Clear.{HasNoCollision, IsClear, joined_in}
 use Rattle.dch_accept.specs.Plans.{Planned}
 use Rattle.dch_rxframes.specs.RxFrames.{RxFrames, tti_place}
 use Rattle.dch_rxframes.proofs.Sent.{sent_number}

@@ -17,7 +17,7 @@ use Rattle.dch_frame.specs.Votes.{copies_as_votes}
 use Rattle.dch_accept.specs.Blocks.{Held}
 use Rattle.dch_accept.specs.Plans.{Planned}
 use Rattle.dch_decode.specs.Copies.{AreCopies}
-use Rattle.dch_search.specs.Clear.{IsClear}
+use Rattle.dch_collision.specs.Clear.{IsClear}
 use Rattle.dch_decode.specs.Received.{ArrivesAs, ReadsCopies}
 use Rattle.dch_rxframes.specs.Formats.{AllGive}
 use Rattle.dch_rxframes.specs.RxFrames.{RxFrames}

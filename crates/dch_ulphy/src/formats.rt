@@ -1,7 +1,7 @@
 ghost use Rattle.std.specs.Prelude.{◌≡◌, ◌<◌, length};
 ghost use Rattle.dch_types.specs.Limits.{IsChannel, IsFrames};
 ghost use Rattle.dch_types.specs.Parts.{channel_at};
-ghost use Rattle.dch_search.specs.Clear.{IsClear};
+ghost use Rattle.dch_collision.specs.Clear.{IsClear};
 ghost use Rattle.dch_rxframes.specs.Formats.{FindsFormat};
 ghost use Rattle.dch_ulphy.specs.Kept.{IsReaderOf};
 

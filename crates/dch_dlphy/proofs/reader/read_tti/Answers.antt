@@ -12,7 +12,7 @@ use Rattle.dch_match.specs.Patterns.{copies_below}
 use Rattle.dch_frame.specs.Votes.{votes_of}
 use Rattle.dch_frame.proofs.Kept.{copies_inside}
 use Rattle.dch_decode.specs.Received.{IsReceived}
-use Rattle.dch_search.specs.Clear.{IsClear}
+use Rattle.dch_collision.specs.Clear.{IsClear}
 use Rattle.dch_dlphy.specs.Read.{AreKeptCells, bits_per_tti}
 use Rattle.dch_dlphy.proofs.Demultiplexed.{kept_cells, tti_read}
 use Rattle.dch_dlphy.proofs.SentBack.{tti_arrives}

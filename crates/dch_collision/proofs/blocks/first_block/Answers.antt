@@ -1,0 +1,10 @@
+use Rattle.std.proofs.Common.{arith, below_more, refl}
+use Rattle.dch_collide.specs.Collisions.{copies_kept}
+use Rattle.dch_collision.specs.Clear.{IsClearBlock}
+use Rattle.dch_collision.proofs.blocks.first_block.Goals as goal
+
+pub loop-r-preserved : goal.loop-r-preserved
+loop-r-preserved c = below_more (λ r. IsClearBlock c.args.coding c.args.plan.now (copies_kept c.args.sent_flags.now) r) c.loop-r.r c.loop-r.invariant (c.if-collides.ensures.none refl)
+
+pub returns-clause-none : goal.returns-clause-none
+returns-clause-none c = λ same r inside. c.loop-r.invariant r (omega arith)

@@ -1,0 +1,157 @@
+ghost use Rattle.std.specs.Prelude.{◌≡◌, ◌<◌, ◌≤◌, ℕ, List, None, length, take, IfOk, IfSome};
+ghost use Rattle.dch_types.specs.Limits.{IsDownlink};
+ghost use Rattle.dch_types.specs.Parts.{channel_at};
+ghost use Rattle.dch_match.specs.Downlinks.{IsDownlinkPlan};
+ghost use Rattle.dch_legal.specs.Sequences.{frames_of};
+ghost use Rattle.dch_puncture.specs.Copies.{downlink_copies, AreSentFlags};
+ghost use Rattle.dch_collision.specs.Clear.{IsClearUnder, IsClearFormat, IsClearChannel};
+ghost use Rattle.dch_collision.specs.Found.{Finds};
+ghost use Rattle.dch_collision.specs.Shapes.{IsFirstUnder, IsCollisionInFormat, IsCollisionInChannel, IsShape};
+
+use crate::blocks::first_collision;
+use crate::found::{FormatCollision, Found, format_collision, keep};
+use crate::search::Room;
+use crate::shape::{Shape, channel_of, shape_of};
+use dch_bits::{Bit, NoMemory};
+use dch_collide::Collider;
+use dch_legal::first;
+use dch_match::DownlinkPlan;
+use dch_puncture::{downlink_punctures, downlink_sent_flags};
+use dch_types::Downlink;
+use std::alloc::Global;
+
+/// The first collision in the downlink.
+pub(crate) fn find(
+    alloc: Global,
+    room: &mut Room,
+    config: &Downlink,
+    plan: &DownlinkPlan,
+    block: &mut [Bit],
+) -> Result<Option<Found>, NoMemory>
+    requires good { IsDownlink config.now }
+    requires plan { IsDownlinkPlan config.now plan.now }
+    requires block { length block.old ≡ 131072 }
+    ensures { IfOk result (Finds config.now.side (downlink_copies config.now)) }
+{
+    let mut places = [0; 8];
+    for i in 0..config.side.channels.len() {
+        let i = i as u8;
+        let sequence = &mut places[..usize::from(channel_of(&config.side, i).frames)];
+        if let Some(hit) = first_in_channel(room, config, plan, i, sequence, block) {
+            return Ok(Some(keep(alloc, i, &hit, sequence, block)?));
+        }
+    }
+    Ok(None)
+}
+
+/// The first collision in a channel. Its sequence is left in `sequence`.
+fn first_in_channel(
+    room: &mut Room,
+    config: &Downlink,
+    plan: &DownlinkPlan,
+    i: u8,
+    sequence: &mut [u16],
+    block: &mut [Bit],
+) -> Option<FormatCollision>
+    requires good { IsDownlink config.now }
+    requires plan { IsDownlinkPlan config.now plan.now }
+    requires channel { i < length config.now.side.channels }
+    requires room { length sequence.old ≡ frames_of config.now.side i }
+    requires block { length block.old ≡ 131072 }
+    ensures some { IfSome result (λ hit. IsCollisionInChannel config.now.side (downlink_copies config.now) i sequence.new block.new hit) }
+    ensures none { result ≡ None → IsClearChannel config.now.side (downlink_copies config.now) i }
+{
+    for f in 0..channel_of(&config.side, i).formats.len() {
+        let f = f as u8;
+        if let Some(hit) = first_in_format(room, config, plan, i, f, sequence, block) {
+            return Some(hit);
+        }
+    }
+    None
+}
+
+/// The first collision in a format: under its first legal sequence, since the others remove the same bits.
+fn first_in_format(
+    room: &mut Room,
+    config: &Downlink,
+    plan: &DownlinkPlan,
+    i: u8,
+    f: u8,
+    sequence: &mut [u16],
+    block: &mut [Bit],
+) -> Option<FormatCollision>
+    requires good { IsDownlink config.now }
+    requires plan { IsDownlinkPlan config.now plan.now }
+    requires channel { i < length config.now.side.channels }
+    requires format { f < length (channel_at config.now.side i).formats }
+    requires room { length sequence.old ≡ frames_of config.now.side i }
+    requires block { length block.old ≡ 131072 }
+    ensures some { IfSome result (λ hit. IsCollisionInFormat config.now.side (downlink_copies config.now) i f sequence.new block.new hit) }
+    ensures none { result ≡ None → IsClearFormat config.now.side (downlink_copies config.now) i f }
+{
+    if !downlink_punctures(config, plan, i, f) {
+        return None;
+    }
+    if !first(&config.side, i, f, sequence) {
+        return None;
+    }
+    let shape = shape_of(&config.side, i, f);
+    if let Some(r) = removed(
+        &mut room.collider,
+        &mut room.sent_flags,
+        config,
+        plan,
+        i,
+        f,
+        &shape,
+        block,
+    ) {
+        return Some(format_collision(f, r, &shape));
+    }
+    None
+}
+
+/// The first code block with a collision, whatever the sequence.
+fn removed(
+    collider: &mut Collider,
+    sent_flags: &mut [bool],
+    config: &Downlink,
+    plan: &DownlinkPlan,
+    i: u8,
+    f: u8,
+    shape: &Shape,
+    block: &mut [Bit],
+) -> Option<usize>
+    requires good { IsDownlink config.now }
+    requires plan { IsDownlinkPlan config.now plan.now }
+    requires channel { i < length config.now.side.channels }
+    requires format { f < length (channel_at config.now.side i).formats }
+    requires shape { IsShape config.now.side i f shape.now }
+    requires sent_flags { length sent_flags.old ≡ 131072 }
+    requires block { length block.old ≡ 131072 }
+    ensures some { IfSome result (λ r. (sequence : List ℕ) → IsFirstUnder config.now.side (downlink_copies config.now) i f sequence r (take shape.now.plan.size block.new)) }
+    ensures none { result ≡ None → (sequence : List ℕ) → IsClearUnder config.now.side (downlink_copies config.now) i f sequence }
+{
+    flag(config, plan, i, f, shape, sent_flags);
+    first_collision(collider, shape, sent_flags, block)
+}
+
+/// Flags the coded bits that are sent, at the front of `sent_flags`.
+fn flag(
+    config: &Downlink,
+    plan: &DownlinkPlan,
+    i: u8,
+    f: u8,
+    shape: &Shape,
+    sent_flags: &mut [bool],
+)
+    requires plan { IsDownlinkPlan config.now plan.now }
+    requires channel { i < length config.now.side.channels }
+    requires format { f < length (channel_at config.now.side i).formats }
+    requires shape { IsShape config.now.side i f shape.now }
+    requires room { length sent_flags.old ≡ 131072 }
+    ensures { (sequence : List ℕ) → AreSentFlags (downlink_copies config.now i f sequence) (take shape.now.bits sent_flags.new) }
+{
+    let sent_flags = &mut sent_flags[..shape.bits];
+    downlink_sent_flags(config, plan, i, f, sent_flags);
+}

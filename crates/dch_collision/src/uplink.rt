@@ -1,0 +1,171 @@
+ghost use Rattle.std.specs.Prelude.{◌≡◌, ◌<◌, ◌≤◌, None, length, take, IfOk, IfSome};
+ghost use Rattle.dch_types.specs.Limits.{IsUplink};
+ghost use Rattle.dch_types.specs.Parts.{channel_at};
+ghost use Rattle.dch_legal.specs.Sequences.{frames_of, IsLegal};
+ghost use Rattle.dch_puncture.specs.Plans.{AreAllPlans};
+ghost use Rattle.dch_puncture.specs.Copies.{uplink_copies, AreSentFlags};
+ghost use Rattle.dch_collision.specs.Clear.{IsClearUnder, IsClearFormat, IsClearChannel};
+ghost use Rattle.dch_collision.specs.Found.{Finds};
+ghost use Rattle.dch_collision.specs.Shapes.{IsFirstUnder, IsCollisionInFormat, IsCollisionInChannel, IsShape};
+
+use crate::blocks::first_collision;
+use crate::found::{FormatCollision, Found, format_collision, keep};
+use crate::search::Room;
+use crate::shape::{Shape, channel_of, shape_of};
+use dch_bits::{Bit, NoMemory};
+use dch_collide::Collider;
+use dch_legal::{first, next};
+use dch_match::UplinkPlan;
+use dch_puncture::{uplink_punctures, uplink_sent_flags};
+use dch_types::Uplink;
+use std::alloc::Global;
+
+/// The first collision in the uplink.
+pub(crate) fn find(
+    alloc: Global,
+    room: &mut Room,
+    config: &Uplink,
+    plans: &[UplinkPlan],
+    block: &mut [Bit],
+) -> Result<Option<Found>, NoMemory>
+    requires good { IsUplink config.now }
+    requires plans { AreAllPlans config.now plans.now }
+    requires block { length block.old ≡ 131072 }
+    ensures { IfOk result (Finds config.now.side (uplink_copies config.now)) }
+{
+    let mut places = [0; 8];
+    for i in 0..config.side.channels.len() {
+        let i = i as u8;
+        let sequence = &mut places[..usize::from(channel_of(&config.side, i).frames)];
+        if let Some(hit) = first_in_channel(room, config, plans, i, sequence, block) {
+            return Ok(Some(keep(alloc, i, &hit, sequence, block)?));
+        }
+    }
+    Ok(None)
+}
+
+/// The first collision in a channel. Its sequence is left in `sequence`.
+fn first_in_channel(
+    room: &mut Room,
+    config: &Uplink,
+    plans: &[UplinkPlan],
+    i: u8,
+    sequence: &mut [u16],
+    block: &mut [Bit],
+) -> Option<FormatCollision>
+    requires good { IsUplink config.now }
+    requires plans { AreAllPlans config.now plans.now }
+    requires channel { i < length config.now.side.channels }
+    requires room { length sequence.old ≡ frames_of config.now.side i }
+    requires block { length block.old ≡ 131072 }
+    ensures some { IfSome result (λ hit. IsCollisionInChannel config.now.side (uplink_copies config.now) i sequence.new block.new hit) }
+    ensures none { result ≡ None → IsClearChannel config.now.side (uplink_copies config.now) i }
+{
+    for f in 0..channel_of(&config.side, i).formats.len() {
+        let f = f as u8;
+        if let Some(hit) = first_in_format(room, config, plans, i, f, sequence, block) {
+            return Some(hit);
+        }
+    }
+    None
+}
+
+/// The first collision in a format: under each legal sequence, if some of them removes bits.
+fn first_in_format(
+    room: &mut Room,
+    config: &Uplink,
+    plans: &[UplinkPlan],
+    i: u8,
+    f: u8,
+    sequence: &mut [u16],
+    block: &mut [Bit],
+) -> Option<FormatCollision>
+    requires good { IsUplink config.now }
+    requires plans { AreAllPlans config.now plans.now }
+    requires channel { i < length config.now.side.channels }
+    requires format { f < length (channel_at config.now.side i).formats }
+    requires room { length sequence.old ≡ frames_of config.now.side i }
+    requires block { length block.old ≡ 131072 }
+    ensures some { IfSome result (λ hit. IsCollisionInFormat config.now.side (uplink_copies config.now) i f sequence.new block.new hit) }
+    ensures none { result ≡ None → IsClearFormat config.now.side (uplink_copies config.now) i f }
+{
+    if !uplink_punctures(config, plans, i, f) {
+        return None;
+    }
+    if !first(&config.side, i, f, sequence) {
+        return None;
+    }
+    let shape = shape_of(&config.side, i, f);
+    'sequences: loop {
+        if let Some(r) = first_under_sequence(
+            &mut room.collider,
+            &mut room.segment,
+            &mut room.sent_flags,
+            config,
+            plans,
+            i,
+            f,
+            &shape,
+            sequence,
+            block,
+        ) {
+            return Some(format_collision(f, r, &shape));
+        }
+        if !next(&config.side, i, f, sequence) {
+            return None;
+        }
+    }
+}
+
+/// The first code block with a collision under a legal sequence.
+fn first_under_sequence(
+    collider: &mut Collider,
+    segment: &mut [bool],
+    sent_flags: &mut [bool],
+    config: &Uplink,
+    plans: &[UplinkPlan],
+    i: u8,
+    f: u8,
+    shape: &Shape,
+    sequence: &[u16],
+    block: &mut [Bit],
+) -> Option<usize>
+    requires good { IsUplink config.now }
+    requires plans { AreAllPlans config.now plans.now }
+    requires channel { i < length config.now.side.channels }
+    requires format { f < length (channel_at config.now.side i).formats }
+    requires shape { IsShape config.now.side i f shape.now }
+    requires legal { IsLegal config.now.side i f sequence.now }
+    requires segment { length segment.old ≡ 131072 }
+    requires sent_flags { length sent_flags.old ≡ 131072 }
+    requires block { length block.old ≡ 131072 }
+    ensures some { IfSome result (λ r. IsFirstUnder config.now.side (uplink_copies config.now) i f sequence.now r (take shape.now.plan.size block.new)) }
+    ensures none { result ≡ None → IsClearUnder config.now.side (uplink_copies config.now) i f sequence.now }
+{
+    flag(config, plans, i, f, shape, sequence, segment, sent_flags);
+    first_collision(collider, shape, sent_flags, block)
+}
+
+/// Flags the coded bits that are sent under a legal sequence, at the front of `sent_flags`.
+fn flag(
+    config: &Uplink,
+    plans: &[UplinkPlan],
+    i: u8,
+    f: u8,
+    shape: &Shape,
+    sequence: &[u16],
+    segment: &mut [bool],
+    sent_flags: &mut [bool],
+)
+    requires good { IsUplink config.now }
+    requires plans { AreAllPlans config.now plans.now }
+    requires channel { i < length config.now.side.channels }
+    requires shape { IsShape config.now.side i f shape.now }
+    requires legal { IsLegal config.now.side i f sequence.now }
+    requires segment { length segment.old ≡ 131072 }
+    requires room { length sent_flags.old ≡ 131072 }
+    ensures { AreSentFlags (uplink_copies config.now i f sequence.now) (take shape.now.padded sent_flags.new) }
+{
+    let sent_flags = &mut sent_flags[..shape.padded];
+    uplink_sent_flags(config, plans, i, f, sequence, segment, sent_flags);
+}

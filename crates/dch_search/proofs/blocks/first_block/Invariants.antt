@@ -1,7 +1,0 @@
-use Rattle.std.proofs.Common.{◌<◌, ℕ}
-use Rattle.dch_collide.specs.Collisions.{copies_kept}
-use Rattle.dch_search.specs.Clear.{IsClearBlock}
-use Rattle.dch_search.proofs.blocks.first_block.Given as goal
-
-abbrev pub invariant-loop-r : goal.invariant-loop-r
-invariant-loop-r l = (r : ℕ) → r < l.r → IsClearBlock l.coding l.plan (copies_kept l.sent_flags) r
