@@ -3,8 +3,8 @@ ghost use Rattle.std.specs.Prelude.{IfOk};
 use dch_accept::{Accepted, PhyFrame, TtiBlocks};
 use dch_bits::{Bit, NoMemory};
 use dch_dlphy::{DlReader, DlTti, write};
+use dch_phytest::Ends;
 use dch_rxframes::TtiOutcome;
-use dch_trips::Ends;
 use dch_types::Dir;
 use std::alloc::Global;
 
@@ -50,7 +50,7 @@ impl Ends for DownlinkEnds {
         write(accepted, &self.tti, cfn, combination, out);
     }
 
-    fn hear(&mut self, accepted: &Accepted, cfn: u8, frame: &PhyFrame) {
+    fn receive(&mut self, accepted: &Accepted, cfn: u8, frame: &PhyFrame) {
         self.reader.push(accepted, cfn, Some(frame.view()));
     }
 

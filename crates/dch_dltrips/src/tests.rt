@@ -2,7 +2,7 @@ use crate::{CODES, DownlinkEnds, FLEXIBLE, SPEECH, UPLINK};
 use dch_accept::{Accepted, accept};
 use dch_bits::NoMemory;
 use dch_config::read;
-use dch_trips::{Air, Trip};
+use dch_phytest::{RadioChannel, RoundTrip};
 use std::alloc::Global;
 use std::test::Fail;
 
@@ -13,15 +13,15 @@ fn accepted(alloc: Global, downlink: &str) -> Result<Accepted, Fail> {
 
 /// Sends a frame in each combination of a sequence with one cell in 37 turned, notes how many cells each has, and answers
 /// whether all TTIs that ended were read as they were loaded.
-fn travel(
+fn transfer(
     alloc: Global,
     accepted: &Accepted,
     sequence: &[u16],
     cells: &mut Vec<usize>,
 ) -> Result<bool, NoMemory> {
     let ends = DownlinkEnds::open(alloc, accepted)?;
-    let mut trip = Trip::open(alloc, accepted, ends)?;
-    trip.travel_all(accepted, sequence, Air::Turned(37), cells)
+    let mut trip = RoundTrip::open(alloc, accepted, ends)?;
+    trip.transfer_all(accepted, sequence, RadioChannel::Turned(37), cells)
 }
 
 #[test]
@@ -33,7 +33,7 @@ fn whole_trips_with_damaged_cells(rt: HostRuntime) -> Result<(), Fail> {
     ] {
         let accepted = accepted(rt.alloc(), keys)?;
         let mut cells = Vec::new(rt.alloc());
-        assert!(rt; travel(rt.alloc(), &accepted, &sequence, &mut cells)?);
+        assert!(rt; transfer(rt.alloc(), &accepted, &sequence, &mut cells)?);
         assert!(rt; cells.len() == 8 && cells.iter().all(|cells| *cells == count));
     }
     Ok(())
@@ -43,24 +43,24 @@ fn whole_trips_with_damaged_cells(rt: HostRuntime) -> Result<(), Fail> {
 fn outcome(
     alloc: Global,
     accepted: &Accepted,
-    airs: &[Air],
+    radios: &[RadioChannel],
 ) -> Result<Option<Result<bool, u8>>, NoMemory> {
     let ends = DownlinkEnds::open(alloc, accepted)?;
-    let mut trip = Trip::open(alloc, accepted, ends)?;
-    Ok(trip.outcome(accepted, 5, airs, 3))
+    let mut trip = RoundTrip::open(alloc, accepted, ends)?;
+    Ok(trip.outcome(accepted, 5, radios, 3))
 }
 
 #[test]
 fn frames_that_are_not_there(rt: HostRuntime) -> Result<(), Fail> {
     let accepted = accepted(rt.alloc(), SPEECH)?;
-    let whole = Air::Turned(0);
-    for (airs, wanted) in [
+    let whole = RadioChannel::Turned(0);
+    for (radios, wanted) in [
         ([whole; 4], Ok(false)),
-        ([Air::Silent; 4], Ok(true)),
-        ([whole, whole, Air::Missing, whole], Err(2)),
-        ([whole, Air::Unlisted, whole, whole], Err(1)),
+        ([RadioChannel::Silent; 4], Ok(true)),
+        ([whole, whole, RadioChannel::Missing, whole], Err(2)),
+        ([whole, RadioChannel::Unlisted, whole, whole], Err(1)),
     ] {
-        let got = outcome(rt.alloc(), &accepted, &airs)?;
+        let got = outcome(rt.alloc(), &accepted, &radios)?;
         assert!(rt; got == Some(wanted));
     }
     Ok(())
