@@ -1,4 +1,4 @@
-pub mod Costs
+pub mod PathMetrics
 pub mod Ends
 pub mod Found
 pub mod Held

@@ -15,8 +15,8 @@ use std::marker::Model;
 pub struct Trellis {
     most: usize,
     tables: Tables,
-    narrow: Vec<narrow::Costs>,
-    wide: Vec<wide::Costs>,
+    narrow: Vec<narrow::PathMetrics>,
+    wide: Vec<wide::PathMetrics>,
 }
 
 impl Model for Trellis {
