@@ -165,16 +165,16 @@ combination_is side c test =
     let one = parts _ _ new.1 in
     let two = parts _ _ one.1 in
     let four = parts _ _ two.1 in
-    let stands : ℕ → Type 0 = λ frames. Contains side.combinations (record { formats = idled frames side.channels (numbers side c) }) in
+    let is_used : ℕ → Type 0 = λ frames. Contains side.combinations (record { formats = idled frames side.channels (numbers side c) }) in
     record {
       width = eqb-true _ _ width.0;
       formats = λ i inside. ltb-true _ _ (each_at (λ i. nat_lt (format_number side c i) (length (channel_at side i).formats)) (length side.channels) i formats.0 inside);
       new = λ e earlier. new_is side c e new.0 earlier;
       closed = λ frames kind. elim kind [
-        | inl is ↦ subst stands (sym is) (closed_is side c 1 one.0)
-        | inr (inl is) ↦ subst stands (sym is) (closed_is side c 2 two.0)
-        | inr (inr (inl is)) ↦ subst stands (sym is) (closed_is side c 4 four.0)
-        | inr (inr (inr is)) ↦ subst stands (sym is) (closed_is side c 8 four.1)
+        | inl is ↦ subst is_used (sym is) (closed_is side c 1 one.0)
+        | inr (inl is) ↦ subst is_used (sym is) (closed_is side c 2 two.0)
+        | inr (inr (inl is)) ↦ subst is_used (sym is) (closed_is side c 4 four.0)
+        | inr (inr (inr is)) ↦ subst is_used (sym is) (closed_is side c 8 four.1)
       ];
     }
 

@@ -11,7 +11,7 @@ use Rattle.dch_types.specs.Limits.{IsSide, IsDownlink}
 use Rattle.dch_types.specs.Parts.{channel_at, format_at, format_number}
 use Rattle.dch_match.specs.declared.pattern.Kind.{Kind}
 use Rattle.dch_match.specs.declared.pattern.Pattern.{Pattern}
-use Rattle.dch_match.specs.declared.downlink_plan.Matching.{Matching}
+use Rattle.dch_match.specs.declared.downlink_plan.RateMatching.{RateMatching}
 use Rattle.dch_match.specs.Downlinks.{ndata_of, most_of, fixed_weight, fixed_places, eighths, places_after, places_of, bits_of, no_matching, matching_at, row_at, IsMatching, IsRow, IsDownlinkPlan}
 use Rattle.dch_match.specs.Matched.{matched}
 use Rattle.dch_match.specs.Patterns.{copies_below, IsWellFormed}
@@ -94,7 +94,7 @@ matching_is downlink i f len cells kind good inside format long wide is =
     }
 
 -- a row with one matching more
-pub row_more : (downlink : Downlink) (i n : ℕ) (row : List Matching) (matching : Matching) → IsRow downlink i n row → IsMatching downlink i n matching → IsRow downlink i (n + 1) (row ++ matching ∷ [])
+pub row_more : (downlink : Downlink) (i n : ℕ) (row : List RateMatching) (matching : RateMatching) → IsRow downlink i n row → IsMatching downlink i n matching → IsRow downlink i (n + 1) (row ++ matching ∷ [])
 row_more downlink i n row matching before here = record {
   width = length_push row matching ∙ ap (λ n. n + 1) before.width;
   matchings = below_more (λ f. IsMatching downlink i f (get_or (row ++ matching ∷ []) f no_matching)) n
@@ -103,7 +103,7 @@ row_more downlink i n row matching before here = record {
 }
 
 -- each row of a plan, with one row more
-pub rows_more : (downlink : Downlink) (n : ℕ) (plan : List (List Matching)) (row : List Matching) → length plan ≡ n → ((i : ℕ) → i < n → IsRow downlink i (length (channel_at downlink.side i).formats) (row_at plan i)) → IsRow downlink n (length (channel_at downlink.side n).formats) row → (i : ℕ) → i < n + 1 → IsRow downlink i (length (channel_at downlink.side i).formats) (row_at (plan ++ row ∷ []) i)
+pub rows_more : (downlink : Downlink) (n : ℕ) (plan : List (List RateMatching)) (row : List RateMatching) → length plan ≡ n → ((i : ℕ) → i < n → IsRow downlink i (length (channel_at downlink.side i).formats) (row_at plan i)) → IsRow downlink n (length (channel_at downlink.side n).formats) row → (i : ℕ) → i < n + 1 → IsRow downlink i (length (channel_at downlink.side i).formats) (row_at (plan ++ row ∷ []) i)
 rows_more downlink n plan row width before here = below_more (λ i. IsRow downlink i (length (channel_at downlink.side i).formats) (row_at (plan ++ row ∷ []) i)) n
     (λ i less. subst (IsRow downlink i (length (channel_at downlink.side i).formats)) (sym (get_or_append_left plan (row ∷ []) [] i (omega (arith, width)))) (before i less))
     (subst (IsRow downlink n (length (channel_at downlink.side n).formats)) (sym (get_or_push plan row [] n width)) here)
@@ -122,7 +122,7 @@ places_le downlink c inside =
     (fits_after side ndata c (length side.combinations) inside)
 
 -- a plan by its rows
-pub plan_is : (downlink : Downlink) (plan : List (List Matching)) → IsDownlink downlink → length plan ≡ length downlink.side.channels → ((i : ℕ) → i < length downlink.side.channels → IsRow downlink i (length (channel_at downlink.side i).formats) (row_at plan i)) → IsDownlinkPlan downlink plan
+pub plan_is : (downlink : Downlink) (plan : List (List RateMatching)) → IsDownlink downlink → length plan ≡ length downlink.side.channels → ((i : ℕ) → i < length downlink.side.channels → IsRow downlink i (length (channel_at downlink.side i).formats) (row_at plan i)) → IsDownlinkPlan downlink plan
 plan_is downlink plan good width rows = record {
   channels = width;
   rows = rows;

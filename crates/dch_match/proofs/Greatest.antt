@@ -50,13 +50,13 @@ pub greatest-more : (side : Side) (c : ℕ) → greatest_below side (c + 1) ≡ 
 unfolding greatest_below
 greatest-more side c = rw add-one refl
 
-pub stands-more : (side : Side) (i f c : ℕ) → stands_below side i f (c + 1) ≡ (format_number side c i == f || stands_below side i f c)
+pub is_used-more : (side : Side) (i f c : ℕ) → stands_below side i f (c + 1) ≡ (format_number side c i == f || stands_below side i f c)
 unfolding stands_below
-stands-more side i f c = rw add-one refl
+is_used-more side i f c = rw add-one refl
 
-pub stands-zero : (side : Side) (i f : ℕ) → stands_below side i f 0 ≡ false
+pub is_used-zero : (side : Side) (i f : ℕ) → stands_below side i f 0 ≡ false
 unfolding stands_below
-stands-zero side i f = refl
+is_used-zero side i f = refl
 
 -- a format that stands in a combination weighs at most the greatest sum
 either : (side : Side) (i f c : ℕ) (b : Bool) → (b ≡ true → f ≡ format_number side c i) → (stands_below side i f c ≡ true → flexible_weight side i f ≤ greatest_below side c) → i < length side.channels → (b || stands_below side i f c) ≡ true → flexible_weight side i f ≤ max (greatest_below side c) (total (combined side c) (length side.channels))

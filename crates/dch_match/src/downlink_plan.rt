@@ -18,7 +18,7 @@ use std::marker::Model;
 
 /// The rate matching of a channel in one format: its pattern over a TTI, and its places in a radio frame.
 #[derive(Clone, Copy, Debug, PartialEq, Eq)]
-pub struct Matching {
+pub struct RateMatching {
     pub pattern: Pattern,
     pub cells: u32,
 }
@@ -26,14 +26,14 @@ pub struct Matching {
 /// The rate matching of the downlink, for each channel and format.
 #[derive(Debug, Drop)]
 pub struct DownlinkPlan {
-    rows: Sequence<Sequence<Matching>>,
+    rows: Sequence<Sequence<RateMatching>>,
 }
 
 impl Model for DownlinkPlan {
     ghost use Rattle.std.specs.Prelude.{List};
-    ghost use Rattle.dch_match.specs.declared.downlink_plan.Matching.{Matching};
+    ghost use Rattle.dch_match.specs.declared.downlink_plan.RateMatching.{RateMatching};
 
-    ghost Value = { List (List Matching) };
+    ghost Value = { List (List RateMatching) };
 
     ghost view = { λ plan. plan.rows };
 }
@@ -55,7 +55,7 @@ fn bits_of(config: &Downlink, i: usize, f: usize) -> u64
 }
 
 /// The matching of a format, by the table of places.
-fn match_format(config: &Downlink, table: &Places, i: usize, f: usize) -> Matching
+fn match_format(config: &Downlink, table: &Places, i: usize, f: usize) -> RateMatching
     requires good { IsDownlink config.now }
     requires table { IsTable config.now.side (places_of config.now) table.now }
     requires channel { i < length config.now.side.channels }
@@ -66,7 +66,7 @@ fn match_format(config: &Downlink, table: &Places, i: usize, f: usize) -> Matchi
     let len = channel.tti_bits(format_of(channel, f));
     let cells = table.at(i, f);
     let kind = matched(bits_of(config, i, f), channel.frames as u64 * cells, 1);
-    Matching {
+    RateMatching {
         pattern: Pattern {
             len: len as u32,
             kind,
@@ -81,7 +81,7 @@ fn row(
     config: &Downlink,
     table: &Places,
     i: usize,
-) -> Result<Sequence<Matching>, NoMemory>
+) -> Result<Sequence<RateMatching>, NoMemory>
     requires good { IsDownlink config.now }
     requires table { IsTable config.now.side (places_of config.now) table.now }
     requires channel { i < length config.now.side.channels }

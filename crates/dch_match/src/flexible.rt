@@ -71,7 +71,7 @@ fn greatest(side: &Side) -> u64
 }
 
 /// Whether a format of a channel stands in a combination.
-pub fn stands(side: &Side, i: usize, f: usize) -> bool
+pub fn is_used(side: &Side, i: usize, f: usize) -> bool
     requires good { IsSide side.now }
     requires channel { i < length side.now.channels }
     ensures { result ≡ stands_below side.now i f (length side.now.combinations) }
@@ -93,7 +93,7 @@ fn first_places(side: &Side, ndata: u64, most: u64, i: usize, f: usize) -> u64
     ensures value { result ≡ first_places side.now ndata i f }
     ensures small { result ≤ 131072 }
 {
-    if !stands(side, i, f) {
+    if !is_used(side, i, f) {
         eighths(channel_of(side, i), f).div_ceil(8)
     } else if most == 0 {
         0

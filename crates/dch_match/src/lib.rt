@@ -15,7 +15,7 @@ mod uplink_plan;
 mod walk;
 
 pub use downlink_plan::{DownlinkPlan, downlink};
-pub use flexible::stands;
+pub use flexible::is_used;
 pub use pattern::{Kind, Pattern, Steps, keeps, kept, origin};
 pub use uplink_plan::{MatchError, UplinkPlan, frame, uplink};
 pub use walk::Walk;

@@ -4,7 +4,7 @@ ghost use Rattle.dch_match.specs.Matched.{change, matched, remainder, column, fr
 ghost use Rattle.dch_match.specs.Patterns.{IsWellFormed, copies_below};
 
 use crate::pattern::{Kind, Pattern, Steps};
-use crate::shifts::{distance, shift};
+use crate::shifts::{average_distance, column_shift};
 
 /// |dN|: how many bits are removed or added.
 fn change(n: u64, sent: u64) -> u64
@@ -62,8 +62,8 @@ fn frame_start(n: u64, sent: u64, frames: u64, column: u64) -> u64
     ensures least { 1 ≤ result }
     ensures most { result ≤ 2 * n }
 {
-    let shift = shift(distance(n, sent % n), frames, column);
-    (2 * shift * change(n, sent) + 1) % (2 * n)
+    let column_shift = column_shift(average_distance(n, sent % n), frames, column);
+    (2 * column_shift * change(n, sent) + 1) % (2 * n)
 }
 
 /// The pattern of frame `at` of a TTI of an uplink channel, where each frame has `n` bits and sends `sent` of them.

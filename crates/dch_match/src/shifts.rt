@@ -1,7 +1,7 @@
 ghost use Rattle.std.specs.Prelude.{◌≡◌, ◌<◌, ◌≤◌, ◌+◌, ◌-◌, ◌*◌, ◌/◌, ◌%◌, ◌^◌, ℤ, ℕ, pos, ◌≤ℤ◌};
 ghost use Rattle.std.specs.Int.RustNames.{unsigned_abs};
 ghost use Rattle.dch_types.specs.Limits.{IsFrames};
-ghost use Rattle.dch_match.specs.Shifts.{distance, extra, turn, shift, gcd, FallsOn};
+ghost use Rattle.dch_match.specs.Shifts.{average_distance, extra, q_multiple, column_shift, gcd, FallsOn};
 
 /// The greatest common divisor of `a` and the frames of a TTI.
 fn common_divisor(a: u64, frames: u64) -> u64
@@ -32,10 +32,10 @@ fn extra(size: u64, frames: u64) -> u64
 }
 
 /// The mean distance q of the bits that are removed or repeated, of `n` bits with `r` the remainder of dN modulo `n`.
-pub fn distance(n: u64, r: u64) -> i64
+pub fn average_distance(n: u64, r: u64) -> i64
     requires short { n ≤ 131072 }
     requires remainder { r < n }
-    ensures value { result ≡ distance n r }
+    ensures value { result ≡ average_distance n r }
     ensures size { unsigned_abs result ≤ 131072 }
 {
     if 0 < r && 2 * r <= n {
@@ -46,11 +46,11 @@ pub fn distance(n: u64, r: u64) -> i64
 }
 
 /// |floor(x*q')|.
-fn turn(q: i64, frames: u64, x: u64) -> u64
+fn q_multiple(q: i64, frames: u64, x: u64) -> u64
     requires frames { IsFrames frames }
     requires size { unsigned_abs q ≤ 131072 }
     requires inside { x < frames }
-    ensures value { result ≡ turn q frames x }
+    ensures value { result ≡ q_multiple q frames x }
     ensures size { result < 2 ^ 21 }
 {
     let size = q.unsigned_abs();
@@ -64,20 +64,20 @@ fn turn(q: i64, frames: u64, x: u64) -> u64
 
 /// The shift S of a column of the first interleaver. Of the turns of a TTI exactly one falls on each column, and each
 /// gives its column the shift t div F.
-pub fn shift(q: i64, frames: u64, column: u64) -> u64
+pub fn column_shift(q: i64, frames: u64, column: u64) -> u64
     requires frames { IsFrames frames }
     requires size { unsigned_abs q ≤ 131072 }
     requires column { column < frames }
-    ensures value { result ≡ shift q frames column }
+    ensures value { result ≡ column_shift q frames column }
     ensures some { (x : ℕ) × FallsOn q frames column x }
     ensures alone { (x y : ℕ) → FallsOn q frames column x → FallsOn q frames column y → x ≡ y }
-    ensures turned { (x : ℕ) → FallsOn q frames column x → result ≡ turn q frames x / frames }
+    ensures turned { (x : ℕ) → FallsOn q frames column x → result ≡ q_multiple q frames x / frames }
     ensures size { result < 2 ^ 21 }
 {
     for x in 0..frames {
-        let turn = turn(q, frames, x);
-        if turn % frames == column {
-            return turn / frames;
+        let q_multiple = q_multiple(q, frames, x);
+        if q_multiple % frames == column {
+            return q_multiple / frames;
         }
     }
     unreachable!()

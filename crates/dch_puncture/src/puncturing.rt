@@ -7,7 +7,7 @@ ghost use Rattle.dch_puncture.specs.Plans.{AreAllPlans};
 ghost use Rattle.dch_puncture.specs.Counted.{removes, punctures_below, uplink_punctures, downlink_punctures};
 
 use crate::parts::number_of;
-use dch_match::{DownlinkPlan, Pattern, UplinkPlan, kept, stands};
+use dch_match::{DownlinkPlan, Pattern, UplinkPlan, is_used, kept};
 use dch_types::{Downlink, Uplink};
 
 /// Whether some legal sequence of the uplink removes bits of a channel in a format: where a combination with that format sends
@@ -58,7 +58,7 @@ pub fn downlink_punctures(config: &Downlink, plan: &DownlinkPlan, i: u8, f: u8) 
     requires format { f < length (channel_at config.now.side i).formats }
     ensures { result ≡ downlink_punctures config.now i f }
 {
-    stands(&config.side, usize::from(i), usize::from(f)) && punctures(&plan.pattern(i, f))
+    is_used(&config.side, usize::from(i), usize::from(f)) && punctures(&plan.pattern(i, f))
 }
 
 /// Whether a pattern removes a bit.

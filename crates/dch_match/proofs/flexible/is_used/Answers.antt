@@ -2,16 +2,16 @@ use Rattle.std.proofs.Common.{◌≡◌, ◌==◌, ◌||◌, true, false, sym, �
 use Rattle.std.proofs.lemmas.Bool.{eq-eqb, ne_eqb}
 use Rattle.dch_types.specs.Parts.{format_number}
 use Rattle.dch_match.specs.Downlinks.{stands_below}
-use Rattle.dch_match.proofs.Greatest.{stands-zero, stands-more}
-use Rattle.dch_match.proofs.flexible.stands.Goals as goal
-use Rattle.dch_match.proofs.flexible.stands.Goals.{then-number_of-f, else-number_of-f}
+use Rattle.dch_match.proofs.Greatest.{is_used-zero, is_used-more}
+use Rattle.dch_match.proofs.flexible.is_used.Goals as goal
+use Rattle.dch_match.proofs.flexible.is_used.Goals.{then-number_of-f, else-number_of-f}
 
 pub loop-c-init : goal.loop-c-init
-loop-c-init c = sym (stands-zero c.args.side.now c.args.i c.args.f)
+loop-c-init c = sym (is_used-zero c.args.side.now c.args.i c.args.f)
 
 pub loop-c-preserved : goal.loop-c-preserved
 loop-c-preserved c =
-    let more = stands-more c.args.side.now c.args.i c.args.f c.loop-c.c in
+    let more = is_used-more c.args.side.now c.args.i c.args.f c.loop-c.c in
     elim c.if-number_of-f.branch [
       | then-number_of-f w ↦
           let is : (format_number c.args.side.now c.loop-c.c c.args.i == c.args.f) ≡ true = eq-eqb _ _ (sym c.number_of.ensures.value ∙ w.if-number_of-f.true) in
