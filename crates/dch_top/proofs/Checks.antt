@@ -12,11 +12,11 @@ use Rattle.dch_check.specs.declared.verdict.Verdict.{Verdict}
 use Rattle.dch_check.specs.declared.verdict.Verdict.TheVariants.{Accepted as AcceptedBy, Refused as RefusedBy}
 use Rattle.dch_check.proofs.Fronts.{configuration_more}
 use Rattle.dch_check.proofs.Judgements.{one_judgement}
-use Rattle.dch_desk.specs.Bounds.{most_bytes}
+use Rattle.dch_lines.specs.Bounds.{most_bytes}
 use Rattle.dch_top.specs.Checked.{Answers, Checks, HasEnded, Judged}
 use Rattle.dch_top.specs.declared.command.Status.{Status}
 use Rattle.dch_top.specs.declared.command.Status.TheVariants.{Ok as Done, Refused, Usage, ReadFault, WriteFault, NoMemory, TooLong}
-use Rattle.dch_desk.proofs.Complete.{consumed, all_consumed}
+use Rattle.dch_lines.proofs.Complete.{consumed, all_consumed}
 
 -- the line of a judgement is written, or a front of it
 pub answered : (a b k l : Option (List ℕ)) (f g h i : ℕ) (verdict : Verdict) (status : Status) → Judged (span a b f g) (Ok verdict) → Answers (span k l h i) verdict status → Checks (span a b f g) (span k l h i) status

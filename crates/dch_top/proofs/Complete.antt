@@ -7,11 +7,11 @@ use Rattle.dch_io.specs.Causes.{Rose}
 use Rattle.dch_io.specs.Ends.{span}
 use Rattle.dch_script.specs.Code.{meaning}
 use Rattle.dch_script.specs.Lines.{lines_of, rest_of}
-use Rattle.dch_desk.specs.Bounds.{most_bytes}
-use Rattle.dch_desk.specs.Followed.{FollowsInput}
-use Rattle.dch_desk.specs.declared.stop.Outcome.{Outcome}
-use Rattle.dch_desk.specs.declared.stop.Outcome.TheVariants.{Ok as Done, Refused as MetMalformed, ReadFault as FailedReading, WriteFault as FailedWriting, TooLong as TookTooMuch}
-use Rattle.dch_desk.proofs.Complete.{completes as follows_all, TakesAll}
+use Rattle.dch_lines.specs.Bounds.{most_bytes}
+use Rattle.dch_lines.specs.Followed.{FollowsInput}
+use Rattle.dch_lines.specs.declared.stop.Outcome.{Outcome}
+use Rattle.dch_lines.specs.declared.stop.Outcome.TheVariants.{Ok as Done, Refused as MetMalformed, ReadFault as FailedReading, WriteFault as FailedWriting, TooLong as TookTooMuch}
+use Rattle.dch_lines.proofs.Complete.{completes as follows_all, TakesAll}
 use Rattle.dch_top.specs.Overlong.{encoding_refuses_long}
 use Rattle.dch_top.specs.Ran.{Encodes, AreGood, beginning}
 use Rattle.dch_top.specs.Said.{encoding}

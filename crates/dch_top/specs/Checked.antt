@@ -8,7 +8,7 @@ use Rattle.dch_check.specs.Front.{configuration_of, is_complete}
 use Rattle.dch_check.specs.Verdicts.{IsAccepted, Judges, Refuses}
 use Rattle.dch_check.specs.declared.verdict.Verdict.{Verdict}
 use Rattle.dch_check.specs.declared.verdict.Verdict.TheVariants.{Accepted as AcceptedBy, Refused as RefusedBy}
-use Rattle.dch_desk.specs.Bounds.{most_bytes, most_of_a_piece}
+use Rattle.dch_lines.specs.Bounds.{most_bytes, most_of_a_piece}
 use Rattle.dch_top.specs.declared.command.Status.{Status}
 use Rattle.dch_top.specs.declared.command.Status.TheVariants.{Ok as Done, Refused, Usage, ReadFault, WriteFault, NoMemory, TooLong}
 

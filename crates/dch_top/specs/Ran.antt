@@ -8,18 +8,18 @@ use Rattle.dch_words.specs.Says.{IsCommand, Says}
 use Rattle.dch_words.specs.declared.words.Verb.{Verb}
 use Rattle.dch_words.specs.declared.words.Verb.TheVariants.{Check, Encode}
 use Rattle.dch_words.specs.declared.words.Words.{Words}
-use Rattle.dch_desk.specs.Desk.{Work}
-use Rattle.dch_desk.specs.Followed.{FollowsInput}
-use Rattle.dch_desk.specs.Said.{is_empty}
-use Rattle.dch_desk.specs.declared.stop.Outcome.TheVariants.{Ok as Done, Refused as MetMalformed, ReadFault as FailedReading, WriteFault as FailedWriting, TooLong as TookTooMuch}
+use Rattle.dch_lines.specs.Processor.{Progress}
+use Rattle.dch_lines.specs.Followed.{FollowsInput}
+use Rattle.dch_lines.specs.LineTexts.{is_empty}
+use Rattle.dch_lines.specs.declared.stop.Outcome.TheVariants.{Ok as Done, Refused as MetMalformed, ReadFault as FailedReading, WriteFault as FailedWriting, TooLong as TookTooMuch}
 use Rattle.dch_top.specs.Checked.{Checks}
 use Rattle.dch_top.specs.Said.{encoding}
 use Rattle.dch_top.specs.declared.command.Status.{Status}
 use Rattle.dch_top.specs.declared.command.Status.TheVariants.{Ok, Refused, Usage, ReadFault, WriteFault, NoMemory, TooLong}
 
 -- the work of `encode` before its first line
-abbrev pub beginning : Work (Unit {0})
-beginning = record { clerk = tt; line = []; text = []; bytes = 0; lines = 0; spoken = 0 }
+abbrev pub beginning : Progress (Unit {0})
+beginning = record { handler = tt; line = []; text = []; bytes = 0; lines = 0; nonempty_lines = 0 }
 
 -- the source gave nothing, and the sink took nothing
 abbrev pub IsUntouched : End → End → Type 0

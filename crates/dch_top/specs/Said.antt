@@ -7,7 +7,7 @@ use Rattle.dch_coding.specs.Chain.{IsCoded}
 use Rattle.dch_script.specs.Code.{CodeLine, meaning}
 use Rattle.dch_script.specs.Report.{bits_shown}
 use Rattle.dch_script.specs.declared.event.LineError.{LineError}
-use Rattle.dch_desk.specs.Crafts.{Craft, one_round}
+use Rattle.dch_lines.specs.Semantics.{Semantics, one_step}
 
 -- the bits of a bit text, where a dot stands for none
 abbrev pub block_of : List ℕ → List Bit
@@ -29,5 +29,5 @@ unfoldable pub closing : ℕ → List ℕ
 closing count = codes "end lines=" ++ decimal count ++ codes "\n"
 
 -- the rules of `encode`, which has no state: a line is answered by its coded bits
-abbrev pub encoding : Craft (Unit {0})
-encoding = one_round (λ old line new text. Answers (meaning line) text) (λ state line why. meaning line ≡ Err why) (λ state count. closing count)
+abbrev pub encoding : Semantics (Unit {0})
+encoding = one_step (λ old line new text. Answers (meaning line) text) (λ state line why. meaning line ≡ Err why) (λ state count. closing count)

@@ -5,7 +5,7 @@ ghost use Rattle.dch_script.specs.Lines.{lines_of, rest_of};
 ghost use Rattle.dch_check.specs.Front.{configuration_of};
 ghost use Rattle.dch_check.specs.Verdicts.{IsAccepted, Refuses};
 ghost use Rattle.dch_words.specs.declared.words.Verb.TheVariants.{Check, Encode};
-ghost use Rattle.dch_desk.specs.Bounds.{most_bytes};
+ghost use Rattle.dch_lines.specs.Bounds.{most_bytes};
 ghost use Rattle.dch_top.specs.Ran.{Ran, Asks, IsNoCommand, Misuses, AreGood};
 
 use crate::bench::Bench;

@@ -1,10 +1,10 @@
 ghost use Rattle.dch_io.specs.Ends.{end_of};
 ghost use Rattle.dch_top.specs.Ran.{Encodes};
 
-use crate::coder::Coder;
 use crate::command::Status;
-use dch_desk::{Before, Desk, Outcome, follow_input};
+use crate::encode_handler::EncodeHandler;
 use dch_io::{Sink, Source, new_piece};
+use dch_lines::{InputOffset, LineProcessor, Outcome, follow_input};
 use std::alloc::Global;
 
 /// The bytes of the text that is held before it is written.
@@ -17,14 +17,14 @@ pub fn encode<S: Source, K: Sink>(alloc: Global, source: &mut S, sink: &mut K) -
     let Ok(mut piece) = new_piece(alloc) else {
         return Status::NoMemory;
     };
-    let Ok(coder) = Coder::open(alloc) else {
+    let Ok(handler) = EncodeHandler::open(alloc) else {
         return Status::NoMemory;
     };
-    let before = Before { bytes: 0, lines: 0 };
-    let Ok(mut desk) = Desk::open(alloc, coder, b"", before, ROOM) else {
+    let before = InputOffset { bytes: 0, lines: 0 };
+    let Ok(mut processor) = LineProcessor::open(alloc, handler, b"", before, ROOM) else {
         return Status::NoMemory;
     };
-    match follow_input(source, sink, &mut piece, 0, 0, &mut desk) {
+    match follow_input(source, sink, &mut piece, 0, 0, &mut processor) {
         Outcome::Ok => Status::Ok,
         Outcome::Refused => Status::Refused,
         Outcome::ReadFault => Status::ReadFault,

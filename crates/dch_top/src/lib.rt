@@ -3,9 +3,9 @@
 
 mod bench;
 mod check;
-mod coder;
 mod command;
 mod encode;
+mod encode_handler;
 
 pub use bench::Bench;
 pub use command::{Status, run};

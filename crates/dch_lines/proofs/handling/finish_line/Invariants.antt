@@ -1,0 +1,16 @@
+use Rattle.std.proofs.Common.{◌≡◌, ◌≤◌, length}
+use Rattle.dch_lines.proofs.LineSteps.{Done}
+use Rattle.dch_lines.proofs.handling.finish_line.Given as goal
+
+abbrev pub invariant-rounds : goal.invariant-rounds
+invariant-rounds g l = record {
+  done : Done g.C.LineHandler.semantics l.initial.handler l.handler l.initial.report.text l.report.text (g.K.Sink.taken l.initial.sink) (g.K.Sink.taken l.sink) (g.K.Sink.faults l.initial.sink) (g.K.Sink.faults l.sink);
+  later : g.K.Sink.faults l.initial.sink ≤ g.K.Sink.faults l.sink;
+  room : l.report.most ≡ l.initial.report.most;
+  fits : length l.report.text ≤ l.report.most;
+  stands : g.C.LineHandler.stands l.handler;
+  most : g.C.LineHandler.most l.handler ≡ g.C.LineHandler.most l.initial.handler;
+}
+
+abbrev pub decreases-rounds : goal.decreases-rounds
+decreases-rounds g l = g.C.LineHandler.semantics.remaining l.handler

@@ -1,0 +1,116 @@
+-- What following an input answers, by the bytes that it took and wrote.
+use Rattle.std.specs.Prelude.{◌≡◌, ◌<◌, ◌≤◌, ◌⊎◌, ◌+◌, ◌-◌, ℕ, List, [], ◌++◌, length, take}
+use Rattle.std.specs.Io.KnownBytes.{Consumes, Appends, IsAtEnd}
+use Rattle.dch_io.specs.Ends.{End, Fails, IsCutShort}
+use Rattle.dch_script.specs.Code.{longest}
+use Rattle.dch_script.specs.Lines.{lines_after, rest_after}
+use Rattle.dch_script.specs.declared.event.LineError.{LineError}
+use Rattle.dch_script.specs.declared.event.LineError.TheVariants.{Cut}
+use Rattle.dch_lines.specs.Bounds.{most_bytes, most_of_a_piece}
+use Rattle.dch_lines.specs.Semantics.{Semantics}
+use Rattle.dch_lines.specs.Processor.{Progress, MeetsMalformed}
+use Rattle.dch_lines.specs.LineTexts.{BeginsNext, HandlesLines, nonempty_lines, refusal}
+use Rattle.dch_lines.specs.declared.stop.Outcome.{Outcome}
+use Rattle.dch_lines.specs.declared.stop.Outcome.TheVariants.{Ok, Refused, ReadFault, WriteFault, TooLong}
+
+-- these are the lines that end in the bytes, and the input ended within a line
+pub record IsCutOff (source : End) (begun bytes : List ℕ) (good : List (List ℕ)) : Type 0 where
+  pub end : IsAtEnd source.now
+  pub lines : lines_after begun bytes ≡ good
+  pub some : 0 < length (rest_after begun bytes)
+  pub short : length (rest_after begun bytes) ≤ longest
+
+-- a line is refused in this state, after these good ones
+abbrev pub IsRefused : {S : Type 0} → Semantics S → End → S → List ℕ → List ℕ → List (List ℕ) → LineError → Type 0
+IsRefused semantics source state begun bytes good why = MeetsMalformed semantics state begun bytes good why ⊎ ((why ≡ Cut) × IsCutOff source begun bytes good)
+
+-- the input was read to its end, each line of it is good and leads to this state, and the text of all is written
+pub record IsWhole {S : Type 0} (semantics : Semantics S) (source : End) (old : Progress S) (state : S) (bytes written : List ℕ) : Type 0 where
+  pub end : IsAtEnd source.now
+  pub within : old.bytes + length bytes ≤ most_bytes
+  pub ended : rest_after old.line bytes ≡ []
+  pub text : List ℕ
+  pub handles : HandlesLines semantics old.handler (lines_after old.line bytes) state text
+  pub all : written ≡ old.text ++ text ++ semantics.closing state (old.nonempty_lines + nonempty_lines (lines_after old.line bytes))
+
+-- the text of the good lines before a malformed one is written, and the line that says so
+pub record Refuses {S : Type 0} (semantics : Semantics S) (source : End) (old : Progress S) (bytes written : List ℕ) : Type 0 where
+  pub within : old.bytes + length bytes ≤ most_bytes
+  pub good : List (List ℕ)
+  pub state : S
+  pub why : LineError
+  pub refused : IsRefused semantics source state old.line bytes good why
+  pub text : List ℕ
+  pub handles : HandlesLines semantics old.handler good state text
+  pub all : written ≡ old.text ++ text ++ refusal (old.lines + length good) why
+
+-- a read failed; each whole line is good, and its text is written
+pub record FailsReading {S : Type 0} (semantics : Semantics S) (source : End) (old : Progress S) (bytes written : List ℕ) : Type 0 where
+  pub fails : Fails source
+  pub within : old.bytes + length bytes ≤ most_bytes
+  pub short : length (rest_after old.line bytes) ≤ longest
+  pub state : S
+  pub text : List ℕ
+  pub handles : HandlesLines semantics old.handler (lines_after old.line bytes) state text
+  pub all : written ≡ old.text ++ text
+
+-- what may follow the text of good lines: nothing, the text of some steps of the next line, or the closing or refusal line
+abbrev pub MayFollow : {S : Type 0} → Semantics S → End → Progress S → S → List ℕ → List (List ℕ) → List (List ℕ) → List ℕ → Type 0
+MayFollow semantics source old state bytes good later last =
+    (last ≡ [])
+    ⊎ (BeginsNext semantics state later last
+    ⊎ (((IsAtEnd source.now × (lines_after old.line bytes ≡ good) × (rest_after old.line bytes ≡ [])) × (last ≡ semantics.closing state (old.nonempty_lines + nonempty_lines good)))
+    ⊎ ((why : LineError) × (IsRefused semantics source state old.line bytes good why × (last ≡ refusal (old.lines + length good) why)))))
+
+-- the text of all lines that came before the last piece is written
+pub record CoversAll {S : Type 0} (semantics : Semantics S) (old : Progress S) (bytes written : List ℕ) : Type 0 where
+  pub before : List ℕ
+  pub piece : List ℕ
+  pub pieces : bytes ≡ before ++ piece
+  pub small : length piece ≤ most_of_a_piece
+  pub state : S
+  pub text : List ℕ
+  pub handles : HandlesLines semantics old.handler (lines_after old.line before) state text
+  pub since : List ℕ
+  pub begins : written ≡ old.text ++ text ++ since
+
+-- a write failed; a front of the text of some lines and of what may follow them is written. Where the source gave bytes,
+-- it covers all lines that came before the last piece
+pub record FailsWriting {S : Type 0} (semantics : Semantics S) (source sink : End) (old : Progress S) (part taken written : List ℕ) : Type 0 where
+  pub fails : Fails sink
+  pub within : old.bytes + length (part ++ taken) ≤ most_bytes
+  pub good : List (List ℕ)
+  pub later : List (List ℕ)
+  pub lines : lines_after old.line (part ++ taken) ≡ good ++ later
+  pub state : S
+  pub text : List ℕ
+  pub handles : HandlesLines semantics old.handler good state text
+  pub last : List ℕ
+  pub follows : MayFollow semantics source old state (part ++ taken) good later last
+  pub cut : IsCutShort written (old.text ++ text ++ last)
+  pub covers : (taken ≡ []) ⊎ CoversAll semantics old (part ++ taken) written
+
+-- more bytes were taken than may come; the text of the whole lines within the limit is written
+pub record IsTooLong {S : Type 0} (semantics : Semantics S) (old : Progress S) (bytes written : List ℕ) : Type 0 where
+  pub long : most_bytes < old.bytes + length bytes
+  pub state : S
+  pub text : List ℕ
+  pub handles : HandlesLines semantics old.handler (lines_after old.line (take (most_bytes - old.bytes) bytes)) state text
+  pub all : written ≡ old.text ++ text
+
+-- what is written where these bytes were at hand, and the source gave those
+abbrev pub AnswersTaken : {S : Type 0} → Semantics S → End → End → Progress S → S → List ℕ → List ℕ → List ℕ → Outcome → Type 0
+AnswersTaken semantics source sink old state part taken written Ok = IsWhole semantics source old state (part ++ taken) written
+AnswersTaken semantics source sink old state part taken written Refused = Refuses semantics source old (part ++ taken) written
+AnswersTaken semantics source sink old state part taken written ReadFault = FailsReading semantics source old (part ++ taken) written
+AnswersTaken semantics source sink old state part taken written WriteFault = FailsWriting semantics source sink old part taken written
+AnswersTaken semantics source sink old state part taken written TooLong = IsTooLong semantics old (part ++ taken) written
+
+-- the source gave some bytes, and the sink took the answer to them; a part was at hand before. The handler's state is this
+-- afterwards where all lines were good
+pub record FollowsInput {S : Type 0} (semantics : Semantics S) (source sink : End) (old : Progress S) (state : S) (part : List ℕ) (outcome : Outcome) : Type 0 where
+  pub taken : List ℕ
+  pub written : List ℕ
+  pub takes : Consumes source.before source.now taken
+  pub writes : Appends sink.before sink.now written
+  pub answers : AnswersTaken semantics source sink old state part taken written outcome

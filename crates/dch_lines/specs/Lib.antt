@@ -1,0 +1,6 @@
+pub mod Bounds
+pub mod Semantics
+pub mod Processor
+pub mod Followed
+pub mod Pieces
+pub mod LineTexts

@@ -1,0 +1,47 @@
+-- The text that lines add to a report, and the line that refuses one.
+use Rattle.std.specs.Prelude.{◌≡◌, ◌+◌, ℕ, List, [], ◌∷◌, ◌++◌, Bool, false, not, MatchBool, codes, count_by, decimal}
+use Rattle.std.specs.Str.{bytes_eq}
+use Rattle.dch_script.specs.declared.event.LineError.{LineError}
+use Rattle.dch_script.specs.declared.event.LineError.TheVariants.{Long, Cut, Word, Count, Number, Text, Bearer, When}
+use Rattle.dch_lines.specs.Semantics.{Semantics, IsFront, LineSteps}
+
+-- a line without words, which is passed over
+abbrev pub is_empty : List ℕ → Bool
+is_empty line = bytes_eq line (codes "\n")
+
+-- what a good line does to the state, and adds to the text
+abbrev pub HandlesLine : {S : Type 0} → Semantics S → S → List ℕ → S → List ℕ → Type 0
+HandlesLine semantics old line new text = MatchBool (is_empty line) ((new ≡ old) × (text ≡ [])) (LineSteps semantics old line 0 new text)
+
+-- what good lines do, one after another
+abbrev pub HandlesLines : {S : Type 0} → Semantics S → S → List (List ℕ) → S → List ℕ → Type 0
+HandlesLines semantics old [] new text = (new ≡ old) × (text ≡ [])
+HandlesLines {S} semantics old (line ∷ lines) new text = (mid : S) × ((first : List ℕ) × ((rest : List ℕ) × (HandlesLine semantics old line mid first × HandlesLines semantics mid lines new rest × (text ≡ first ++ rest))))
+
+-- how many lines aren't empty
+abbrev pub nonempty_lines : List (List ℕ) → ℕ
+nonempty_lines lines = count_by (λ line. not (is_empty line)) lines
+
+-- a line that isn't empty and is malformed for this reason, in this state
+pub record IsMalformed {S : Type 0} (semantics : Semantics S) (state : S) (line : List ℕ) (why : LineError) : Type 0 where
+  pub words : is_empty line ≡ false
+  pub refused : semantics.refuses state line why
+
+-- the text of some steps of the next line
+abbrev pub BeginsNext : {S : Type 0} → Semantics S → S → List (List ℕ) → List ℕ → Type 0
+BeginsNext semantics state [] text = ⊥
+BeginsNext semantics state (line ∷ later) text = IsFront semantics state line text
+
+abbrev pub reason : LineError → List ℕ
+reason Long = codes "long"
+reason Cut = codes "cut"
+reason Word = codes "word"
+reason Count = codes "count"
+reason Number = codes "number"
+reason Text = codes "text"
+reason Bearer = codes "bearer"
+reason When = codes "when"
+
+-- the line `refused` for a malformed line after so many others
+unfoldable pub refusal : ℕ → LineError → List ℕ
+refusal before why = codes "refused 50 line=" ++ decimal (before + 1) ++ codes " why=" ++ reason why ++ codes "\n"

@@ -1,0 +1,99 @@
+ghost use Rattle.std.specs.Prelude.{◌≡◌, ◌<◌, ◌≤◌, ◌+◌, ◌-◌, length, slice_range};
+ghost use Rattle.dch_io.specs.Ends.{end_of};
+ghost use Rattle.dch_io.specs.declared.feed.TheConstants.{LIMIT, PIECE};
+ghost use Rattle.dch_script.specs.Code.{longest};
+ghost use Rattle.dch_lines.specs.Followed.{FollowsInput};
+ghost use Rattle.dch_lines.specs.Pieces.{TakesPiece, EndsInput};
+
+use crate::handler::LineHandler;
+use crate::processor::LineProcessor;
+use crate::stop::{Outcome, Stop};
+use dch_io::{Failed, LIMIT, PIECE, Sink, Source, read_piece};
+use dch_script::LineError;
+
+/// Follows the lines of an input to its end: does what each says before it reads on. The bytes of `piece` from `from` to
+/// `to` were read before, and come first.
+pub fn follow_input<C: LineHandler, S: Source, K: Sink>(
+    source: &mut S,
+    sink: &mut K,
+    piece: &mut [u8],
+    from: usize,
+    to: usize,
+    processor: &mut LineProcessor<C>,
+) -> Outcome
+    requires piece { length piece.old ≡ PIECE }
+    requires from { from ≤ to }
+    requires to { to ≤ PIECE }
+    requires within { processor.old.bytes + (to - from) ≤ LIMIT }
+    requires short { length processor.old.line ≤ longest }
+    ensures { FollowsInput C.semantics (end_of S.left S.faults source.old source.new) (end_of K.taken K.faults sink.old sink.new) processor.old processor.new.handler (slice_range piece.old from to) result }
+{
+    match take_piece(processor, &piece[from..to], sink) {
+        Ok(()) => {}
+        Err(outcome) => return outcome,
+    }
+    while processor.bytes() < LIMIT {
+        let most = PIECE.min(LIMIT - processor.bytes());
+        let got = match read_piece(source, &mut piece[..most]) {
+            Ok(got) => got,
+            Err(Failed) => return Outcome::ReadFault,
+        };
+        if got.is_empty() {
+            return end_input(processor, sink);
+        }
+        match take_piece(processor, got, sink) {
+            Ok(()) => {}
+            Err(outcome) => return outcome,
+        }
+    }
+    match read_piece(source, &mut piece[..1]) {
+        Ok(got) => {
+            if got.is_empty() {
+                return end_input(processor, sink);
+            }
+            Outcome::TooLong
+        }
+        Err(Failed) => Outcome::ReadFault,
+    }
+}
+
+/// Follows a piece, and writes the text of its lines.
+fn take_piece<C: LineHandler, K: Sink>(
+    processor: &mut LineProcessor<C>,
+    piece: &[u8],
+    sink: &mut K,
+) -> Result<(), Outcome>
+    requires within { processor.old.bytes + length piece.now ≤ LIMIT }
+    requires short { length processor.old.line ≤ longest }
+    ensures taken { TakesPiece C.semantics (end_of K.taken K.faults sink.old sink.new) processor.old processor.new piece.now result }
+    ensures later { K.faults sink.old ≤ K.faults sink.new }
+{
+    match processor.follow(piece, sink) {
+        Ok(()) => match processor.flush(sink) {
+            Ok(()) => Ok(()),
+            Err(_failed) => Err(Outcome::WriteFault),
+        },
+        Err(Stop::Malformed(why)) => match processor.refuse(why, sink) {
+            Ok(()) => Err(Outcome::Refused),
+            Err(_failed) => Err(Outcome::WriteFault),
+        },
+        Err(Stop::Failed) => Err(Outcome::WriteFault),
+    }
+}
+
+/// Ends the work at the end of the input.
+fn end_input<C: LineHandler, K: Sink>(processor: &mut LineProcessor<C>, sink: &mut K) -> Outcome
+    ensures ended { EndsInput C.semantics (end_of K.taken K.faults sink.old sink.new) processor.old processor.new result }
+    ensures later { K.faults sink.old ≤ K.faults sink.new }
+{
+    if processor.has_begun() {
+        return match processor.refuse(LineError::Cut, sink) {
+            Ok(()) => Outcome::Refused,
+            Err(_failed) => Outcome::WriteFault,
+        };
+    }
+    match processor.close(sink) {
+        Ok(()) => Outcome::Ok,
+        Err(_failed) => Outcome::WriteFault,
+    }
+}
