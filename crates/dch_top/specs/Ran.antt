@@ -5,9 +5,9 @@ use Rattle.std.specs.Io.KnownBytes.{Consumes, Appends}
 use Rattle.dch_io.specs.Ends.{End, Fails, IsCutShort}
 use Rattle.dch_script.specs.Code.{meaning}
 use Rattle.dch_words.specs.Says.{IsCommand, Says}
-use Rattle.dch_words.specs.declared.words.Verb.{Verb}
-use Rattle.dch_words.specs.declared.words.Verb.TheVariants.{Check, Encode}
-use Rattle.dch_words.specs.declared.words.Words.{Words}
+use Rattle.dch_words.specs.declared.arguments.Subcommand.{Subcommand}
+use Rattle.dch_words.specs.declared.arguments.Subcommand.TheVariants.{Check, Encode}
+use Rattle.dch_words.specs.declared.arguments.Arguments.{Arguments}
 use Rattle.dch_lines.specs.Processor.{Progress}
 use Rattle.dch_lines.specs.Followed.{FollowsInput}
 use Rattle.dch_lines.specs.LineTexts.{is_empty}
@@ -53,8 +53,8 @@ pub record Misuses (source sink : End) (status : Status) : Type 0 where
   pub unread : source.now ≡ source.before
 
 -- the words are a command, and ask for this
-abbrev pub Asks : List (String Global) → Verb → Type 0
-Asks words verb = (said : Words) × (Says (map string_bytes words) said × (said.verb ≡ verb))
+abbrev pub Asks : List (String Global) → Subcommand → Type 0
+Asks words subcommand = (said : Arguments) × (Says (map string_bytes words) said × (said.subcommand ≡ subcommand))
 
 -- the words are no command
 abbrev pub IsNoCommand : List (String Global) → Type 0

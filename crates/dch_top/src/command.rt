@@ -4,7 +4,7 @@ ghost use Rattle.dch_io.specs.Ends.{end_of};
 ghost use Rattle.dch_script.specs.Lines.{lines_of, rest_of};
 ghost use Rattle.dch_check.specs.Front.{configuration_of};
 ghost use Rattle.dch_check.specs.Verdicts.{IsAccepted, Refuses};
-ghost use Rattle.dch_words.specs.declared.words.Verb.TheVariants.{Check, Encode};
+ghost use Rattle.dch_words.specs.declared.arguments.Subcommand.TheVariants.{Check, Encode};
 ghost use Rattle.dch_lines.specs.Bounds.{most_bytes};
 ghost use Rattle.dch_top.specs.Ran.{Ran, Asks, IsNoCommand, Misuses, AreGood};
 
@@ -13,7 +13,7 @@ use crate::check::check;
 use crate::encode::encode;
 use dch_bits::NoMemory;
 use dch_io::{Sink, Source, write_all};
-use dch_words::{Verb, read_words};
+use dch_words::{Subcommand, parse_arguments};
 use std::alloc::Global;
 
 /// How a run ended. The number of a status is its place in this list, from 0.
@@ -77,10 +77,10 @@ fn follow_words<S: Source, K: Sink>(
 ) -> Status
     ensures { Ran words.now (end_of S.left S.faults source.old source.new) (end_of K.taken K.faults sink.old sink.new) result }
 {
-    match read_words(alloc, words) {
-        Ok(Some(said)) => match said.verb {
-            Verb::Check => check(alloc, source, sink),
-            Verb::Encode => encode(alloc, source, sink),
+    match parse_arguments(alloc, words) {
+        Ok(Some(said)) => match said.subcommand {
+            Subcommand::Check => check(alloc, source, sink),
+            Subcommand::Encode => encode(alloc, source, sink),
         },
         Ok(None) => refuse_words(source, sink),
         Err(NoMemory) => Status::NoMemory,

@@ -3,11 +3,11 @@ use Rattle.std.proofs.Common.{◌≡◌, ◌<◌, ◌^◌, ◌∙◌, ℕ, List,
 use Rattle.std.specs.Str.Parse.{ParsesUnsigned}
 use Rattle.std.proofs.lemmas.Fmt.{decimal_injective, parse-decimal}
 use Rattle.clap.specs.Words.{Row, Text, matches_of}
-use Rattle.dch_words.specs.declared.words.Verb.{Verb}
-use Rattle.dch_words.specs.declared.words.Verb.TheVariants.{Check, Encode}
-use Rattle.dch_words.specs.declared.words.Words.{Words}
+use Rattle.dch_words.specs.declared.arguments.Subcommand.{Subcommand}
+use Rattle.dch_words.specs.declared.arguments.Subcommand.TheVariants.{Check, Encode}
+use Rattle.dch_words.specs.declared.arguments.Arguments.{Arguments}
 use Rattle.dch_words.specs.Line.{IsTaken, line_app}
-use Rattle.dch_words.specs.Says.{IsCommand, IsNumber, IsNumberOr, Means, Says, verb_name}
+use Rattle.dch_words.specs.Says.{IsCommand, IsNumber, IsNumberOr, Means, Says, subcommand_name}
 
 -- a text that is a number is read as that number
 pub number_read : {E : Type 0} (least most : ℕ) (text : Text) (read : Result ℕ E) → most < 2 ^ 32
@@ -22,7 +22,7 @@ one_number default least most (Some text) m n fits first second =
     decimal_injective m n (omega arith) (omega arith) (sym first.0 ∙ second.0)
 
 -- commands of one word are one
-one_verb : (v w : Verb) → verb_name v ≡ verb_name w → v ≡ w
+one_verb : (v w : Subcommand) → subcommand_name v ≡ subcommand_name w → v ≡ w
 one_verb Check Check same = refl
 one_verb Check Encode same =
     let lengths : 5 ≡ 6 = ap (λ (name : Text). length name) same in
@@ -41,31 +41,31 @@ pub some_one : {T : Type 0} (x y : T) → Some x ≡ Some y → x ≡ y
 some_one x y same = cc
 
 -- the words with these fields
-abbrev words_of : Verb → ℕ → ℕ → Bool → Words
-words_of verb count start quiet = record { verb = verb; count = count; start = start; quiet = quiet }
+abbrev words_of : Subcommand → ℕ → ℕ → Bool → Arguments
+words_of subcommand count start quiet = record { subcommand = subcommand; count = count; start = start; quiet = quiet }
 
 -- words with equal fields are equal
-joined : (v w : Verb) (m n s t : ℕ) (p q : Bool)
+joined : (v w : Subcommand) (m n s t : ℕ) (p q : Bool)
     → v ≡ w → m ≡ n → s ≡ t → p ≡ q → words_of v m s p ≡ words_of w n t q
-joined v w m n s t p q verb count start quiet = rw (verb, count, start, quiet) refl
+joined v w m n s t p q subcommand count start quiet = rw (subcommand, count, start, quiet) refl
 
 -- words say one thing at most
-pub one_meaning : (texts : List Text) (a b : Words) → Says texts a → Says texts b → a ≡ b
-one_meaning texts a b first second = joined a.verb b.verb a.count b.count a.start b.start a.quiet b.quiet
-    (one_verb a.verb b.verb (some_one _ _ (sym first.1.verb ∙ second.1.verb)))
+pub one_meaning : (texts : List Text) (a b : Arguments) → Says texts a → Says texts b → a ≡ b
+one_meaning texts a b first second = joined a.subcommand b.subcommand a.count b.count a.start b.start a.quiet b.quiet
+    (one_verb a.subcommand b.subcommand (some_one _ _ (sym first.1.subcommand ∙ second.1.subcommand)))
     (one_number 1000 1 100000 _ a.count b.count (omega arith) first.1.count second.1.count)
     (one_number 0 0 31 _ a.start b.start (omega arith) first.1.start second.1.start)
     (first.1.quiet ∙ sym second.1.quiet)
 
 -- what the rows mean is what the words say
-pub IfSome-says : (texts : List Text) (rows : List Row) (read : Option Words) → IsTaken texts
+pub IfSome-says : (texts : List Text) (rows : List Row) (read : Option Arguments) → IsTaken texts
     → rows ≡ matches_of line_app texts → IfSome read (Means rows) → IfSome read (Says texts)
 IfSome-says texts rows None taken same means = tt
 IfSome-says texts rows (Some words) taken same means = (taken, subst (λ r. Means r words) same means)
 
 -- where the rows mean nothing, the words are no command
-pub IfNone-says : (texts : List Text) (rows : List Row) (read : Option Words) → rows ≡ matches_of line_app texts
-    → IfNone read ((words : Words) → ¬ Means rows words) → IfNone read (¬ IsCommand texts)
+pub IfNone-says : (texts : List Text) (rows : List Row) (read : Option Arguments) → rows ≡ matches_of line_app texts
+    → IfNone read ((words : Arguments) → ¬ Means rows words) → IfNone read (¬ IsCommand texts)
 IfNone-says texts rows None same none = λ command.
     none command.0 (subst (λ r. Means r command.0) (sym same) command.1.1)
 IfNone-says texts rows (Some words) same none = tt

@@ -1,15 +1,15 @@
 -- What the words of a command line say.
 use Rattle.std.specs.Prelude.{◌≡◌, ◌≤◌, ℕ, List, Option, Some, None, codes, decimal}
 use Rattle.clap.specs.Words.{Row, Text, first_of, matches_of}
-use Rattle.dch_words.specs.declared.words.Verb.{Verb}
-use Rattle.dch_words.specs.declared.words.Verb.TheVariants.{Check, Encode}
-use Rattle.dch_words.specs.declared.words.Words.{Words}
+use Rattle.dch_words.specs.declared.arguments.Subcommand.{Subcommand}
+use Rattle.dch_words.specs.declared.arguments.Subcommand.TheVariants.{Check, Encode}
+use Rattle.dch_words.specs.declared.arguments.Arguments.{Arguments}
 use Rattle.dch_words.specs.Line.{IsTaken, is_given, line_app}
 
 -- the word of a command
-abbrev pub verb_name : Verb → Text
-verb_name Check = codes "check"
-verb_name Encode = codes "encode"
+abbrev pub subcommand_name : Subcommand → Text
+subcommand_name Check = codes "check"
+subcommand_name Encode = codes "encode"
 
 -- the text is the number `n` in decimal digits, without sign or leading zero, and `n` is from `least` to `most`
 abbrev pub IsNumber : ℕ → ℕ → Text → ℕ → Type 0
@@ -21,16 +21,16 @@ IsNumberOr default least most None n = n ≡ default
 IsNumberOr default least most (Some text) n = IsNumber least most text n
 
 -- what `clap` read stands for these words of a command
-pub record Means (rows : List Row) (words : Words) : Type 0 where
-  pub verb : first_of (codes "command") rows ≡ Some (verb_name words.verb)
+pub record Means (rows : List Row) (words : Arguments) : Type 0 where
+  pub subcommand : first_of (codes "command") rows ≡ Some (subcommand_name words.subcommand)
   pub count : IsNumberOr 1000 1 100000 (first_of (codes "count") rows) words.count
   pub start : IsNumberOr 0 0 31 (first_of (codes "start") rows) words.start
   pub quiet : words.quiet ≡ is_given (codes "quiet") rows
 
 -- `clap` takes the texts as `COMMAND [COUNT] [--start N] [--quiet]`, and they say these words of a command
-abbrev pub Says : List Text → Words → Type 0
+abbrev pub Says : List Text → Arguments → Type 0
 Says texts words = IsTaken texts × Means (matches_of line_app texts) words
 
 -- the texts are a command that has come
 abbrev pub IsCommand : List Text → Type 0
-IsCommand texts = (words : Words) × Says texts words
+IsCommand texts = (words : Arguments) × Says texts words

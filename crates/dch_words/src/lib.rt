@@ -1,11 +1,11 @@
 //! The words of the command line: `COMMAND [COUNT] [--start N] [--quiet]`.
 #![tactic(auto)]
 
+mod arguments;
 mod line;
 mod number;
-mod words;
 
-pub use words::{Verb, Words, one_meaning_law, read_words};
+pub use arguments::{Arguments, Subcommand, one_meaning_law, parse_arguments};
 
 #[cfg(test)]
 mod tests {
@@ -22,9 +22,9 @@ mod tests {
         Ok(words)
     }
 
-    fn said(verb: Verb, count: u32, start: u8, quiet: bool) -> Option<Words> {
-        Some(Words {
-            verb,
+    fn said(subcommand: Subcommand, count: u32, start: u8, quiet: bool) -> Option<Arguments> {
+        Some(Arguments {
+            subcommand,
             count,
             start,
             quiet,
@@ -34,16 +34,19 @@ mod tests {
     #[test]
     fn what_words_say(rt: HostRuntime) -> Result<(), Fail> {
         let cases = [
-            ("encode", said(Verb::Encode, 1000, 0, false)),
-            ("check", said(Verb::Check, 1000, 0, false)),
-            ("encode --start=3", said(Verb::Encode, 1000, 3, false)),
-            ("--start=3 encode", said(Verb::Encode, 1000, 3, false)),
+            ("encode", said(Subcommand::Encode, 1000, 0, false)),
+            ("check", said(Subcommand::Check, 1000, 0, false)),
+            ("encode --start=3", said(Subcommand::Encode, 1000, 3, false)),
+            ("--start=3 encode", said(Subcommand::Encode, 1000, 3, false)),
             (
                 "encode --start 31 --quiet",
-                said(Verb::Encode, 1000, 31, true),
+                said(Subcommand::Encode, 1000, 31, true),
             ),
-            ("encode 5", said(Verb::Encode, 5, 0, false)),
-            ("--quiet check 100000", said(Verb::Check, 100_000, 0, true)),
+            ("encode 5", said(Subcommand::Encode, 5, 0, false)),
+            (
+                "--quiet check 100000",
+                said(Subcommand::Check, 100_000, 0, true),
+            ),
             ("", None),
             ("lnk", None),
             ("link", None),
@@ -63,7 +66,7 @@ mod tests {
             ("31", None),
         ];
         for (text, words) in cases {
-            let read = read_words(rt.alloc(), &words_of(rt.alloc(), text)?);
+            let read = parse_arguments(rt.alloc(), &words_of(rt.alloc(), text)?);
             assert!(rt; read == Ok(words), "{text}");
         }
         Ok(())

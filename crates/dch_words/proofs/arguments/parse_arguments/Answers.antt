@@ -3,7 +3,7 @@ use Rattle.clap.specs.Words.{Text, is_simple, fault_of, matches_of, rows_of, fou
 use Rattle.clap.proofs.OnLiterals.{clap_on_literals}
 use Rattle.dch_words.specs.Line.{line_app}
 use Rattle.dch_words.proofs.Meanings.{IfSome-says, IfNone-says}
-use Rattle.dch_words.proofs.words.read_words.Goals as goal
+use Rattle.dch_words.proofs.arguments.parse_arguments.Goals as goal
 
 is_free : is_simple_and_free line_app ≡ true
 unfolding clap_on_literals

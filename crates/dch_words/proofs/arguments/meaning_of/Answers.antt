@@ -3,18 +3,18 @@ use Rattle.clap.specs.Words.{found_of}
 use Rattle.clap.proofs.WalkLemmas.{first_value-rows}
 use Rattle.dch_words.specs.Says.{IsNumberOr}
 use Rattle.dch_words.proofs.Meanings.{none_some, some_one}
-use Rattle.dch_words.proofs.words.meaning_of.Goals as goal
+use Rattle.dch_words.proofs.arguments.meaning_of.Goals as goal
 
 pub returns-in_err-get_str-clause-none : goal.returns-in_err-get_str-clause-none
 returns-in_err-get_str-clause-none c =
     let rows = first_value-rows (found_of c.args.matches.now) (codes "command") in
-    rw c.from_residual.ensures (λ words means. none_some _ (c.in_err-get_str.ensures ∙ rows ∙ means.verb))
+    rw c.from_residual.ensures (λ words means. none_some _ (c.in_err-get_str.ensures ∙ rows ∙ means.subcommand))
 
-pub returns-in_err-verb-clause-none : goal.returns-in_err-verb-clause-none
-returns-in_err-verb-clause-none c =
+pub returns-in_err-subcommand-clause-none : goal.returns-in_err-subcommand-clause-none
+returns-in_err-subcommand-clause-none c =
     let rows = first_value-rows (found_of c.args.matches.now) (codes "command") in
-    rw c.from_residual-in_err-verb.ensures (λ words means.
-    c.in_err-verb.ensures.none words.verb (some_one _ _ (c.in_ok-get_str.ensures ∙ rows ∙ means.verb)))
+    rw c.from_residual-in_err-subcommand.ensures (λ words means.
+    c.in_err-subcommand.ensures.none words.subcommand (some_one _ _ (c.in_ok-get_str.ensures ∙ rows ∙ means.subcommand)))
 
 pub returns-in_err-count-clause-none : goal.returns-in_err-count-clause-none
 returns-in_err-count-clause-none c =
@@ -35,8 +35,8 @@ returns-clause-some c =
     let count = c.get_str-2.ensures ∙ first_value-rows found (codes "count") in
     let start = c.get_str-3.ensures ∙ first_value-rows found (codes "start") in
     record {
-      verb = sym (c.in_ok-get_str.ensures ∙ first_value-rows found (codes "command"))
-          ∙ ap (λ t. Some t) c.in_ok-verb.ensures.some;
+      subcommand = sym (c.in_ok-get_str.ensures ∙ first_value-rows found (codes "command"))
+          ∙ ap (λ t. Some t) c.in_ok-subcommand.ensures.some;
       count = subst (λ o. IsNumberOr 1000 1 100000 o c.in_ok-count.count) count c.in_ok-count.ensures.some;
       start = subst (λ o. IsNumberOr 0 0 31 o c.in_ok-start.start) start c.in_ok-start.ensures.some;
       quiet = c.is_given.ensures;

@@ -1,7 +1,7 @@
 ghost use Rattle.std.specs.Prelude.{◌≡◌, List, IfOk, IfSome, IfNone, map, string_bytes};
 ghost use Rattle.clap.specs.Words.{Text, found_of, rows_of};
 ghost use Rattle.dch_words.specs.Line.{is_given};
-ghost use Rattle.dch_words.specs.Says.{IsCommand, Means, Says, verb_name};
+ghost use Rattle.dch_words.specs.Says.{IsCommand, Means, Says, subcommand_name};
 
 use crate::line::line_command;
 use crate::number::read_number_or;
@@ -13,7 +13,7 @@ use std::alloc::Global;
 
 /// What the program is to do.
 #[derive(Clone, Copy, Debug, PartialEq, Eq)]
-pub enum Verb {
+pub enum Subcommand {
     /// Judge a configuration.
     Check,
     /// Code transport blocks.
@@ -22,8 +22,8 @@ pub enum Verb {
 
 /// What the words of the command line say.
 #[derive(Clone, Copy, Debug, PartialEq, Eq)]
-pub struct Words {
-    pub verb: Verb,
+pub struct Arguments {
+    pub subcommand: Subcommand,
     /// How much is wanted, 1 to 100,000; 1,000 where the words give no count.
     pub count: u32,
     /// An eighth of the first connection frame number, 0 to 31; 0 where the words give no start.
@@ -33,7 +33,7 @@ pub struct Words {
 }
 
 /// Reads the words after the program's name: `COMMAND [COUNT] [--start N] [--quiet]`. `None` is words that are no command.
-pub fn read_words(alloc: Global, words: &[String]) -> Result<Option<Words>, NoMemory>
+pub fn parse_arguments(alloc: Global, words: &[String]) -> Result<Option<Arguments>, NoMemory>
     ensures says { IfOk result (λ read. IfSome read (Says (map string_bytes words.now))) }
     ensures none { IfOk result (λ read. IfNone read (¬ IsCommand (map string_bytes words.now))) }
 {
@@ -46,15 +46,15 @@ pub fn read_words(alloc: Global, words: &[String]) -> Result<Option<Words>, NoMe
 }
 
 /// What the matches of a command line stand for.
-fn meaning_of(matches: &ArgMatches<'_>) -> Option<Words>
+fn meaning_of(matches: &ArgMatches<'_>) -> Option<Arguments>
     ensures some { IfSome result (Means (rows_of (found_of matches.now))) }
-    ensures none { IfNone result ((words : Words) → ¬ Means (rows_of (found_of matches.now)) words) }
+    ensures none { IfNone result ((words : Arguments) → ¬ Means (rows_of (found_of matches.now)) words) }
 {
-    let verb = read_verb(matches.get_str("command")?)?;
+    let subcommand = parse_subcommand(matches.get_str("command")?)?;
     let count = read_number_or(matches.get_str("count"), 1000, 1, 100_000)?;
     let start = read_number_or(matches.get_str("start"), 0, 0, 31)?;
-    Some(Words {
-        verb,
+    Some(Arguments {
+        subcommand,
         count,
         start: start as u8,
         quiet: is_given(matches, "quiet"),
@@ -72,18 +72,18 @@ fn is_given(matches: &ArgMatches<'_>, id: &str) -> bool
     }
 }
 
-fn read_verb(text: &str) -> Option<Verb>
-    ensures some { IfSome result (λ verb. text.now ≡ verb_name verb) }
-    ensures none { IfNone result ((verb : Verb) → ¬ (text.now ≡ verb_name verb)) }
+fn parse_subcommand(text: &str) -> Option<Subcommand>
+    ensures some { IfSome result (λ subcommand. text.now ≡ subcommand_name subcommand) }
+    ensures none { IfNone result ((subcommand : Subcommand) → ¬ (text.now ≡ subcommand_name subcommand)) }
 {
     match text {
-        "check" => Some(Verb::Check),
-        "encode" => Some(Verb::Encode),
+        "check" => Some(Subcommand::Check),
+        "encode" => Some(Subcommand::Encode),
         _ => None,
     }
 }
 
 /// A law: words say one thing at most.
 pub fn one_meaning_law()
-    ensures { (texts : List Text) (a b : Words) → Says texts a → Says texts b → a ≡ b }
+    ensures { (texts : List Text) (a b : Arguments) → Says texts a → Says texts b → a ≡ b }
 {}
