@@ -1,4 +1,4 @@
 pub mod Acceptance
-pub mod Front
+pub mod ConfigSection
 pub mod Refusals
 pub mod Verdicts

@@ -2,11 +2,11 @@
 #![tactic(auto)]
 
 mod acceptance;
-mod front;
+mod config_section;
 mod refusal;
 mod verdict;
 
-pub use front::Front;
+pub use config_section::ConfigSection;
 pub use verdict::{Verdict, judge};
 
 #[cfg(test)]
@@ -29,12 +29,12 @@ mod tests {
         ];
         for (input, text, complete) in cases {
             for step in [1usize, 3, 100] {
-                let mut front = Front::new(rt.alloc());
+                let mut section = ConfigSection::new(rt.alloc());
                 for piece in input.chunks(step) {
-                    front = front.follow(piece)?;
+                    section = section.follow(piece)?;
                 }
-                assert_eq!(rt; front.text(), text);
-                assert_eq!(rt; front.is_complete(), complete);
+                assert_eq!(rt; section.text(), text);
+                assert_eq!(rt; section.is_complete(), complete);
             }
         }
         Ok(())

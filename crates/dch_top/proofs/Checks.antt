@@ -6,11 +6,11 @@ use Rattle.std.specs.Io.KnownBytes.{IsAtEnd}
 use Rattle.std.proofs.KnownBytes.{Appends-nil}
 use Rattle.dch_io.specs.Causes.{Rose}
 use Rattle.dch_io.specs.Ends.{End, span}
-use Rattle.dch_check.specs.Front.{configuration_of}
+use Rattle.dch_check.specs.ConfigSection.{configuration_of}
 use Rattle.dch_check.specs.Verdicts.{IsAccepted, Refuses}
 use Rattle.dch_check.specs.declared.verdict.Verdict.{Verdict}
 use Rattle.dch_check.specs.declared.verdict.Verdict.TheVariants.{Accepted as AcceptedBy, Refused as RefusedBy}
-use Rattle.dch_check.proofs.Fronts.{configuration_more}
+use Rattle.dch_check.proofs.ConfigSections.{configuration_more}
 use Rattle.dch_check.proofs.Judgements.{one_judgement}
 use Rattle.dch_lines.specs.Bounds.{most_bytes}
 use Rattle.dch_top.specs.Checked.{Answers, Checks, HasEnded, Judged}

@@ -9,11 +9,11 @@ use Rattle.std.proofs.Math.Seq.{take-append-add}
 use Rattle.std.specs.declared.alloc.Global.{Global}
 use Rattle.dch_io.specs.Ends.{End, span}
 use Rattle.dch_io.specs.declared.feed.TheConstants.{LIMIT, PIECE}
-use Rattle.dch_check.specs.Front.{Gathered, configuration_of, gathered, is_complete, nothing, settled}
+use Rattle.dch_check.specs.ConfigSection.{Gathered, configuration_of, gathered, is_complete, nothing, settled}
 use Rattle.dch_check.specs.Verdicts.{IsAccepted, Refuses}
 use Rattle.dch_check.specs.declared.verdict.Verdict.{Verdict}
 use Rattle.dch_check.specs.declared.verdict.Verdict.TheVariants.{Accepted as AcceptedBy, Refused as RefusedBy}
-use Rattle.dch_check.proofs.Fronts.{gathered_on, settled_all, configuration_more}
+use Rattle.dch_check.proofs.ConfigSections.{gathered_on, settled_all, configuration_more}
 use Rattle.dch_top.specs.Checked.{IsPiece, Judged, JudgesText, PassesOver, ReadsOn}
 use Rattle.dch_top.specs.declared.command.Status.{Status}
 use Rattle.dch_top.specs.declared.command.Status.TheVariants.{ReadFault, NoMemory, TooLong}

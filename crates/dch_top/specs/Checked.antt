@@ -4,7 +4,7 @@ use Rattle.std.specs.Borrow.{Bor}
 use Rattle.std.specs.Io.KnownBytes.{Consumes, Appends, IsAtEnd, Keeps}
 use Rattle.dch_io.specs.Ends.{End, Breaks, Fails, IsCutShort}
 use Rattle.dch_io.specs.declared.feed.TheConstants.{LIMIT, PIECE}
-use Rattle.dch_check.specs.Front.{configuration_of, is_complete}
+use Rattle.dch_check.specs.ConfigSection.{configuration_of, is_complete}
 use Rattle.dch_check.specs.Verdicts.{IsAccepted, Judges, Refuses}
 use Rattle.dch_check.specs.declared.verdict.Verdict.{Verdict}
 use Rattle.dch_check.specs.declared.verdict.Verdict.TheVariants.{Accepted as AcceptedBy, Refused as RefusedBy}

@@ -1,12 +1,12 @@
 ghost use Rattle.std.specs.Prelude.{◌≡◌, ◌≤◌, length, IfOk, IfErr};
 ghost use Rattle.dch_io.specs.Ends.{end_of};
 ghost use Rattle.dch_io.specs.declared.feed.TheConstants.{LIMIT, PIECE};
-ghost use Rattle.dch_check.specs.Front.{gathered, settled};
+ghost use Rattle.dch_check.specs.ConfigSection.{gathered, settled};
 ghost use Rattle.dch_top.specs.Checked.{Answers, Checks, Judged, JudgesText, PassesOver, ReadsOn};
 
 use crate::command::Status;
 use dch_bits::NoMemory;
-use dch_check::{Front, Verdict, judge};
+use dch_check::{ConfigSection, Verdict, judge};
 use dch_io::{Failed, LIMIT, PIECE, Sink, Source, new_piece, read_piece, write_all};
 use std::alloc::Global;
 
@@ -51,17 +51,17 @@ fn judge_pieces<S: Source>(
     requires { length room.old ≡ PIECE }
     ensures { Judged (end_of S.left S.faults source.old source.new) result }
 {
-    let mut front = Front::new(alloc);
+    let mut front = ConfigSection::new(alloc);
     let mut count = 0;
     'pieces: loop {
         let piece = read_on(source, room, count)?;
         if piece.is_empty() {
-            return judge_front(alloc, &front);
+            return judge_section(alloc, &front);
         }
         count += piece.len();
         front = gather(front, piece)?;
         if front.is_complete() {
-            let verdict = judge_front(alloc, &front)?;
+            let verdict = judge_section(alloc, &front)?;
             return match verdict {
                 Verdict::Accepted(line) => {
                     pass_over(source, room, count)?;
@@ -73,7 +73,7 @@ fn judge_pieces<S: Source>(
     }
 }
 
-fn gather(front: Front, piece: &[u8]) -> Result<Front, Status>
+fn gather(front: ConfigSection, piece: &[u8]) -> Result<ConfigSection, Status>
     ensures ok { IfOk result (λ next. next ≡ gathered front piece.now) }
     ensures err { IfErr result (λ status. status ≡ Status.NoMemory) }
 {
@@ -84,7 +84,7 @@ fn gather(front: Front, piece: &[u8]) -> Result<Front, Status>
 }
 
 /// Judges a configuration that is complete.
-fn judge_front(alloc: Global, front: &Front) -> Result<Verdict, Status>
+fn judge_section(alloc: Global, front: &ConfigSection) -> Result<Verdict, Status>
     ensures { JudgesText (settled front.now) result }
 {
     match judge(alloc, front.text()) {

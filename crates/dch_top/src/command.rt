@@ -2,7 +2,7 @@ ghost use Rattle.std.specs.Prelude.{◌≡◌, ◌≤◌, ◌⊎◌, ℕ, List, 
 ghost use Rattle.dch_io.specs.Causes.{Rose};
 ghost use Rattle.dch_io.specs.Ends.{end_of};
 ghost use Rattle.dch_script.specs.Lines.{lines_of, rest_of};
-ghost use Rattle.dch_check.specs.Front.{configuration_of};
+ghost use Rattle.dch_check.specs.ConfigSection.{configuration_of};
 ghost use Rattle.dch_check.specs.Verdicts.{IsAccepted, Refuses};
 ghost use Rattle.dch_words.specs.declared.arguments.Subcommand.TheVariants.{Check, Encode};
 ghost use Rattle.dch_lines.specs.Bounds.{most_bytes};

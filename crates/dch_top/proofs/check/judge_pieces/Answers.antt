@@ -11,7 +11,7 @@ returns-in_err-piece g c =
 pub returns-then-is_empty : goal.returns-then-is_empty
 returns-then-is_empty g c =
     let none : length c.in_ok-piece.piece.now ≡ 0 = eqb-true _ _ (sym c.if-is_empty.ensures) in
-    judged_at_end _ _ _ _ _ _ c.pieces.count c.pieces.front c.in_ok-piece.piece.now c.judge_front.result c.pieces.invariant c.in_ok-piece.ensures.reads none c.judge_front.ensures
+    judged_at_end _ _ _ _ _ _ c.pieces.count c.pieces.front c.in_ok-piece.piece.now c.judge_section.result c.pieces.invariant c.in_ok-piece.ensures.reads none c.judge_section.ensures
 
 pub returns-in_err-front : goal.returns-in_err-front
 returns-in_err-front g c =

@@ -1,5 +1,5 @@
 ghost use Rattle.std.specs.Prelude.{◌≡◌, ◌<◌, ◌≤◌, ◌++◌, length, false, IfOk, OnOk};
-ghost use Rattle.dch_check.specs.Front.{Gathered, behind, gathered, is_mark, nothing, settled, with_line};
+ghost use Rattle.dch_check.specs.ConfigSection.{Gathered, behind, gathered, is_separator, nothing, settled, with_line};
 
 use bytes::BytesMut;
 use dch_bits::NoMemory;
@@ -9,15 +9,15 @@ use std::marker::Model;
 
 /// The configuration at the front of an input, gathered from pieces: all bytes before the first line `---`.
 #[derive(Drop)]
-pub struct Front {
+pub struct ConfigSection {
     bytes: BytesMut,
     begun: usize,
     complete: bool,
 }
 
-impl Model for Front {
+impl Model for ConfigSection {
     ghost use Rattle.std.specs.Prelude.{◌≤◌, length, take, drop};
-    ghost use Rattle.dch_check.specs.Front.{Gathered};
+    ghost use Rattle.dch_check.specs.ConfigSection.{Gathered};
 
     ghost Value = { Gathered };
 
@@ -26,12 +26,12 @@ impl Model for Front {
     ghost invariant = { λ f. f.begun ≤ length f.bytes.items };
 }
 
-impl Front {
+impl ConfigSection {
     /// The front of an input of which nothing has come.
     pub fn new(alloc: Global) -> Self
         ensures { result ≡ nothing }
     {
-        Front {
+        ConfigSection {
             bytes: BytesMut::new(alloc),
             begun: 0,
             complete: false,
@@ -49,7 +49,7 @@ impl Front {
     pub fn text(&self) -> &[u8]
         ensures { result.now ≡ settled self.now }
     {
-        if is_mark(&self.bytes[self.begun..]) {
+        if is_separator(&self.bytes[self.begun..]) {
             &self.bytes[..self.begun]
         } else {
             &self.bytes
@@ -57,18 +57,18 @@ impl Front {
     }
 
     /// Goes on by the next piece of the input. What follows the line `---` is left alone.
-    pub fn follow(mut self, piece: &[u8]) -> Result<Front, NoMemory>
-        ensures { IfOk result (λ front. front ≡ gathered self piece.now) }
+    pub fn follow(mut self, piece: &[u8]) -> Result<ConfigSection, NoMemory>
+        ensures { IfOk result (λ section. section ≡ gathered self piece.now) }
     {
-        match self.follow_to_mark(piece) {
+        match self.take_section(piece) {
             Ok(_left) => Ok(self),
             Err(NoMemory) => Err(NoMemory),
         }
     }
 
     /// Goes on by the next piece of the input. Answers what follows the line `---` in it: nothing where that line hasn't come.
-    pub fn follow_to_mark<'a>(&mut self, piece: &'a [u8]) -> Result<&'a [u8], NoMemory>
-        ensures front { OnOk result (self.new ≡ gathered self.old piece.entry.now) }
+    pub fn take_section<'a>(&mut self, piece: &'a [u8]) -> Result<&'a [u8], NoMemory>
+        ensures section { OnOk result (self.new ≡ gathered self.old piece.entry.now) }
         ensures left { IfOk result (λ left. left.now ≡ behind self.old piece.entry.now) }
     {
         let mut left = piece;
@@ -113,7 +113,7 @@ impl Front {
         requires { self.old.complete ≡ false }
         ensures { self.new ≡ with_line self.old }
     {
-        if is_mark(&self.bytes[self.begun..]) {
+        if is_separator(&self.bytes[self.begun..]) {
             self.bytes.truncate(self.begun);
             self.complete = true;
         } else {
@@ -122,8 +122,8 @@ impl Front {
     }
 }
 
-fn is_mark(line: &[u8]) -> bool
-    ensures { result ≡ is_mark line.now }
+fn is_separator(line: &[u8]) -> bool
+    ensures { result ≡ is_separator line.now }
 {
     line == b"---\n".as_slice() || line == b"---".as_slice()
 }

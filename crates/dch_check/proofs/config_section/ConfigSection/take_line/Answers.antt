@@ -1,5 +1,5 @@
-use Rattle.dch_check.proofs.Fronts.{behind_feed, behind_rest, gathered_feed, gathered_rest}
-use Rattle.dch_check.proofs.front.Front.take_line.Goals as goal
+use Rattle.dch_check.proofs.ConfigSections.{behind_feed, behind_rest, gathered_feed, gathered_rest}
+use Rattle.dch_check.proofs.config_section.ConfigSection.take_line.Goals as goal
 
 pub returns-in_ok-hold-in-Some-clause-goes_on : goal.returns-in_ok-hold-in-Some-clause-goes_on
 returns-in_ok-hold-in-Some-clause-goes_on c =
