@@ -15,13 +15,13 @@ use Rattle.dch_accept.specs.Plans.{Planned}
 use Rattle.dch_ttibuf.specs.Loaded.{Loaded, loaded_at}
 use Rattle.dch_dlphy.specs.Loaded.{IsLoaded, Running}
 use Rattle.dch_script.specs.Held.{Held as Text}
-use Rattle.dch_nodeb.specs.Moves.{AreGiven, AreReady, Departs, IsReady, RunsIn, Writes}
-use Rattle.dch_nodeb.specs.Opened.{AreNoted, ArePlacesOf}
+use Rattle.dch_nodeb.specs.Moves.{AreGiven, AreReady, Transmits, IsReady, RunsIn, Writes}
+use Rattle.dch_nodeb.specs.Opened.{AreNoted, AreRxBuffersOf}
 use Rattle.dch_nodeb.specs.Sets.{set_frames, starts}
-use Rattle.dch_nodeb.specs.Standing.{IsQuiet, KeepsFrame, Stands, Stepped}
-use Rattle.dch_nodeb.specs.State.{Blocks, KeptFrame, Leaves, Radio, State, given_now, idle_blocks, kept_still, leaving, taken}
+use Rattle.dch_nodeb.specs.Standing.{NothingSent, KeepsFrame, Represents, Stepped}
+use Rattle.dch_nodeb.specs.State.{Blocks, DownlinkIubFrame, DownlinkDue, Radio, State, given_now, idle_blocks, kept_still, leaving, taken}
 use Rattle.dch_nodeb.specs.Steps.{AreAllLoaded, AreRunning, IsRadio, as_line, blocks_at, radio_text}
-use Rattle.dch_nodeb.specs.Values.{Node, Place, Sender, place_at, radio_if}
+use Rattle.dch_nodeb.specs.Values.{Node, IubRxBuffer, DownlinkTransmitter, rx_buffer_at, radio_if}
 use Rattle.dch_nodeb.proofs.Steady.{set_frames-member, tells}
 
 none_of : (count : ℕ) → count ≡ 0 → replicate count Zero ≡ []
@@ -39,8 +39,8 @@ idle_set config set i held is inside member =
     ∙ ap (λ n. record { format = n; bits = replicate (idle.format.number * idle.format.size) Zero }) own.number
     ∙ ap (λ bits. record { format = idle_format (channel_at config.downlink.side i); bits = bits }) (none_of (idle.format.number * idle.format.size) none)
 
--- a place that is ready has the blocks that the TTI takes
-ready_blocks : (config : Config) (cfn set i : ℕ) (kept : Option KeptFrame) (old new : Place) → IsReady cfn old new → KeepsFrame config.downlink.side set kept old → IsSetOf config Down set old.held
+-- a receive buffer that is ready has the blocks that the TTI takes
+ready_blocks : (config : Config) (cfn set i : ℕ) (kept : Option DownlinkIubFrame) (old new : IubRxBuffer) → IsReady cfn old new → KeepsFrame config.downlink.side set kept old → IsSetOf config Down set old.held
     → i < length config.downlink.side.channels → (channel_at config.downlink.side i).set ≡ set → blocks_at new.held i ≡ taken config.downlink.side cfn kept i
 ready_blocks config cfn set i None old new ready keeps is inside member =
     idle_set config set i new.held (ready.other (λ (e : old.cfn ≡ Some cfn). cc (sym keeps ∙ e)) config set is) inside member
@@ -53,11 +53,11 @@ loaded-as : (planned : Planned) (i : ℕ) (blocks own : Blocks) (loaded : Loaded
 loaded-as planned i blocks own loaded same is = subst (λ (b : Blocks). IsLoaded planned i b.format b.bits loaded) same is
 
 -- what is loaded then is what the channels run
-all_given : (planned : Planned) (state : State) (old new : List Place) (sender loaded : Sender) → IsSide planned.config.downlink.side → ArePlacesOf planned old
-    → AreReady planned state.cfn 8 old new → AreGiven planned state.cfn (length planned.config.downlink.side.channels) new sender loaded
-    → ((s : ℕ) → s < 8 → KeepsFrame planned.config.downlink.side s (state.kept s) (place_at old s)) → AreAllLoaded planned state.given sender.running.loaded
+all_given : (planned : Planned) (state : State) (old new : List IubRxBuffer) (transmitter loaded : DownlinkTransmitter) → IsSide planned.config.downlink.side → AreRxBuffersOf planned old
+    → AreReady planned state.cfn 8 old new → AreGiven planned state.cfn (length planned.config.downlink.side.channels) new transmitter loaded
+    → ((s : ℕ) → s < 8 → KeepsFrame planned.config.downlink.side s (state.kept s) (rx_buffer_at old s)) → AreAllLoaded planned state.given transmitter.running.loaded
     → AreAllLoaded planned (given_now planned.config.downlink.side state) loaded.running.loaded
-all_given planned state old new sender loaded good opened ready given kept before i inside =
+all_given planned state old new transmitter loaded good opened ready given kept before i inside =
     let side = planned.config.downlink.side in
     let set : ℕ = (channel_at side i).set in
     let few : set < 8 = omega (arith, (good.channels i inside).set) in
@@ -65,10 +65,10 @@ all_given planned state old new sender loaded good opened ready given kept befor
     elim (tells (starts (channel_at side i).frames state.cfn)) [
       | inl on ↦
           let place_on : starts (set_frames side set) state.cfn ≡ true = ap (λ f. starts f state.cfn) frames ∙ on.0 in
-          let blocks : blocks_at (place_at new set).held i ≡ taken side state.cfn (state.kept set) i =
-          ready_blocks planned.config state.cfn set i (state.kept set) (place_at old set) (place_at new set) (ready.on set few place_on) (kept set few) (opened.each set few) inside refl in
+          let blocks : blocks_at (rx_buffer_at new set).held i ≡ taken side state.cfn (state.kept set) i =
+          ready_blocks planned.config state.cfn set i (state.kept set) (rx_buffer_at old set) (rx_buffer_at new set) (ready.on set few place_on) (kept set few) (opened.each set few) inside refl in
           let own : given_now side state i ≡ taken side state.cfn (state.kept set) i = rw on.0 refl in
-          loaded-as planned i (given_now side state i) (blocks_at (place_at new set).held i) (loaded_at loaded.running.loaded i) (blocks ∙ sym own) (given.on i inside on.0).loaded
+          loaded-as planned i (given_now side state i) (blocks_at (rx_buffer_at new set).held i) (loaded_at loaded.running.loaded i) (blocks ∙ sym own) (given.on i inside on.0).loaded
       | inr off ↦
           let own : given_now side state i ≡ state.given i = rw off.0 refl in
           loaded-as planned i (given_now side state i) (state.given i) (loaded_at loaded.running.loaded i) (sym own)
@@ -76,9 +76,9 @@ all_given planned state old new sender loaded good opened ready given kept befor
     ]
 
 -- and what is noted
-pub noted_on : (planned : Planned) (cfn : ℕ) (places : List Place) (old new : Sender) → AreGiven planned cfn (length planned.config.downlink.side.channels) places old new
+pub noted_on : (planned : Planned) (cfn : ℕ) (rx_buffers : List IubRxBuffer) (old new : DownlinkTransmitter) → AreGiven planned cfn (length planned.config.downlink.side.channels) rx_buffers old new
     → AreNoted planned old.formats old.running.loaded → AreNoted planned new.formats new.running.loaded
-noted_on planned cfn places old new given noted i inside =
+noted_on planned cfn rx_buffers old new given noted i inside =
     let side = planned.config.downlink.side in
     elim (tells (starts (channel_at side i).frames cfn)) [
       | inl on ↦ (let own = given.on i inside on.0 in own.loaded.format ∙ ap (λ n. Some n) (sym own.noted))
@@ -89,10 +89,10 @@ some_same : (a b : ℕ) → Some a ≡ Some b → a ≡ b
 some_same a b same = cc
 
 -- the noted formats are those of the blocks that run
-noted_formats : (planned : Planned) (given : ℕ → Blocks) (sender : Sender) → AreNoted planned sender.formats sender.running.loaded → AreAllLoaded planned given sender.running.loaded
-    → (i : ℕ) → i < length planned.config.downlink.side.channels → slice_index sender.formats i ≡ (given i).format
-noted_formats planned given sender noted loaded i inside =
-    some_same (slice_index sender.formats i) (given i).format (sym (noted i inside) ∙ (loaded i inside).format)
+noted_formats : (planned : Planned) (given : ℕ → Blocks) (transmitter : DownlinkTransmitter) → AreNoted planned transmitter.formats transmitter.running.loaded → AreAllLoaded planned given transmitter.running.loaded
+    → (i : ℕ) → i < length planned.config.downlink.side.channels → slice_index transmitter.formats i ≡ (given i).format
+noted_formats planned given transmitter noted loaded i inside =
+    some_same (slice_index transmitter.formats i) (given i).format (sym (noted i inside) ∙ (loaded i inside).format)
 
 -- the combinations in which they run are the same
 runs_as : (side : Side) (given : ℕ → Blocks) (formats : List ℕ) (c : ℕ) → ((i : ℕ) → i < length side.channels → slice_index formats i ≡ (given i).format) → RunsIn side c formats → AreRunning side c given
@@ -102,19 +102,19 @@ runs_back : (side : Side) (given : ℕ → Blocks) (formats : List ℕ) (c : ℕ
 runs_back side given formats c same runs i inside = same i inside ∙ runs i inside
 
 -- the radio frame that is written is the one of the definition
-written_radio : (planned : Planned) (state : State) (sender : Sender) (shown : Option Radio) → AreNoted planned sender.formats sender.running.loaded
-    → AreAllLoaded planned state.given sender.running.loaded → Writes planned state.cfn sender shown → IsRadio planned state shown
-written_radio planned state sender None noted loaded writes = λ c listed runs.
-    writes c listed (runs_back planned.config.downlink.side state.given sender.formats c (noted_formats planned state.given sender noted loaded) runs)
-written_radio planned state sender (Some radio) noted loaded writes =
+written_radio : (planned : Planned) (state : State) (transmitter : DownlinkTransmitter) (shown : Option Radio) → AreNoted planned transmitter.formats transmitter.running.loaded
+    → AreAllLoaded planned state.given transmitter.running.loaded → Writes planned state.cfn transmitter shown → IsRadio planned state shown
+written_radio planned state transmitter None noted loaded writes = λ c listed runs.
+    writes c listed (runs_back planned.config.downlink.side state.given transmitter.formats c (noted_formats planned state.given transmitter noted loaded) runs)
+written_radio planned state transmitter (Some radio) noted loaded writes =
     let side = planned.config.downlink.side in
-    let same = noted_formats planned state.given sender noted loaded in
+    let same = noted_formats planned state.given transmitter noted loaded in
     record {
       combination = writes.combination;
       listed = writes.is.listed;
-      formats = runs_as side state.given sender.formats writes.combination same writes.is.runs;
-      first = λ c early runs. writes.is.first c early (runs_back side state.given sender.formats c same runs);
-      tti = sender.running.loaded;
+      formats = runs_as side state.given transmitter.formats writes.combination same writes.is.runs;
+      first = λ c early runs. writes.is.first c early (runs_back side state.given transmitter.formats c same runs);
+      tti = transmitter.running.loaded;
       loaded = loaded;
       frame = writes.frame;
       written = writes.written;
@@ -123,34 +123,34 @@ written_radio planned state sender (Some radio) noted loaded writes =
     }
 
 -- what is still kept
-still_kept : (side : Side) (state : State) (s : ℕ) (old new : Place) → (starts (set_frames side s) state.cfn ≡ true → new.cfn ≡ None) → (starts (set_frames side s) state.cfn ≡ false → new ≡ old)
+still_kept : (side : Side) (state : State) (s : ℕ) (old new : IubRxBuffer) → (starts (set_frames side s) state.cfn ≡ true → new.cfn ≡ None) → (starts (set_frames side s) state.cfn ≡ false → new ≡ old)
     → KeepsFrame side s (state.kept s) old → KeepsFrame side s (kept_still side state s) new
 still_kept side state s old new on off keeps = elim (tells (starts (set_frames side s) state.cfn)) [
   | inl is ↦ rw is.0 (on is.0)
-  | inr is ↦ rw is.0 (subst (λ (p : Place). KeepsFrame side s (state.kept s) p) (sym (off is.0)) keeps)
+  | inr is ↦ rw is.0 (subst (λ (p : IubRxBuffer). KeepsFrame side s (state.kept s) p) (sym (off is.0)) keeps)
 ]
 
-departed_at : (planned : Planned) (state : State) (node : Node) (new : List Place) (sent : Sender) (before after : Text) → IsSide planned.config.downlink.side → ArePlacesOf planned node.places
-    → AreNoted planned node.sender.formats node.sender.running.loaded → IsQuiet node → Departs planned state.cfn node.places new node.sender sent before after → Stands planned state node
-    → Stepped planned state Leaves (record node { places = new; sender = sent }) before.text after.text
+departed_at : (planned : Planned) (state : State) (node : Node) (new : List IubRxBuffer) (sent : DownlinkTransmitter) (before after : Text) → IsSide planned.config.downlink.side → AreRxBuffersOf planned node.rx_buffers
+    → AreNoted planned node.transmitter.formats node.transmitter.running.loaded → NothingSent node → Transmits planned state.cfn node.rx_buffers new node.transmitter sent before after → Represents planned state node
+    → Stepped planned state DownlinkDue (record node { rx_buffers = new; transmitter = sent }) before.text after.text
 departed_at planned state node new sent before after good opened noted quiet departs stands =
     let side = planned.config.downlink.side in
-    let loaded : Sender = departs.loaded in
+    let loaded : DownlinkTransmitter = departs.loaded in
     let next : State = leaving side state in
     let shown : Option Radio = radio_if sent.sent sent.frame in
-    let all : AreAllLoaded planned next.given loaded.running.loaded = all_given planned state node.places new node.sender loaded good opened departs.ready departs.given stands.kept stands.given in
+    let all : AreAllLoaded planned next.given loaded.running.loaded = all_given planned state node.rx_buffers new node.transmitter loaded good opened departs.ready departs.given stands.kept stands.given in
     record {
       next = next;
       output = record { text = as_line (radio_text shown); sent = shown; iub = λ s. None };
       step = record {
         state = refl;
-        radio = written_radio planned next loaded shown (noted_on planned state.cfn new node.sender loaded departs.given noted) all departs.sends.writes;
+        radio = written_radio planned next loaded shown (noted_on planned state.cfn new node.transmitter loaded departs.given noted) all departs.sends.writes;
         told = refl;
         no_iub = λ s few. refl;
       };
       stands = record {
         cfn = stands.cfn;
-        kept = λ s few. still_kept side state s (place_at node.places s) (place_at new s) (λ on. (departs.ready.on s few on).empty) (λ off. departs.ready.off s few off) (stands.kept s few);
+        kept = λ s few. still_kept side state s (rx_buffer_at node.rx_buffers s) (rx_buffer_at new s) (λ on. (departs.ready.on s few on).empty) (λ off. departs.ready.off s few off) (stands.kept s few);
         given = λ i inside. subst (λ (l : List Loaded). IsLoaded planned i (next.given i).format (next.given i).bits (loaded_at l i)) (ap (λ (r : Running). r.loaded) (sym departs.sends.running)) (all i inside);
         frames = stands.frames;
       };
@@ -159,9 +159,9 @@ departed_at planned state node new sent before after good opened noted quiet dep
     }
 
 -- the step of a radio frame that is due
-pub departed : (planned : Planned) (state : State) (node : Node) (new : List Place) (sent : Sender) (before after : Text) → IsSide planned.config.downlink.side → ArePlacesOf planned node.places
-    → AreNoted planned node.sender.formats node.sender.running.loaded → IsQuiet node → Departs planned node.cfn node.places new node.sender sent before after → Stands planned state node
-    → Stepped planned state Leaves (record node { places = new; sender = sent }) before.text after.text
+pub departed : (planned : Planned) (state : State) (node : Node) (new : List IubRxBuffer) (sent : DownlinkTransmitter) (before after : Text) → IsSide planned.config.downlink.side → AreRxBuffersOf planned node.rx_buffers
+    → AreNoted planned node.transmitter.formats node.transmitter.running.loaded → NothingSent node → Transmits planned node.cfn node.rx_buffers new node.transmitter sent before after → Represents planned state node
+    → Stepped planned state DownlinkDue (record node { rx_buffers = new; transmitter = sent }) before.text after.text
 departed planned state node new sent before after good opened noted quiet departs stands =
     departed_at planned state node new sent before after good opened noted quiet
-    (subst (λ cfn. Departs planned cfn node.places new node.sender sent before after) stands.cfn departs) stands
+    (subst (λ cfn. Transmits planned cfn node.rx_buffers new node.transmitter sent before after) stands.cfn departs) stands

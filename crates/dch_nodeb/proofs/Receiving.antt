@@ -6,10 +6,10 @@ use Rattle.dch_accept.specs.Plans.{Planned}
 use Rattle.dch_rxframes.specs.RxFrames.{RxFrame, RxFrames, rx_frame_at}
 use Rattle.dch_script.specs.Held.{Held as Text}
 use Rattle.dch_nodeb.specs.Moves.{Hears, Receives}
-use Rattle.dch_nodeb.specs.Standing.{IsQuiet, Stands, Stepped}
-use Rattle.dch_nodeb.specs.State.{Comes, Radio, State, coming}
+use Rattle.dch_nodeb.specs.Standing.{NothingSent, Represents, Stepped}
+use Rattle.dch_nodeb.specs.State.{UplinkFrame, Radio, State, coming}
 use Rattle.dch_nodeb.specs.Steps.{KeepsRadio, joined}
-use Rattle.dch_nodeb.specs.Values.{Letter, Node, Receiver, letter_at}
+use Rattle.dch_nodeb.specs.Values.{IubTxBuffer, Node, UplinkReceiver, tx_buffer_at}
 
 -- the frames that are kept then
 frames_kept : (planned : Planned) (state : State) (radio : Option Radio) (old new : RxFrames) → Hears planned state.cfn radio old new
@@ -19,17 +19,17 @@ frames_kept planned state radio old new hears before k few = elim (eqb_tells k (
   | inr other ↦ rw other.0 (subst (λ (kept : RxFrame). KeepsRadio planned (state.frames k) kept) (sym (hears.others k other.1)) (before k few))
 ]
 
-received_at : (planned : Planned) (state : State) (node : Node) (radio : Option Radio) (letters : List Letter) (receiver : Receiver) (before after : Text) → IsQuiet node
-    → Receives planned state.cfn radio node.receiver.rx_frames letters receiver before after → Stands planned state node
-    → Stepped planned state (Comes radio) (record node { cfn = (node.cfn + 1) % 256; receiver = receiver; letters = letters }) before.text after.text
-received_at planned state node radio letters receiver before after quiet receives stands =
+received_at : (planned : Planned) (state : State) (node : Node) (radio : Option Radio) (tx_buffers : List IubTxBuffer) (receiver : UplinkReceiver) (before after : Text) → NothingSent node
+    → Receives planned state.cfn radio node.receiver.rx_frames tx_buffers receiver before after → Represents planned state node
+    → Stepped planned state (UplinkFrame radio) (record node { cfn = (node.cfn + 1) % 256; receiver = receiver; tx_buffers = tx_buffers }) before.text after.text
+received_at planned state node radio tx_buffers receiver before after quiet receives stands =
     let next : State = coming state radio in
     let served = receives.served in
     let frames : (k : ℕ) → k < 8 → KeepsRadio planned (next.frames k) (rx_frame_at receiver.rx_frames.frames k) =
     frames_kept planned state radio node.receiver.rx_frames receiver.rx_frames receives.hears stands.frames in
     record {
       next = next;
-      output = record { text = joined served.texts 8; sent = None; iub = λ s. (letter_at letters s).sent };
+      output = record { text = joined served.texts 8; sent = None; iub = λ s. (tx_buffer_at tx_buffers s).sent };
       step = record {
         state = refl;
         rx_frames = receiver.rx_frames;
@@ -45,9 +45,9 @@ received_at planned state node radio letters receiver before after quiet receive
     }
 
 -- the step of a radio frame that comes, or is missing
-pub received : (planned : Planned) (state : State) (node : Node) (radio : Option Radio) (letters : List Letter) (receiver : Receiver) (before after : Text) → IsQuiet node
-    → Receives planned node.cfn radio node.receiver.rx_frames letters receiver before after → Stands planned state node
-    → Stepped planned state (Comes radio) (record node { cfn = (node.cfn + 1) % 256; receiver = receiver; letters = letters }) before.text after.text
-received planned state node radio letters receiver before after quiet receives stands =
-    received_at planned state node radio letters receiver before after quiet
-    (subst (λ cfn. Receives planned cfn radio node.receiver.rx_frames letters receiver before after) stands.cfn receives) stands
+pub received : (planned : Planned) (state : State) (node : Node) (radio : Option Radio) (tx_buffers : List IubTxBuffer) (receiver : UplinkReceiver) (before after : Text) → NothingSent node
+    → Receives planned node.cfn radio node.receiver.rx_frames tx_buffers receiver before after → Represents planned state node
+    → Stepped planned state (UplinkFrame radio) (record node { cfn = (node.cfn + 1) % 256; receiver = receiver; tx_buffers = tx_buffers }) before.text after.text
+received planned state node radio tx_buffers receiver before after quiet receives stands =
+    received_at planned state node radio tx_buffers receiver before after quiet
+    (subst (λ cfn. Receives planned cfn radio node.receiver.rx_frames tx_buffers receiver before after) stands.cfn receives) stands

@@ -12,10 +12,10 @@ use Rattle.std.proofs.lemmas.Bool.Decides.{eqb_tells}
 use Rattle.dch_accept.specs.Plans.{Planned}
 use Rattle.dch_rxframes.specs.RxFrames.{RxFrames}
 use Rattle.dch_script.specs.Held.{Held as Text}
-use Rattle.dch_nodeb.specs.Moves.{AreNewLetters, AreServed, Served}
-use Rattle.dch_nodeb.specs.Opened.{AreLettersOf, IsLetterOf, IsReceiverOf}
-use Rattle.dch_nodeb.specs.Steps.{AreRead, ServesSet, as_line, joined}
-use Rattle.dch_nodeb.specs.Values.{Letter, Receiver, letter_at}
+use Rattle.dch_nodeb.specs.Moves.{AreNewTxBuffers, AreDelivered, Delivered}
+use Rattle.dch_nodeb.specs.Opened.{AreTxBuffersOf, IsTxBufferOf, IsReceiverOf}
+use Rattle.dch_nodeb.specs.Steps.{AreRead, DeliversSet, as_line, joined}
+use Rattle.dch_nodeb.specs.Values.{IubTxBuffer, UplinkReceiver, tx_buffer_at}
 
 -- the texts with another one for a set
 with_text : (ℕ → List ℕ) → ℕ → List ℕ → ℕ → List ℕ
@@ -44,38 +44,38 @@ joined-next texts set text =
     (with_text-here texts set text))
 
 -- one more set was served
-pub served_next : (planned : Planned) (rx_frames : RxFrames) (set : ℕ) (letters : List Letter) (letter : Letter) (receiver next : Receiver) (before now after : Text)
-    → AreServed planned rx_frames set letters receiver before now → set < 8 → Served planned rx_frames set letter next now after
-    → AreServed planned rx_frames (set + 1) (slice_set letters set letter) next before after
-served_next planned rx_frames set letters letter receiver next before now after are inside served =
-    let new : List Letter = slice_set letters set letter in
-    let room : set < length letters = subst (λ n. set < n) (sym are.letters_opened.all) inside in
+pub served_next : (planned : Planned) (rx_frames : RxFrames) (set : ℕ) (tx_buffers : List IubTxBuffer) (tx_buffer : IubTxBuffer) (receiver next : UplinkReceiver) (before now after : Text)
+    → AreDelivered planned rx_frames set tx_buffers receiver before now → set < 8 → Delivered planned rx_frames set tx_buffer next now after
+    → AreDelivered planned rx_frames (set + 1) (slice_set tx_buffers set tx_buffer) next before after
+served_next planned rx_frames set tx_buffers tx_buffer receiver next before now after are inside served =
+    let new : List IubTxBuffer = slice_set tx_buffers set tx_buffer in
+    let room : set < length tx_buffers = subst (λ n. set < n) (sym are.letters_opened.all) inside in
     let texts : ℕ → List ℕ = with_text are.texts set served.text in
-    let own : letter_at new set ≡ letter = get_or-set_same letters set letter _ room in
-    let others : (s : ℕ) → s ≢ set → letter_at new s ≡ letter_at letters s = (λ s other. get_or-set_other letters set s letter _ other) in
-    let here : ServesSet planned rx_frames set (texts set) (letter_at new set).sent =
-    subst (λ (t : List ℕ). ServesSet planned rx_frames set t (letter_at new set).sent) (sym (with_text-here are.texts set served.text))
-    (subst (λ (l : Letter). ServesSet planned rx_frames set served.text l.sent) (sym own) served.serves) in
-    let there : (s : ℕ) → s < set → ServesSet planned rx_frames s (texts s) (letter_at new s).sent =
+    let own : tx_buffer_at new set ≡ tx_buffer = get_or-set_same tx_buffers set tx_buffer _ room in
+    let others : (s : ℕ) → s ≢ set → tx_buffer_at new s ≡ tx_buffer_at tx_buffers s = (λ s other. get_or-set_other tx_buffers set s tx_buffer _ other) in
+    let here : DeliversSet planned rx_frames set (texts set) (tx_buffer_at new set).sent =
+    subst (λ (t : List ℕ). DeliversSet planned rx_frames set t (tx_buffer_at new set).sent) (sym (with_text-here are.texts set served.text))
+    (subst (λ (l : IubTxBuffer). DeliversSet planned rx_frames set served.text l.sent) (sym own) served.serves) in
+    let there : (s : ℕ) → s < set → DeliversSet planned rx_frames s (texts s) (tx_buffer_at new s).sent =
     (λ s early.
     let apart : s ≢ set = omega arith in
-    subst (λ (t : List ℕ). ServesSet planned rx_frames s t (letter_at new s).sent) (sym (with_text-other are.texts set served.text s apart))
-    (subst (λ (l : Letter). ServesSet planned rx_frames s (are.texts s) l.sent) (sym (others s apart)) (are.sets s early))) in
+    subst (λ (t : List ℕ). DeliversSet planned rx_frames s t (tx_buffer_at new s).sent) (sym (with_text-other are.texts set served.text s apart))
+    (subst (λ (l : IubTxBuffer). DeliversSet planned rx_frames s (are.texts s) l.sent) (sym (others s apart)) (are.sets s early))) in
     let long : joined texts (set + 1) ≡ joined are.texts set ++ served.text = joined-next are.texts set served.text in
     record {
       texts = texts;
       sets = λ s early. elim (eqb_tells s set) [
-        | inl same ↦ subst (λ k. ServesSet planned rx_frames k (texts k) (letter_at new k).sent) (sym same.1) here
+        | inl same ↦ subst (λ k. DeliversSet planned rx_frames k (texts k) (tx_buffer_at new k).sent) (sym same.1) here
         | inr other ↦ there s (let apart : s ≢ set = other.1 in omega arith)
       ];
-      later = λ s late few. ap (λ (l : Letter). l.sent) (others s (omega arith)) ∙ are.later s (omega arith) few;
+      later = λ s late few. ap (λ (l : IubTxBuffer). l.sent) (others s (omega arith)) ∙ are.later s (omega arith) few;
       few = rw long (rw length-append (omega (arith, are.few, served.few)));
       told = served.told ∙ ap (λ (t : Text). record t { text = t.text ++ served.text }) are.told ∙ ap (λ (t : List ℕ). record before { text = t }) (append_assoc before.text (joined are.texts set) served.text ∙ ap (λ (t : List ℕ). before.text ++ t) (sym long));
       letters_opened = record {
-        all = length-set letters set letter ∙ are.letters_opened.all;
+        all = length-set tx_buffers set tx_buffer ∙ are.letters_opened.all;
         each = λ s few. elim (eqb_tells s set) [
-          | inl same ↦ subst (λ k. IsLetterOf planned k (letter_at new k)) (sym same.1) (subst (λ (l : Letter). IsLetterOf planned set l) (sym own) served.letter_opened)
-          | inr other ↦ subst (λ (l : Letter). IsLetterOf planned s l) (sym (others s other.1)) (are.letters_opened.each s few)
+          | inl same ↦ subst (λ k. IsTxBufferOf planned k (tx_buffer_at new k)) (sym same.1) (subst (λ (l : IubTxBuffer). IsTxBufferOf planned set l) (sym own) served.letter_opened)
+          | inr other ↦ subst (λ (l : IubTxBuffer). IsTxBufferOf planned s l) (sym (others s other.1)) (are.letters_opened.each s few)
         ];
       };
       receiver_opened = served.receiver_opened;
@@ -83,9 +83,9 @@ served_next planned rx_frames set letters letter receiver next before now after 
     }
 
 -- the frame of a set was sent
-pub sent_up : (planned : Planned) (rx_frames : RxFrames) (set start : ℕ) (old new : Letter) (receiver : Receiver) (before after : Text) → SendsUp planned set start old new before after → AreRead planned rx_frames set old.held
+pub sent_up : (planned : Planned) (rx_frames : RxFrames) (set start : ℕ) (old new : IubTxBuffer) (receiver : UplinkReceiver) (before after : Text) → SendsUp planned set start old new before after → AreRead planned rx_frames set old.held
     → ends (set_frames planned.config.uplink.side set) rx_frames.cfn ≡ true → start ≡ started (set_frames planned.config.uplink.side set) rx_frames.cfn → IsReceiverOf planned receiver → receiver.rx_frames ≡ rx_frames
-    → Served planned rx_frames set new receiver before after
+    → Delivered planned rx_frames set new receiver before after
 sent_up planned rx_frames set start old new receiver before after sends read over begun opened same = record {
   text = as_line (iub_text Up set sends.octets);
   few = sends.few;
@@ -105,9 +105,9 @@ sent_up planned rx_frames set start old new receiver before after sends read ove
 }
 
 -- no set was served yet
-pub none_served : (planned : Planned) (letters : List Letter) (receiver : Receiver) (before : Text) → AreLettersOf planned letters → IsReceiverOf planned receiver
-    → ((s : ℕ) → s < 8 → (letter_at letters s).sent ≡ None) → AreServed planned receiver.rx_frames 0 letters receiver before before
-none_served planned letters receiver before are opened quiet = record {
+pub none_served : (planned : Planned) (tx_buffers : List IubTxBuffer) (receiver : UplinkReceiver) (before : Text) → AreTxBuffersOf planned tx_buffers → IsReceiverOf planned receiver
+    → ((s : ℕ) → s < 8 → (tx_buffer_at tx_buffers s).sent ≡ None) → AreDelivered planned receiver.rx_frames 0 tx_buffers receiver before before
+none_served planned tx_buffers receiver before are opened quiet = record {
   texts = λ s. [];
   sets = λ s early. absurd (omega arith);
   later = λ s late few. quiet s few;
@@ -118,25 +118,25 @@ none_served planned letters receiver before are opened quiet = record {
   same = refl;
 }
 
--- a letter, whatever stands for one past the end
-pub letter_in : (planned : Planned) (letters : List Letter) (set : ℕ) (other : Letter) → AreLettersOf planned letters → set < 8 → get_or letters set other ≡ letter_at letters set
-letter_in planned letters set other are few = get_or_default letters set other _ (omega (arith, are.all))
+-- a transmit buffer, whatever stands for one past the end
+pub letter_in : (planned : Planned) (tx_buffers : List IubTxBuffer) (set : ℕ) (other : IubTxBuffer) → AreTxBuffersOf planned tx_buffers → set < 8 → get_or tx_buffers set other ≡ tx_buffer_at tx_buffers set
+letter_in planned tx_buffers set other are few = get_or_default tx_buffers set other _ (omega (arith, are.all))
 
--- a new letter at the end
-pub new_letter : (planned : Planned) (count : ℕ) (letters : List Letter) (letter : Letter) → AreNewLetters planned count letters → IsLetterOf planned count letter → letter.sent ≡ None
-    → AreNewLetters planned (count + 1) (letters ++ letter ∷ [])
-new_letter planned count letters letter are is quiet =
-    let own : letter_at (letters ++ letter ∷ []) count ≡ letter = get_or_push letters letter _ count are.all in
-    let others : (s : ℕ) → s < count → letter_at (letters ++ letter ∷ []) s ≡ letter_at letters s =
-    (λ s early. get_or_append_left letters (letter ∷ []) _ s (omega (arith, are.all))) in
+-- a new transmit buffer at the end
+pub new_letter : (planned : Planned) (count : ℕ) (tx_buffers : List IubTxBuffer) (tx_buffer : IubTxBuffer) → AreNewTxBuffers planned count tx_buffers → IsTxBufferOf planned count tx_buffer → tx_buffer.sent ≡ None
+    → AreNewTxBuffers planned (count + 1) (tx_buffers ++ tx_buffer ∷ [])
+new_letter planned count tx_buffers tx_buffer are is quiet =
+    let own : tx_buffer_at (tx_buffers ++ tx_buffer ∷ []) count ≡ tx_buffer = get_or_push tx_buffers tx_buffer _ count are.all in
+    let others : (s : ℕ) → s < count → tx_buffer_at (tx_buffers ++ tx_buffer ∷ []) s ≡ tx_buffer_at tx_buffers s =
+    (λ s early. get_or_append_left tx_buffers (tx_buffer ∷ []) _ s (omega (arith, are.all))) in
     record {
-      all = omega (arith, length-append letters (letter ∷ []), are.all);
+      all = omega (arith, length-append tx_buffers (tx_buffer ∷ []), are.all);
       each = λ s early. elim (eqb_tells s count) [
-        | inl same ↦ subst (λ n. IsLetterOf planned n (letter_at (letters ++ letter ∷ []) n)) (sym same.1) (subst (λ (l : Letter). IsLetterOf planned count l) (sym own) is)
-        | inr other ↦ (let apart : s ≢ count = other.1 in let less : s < count = omega arith in subst (λ (l : Letter). IsLetterOf planned s l) (sym (others s less)) (are.each s less))
+        | inl same ↦ subst (λ n. IsTxBufferOf planned n (tx_buffer_at (tx_buffers ++ tx_buffer ∷ []) n)) (sym same.1) (subst (λ (l : IubTxBuffer). IsTxBufferOf planned count l) (sym own) is)
+        | inr other ↦ (let apart : s ≢ count = other.1 in let less : s < count = omega arith in subst (λ (l : IubTxBuffer). IsTxBufferOf planned s l) (sym (others s less)) (are.each s less))
       ];
       quiet = λ s early. elim (eqb_tells s count) [
-        | inl same ↦ ap (λ n. (letter_at (letters ++ letter ∷ []) n).sent) same.1 ∙ ap (λ (l : Letter). l.sent) own ∙ quiet
-        | inr other ↦ (let apart : s ≢ count = other.1 in let less : s < count = omega arith in ap (λ (l : Letter). l.sent) (others s less) ∙ are.quiet s less)
+        | inl same ↦ ap (λ n. (tx_buffer_at (tx_buffers ++ tx_buffer ∷ []) n).sent) same.1 ∙ ap (λ (l : IubTxBuffer). l.sent) own ∙ quiet
+        | inr other ↦ (let apart : s ≢ count = other.1 in let less : s < count = omega arith in ap (λ (l : IubTxBuffer). l.sent) (others s less) ∙ are.quiet s less)
       ];
     }

@@ -17,81 +17,81 @@ use Rattle.dch_iub.specs.Forms.{IsReadForm}
 use Rattle.dch_iub.specs.declared.error.IubError.{IubError}
 use Rattle.dch_script.specs.Held.{Held as Text}
 use Rattle.dch_script.specs.Report.{pair_text}
-use Rattle.dch_nodeb.specs.Opened.{AreLettersOf, ArePlacesOf, IsLetterOf, IsReceiverOf, IsSenderOf}
+use Rattle.dch_nodeb.specs.Opened.{AreTxBuffersOf, AreRxBuffersOf, IsTxBufferOf, IsReceiverOf, IsTransmitterOf}
 use Rattle.dch_nodeb.specs.Sets.{set_frames, starts}
 use Rattle.dch_nodeb.specs.State.{Radio}
-use Rattle.dch_nodeb.specs.Steps.{KeepsRadio, ServesSet, as_line, joined, radio_text, refusal_number}
-use Rattle.dch_nodeb.specs.Values.{Letter, Place, Receiver, Sender, letter_at, place_at, radio_if}
+use Rattle.dch_nodeb.specs.Steps.{KeepsRadio, DeliversSet, as_line, joined, radio_text, refusal_number}
+use Rattle.dch_nodeb.specs.Values.{IubTxBuffer, IubRxBuffer, UplinkReceiver, DownlinkTransmitter, tx_buffer_at, rx_buffer_at, radio_if}
 
--- places for the first sets, with idle formats and no frame
-pub record AreNewPlaces (planned : Planned) (count : ℕ) (places : List Place) : Type 0 where
-  pub all : length places ≡ count
-  pub empty : (s : ℕ) → s < count → (place_at places s).cfn ≡ None
-  pub idle : (s : ℕ) → s < count → IsIdleSet planned.config Down s (place_at places s).held
+-- receive buffers for the first sets, with idle formats and no frame
+pub record AreNewRxBuffers (planned : Planned) (count : ℕ) (rx_buffers : List IubRxBuffer) : Type 0 where
+  pub all : length rx_buffers ≡ count
+  pub empty : (s : ℕ) → s < count → (rx_buffer_at rx_buffers s).cfn ≡ None
+  pub idle : (s : ℕ) → s < count → IsIdleSet planned.config Down s (rx_buffer_at rx_buffers s).held
 
--- a place has a frame that was read
-pub record IsFilled (planned : Planned) (set : ℕ) (octets : List ℕ) (place : Place) : Type 0 where
+-- a receive buffer has a frame that was read
+pub record IsFilled (planned : Planned) (set : ℕ) (octets : List ℕ) (rx_buffer : IubRxBuffer) : Type 0 where
   pub cfn : ℕ
-  pub named : place.cfn ≡ Some cfn
-  pub read : IsReadForm planned.config Down set octets cfn 0 place.held
+  pub named : rx_buffer.cfn ≡ Some cfn
+  pub read : IsReadForm planned.config Down set octets cfn 0 rx_buffer.held
 
 -- a frame was read without a word
-pub record IsTaken (planned : Planned) (set : ℕ) (octets : List ℕ) (new : Place) (text : List ℕ) : Type 0 where
+pub record IsTaken (planned : Planned) (set : ℕ) (octets : List ℕ) (new : IubRxBuffer) (text : List ℕ) : Type 0 where
   pub filled : IsFilled planned set octets new
   pub quiet : text ≡ []
 
 -- or refused, which is told
-pub record IsRefused (planned : Planned) (set : ℕ) (octets : List ℕ) (old new : Place) (text : List ℕ) : Type 0 where
+pub record IsRefused (planned : Planned) (set : ℕ) (octets : List ℕ) (old new : IubRxBuffer) (text : List ℕ) : Type 0 where
   pub error : IubError
   pub cause : IsCause planned.config Down set octets error
   pub same : new ≡ old
   pub told : text ≡ as_line (pair_text (codes "iubbad ") Down set (refusal_number error))
 
 -- an Iub frame came for a set
-pub record Keeps (planned : Planned) (set : ℕ) (octets : List ℕ) (old new : List Place) (before after : Text) : Type 0 where
-  pub opened : ArePlacesOf planned new
-  pub others : (s : ℕ) → s ≢ set → place_at new s ≡ place_at old s
+pub record Keeps (planned : Planned) (set : ℕ) (octets : List ℕ) (old new : List IubRxBuffer) (before after : Text) : Type 0 where
+  pub opened : AreRxBuffersOf planned new
+  pub others : (s : ℕ) → s ≢ set → rx_buffer_at new s ≡ rx_buffer_at old s
   pub text : List ℕ
   pub few : length text ≤ 300
-  pub took : IsTaken planned set octets (place_at new set) text ⊎ IsRefused planned set octets (place_at old set) (place_at new set) text
+  pub took : IsTaken planned set octets (rx_buffer_at new set) text ⊎ IsRefused planned set octets (rx_buffer_at old set) (rx_buffer_at new set) text
   pub told : after ≡ record before { text = before.text ++ text }
 
--- a place is ready for a TTI that starts at a CFN: it has the blocks of its frame where that is the one of this CFN, and else of the
+-- a receive buffer is ready for a TTI that starts at a CFN: it has the blocks of its frame where that is the one of this CFN, and else of the
 -- idle formats; and it is empty
-pub record IsReady (cfn : ℕ) (old new : Place) : Type 0 where
+pub record IsReady (cfn : ℕ) (old new : IubRxBuffer) : Type 0 where
   pub fits : old.cfn ≡ Some cfn → new.held ≡ old.held
   pub other : old.cfn ≢ Some cfn → (config : Config) (set : ℕ) → IsSetOf config Down set old.held → IsIdleSet config Down set new.held
   pub empty : new.cfn ≡ None
 
 -- and so are those of the first sets whose TTI starts; all others are as they were
-pub record AreReady (planned : Planned) (cfn count : ℕ) (old new : List Place) : Type 0 where
-  pub opened : ArePlacesOf planned new
-  pub on : (s : ℕ) → s < count → starts (set_frames planned.config.downlink.side s) cfn ≡ true → IsReady cfn (place_at old s) (place_at new s)
-  pub off : (s : ℕ) → s < count → starts (set_frames planned.config.downlink.side s) cfn ≡ false → place_at new s ≡ place_at old s
-  pub later : (s : ℕ) → count ≤ s → place_at new s ≡ place_at old s
+pub record AreReady (planned : Planned) (cfn count : ℕ) (old new : List IubRxBuffer) : Type 0 where
+  pub opened : AreRxBuffersOf planned new
+  pub on : (s : ℕ) → s < count → starts (set_frames planned.config.downlink.side s) cfn ≡ true → IsReady cfn (rx_buffer_at old s) (rx_buffer_at new s)
+  pub off : (s : ℕ) → s < count → starts (set_frames planned.config.downlink.side s) cfn ≡ false → rx_buffer_at new s ≡ rx_buffer_at old s
+  pub later : (s : ℕ) → count ≤ s → rx_buffer_at new s ≡ rx_buffer_at old s
 
 -- the blocks of channel i are loaded, in the format that is noted
-pub record IsGiven (planned : Planned) (i : ℕ) (held : Held) (sender : Sender) : Type 0 where
-  pub loaded : IsLoaded planned i held.format held.bits (loaded_at sender.running.loaded i)
-  pub noted : slice_index sender.formats i ≡ held.format
+pub record IsGiven (planned : Planned) (i : ℕ) (held : Held) (transmitter : DownlinkTransmitter) : Type 0 where
+  pub loaded : IsLoaded planned i held.format held.bits (loaded_at transmitter.running.loaded i)
+  pub noted : slice_index transmitter.formats i ≡ held.format
 
 -- channel i is as it was
-pub record IsUntouched (i : ℕ) (old new : Sender) : Type 0 where
+pub record IsUntouched (i : ℕ) (old new : DownlinkTransmitter) : Type 0 where
   pub loaded : loaded_at new.running.loaded i ≡ loaded_at old.running.loaded i
   pub noted : slice_index new.formats i ≡ slice_index old.formats i
 
 -- a channel was loaded, and no other one
-pub record Loads (planned : Planned) (channel : ℕ) (held : Held) (old new : Sender) : Type 0 where
-  pub opened : IsSenderOf planned new
+pub record Loads (planned : Planned) (channel : ℕ) (held : Held) (old new : DownlinkTransmitter) : Type 0 where
+  pub opened : IsTransmitterOf planned new
   pub given : IsGiven planned channel held new
   pub others : (i : ℕ) → i ≢ channel → IsUntouched i old new
   pub sent : new.sent ≡ old.sent
 
--- the first channels whose TTI starts were loaded with the blocks of the places, and no other ones
-pub record AreGiven (planned : Planned) (cfn count : ℕ) (places : List Place) (old new : Sender) : Type 0 where
-  pub opened : IsSenderOf planned new
+-- the first channels whose TTI starts were loaded with the blocks of the receive buffers, and no other ones
+pub record AreGiven (planned : Planned) (cfn count : ℕ) (rx_buffers : List IubRxBuffer) (old new : DownlinkTransmitter) : Type 0 where
+  pub opened : IsTransmitterOf planned new
   pub on : (i : ℕ) → i < count → starts (channel_at planned.config.downlink.side i).frames cfn ≡ true
-      → IsGiven planned i (held_at (place_at places (channel_at planned.config.downlink.side i).set).held.blocks i) new
+      → IsGiven planned i (held_at (rx_buffer_at rx_buffers (channel_at planned.config.downlink.side i).set).held.blocks i) new
   pub off : (i : ℕ) → i < count → starts (channel_at planned.config.downlink.side i).frames cfn ≡ false → IsUntouched i old new
   pub later : (i : ℕ) → count ≤ i → IsUntouched i old new
   pub sent : new.sent ≡ old.sent
@@ -115,32 +115,32 @@ FindsFirst side formats None = RunsInNone side (length side.combinations) format
 FindsFirst side formats (Some c) = IsFirst side formats c
 
 -- a radio frame that is written of what is loaded
-pub record IsWritten (planned : Planned) (cfn : ℕ) (sender : Sender) (radio : Radio) : Type 0 where
+pub record IsWritten (planned : Planned) (cfn : ℕ) (transmitter : DownlinkTransmitter) (radio : Radio) : Type 0 where
   pub combination : ℕ
-  pub is : IsFirst planned.config.downlink.side sender.formats combination
+  pub is : IsFirst planned.config.downlink.side transmitter.formats combination
   pub frame : Frame
-  pub written : IsFrame planned sender.running.loaded cfn combination frame
+  pub written : IsFrame planned transmitter.running.loaded cfn combination frame
   pub tfci : radio.tfci ≡ frame.tfci
   pub cells : radio.cells ≡ frame.cells
 
-abbrev pub Writes : Planned → ℕ → Sender → Option Radio → Type 0
-Writes planned cfn sender None = RunsInNone planned.config.downlink.side (length planned.config.downlink.side.combinations) sender.formats
-Writes planned cfn sender (Some radio) = IsWritten planned cfn sender radio
+abbrev pub Writes : Planned → ℕ → DownlinkTransmitter → Option Radio → Type 0
+Writes planned cfn transmitter None = RunsInNone planned.config.downlink.side (length planned.config.downlink.side.combinations) transmitter.formats
+Writes planned cfn transmitter (Some radio) = IsWritten planned cfn transmitter radio
 
 -- a radio frame was sent, or none
-pub record Sends (planned : Planned) (cfn : ℕ) (old new : Sender) (before after : Text) : Type 0 where
-  pub opened : IsSenderOf planned new
+pub record Sends (planned : Planned) (cfn : ℕ) (old new : DownlinkTransmitter) (before after : Text) : Type 0 where
+  pub opened : IsTransmitterOf planned new
   pub running : new.running ≡ old.running
   pub formats : new.formats ≡ old.formats
   pub writes : Writes planned cfn old (radio_if new.sent new.frame)
   pub few : length (as_line (radio_text (radio_if new.sent new.frame))) ≤ 60000
   pub told : after ≡ record before { text = before.text ++ as_line (radio_text (radio_if new.sent new.frame)) }
 
--- the radio frame of the CFN is due: places are made ready, the channels that start are loaded, and the frame is sent
-pub record Departs (planned : Planned) (cfn : ℕ) (old new : List Place) (sender sent : Sender) (before after : Text) : Type 0 where
+-- the radio frame of the CFN is due: receive buffers are made ready, the channels that start are loaded, and the frame is sent
+pub record Transmits (planned : Planned) (cfn : ℕ) (old new : List IubRxBuffer) (transmitter sent : DownlinkTransmitter) (before after : Text) : Type 0 where
   pub ready : AreReady planned cfn 8 old new
-  pub loaded : Sender
-  pub given : AreGiven planned cfn (length planned.config.downlink.side.channels) new sender loaded
+  pub loaded : DownlinkTransmitter
+  pub given : AreGiven planned cfn (length planned.config.downlink.side.channels) new transmitter loaded
   pub sends : Sends planned cfn loaded sent before after
 
 -- a radio frame is kept for a CFN, or that it is missing
@@ -150,33 +150,33 @@ pub record Hears (planned : Planned) (cfn : ℕ) (radio : Option Radio) (old new
   pub others : (k : ℕ) → k ≢ cfn % 8 → rx_frame_at new.frames k ≡ rx_frame_at old.frames k
 
 -- a set was served
-pub record Served (planned : Planned) (rx_frames : RxFrames) (set : ℕ) (letter : Letter) (receiver : Receiver) (before after : Text) : Type 0 where
+pub record Delivered (planned : Planned) (rx_frames : RxFrames) (set : ℕ) (tx_buffer : IubTxBuffer) (receiver : UplinkReceiver) (before after : Text) : Type 0 where
   pub text : List ℕ
   pub few : length text ≤ 300000
-  pub serves : ServesSet planned rx_frames set text letter.sent
+  pub serves : DeliversSet planned rx_frames set text tx_buffer.sent
   pub told : after ≡ record before { text = before.text ++ text }
-  pub letter_opened : IsLetterOf planned set letter
+  pub letter_opened : IsTxBufferOf planned set tx_buffer
   pub receiver_opened : IsReceiverOf planned receiver
   pub same : receiver.rx_frames ≡ rx_frames
 
 -- the first sets were served, and the others send nothing
-pub record AreServed (planned : Planned) (rx_frames : RxFrames) (count : ℕ) (letters : List Letter) (receiver : Receiver) (before after : Text) : Type 0 where
+pub record AreDelivered (planned : Planned) (rx_frames : RxFrames) (count : ℕ) (tx_buffers : List IubTxBuffer) (receiver : UplinkReceiver) (before after : Text) : Type 0 where
   pub texts : ℕ → List ℕ
-  pub sets : (s : ℕ) → s < count → ServesSet planned rx_frames s (texts s) (letter_at letters s).sent
-  pub later : (s : ℕ) → count ≤ s → s < 8 → (letter_at letters s).sent ≡ None
+  pub sets : (s : ℕ) → s < count → DeliversSet planned rx_frames s (texts s) (tx_buffer_at tx_buffers s).sent
+  pub later : (s : ℕ) → count ≤ s → s < 8 → (tx_buffer_at tx_buffers s).sent ≡ None
   pub few : length (joined texts count) ≤ count * 300000
   pub told : after ≡ record before { text = before.text ++ joined texts count }
-  pub letters_opened : AreLettersOf planned letters
+  pub letters_opened : AreTxBuffersOf planned tx_buffers
   pub receiver_opened : IsReceiverOf planned receiver
   pub same : receiver.rx_frames ≡ rx_frames
 
 -- an uplink radio frame came, or is missing, and all sets were served
-pub record Receives (planned : Planned) (cfn : ℕ) (radio : Option Radio) (old : RxFrames) (letters : List Letter) (receiver : Receiver) (before after : Text) : Type 0 where
+pub record Receives (planned : Planned) (cfn : ℕ) (radio : Option Radio) (old : RxFrames) (tx_buffers : List IubTxBuffer) (receiver : UplinkReceiver) (before after : Text) : Type 0 where
   pub hears : Hears planned cfn radio old receiver.rx_frames
-  pub served : AreServed planned receiver.rx_frames 8 letters receiver before after
+  pub served : AreDelivered planned receiver.rx_frames 8 tx_buffers receiver before after
 
--- the letters of the first sets are new
-pub record AreNewLetters (planned : Planned) (count : ℕ) (letters : List Letter) : Type 0 where
-  pub all : length letters ≡ count
-  pub each : (s : ℕ) → s < count → IsLetterOf planned s (letter_at letters s)
-  pub quiet : (s : ℕ) → s < count → (letter_at letters s).sent ≡ None
+-- the transmit buffers of the first sets are new
+pub record AreNewTxBuffers (planned : Planned) (count : ℕ) (tx_buffers : List IubTxBuffer) : Type 0 where
+  pub all : length tx_buffers ≡ count
+  pub each : (s : ℕ) → s < count → IsTxBufferOf planned s (tx_buffer_at tx_buffers s)
+  pub quiet : (s : ℕ) → s < count → (tx_buffer_at tx_buffers s).sent ≡ None

@@ -9,18 +9,18 @@ use Rattle.dch_ttibuf.specs.Loaded.{Loaded, loaded_at}
 use Rattle.dch_dlphy.specs.Loaded.{IsTtiOf}
 use Rattle.dch_ulphy.specs.Kept.{IsReaderOf}
 use Rattle.dch_iub.specs.Longest.{IsLongest}
-use Rattle.dch_nodeb.specs.Values.{Letter, Node, Place, Receiver, Sender, letter_at, place_at}
+use Rattle.dch_nodeb.specs.Values.{IubTxBuffer, Node, IubRxBuffer, UplinkReceiver, DownlinkTransmitter, tx_buffer_at, rx_buffer_at}
 
--- a place for each set, which is one of that set
-pub record ArePlacesOf (planned : Planned) (places : List Place) : Type 0 where
-  pub all : length places ≡ 8
-  pub each : (s : ℕ) → s < 8 → IsSetOf planned.config Down s (place_at places s).held
+-- a receive buffer for each set, which is one of that set
+pub record AreRxBuffersOf (planned : Planned) (rx_buffers : List IubRxBuffer) : Type 0 where
+  pub all : length rx_buffers ≡ 8
+  pub each : (s : ℕ) → s < 8 → IsSetOf planned.config Down s (rx_buffer_at rx_buffers s).held
 
 -- what sends radio frames fits the downlink
-pub record IsSenderOf (planned : Planned) (sender : Sender) : Type 0 where
-  pub running : IsTtiOf planned sender.running
-  pub frame : IsOpenedFor planned.config Down sender.frame
-  pub eight : length sender.formats ≡ 8
+pub record IsTransmitterOf (planned : Planned) (transmitter : DownlinkTransmitter) : Type 0 where
+  pub running : IsTtiOf planned transmitter.running
+  pub frame : IsOpenedFor planned.config Down transmitter.frame
+  pub eight : length transmitter.formats ≡ 8
 
 -- the noted formats are those that are loaded
 abbrev pub AreNoted : Planned → List ℕ → List Loaded → Type 0
@@ -28,24 +28,24 @@ AreNoted planned formats tti =
     (i : ℕ) → i < length planned.config.downlink.side.channels → (loaded_at tti i).format ≡ Some (slice_index formats i)
 
 -- what receives radio frames fits the uplink
-pub record IsReceiverOf (planned : Planned) (receiver : Receiver) : Type 0 where
+pub record IsReceiverOf (planned : Planned) (receiver : UplinkReceiver) : Type 0 where
   pub rx_frames : IsReaderOf planned receiver.rx_frames
   pub tti : HoldsTtis planned.config.uplink.side receiver.tti.room
 
 -- an Iub frame of a set, with room for the longest one
-pub record IsLetterOf (planned : Planned) (set : ℕ) (letter : Letter) : Type 0 where
-  pub held : IsSetOf planned.config Up set letter.held
-  pub room : IsLongest planned.config Up set letter.room
+pub record IsTxBufferOf (planned : Planned) (set : ℕ) (tx_buffer : IubTxBuffer) : Type 0 where
+  pub held : IsSetOf planned.config Up set tx_buffer.held
+  pub room : IsLongest planned.config Up set tx_buffer.room
 
 -- one for each set
-pub record AreLettersOf (planned : Planned) (letters : List Letter) : Type 0 where
-  pub all : length letters ≡ 8
-  pub each : (s : ℕ) → s < 8 → IsLetterOf planned s (letter_at letters s)
+pub record AreTxBuffersOf (planned : Planned) (tx_buffers : List IubTxBuffer) : Type 0 where
+  pub all : length tx_buffers ≡ 8
+  pub each : (s : ℕ) → s < 8 → IsTxBufferOf planned s (tx_buffer_at tx_buffers s)
 
 -- all parts were opened for the configuration
 pub record IsNodeOf (planned : Planned) (node : Node) : Type 0 where
-  pub places : ArePlacesOf planned node.places
-  pub sender : IsSenderOf planned node.sender
-  pub noted : AreNoted planned node.sender.formats node.sender.running.loaded
+  pub rx_buffers : AreRxBuffersOf planned node.rx_buffers
+  pub transmitter : IsTransmitterOf planned node.transmitter
+  pub noted : AreNoted planned node.transmitter.formats node.transmitter.running.loaded
   pub receiver : IsReceiverOf planned node.receiver
-  pub letters : AreLettersOf planned node.letters
+  pub tx_buffers : AreTxBuffersOf planned node.tx_buffers

@@ -6,27 +6,27 @@ use Rattle.dch_accept.specs.Plans.{Planned}
 use Rattle.dch_iub.specs.Forms.{IsWrittenForm}
 use Rattle.dch_script.specs.Held.{Held as Text}
 use Rattle.dch_script.specs.Report.{iub_text}
-use Rattle.dch_nodeb.specs.Opened.{IsLetterOf}
+use Rattle.dch_nodeb.specs.Opened.{IsTxBufferOf}
 use Rattle.dch_nodeb.specs.Steps.{as_line}
-use Rattle.dch_nodeb.specs.Values.{Letter, letter_at}
+use Rattle.dch_nodeb.specs.Values.{IubTxBuffer, tx_buffer_at}
 
 -- octets that are lent, as a list
 abbrev pub octets_of : Option (Bor (List ℕ)) → Option (List ℕ)
 octets_of None = None
 octets_of (Some octets) = Some octets.now
 
--- the first letters show nothing any more
-pub record AreHiddenTo (count : ℕ) (old new : List Letter) : Type 0 where
+-- the first transmit buffers show nothing any more
+pub record AreClearedTo (count : ℕ) (old new : List IubTxBuffer) : Type 0 where
   pub all : length new ≡ length old
-  pub each : (s : ℕ) → s < count → letter_at new s ≡ record (letter_at old s) { sent = None }
-  pub later : (s : ℕ) → count ≤ s → letter_at new s ≡ letter_at old s
+  pub each : (s : ℕ) → s < count → tx_buffer_at new s ≡ record (tx_buffer_at old s) { sent = None }
+  pub later : (s : ℕ) → count ≤ s → tx_buffer_at new s ≡ tx_buffer_at old s
 
-abbrev pub AreHidden : List Letter → List Letter → Type 0
-AreHidden old new = AreHiddenTo 8 old new
+abbrev pub AreCleared : List IubTxBuffer → List IubTxBuffer → Type 0
+AreCleared old new = AreClearedTo 8 old new
 
 -- the frame of a set's blocks is written and told
-pub record SendsUp (planned : Planned) (set start : ℕ) (old new : Letter) (before after : Text) : Type 0 where
-  pub opened : IsLetterOf planned set new
+pub record SendsUp (planned : Planned) (set start : ℕ) (old new : IubTxBuffer) (before after : Text) : Type 0 where
+  pub opened : IsTxBufferOf planned set new
   pub held : new.held ≡ old.held
   pub octets : List ℕ
   pub sent : new.sent ≡ Some octets

@@ -8,10 +8,10 @@ use Rattle.dch_rxframes.specs.RxFrames.{rx_frame_at}
 use Rattle.dch_iub.specs.Shape.{ForSet}
 use Rattle.dch_nodeb.specs.declared.event.NodeBEvent.{NodeBEvent}
 use Rattle.dch_nodeb.specs.declared.event.NodeBEvent.TheVariants.{Iub, Down as Due, Phy}
-use Rattle.dch_nodeb.specs.History.{After}
-use Rattle.dch_nodeb.specs.State.{Happening, Arrives, Leaves, Comes, KeptFrame, Output, Radio, State}
+use Rattle.dch_nodeb.specs.History.{Reaches}
+use Rattle.dch_nodeb.specs.State.{Event, IubFrame, DownlinkDue, UplinkFrame, DownlinkIubFrame, Output, Radio, State}
 use Rattle.dch_nodeb.specs.Steps.{AreAllLoaded, KeepsRadio, Steps, blocks_at}
-use Rattle.dch_nodeb.specs.Values.{Node, Place, iub_shown, place_at, radio_shown}
+use Rattle.dch_nodeb.specs.Values.{Node, IubRxBuffer, iub_shown, rx_buffer_at, radio_shown}
 
 -- a radio frame that is lent, as plain lists
 abbrev pub radio_of : Option FrameView → Option Radio
@@ -19,10 +19,10 @@ radio_of None = None
 radio_of (Some frame) = Some (record { tfci = frame.tfci.now; cells = frame.cells.now })
 
 -- what happens, as plain lists
-abbrev pub happening_of : NodeBEvent → Happening
-happening_of (Iub set frame) = Arrives set frame.now
-happening_of Due = Leaves
-happening_of (Phy frame) = Comes (radio_of frame)
+abbrev pub event_of : NodeBEvent → Event
+event_of (Iub set frame) = IubFrame set frame.now
+event_of Due = DownlinkDue
+event_of (Phy frame) = UplinkFrame (radio_of frame)
 
 -- a channel of the direction belongs to the set
 pub record HasSet (side : Side) (set : ℕ) : Type 0 where
@@ -41,16 +41,16 @@ MayCome planned (Iub set frame) = HasSet planned.config.downlink.side set
 MayCome planned Due = Unit {0}
 MayCome planned (Phy frame) = HasTfci frame
 
--- a place has the frame that is kept for a set, if one is
-abbrev pub KeepsFrame : Side → ℕ → Option KeptFrame → Place → Type 0
-KeepsFrame side set None place = place.cfn ≡ None
-KeepsFrame side set (Some frame) place = (place.cfn ≡ Some frame.cfn) × ForSet side set (λ i. blocks_at place.held i ≡ frame.blocks i)
+-- a receive buffer has the frame that is kept for a set, if one is
+abbrev pub KeepsFrame : Side → ℕ → Option DownlinkIubFrame → IubRxBuffer → Type 0
+KeepsFrame side set None rx_buffer = rx_buffer.cfn ≡ None
+KeepsFrame side set (Some frame) rx_buffer = (rx_buffer.cfn ≡ Some frame.cfn) × ForSet side set (λ i. blocks_at rx_buffer.held i ≡ frame.blocks i)
 
 -- a Node B stands for a state
-pub record Stands (planned : Planned) (state : State) (node : Node) : Type 0 where
+pub record Represents (planned : Planned) (state : State) (node : Node) : Type 0 where
   pub cfn : node.cfn ≡ state.cfn
-  pub kept : (s : ℕ) → s < 8 → KeepsFrame planned.config.downlink.side s (state.kept s) (place_at node.places s)
-  pub given : AreAllLoaded planned state.given node.sender.running.loaded
+  pub kept : (s : ℕ) → s < 8 → KeepsFrame planned.config.downlink.side s (state.kept s) (rx_buffer_at node.rx_buffers s)
+  pub given : AreAllLoaded planned state.given node.transmitter.running.loaded
   pub frames : (k : ℕ) → k < 8 → KeepsRadio planned (state.frames k) (rx_frame_at node.receiver.rx_frames.frames k)
 
 -- it shows what the last step sent
@@ -59,29 +59,29 @@ pub record Shows (output : Output) (node : Node) : Type 0 where
   pub iub : (s : ℕ) → s < 8 → iub_shown node s ≡ output.iub s
 
 -- nothing is shown as sent
-pub record IsQuiet (node : Node) : Type 0 where
-  pub radio : node.sender.sent ≡ false
+pub record NothingSent (node : Node) : Type 0 where
+  pub radio : node.transmitter.sent ≡ false
   pub iub : (s : ℕ) → s < 8 → iub_shown node s ≡ None
 
 -- a step was taken from a state, and the report went on by its text
-pub record Stepped (planned : Planned) (old : State) (happening : Happening) (node : Node) (before after : List ℕ) : Type 0 where
+pub record Stepped (planned : Planned) (old : State) (event : Event) (node : Node) (before after : List ℕ) : Type 0 where
   pub next : State
   pub output : Output
-  pub step : Steps planned old happening next output
-  pub stands : Stands planned next node
+  pub step : Steps planned old event next output
+  pub stands : Represents planned next node
   pub shows : Shows output node
   pub told : after ≡ before ++ output.text
 
 -- a Node B stands for what happened since opening, with the text of all reports
-pub record StandsFor (planned : Planned) (first : ℕ) (happenings : List Happening) (text : List ℕ) (node : Node) : Type 0 where
+pub record RepresentsHistory (planned : Planned) (first : ℕ) (events : List Event) (text : List ℕ) (node : Node) : Type 0 where
   pub state : State
   pub last : Output
-  pub after : After planned first happenings state last text
-  pub stands : Stands planned state node
+  pub after : Reaches planned first events state last text
+  pub stands : Represents planned state node
   pub shows : Shows last node
 
--- one more happening, with the text by which the report went on
-pub record WentOn (planned : Planned) (first : ℕ) (happenings : List Happening) (text : List ℕ) (happening : Happening) (node : Node) (before after : List ℕ) : Type 0 where
+-- one more event, with the text by which the report went on
+pub record ExtendsHistory (planned : Planned) (first : ℕ) (events : List Event) (text : List ℕ) (event : Event) (node : Node) (before after : List ℕ) : Type 0 where
   pub own : List ℕ
-  pub stands : StandsFor planned first (happenings ++ happening ∷ []) (text ++ own) node
+  pub stands : RepresentsHistory planned first (events ++ event ∷ []) (text ++ own) node
   pub told : after ≡ before ++ own

@@ -3,13 +3,13 @@
 
 mod downlink;
 mod event;
-mod letter;
+mod iub_rx_buffer;
+mod iub_tx_buffer;
 mod node;
-mod place;
 mod receiver;
 mod report;
-mod sender;
 mod sets;
+mod transmitter;
 mod uplink;
 
 pub use event::NodeBEvent;

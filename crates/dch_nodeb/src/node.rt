@@ -3,17 +3,17 @@ ghost use Rattle.dch_accept.specs.Reports.{step_bytes};
 ghost use Rattle.dch_nodeb.specs.Opened.{IsNodeOf};
 ghost use Rattle.dch_nodeb.specs.Rooms.{HasRoomFor};
 ghost use Rattle.dch_nodeb.specs.Sending.{octets_of};
-ghost use Rattle.dch_nodeb.specs.Standing.{HasSet, HasTfci, IsQuiet, MayCome, Stands, StandsFor, Stepped, WentOn, happening_of, radio_of};
-ghost use Rattle.dch_nodeb.specs.State.{Arrives, Comes, Happening, Leaves, State};
+ghost use Rattle.dch_nodeb.specs.Standing.{HasSet, HasTfci, NothingSent, MayCome, Represents, RepresentsHistory, Stepped, ExtendsHistory, event_of, radio_of};
+ghost use Rattle.dch_nodeb.specs.State.{IubFrame, UplinkFrame, Event, DownlinkDue, State};
 ghost use Rattle.dch_nodeb.specs.Values.{iub_shown, radio_shown};
 
-use crate::downlink::{depart, load};
+use crate::downlink::{load, transmit};
 use crate::event::NodeBEvent;
-use crate::letter::{Letter, hide, letters};
-use crate::place::{Place, keep, places};
-use crate::receiver::Receiver;
-use crate::sender::Sender;
+use crate::iub_rx_buffer::{IubRxBuffer, keep, rx_buffers};
+use crate::iub_tx_buffer::{IubTxBuffer, clear_sent, tx_buffers};
+use crate::receiver::UplinkReceiver;
 use crate::sets::downlink;
+use crate::transmitter::DownlinkTransmitter;
 use crate::uplink::receive;
 use dch_accept::{Accepted, FrameView};
 use dch_bits::NoMemory;
@@ -25,10 +25,10 @@ use std::marker::Model;
 #[derive(Drop)]
 pub struct NodeB {
     cfn: u8,
-    places: Vec<Place>,
-    sender: Sender,
-    receiver: Receiver,
-    letters: Vec<Letter>,
+    rx_buffers: Vec<IubRxBuffer>,
+    transmitter: DownlinkTransmitter,
+    receiver: UplinkReceiver,
+    tx_buffers: Vec<IubTxBuffer>,
 }
 
 impl Model for NodeB {
@@ -37,9 +37,9 @@ impl Model for NodeB {
 
     ghost Value = { Node };
 
-    ghost view = { λ n. record { cfn = n.cfn; places = n.places.items; sender = n.sender; receiver = n.receiver; letters = n.letters.items } };
+    ghost view = { λ n. record { cfn = n.cfn; rx_buffers = n.rx_buffers.items; transmitter = n.transmitter; receiver = n.receiver; tx_buffers = n.tx_buffers.items } };
 
-    ghost invariant = { λ n. length n.letters.items ≡ 8 };
+    ghost invariant = { λ n. length n.tx_buffers.items ≡ 8 };
 }
 
 impl NodeB {
@@ -48,19 +48,19 @@ impl NodeB {
     pub fn open(alloc: Global, accepted: &Accepted, first_cfn: u8) -> Result<NodeB, NoMemory>
         requires { first_cfn % 8 ≡ 0 }
         ensures opened { IfOk result (IsNodeOf accepted.now) }
-        ensures stands { IfOk result (StandsFor accepted.now first_cfn [] []) }
+        ensures stands { IfOk result (RepresentsHistory accepted.now first_cfn [] []) }
     {
         // The channels of a set have TTIs of one length in a good configuration.
         let _side = downlink(accepted);
-        let places = places(alloc, accepted)?;
-        let mut sender = Sender::open(alloc, accepted)?;
-        load(accepted, first_cfn, &places, &mut sender);
+        let rx_buffers = rx_buffers(alloc, accepted)?;
+        let mut transmitter = DownlinkTransmitter::open(alloc, accepted)?;
+        load(accepted, first_cfn, &rx_buffers, &mut transmitter);
         Ok(NodeB {
             cfn: first_cfn,
-            places,
-            sender,
-            receiver: Receiver::open(alloc, accepted)?,
-            letters: letters(alloc, accepted)?,
+            rx_buffers,
+            transmitter,
+            receiver: UplinkReceiver::open(alloc, accepted)?,
+            tx_buffers: tx_buffers(alloc, accepted)?,
         })
     }
 
@@ -70,9 +70,9 @@ impl NodeB {
         requires event { MayCome accepted.now event }
         requires room { HasRoomFor report.old (step_bytes accepted.now.config) }
         ensures opened { IsNodeOf accepted.now self.new }
-        ensures step { (state : State) → Stands accepted.now state self.old → Stepped accepted.now state (happening_of event.entry) self.new report.old.text report.new.text }
-        ensures history { (first : ℕ) (happenings : List Happening) (text : List ℕ) → StandsFor accepted.now first happenings text self.old →
-            WentOn accepted.now first happenings text (happening_of event.entry) self.new report.old.text report.new.text }
+        ensures step { (state : State) → Represents accepted.now state self.old → Stepped accepted.now state (event_of event.entry) self.new report.old.text report.new.text }
+        ensures history { (first : ℕ) (events : List Event) (text : List ℕ) → RepresentsHistory accepted.now first events text self.old →
+            ExtendsHistory accepted.now first events text (event_of event.entry) self.new report.old.text report.new.text }
         ensures few { length report.new.text ≤ length report.old.text + 4000000 }
         ensures most { report.new.most ≡ report.old.most }
     {
@@ -86,7 +86,7 @@ impl NodeB {
     pub fn sent(&self) -> Option<FrameView<'_>>
         ensures { radio_of result ≡ radio_shown self.now }
     {
-        self.sender.view()
+        self.transmitter.view()
     }
 
     /// The uplink Iub frame of a set that the last step sent, if it sent one.
@@ -94,7 +94,7 @@ impl NodeB {
         requires { set < 8 }
         ensures { octets_of result ≡ iub_shown self.now set }
     {
-        self.letters[set as usize].octets()
+        self.tx_buffers[set as usize].octets()
     }
 
     /// Hides what the last step sent, and takes one event.
@@ -103,72 +103,77 @@ impl NodeB {
         requires event { MayCome accepted.now event }
         requires room { HasRoomFor report.old 4000000 }
         ensures opened { IsNodeOf accepted.now self.new }
-        ensures step { (state : State) → Stands accepted.now state self.old → Stepped accepted.now state (happening_of event.entry) self.new report.old.text report.new.text }
+        ensures step { (state : State) → Represents accepted.now state self.old → Stepped accepted.now state (event_of event.entry) self.new report.old.text report.new.text }
         ensures few { length report.new.text ≤ length report.old.text + 4000000 }
         ensures most { report.new.most ≡ report.old.most }
     {
-        self.hide(accepted);
+        self.clear_sent(accepted);
         match event {
-            NodeBEvent::Iub { set, frame } => self.arrive(accepted, set, frame, report),
-            NodeBEvent::Down => self.leave(accepted, report),
-            NodeBEvent::Phy { frame } => self.come(accepted, frame, report),
+            NodeBEvent::Iub { set, frame } => self.receive_iub(accepted, set, frame, report),
+            NodeBEvent::Down => self.transmit_radio(accepted, report),
+            NodeBEvent::Phy { frame } => self.receive_radio(accepted, frame, report),
         }
     }
 
     /// Nothing is shown as sent.
-    fn hide(&mut self, accepted: &Accepted)
+    fn clear_sent(&mut self, accepted: &Accepted)
         requires { IsNodeOf accepted.now self.old }
         ensures opened { IsNodeOf accepted.now self.new }
-        ensures quiet { IsQuiet self.new }
-        ensures stands { (state : State) → Stands accepted.now state self.old → Stands accepted.now state self.new }
+        ensures quiet { NothingSent self.new }
+        ensures stands { (state : State) → Represents accepted.now state self.old → Represents accepted.now state self.new }
     {
-        self.sender.hide();
-        hide(&mut self.letters);
+        self.transmitter.clear_sent();
+        clear_sent(&mut self.tx_buffers);
     }
 
     /// An Iub frame arrives for a set.
-    fn arrive(&mut self, accepted: &Accepted, set: u8, frame: &[u8], report: &mut Report)
+    fn receive_iub(&mut self, accepted: &Accepted, set: u8, frame: &[u8], report: &mut Report)
         requires opened { IsNodeOf accepted.now self.old }
-        requires quiet { IsQuiet self.old }
+        requires quiet { NothingSent self.old }
         requires set { HasSet accepted.now.config.downlink.side set }
         requires room { HasRoomFor report.old 4000000 }
         ensures opened { IsNodeOf accepted.now self.new }
-        ensures step { (state : State) → Stands accepted.now state self.old → Stepped accepted.now state (Arrives set frame.now) self.new report.old.text report.new.text }
+        ensures step { (state : State) → Represents accepted.now state self.old → Stepped accepted.now state (IubFrame set frame.now) self.new report.old.text report.new.text }
         ensures few { length report.new.text ≤ length report.old.text + 4000000 }
         ensures most { report.new.most ≡ report.old.most }
     {
-        keep(accepted, set, frame, &mut self.places, report);
+        keep(accepted, set, frame, &mut self.rx_buffers, report);
     }
 
     /// The downlink radio frame is due.
-    fn leave(&mut self, accepted: &Accepted, report: &mut Report)
+    fn transmit_radio(&mut self, accepted: &Accepted, report: &mut Report)
         requires opened { IsNodeOf accepted.now self.old }
-        requires quiet { IsQuiet self.old }
+        requires quiet { NothingSent self.old }
         requires room { HasRoomFor report.old 4000000 }
         ensures opened { IsNodeOf accepted.now self.new }
-        ensures step { (state : State) → Stands accepted.now state self.old → Stepped accepted.now state Leaves self.new report.old.text report.new.text }
+        ensures step { (state : State) → Represents accepted.now state self.old → Stepped accepted.now state DownlinkDue self.new report.old.text report.new.text }
         ensures few { length report.new.text ≤ length report.old.text + 4000000 }
         ensures most { report.new.most ≡ report.old.most }
     {
         // The channels of a set have TTIs of one length in a good configuration.
         let _side = downlink(accepted);
-        depart(
+        transmit(
             accepted,
             self.cfn,
-            &mut self.places,
-            &mut self.sender,
+            &mut self.rx_buffers,
+            &mut self.transmitter,
             report,
         );
     }
 
     /// The uplink radio frame came, or is missing. The CFN goes on.
-    fn come(&mut self, accepted: &Accepted, frame: Option<FrameView<'_>>, report: &mut Report)
+    fn receive_radio(
+        &mut self,
+        accepted: &Accepted,
+        frame: Option<FrameView<'_>>,
+        report: &mut Report,
+    )
         requires opened { IsNodeOf accepted.now self.old }
-        requires quiet { IsQuiet self.old }
+        requires quiet { NothingSent self.old }
         requires tfci { HasTfci frame }
         requires room { HasRoomFor report.old 4000000 }
         ensures opened { IsNodeOf accepted.now self.new }
-        ensures step { (state : State) → Stands accepted.now state self.old → Stepped accepted.now state (Comes (radio_of frame.entry)) self.new report.old.text report.new.text }
+        ensures step { (state : State) → Represents accepted.now state self.old → Stepped accepted.now state (UplinkFrame (radio_of frame.entry)) self.new report.old.text report.new.text }
         ensures few { length report.new.text ≤ length report.old.text + 4000000 }
         ensures most { report.new.most ≡ report.old.most }
     {
@@ -177,7 +182,7 @@ impl NodeB {
             self.cfn,
             frame,
             &mut self.receiver,
-            &mut self.letters,
+            &mut self.tx_buffers,
             report,
         );
         self.cfn = self.cfn.wrapping_add(1);

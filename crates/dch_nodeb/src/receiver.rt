@@ -28,26 +28,26 @@ pub struct BadTti {
 
 /// What receives the uplink's radio frames, with room for the blocks of a TTI.
 #[derive(Drop)]
-pub struct Receiver {
+pub struct UplinkReceiver {
     reader: UlReader,
     tti: TtiBlocks,
 }
 
-impl Model for Receiver {
-    ghost use Rattle.dch_nodeb.specs.Values.{Receiver};
+impl Model for UplinkReceiver {
+    ghost use Rattle.dch_nodeb.specs.Values.{UplinkReceiver};
 
-    ghost Value = { Receiver };
+    ghost Value = { UplinkReceiver };
 
     ghost view = { λ r. record { rx_frames = r.reader; tti = r.tti } };
 }
 
-impl Receiver {
+impl UplinkReceiver {
     /// Takes all memory that receiving wants. No frame is there.
-    pub fn open(alloc: Global, accepted: &Accepted) -> Result<Receiver, NoMemory>
+    pub fn open(alloc: Global, accepted: &Accepted) -> Result<UplinkReceiver, NoMemory>
         ensures opened { IfOk result (IsReceiverOf accepted.now) }
         ensures missing { IfOk result (λ receiver. AreMissing accepted.now 8 receiver.rx_frames.frames) }
     {
-        Ok(Receiver {
+        Ok(UplinkReceiver {
             reader: UlReader::open(alloc, accepted)?,
             tti: TtiBlocks::open(alloc, accepted, Dir::Up)?,
         })

@@ -55,8 +55,8 @@ pub fn started(frames: u8, cfn: u8) -> u8
     cfn / frames * frames
 }
 
-/// The place of a set that the downlink has.
-pub fn place_of(accepted: &Accepted, set: u8) -> usize
+/// The receive buffer of a set that the downlink has.
+pub fn rx_buffer_of(accepted: &Accepted, set: u8) -> usize
     requires { HasSet accepted.now.config.downlink.side set }
     ensures value { result ≡ set }
     ensures inside { result < 8 }

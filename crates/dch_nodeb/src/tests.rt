@@ -78,7 +78,7 @@ fn has_set(accepted: &Accepted, set: u8) -> bool
 }
 
 /// Takes the uplink radio frame of these letters.
-fn come(
+fn receive_radio(
     accepted: &Accepted,
     node: &mut NodeB,
     tfci: &[u8],
@@ -126,7 +126,7 @@ fn take(
             node.step(accepted, NodeBEvent::Iub { set, frame }, report);
         }
         Happens::Down => node.step(accepted, NodeBEvent::Down, report),
-        Happens::Phy(tfci, cells) => come(accepted, node, tfci, cells, report)?,
+        Happens::Phy(tfci, cells) => receive_radio(accepted, node, tfci, cells, report)?,
         Happens::None => node.step(accepted, NodeBEvent::Phy { frame: None }, report),
     }
     Ok(())

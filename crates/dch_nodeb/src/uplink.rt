@@ -1,35 +1,35 @@
 ghost use Rattle.std.specs.Prelude.{◌≡◌, ◌<◌, ℕ, None};
-ghost use Rattle.dch_nodeb.specs.Moves.{Receives, Served};
-ghost use Rattle.dch_nodeb.specs.Opened.{AreLettersOf, IsLetterOf, IsReceiverOf};
+ghost use Rattle.dch_nodeb.specs.Moves.{Receives, Delivered};
+ghost use Rattle.dch_nodeb.specs.Opened.{AreTxBuffersOf, IsTxBufferOf, IsReceiverOf};
 ghost use Rattle.dch_nodeb.specs.Rooms.{HasRoomFor};
 ghost use Rattle.dch_nodeb.specs.Standing.{HasTfci, radio_of};
-ghost use Rattle.dch_nodeb.specs.Values.{letter_at};
+ghost use Rattle.dch_nodeb.specs.Values.{tx_buffer_at};
 
-use crate::letter::Letter;
-use crate::receiver::Receiver;
+use crate::iub_tx_buffer::IubTxBuffer;
+use crate::receiver::UplinkReceiver;
 use crate::sets::{SETS, set_frames, started, starts, uplink};
 use dch_accept::{Accepted, FrameView};
 use dch_script::Report;
 
 /// Serves a set: where its TTI ends with the radio frame of the CFN, its Iub frame is sent.
-fn serve(
+fn deliver_set(
     accepted: &Accepted,
     set: u8,
     cfn: u8,
-    receiver: &mut Receiver,
-    letter: &mut Letter,
+    receiver: &mut UplinkReceiver,
+    tx_buffer: &mut IubTxBuffer,
     report: &mut Report,
 )
     requires last { receiver.old.rx_frames.cfn ≡ cfn }
     requires receiver { IsReceiverOf accepted.now receiver.old }
-    requires letter { IsLetterOf accepted.now set letter.old }
-    requires quiet { letter.old.sent ≡ None }
+    requires tx_buffer { IsTxBufferOf accepted.now set tx_buffer.old }
+    requires quiet { tx_buffer.old.sent ≡ None }
     requires room { HasRoomFor report.old 300000 }
-    ensures { Served accepted.now receiver.old.rx_frames set letter.new receiver.new report.old report.new }
+    ensures { Delivered accepted.now receiver.old.rx_frames set tx_buffer.new receiver.new report.old report.new }
 {
     let frames = set_frames(uplink(accepted), set);
     if starts(frames, u16::from(cfn) + 1) {
-        letter.serve(accepted, set, started(frames, cfn), receiver, report);
+        tx_buffer.deliver_set(accepted, set, started(frames, cfn), receiver, report);
     }
 }
 
@@ -38,25 +38,25 @@ pub fn receive(
     accepted: &Accepted,
     cfn: u8,
     frame: Option<FrameView<'_>>,
-    receiver: &mut Receiver,
-    letters: &mut [Letter],
+    receiver: &mut UplinkReceiver,
+    tx_buffers: &mut [IubTxBuffer],
     report: &mut Report,
 )
     requires receiver { IsReceiverOf accepted.now receiver.old }
-    requires letters { AreLettersOf accepted.now letters.old }
-    requires quiet { (s : ℕ) → s < 8 → (letter_at letters.old s).sent ≡ None }
+    requires tx_buffers { AreTxBuffersOf accepted.now tx_buffers.old }
+    requires quiet { (s : ℕ) → s < 8 → (tx_buffer_at tx_buffers.old s).sent ≡ None }
     requires tfci { HasTfci frame }
     requires room { HasRoomFor report.old 2400000 }
-    ensures { Receives accepted.now cfn (radio_of frame.entry) receiver.old.rx_frames letters.new receiver.new report.old report.new }
+    ensures { Receives accepted.now cfn (radio_of frame.entry) receiver.old.rx_frames tx_buffers.new receiver.new report.old report.new }
 {
     receiver.push(accepted, cfn, frame);
     for set in 0..SETS {
-        serve(
+        deliver_set(
             accepted,
             set,
             cfn,
             receiver,
-            &mut letters[set as usize],
+            &mut tx_buffers[set as usize],
             report,
         );
     }

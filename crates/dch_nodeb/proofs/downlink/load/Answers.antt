@@ -5,7 +5,7 @@ use Rattle.dch_types.specs.Parts.{channel_at}
 use Rattle.dch_accept.specs.HeldSets.{held_at}
 use Rattle.dch_nodeb.specs.Moves.{AreGiven}
 use Rattle.dch_nodeb.specs.Sets.{starts}
-use Rattle.dch_nodeb.specs.Values.{Sender, place_at}
+use Rattle.dch_nodeb.specs.Values.{DownlinkTransmitter, rx_buffer_at}
 use Rattle.dch_nodeb.proofs.Giving.{given_off, given_on}
 use Rattle.dch_nodeb.proofs.downlink.load.Goals as goal
 use Rattle.dch_nodeb.proofs.downlink.load.Goals.{then-starts, else-starts}
@@ -18,9 +18,9 @@ loop-i-preserved c =
     let test : starts (channel_at planned.config.downlink.side i).frames c.args.cfn ≡ c.starts.result =
     ap₂ (λ (t : Trch) (n : ℕ). starts t.frames n) (sym channel) (sym c.from.ensures) ∙ sym c.starts.ensures.value in
     elim c.if-starts.branch [
-      | then-starts w ↦ subst (λ (sender : Sender). AreGiven planned c.args.cfn (i + 1) c.args.places.now c.args.sender.now sender) (sym w.sender-is)
-          (given_on planned c.args.cfn i c.args.places.now w.blocks_of.result.now c.args.sender.now c.loop-i.sender w.load.new.self c.loop-i.invariant (test ∙ w.if-starts.true)
-          (w.blocks_of.ensures ∙ ap (λ (t : Trch). held_at (place_at c.args.places.now t.set).held.blocks i) channel) w.load.ensures)
-      | else-starts w ↦ subst (λ (sender : Sender). AreGiven planned c.args.cfn (i + 1) c.args.places.now c.args.sender.now sender) (sym w.sender-is)
-          (given_off planned c.args.cfn i c.args.places.now c.args.sender.now c.loop-i.sender c.loop-i.invariant (test ∙ w.if-starts.false))
+      | then-starts w ↦ subst (λ (transmitter : DownlinkTransmitter). AreGiven planned c.args.cfn (i + 1) c.args.rx_buffers.now c.args.transmitter.now transmitter) (sym w.transmitter-is)
+          (given_on planned c.args.cfn i c.args.rx_buffers.now w.blocks_of.result.now c.args.transmitter.now c.loop-i.transmitter w.load.new.self c.loop-i.invariant (test ∙ w.if-starts.true)
+          (w.blocks_of.ensures ∙ ap (λ (t : Trch). held_at (rx_buffer_at c.args.rx_buffers.now t.set).held.blocks i) channel) w.load.ensures)
+      | else-starts w ↦ subst (λ (transmitter : DownlinkTransmitter). AreGiven planned c.args.cfn (i + 1) c.args.rx_buffers.now c.args.transmitter.now transmitter) (sym w.transmitter-is)
+          (given_off planned c.args.cfn i c.args.rx_buffers.now c.args.transmitter.now c.loop-i.transmitter c.loop-i.invariant (test ∙ w.if-starts.false))
     ]

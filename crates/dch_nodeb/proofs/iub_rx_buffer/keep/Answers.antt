@@ -1,0 +1,19 @@
+use Rattle.std.proofs.Common.{◌<◌, sym, subst, arith}
+use Rattle.dch_types.specs.declared.channel.Dir.TheVariants.{Down}
+use Rattle.dch_accept.specs.HeldSets.{IsSetOf}
+use Rattle.dch_nodeb.specs.Values.{IubRxBuffer}
+use Rattle.dch_nodeb.proofs.Keeping.{place_in, taken_keeps}
+use Rattle.dch_nodeb.proofs.iub_rx_buffer.keep.Goals as goal
+
+pub keep-requires : goal.keep-requires
+keep-requires c =
+    let small : c.args.set < 8 = omega (arith, c.rx_buffer_of.ensures.value, c.rx_buffer_of.ensures.inside) in
+    subst (λ (p : IubRxBuffer). IsSetOf c.args.accepted.now.config Down c.args.set p.held)
+    (sym (place_in c.args.accepted.now c.args.rx_buffers.now c.rx_buffer_of.result c.args.set c.index-rx_buffers-rx_buffer_of.result c.requires.rx_buffers c.rx_buffer_of.ensures.value small))
+    (c.requires.rx_buffers.each c.args.set small)
+
+pub returns-in-Ok : goal.returns-in-Ok
+returns-in-Ok c =
+    let small : c.args.set < 8 = omega (arith, c.rx_buffer_of.ensures.value, c.rx_buffer_of.ensures.inside) in
+    taken_keeps c.args.accepted.now c.args.set c.rx_buffer_of.result c.args.frame.now c.args.rx_buffers.now c.keep.new.self c.args.report.now c.rx_buffer_of.ensures.value small c.requires.rx_buffers
+    c.in-Ok.ensures.opened c.in-Ok.ensures.ok

@@ -1,0 +1,23 @@
+use Rattle.std.proofs.Common.{◌≡◌, ◌+◌, ◌∙◌, ℕ, List, ap, ap₂, refl, sym, subst, true, false}
+use Rattle.dch_types.specs.declared.channel.Side.{Side}
+use Rattle.dch_nodeb.specs.Moves.{AreReady, IsReady}
+use Rattle.dch_nodeb.specs.Sets.{set_frames, starts}
+use Rattle.dch_nodeb.specs.Values.{IubRxBuffer}
+use Rattle.dch_nodeb.proofs.Keeping.{place_in, ready_off, ready_on}
+use Rattle.dch_nodeb.proofs.iub_rx_buffer.ready.Goals as goal
+use Rattle.dch_nodeb.proofs.iub_rx_buffer.ready.Goals.{then-starts, else-starts}
+
+pub loop-set-preserved : goal.loop-set-preserved
+loop-set-preserved c =
+    let planned = c.args.accepted.now in
+    let set : ℕ = c.loop-set.set in
+    let frames : c.set_frames.result ≡ set_frames planned.config.downlink.side set = c.set_frames.ensures ∙ ap (λ (side : Side). set_frames side set) c.downlink-side.ensures.value in
+    let test : starts (set_frames planned.config.downlink.side set) c.args.cfn ≡ c.starts.result =
+    ap₂ (λ (f n : ℕ). starts f n) (sym frames) (sym c.from.ensures) ∙ sym c.starts.ensures.value in
+    elim c.if-starts.branch [
+      | then-starts w ↦ subst (λ (rx_buffers : List IubRxBuffer). AreReady planned c.args.cfn (set + 1) c.args.rx_buffers.now rx_buffers) (sym w.rx_buffers-is)
+          (ready_on planned c.args.cfn set c.args.rx_buffers.now c.loop-set.rx_buffers w.ready.new.self c.loop-set.invariant c.loop-set-test.true (test ∙ w.if-starts.true)
+          (subst (λ (p : IubRxBuffer). IsReady c.args.cfn p w.ready.new.self) (place_in planned c.loop-set.rx_buffers set set w.index-rx_buffers-set.result c.loop-set.invariant.opened refl c.loop-set-test.true) w.ready.ensures))
+      | else-starts w ↦ subst (λ (rx_buffers : List IubRxBuffer). AreReady planned c.args.cfn (set + 1) c.args.rx_buffers.now rx_buffers) (sym w.rx_buffers-is)
+          (ready_off planned c.args.cfn set c.args.rx_buffers.now c.loop-set.rx_buffers c.loop-set.invariant (test ∙ w.if-starts.false))
+    ]

@@ -1,0 +1,5 @@
+use Rattle.dch_nodeb.specs.Moves.{AreNewRxBuffers}
+use Rattle.dch_nodeb.proofs.iub_rx_buffer.rx_buffers.Given as goal
+
+abbrev pub invariant-loop-set : goal.invariant-loop-set
+invariant-loop-set l = AreNewRxBuffers l.accepted l.set l.rx_buffers.items

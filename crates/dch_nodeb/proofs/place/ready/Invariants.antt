@@ -1,5 +1,0 @@
-use Rattle.dch_nodeb.specs.Moves.{AreReady}
-use Rattle.dch_nodeb.proofs.place.ready.Given as goal
-
-abbrev pub invariant-loop-set : goal.invariant-loop-set
-invariant-loop-set l = AreReady l.accepted l.cfn l.set l.fn.places l.places
