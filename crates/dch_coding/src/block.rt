@@ -7,14 +7,11 @@ use crate::chain::code;
 use crate::memory::zeros;
 use dch_bits::{Bit, NoMemory};
 use dch_crc::{attach, size};
-use dch_types::{Coding, Crc, block_size};
+use dch_types::{Coding, Crc, MAX_BLOCK_BITS, block_size};
 use std::alloc::Global;
 
-/// The most bits of a transport block.
-const LONGEST: usize = 5000;
-
 /// The most bits of a transport block with its parity.
-const ATTACHED: usize = LONGEST + 24;
+const ATTACHED: usize = MAX_BLOCK_BITS + 24;
 
 /// The most bits of its code blocks, of which there are at most ten, with their filler.
 const BLOCKS: usize = ATTACHED + 10;

@@ -1,33 +1,30 @@
 ghost use Rattle.std.specs.Prelude.{◌≡◌, ◌+◌, ◌*◌, ◌≤◌, length};
 ghost use Rattle.dch_types.specs.Lengths.{crc_size, joined_bits, block_count, block_size, coded_bits, tti_bits};
 ghost use Rattle.dch_coding.specs.Ttis.{ArePartsUpTo, IsCodedTti};
-ghost use Rattle.dch_coding.specs.declared.tti.TheConstants.{MOST_BITS};
 
 use crate::chain::code;
 use crate::memory::zeros;
 use dch_bits::{Bit, NoMemory};
-use dch_crc::{attach, size};
-use dch_types::{Crc, Format, Trch, block_size};
+use dch_crc::attach;
+use dch_types::{Crc, Format, MAX_TTI_BITS, Trch, block_size};
 use std::alloc::Global;
 
-/// The most coded bits of a TTI. Its joined bits and its code blocks with their filler are no more.
-const MOST_BITS: usize = 131_072;
-
-/// The room to code all transport blocks of a TTI.
+/// The room to code all transport blocks of a TTI. Its joined bits and its code blocks with their filler are no more than its
+/// coded bits.
 #[derive(Drop)]
 pub struct TtiCoder {
     joined: Vec<Bit>,
     blocks: Vec<Bit>,
-    ghost joined_room: { length joined.items ≡ MOST_BITS },
-    ghost blocks_room: { length blocks.items ≡ MOST_BITS },
+    ghost joined_room: { length joined.items ≡ 131072 },
+    ghost blocks_room: { length blocks.items ≡ 131072 },
 }
 
 impl TtiCoder {
     /// Takes all memory that coding wants.
     pub fn open(alloc: Global) -> Result<TtiCoder, NoMemory> {
         Ok(TtiCoder {
-            joined: zeros(alloc, MOST_BITS)?,
-            blocks: zeros(alloc, MOST_BITS)?,
+            joined: zeros(alloc, MAX_TTI_BITS)?,
+            blocks: zeros(alloc, MAX_TTI_BITS)?,
         })
     }
 
@@ -61,8 +58,8 @@ fn code_into(
 )
     requires limit { tti_bits channel.now format.now ≤ 131072 }
     requires blocks { length blocks.now ≡ format.now.number * format.now.size }
-    requires joined { length joined.old ≡ MOST_BITS }
-    requires cut { length cut.old ≡ MOST_BITS }
+    requires joined { length joined.old ≡ 131072 }
+    requires cut { length cut.old ≡ 131072 }
     requires room { length out.old ≡ tti_bits channel.now format.now }
     ensures { IsCodedTti channel.now format.now blocks.now out.new }
 {
@@ -85,14 +82,14 @@ fn lengths_of(channel: &Trch, format: &Format) -> Lengths
     ensures joined { result.joined ≡ joined_bits channel.now format.now }
     ensures blocks { result.blocks ≡ block_count result.joined channel.now.coding * block_size result.joined (block_count result.joined channel.now.coding) }
     ensures coded { tti_bits channel.now format.now ≡ coded_bits channel.now.coding result.joined }
-    ensures few_joined { result.joined ≤ MOST_BITS }
-    ensures few_blocks { result.blocks ≤ MOST_BITS }
+    ensures few_joined { result.joined ≤ 131072 }
+    ensures few_blocks { result.blocks ≤ 131072 }
 {
-    let joined = usize::from(format.number) * (usize::from(format.size) + size(channel.crc));
-    let count = channel.coding.block_count(joined as u64);
+    let joined = channel.joined_bits(format);
+    let count = channel.coding.block_count(joined);
     Lengths {
-        joined,
-        blocks: (count * block_size(joined as u64, count)) as usize,
+        joined: joined as usize,
+        blocks: (count * block_size(joined, count)) as usize,
     }
 }
 

@@ -8,9 +8,9 @@ use Rattle.std.proofs.lemmas.Nat.{xor_block, shr-shr, shr_below, pow-add, pow_po
 use Rattle.std.proofs.lemmas.List.{length-replicate, replicate-append-replicate}
 use Rattle.dch_bits.specs.declared.bit.Bit.{Bit}
 use Rattle.dch_bits.specs.declared.bit.Bit.TheVariants.{Zero, One}
-use Rattle.dch_bits.specs.Bits.{number_of}
+use Rattle.dch_bits.specs.Bits.{bit_of_number, number_of}
 use Rattle.dch_crc.specs.Parity.{add, scale, times}
-use Rattle.dch_crc.specs.Register.{bit_with, lowest_bits, HoldsParity}
+use Rattle.dch_crc.specs.Register.{lowest_bits, HoldsParity}
 use Rattle.dch_crc.proofs.Products.{add_append, add_zeros, zeros_more, length-scale, length-times}
 use Rattle.dch_crc.proofs.Registers.{length-lowest_bits, lowest_bits-double, with_input, top_one, holds_one, holds_zero}
 
@@ -65,7 +65,7 @@ lowest_bits-split (suc count) k n =
     let long : suc count + k ≡ suc (count + k) = omega arith in
     let place : k + count ≡ count + k = omega arith in
     let here : bit_at n (count + k) ≡ bit_at (n / 2 ^ k) count = ap (λ m. m % 2) (sym (shr-shr n k count ∙ ap (λ e. n / 2 ^ e) place)) in
-    rw long (ap₂ (λ (m : ℕ) (xs : List Bit). bit_with m ∷ xs) here (lowest_bits-split count k n))
+    rw long (ap₂ (λ (m : ℕ) (xs : List Bit). bit_of_number m ∷ xs) here (lowest_bits-split count k n))
 
 zeros_swap : (n m : ℕ) → replicate n Zero ++ replicate m Zero ≡ replicate m Zero ++ replicate n Zero
 zeros_swap n m = replicate-append-replicate n m Zero ∙ ap (λ k. replicate k Zero) (add_swap n m) ∙ sym (replicate-append-replicate m n Zero)

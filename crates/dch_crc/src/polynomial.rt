@@ -1,11 +1,10 @@
 ghost use Rattle.std.specs.Prelude.{◌≡◌, ◌+◌, ◌-◌, ◌*◌, ◌/◌, ◌^◌, ◌<◌, ◌≤◌, ◌++◌, ◌∷◌, [], List, suc};
-ghost use Rattle.std.specs.Int.{bit_at};
 ghost use Rattle.dch_bits.specs.declared.bit.Bit.{Bit};
 ghost use Rattle.dch_types.specs.Lengths.{crc_size};
 ghost use Rattle.dch_crc.specs.Parity.{polynomial, header_polynomial, payload_polynomial, bits_of_octets};
-ghost use Rattle.dch_crc.specs.Register.{bit_with, lowest_bits, HoldsParity};
+ghost use Rattle.dch_crc.specs.Register.{lowest_bits, HoldsParity};
 
-use dch_bits::{Bit, number};
+use dch_bits::{Bit, bit_at, number};
 use dch_types::Crc;
 
 /// A polynomial modulo 2: its degree, and its terms as the bits of a number.
@@ -105,8 +104,8 @@ impl Polynomial {
         let terms = self.lower_terms();
         let mut register = 0;
         for octet in octets {
-            for j in 0..8u32 {
-                register = next(terms, register, bit(u32::from(*octet), 7 - j));
+            for j in 0..8usize {
+                register = next(terms, register, bit_at(u32::from(*octet), 7 - j));
             }
         }
         self.parity_in(register)
@@ -122,17 +121,5 @@ fn next(terms: u32, register: u32, bit: Bit) -> u32
         (raised << 1) ^ terms
     } else {
         raised << 1
-    }
-}
-
-/// Bit `place` of a number, where bit 0 is the lowest.
-pub fn bit(number: u32, place: u32) -> Bit
-    requires { place < 32 }
-    ensures { result ≡ bit_with (bit_at number place) }
-{
-    if (number >> place) % 2 == 1 {
-        Bit::One
-    } else {
-        Bit::Zero
     }
 }

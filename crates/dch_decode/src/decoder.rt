@@ -3,28 +3,19 @@ ghost use Rattle.dch_bits.specs.declared.bit.Bit.{Bit};
 ghost use Rattle.dch_bits.specs.declared.bit.Vote.{Vote};
 ghost use Rattle.dch_types.specs.declared.channel.Coding.TheVariants.{Uncoded};
 ghost use Rattle.dch_types.specs.Lengths.{coded_block, coded_bits, joined_bits, tti_bits};
-ghost use Rattle.dch_segment.specs.Segments.{plan_of};
+ghost use Rattle.dch_segment.specs.Segments.{plan_of, filler_of};
 ghost use Rattle.dch_coding.specs.Chain.{coded_of};
 ghost use Rattle.dch_trellis.specs.Nearest.{disagreement};
 ghost use Rattle.dch_decode.specs.Read.{part, IsRead, AreRead};
-ghost use Rattle.dch_collision.specs.Clear.{filler_of};
 ghost use Rattle.dch_decode.specs.Copies.{AreCopies};
 ghost use Rattle.dch_collision.specs.Clear.{HasNoCollision};
-ghost use Rattle.dch_decode.specs.declared.decoder.TheConstants.{BITS, LONGEST};
 
 use crate::block::read_block;
 use dch_bits::{Bit, NoMemory, Vote};
-use dch_crc::size;
 use dch_segment::{Plan, join, plan};
 use dch_trellis::Trellis;
-use dch_types::{Coding, Format, Trch};
+use dch_types::{Coding, Format, MAX_CODE_BLOCK_BITS, MAX_TTI_BITS, Trch};
 use std::alloc::Global;
-
-/// The most coded bits of a TTI.
-const BITS: usize = 131_072;
-
-/// The most bits of a code block that is coded.
-const LONGEST: usize = 504;
 
 /// The room to decode one TTI of at most 131,072 coded bits at a time.
 #[derive(Drop)]
@@ -32,18 +23,18 @@ pub struct Decoder {
     trellis: Trellis,
     blocks: Vec<Bit>,
     joined: Vec<Bit>,
-    ghost longest: { trellis ≡ LONGEST },
-    ghost blocks_room: { length blocks.items ≡ BITS },
-    ghost joined_room: { length joined.items ≡ BITS },
+    ghost longest: { trellis ≡ 504 },
+    ghost blocks_room: { length blocks.items ≡ 131072 },
+    ghost joined_room: { length joined.items ≡ 131072 },
 }
 
 impl Decoder {
     /// Takes all memory that decoding wants.
     pub fn open(alloc: Global) -> Result<Decoder, NoMemory> {
         Ok(Decoder {
-            trellis: Trellis::open(alloc, LONGEST)?,
-            blocks: vec![in alloc; Bit::Zero; BITS]?,
-            joined: vec![in alloc; Bit::Zero; BITS]?,
+            trellis: Trellis::open(alloc, MAX_CODE_BLOCK_BITS)?,
+            blocks: vec![in alloc; Bit::Zero; MAX_TTI_BITS]?,
+            joined: vec![in alloc; Bit::Zero; MAX_TTI_BITS]?,
         })
     }
 
@@ -69,7 +60,7 @@ impl Decoder {
         ensures long { length result.now ≡ joined_bits channel.now format.now }
         ensures read { AreRead channel.now.coding votes.now result.now }
     {
-        let len = joined_len(channel, format);
+        let len = channel.joined_bits(format) as usize;
         decode_front(
             &mut self.trellis,
             &mut self.blocks,
@@ -82,13 +73,6 @@ impl Decoder {
     }
 }
 
-/// The bits of all blocks of a TTI, each with its parity.
-fn joined_len(channel: &Trch, format: &Format) -> usize
-    ensures { result ≡ joined_bits channel.now format.now }
-{
-    usize::from(format.number) * (usize::from(format.size) + size(channel.crc))
-}
-
 /// Reads so many joined bits to the front of `out`.
 fn decode_front(
     trellis: &mut Trellis,
@@ -98,13 +82,13 @@ fn decode_front(
     len: usize,
     out: &mut [Bit],
 )
-    requires longest { trellis.old ≡ LONGEST }
-    requires blocks { length blocks.old ≡ BITS }
-    requires room { length out.old ≡ BITS }
+    requires longest { trellis.old ≡ 504 }
+    requires blocks { length blocks.old ≡ 131072 }
+    requires room { length out.old ≡ 131072 }
     requires coded { length votes.now ≡ coded_bits coding len }
     requires short { length votes.now ≤ 131072 }
     requires few { (j : ℕ) (v : Vote) → j < length votes.now → (slice_index_or votes.now j v).zeros + (slice_index_or votes.now j v).ones ≤ 460800 }
-    ensures fits { len ≤ BITS }
+    ensures fits { len ≤ 131072 }
     ensures read { AreRead coding votes.now (take len out.new) }
     ensures kept { trellis.new ≡ trellis.old }
 {
@@ -118,8 +102,8 @@ fn decode_with(
     votes: &[Vote],
     joined: &mut [Bit],
 )
-    requires longest { trellis.old ≡ LONGEST }
-    requires room { length blocks.old ≡ BITS }
+    requires longest { trellis.old ≡ 504 }
+    requires room { length blocks.old ≡ 131072 }
     requires coded { length votes.now ≡ coded_bits coding (length joined.old) }
     requires short { length votes.now ≤ 131072 }
     requires few { (j : ℕ) (v : Vote) → j < length votes.now → (slice_index_or votes.now j v).zeros + (slice_index_or votes.now j v).ones ≤ 460800 }
@@ -161,15 +145,8 @@ fn read_blocks(
             trellis,
             coding,
             &votes[from..from + coded],
-            filler(plan, r),
+            plan.filler_of(r),
             &mut blocks[to..to + size],
         );
     }
-}
-
-/// The filler of code block `r`.
-fn filler(plan: &Plan, r: usize) -> usize
-    ensures { result ≡ filler_of plan.now r }
-{
-    if r == 0 { plan.filler } else { 0 }
 }

@@ -9,6 +9,3 @@ mod tti;
 
 pub use decoder::Decoder;
 pub use transport::{TransportBlock, received};
-
-#[cfg(test)]
-mod tests;

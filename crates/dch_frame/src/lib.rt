@@ -15,6 +15,3 @@ pub use interleaver::Interleaver;
 pub use matching::rate_match;
 pub use segments::{put_segment, segment};
 pub use votes::count_votes;
-
-#[cfg(test)]
-mod tests;

@@ -2,13 +2,15 @@
 #![tactic(auto)]
 
 ghost use Rattle.std.specs.Prelude.{◌≡◌, ◌+◌, ◌*◌, ◌/◌, ◌%◌, ◌^◌, ◌<◌, ◌≤◌, ℕ, slice_index, sum_by, take};
-ghost use Rattle.dch_inter.specs.Places.{IsFrames, equalised, first_column, first_of, first_back_of, frame_of, place_of, second_columns, height_of, second_of, second_back_of};
+ghost use Rattle.dch_types.specs.Lengths.{padded};
+ghost use Rattle.dch_types.specs.Limits.{IsFrames};
+ghost use Rattle.dch_inter.specs.Places.{first_column, first_of, first_back_of, frame_of, place_of, second_columns, height_of, second_of, second_back_of};
 
 /// The least multiple of `f` radio frames that is at least `len`: the bits of a TTI after padding (TS 25.212 4.2.4).
 pub fn equalise(len: usize, f: usize) -> usize
     requires frames { IsFrames f }
     requires small { len ≤ 2 ^ 31 }
-    ensures value { result ≡ equalised len f }
+    ensures value { result ≡ padded len f }
     ensures multiple { result % f ≡ 0 }
     ensures enough { len ≤ result }
     ensures least { result < len + f }
@@ -16,11 +18,12 @@ pub fn equalise(len: usize, f: usize) -> usize
     len.div_ceil(f) * f
 }
 
-/// The column of the first interleaver that is read as the `n`-th.
-fn column(f: usize, n: usize) -> usize
+/// The column of the first interleaver that is read as the `n`-th, and that radio frame `n` of a TTI carries.
+pub fn column(f: usize, n: usize) -> usize
     requires frames { IsFrames f }
     requires inside { n < f }
-    ensures { result ≡ first_column f n }
+    ensures value { result ≡ first_column f n }
+    ensures inside { result < f }
 {
     match f {
         8 => [0, 4, 2, 6, 1, 5, 3, 7][n],
@@ -140,27 +143,4 @@ pub fn second_back(len: usize, i: usize) -> usize
         before += height(len, *column);
     }
     unreachable!()
-}
-
-#[cfg(test)]
-mod tests {
-    use super::*;
-
-    #[test]
-    fn places_of_the_interleavers(rt: HostRuntime) {
-        let shown = [0, 4, 2, 6, 1, 5, 3, 7];
-        for k in 0..8usize {
-            assert_eq!(rt; first(4, 8, k), shown[k], "first(4, 8, {k})");
-            assert_eq!(rt; first(8, 8, k), shown[k], "first(8, 8, {k})");
-        }
-        assert_eq!(rt; first_back(4, 8, 6), 3);
-        assert_eq!(rt; (frame(4, 8, 6), place(4, 8, 6)), (1, 1));
-        assert_eq!(rt; second(31, 0), 0);
-        assert_eq!(rt; second(31, 1), 30);
-        assert_eq!(rt; second(31, 2), 20);
-        assert_eq!(rt; second_back(31, 30), 1);
-        assert_eq!(rt; equalise(0, 4), 0);
-        assert_eq!(rt; equalise(81, 2), 82);
-        assert_eq!(rt; equalise(80, 8), 80);
-    }
 }

@@ -6,21 +6,22 @@ use Rattle.std.proofs.lemmas.List.{get_or_append_left, get_or_push, length_push}
 use Rattle.dch_types.specs.declared.channel.Trch.{Trch}
 use Rattle.dch_types.specs.declared.channel.Side.{Side}
 use Rattle.dch_types.specs.declared.config.Downlink.{Downlink}
-use Rattle.dch_types.specs.Lengths.{tti_bits}
+use Rattle.dch_types.specs.Lengths.{frame_bits, tti_bits}
 use Rattle.dch_types.specs.Limits.{IsSide, IsDownlink}
 use Rattle.dch_types.specs.Parts.{channel_at, format_at, format_number}
 use Rattle.dch_match.specs.declared.pattern.Kind.{Kind}
 use Rattle.dch_match.specs.declared.pattern.Pattern.{Pattern}
 use Rattle.dch_match.specs.declared.downlink_plan.RateMatching.{RateMatching}
-use Rattle.dch_match.specs.Downlinks.{ndata_of, most_of, fixed_weight, fixed_places, eighths, places_after, places_of, bits_of, no_matching, matching_at, row_at, IsMatching, IsRow, IsDownlinkPlan}
+use Rattle.dch_match.specs.Downlinks.{most_of, fixed_weight, fixed_places, eighths, places_after, places_of, bits_of, no_matching, matching_at, row_at, IsMatching, IsRow, IsDownlinkPlan}
 use Rattle.dch_match.specs.Matched.{matched}
 use Rattle.dch_match.specs.Patterns.{copies_below, IsWellFormed}
-use Rattle.dch_match.specs.Shares.{total}
+use Rattle.dch_types.specs.Sums.{total}
 use Rattle.dch_match.proofs.Changes.{below_le}
 use Rattle.dch_match.proofs.Greatest.{most_is, most_le}
 use Rattle.dch_match.proofs.Lowered.{first_le, nothing_first, after_le, fits_after}
 use Rattle.dch_match.proofs.MatchedLemmas.{matched_kept, matched_formed}
-use Rattle.dch_match.proofs.SharesLemmas.{total_same, total-shared, shared_le, below_le as shared_below_le, nothing_shared}
+use Rattle.dch_types.proofs.Sums.{total_same}
+use Rattle.dch_match.proofs.SharesLemmas.{total-shared, shared_le, below_le as shared_below_le, nothing_shared}
 
 -- so many places suit a pattern for so many bits, which is cut at a length
 pub record Suits (bits places len : ℕ) : Type 0 where
@@ -29,7 +30,7 @@ pub record Suits (bits places len : ℕ) : Type 0 where
   pub none : bits ≡ 0 → places ≡ 0
   pub part : len ≤ bits
 
-pub ndata_le : (downlink : Downlink) → IsDownlink downlink → ndata_of downlink ≤ 65536
+pub ndata_le : (downlink : Downlink) → IsDownlink downlink → frame_bits downlink ≤ 65536
 ndata_le downlink good =
     let slots : 15 * downlink.slot_bits * downlink.codes ≤ 15 * 1272 * 3 = mul-le (15 * downlink.slot_bits) downlink.codes (15 * 1272) 3 (omega (arith, good.few_bits)) good.few_codes in
     omega arith
@@ -64,7 +65,7 @@ pub suits : (downlink : Downlink) (i f : ℕ) → IsDownlink downlink → i < le
 suits downlink i f good inside format =
     let side : Side = downlink.side in
     let channel : Trch = channel_at side i in
-    let ndata : ℕ = ndata_of downlink in
+    let ndata : ℕ = frame_bits downlink in
     let small : ndata ≤ 65536 = ndata_le downlink good in
     either_suits downlink.fixed (most_of channel) (fixed_places side ndata i) (tti_bits channel (format_at channel f)) (places_after side ndata (length side.combinations) i f) (tti_bits channel (format_at channel f))
     (fixed_suits side ndata i f good.side small inside format)
@@ -113,10 +114,10 @@ either_total true p q n m first second = first
 either_total false p q n m first second = second
 
 -- the places of a combination are within a radio frame
-pub places_le : (downlink : Downlink) (c : ℕ) → c < length downlink.side.combinations → total (λ i. places_of downlink i (format_number downlink.side c i)) (length downlink.side.channels) ≤ ndata_of downlink
+pub places_le : (downlink : Downlink) (c : ℕ) → c < length downlink.side.combinations → total (λ i. places_of downlink i (format_number downlink.side c i)) (length downlink.side.channels) ≤ frame_bits downlink
 places_le downlink c inside =
     let side : Side = downlink.side in
-    let ndata : ℕ = ndata_of downlink in
+    let ndata : ℕ = frame_bits downlink in
     either_total downlink.fixed (fixed_places side ndata) (λ i. places_after side ndata (length side.combinations) i (format_number side c i)) (length side.channels) ndata
     (omega (arith, total-shared (fixed_weight side) (length side.channels) ndata (length side.channels), shared_below_le (fixed_weight side) (length side.channels) ndata (length side.channels) (omega arith)))
     (fits_after side ndata c (length side.combinations) inside)

@@ -10,9 +10,9 @@ use Rattle.dch_types.specs.Lengths.{tti_bits}
 use Rattle.dch_types.specs.Limits.{IsChannel}
 use Rattle.dch_types.specs.Parts.{format_at, format_number}
 use Rattle.dch_match.specs.Downlinks.{most_below, most_of, flexible_weight, combined, greatest_below, stands_below}
-use Rattle.dch_match.specs.Shares.{total}
+use Rattle.dch_types.specs.Sums.{total}
 use Rattle.dch_match.proofs.Changes.{one_more}
-use Rattle.dch_match.proofs.SharesLemmas.{part_le}
+use Rattle.dch_types.proofs.Sums.{part_le}
 
 pub most-zero : (channel : Trch) → most_below channel 0 ≡ 0
 unfolding most_below

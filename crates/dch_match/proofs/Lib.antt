@@ -1,5 +1,4 @@
 pub mod Changes
-pub mod Decided
 pub mod Fits
 pub mod Greatest
 pub mod Lowered

@@ -7,9 +7,11 @@ use Rattle.std.specs.Int.{div_ceil}
 use Rattle.dch_types.specs.declared.channel.Side.{Side}
 use Rattle.dch_types.specs.Parts.{channel_at, format_number}
 use Rattle.dch_match.specs.Downlinks.{eighths, flexible_weight, combined, greatest, stands_below, first_places, exceeds, places_after}
-use Rattle.dch_match.specs.Shares.{total, shared}
+use Rattle.dch_types.specs.Sums.{total}
+use Rattle.dch_match.specs.Shares.{shared}
 use Rattle.dch_match.proofs.Greatest.{stands_le, ceil_le}
-use Rattle.dch_match.proofs.SharesLemmas.{total_same, total_le, total-shared, below_le}
+use Rattle.dch_types.proofs.Sums.{total_same, total_le}
+use Rattle.dch_match.proofs.SharesLemmas.{total-shared, below_le}
 
 pub after-zero : (side : Side) (ndata i f : ℕ) → places_after side ndata 0 i f ≡ first_places side ndata i f
 unfolding places_after

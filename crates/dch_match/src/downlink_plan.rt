@@ -1,14 +1,13 @@
 ghost use Rattle.std.specs.Prelude.{◌≡◌, ◌<◌, ◌≤◌, ℕ, length, slice_index_or, IfOk};
 ghost use Rattle.dch_types.specs.Limits.{IsDownlink};
 ghost use Rattle.dch_types.specs.Parts.{channel_at, format_at};
-ghost use Rattle.dch_types.specs.Lengths.{tti_bits};
-ghost use Rattle.dch_match.specs.Downlinks.{bits_of, places_of, ndata_of, matching_at, IsMatching, IsRow, IsDownlinkPlan};
+ghost use Rattle.dch_types.specs.Lengths.{frame_bits, tti_bits};
+ghost use Rattle.dch_match.specs.Downlinks.{bits_of, places_of, matching_at, IsMatching, IsRow, IsDownlinkPlan};
 ghost use Rattle.dch_match.specs.Places.{IsTable};
 
 use crate::fixed::{fixed_table, most_of};
 use crate::flexible::flexible_table;
 use crate::matched::matched;
-use crate::parts::{channel_of, format_of};
 use crate::pattern::Pattern;
 use crate::places::Places;
 use dch_bits::NoMemory;
@@ -46,11 +45,11 @@ fn bits_of(config: &Downlink, i: usize, f: usize) -> u64
     ensures value { result ≡ bits_of config.now i f }
     ensures small { result ≤ 131072 }
 {
-    let channel = channel_of(&config.side, i);
+    let channel = config.side.channel(i);
     if config.fixed {
         most_of(channel)
     } else {
-        channel.tti_bits(format_of(channel, f))
+        channel.tti_bits(channel.format(f))
     }
 }
 
@@ -62,8 +61,8 @@ fn match_format(config: &Downlink, table: &Places, i: usize, f: usize) -> RateMa
     requires format { f < length (channel_at config.now.side i).formats }
     ensures { IsMatching config.now i f result }
 {
-    let channel = channel_of(&config.side, i);
-    let len = channel.tti_bits(format_of(channel, f));
+    let channel = config.side.channel(i);
+    let len = channel.tti_bits(channel.format(f));
     let cells = table.at(i, f);
     let kind = matched(bits_of(config, i, f), channel.frames as u64 * cells, 1);
     RateMatching {
@@ -88,7 +87,7 @@ fn row(
     ensures { IfOk result (IsRow config.now i (length (channel_at config.now.side i).formats)) }
 {
     let mut row = Sequence::new(alloc);
-    for f in 0..channel_of(&config.side, i).formats.len() {
+    for f in 0..config.side.channel(i).formats.len() {
         row.push(match_format(config, table, i, f))?;
     }
     Ok(row)
@@ -99,7 +98,7 @@ fn table_of(config: &Downlink) -> Places
     requires { IsDownlink config.now }
     ensures { IsTable config.now.side (places_of config.now) result }
 {
-    let ndata = 15 * config.slot_bits as u64 * config.codes as u64;
+    let ndata = config.frame_bits() as u64;
     if config.fixed {
         fixed_table(&config.side, ndata)
     } else {

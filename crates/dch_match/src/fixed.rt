@@ -2,9 +2,8 @@ ghost use Rattle.std.specs.Prelude.{◌≡◌, ◌≢◌, ◌<◌, ◌≤◌, �
 ghost use Rattle.dch_types.specs.Limits.{IsSide, IsChannel};
 ghost use Rattle.dch_match.specs.Downlinks.{most_of, fixed_weight, fixed_places};
 ghost use Rattle.dch_match.specs.Places.{place_at, IsTable};
-ghost use Rattle.dch_match.specs.Shares.{total};
+ghost use Rattle.dch_types.specs.Sums.{total};
 
-use crate::parts::{channel_of, format_of};
 use crate::places::Places;
 use crate::shares::share;
 use dch_types::{Side, Trch};
@@ -17,7 +16,7 @@ pub fn most_of(channel: &Trch) -> u64
 {
     let mut most = 0;
     for f in 0..channel.formats.len() {
-        most = most.max(channel.tti_bits(format_of(channel, f)));
+        most = most.max(channel.tti_bits(channel.format(f)));
     }
     most
 }
@@ -29,7 +28,7 @@ fn fixed_weight(side: &Side, i: usize) -> u64
     ensures value { result ≡ fixed_weight side.now i }
     ensures small { result ≤ 268435456 }
 {
-    let channel = channel_of(side, i);
+    let channel = side.channel(i);
     channel.rm as u64 * (8 * most_of(channel) / channel.frames as u64)
 }
 
@@ -70,7 +69,7 @@ pub fn fixed_table(side: &Side, ndata: u64) -> Places
     let mut held = 0;
     for i in 0..side.channels.len() {
         let part = fixed_weight(side, i);
-        let formats = channel_of(side, i).formats.len();
+        let formats = side.channel(i).formats.len();
         fill_row(&mut table, i, formats, share(held, part, ndata, weight));
         held += part;
     }

@@ -3,9 +3,8 @@ ghost use Rattle.dch_types.specs.Limits.{IsSide, IsChannel};
 ghost use Rattle.dch_types.specs.Parts.{channel_at, format_number};
 ghost use Rattle.dch_match.specs.Downlinks.{eighths, flexible_weight, combined, greatest, stands_below, first_places, places_after};
 ghost use Rattle.dch_match.specs.Places.{place_at, IsTable};
-ghost use Rattle.dch_match.specs.Shares.{total};
+ghost use Rattle.dch_types.specs.Sums.{total};
 
-use crate::parts::{channel_of, format_of, number_of};
 use crate::places::Places;
 use crate::shares::share;
 use dch_types::{Side, Trch};
@@ -17,7 +16,7 @@ fn eighths(channel: &Trch, f: usize) -> u64
     ensures value { result ≡ eighths channel.now f }
     ensures small { result ≤ 1048576 }
 {
-    8 * channel.tti_bits(format_of(channel, f)) / channel.frames as u64
+    8 * channel.tti_bits(channel.format(f)) / channel.frames as u64
 }
 
 /// RM*N of a format of a channel, in eighths.
@@ -28,7 +27,7 @@ fn flexible_weight(side: &Side, i: usize, f: usize) -> u64
     ensures value { result ≡ flexible_weight side.now i f }
     ensures small { result ≤ 268435456 }
 {
-    let channel = channel_of(side, i);
+    let channel = side.channel(i);
     channel.rm as u64 * eighths(channel, f)
 }
 
@@ -40,7 +39,7 @@ fn combined(side: &Side, c: usize, i: usize) -> u64
     ensures value { result ≡ combined side.now c i }
     ensures small { result ≤ 268435456 }
 {
-    flexible_weight(side, i, number_of(side, c, i))
+    flexible_weight(side, i, side.tfi(c, i) as usize)
 }
 
 /// The sum of RM*N over all channels in a combination, in eighths.
@@ -78,7 +77,7 @@ pub fn is_used(side: &Side, i: usize, f: usize) -> bool
 {
     let mut found = false;
     for c in 0..side.combinations.len() {
-        found = number_of(side, c, i) == f || found;
+        found = side.tfi(c, i) as usize == f || found;
     }
     found
 }
@@ -94,7 +93,7 @@ fn first_places(side: &Side, ndata: u64, most: u64, i: usize, f: usize) -> u64
     ensures small { result ≤ 131072 }
 {
     if !is_used(side, i, f) {
-        eighths(channel_of(side, i), f).div_ceil(8)
+        eighths(side.channel(i), f).div_ceil(8)
     } else if most == 0 {
         0
     } else {
@@ -112,7 +111,7 @@ fn first_row(table: &mut Places, side: &Side, ndata: u64, most: u64, i: usize)
         place_at table.new i f ≡ first_places side.now ndata i f }
     ensures same { (j f : ℕ) → j ≢ i → place_at table.new j f ≡ place_at table.old j f }
 {
-    for f in 0..channel_of(side, i).formats.len() {
+    for f in 0..side.channel(i).formats.len() {
         table.put(i, f, first_places(side, ndata, most, i, f));
     }
 }
@@ -139,7 +138,7 @@ fn placed(table: &Places, side: &Side, c: usize) -> u64
 {
     let mut places = 0;
     for i in 0..side.channels.len() {
-        places += table.at(i, number_of(side, c, i));
+        places += table.at(i, side.tfi(c, i) as usize);
     }
     places
 }
@@ -159,7 +158,7 @@ fn lower(table: &mut Places, side: &Side, ndata: u64, c: usize)
     let mut held = 0;
     for i in 0..side.channels.len() {
         let part = combined(side, c, i);
-        let f = number_of(side, c, i);
+        let f = side.tfi(c, i) as usize;
         let most = share(held, part, ndata, weight);
         let places = table.at(i, f).min(most);
         table.put(i, f, places);

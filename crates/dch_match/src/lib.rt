@@ -6,7 +6,6 @@ mod downlink_plan;
 mod fixed;
 mod flexible;
 mod matched;
-mod parts;
 mod pattern;
 mod places;
 mod shares;
@@ -19,6 +18,3 @@ pub use flexible::is_used;
 pub use pattern::{Kind, Pattern, Steps, keeps, kept, origin};
 pub use uplink_plan::{MatchError, UplinkPlan, frame, uplink};
 pub use walk::Walk;
-
-#[cfg(test)]
-mod tests;

@@ -1,10 +1,11 @@
 ghost use Rattle.std.specs.Prelude.{◌≡◌, ◌<◌, ◌≤◌, ◌+◌, ◌-◌, ◌*◌, ◌%◌, ◌^◌};
 ghost use Rattle.dch_types.specs.Limits.{IsFrames};
-ghost use Rattle.dch_match.specs.Matched.{change, matched, remainder, column, frame_start, frame_pattern};
+ghost use Rattle.dch_match.specs.Matched.{change, matched, remainder, frame_start, frame_pattern};
 ghost use Rattle.dch_match.specs.Patterns.{IsWellFormed, copies_below};
 
 use crate::pattern::{Kind, Pattern, Steps};
 use crate::shifts::{average_distance, column_shift};
+use dch_inter::column;
 
 /// |dN|: how many bits are removed or added.
 fn change(n: u64, sent: u64) -> u64
@@ -34,20 +35,6 @@ pub fn matched(n: u64, sent: u64, e_ini: u64) -> Kind
         Kind::Repeat(steps)
     } else {
         Kind::Puncture(steps)
-    }
-}
-
-/// The column of the first interleaver that frame `at` of a TTI carries (TS 25.212 4.2.5).
-fn column(frames: u64, at: u64) -> u64
-    requires frames { IsFrames frames }
-    requires inside { at < frames }
-    ensures value { result ≡ column frames at }
-    ensures inside { result < frames }
-{
-    match frames {
-        8 => [0, 4, 2, 6, 1, 5, 3, 7][at as usize],
-        4 => [0, 2, 1, 3][at as usize],
-        _ => [0, 1][at as usize],
     }
 }
 
@@ -84,7 +71,8 @@ pub fn frame_pattern(n: u32, sent: u32, frames: u64, at: u64) -> Pattern
             kind: Kind::Same,
         };
     }
-    let e_ini = frame_start(n as u64, sent as u64, frames, column(frames, at));
+    let column = column(frames as usize, at as usize) as u64;
+    let e_ini = frame_start(n as u64, sent as u64, frames, column);
     Pattern {
         len: n,
         kind: matched(n as u64, sent as u64, e_ini),

@@ -2,11 +2,10 @@ ghost use Rattle.std.specs.Prelude.{◌≡◌, ◌<◌, ◌≤◌, ◌*◌, ◌^
 ghost use Rattle.dch_types.specs.Limits.{IsSide, IsUplink, frame_sizes};
 ghost use Rattle.dch_types.specs.Parts.{channel_at};
 ghost use Rattle.dch_match.specs.Patterns.{IsWellFormed, copies_below};
-ghost use Rattle.dch_match.specs.Shares.{total};
+ghost use Rattle.dch_types.specs.Sums.{total};
 ghost use Rattle.dch_match.specs.Uplinks.{before_of, weight_of, sent_of, uplink_pattern, least_rm, codes, in_set1, in_set2, needs_more, set2, first_raised, chosen, demand_of, IsPlan};
 
 use crate::matched::frame_pattern;
-use crate::parts::{channel_of, format_of, number_of};
 use crate::pattern::Pattern;
 use crate::shares::share;
 use dch_types::{Side, Uplink};
@@ -52,8 +51,8 @@ fn before_of(side: &Side, c: usize, i: usize) -> u64
     ensures value { result ≡ before_of side.now c i }
     ensures small { result ≤ 131072 }
 {
-    let channel = channel_of(side, i);
-    let format = format_of(channel, number_of(side, c, i));
+    let channel = side.channel(i);
+    let format = channel.format(side.tfi(c, i) as usize);
     channel.tti_bits(format).div_ceil(channel.frames as u64)
 }
 
@@ -65,7 +64,7 @@ fn weight_of(side: &Side, c: usize, i: usize) -> u64
     ensures value { result ≡ weight_of side.now c i }
     ensures small { result ≤ 33554432 }
 {
-    channel_of(side, i).rm as u64 * before_of(side, c, i)
+    side.channel(i).rm as u64 * before_of(side, c, i)
 }
 
 /// The sum of RM*N over all channels.
@@ -88,9 +87,9 @@ fn least_rm(side: &Side) -> u64
     ensures value { result ≡ least_rm side.now (length side.now.channels) }
     ensures small { result ≤ 256 }
 {
-    let mut least = channel_of(side, 0).rm;
+    let mut least = side.channel(0).rm;
     for i in 0..side.channels.len() {
-        least = least.min(channel_of(side, i).rm);
+        least = least.min(side.channel(i).rm);
     }
     least as u64
 }
@@ -240,6 +239,6 @@ pub fn frame(config: &Uplink, combination: u16, plan: &UplinkPlan, channel: u8, 
     ensures kept { copies_below result.kind result.len ≡ sent_of config.now.side combination plan.now.ndata channel }
 {
     let i = channel as usize;
-    let frames = channel_of(&config.side, i).frames as u64;
+    let frames = config.side.channel(i).frames as u64;
     frame_pattern(plan.before[i], plan.sent[i], frames, n as u64)
 }

@@ -1,8 +1,8 @@
 ghost use Rattle.std.specs.Prelude.{◌≡◌, ℕ, ◌*◌, ◌<◌, length, slice_index_or};
 ghost use Rattle.std.specs.Int.{bit_at};
-ghost use Rattle.dch_tfci.specs.Tfci.{basis, bit_of, word_bit, sent, IsSize};
+ghost use Rattle.dch_tfci.specs.Tfci.{basis, word_bit, sent, IsSize};
 
-use dch_bits::Bit;
+use dch_bits::{Bit, bit_at};
 
 /// The basis sequences by columns: bit `i` of column `n` is M(i,n) (TS 25.212 4.3.3, table 8).
 const COLUMNS: [u32; 10] = [
@@ -48,17 +48,6 @@ pub fn send(index: u16, out: &mut [Bit])
     let word = word(index);
     let period = if out.len() == 30 { 30 } else { 32 };
     for k in 0..out.len() {
-        out[k] = bit_of_word(word, k % period);
-    }
-}
-
-fn bit_of_word(word: u32, i: usize) -> Bit
-    requires { i < 32 }
-    ensures { result ≡ bit_of (bit_at word i) }
-{
-    if (word >> i) % 2 == 1 {
-        Bit::One
-    } else {
-        Bit::Zero
+        out[k] = bit_at(word, k % period);
     }
 }

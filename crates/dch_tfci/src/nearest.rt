@@ -17,10 +17,12 @@ pub struct Tfci {
 }
 
 /// Finds the nearest of the 1024 indexes, and the least where several are as near (TS 25.212 4.3.3). The received bits
-/// are 30 or 120.
+/// are 30 or 120. Where at most four bits of the 30 sent for an index are wrong, that index is found.
 pub fn find(received: &[Bit]) -> Tfci
     requires { IsSize (length received.now) }
-    ensures { IsNearest received.now result.index result.distance }
+    ensures nearest { IsNearest received.now result.index result.distance }
+    ensures corrected { (index : ℕ) → index < 1024 → length received.now ≡ 30 → distance received.now (sent index 30) ≤ 4 →
+        (result.index ≡ index) × (result.distance ≡ distance received.now (sent index 30)) }
 {
     let packed = pack_words(received);
     let mut best = Tfci {

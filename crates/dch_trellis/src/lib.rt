@@ -9,6 +9,3 @@ mod trellis;
 mod wide;
 
 pub use trellis::Trellis;
-
-#[cfg(test)]
-mod tests;

@@ -12,14 +12,14 @@ loop-i-init c = refl
 
 pub loop-i-preserved : goal.loop-i-preserved
 loop-i-preserved c =
-    let same : get_or c.args.bits.now c.loop-i.i Zero ≡ c.bit.result = search rules in
+    let same : get_or c.args.bits.now c.loop-i.i Zero ≡ c.bit_at.result = search rules in
     take_more c.args.bits.now c.loop-i.i Zero (omega arith)
-    ∙ ap₂ (λ (bits : List Bit) (b : Bit). bits ++ b ∷ []) c.loop-i.invariant (same ∙ c.bit.ensures) ∙ sym (reverse-lowest_bits c.loop-i.i c.args.number)
+    ∙ ap₂ (λ (bits : List Bit) (b : Bit). bits ++ b ∷ []) c.loop-i.invariant (same ∙ c.bit_at.ensures.bit) ∙ sym (reverse-lowest_bits c.loop-i.i c.args.number)
 
 pub returns-then-ne : goal.returns-then-ne
 returns-then-ne c = (
   λ no. cc,
   λ whole.
-      let same : get_or c.args.bits.now c.loop-i.i Zero ≡ c.bit.result = reversed_at c.args.bits.now c.args.number c.loop-i.i (omega arith) whole ∙ sym c.bit.ensures in
+      let same : get_or c.args.bits.now c.loop-i.i Zero ≡ c.bit_at.result = reversed_at c.args.bits.now c.args.number c.loop-i.i (omega arith) whole ∙ sym c.bit_at.ensures.bit in
       absurd (search rules),
 )

@@ -11,5 +11,5 @@ loop-i-init c = refl
 
 pub loop-i-preserved : goal.loop-i-preserved
 loop-i-preserved c =
-    take_more_set c.loop-i.out c.loop-i.i c.bit.result (omega arith)
-    ∙ ap₂ (λ (bits : List Bit) (b : Bit). bits ++ b ∷ []) c.loop-i.invariant c.bit.ensures ∙ sym (reverse-lowest_bits c.loop-i.i c.args.number)
+    take_more_set c.loop-i.out c.loop-i.i c.bit_at.result (omega arith)
+    ∙ ap₂ (λ (bits : List Bit) (b : Bit). bits ++ b ∷ []) c.loop-i.invariant c.bit_at.ensures.bit ∙ sym (reverse-lowest_bits c.loop-i.i c.args.number)

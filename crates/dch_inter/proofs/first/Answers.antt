@@ -5,7 +5,7 @@ use Rattle.dch_inter.proofs.first.Goals as goal
 
 pub returns-clause-value : goal.returns-clause-value
 unfolding first_of
-returns-clause-value c = ap (λ n. c.args.k % (c.args.len / c.args.f) * c.args.f + n) c.column.ensures
+returns-clause-value c = ap (λ n. c.args.k % (c.args.len / c.args.f) * c.args.f + n) c.column.ensures.value
 
 pub returns-clause-undone : goal.returns-clause-undone
 returns-clause-undone c = ap (first_back_of c.args.f c.args.len) (returns-clause-value c) ∙ first_back_of-first c.args.f c.args.len c.args.k c.requires.frames c.requires.divides c.requires.inside

@@ -5,7 +5,7 @@ use Rattle.dch_bits.specs.declared.bit.Vote.{Vote}
 use Rattle.dch_types.specs.declared.channel.Coding.{Coding}
 use Rattle.dch_segment.specs.declared.cut.Plan.{Plan}
 use Rattle.dch_decode.specs.Read.{part, IsRead}
-use Rattle.dch_collision.specs.Clear.{filler_of}
+use Rattle.dch_segment.specs.Segments.{filler_of}
 use Rattle.dch_decode.proofs.Parts.{part_fits, length_slice}
 use Rattle.dch_decode.proofs.Blocks.{read_here, read_earlier}
 use Rattle.dch_decode.proofs.decoder.read_blocks.Goals as goal
@@ -25,5 +25,5 @@ loop-r-preserved c =
       c.read_block.ensures.kept ∙ c.loop-r.invariant.0,
       below_more (λ q. IsRead coding (part q len votes) (filler_of plan q) (part q plan.size (put_mid (r * plan.size) k blocks new))) r
           (λ q early. read_earlier coding plan votes blocks new r q len k early (omega (arith, room)) (c.loop-r.invariant.1 q early))
-          (read_here coding plan votes blocks new r len c.filler.result (r * len + len - r * len) k (omega (arith, room)) (omega arith) c.filler.ensures long c.read_block.ensures.read),
+          (read_here coding plan votes blocks new r len c.filler_of.result (r * len + len - r * len) k (omega (arith, room)) (omega arith) c.filler_of.ensures long c.read_block.ensures.read),
     )

@@ -1,6 +1,6 @@
 use Rattle.std.proofs.Common.{◌≡◌, ◌<◌, ℕ}
 use Rattle.dch_decode.specs.Read.{part, IsRead}
-use Rattle.dch_collision.specs.Clear.{filler_of}
+use Rattle.dch_segment.specs.Segments.{filler_of}
 use Rattle.dch_decode.proofs.decoder.read_blocks.Given as goal
 
 abbrev pub invariant-loop-r : goal.invariant-loop-r

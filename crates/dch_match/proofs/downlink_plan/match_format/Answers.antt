@@ -13,7 +13,7 @@ matched-kind-requires-clause-sent c =
     let config : Downlink = c.args.config.now in
     let cells : c.at-cells.result ≡ places_of config c.args.i c.args.f = c.at-cells.ensures.value ∙ c.requires.table c.args.i c.args.f c.requires.channel c.requires.format in
     let few = (suits config c.args.i c.args.f c.requires.good c.requires.channel c.requires.format).few in
-    let frames : c.channel_of-channel.result.now.frames * c.at-cells.result ≡ (channel_at config.side c.args.i).frames * c.at-cells.result = ap (λ (t : Trch). t.frames * c.at-cells.result) c.channel_of-channel.ensures in
+    let frames : c.channel-channel.result.now.frames * c.at-cells.result ≡ (channel_at config.side c.args.i).frames * c.at-cells.result = ap (λ (t : Trch). t.frames * c.at-cells.result) c.channel-channel.ensures.value in
     omega (arith, frames, cells_le config.side c.args.i c.at-cells.result c.requires.good.side c.requires.channel (omega (arith, cells, few)))
 
 pub returns : goal.returns
@@ -22,8 +22,8 @@ returns c =
     let channel : Trch = channel_at config.side c.args.i in
     let cells : ℕ = c.at-cells.result in
     let long : c.tti_bits-len.result ≡ tti_bits channel (format_at channel c.args.f) =
-    c.tti_bits-len.ensures ∙ ap (tti_bits c.channel_of-channel.result.now) c.format_of.ensures ∙ ap (λ (t : Trch). tti_bits t (format_at t c.args.f)) c.channel_of-channel.ensures in
+    c.tti_bits-len.ensures ∙ ap (tti_bits c.channel-channel.result.now) c.format.ensures.value ∙ ap (λ (t : Trch). tti_bits t (format_at t c.args.f)) c.channel-channel.ensures.value in
     let wide : cells ≡ places_of config c.args.i c.args.f = c.at-cells.ensures.value ∙ c.requires.table c.args.i c.args.f c.requires.channel c.requires.format in
     let kind : c.matched-kind.result ≡ matched (bits_of config c.args.i c.args.f) (channel.frames * cells) 1 =
-    c.matched-kind.ensures ∙ ap₂ (λ bits sent. matched bits sent 1) c.bits_of.ensures.value (ap (λ (t : Trch). t.frames * cells) c.channel_of-channel.ensures) in
+    c.matched-kind.ensures ∙ ap₂ (λ bits sent. matched bits sent 1) c.bits_of.ensures.value (ap (λ (t : Trch). t.frames * cells) c.channel-channel.ensures.value) in
     matching_is config c.args.i c.args.f c.tti_bits-len.result cells c.matched-kind.result c.requires.good c.requires.channel c.requires.format long wide kind

@@ -4,7 +4,8 @@ use Rattle.dch_types.specs.declared.channel.Side.{Side}
 use Rattle.dch_types.specs.Parts.{channel_at}
 use Rattle.dch_match.specs.Downlinks.{fixed_weight, fixed_places}
 use Rattle.dch_match.specs.Places.{place_at}
-use Rattle.dch_match.proofs.SharesLemmas.{total-zero, total-more, part_le, share_is}
+use Rattle.dch_types.proofs.Sums.{total-zero, total-more, part_le}
+use Rattle.dch_match.proofs.SharesLemmas.{share_is}
 use Rattle.dch_match.proofs.fixed.fixed_table.Goals as goal
 
 pub loop-i-init : goal.loop-i-init
@@ -28,7 +29,7 @@ loop-i-preserved c =
     let w : ℕ → ℕ = fixed_weight side in
     let share : c.share.result ≡ fixed_places side c.args.ndata i =
     c.share.ensures.value ∙ share_is w (length side.channels) c.args.ndata i c.loop-i.held c.fixed_weight-part.result c.whole_fixed-weight.result c.loop-i.invariant.held c.fixed_weight-part.ensures.value c.whole_fixed-weight.ensures.value in
-    let formats : c.len-formats.result ≡ length (channel_at side i).formats = c.len-formats.ensures ∙ ap (λ (t : Trch). length t.formats) c.channel_of.ensures in
+    let formats : c.len-formats.result ≡ length (channel_at side i).formats = c.len-formats.ensures ∙ ap (λ (t : Trch). length t.formats) c.channel.ensures.value in
     record {
       held = omega (arith, total-more w i, c.loop-i.invariant.held, c.fixed_weight-part.ensures.value);
       places = λ j f before inside. below_more (λ j. (f : ℕ) → f < length (channel_at side j).formats → place_at c.fill_row.new.table j f ≡ fixed_places side c.args.ndata j) i

@@ -2,7 +2,7 @@ use Rattle.std.proofs.Common.{◌≡◌, ◌<◌, ℕ, length}
 use Rattle.dch_types.specs.Parts.{channel_at}
 use Rattle.dch_match.specs.Downlinks.{fixed_weight, fixed_places}
 use Rattle.dch_match.specs.Places.{place_at}
-use Rattle.dch_match.specs.Shares.{total}
+use Rattle.dch_types.specs.Sums.{total}
 use Rattle.dch_match.proofs.fixed.fixed_table.Given as goal
 
 abbrev pub invariant-loop-i : goal.invariant-loop-i

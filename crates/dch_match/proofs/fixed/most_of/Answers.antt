@@ -10,5 +10,5 @@ loop-f-init c = (sym (most-zero c.args.channel.now), omega arith)
 
 pub loop-f-preserved : goal.loop-f-preserved
 loop-f-preserved c =
-    let bits : c.tti_bits.result ≡ tti_bits c.args.channel.now (format_at c.args.channel.now c.loop-f.f) = c.tti_bits.ensures ∙ ap (tti_bits c.args.channel.now) c.format_of.ensures in
+    let bits : c.tti_bits.result ≡ tti_bits c.args.channel.now (format_at c.args.channel.now c.loop-f.f) = c.tti_bits.ensures ∙ ap (tti_bits c.args.channel.now) c.format.ensures.value in
     (grind (arith, common_steps, most-more c.args.channel.now c.loop-f.f, bits), grind (arith, common_steps, bits, (c.requires.formats c.loop-f.f (omega arith)).bits))

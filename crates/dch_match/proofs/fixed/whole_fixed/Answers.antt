@@ -1,6 +1,6 @@
 use Rattle.std.proofs.Common.{sym, arith}
 use Rattle.dch_match.specs.Downlinks.{fixed_weight}
-use Rattle.dch_match.proofs.SharesLemmas.{total-zero, total-more}
+use Rattle.dch_types.proofs.Sums.{total-zero, total-more}
 use Rattle.dch_match.proofs.fixed.whole_fixed.Goals as goal
 
 pub loop-i-init : goal.loop-i-init

@@ -6,9 +6,11 @@ use Rattle.dch_types.specs.Parts.{channel_at, format_number}
 use Rattle.dch_match.specs.Downlinks.{combined, exceeds, places_after}
 use Rattle.dch_match.specs.declared.places.Places.{Places}
 use Rattle.dch_match.specs.Places.{place_at, IsTable}
-use Rattle.dch_match.specs.Shares.{total, shared}
+use Rattle.dch_types.specs.Sums.{total}
+use Rattle.dch_match.specs.Shares.{shared}
 use Rattle.dch_match.proofs.Lowered.{lowered_here, lowered_other, not_lowered}
-use Rattle.dch_match.proofs.SharesLemmas.{total-zero, total-more, total_same, part_le, share_is}
+use Rattle.dch_types.proofs.Sums.{total-zero, total-more, total_same, part_le}
+use Rattle.dch_match.proofs.SharesLemmas.{share_is}
 use Rattle.dch_match.proofs.flexible.lower.Goals as goal
 
 -- the places of a combination that the table holds
@@ -46,19 +48,19 @@ loop-i-preserved c =
     let ndata : ℕ = c.args.ndata in
     let w : ℕ → ℕ = combined side k in
     let inside : i < length side.channels = omega arith in
-    let number : ℕ = c.number_of-f.result in
+    let number : ℕ = c.tfi-f.result in
     let share : c.share-most.result ≡ shared w (length side.channels) ndata i =
     c.share-most.ensures.value ∙ share_is w (length side.channels) ndata i c.loop-i.held c.combined-part.result c.whole_combined-weight.result c.loop-i.invariant.held c.combined-part.ensures.value c.whole_combined-weight.ensures.value in
     let exceeding : exceeds (places_after side ndata k) side ndata k ≡ true = lt-ltb ndata (total (λ i. places_after side ndata k i (format_number side k i)) (length side.channels)) (omega (arith, c.if-placed-ndata.false, c.placed.ensures, placed_is side c.args.table.now ndata k c.requires.good c.requires.combination c.requires.before)) in
-    let old : c.at.result ≡ places_after side ndata k i number = c.at.ensures.value ∙ c.loop-i.invariant.waiting i number (omega arith) inside c.number_of-f.ensures.inside in
-    let here : place_at c.put.new.self i number ≡ places_after side ndata (k + 1) i number = c.put.ensures.here ∙ c.min-places.ensures ∙ ap₂ min old share ∙ sym (lowered_here side ndata k i number exceeding (sym c.number_of-f.ensures.value)) in
+    let old : c.at.result ≡ places_after side ndata k i number = c.at.ensures.value ∙ c.loop-i.invariant.waiting i number (omega arith) inside c.tfi-f.ensures.inside in
+    let here : place_at c.put.new.self i number ≡ places_after side ndata (k + 1) i number = c.put.ensures.here ∙ c.min-places.ensures ∙ ap₂ min old share ∙ sym (lowered_here side ndata k i number exceeding (sym c.tfi-f.ensures.value)) in
     record {
       held = omega (arith, total-more w i, c.loop-i.invariant.held, c.combined-part.ensures.value);
       lowered = λ j f before format. below_more (λ j. (f : ℕ) → f < length (channel_at side j).formats → place_at c.put.new.self j f ≡ places_after side ndata (k + 1) j f) i
           (λ j less f format. c.put.ensures.same j f (inl (λ same. omega arith)) ∙ c.loop-i.invariant.lowered j f less format)
           (λ f format. elim (cases_eq f number) [
             | inl same ↦ ap (place_at c.put.new.self i) same ∙ here ∙ ap (places_after side ndata (k + 1) i) (sym same)
-            | inr differ ↦ c.put.ensures.same i f (inr differ) ∙ c.loop-i.invariant.waiting i f (omega arith) inside format ∙ sym (lowered_other side ndata k i f (λ same. differ (sym same ∙ sym c.number_of-f.ensures.value)))
+            | inr differ ↦ c.put.ensures.same i f (inr differ) ∙ c.loop-i.invariant.waiting i f (omega arith) inside format ∙ sym (lowered_other side ndata k i f (λ same. differ (sym same ∙ sym c.tfi-f.ensures.value)))
           ])
           j before f format;
       waiting = λ j f from channel format. c.put.ensures.same j f (inl (λ same. omega arith)) ∙ c.loop-i.invariant.waiting j f (omega arith) channel format;

@@ -2,7 +2,7 @@ use Rattle.std.proofs.Common.{◌≡◌, ◌<◌, ◌≤◌, ◌+◌, ℕ, lengt
 use Rattle.dch_types.specs.Parts.{channel_at}
 use Rattle.dch_match.specs.Downlinks.{combined, places_after}
 use Rattle.dch_match.specs.Places.{place_at}
-use Rattle.dch_match.specs.Shares.{total}
+use Rattle.dch_types.specs.Sums.{total}
 use Rattle.dch_match.proofs.flexible.lower.Given as goal
 
 abbrev pub invariant-loop-i : goal.invariant-loop-i

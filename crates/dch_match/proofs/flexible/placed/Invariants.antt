@@ -1,7 +1,7 @@
 use Rattle.std.proofs.Common.{◌≡◌, ◌≤◌, ◌*◌}
 use Rattle.dch_types.specs.Parts.{format_number}
 use Rattle.dch_match.specs.Places.{place_at}
-use Rattle.dch_match.specs.Shares.{total}
+use Rattle.dch_types.specs.Sums.{total}
 use Rattle.dch_match.proofs.flexible.placed.Given as goal
 
 abbrev pub invariant-loop-i : goal.invariant-loop-i

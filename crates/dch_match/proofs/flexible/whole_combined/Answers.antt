@@ -1,6 +1,6 @@
 use Rattle.std.proofs.Common.{sym, arith}
 use Rattle.dch_match.specs.Downlinks.{combined}
-use Rattle.dch_match.proofs.SharesLemmas.{total-zero, total-more}
+use Rattle.dch_types.proofs.Sums.{total-zero, total-more}
 use Rattle.dch_match.proofs.flexible.whole_combined.Goals as goal
 
 pub loop-i-init : goal.loop-i-init

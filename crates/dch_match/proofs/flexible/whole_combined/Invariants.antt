@@ -1,6 +1,6 @@
 use Rattle.std.proofs.Common.{◌≡◌, ◌≤◌, ◌*◌}
 use Rattle.dch_match.specs.Downlinks.{combined}
-use Rattle.dch_match.specs.Shares.{total}
+use Rattle.dch_types.specs.Sums.{total}
 use Rattle.dch_match.proofs.flexible.whole_combined.Given as goal
 
 abbrev pub invariant-loop-i : goal.invariant-loop-i

@@ -1,7 +1,8 @@
 use Rattle.std.proofs.Common.{◌≡◌, ℕ, ap, ◌∙◌, sym, refl, arith}
+use Rattle.dch_inter.specs.Places.{first_column}
 use Rattle.dch_match.specs.declared.pattern.Kind.{Kind}
 use Rattle.dch_match.specs.declared.pattern.Pattern.{Pattern}
-use Rattle.dch_match.specs.Matched.{matched, column, frame_start, frame_pattern}
+use Rattle.dch_match.specs.Matched.{matched, frame_start, frame_pattern}
 use Rattle.dch_match.proofs.Changes.{below-same}
 use Rattle.dch_match.proofs.MatchedLemmas.{matched_kept, matched_formed}
 use Rattle.dch_match.proofs.matched.frame_pattern.Goals as goal
@@ -21,7 +22,7 @@ unfolding frame_pattern
 returns-clause-value c =
     let n : ℕ = c.args.n in
     let sent : ℕ = c.args.sent in
-    let start : c.frame_start-e_ini.result ≡ frame_start n sent c.args.frames (column c.args.frames c.args.at) = c.frame_start-e_ini.ensures.value ∙ ap (frame_start n sent c.args.frames) c.column.ensures.value in
+    let start : c.frame_start-e_ini.result ≡ frame_start n sent c.args.frames (first_column c.args.frames c.args.at) = c.frame_start-e_ini.ensures.value ∙ ap (frame_start n sent c.args.frames) c.column-column.ensures.value in
     let pattern : Kind → Pattern = λ kind. record { len = n; kind = kind } in
     ap pattern (c.matched.ensures ∙ ap (matched n sent) start)
 

@@ -2,7 +2,8 @@ use Rattle.std.proofs.Common.{◌≡◌, ◌<◌, ◌≤◌, ◌+◌, ℕ, zero,
 use Rattle.std.proofs.lemmas.List.{get_or-set_same, get_or-set_other}
 use Rattle.std.proofs.Math.ListN.{set}
 use Rattle.dch_match.specs.Uplinks.{before_of, weight_of, sent_of}
-use Rattle.dch_match.proofs.SharesLemmas.{total-zero, total-more, part_le, share_is}
+use Rattle.dch_types.proofs.Sums.{total-zero, total-more, part_le}
+use Rattle.dch_match.proofs.SharesLemmas.{share_is}
 use Rattle.dch_match.proofs.uplink_plan.amounts.Goals as goal
 
 -- a list that is written below i, written at i

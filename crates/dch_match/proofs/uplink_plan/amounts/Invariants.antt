@@ -1,5 +1,5 @@
 use Rattle.std.proofs.Common.{◌≡◌, ◌<◌, ◌≤◌, ℕ, slice_index, length}
-use Rattle.dch_match.specs.Shares.{total}
+use Rattle.dch_types.specs.Sums.{total}
 use Rattle.dch_match.specs.Uplinks.{before_of, weight_of, sent_of}
 use Rattle.dch_match.proofs.uplink_plan.amounts.Given as goal
 

@@ -1,7 +1,8 @@
 use Rattle.std.proofs.Common.{◌≡◌, ℕ, Some, None, length, slice_index, refl, ◌∙◌}
 use Rattle.dch_types.specs.declared.config.Uplink.{Uplink}
 use Rattle.dch_match.specs.Uplinks.{chosen, demand_of, weight_of, sent_of}
-use Rattle.dch_match.proofs.SharesLemmas.{total_same, total-shared, below_all}
+use Rattle.dch_types.proofs.Sums.{total_same}
+use Rattle.dch_match.proofs.SharesLemmas.{total-shared, below_all}
 use Rattle.dch_match.proofs.Sizes.{chosen_le, no_size, no_choice, nothing_chosen, largest_least}
 use Rattle.dch_match.proofs.uplink_plan.uplink.Goals as goal
 

@@ -1,6 +1,6 @@
 use Rattle.std.proofs.Common.{sym, arith}
 use Rattle.dch_match.specs.Uplinks.{weight_of}
-use Rattle.dch_match.proofs.SharesLemmas.{total-zero, total-more}
+use Rattle.dch_types.proofs.Sums.{total-zero, total-more}
 use Rattle.dch_match.proofs.uplink_plan.whole_weight.Goals as goal
 
 pub loop-i-init : goal.loop-i-init

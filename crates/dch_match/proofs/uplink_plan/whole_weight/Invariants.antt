@@ -1,6 +1,6 @@
 use Rattle.std.proofs.Common.{◌≡◌, ◌≤◌, ◌*◌}
 use Rattle.dch_match.specs.Uplinks.{weight_of}
-use Rattle.dch_match.specs.Shares.{total}
+use Rattle.dch_types.specs.Sums.{total}
 use Rattle.dch_match.proofs.uplink_plan.whole_weight.Given as goal
 
 abbrev pub invariant-loop-i : goal.invariant-loop-i

@@ -2,8 +2,8 @@ use Rattle.std.proofs.Common.{◌≡◌, ◌+◌, ◌-◌, ◌*◌, ◌/◌, ◌
 use Rattle.std.specs.Int.{bit_at}
 use Rattle.std.specs.List.{range_with_len}
 use Rattle.std.proofs.lemmas.List.FromFn.{map-range_with_len_more}
+use Rattle.dch_bits.specs.Bits.{bit_of_number}
 use Rattle.dch_bits.specs.Octets.{bit_of_octets, octet_bit}
-use Rattle.dch_crc.specs.Register.{bit_with}
 use Rattle.dch_crc.specs.Parity.{bits_of_octets}
 use Rattle.dch_crc.proofs.Registers.{holds_none}
 use Rattle.dch_crc.proofs.Aligned.{narrowed}
@@ -13,7 +13,7 @@ pub loop-octet-init : goal.loop-octet-init
 loop-octet-init c = holds_none 32 (2 ^ 32 + c.lower_terms-terms.result) (omega arith)
 
 -- bit j of octet i, among the bits of all octets
-bit_place : (octets : List ℕ) (i j : ℕ) → j < 8 → bit_of_octets octets (8 * i + j) ≡ bit_with (bit_at (get_or octets i 0) (7 - j))
+bit_place : (octets : List ℕ) (i j : ℕ) → j < 8 → bit_of_octets octets (8 * i + j) ≡ bit_of_number (bit_at (get_or octets i 0) (7 - j))
 bit_place octets i j inside =
     let octet : (8 * i + j) / 8 ≡ i = omega arith in
     let place : (8 * i + j) % 8 ≡ j = omega arith in
@@ -25,7 +25,7 @@ loop-j-preserved c =
     let i : ℕ = c.loop-octet.octet-index in
     let j : ℕ = c.loop-j.j in
     let next : 8 * i + (j + 1) ≡ 8 * i + j + 1 = omega arith in
-    let here : bit_of_octets octets (8 * i + j) ≡ c.bit.result = bit_place octets i j (omega arith) ∙ sym (c.bit.ensures ∙ ap (λ n. bit_with (bit_at n (7 - j))) c.from.ensures) in
+    let here : bit_of_octets octets (8 * i + j) ≡ c.bit_at.result = bit_place octets i j (omega arith) ∙ sym (c.bit_at.ensures.bit ∙ ap (λ n. bit_of_number (bit_at n (7 - j))) c.from.ensures) in
     rw (next, map-range_with_len_more (bit_of_octets octets) 0 (8 * i + j) (8 * i + j) (omega arith), here)
     (c.next-register.ensures (map (bit_of_octets octets) (range_with_len 0 (8 * i + j))) c.loop-j.invariant)
 
