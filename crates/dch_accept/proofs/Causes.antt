@@ -1,6 +1,5 @@
 -- The causes of the refusals, one test after another.
-use Rattle.std.proofs.Common.{◌≡◌, ◌<◌, ◌≤◌, ℕ}
-use Rattle.std.specs.Prelude.{Result, Ok, Err}
+use Rattle.std.proofs.Common.{◌≤◌}
 use Rattle.dch_types.specs.declared.config.Config.{Config}
 use Rattle.dch_accept.specs.declared.refusal.Refusal.{Refusal}
 use Rattle.dch_accept.specs.declared.refusal.Refusal.TheVariants.{NoMemory, NoRate, Sequences, Collision}

@@ -1,12 +1,11 @@
 -- The idle format of a channel is there, and no bit is sent in it.
-use Rattle.std.proofs.Common.{◌≡◌, ◌<◌, ◌*◌, ℕ, arith, ap, sym, ◌∙◌, refl, length, get_or}
-use Rattle.std.specs.Prelude.{position, unwrap_or, Option, Some, None, true, is_some, IsSome, ◌==◌}
+use Rattle.std.proofs.Common.{◌≡◌, ◌*◌, ℕ, arith, ap, sym, refl}
+use Rattle.std.specs.Prelude.{position, unwrap_or, Option, Some, true, ◌==◌}
 use Rattle.std.proofs.lemmas.List.Quantifiers.{position-Some}
 use Rattle.std.proofs.lemmas.Grind.{common_steps}
 use Rattle.dch_types.specs.declared.channel.Trch.{Trch}
-use Rattle.dch_types.specs.Limits.{IsChannel, IsFormat, is_idle, idle_format}
+use Rattle.dch_types.specs.Limits.{IsChannel, IsFormat, is_idle}
 use Rattle.dch_types.specs.Parts.{format_at}
-use Rattle.dch_accept.specs.declared.set_blocks.Idle.{Idle}
 use Rattle.dch_accept.specs.HeldSets.{IsQuiet, IsIdleOf}
 
 quiet_product : (n m : ℕ) → (n * m == 0) ≡ true → n * m ≡ 0

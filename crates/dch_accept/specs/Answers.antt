@@ -6,7 +6,7 @@ use Rattle.dch_types.specs.declared.channel.Dir.{Dir}
 use Rattle.dch_types.specs.declared.channel.Dir.TheVariants.{Up, Down}
 use Rattle.dch_types.specs.declared.config.Config.{Config}
 use Rattle.dch_types.specs.declared.config.Uplink.{Uplink}
-use Rattle.dch_config.specs.Bearers.{side_of}
+use Rattle.dch_types.specs.Parts.{side_of}
 use Rattle.dch_match.specs.declared.uplink_plan.UplinkPlan.{UplinkPlan}
 use Rattle.dch_match.specs.Uplinks.{demand_of, set2}
 use Rattle.dch_puncture.specs.Copies.{uplink_copies, downlink_copies}

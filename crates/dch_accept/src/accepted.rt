@@ -1,6 +1,7 @@
 ghost use Rattle.std.specs.Prelude.{◌≡◌, ◌<◌, length, replicate, IfOk};
 ghost use Rattle.dch_bits.specs.declared.bit.Bit.TheVariants.{Zero};
-ghost use Rattle.dch_types.specs.Limits.{IsUplink};
+ghost use Rattle.dch_types.specs.Limits.{IsSide, IsUplink};
+ghost use Rattle.dch_types.specs.Parts.{side_of};
 ghost use Rattle.dch_config.specs.Good.{IsGood};
 ghost use Rattle.dch_config.specs.Bearers.{has_ct};
 ghost use Rattle.dch_match.specs.Uplinks.{IsPlan};
@@ -16,7 +17,7 @@ use dch_bits::{Bit, NoMemory};
 use dch_collision::{Found, Search};
 use dch_match::{DownlinkPlan, MatchError, UplinkPlan, downlink, uplink};
 use dch_puncture::count;
-use dch_types::{Config, Dir, Sequence, Uplink};
+use dch_types::{Config, Dir, Sequence, Side, Uplink};
 use std::alloc::Global;
 use std::marker::Model;
 
@@ -141,6 +142,14 @@ impl Accepted {
         ensures clear { IsClear result.now }
     {
         &self.config
+    }
+
+    /// The channels and combinations of a direction, which keep all limits.
+    pub fn side(&self, dir: Dir) -> &Side
+        ensures value { result.now ≡ side_of self.now.config dir }
+        ensures good { IsSide result.now }
+    {
+        self.config().side(dir)
     }
 
     /// The amounts of a radio frame in an uplink combination.

@@ -2,8 +2,7 @@ ghost use Rattle.std.specs.Prelude.{◌≡◌, ◌<◌, ◌≤◌, ◌*◌, ◌^
 ghost use Rattle.std.specs.Borrow.{sem};
 ghost use Rattle.std.specs.Int.{div_ceil};
 ghost use Rattle.dch_types.specs.Limits.{IsSide};
-ghost use Rattle.dch_types.specs.Parts.{channel_at, format_at};
-ghost use Rattle.dch_config.specs.Bearers.{side_of};
+ghost use Rattle.dch_types.specs.Parts.{channel_at, format_at, side_of};
 ghost use Rattle.dch_accept.specs.Blocks.{block_at, bits_of, zero_blocks, HoldsFormats, HoldsTtis};
 ghost use Rattle.dch_accept.specs.Padded.{bits_from, format_octets, IsUnpacked};
 ghost use Rattle.dch_accept.specs.BlockLending.{LendsBits, LendsBlock};
@@ -57,11 +56,7 @@ impl TtiBlocks {
         ensures none { IfOk result (λ blocks. blocks.good ≡ []) }
         ensures room { IfOk result (λ blocks. HoldsTtis (side_of accepted.now.config dir) blocks.room) }
     {
-        let config = accepted.config();
-        let room = match dir {
-            Dir::Up => most_bits(&config.uplink.side),
-            Dir::Down => most_bits(&config.downlink.side),
-        };
+        let room = most_bits(accepted.config().side(dir));
         TtiBlocks::with_room(alloc, room)
     }
 
@@ -126,12 +121,8 @@ impl TtiBlocks {
         requires format { format < length (channel_at (side_of accepted.now.config dir) channel).formats }
         ensures { self.new ≡ zero_blocks format (format_at (channel_at (side_of accepted.now.config dir) channel) format) self.old.room }
     {
-        let config = accepted.config();
-        let side = match dir {
-            Dir::Up => &config.uplink.side,
-            Dir::Down => &config.downlink.side,
-        };
-        self.clear(format, format_of(side, channel, format));
+        let trch = accepted.config().side(dir).channel(usize::from(channel));
+        self.clear(format, trch.format(usize::from(format)));
     }
 
     /// Takes a format, with as many blocks as it has. All are zeros and good.
@@ -235,18 +226,6 @@ fn unpack_block(octets: &[u8], out: &mut [Bit], at: usize, size: usize)
     ensures before { take at out.new ≡ take at out.old }
 {
     unpack(octets, &mut out[at..at + size]);
-}
-
-/// A format of a channel.
-fn format_of(side: &Side, channel: u8, format: u8) -> &Format
-    requires side { IsSide side.now }
-    requires channel { channel < length side.now.channels }
-    requires format { format < length (channel_at side.now channel).formats }
-    ensures value { result.now ≡ format_at (channel_at side.now channel) format }
-    ensures few { result.now.number ≤ 64 }
-{
-    let trch = &side.channels.as_slice()[channel as usize];
-    &trch.formats.as_slice()[format as usize]
 }
 
 /// The most bits of a TTI of a direction.

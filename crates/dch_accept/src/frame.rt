@@ -2,9 +2,7 @@ ghost use Rattle.std.specs.Prelude.{◌≡◌, ◌≤◌, ◌*◌, ◌^◌, ◌<
 ghost use Rattle.dch_bits.specs.declared.bit.Bit.TheVariants.{Zero};
 ghost use Rattle.dch_bits.specs.declared.bit.Trit.TheVariants.{Off};
 ghost use Rattle.std.specs.Borrow.{sem};
-ghost use Rattle.dch_types.specs.Limits.{IsDownlink};
 ghost use Rattle.dch_config.specs.Good.{IsGood};
-ghost use Rattle.dch_match.specs.Downlinks.{ndata_of};
 ghost use Rattle.dch_accept.specs.Frames.{most_cells, tfci_bits, IsOpenedFor};
 ghost use Rattle.dch_accept.specs.FrameLending.{LendsTfci, LendsCells};
 ghost use Rattle.dch_accept.specs.declared.frame.TheConstants.{MOST_TFCI};
@@ -12,7 +10,7 @@ ghost use Rattle.dch_accept.specs.declared.frame.TheConstants.{MOST_TFCI};
 use crate::accepted::Accepted;
 use crate::clear::clear;
 use dch_bits::{Bit, NoMemory, Trit};
-use dch_types::{Config, Dir, Downlink};
+use dch_types::{Config, Dir};
 use std::alloc::Global;
 use std::marker::Model;
 
@@ -52,6 +50,7 @@ impl Model for PhyFrame {
 impl PhyFrame {
     /// Takes the memory for the frames of a direction. A new frame has no cell, and its TFCI bits are zeros.
     pub fn open(alloc: Global, accepted: &Accepted, dir: Dir) -> Result<PhyFrame, NoMemory>
+        ensures tfci { IfOk result (λ frame. frame.tfci ≡ replicate (tfci_bits accepted.now.config dir) Zero) }
         ensures empty { IfOk result (λ frame. frame.cells ≡ []) }
         ensures opened { IfOk result (IsOpenedFor accepted.now.config dir) }
     {
@@ -131,14 +130,6 @@ fn most_cells(config: &Config, dir: Dir) -> usize
 {
     match dir {
         Dir::Up => config.uplink.largest as usize,
-        Dir::Down => ndata_of(&config.downlink),
+        Dir::Down => config.downlink.frame_bits(),
     }
-}
-
-fn ndata_of(config: &Downlink) -> usize
-    requires { IsDownlink config.now }
-    ensures value { result ≡ ndata_of config.now }
-    ensures small { result < 2 ^ 32 }
-{
-    15 * config.slot_bits as usize * config.codes as usize
 }

@@ -13,6 +13,3 @@ pub use blocks::TtiBlocks;
 pub use frame::{FrameView, PhyFrame};
 pub use refusal::Refusal;
 pub use set_blocks::SetBlocks;
-
-#[cfg(test)]
-mod tests;

@@ -2,8 +2,7 @@ ghost use Rattle.std.specs.Prelude.{◌≡◌, ◌<◌, ◌≤◌, ◌*◌, ℕ,
 ghost use Rattle.dch_types.specs.declared.channel.Dir.{Dir};
 ghost use Rattle.dch_types.specs.declared.config.Config.{Config};
 ghost use Rattle.dch_types.specs.Limits.{IsChannel, IsSide, is_idle};
-ghost use Rattle.dch_types.specs.Parts.{channel_at};
-ghost use Rattle.dch_config.specs.Bearers.{side_of};
+ghost use Rattle.dch_types.specs.Parts.{channel_at, side_of};
 ghost use Rattle.dch_accept.specs.Blocks.{bits_of, HoldsFormats};
 ghost use Rattle.dch_accept.specs.Padded.{IsUnpacked, format_octets};
 ghost use Rattle.dch_accept.specs.HeldSets.{AreCleared, AreIdleFormats, AreQuiet, AreRooms, HasFormat, IsCleared, IsIdleOf, IsIdleSet, IsQuiet, IsSetOf, held_at};
@@ -51,11 +50,7 @@ impl SetBlocks {
     ) -> Result<SetBlocks, NoMemory>
         ensures { IfOk result (IsIdleSet accepted.now.config dir set) }
     {
-        let config = accepted.config();
-        let side = match dir {
-            Dir::Up => &config.uplink.side,
-            Dir::Down => &config.downlink.side,
-        };
+        let side = accepted.config().side(dir);
         let idle = idle_formats(alloc, side, set)?;
         let blocks = rooms(alloc, side, set)?;
         let mut opened = SetBlocks { set, idle, blocks };
@@ -133,16 +128,6 @@ fn clear_all(idle: &[Idle], blocks: &mut [TtiBlocks])
     }
 }
 
-/// A channel of a direction.
-fn channel_of(side: &Side, channel: usize) -> &Trch
-    requires side { IsSide side.now }
-    requires channel { channel < length side.now.channels }
-    ensures value { result.now ≡ channel_at side.now channel }
-    ensures good { IsChannel result.now }
-{
-    &side.channels.as_slice()[channel]
-}
-
 /// The idle formats of the channels of a set. Other channels have one without blocks.
 fn idle_formats(alloc: Global, side: &Side, set: u8) -> Result<Vec<Idle>, NoMemory>
     requires { IsSide side.now }
@@ -150,7 +135,7 @@ fn idle_formats(alloc: Global, side: &Side, set: u8) -> Result<Vec<Idle>, NoMemo
 {
     let mut idle = Vec::new(alloc);
     for i in 0..side.channels.len() {
-        idle.push(idle_in(channel_of(side, i), set))?;
+        idle.push(idle_in(side.channel(i), set))?;
     }
     Ok(idle)
 }
@@ -208,7 +193,7 @@ fn rooms(alloc: Global, side: &Side, set: u8) -> Result<Vec<TtiBlocks>, NoMemory
 {
     let mut blocks = Vec::new(alloc);
     for i in 0..side.channels.len() {
-        let room = room_in(channel_of(side, i), set);
+        let room = room_in(side.channel(i), set);
         blocks.push(TtiBlocks::with_room(alloc, room)?)?;
     }
     Ok(blocks)

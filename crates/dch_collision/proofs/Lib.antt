@@ -1,3 +1,9 @@
+pub mod BlockLists
+pub mod Collide
+pub mod Costs
+pub mod Kept
+pub mod Linear
+pub mod Plain
 pub mod Carried
 pub mod Order
 pub mod Sizes

@@ -11,8 +11,8 @@ use Rattle.dch_types.specs.Lengths.{coded_block}
 use Rattle.dch_types.specs.Limits.{IsSide}
 use Rattle.dch_types.specs.Parts.{channel_at}
 use Rattle.dch_segment.specs.declared.cut.Plan.{Plan}
-use Rattle.dch_collide.specs.Collisions.{copies_kept}
-use Rattle.dch_collide.proofs.Collide.{sent-one, one-sent}
+use Rattle.dch_collision.specs.Collisions.{copies_kept}
+use Rattle.dch_collision.proofs.Collide.{sent-one, one-sent}
 use Rattle.dch_puncture.specs.Copies.{AreSentFlags}
 use Rattle.dch_collision.specs.declared.found.Found.{Found}
 use Rattle.dch_collision.specs.declared.found.FormatCollision.{FormatCollision}

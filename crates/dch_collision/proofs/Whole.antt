@@ -6,10 +6,10 @@ use Rattle.dch_types.specs.declared.channel.Coding.{Coding}
 use Rattle.dch_types.specs.declared.channel.Coding.TheVariants.{Uncoded, Half, Third}
 use Rattle.dch_types.specs.Lengths.{coded_block}
 use Rattle.dch_conv.specs.declared.rate.Rate.TheVariants.{Half as HalfRate, Third as ThirdRate}
-use Rattle.dch_collide.specs.Collisions.{NoneCollide, copies_kept}
-use Rattle.dch_collide.specs.Hidden.{is_punctured}
-use Rattle.dch_collide.proofs.Collide.{none-lost-step}
-use Rattle.dch_collide.proofs.Plain.{none-lost}
+use Rattle.dch_collision.specs.Collisions.{NoneCollide, copies_kept}
+use Rattle.dch_collision.specs.Hidden.{is_punctured}
+use Rattle.dch_collision.proofs.Collide.{none-lost-step}
+use Rattle.dch_collision.proofs.Plain.{none-lost}
 use Rattle.dch_collision.proofs.Carried.{none_by}
 
 half_kept : (size k : ℕ) → k < size → is_punctured HalfRate (replicate (2 * (size + 8)) true) k ≡ false

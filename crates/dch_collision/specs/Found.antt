@@ -7,7 +7,7 @@ use Rattle.dch_types.specs.Parts.{channel_at}
 use Rattle.dch_segment.specs.declared.cut.Plan.{Plan}
 use Rattle.dch_segment.specs.Segments.{plan_of}
 use Rattle.dch_legal.specs.Sequences.{IsLegal, IsBefore}
-use Rattle.dch_collide.specs.Collisions.{IsFirstCollision}
+use Rattle.dch_collision.specs.Collisions.{IsFirstCollision}
 use Rattle.dch_collision.specs.declared.found.Found.{Found}
 use Rattle.dch_collision.specs.Clear.{filler_of, block_copies, joined_in, Copies, IsClearBlock, IsClearUnder, IsClearFormat, IsClearChannel, IsClearSide}
 

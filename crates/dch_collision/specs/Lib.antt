@@ -1,3 +1,5 @@
 pub mod Clear
+pub mod Collisions
 pub mod Found
+pub mod Hidden
 pub mod Shapes

@@ -1,13 +1,13 @@
 ghost use Rattle.std.specs.Prelude.{◌≡◌, ◌≢◌, ◌<◌, ◌≤◌, ◌*◌, ◌^◌, None, true, false, length, take, IfSome};
 ghost use Rattle.dch_types.specs.declared.channel.Coding.TheVariants.{Uncoded};
 ghost use Rattle.dch_types.specs.Lengths.{coded_block};
-ghost use Rattle.dch_collide.specs.Collisions.{copies_kept};
-ghost use Rattle.dch_collision.specs.Clear.{filler_of, IsClearBlock, AreClearBlocks};
+ghost use Rattle.dch_collision.specs.Collisions.{copies_kept};
+ghost use Rattle.dch_collision.specs.Clear.{IsClearBlock, AreClearBlocks};
 ghost use Rattle.dch_collision.specs.Found.{IsFirstInBlock, IsFirstBlock};
 
+use crate::collider::Collider;
 use crate::shape::Shape;
 use dch_bits::Bit;
-use dch_collide::Collider;
 use dch_segment::Plan;
 use dch_types::Coding;
 
@@ -78,15 +78,8 @@ fn collides(
     let from = r * coded;
     collider.find(
         coding,
-        filler(plan, r),
+        plan.filler_of(r),
         &sent_flags[from..from + coded],
         block,
     )
-}
-
-/// The filler bits of code block `r`.
-fn filler(plan: &Plan, r: usize) -> usize
-    ensures { result ≡ filler_of plan.now r }
-{
-    if r == 0 { plan.filler } else { 0 }
 }

@@ -9,11 +9,11 @@ ghost use Rattle.dch_collision.specs.Found.{Finds};
 ghost use Rattle.dch_collision.specs.Shapes.{IsFirstUnder, IsCollisionInFormat, IsCollisionInChannel, IsShape};
 
 use crate::blocks::first_collision;
+use crate::collider::Collider;
 use crate::found::{FormatCollision, Found, format_collision, keep};
 use crate::search::Room;
-use crate::shape::{Shape, channel_of, shape_of};
+use crate::shape::{Shape, shape_of};
 use dch_bits::{Bit, NoMemory};
-use dch_collide::Collider;
 use dch_legal::first;
 use dch_match::DownlinkPlan;
 use dch_puncture::{downlink_punctures, downlink_sent_flags};
@@ -36,7 +36,7 @@ pub(crate) fn find(
     let mut places = [0; 8];
     for i in 0..config.side.channels.len() {
         let i = i as u8;
-        let sequence = &mut places[..usize::from(channel_of(&config.side, i).frames)];
+        let sequence = &mut places[..usize::from(config.side.channel(usize::from(i)).frames)];
         if let Some(hit) = first_in_channel(room, config, plan, i, sequence, block) {
             return Ok(Some(keep(alloc, i, &hit, sequence, block)?));
         }
@@ -61,7 +61,7 @@ fn first_in_channel(
     ensures some { IfSome result (λ hit. IsCollisionInChannel config.now.side (downlink_copies config.now) i sequence.new block.new hit) }
     ensures none { result ≡ None → IsClearChannel config.now.side (downlink_copies config.now) i }
 {
-    for f in 0..channel_of(&config.side, i).formats.len() {
+    for f in 0..config.side.channel(usize::from(i)).formats.len() {
         let f = f as u8;
         if let Some(hit) = first_in_format(room, config, plan, i, f, sequence, block) {
             return Some(hit);

@@ -3,11 +3,16 @@
 #![tactic(auto)]
 
 mod blocks;
+mod coded;
+mod collider;
 mod downlink;
 mod found;
 mod search;
 mod shape;
+mod uncoded;
 mod uplink;
+mod votes;
 
+pub use collider::Collider;
 pub use found::Found;
 pub use search::Search;

@@ -4,24 +4,21 @@ ghost use Rattle.dch_match.specs.Downlinks.{IsDownlinkPlan};
 ghost use Rattle.dch_puncture.specs.Plans.{AreAllPlans};
 ghost use Rattle.dch_puncture.specs.Copies.{uplink_copies, downlink_copies};
 ghost use Rattle.dch_collision.specs.Found.{Finds};
-ghost use Rattle.dch_collision.specs.declared.search.TheConstants.{MOST_BITS};
+ghost use Rattle.dch_types.specs.declared.limits.TheConstants.{MAX_TTI_BITS};
 
+use crate::collider::Collider;
 use crate::found::Found;
 use dch_bits::{Bit, NoMemory};
-use dch_collide::Collider;
 use dch_match::{DownlinkPlan, UplinkPlan};
-use dch_types::{Downlink, Uplink};
+use dch_types::{Downlink, MAX_TTI_BITS, Uplink};
 use std::alloc::Global;
-
-/// The most coded bits of a TTI, with its padding. Its code blocks have no more bits.
-const MOST_BITS: usize = 131_072;
 
 /// The memory of a search for collisions of code blocks.
 #[derive(Drop)]
 pub struct Search {
     room: Room,
     block: Vec<Bit>,
-    ghost block_room: { length block.items ≡ MOST_BITS },
+    ghost block_room: { length block.items ≡ MAX_TTI_BITS },
 }
 
 /// Room for the flags of the coded bits that are sent, in a radio frame and in a TTI.
@@ -30,8 +27,8 @@ pub(crate) struct Room {
     pub collider: Collider,
     pub segment: Vec<bool>,
     pub sent_flags: Vec<bool>,
-    ghost segment_room: { length segment.items ≡ MOST_BITS },
-    ghost kept_room: { length sent_flags.items ≡ MOST_BITS },
+    ghost segment_room: { length segment.items ≡ MAX_TTI_BITS },
+    ghost flags_room: { length sent_flags.items ≡ MAX_TTI_BITS },
 }
 
 impl Search {
@@ -39,12 +36,12 @@ impl Search {
     pub fn open(alloc: Global) -> Result<Search, NoMemory> {
         let room = Room {
             collider: Collider::open(alloc)?,
-            segment: flags(alloc, MOST_BITS)?,
-            sent_flags: flags(alloc, MOST_BITS)?,
+            segment: flags(alloc, MAX_TTI_BITS)?,
+            sent_flags: flags(alloc, MAX_TTI_BITS)?,
         };
         Ok(Search {
             room,
-            block: bits(alloc, MOST_BITS)?,
+            block: bits(alloc, MAX_TTI_BITS)?,
         })
     }
 

@@ -1,5 +1,5 @@
 -- How many lists pass a test, and the ways in which a sequence goes on.
-use Rattle.std.proofs.Common.{◌≡◌, ◌<◌, ◌≤◌, ◌+◌, ◌-◌, ◌*◌, ℕ, zero, suc, Bool, true, false, List, [], ◌∷◌, length, get_or, refl, sym, ap, ap₂, ◌∙◌, arith, add-one}
+use Rattle.std.proofs.Common.{◌≡◌, ◌<◌, ◌≤◌, ◌+◌, ◌-◌, ◌*◌, ℕ, zero, suc, Bool, true, false, List, [], ◌∷◌, length, get_or, refl, sym, ap, ◌∙◌, arith, add-one}
 use Rattle.std.specs.Prelude.{◌&&◌, if◌then◌else◌}
 use Rattle.std.proofs.lemmas.Bool.{and_from, and_parts}
 use Rattle.std.proofs.Math.Nat.{mul-le-mul_left}
@@ -7,32 +7,10 @@ use Rattle.dch_types.specs.declared.channel.Side.{Side}
 use Rattle.dch_types.specs.Limits.{IsSide}
 use Rattle.dch_legal.specs.Sequences.{frames_of}
 use Rattle.dch_legal.specs.Steps.{fits, previous_of}
-use Rattle.dch_legal.specs.Counted.{total, how_many, goes_on, TellsLegal, ways_on, ways_with, legal_count}
+use Rattle.dch_types.specs.Sums.{total}
+use Rattle.dch_types.proofs.Sums.{total_none, total_small, total_same}
+use Rattle.dch_legal.specs.Counted.{how_many, goes_on, TellsLegal, ways_on, ways_with, legal_count}
 use Rattle.dch_legal.proofs.Chains.{chain_legal, legal_chain, few_frames}
-
--- sums
-pub total-zero : (number : ℕ → ℕ) → total number 0 ≡ 0
-unfolding total
-total-zero number = refl
-
-pub total-more : (number : ℕ → ℕ) (n : ℕ) → total number (n + 1) ≡ total number n + number n
-unfolding total
-total-more number n = rw add-one refl
-
-total_same : (v w : ℕ → ℕ) (n : ℕ) → ((i : ℕ) → i < n → v i ≡ w i) → total v n ≡ total w n
-unfolding total
-total_same v w zero each = refl
-total_same v w (suc n) each = ap₂ (λ a b. a + b) (total_same v w n (λ i less. each i (omega arith))) (each n (omega arith))
-
-total_none : (v : ℕ → ℕ) (n : ℕ) → ((i : ℕ) → v i ≡ 0) → total v n ≡ 0
-unfolding total
-total_none v zero each = refl
-total_none v (suc n) each = omega (arith, total_none v n each, each n)
-
-total_small : (v : ℕ → ℕ) (n most : ℕ) → ((i : ℕ) → v i ≤ most) → total v n ≤ n * most
-unfolding total
-total_small v zero most each = omega arith
-total_small v (suc n) most each = omega (arith, total_small v n most each, each n)
 
 -- no list passes a test that none passes
 none_pass : (bound count : ℕ) → how_many bound count (λ list. false) ≡ 0

@@ -1,13 +1,9 @@
 -- How many legal sequences there are.
 use Rattle.std.specs.Prelude.{◌≡◌, ◌<◌, ◌+◌, ◌-◌, ◌&&◌, ◌↔◌, ℕ, zero, suc, List, [], ◌∷◌, Bool, true, IsTrue, length, slice_index, if◌then◌else◌}
 use Rattle.dch_types.specs.declared.channel.Side.{Side}
+use Rattle.dch_types.specs.Sums.{total}
 use Rattle.dch_legal.specs.Sequences.{IsLegal, frames_of}
 use Rattle.dch_legal.specs.Steps.{fits}
-
--- the sum of the first n of some numbers
-unfoldable pub total : (ℕ → ℕ) → ℕ → ℕ
-total number zero = 0
-total number (suc n) = total number n + number n
 
 -- how many lists of so many numbers, each below a bound, pass a test
 unfoldable pub how_many : ℕ → ℕ → (List ℕ → Bool) → ℕ

@@ -7,6 +7,3 @@ mod listing;
 
 pub use counting::count;
 pub use listing::{first, next};
-
-#[cfg(test)]
-mod tests;

@@ -8,6 +8,3 @@ mod receiver;
 pub use answer::Demux;
 pub use block::mux;
 pub use receiver::demux;
-
-#[cfg(test)]
-mod tests;

@@ -1,3 +1,4 @@
 pub mod Flags
 pub mod Punctured
+pub mod Removed
 pub mod Sizes

@@ -1,10 +1,9 @@
 -- How many copies of each coded bit of a TTI are sent (TS 25.212 4.2.4 to 4.2.7).
-use Rattle.std.specs.Prelude.{◌≡◌, ◌<◌, ◌*◌, ℕ, List, Bool, false, length, unwrap_or, nat_lt, slice_index, slice_index_or}
-use Rattle.std.specs.Int.{div_ceil}
+use Rattle.std.specs.Prelude.{◌≡◌, ◌<◌, ℕ, List, Bool, false, length, unwrap_or, nat_lt, slice_index, slice_index_or}
 use Rattle.dch_types.specs.declared.channel.Side.{Side}
 use Rattle.dch_types.specs.declared.config.Uplink.{Uplink}
 use Rattle.dch_types.specs.declared.config.Downlink.{Downlink}
-use Rattle.dch_types.specs.Lengths.{tti_bits}
+use Rattle.dch_types.specs.Lengths.{padded, tti_bits}
 use Rattle.dch_types.specs.Parts.{channel_at, format_at}
 use Rattle.dch_inter.specs.Places.{frame_of, place_of}
 use Rattle.dch_match.specs.Patterns.{copies}
@@ -21,7 +20,7 @@ bits_in side i f = tti_bits (channel_at side i) (format_at (channel_at side i) f
 
 -- and after padding to whole radio frames
 abbrev pub padded_in : Side → ℕ → ℕ → ℕ
-padded_in side i f = div_ceil (bits_in side i f) (channel_at side i).frames * (channel_at side i).frames
+padded_in side i f = padded (bits_in side i f) (channel_at side i).frames
 
 -- the copies of bit m of channel i that radio frame n of its TTI sends in combination c
 abbrev pub frame_copies : Uplink → ℕ → ℕ → ℕ → ℕ → ℕ

@@ -9,7 +9,8 @@ use Rattle.dch_match.specs.declared.pattern.Kind.{Kind}
 use Rattle.dch_match.specs.Patterns.{copies}
 use Rattle.dch_match.specs.Uplinks.{before_of, sent_of}
 use Rattle.dch_match.specs.Downlinks.{pattern_of, stands_below}
-use Rattle.dch_legal.specs.Counted.{legal_count, total}
+use Rattle.dch_types.specs.Sums.{total}
+use Rattle.dch_legal.specs.Counted.{legal_count}
 use Rattle.dch_puncture.specs.Copies.{frame_size, bits_in}
 
 -- the code blocks of channel i in format f

@@ -1,3 +1,4 @@
 pub mod Copies
 pub mod Counted
 pub mod Plans
+pub mod Removed

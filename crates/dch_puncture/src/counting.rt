@@ -1,15 +1,14 @@
 ghost use Rattle.std.specs.Prelude.{◌≡◌, ◌<◌, ◌≤◌, ◌^◌, length};
-ghost use Rattle.dch_types.specs.Limits.{IsUplink, IsDownlink};
+ghost use Rattle.dch_types.specs.Limits.{IsDownlink, IsSide, IsUplink};
 ghost use Rattle.dch_types.specs.Parts.{channel_at};
 ghost use Rattle.dch_match.specs.Downlinks.{IsDownlinkPlan};
-ghost use Rattle.dch_legal.specs.Counted.{total};
+ghost use Rattle.dch_types.specs.Sums.{total};
 ghost use Rattle.dch_puncture.specs.Plans.{AreAllPlans};
-ghost use Rattle.dch_puncture.specs.Counted.{uplink_count, downlink_count, over_formats, search_count};
+ghost use Rattle.dch_puncture.specs.Counted.{blocks_in, uplink_count, downlink_count, over_formats, search_count};
 
-use crate::parts::{blocks, channel_of};
 use crate::puncturing::{downlink_punctures, uplink_punctures};
 use dch_match::{DownlinkPlan, UplinkPlan};
-use dch_types::{Downlink, Uplink};
+use dch_types::{Downlink, Side, Uplink};
 
 /// How many code blocks may lose bits by rate matching. A block of the uplink counts once for each legal sequence of its
 /// channel and format, which are not listed for that; a block of the downlink counts once.
@@ -49,7 +48,7 @@ fn count_uplink_channel(config: &Uplink, plans: &[UplinkPlan], i: u8) -> u128
     ensures small { result ≤ 2 ^ 80 }
 {
     let mut sum = 0;
-    for f in 0..channel_of(&config.side, i).formats.len() {
+    for f in 0..config.side.channel(usize::from(i)).formats.len() {
         sum += count_uplink_format(config, plans, i, f as u8);
     }
     sum
@@ -91,7 +90,7 @@ fn count_downlink_channel(config: &Downlink, plan: &DownlinkPlan, i: u8) -> u128
     ensures small { result ≤ 2 ^ 80 }
 {
     let mut sum = 0;
-    for f in 0..channel_of(&config.side, i).formats.len() {
+    for f in 0..config.side.channel(usize::from(i)).formats.len() {
         sum += count_downlink_format(config, plan, i, f as u8);
     }
     sum
@@ -110,4 +109,17 @@ fn count_downlink_format(config: &Downlink, plan: &DownlinkPlan, i: u8, f: u8) -
     } else {
         0
     }
+}
+
+/// The code blocks of a format.
+fn blocks(side: &Side, i: u8, f: u8) -> u64
+    requires good { IsSide side.now }
+    requires channel { i < length side.now.channels }
+    requires format { f < length (channel_at side.now i).formats }
+    ensures value { result ≡ blocks_in side.now i f }
+    ensures small { result ≤ 2 ^ 19 }
+{
+    let channel = side.channel(usize::from(i));
+    let joined = channel.joined_bits(channel.format(usize::from(f)));
+    channel.coding.block_count(joined)
 }

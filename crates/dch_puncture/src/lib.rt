@@ -4,9 +4,10 @@
 
 mod counting;
 mod flagging;
-mod parts;
+mod laws;
 mod puncturing;
 
 pub use counting::count;
 pub use flagging::{downlink_sent_flags, uplink_sent_flags};
+pub use laws::counted_formats;
 pub use puncturing::{downlink_punctures, uplink_punctures};

@@ -6,7 +6,6 @@ ghost use Rattle.dch_match.specs.Downlinks.{IsDownlinkPlan};
 ghost use Rattle.dch_puncture.specs.Plans.{AreAllPlans};
 ghost use Rattle.dch_puncture.specs.Counted.{removes, punctures_below, uplink_punctures, downlink_punctures};
 
-use crate::parts::number_of;
 use dch_match::{DownlinkPlan, Pattern, UplinkPlan, is_used, kept};
 use dch_types::{Downlink, Uplink};
 
@@ -35,7 +34,7 @@ fn gives_and_removes(config: &Uplink, plans: &[UplinkPlan], c: usize, i: u8, f: 
     requires channel { i < length config.now.side.channels }
     ensures { result ≡ (format_number config.now.side c i == f && removes config.now i c) }
 {
-    number_of(&config.side, c, i) == f && removes(config, plans, c, i)
+    config.side.tfi(c, usize::from(i)) == f && removes(config, plans, c, i)
 }
 
 /// Whether a radio frame of a combination sends fewer bits of a channel than there are.

@@ -2,7 +2,7 @@
 use Rattle.std.proofs.Common.{◌≡◌, ◌<◌, ◌≤◌, ◌≢◌, ◌+◌, ◌-◌, ◌*◌, ℕ, List, get_or, set, length, true, false, cond, refl, ap, ap₂, sym, ◌∙◌, subst, arith, inl, inr, get_or-set_other, get_or-set_same}
 use Rattle.std.specs.Prelude.{min}
 use Rattle.std.proofs.lemmas.Bool.{cases_eq}
-use Rattle.dch_match.proofs.SharesLemmas.{total-more}
+use Rattle.dch_types.proofs.Sums.{total-more}
 use Rattle.dch_types.specs.declared.channel.Format.{Format}
 use Rattle.dch_select.specs.Asked.{Asked, IsAsked, priority_of, starts, format_in}
 use Rattle.dch_select.specs.Offered.{offered, waiting_below, waiting_at, waiting_above, given_by}

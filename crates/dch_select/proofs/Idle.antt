@@ -1,7 +1,7 @@
 -- The combination in which all channels that start are idle is in the list.
-use Rattle.std.proofs.Common.{◌≡◌, ◌<◌, ◌≤◌, ◌%◌, ℕ, zero, suc, List, [], ◌∷◌, true, false, length, get_or, nat_le, refl, ap, sym, ◌∙◌, subst, arith, inl, inr}
-use Rattle.std.specs.Prelude.{◌==◌, if◌then◌else◌}
-use Rattle.std.proofs.lemmas.Bool.{cases_eq, cases_lt}
+use Rattle.std.proofs.Common.{◌≡◌, ◌<◌, ◌≤◌, ◌%◌, ℕ, zero, suc, List, [], ◌∷◌, true, false, length, get_or, nat_le, nat_lt, refl, ap, sym, ◌∙◌, subst, arith, inl, inr}
+use Rattle.std.specs.Prelude.{◌==◌, ◌&&◌, if◌then◌else◌}
+use Rattle.std.proofs.lemmas.Bool.{and_parts, cases_eq, cases_lt}
 use Rattle.std.proofs.lemmas.List.{get_or_default}
 use Rattle.std.proofs.lemmas.Bool.Decides.{nat_tests}
 use Rattle.dch_types.specs.declared.channel.Coding.TheVariants.{Uncoded}
@@ -11,6 +11,7 @@ use Rattle.dch_types.specs.declared.channel.Combination.{Combination}
 use Rattle.dch_types.specs.declared.channel.Side.{Side}
 use Rattle.dch_types.specs.Limits.{IsFrames, idle_format, idled}
 use Rattle.dch_types.specs.Parts.{channel_at, combination_at, format_number}
+use Rattle.dch_types.specs.Timing.{starts}
 use Rattle.dch_select.specs.Asked.{Asked, IsAsked}
 use Rattle.dch_select.specs.Candidates.{IsCandidate}
 
@@ -81,11 +82,19 @@ is_within f longest h = grind (arith, nat_tests)
 is_beyond : (f longest : ℕ) → longest < f → nat_le f longest ≡ false
 is_beyond f longest h = grind (arith, nat_tests)
 
-is_zero : (n : ℕ) → (n == 0) ≡ true → n ≡ 0
-is_zero n h = grind (arith, nat_tests)
+-- a TTI starts where its frames divide the frame number, and else it goes on
+starting_divides : (frames cfn : ℕ) → starts frames cfn ≡ true → cfn % frames ≡ 0
+starting_divides frames cfn h = grind (arith, nat_tests, (and_parts (nat_lt 0 frames) (cfn % frames == 0) h).1)
 
-not_zero : (n : ℕ) → (n == 0) ≡ false → n ≡ 0 → ⊥
-not_zero n h e = grind (arith, nat_tests)
+going_not : (frames cfn : ℕ) → 0 < frames → starts frames cfn ≡ false → cfn % frames ≡ 0 → ⊥
+going_not frames cfn some h divides =
+    let positive : nat_lt 0 frames ≡ true = grind (arith, nat_tests) in
+    let zero_left : (cfn % frames == 0) ≡ true = grind (arith, nat_tests) in
+    let yes : starts frames cfn ≡ true = rw (positive, zero_left) refl in
+    cc
+
+some_frames : (f : ℕ) → IsFrames f → 0 < f
+some_frames = each_frames (λ f. 0 < f) (omega arith) (omega arith) (omega arith) (omega arith)
 
 -- one that may always be chosen
 pub some_candidate : (asked : Asked) → IsAsked asked → (c : ℕ) × IsCandidate asked c
@@ -105,11 +114,11 @@ some_candidate asked good =
         kept = λ i inside going.
             let beyond : longest < (channel_at side i).frames = elim (cases_lt longest (channel_at side i).frames) [
               | inl past ↦ past
-              | inr within ↦ absurd (not_zero (asked.cfn % (channel_at side i).frames) going (reached.going (channel_at side i).frames (good.side.channels i inside).frames within))
+              | inr within ↦ absurd (going_not (channel_at side i).frames asked.cfn (some_frames (channel_at side i).frames (good.side.channels i inside).frames) going (reached.going (channel_at side i).frames (good.side.channels i inside).frames within))
             ] in
             at i inside ∙ ap (λ b. if b then idle_format (channel_at side i) else format_number side asked.running i) (is_beyond (channel_at side i).frames longest beyond);
         may = inr (λ i inside starting.
-            let within : (channel_at side i).frames ≤ longest = reached.starts (channel_at side i).frames (good.side.channels i inside).frames (is_zero (asked.cfn % (channel_at side i).frames) starting) in
+            let within : (channel_at side i).frames ≤ longest = reached.starts (channel_at side i).frames (good.side.channels i inside).frames (starting_divides (channel_at side i).frames asked.cfn starting) in
             at i inside ∙ ap (λ b. if b then idle_format (channel_at side i) else format_number side asked.running i) (is_within (channel_at side i).frames longest within));
       },
     )

@@ -4,8 +4,8 @@ use Rattle.std.specs.Prelude.{◌==◌, ◌&&◌, ◌||◌, if◌then◌else◌,
 use Rattle.std.proofs.lemmas.Bool.{cases_lt, cases_eq}
 use Rattle.std.proofs.lemmas.Bool.Decides.{nat_tests}
 use Rattle.dch_types.specs.declared.channel.Format.{Format}
-use Rattle.dch_match.specs.Shares.{total}
-use Rattle.dch_match.proofs.SharesLemmas.{total-zero, total-more, total_same}
+use Rattle.dch_types.specs.Sums.{total}
+use Rattle.dch_types.proofs.Sums.{total-zero, total-more, total_same}
 use Rattle.dch_select.specs.Asked.{Asked, IsAsked, priority_of}
 use Rattle.dch_select.specs.Offered.{offered, given_by, waiting_at, waiting_below, waiting_above}
 

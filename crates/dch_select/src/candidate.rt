@@ -27,7 +27,7 @@ impl Moment<'_> {
     {
         let running = self.running as usize;
         for i in 0..self.channels().len() {
-            if !self.starts(i) && self.number(combination, i) != self.number(running, i) {
+            if !self.starts(i) && self.side.tfi(combination, i) != self.side.tfi(running, i) {
                 return false;
             }
         }
@@ -72,7 +72,7 @@ impl Moment<'_> {
         ensures { IsTrue result ↔ StartsIdle self.now combination }
     {
         for i in 0..self.channels().len() {
-            if self.starts(i) && self.number(combination, i) as usize != self.idle(i) {
+            if self.starts(i) && usize::from(self.side.tfi(combination, i)) != self.idle(i) {
                 return false;
             }
         }

@@ -1,5 +1,5 @@
 ghost use Rattle.std.specs.Prelude.{◌≡◌, ◌<◌, length};
-ghost use Rattle.dch_config.specs.Bearers.{side_of};
+ghost use Rattle.dch_types.specs.Parts.{side_of};
 ghost use Rattle.dch_select.specs.Asked.{asked_of};
 ghost use Rattle.dch_select.specs.Best.{IsBest};
 
@@ -29,13 +29,9 @@ pub fn choose(
     ensures { IsBest (asked_of accepted.now.config dir cfn running offers.now blocked.now) result }
 {
     let config = accepted.config();
-    let side = match dir {
-        Dir::Up => &config.uplink.side,
-        Dir::Down => &config.downlink.side,
-    };
     let moment = Moment {
         dir,
-        side,
+        side: config.side(dir),
         bearers: config.bearers.as_slice(),
         cfn,
         running,

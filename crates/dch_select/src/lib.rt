@@ -10,6 +10,3 @@ mod moment;
 
 pub use choosing::choose;
 pub use head::Head;
-
-#[cfg(test)]
-mod tests;

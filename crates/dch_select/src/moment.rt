@@ -5,7 +5,7 @@ ghost use Rattle.dch_select.specs.Asked.{starts, format_in};
 ghost use Rattle.dch_select.specs.Offered.{offered, fits};
 
 use crate::head::Head;
-use dch_types::{Bearer, Dir, Format, Side, Trch};
+use dch_types::{Bearer, Dir, Format, Side, Trch, starts};
 use std::marker::Model;
 
 /// A radio frame for which a combination is chosen.
@@ -44,19 +44,7 @@ impl Moment<'_> {
         requires { i < length self.now.side.channels }
         ensures { result ≡ starts self.now i }
     {
-        self.cfn % self.channels()[i].frames == 0
-    }
-
-    /// The number of the format of channel `i` in a combination.
-    pub(crate) fn number(&self, combination: usize, i: usize) -> u8
-        requires combination { combination < length self.now.side.combinations }
-        requires channel { i < length self.now.side.channels }
-        ensures value { result ≡ format_number self.now.side combination i }
-        ensures within { result < length (channel_at self.now.side i).formats }
-    {
-        self.side.combinations.as_slice()[combination]
-            .formats
-            .as_slice()[i]
+        starts(self.side.channel(i).frames, self.cfn)
     }
 
     /// The format of channel `i` in a combination.
@@ -67,16 +55,8 @@ impl Moment<'_> {
         ensures few { result.number ≤ 64 }
         ensures short { result.size ≤ 5000 }
     {
-        format_of(self.channel(i), self.number(combination, i))
-    }
-
-    /// Channel `i`.
-    fn channel(&self, i: usize) -> &Trch
-        requires { i < length self.now.side.channels }
-        ensures value { result.now ≡ channel_at self.now.side i }
-        ensures good { IsChannel result.now }
-    {
-        &self.side.channels.as_slice()[i]
+        let tfi = self.side.tfi(combination, i);
+        *self.side.channel(i).format(usize::from(tfi))
     }
 
     /// The number of the idle format of channel `i`.
@@ -84,7 +64,7 @@ impl Moment<'_> {
         requires { i < length self.now.side.channels }
         ensures { result ≡ idle_format (channel_at self.now.side i) }
     {
-        idle_format(&self.channels()[i])
+        idle_format(self.side.channel(i))
     }
 
     /// The blocks of this size that a bearer has for channel `i`.
@@ -113,17 +93,6 @@ impl Moment<'_> {
             Some(channel) => channel as usize == i && self.offers[bearer].size == size,
         }
     }
-}
-
-/// A format of a channel.
-fn format_of(channel: &Trch, format: u8) -> Format
-    requires good { IsChannel channel.now }
-    requires there { format < length channel.now.formats }
-    ensures value { result ≡ format_at channel.now format }
-    ensures few { result.number ≤ 64 }
-    ensures short { result.size ≤ 5000 }
-{
-    channel.formats.as_slice()[format as usize]
 }
 
 /// The number of the idle format of a channel: its first one in which no bit is sent.

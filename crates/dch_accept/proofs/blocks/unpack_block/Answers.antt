@@ -1,9 +1,8 @@
-use Rattle.std.proofs.Common.{◌≡◌, ◌+◌, ◌-◌, ◌≤◌, ◌∙◌, ℕ, List, length, take, drop, get_or, arith, ap, sym, length-take, length-drop}
+use Rattle.std.proofs.Common.{◌≡◌, ◌+◌, ◌-◌, ◌∙◌, ℕ, List, length, take, drop, arith, ap, sym, length-take, length-drop}
 use borrow.Rule.Slice.PartMut.{put_mid}
 use Rattle.std.proofs.lemmas.List.{drop-take, drop_at, length-take-le}
 use Rattle.std.proofs.lemmas.Slice.{take-put_mid}
 use Rattle.dch_bits.specs.declared.bit.Bit.{Bit}
-use Rattle.dch_bits.specs.declared.bit.Bit.TheVariants.{Zero}
 use Rattle.dch_bits.specs.Octets.{bit_of_octets}
 use Rattle.dch_accept.proofs.Unpacked.{bits_are}
 use Rattle.dch_accept.proofs.blocks.unpack_block.Goals as goal

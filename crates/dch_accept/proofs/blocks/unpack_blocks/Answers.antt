@@ -1,7 +1,6 @@
-use Rattle.std.proofs.Common.{◌≡◌, ◌+◌, ◌-◌, ◌*◌, ◌≤◌, ◌<◌, ◌∙◌, ℕ, List, length, take, drop, arith, ap, ap₂, below_more}
+use Rattle.std.proofs.Common.{◌≡◌, ◌+◌, ◌-◌, ◌*◌, ◌≤◌, ◌∙◌, ℕ, List, take, drop, arith, ap, ap₂, below_more}
 use Rattle.std.specs.Int.{div_ceil}
 use Rattle.std.proofs.lemmas.Grind.{div_ceil_times}
-use Rattle.std.proofs.lemmas.Nat.{row_fits}
 use Rattle.dch_bits.specs.declared.bit.Bit.{Bit}
 use Rattle.dch_accept.specs.Padded.{bits_from}
 use Rattle.dch_accept.proofs.Unpacked.{bits_from-part, part_before}

@@ -1,4 +1,4 @@
-use Rattle.std.proofs.Common.{◌≡◌, ◌*◌, ◌<◌, ℕ, length, take, drop}
+use Rattle.std.proofs.Common.{◌≡◌, ◌*◌, ◌<◌, ℕ, take, drop}
 use Rattle.std.specs.Int.{div_ceil}
 use Rattle.dch_accept.specs.Padded.{bits_from}
 use Rattle.dch_accept.proofs.blocks.unpack_blocks.Given as goal

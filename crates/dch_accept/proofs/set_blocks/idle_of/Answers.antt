@@ -1,4 +1,4 @@
-use Rattle.std.proofs.Common.{get_or, ap, sym, subst, List}
+use Rattle.std.proofs.Common.{get_or, sym, subst, List}
 use Rattle.dch_types.specs.declared.channel.Format.{Format}
 use Rattle.dch_accept.specs.HeldSets.{IsQuiet, IsIdleOf}
 use Rattle.dch_accept.proofs.IdleFormats.{quiet_at, idle_at_first}

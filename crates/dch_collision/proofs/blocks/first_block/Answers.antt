@@ -1,5 +1,5 @@
 use Rattle.std.proofs.Common.{arith, below_more, refl}
-use Rattle.dch_collide.specs.Collisions.{copies_kept}
+use Rattle.dch_collision.specs.Collisions.{copies_kept}
 use Rattle.dch_collision.specs.Clear.{IsClearBlock}
 use Rattle.dch_collision.proofs.blocks.first_block.Goals as goal
 

@@ -1,5 +1,5 @@
 use Rattle.std.proofs.Common.{◌<◌, ℕ}
-use Rattle.dch_collide.specs.Collisions.{copies_kept}
+use Rattle.dch_collision.specs.Collisions.{copies_kept}
 use Rattle.dch_collision.specs.Clear.{IsClearBlock}
 use Rattle.dch_collision.proofs.blocks.first_block.Given as goal
 

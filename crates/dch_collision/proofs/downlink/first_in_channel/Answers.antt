@@ -1,5 +1,6 @@
-use Rattle.std.proofs.Common.{length, arith, ap, refl, below_more}
+use Rattle.std.proofs.Common.{◌∙◌, length, arith, ap, refl, below_more}
 use Rattle.dch_types.specs.declared.channel.Trch.{Trch}
+use Rattle.dch_types.specs.Parts.{channel_at}
 use Rattle.dch_puncture.specs.Copies.{downlink_copies}
 use Rattle.dch_collision.specs.Clear.{IsClearFormat}
 use Rattle.dch_collision.proofs.Under.{hit_in_channel, clear_channel}
@@ -15,4 +16,4 @@ loop-f-preserved c = below_more (λ f. IsClearFormat c.args.config.now.side (dow
 pub returns-clause-none : goal.returns-clause-none
 returns-clause-none c same =
     clear_channel c.args.config.now.side (downlink_copies c.args.config.now) c.args.i c.requires.good.side c.requires.channel
-    (λ f inside. c.loop-f.invariant f (omega (arith, inside, c.loop-f-test.false, c.len-f-end.ensures, ap (λ (t : Trch). length t.formats) c.channel_of.ensures)))
+    (λ f inside. c.loop-f.invariant f (omega (arith, inside, c.loop-f-test.false, c.len-f-end.ensures, ap (λ (t : Trch). length t.formats) (c.channel.ensures.value ∙ ap (channel_at c.args.config.now.side) c.from.ensures))))

@@ -1,6 +1,8 @@
 use Rattle.std.proofs.Common.{◌≡◌, ◌+◌, ℕ, length, sym, ap, ◌∙◌, arith}
-use Rattle.dch_legal.specs.Counted.{total, ways_with}
-use Rattle.dch_legal.proofs.Ways.{total-zero, total-more, ways_more, ways_few, with_fit, with_none}
+use Rattle.dch_types.specs.Sums.{total}
+use Rattle.dch_legal.specs.Counted.{ways_with}
+use Rattle.dch_types.proofs.Sums.{total-zero, total-more}
+use Rattle.dch_legal.proofs.Ways.{ways_more, ways_few, with_fit, with_none}
 use Rattle.dch_legal.proofs.counting.sum.Goals as goal
 use Rattle.dch_legal.proofs.counting.sum.Goals.{then-fits, else-fits}
 

@@ -1,5 +1,6 @@
 use Rattle.std.proofs.Common.{◌≡◌, ◌≤◌, ◌*◌}
-use Rattle.dch_legal.specs.Counted.{total, ways_with}
+use Rattle.dch_types.specs.Sums.{total}
+use Rattle.dch_legal.specs.Counted.{ways_with}
 use Rattle.dch_legal.proofs.counting.sum.Given as goal
 
 abbrev pub invariant-loop-combination : goal.invariant-loop-combination

@@ -1,5 +1,5 @@
 use Rattle.std.proofs.Common.{◌≡◌, ◌≤◌, ◌*◌, ◌^◌}
-use Rattle.dch_legal.specs.Counted.{total}
+use Rattle.dch_types.specs.Sums.{total}
 use Rattle.dch_puncture.specs.Counted.{uplink_count, in_channel}
 use Rattle.dch_puncture.proofs.counting.count_uplink.Given as goal
 

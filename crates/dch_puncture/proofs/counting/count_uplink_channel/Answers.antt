@@ -1,5 +1,5 @@
 use Rattle.std.proofs.Common.{sym, arith}
-use Rattle.dch_legal.proofs.Ways.{total-zero, total-more}
+use Rattle.dch_types.proofs.Sums.{total-zero, total-more}
 use Rattle.dch_puncture.specs.Counted.{uplink_count}
 use Rattle.dch_puncture.proofs.counting.count_uplink_channel.Goals as goal
 

@@ -5,7 +5,7 @@ use Rattle.std.proofs.lemmas.List.{length-take-le}
 use Rattle.std.proofs.lemmas.Nat.{row_fits}
 use Rattle.dch_bits.specs.declared.bit.Bit.{Bit}
 use Rattle.dch_types.specs.declared.channel.Format.{Format}
-use Rattle.dch_accept.specs.Blocks.{Held, bits_of}
+use Rattle.dch_accept.specs.Blocks.{Held}
 use Rattle.dch_accept.specs.Padded.{bits_from, IsUnpacked}
 use Rattle.dch_accept.proofs.Overwritten.{part_shown, whole_written}
 use Rattle.dch_accept.proofs.blocks.TtiBlocks.unpack.Goals as goal

@@ -1,5 +1,5 @@
 use Rattle.std.proofs.Common.{◌≡◌, ◌≤◌, ◌*◌}
-use Rattle.dch_match.specs.Shares.{total}
+use Rattle.dch_types.specs.Sums.{total}
 use Rattle.dch_select.specs.Best.{bits_in}
 use Rattle.dch_select.proofs.moment.Moment.bits.Given as goal
 

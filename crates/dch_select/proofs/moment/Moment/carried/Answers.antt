@@ -1,5 +1,5 @@
 use Rattle.std.proofs.Common.{◌≡◌, ◌+◌, length, arith, ap, sym, ◌∙◌, refl, get_or}
-use Rattle.dch_match.proofs.SharesLemmas.{total-zero}
+use Rattle.dch_types.proofs.Sums.{total-zero}
 use Rattle.dch_select.specs.Best.{carried_on, carried_below}
 use Rattle.dch_select.proofs.Lists.{zero_at, carried_is}
 use Rattle.dch_select.proofs.Counting.{carried_more, carried_same}

@@ -1,5 +1,5 @@
 use Rattle.std.proofs.Common.{arith}
-use Rattle.dch_match.proofs.SharesLemmas.{total-zero, total-more}
+use Rattle.dch_types.proofs.Sums.{total-zero, total-more}
 use Rattle.dch_select.specs.Offered.{offered}
 use Rattle.dch_select.proofs.moment.Moment.waiting.Goals as goal
 

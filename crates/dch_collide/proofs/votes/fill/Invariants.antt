@@ -1,8 +1,0 @@
-use Rattle.std.proofs.Common.{◌≡◌, ◌<◌, ℕ, get_or}
-use Rattle.std.specs.Prelude.{false}
-use Rattle.dch_trellis.specs.Search.{no_votes}
-use Rattle.dch_collide.specs.Hidden.{vote_for}
-use Rattle.dch_collide.proofs.votes.fill.Given as goal
-
-abbrev pub invariant-loop-t : goal.invariant-loop-t
-invariant-loop-t l = (t : ℕ) → t < l.t → get_or l.votes t no_votes ≡ vote_for l.zeros l.ones (get_or l.kept t false)

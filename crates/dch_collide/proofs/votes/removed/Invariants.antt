@@ -1,9 +1,0 @@
-use Rattle.std.proofs.Common.{◌≡◌, ◌≤◌, take}
-use Rattle.dch_collide.specs.Hidden.{removed}
-use Rattle.dch_collide.proofs.votes.removed.Given as goal
-
-abbrev pub invariant-loop-sent : goal.invariant-loop-sent
-invariant-loop-sent l = record {
-  counted : l.count ≡ removed (take l.sent-index l.kept);
-  few : l.count ≤ l.sent-index;
-}

@@ -1,2 +1,0 @@
-pub mod Collisions
-pub mod Hidden
