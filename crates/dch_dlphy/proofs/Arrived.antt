@@ -14,7 +14,8 @@ use Rattle.dch_types.specs.Parts.{channel_at}
 use Rattle.dch_inter.specs.Places.{first_of, first_back_of, frame_of, place_of}
 use Rattle.dch_inter.proofs.FirstColumns.{first_of-back, first_back_of-inside, frame_of-below, frame_place}
 use Rattle.dch_match.specs.declared.pattern.Pattern.{Pattern}
-use Rattle.dch_match.specs.Downlinks.{IsDownlinkPlan, ndata_of}
+use Rattle.dch_match.specs.Downlinks.{IsDownlinkPlan}
+use Rattle.dch_types.specs.Lengths.{frame_bits}
 use Rattle.dch_match.specs.Patterns.{copies_below}
 use Rattle.dch_match.proofs.SharesLemmas.{part_le}
 use Rattle.dch_frame.specs.Stages.{as_cell, code_back, origin_of}
@@ -55,10 +56,10 @@ multiplexed_at planned tti cfn c (suc count) i q inside early =
     ]
 
 -- a multiplexed cell of a frame that is kept as it was written
-kept_cell : (planned : Planned) (i n c : ℕ) (loaded : Loaded) (kept : RxFrame) (sent : IsSentFrame planned i n c loaded kept) (p : ℕ) → IsDownlink planned.config.downlink → p < ndata_of planned.config.downlink → get_or kept.cells p Off ≡ multiplexed_cell planned sent.tti sent.cfn c (length planned.config.downlink.side.channels) p
+kept_cell : (planned : Planned) (i n c : ℕ) (loaded : Loaded) (kept : RxFrame) (sent : IsSentFrame planned i n c loaded kept) (p : ℕ) → IsDownlink planned.config.downlink → p < frame_bits planned.config.downlink → get_or kept.cells p Off ≡ multiplexed_cell planned sent.tti sent.cfn c (length planned.config.downlink.side.channels) p
 unfolding frame_cell
 kept_cell planned i n c loaded kept sent p good inside =
-    let ndata : ℕ = ndata_of planned.config.downlink in
+    let ndata : ℕ = frame_bits planned.config.downlink in
     let v : ℕ = code_length planned in
     let long : length sent.frame.cells ≡ ndata = sent.written.long in
     let some : 0 < v = omega (arith, good.some_bits) in
@@ -76,7 +77,7 @@ unfolding sent_cell
 frame_arrived planned i n c m places loaded kept sent good plan channel listed size early =
     let side : Side = planned.config.downlink.side in
     let before : ℕ = bits_before planned c i in
-    let room : before + bits_per_frame planned c i ≤ ndata_of planned.config.downlink = omega (arith, part_le (bits_per_frame planned c) i (length side.channels) channel, plan.room c listed) in
+    let room : before + bits_per_frame planned c i ≤ frame_bits planned.config.downlink = omega (arith, part_le (bits_per_frame planned c) i (length side.channels) channel, plan.room c listed) in
     ap (λ combination. received_cell planned i combination kept.cells m) sent.found
     ∙ kept_cell planned i n c loaded kept sent (before + m) good (omega (arith, room, size, early))
     ∙ multiplexed_at planned sent.tti sent.cfn c (length side.channels) i m channel (omega (arith, size, early))

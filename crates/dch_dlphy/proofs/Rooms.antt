@@ -7,16 +7,16 @@ use Rattle.std.proofs.lemmas.Nat.{mul-le}
 use Rattle.std.proofs.lemmas.Grind.{div_ceil_times}
 use Rattle.dch_types.specs.declared.channel.Side.{Side}
 use Rattle.dch_types.specs.declared.config.Downlink.{Downlink}
-use Rattle.dch_types.specs.Lengths.{tti_bits}
+use Rattle.dch_types.specs.Lengths.{frame_bits, tti_bits}
 use Rattle.dch_types.specs.Limits.{IsDownlink, IsFrames, IsSide}
 use Rattle.dch_types.specs.Parts.{channel_at, format_at}
-use Rattle.dch_match.specs.Downlinks.{eighths, first_places, fixed_places, fixed_weight, flexible_weight, greatest, ndata_of, places_after, places_of, stands_below}
+use Rattle.dch_match.specs.Downlinks.{eighths, first_places, fixed_places, fixed_weight, flexible_weight, greatest, places_after, places_of, stands_below}
 use Rattle.dch_match.proofs.Greatest.{ceil_le, stands_le}
 use Rattle.dch_match.proofs.Lowered.{after_le}
 use Rattle.dch_match.proofs.SharesLemmas.{shared_le}
 
 -- the places of a radio frame are enough for the most of any
-frame_room : (downlink : Downlink) → IsDownlink downlink → ndata_of downlink ≤ 57240
+frame_room : (downlink : Downlink) → IsDownlink downlink → frame_bits downlink ≤ 57240
 frame_room downlink good = mul-le (15 * downlink.slot_bits) downlink.codes 19080 3 (omega (arith, good.few_bits)) good.few_codes
 
 -- eight radio frames at most
@@ -57,7 +57,7 @@ first_room side ndata i f good small inside format =
 pub tti_room : (downlink : Downlink) (i f : ℕ) → IsDownlink downlink → i < length downlink.side.channels → f < length (channel_at downlink.side i).formats → (channel_at downlink.side i).frames * places_of downlink i f ≤ 457920
 tti_room downlink i f good inside format =
     let side : Side = downlink.side in
-    let ndata : ℕ = ndata_of downlink in
+    let ndata : ℕ = frame_bits downlink in
     let frames : ℕ = (channel_at side i).frames in
     let small : ndata ≤ 57240 = frame_room downlink good in
     let is : IsFrames frames = (good.side.channels i inside).frames in

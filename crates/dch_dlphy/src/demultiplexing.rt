@@ -2,7 +2,7 @@ ghost use Rattle.std.specs.Prelude.{◌≡◌, ◌≢◌, ◌<◌, ◌≤◌, �
 ghost use Rattle.dch_bits.specs.declared.bit.Trit.TheVariants.{Off};
 ghost use Rattle.dch_types.specs.Parts.{channel_at};
 ghost use Rattle.dch_inter.specs.Places.{frame_of, place_of};
-ghost use Rattle.dch_match.specs.Downlinks.{ndata_of};
+ghost use Rattle.dch_types.specs.Lengths.{frame_bits};
 ghost use Rattle.dch_rxframes.specs.Formats.{IsFormatOf};
 ghost use Rattle.dch_rxframes.specs.RxFrames.{IsKeptOf};
 ghost use Rattle.dch_dlphy.specs.Frames.{bits_before, bits_per_frame};
@@ -44,7 +44,7 @@ fn demultiplex_frame(
     n: u8,
     out: &mut [Trit],
 )
-    requires kept { IsKeptOf accepted.now.config.downlink.side (cells_in accepted.now) (ndata_of accepted.now.config.downlink) kept.now }
+    requires kept { IsKeptOf accepted.now.config.downlink.side (cells_in accepted.now) (frame_bits accepted.now.config.downlink) kept.now }
     requires channel { channel < length accepted.now.config.downlink.side.channels }
     requires frame { n < (channel_at accepted.now.config.downlink.side channel).frames }
     requires there { kept.now.combination ≢ None }
@@ -75,7 +75,7 @@ fn channel_cells<'a>(
 ) -> &'a [Trit]
     requires combination { combination < length accepted.now.config.downlink.side.combinations }
     requires channel { channel < length accepted.now.config.downlink.side.channels }
-    requires long { length cells.now ≡ ndata_of accepted.now.config.downlink }
+    requires long { length cells.now ≡ frame_bits accepted.now.config.downlink }
     ensures cells { (m : ℕ) → m < length result.now →
         slice_index_or result.now m Off ≡ slice_index_or cells.now (bits_before accepted.now combination channel + m) Off }
     ensures long { length result.now ≡ bits_per_frame accepted.now combination channel }
@@ -90,7 +90,7 @@ fn channel_cells<'a>(
 fn bits_before(accepted: &Accepted, combination: u16, channel: u8) -> usize
     requires combination { combination < length accepted.now.config.downlink.side.combinations }
     requires channel { channel < length accepted.now.config.downlink.side.channels }
-    requires small { ndata_of accepted.now.config.downlink ≤ 57240 }
+    requires small { frame_bits accepted.now.config.downlink ≤ 57240 }
     ensures { result ≡ bits_before accepted.now combination channel }
 {
     let mut places = 0;

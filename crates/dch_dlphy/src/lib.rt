@@ -12,10 +12,7 @@ mod tti;
 mod writer;
 
 pub use dch_rxframes::TtiOutcome;
-pub use laws::written_frame_law;
+pub use laws::{pushed_tti_law, written_frame_law};
 pub use reader::DlReader;
 pub use tti::DlTti;
 pub use writer::write;
-
-#[cfg(test)]
-mod tests;

@@ -1,15 +1,13 @@
 ghost use Rattle.std.specs.Prelude.{◌≡◌, ◌<◌, ◌≤◌, ◌+◌, ◌*◌, ◌^◌, length};
-ghost use Rattle.dch_types.specs.Lengths.{tti_bits};
+ghost use Rattle.dch_types.specs.Lengths.{frame_bits, tti_bits};
 ghost use Rattle.dch_types.specs.Limits.{IsChannel, IsDownlink};
-ghost use Rattle.dch_types.specs.Parts.{channel_at, format_at, format_number};
-ghost use Rattle.dch_match.specs.Downlinks.{ndata_of};
+ghost use Rattle.dch_types.specs.Parts.{channel_at, format_at};
 ghost use Rattle.dch_match.specs.Patterns.{IsWellFormed, copies_below};
 ghost use Rattle.dch_dlphy.specs.Frames.{bits_before, bits_per_frame};
 ghost use Rattle.dch_dlphy.specs.Loaded.{matching_of};
 
 use dch_accept::Accepted;
 use dch_match::Pattern;
-use dch_rxframes::format_number;
 use dch_types::{Downlink, Trch};
 
 /// A channel of the downlink.
@@ -18,17 +16,7 @@ pub fn channel_of(accepted: &Accepted, channel: u8) -> &Trch
     ensures value { result.now ≡ channel_at accepted.now.config.downlink.side channel }
     ensures good { IsChannel result.now }
 {
-    dch_rxframes::channel_of(&accepted.config().downlink.side, channel)
-}
-
-/// The number of a channel's format in a combination.
-pub fn tfi(accepted: &Accepted, combination: u16, channel: u8) -> u8
-    requires combination { combination < length accepted.now.config.downlink.side.combinations }
-    requires channel { channel < length accepted.now.config.downlink.side.channels }
-    ensures value { result ≡ format_number accepted.now.config.downlink.side combination channel }
-    ensures inside { result < length (channel_at accepted.now.config.downlink.side channel).formats }
-{
-    format_number(&accepted.config().downlink.side, combination, channel)
+    accepted.config().downlink.side.channel(channel as usize)
 }
 
 /// The rate matching of a TTI of a channel in a format.
@@ -61,9 +49,10 @@ pub fn bits_in_frame(accepted: &Accepted, combination: u16, channel: u8) -> usiz
     requires combination { combination < length accepted.now.config.downlink.side.combinations }
     requires channel { channel < length accepted.now.config.downlink.side.channels }
     ensures value { result ≡ bits_per_frame accepted.now combination channel }
-    ensures inside { bits_before accepted.now combination channel + result ≤ ndata_of accepted.now.config.downlink }
+    ensures inside { bits_before accepted.now combination channel + result ≤ frame_bits accepted.now.config.downlink }
 {
-    let format = tfi(accepted, combination, channel);
+    let side = &accepted.config().downlink.side;
+    let format = side.tfi(combination as usize, channel as usize);
     accepted.downlink_plan().cells(channel, format) as usize
 }
 
@@ -80,7 +69,7 @@ pub fn code_length(config: &Downlink) -> usize
 /// The cells of a radio frame: those of all its codes.
 pub fn frame_length(config: &Downlink) -> usize
     requires { IsDownlink config.now }
-    ensures value { result ≡ ndata_of config.now }
+    ensures value { result ≡ frame_bits config.now }
     ensures small { result ≤ 57240 }
 {
     code_length(config) * config.codes as usize

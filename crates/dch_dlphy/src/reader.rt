@@ -4,7 +4,7 @@ ghost use Rattle.dch_accept.specs.Blocks.{HoldsTtis};
 ghost use Rattle.dch_decode.specs.Received.{ArrivesAs};
 ghost use Rattle.dch_rxframes.specs.Formats.{IsFormatOf};
 ghost use Rattle.dch_rxframes.specs.RxFrames.{rx_frame_at};
-ghost use Rattle.dch_dlphy.specs.Kept.{AreMissing, HasDownlinkTfci, AreRxFramesOf, IsReaderOf, Keeps};
+ghost use Rattle.dch_dlphy.specs.Kept.{AreMissing, HasDownlinkTfci, AreRxFramesOf, IsPushed, IsReaderOf, Keeps};
 ghost use Rattle.dch_dlphy.specs.Outcomes.{IsOutcome, IsSentBack};
 ghost use Rattle.dch_dlphy.specs.Read.{IsTtiRead};
 ghost use Rattle.dch_dlphy.specs.Sent.{IsSentTti};
@@ -17,15 +17,10 @@ use dch_bits::{NoMemory, Trit, Vote};
 use dch_decode::Decoder;
 use dch_frame::{Interleaver, count_votes};
 use dch_match::kept;
-use dch_rxframes::{ReceivedFrames, TtiOutcome, format_of, format_of_tti};
+use dch_rxframes::{ReceivedFrames, TtiOutcome, format_of_tti};
+use dch_types::{MAX_TTI_BITS, MAX_TTI_CELLS};
 use std::alloc::Global;
 use std::marker::Model;
-
-/// The most places of a TTI.
-const MOST_PLACES: usize = 457_920;
-
-/// The most coded bits of a TTI.
-const MOST_BITS: usize = 131_072;
 
 /// Received downlink radio frames, and the room to read the TTIs of the channels from them.
 #[derive(Drop)]
@@ -73,6 +68,7 @@ impl DlReader {
     pub fn push(&mut self, accepted: &Accepted, cfn: u8, frame: Option<FrameView<'_>>)
         requires opened { IsReaderOf accepted.now self.old }
         requires tfci { HasDownlinkTfci accepted.now frame }
+        ensures pushed { IsPushed accepted.now cfn frame.entry self.old.rx_frames self.new.rx_frames }
         ensures kept { Keeps accepted.now frame.entry (rx_frame_at self.new.rx_frames.frames (cfn % 8)) }
         ensures others { (k : ℕ) → k ≢ cfn % 8 → rx_frame_at self.new.rx_frames.frames k ≡ rx_frame_at self.old.rx_frames.frames k }
         ensures last { self.new.rx_frames.cfn ≡ cfn }
@@ -119,8 +115,8 @@ impl RxScratch {
     fn open(alloc: Global) -> Result<RxScratch, NoMemory> {
         let none = Vote { zeros: 0, ones: 0 };
         Ok(RxScratch {
-            cells: vec![in alloc; Trit::Off; MOST_PLACES]?,
-            votes: vec![in alloc; none; MOST_BITS]?,
+            cells: vec![in alloc; Trit::Off; MAX_TTI_CELLS]?,
+            votes: vec![in alloc; none; MAX_TTI_BITS]?,
             decoder: Decoder::open(alloc)?,
         })
     }
@@ -183,7 +179,7 @@ fn read_tti(
     // A radio frame has room for the places of its channels in each combination, and no two code blocks collide.
     let (_config, _plan) = (accepted.config(), accepted.downlink_plan());
     let trch = channel_of(accepted, channel);
-    let kind = format_of(trch, format);
+    let kind = trch.format(format as usize);
     let pattern = pattern_of(accepted, channel, format);
     let places = bits_per_frame(accepted, channel, format) as usize;
     let cells = &mut cells[..places * trch.frames as usize];

@@ -1,6 +1,6 @@
 ghost use Rattle.std.specs.Prelude.{◌≡◌, ◌≢◌, ◌≤◌, ◌%◌, ℕ, Some, length};
 ghost use Rattle.dch_types.specs.declared.channel.Dir.TheVariants.{Down};
-ghost use Rattle.dch_match.specs.Downlinks.{ndata_of};
+ghost use Rattle.dch_types.specs.Lengths.{frame_bits};
 ghost use Rattle.dch_accept.specs.Frames.{tfci_bits};
 ghost use Rattle.dch_rxframes.specs.RxFrames.{rx_frame_at};
 ghost use Rattle.dch_dlphy.specs.Kept.{Finds, AreRxFramesOf, IsKept};
@@ -42,7 +42,7 @@ pub fn receive_frame(
 fn combination_of(accepted: &Accepted, tfci: &[Bit], cells: usize) -> Option<u16>
     requires { length tfci.now ≡ tfci_bits accepted.now.config Down }
     ensures found { Finds accepted.now tfci.now cells result }
-    ensures long { (c : ℕ) → result ≡ Some c → cells ≡ ndata_of accepted.now.config.downlink }
+    ensures long { (c : ℕ) → result ≡ Some c → cells ≡ frame_bits accepted.now.config.downlink }
 {
     let index = find(tfci).index;
     let config = &accepted.config().downlink;

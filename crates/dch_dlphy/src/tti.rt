@@ -15,14 +15,10 @@ use dch_bits::{Bit, NoMemory, Trit};
 use dch_coding::TtiCoder;
 use dch_frame::Interleaver;
 use dch_match::Pattern;
-use dch_rxframes::format_of;
-use dch_ttibuf::{MOST_CELLS, TtiBuffer, tti_buffers};
-use dch_types::{Format, Trch};
+use dch_ttibuf::{TtiBuffer, tti_buffers};
+use dch_types::{Format, MAX_TTI_BITS, MAX_TTI_CELLS, Trch};
 use std::alloc::Global;
 use std::marker::Model;
-
-/// The most coded bits of a TTI.
-const MOST_BITS: usize = 131_072;
 
 /// The room in which a TTI is coded and filled.
 #[derive(Drop)]
@@ -40,9 +36,9 @@ impl Room {
     fn open(alloc: Global) -> Result<Room, NoMemory> {
         Ok(Room {
             coder: TtiCoder::open(alloc)?,
-            coded: vec![in alloc; Bit::Zero; MOST_BITS]?,
-            shown: vec![in alloc; Trit::Off; MOST_BITS]?,
-            tti: vec![in alloc; Trit::Off; MOST_CELLS]?,
+            coded: vec![in alloc; Bit::Zero; MAX_TTI_BITS]?,
+            shown: vec![in alloc; Trit::Off; MAX_TTI_BITS]?,
+            tti: vec![in alloc; Trit::Off; MAX_TTI_CELLS]?,
         })
     }
 
@@ -65,7 +61,7 @@ impl Room {
         requires room { channel.now.frames * places ≤ 457920 }
         ensures { IsMatched channel.now format (record { pattern = pattern.now; cells = places }) blocks.now buffer.new }
     {
-        let kind = format_of(channel, format);
+        let kind = channel.format(format as usize);
         let bits = code_front(&mut self.coder, channel, kind, blocks, &mut self.coded);
         let frames = channel.frames as usize;
         let count = frames * places as usize;
@@ -150,7 +146,7 @@ impl DlTti {
 
 impl DlTti {
     /// What is loaded of each channel.
-    pub(crate) fn tti_buffers(&self) -> &[TtiBuffer]
+    pub fn tti_buffers(&self) -> &[TtiBuffer]
         ensures { result.now ≡ self.now.loaded }
     {
         &self.tti_buffers

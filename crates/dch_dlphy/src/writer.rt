@@ -1,7 +1,7 @@
 ghost use Rattle.std.specs.Prelude.{◌≡◌, ◌<◌, ◌≤◌, ◌+◌, ◌*◌, ◌^◌, ℕ, length, slice_index_or};
 ghost use Rattle.dch_bits.specs.declared.bit.Trit.TheVariants.{Off};
 ghost use Rattle.dch_types.specs.declared.channel.Dir.TheVariants.{Down};
-ghost use Rattle.dch_match.specs.Downlinks.{ndata_of};
+ghost use Rattle.dch_types.specs.Lengths.{frame_bits};
 ghost use Rattle.dch_accept.specs.Frames.{IsOpenedFor};
 ghost use Rattle.dch_ttibuf.specs.Loaded.{AreFormats};
 ghost use Rattle.dch_dlphy.specs.Loaded.{AreLong, IsTtiOf};
@@ -46,7 +46,7 @@ fn write_cells(
     requires opened { IsTtiOf accepted.now tti.now }
     requires combination { combination < length accepted.now.config.downlink.side.combinations }
     requires formats { AreFormats accepted.now.config.downlink.side combination tti.now.loaded }
-    requires count { count ≡ ndata_of accepted.now.config.downlink }
+    requires count { count ≡ frame_bits accepted.now.config.downlink }
     requires code { 0 < tti.now.code }
     requires small { count ≤ 57240 }
     requires room { length out.old ≡ 2 * count }
@@ -69,7 +69,7 @@ fn multiplex(
     requires long { AreLong accepted.now tti_buffers.now }
     requires combination { combination < length accepted.now.config.downlink.side.combinations }
     requires formats { AreFormats accepted.now.config.downlink.side combination tti_buffers.now }
-    requires room { length out.old ≡ ndata_of accepted.now.config.downlink }
+    requires room { length out.old ≡ frame_bits accepted.now.config.downlink }
     requires small { length out.old ≤ 57240 }
     ensures { (p : ℕ) → p < length out.new → slice_index_or out.new p Off ≡ multiplexed_cell accepted.now tti_buffers.now cfn combination (length accepted.now.config.downlink.side.channels) p }
 {

@@ -1,7 +1,7 @@
 -- What a trip knows of the channels that are loaded, and that its parts fit a configuration.
 use Rattle.std.specs.Prelude.{◌≡◌, ◌≤◌, ℕ, List, Option, Some, None, length, slice_index_or}
 use Rattle.dch_types.specs.declared.channel.Dir.{Dir}
-use Rattle.dch_config.specs.Bearers.{side_of}
+use Rattle.dch_types.specs.Parts.{side_of}
 use Rattle.dch_accept.specs.Blocks.{HoldsTtis}
 use Rattle.dch_accept.specs.Frames.{IsOpenedFor}
 use Rattle.dch_accept.specs.Plans.{Planned}

@@ -1,7 +1,6 @@
 ghost use Rattle.std.specs.Prelude.{◌≡◌, ◌≢◌, ◌<◌, ◌≤◌, ℕ, List, Some, length};
 ghost use Rattle.dch_types.specs.declared.channel.Dir.{Dir};
-ghost use Rattle.dch_types.specs.Parts.{channel_at, format_at};
-ghost use Rattle.dch_config.specs.Bearers.{side_of};
+ghost use Rattle.dch_types.specs.Parts.{channel_at, format_at, side_of};
 ghost use Rattle.dch_accept.specs.Blocks.{HoldsTtis, bits_of};
 ghost use Rattle.dch_accept.specs.Frames.{IsOpenedFor};
 ghost use Rattle.dch_accept.specs.Plans.{Planned};

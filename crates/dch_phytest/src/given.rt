@@ -1,25 +1,12 @@
 ghost use Rattle.std.specs.Prelude.{◌≡◌, ◌≢◌, ◌<◌, ◌*◌, ℕ, true, None, Some, length, slice_index_or};
 ghost use Rattle.dch_types.specs.Limits.{IsSide};
-ghost use Rattle.dch_types.specs.Parts.{channel_at, format_at, format_number};
-ghost use Rattle.dch_config.specs.Bearers.{side_of};
+ghost use Rattle.dch_types.specs.Parts.{channel_at, format_at, format_number, side_of};
 ghost use Rattle.dch_accept.specs.Blocks.{HoldsTtis, bits_of};
 
 use crate::chance::fill;
 use dch_accept::{Accepted, TtiBlocks};
 use dch_bits::Bit;
-use dch_rxframes::format_number;
 use dch_types::{Dir, Side};
-
-/// The channels and combinations of a direction.
-pub fn side_of(accepted: &Accepted, dir: Dir) -> &Side
-    ensures value { result.now ≡ side_of accepted.now.config dir }
-    ensures good { IsSide result.now }
-{
-    match dir {
-        Dir::Up => &accepted.config().uplink.side,
-        Dir::Down => &accepted.config().downlink.side,
-    }
-}
 
 /// No format is noted.
 pub fn nothing() -> [Option<u8>; 8]
@@ -46,7 +33,7 @@ pub fn fits(side: &Side, combination: u16, noted: &[Option<u8>]) -> bool
     ensures { result ≡ true → (i : ℕ) → i < length side.now.channels → slice_index_or noted.now i None ≡ Some (format_number side.now combination i) }
 {
     for i in 0..side.channels.len() {
-        if noted[i] != Some(format_number(side, combination, i as u8)) {
+        if noted[i] != Some(side.tfi(combination as usize, i)) {
             return false;
         }
     }
@@ -70,14 +57,6 @@ pub fn give(
 {
     given.shape(accepted, dir, channel, format);
     fill(given.bits_mut(), u32::from(start) * 8 + u32::from(channel));
-}
-
-/// How many formats a channel has.
-pub fn formats_of(side: &Side, channel: u8) -> usize
-    requires { channel < length side.now.channels }
-    ensures { result ≡ length (channel_at side.now channel).formats }
-{
-    side.channels.as_slice()[channel as usize].formats.len()
 }
 
 /// Whether blocks are those that were given in a format, and all good.

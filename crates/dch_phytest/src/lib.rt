@@ -3,18 +3,24 @@
 #![tactic(auto)]
 
 mod chance;
-mod configs;
+mod downlink;
 mod ends;
 mod given;
 mod radio_channel;
 mod round_trip;
 mod uplink;
 
-pub use configs::{CODES, DOWNLINK, PACKETS, SPEECH, TINY};
+pub use downlink::DownlinkEnds;
 pub use ends::Ends;
 pub use radio_channel::RadioChannel;
 pub use round_trip::RoundTrip;
 pub use uplink::UplinkEnds;
 
+#[cfg(test)]
+mod accepting;
+#[cfg(test)]
+mod downlink_frames;
+#[cfg(test)]
+mod received_frames;
 #[cfg(test)]
 mod tests;

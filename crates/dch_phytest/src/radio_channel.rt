@@ -11,8 +11,8 @@ const UNLISTED: u16 = 1023;
 /// What becomes of a radio frame on its way.
 #[derive(Clone, Copy)]
 pub enum RadioChannel {
-    /// One cell in so many is turned, from the first on; none for 0. A cell that is Off stays Off.
-    Turned(usize),
+    /// One cell in so many is inverted, from the first on; none for 0. A cell that is Off stays Off.
+    Flipped(usize),
     /// Each cell is Off.
     Silent,
     /// The TFCI names no combination.
@@ -55,7 +55,7 @@ fn damage(radio: RadioChannel, received: &mut PhyFrame)
     ensures tfci { length received.new.tfci ≡ length received.old.tfci }
 {
     match radio {
-        RadioChannel::Turned(every) => turn(received.cells_mut(), every),
+        RadioChannel::Flipped(every) => flip(received.cells_mut(), every),
         RadioChannel::Silent => silence(received.cells_mut()),
         RadioChannel::Unlisted => send(UNLISTED, received.tfci_mut()),
         RadioChannel::Missing => {}
@@ -71,20 +71,20 @@ fn silence(cells: &mut [Trit])
     }
 }
 
-/// Turns one cell in so many, from the first on; none for 0. A cell that is Off stays Off.
-fn turn(cells: &mut [Trit], every: usize)
+/// Inverts one cell in so many, from the first on; none for 0. A cell that is Off stays Off.
+fn flip(cells: &mut [Trit], every: usize)
     ensures { length cells.new ≡ length cells.old }
 {
     if every > 0 {
         for k in 0..cells.len() {
             if k % every == 0 {
-                cells[k] = turned(cells[k]);
+                cells[k] = flipped(cells[k]);
             }
         }
     }
 }
 
-fn turned(cell: Trit) -> Trit {
+fn flipped(cell: Trit) -> Trit {
     match cell {
         Trit::Zero => Trit::One,
         Trit::One => Trit::Zero,

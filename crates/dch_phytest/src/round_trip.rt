@@ -1,15 +1,15 @@
 ghost use Rattle.std.specs.Prelude.{◌≡◌, ◌<◌, length, IfOk};
-ghost use Rattle.dch_types.specs.Parts.{channel_at};
-ghost use Rattle.dch_config.specs.Bearers.{side_of};
+ghost use Rattle.dch_types.specs.Parts.{channel_at, side_of};
 ghost use Rattle.dch_accept.specs.Blocks.{HoldsTtis};
 ghost use Rattle.dch_phytest.specs.Trips.{AreNoted, IsTripOf};
 
 use crate::ends::Ends;
-use crate::given::{are_given, are_zeros, fits, formats_of, give, note, nothing, side_of};
+use crate::given::{are_given, are_zeros, fits, give, note, nothing};
 use crate::radio_channel::{RadioChannel, carry};
 use dch_accept::{Accepted, PhyFrame, TtiBlocks};
 use dch_bits::NoMemory;
-use dch_rxframes::{TtiOutcome, format_number, frames_of};
+use dch_rxframes::TtiOutcome;
+use dch_types::{ends as ends_tti, started, starts};
 use std::alloc::Global;
 
 /// Both ends of a direction, and the air between them.
@@ -57,30 +57,24 @@ impl<E: Ends + Drop> RoundTrip<E> {
         Some((count, self.is_back(accepted, cfn)))
     }
 
-    /// Sends a frame in each combination of a sequence, from CFN 0 on, and brings them over. Notes how many cells each has, and
-    /// answers whether each was sent and all TTIs that ended were read as they were loaded.
+    /// Sends a frame in each of these combinations, from CFN 0 on, and brings them over. Answers whether each was sent with so
+    /// many cells and all TTIs that ended were read as they were loaded.
     pub fn transfer_all(
         &mut self,
         accepted: &Accepted,
-        sequence: &[u16],
+        frames: &[(u16, usize)],
         radio: RadioChannel,
-        cells: &mut Vec<usize>,
-    ) -> Result<bool, NoMemory>
+    ) -> bool
         requires opened { IsTripOf E.dir E.opened E.loaded accepted.now self.old }
     {
         let mut cfn = 0u8;
-        let mut all = true;
-        for combination in sequence {
-            match self.transfer(accepted, cfn, *combination, radio) {
-                Some((count, back)) => {
-                    cells.push(count)?;
-                    all = all && back;
-                }
-                None => all = false,
+        for (combination, cells) in frames {
+            if self.transfer(accepted, cfn, *combination, radio) != Some((*cells, true)) {
+                return false;
             }
             cfn = cfn.wrapping_add(1);
         }
-        Ok(all)
+        true
     }
 
     /// Sends a frame in a combination for each of these ways over the air, from CFN 0 on, and reads the TTI of a channel that
@@ -95,7 +89,7 @@ impl<E: Ends + Drop> RoundTrip<E> {
     ) -> Option<Result<bool, u8>>
         requires opened { IsTripOf E.dir E.opened E.loaded accepted.now self.old }
     {
-        if channel as usize >= side_of(accepted, E::dir()).channels.len() {
+        if channel as usize >= accepted.config().side(E::dir()).channels.len() {
             return None;
         }
         let mut cfn = 0u8;
@@ -113,7 +107,7 @@ impl<E: Ends + Drop> RoundTrip<E> {
         requires opened { IsTripOf E.dir E.opened E.loaded accepted.now self.old }
         ensures opened { IsTripOf E.dir E.opened E.loaded accepted.now self.new }
     {
-        let side = side_of(accepted, E::dir());
+        let side = accepted.config().side(E::dir());
         if combination as usize >= side.combinations.len() {
             return None;
         }
@@ -191,12 +185,11 @@ fn load_channels<E: Ends>(
     ensures ends { E.opened accepted.now ends.new }
     ensures noted { AreNoted (E.loaded ends.new) noted.new }
 {
-    let side = side_of(accepted, E::dir());
+    let side = accepted.config().side(E::dir());
     for i in 0..side.channels.len() {
-        let channel = i as u8;
-        if cfn % frames_of(side, channel) == 0 {
-            let format = format_number(side, combination, channel);
-            load_channel(accepted, cfn, channel, format, given, ends, noted);
+        if starts(side.channel(i).frames, cfn) {
+            let format = side.tfi(combination as usize, i);
+            load_channel(accepted, cfn, i as u8, format, given, ends, noted);
         }
     }
 }
@@ -246,11 +239,11 @@ fn are_back<E: Ends>(
     ensures same { E.loaded ends.new ≡ E.loaded ends.old }
     ensures read { HoldsTtis (side_of accepted.now.config E.dir) read.new.room }
 {
-    let side = side_of(accepted, E::dir());
+    let side = accepted.config().side(E::dir());
     for i in 0..side.channels.len() {
-        let frames = frames_of(side, i as u8);
-        if cfn % frames == frames - 1 {
-            let start = cfn - (frames - 1);
+        let frames = side.channel(i).frames;
+        if ends_tti(frames, cfn) {
+            let start = started(frames, cfn);
             let Some(format) = noted[i] else {
                 return false;
             };
@@ -281,8 +274,8 @@ fn is_back<E: Ends>(
     ensures same { E.loaded ends.new ≡ E.loaded ends.old }
     ensures read { read.new.room ≡ read.old.room }
 {
-    let side = side_of(accepted, E::dir());
-    if format as usize >= formats_of(side, channel) {
+    let side = accepted.config().side(E::dir());
+    if format as usize >= side.channel(channel as usize).formats.len() {
         return false;
     }
     give(accepted, E::dir(), start, channel, format, given);

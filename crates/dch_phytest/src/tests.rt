@@ -1,68 +1,154 @@
-use crate::{CODES, DOWNLINK, PACKETS, RadioChannel, RoundTrip, SPEECH, TINY, UplinkEnds};
-use dch_accept::{Accepted, accept};
+use crate::{DownlinkEnds, RadioChannel, RoundTrip, UplinkEnds};
+use dch_accept::Accepted;
 use dch_bits::NoMemory;
-use dch_config::read;
+use dch_samples::{flexible_positions, packets, six_codes, speech, three_codes, tiny};
 use std::alloc::Global;
 use std::test::Fail;
 
-fn accepted(alloc: Global, uplink: &str) -> Result<Accepted, Fail> {
-    let text = format!(in alloc; "{uplink}{DOWNLINK}")?;
-    Ok(accept(alloc, read(alloc, text.as_bytes())?)?)
-}
-
-/// Sends a frame in each combination of a sequence with one cell in so many turned, notes how many cells each has, and
-/// answers whether all TTIs that ended were read as they were loaded.
-fn transfer(
+/// Whether frames in these combinations have so many cells, and bring back all blocks with one cell in so many inverted.
+fn goes_up(
     alloc: Global,
     accepted: &Accepted,
-    sequence: &[u16],
+    frames: &[(u16, usize)],
     every: usize,
-    cells: &mut Vec<usize>,
 ) -> Result<bool, NoMemory> {
     let ends = UplinkEnds::open(alloc, accepted)?;
     let mut trip = RoundTrip::open(alloc, accepted, ends)?;
-    trip.transfer_all(accepted, sequence, RadioChannel::Turned(every), cells)
+    Ok(trip.transfer_all(accepted, frames, RadioChannel::Flipped(every)))
 }
 
+fn goes_down(
+    alloc: Global,
+    accepted: &Accepted,
+    frames: &[(u16, usize)],
+) -> Result<bool, NoMemory> {
+    let ends = DownlinkEnds::open(alloc, accepted)?;
+    let mut trip = RoundTrip::open(alloc, accepted, ends)?;
+    Ok(trip.transfer_all(accepted, frames, RadioChannel::Flipped(37)))
+}
+
+/// Combinations of `speech` and the cells of their frames in the uplink.
+fn speech_up() -> [(u16, usize); 8] {
+    [
+        (5, 600),
+        (5, 600),
+        (4, 300),
+        (4, 300),
+        (2, 600),
+        (2, 600),
+        (0, 0),
+        (0, 0),
+    ]
+}
+
+/// And those of packets, whose frames change in length.
+fn packets_up() -> [(u16, usize); 8] {
+    [
+        (11, 2400),
+        (17, 2400),
+        (22, 4800),
+        (28, 9600),
+        (5, 1200),
+        (17, 2400),
+        (34, 9600),
+        (22, 4800),
+    ]
+}
+
+/// And those of two to six codes.
+fn codes_up() -> [(u16, usize); 8] {
+    [
+        (6, 19_200),
+        (7, 28_800),
+        (8, 38_400),
+        (9, 48_000),
+        (10, 57_600),
+        (3, 600),
+        (11, 19_200),
+        (12, 38_400),
+    ]
+}
+
+/// Combinations of `speech`, whose frames all have the same length in the downlink.
+fn speech_down() -> [(u16, usize); 8] {
+    [
+        (5, 510),
+        (5, 510),
+        (4, 510),
+        (4, 510),
+        (2, 510),
+        (2, 510),
+        (0, 510),
+        (0, 510),
+    ]
+}
+
+fn flexible_down() -> [(u16, usize); 8] {
+    [
+        (13, 4200),
+        (13, 4200),
+        (12, 4200),
+        (11, 4200),
+        (8, 4200),
+        (8, 4200),
+        (9, 4200),
+        (9, 4200),
+    ]
+}
+
+fn codes_down() -> [(u16, usize); 8] {
+    [
+        (3, 12_600),
+        (4, 12_600),
+        (5, 12_600),
+        (5, 12_600),
+        (4, 12_600),
+        (3, 12_600),
+        (4, 12_600),
+        (5, 12_600),
+    ]
+}
+
+// A configuration is held in each test by itself, and no error is answered while it is held: both would make its proof dear.
+
 #[test]
-fn speech_with_damaged_cells(rt: HostRuntime) -> Result<(), Fail> {
-    let accepted = accepted(rt.alloc(), SPEECH)?;
-    let mut cells = Vec::new(rt.alloc());
-    let sequence = [5, 5, 4, 4, 2, 2, 0, 0];
-    let all = transfer(rt.alloc(), &accepted, &sequence, 37, &mut cells)?;
-    assert!(rt; cells.as_slice() == [600, 600, 300, 300, 600, 600, 0, 0].as_slice());
-    assert!(rt; all);
+fn damaged_speech(rt: HostRuntime) -> Result<(), Fail> {
+    let accepted = speech(rt.alloc())?;
+    assert!(rt; matches!(goes_up(rt.alloc(), &accepted, &speech_up(), 37), Ok(true)));
+    assert!(rt; matches!(goes_down(rt.alloc(), &accepted, &speech_down()), Ok(true)));
     Ok(())
 }
 
 #[test]
-fn packets_of_changing_length(rt: HostRuntime) -> Result<(), Fail> {
-    let accepted = accepted(rt.alloc(), PACKETS)?;
-    let mut cells = Vec::new(rt.alloc());
-    let sequence = [11, 17, 22, 28, 5, 17, 34, 22];
-    let all = transfer(rt.alloc(), &accepted, &sequence, 37, &mut cells)?;
-    assert!(rt; cells.as_slice() == [2400, 2400, 4800, 9600, 1200, 2400, 9600, 4800].as_slice());
-    assert!(rt; all);
+fn damaged_packets(rt: HostRuntime) -> Result<(), Fail> {
+    let accepted = packets(rt.alloc(), true)?;
+    assert!(rt; matches!(goes_up(rt.alloc(), &accepted, &packets_up(), 37), Ok(true)));
     Ok(())
 }
 
 #[test]
-fn two_to_six_codes(rt: HostRuntime) -> Result<(), Fail> {
-    let accepted = accepted(rt.alloc(), CODES)?;
-    let mut cells = Vec::new(rt.alloc());
-    let sequence = [6, 7, 8, 9, 10, 3, 11, 12, 14, 14, 13, 13, 13, 13, 13, 13];
-    let all = transfer(rt.alloc(), &accepted, &sequence, 37, &mut cells)?;
-    assert!(rt;
-        cells
-            .as_slice()
-            .starts_with(&[19_200, 28_800, 38_400, 48_000, 57_600])
-    );
-    assert!(rt; all);
+fn two_to_six_damaged_codes(rt: HostRuntime) -> Result<(), Fail> {
+    let accepted = six_codes(rt.alloc())?;
+    assert!(rt; matches!(goes_up(rt.alloc(), &accepted, &codes_up(), 37), Ok(true)));
     Ok(())
 }
 
-/// What reading the TTI of a frame gives, by the combination and by what becomes of it on its way.
-fn outcome(
+#[test]
+fn damaged_cells_at_flexible_positions(rt: HostRuntime) -> Result<(), Fail> {
+    let accepted = flexible_positions(rt.alloc())?;
+    assert!(rt; matches!(goes_down(rt.alloc(), &accepted, &flexible_down()), Ok(true)));
+    Ok(())
+}
+
+#[test]
+fn three_damaged_codes(rt: HostRuntime) -> Result<(), Fail> {
+    let accepted = three_codes(rt.alloc())?;
+    assert!(rt; matches!(goes_down(rt.alloc(), &accepted, &codes_down()), Ok(true)));
+    Ok(())
+}
+
+/// What reading the TTI of a frame of `tiny` gives, by the combination and by what becomes of it on its way.
+fn outcome_up(
     alloc: Global,
     accepted: &Accepted,
     combination: u16,
@@ -73,20 +159,60 @@ fn outcome(
     Ok(trip.outcome(accepted, combination, &[radio], 0))
 }
 
-#[test]
-fn frames_that_are_not_there(rt: HostRuntime) -> Result<(), Fail> {
-    let accepted = accept(rt.alloc(), read(rt.alloc(), TINY.as_bytes())?)?;
+/// What reading the signalling of `speech` gives, by what becomes of its four frames on their way.
+fn outcome_down(
+    alloc: Global,
+    accepted: &Accepted,
+    radios: &[RadioChannel],
+) -> Result<Option<Result<bool, u8>>, NoMemory> {
+    let ends = DownlinkEnds::open(alloc, accepted)?;
+    let mut trip = RoundTrip::open(alloc, accepted, ends)?;
+    Ok(trip.outcome(accepted, 5, radios, 3))
+}
+
+fn are_outcomes_up(alloc: Global, accepted: &Accepted) -> bool {
+    let whole = RadioChannel::Flipped(0);
     for (combination, radio, wanted) in [
-        (0, RadioChannel::Turned(0), Ok(true)),
-        (1, RadioChannel::Turned(0), Ok(false)),
+        (0, whole, Ok(true)),
+        (1, whole, Ok(false)),
         (1, RadioChannel::Missing, Err(0)),
         (1, RadioChannel::Unlisted, Err(0)),
     ] {
-        let got = outcome(rt.alloc(), &accepted, combination, radio)?;
-        assert!(rt; got == Some(wanted));
+        match outcome_up(alloc, accepted, combination, radio) {
+            Ok(outcome) if outcome == Some(wanted) => {}
+            _ => return false,
+        }
     }
-    let mut cells = Vec::new(rt.alloc());
-    assert!(rt; transfer(rt.alloc(), &accepted, &[1], 0, &mut cells)?);
-    assert!(rt; cells.as_slice() == [150].as_slice());
+    true
+}
+
+fn are_outcomes_down(alloc: Global, accepted: &Accepted) -> bool {
+    let whole = RadioChannel::Flipped(0);
+    for (radios, wanted) in [
+        ([whole; 4], Ok(false)),
+        ([RadioChannel::Silent; 4], Ok(true)),
+        ([whole, whole, RadioChannel::Missing, whole], Err(2)),
+        ([whole, RadioChannel::Unlisted, whole, whole], Err(1)),
+    ] {
+        match outcome_down(alloc, accepted, &radios) {
+            Ok(outcome) if outcome == Some(wanted) => {}
+            _ => return false,
+        }
+    }
+    true
+}
+
+#[test]
+fn missing_frames_in_the_uplink(rt: HostRuntime) -> Result<(), Fail> {
+    let accepted = tiny(rt.alloc())?;
+    assert!(rt; matches!(goes_up(rt.alloc(), &accepted, &[(1, 150)], 0), Ok(true)));
+    assert!(rt; are_outcomes_up(rt.alloc(), &accepted));
+    Ok(())
+}
+
+#[test]
+fn missing_frames_in_the_downlink(rt: HostRuntime) -> Result<(), Fail> {
+    let accepted = speech(rt.alloc())?;
+    assert!(rt; are_outcomes_down(rt.alloc(), &accepted));
     Ok(())
 }

@@ -1,3 +1,4 @@
 pub mod Formats
+pub mod Pushed
 pub mod RxFrames
 pub mod Sent

@@ -10,9 +10,6 @@ mod received_frames;
 
 pub use formats::format_of_tti;
 pub use outcome::TtiOutcome;
-pub use parts::{channel_of, format_number, format_of, frames_of};
+pub use parts::{channel_of, format_number, frames_of};
 pub use received_frame::ReceivedFrame;
 pub use received_frames::ReceivedFrames;
-
-#[cfg(test)]
-mod tests;

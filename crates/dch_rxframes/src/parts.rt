@@ -1,8 +1,8 @@
 ghost use Rattle.std.specs.Prelude.{◌≡◌, ◌<◌, length};
 ghost use Rattle.dch_types.specs.Limits.{IsChannel, IsFrames, IsSide};
-ghost use Rattle.dch_types.specs.Parts.{channel_at, format_at, format_number};
+ghost use Rattle.dch_types.specs.Parts.{channel_at, format_number};
 
-use dch_types::{Format, Side, Trch};
+use dch_types::{Side, Trch};
 
 /// The radio frames of a channel's TTI.
 pub fn frames_of(side: &Side, channel: u8) -> u8
@@ -12,7 +12,7 @@ pub fn frames_of(side: &Side, channel: u8) -> u8
     ensures some { 0 < result }
     ensures frames { IsFrames result }
 {
-    side.channels.as_slice()[channel as usize].frames
+    side.channel(channel as usize).frames
 }
 
 /// A channel of a direction.
@@ -22,15 +22,7 @@ pub fn channel_of(side: &Side, channel: u8) -> &Trch
     ensures value { result.now ≡ channel_at side.now channel }
     ensures good { IsChannel result.now }
 {
-    &side.channels.as_slice()[channel as usize]
-}
-
-/// A format of a channel.
-pub fn format_of(channel: &Trch, format: u8) -> &Format
-    requires { format < length channel.now.formats }
-    ensures { result.now ≡ format_at channel.now format }
-{
-    &channel.formats.as_slice()[format as usize]
+    side.channel(channel as usize)
 }
 
 /// The number of a channel's format in a combination.
@@ -41,6 +33,5 @@ pub fn format_number(side: &Side, combination: u16, channel: u8) -> u8
     ensures value { result ≡ format_number side.now combination channel }
     ensures inside { result < length (channel_at side.now channel).formats }
 {
-    let combination = &side.combinations.as_slice()[combination as usize];
-    combination.formats.as_slice()[channel as usize]
+    side.tfi(combination as usize, channel as usize)
 }

@@ -3,4 +3,4 @@
 
 mod tti_buffer;
 
-pub use tti_buffer::{MOST_CELLS, TtiBuffer, tti_buffers};
+pub use tti_buffer::{TtiBuffer, tti_buffers};

@@ -5,11 +5,9 @@ ghost use Rattle.dch_ttibuf.specs.Loaded.{AreEmpty, AreInterleaved};
 
 use dch_bits::{NoMemory, Trit};
 use dch_frame::segment;
+use dch_types::MAX_TTI_CELLS;
 use std::alloc::Global;
 use std::marker::Model;
-
-/// The most cells of a TTI: those of eight radio frames on three codes of 15 slots of 1272 bits.
-pub const MOST_CELLS: usize = 457_920;
 
 /// The TTI of a channel as its radio frames carry it.
 #[derive(Drop)]
@@ -37,7 +35,7 @@ impl TtiBuffer {
     {
         Ok(TtiBuffer {
             format: None,
-            cells: vec![in alloc; Trit::Off; MOST_CELLS]?,
+            cells: vec![in alloc; Trit::Off; MAX_TTI_CELLS]?,
             len: 0,
         })
     }

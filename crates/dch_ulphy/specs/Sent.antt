@@ -10,7 +10,9 @@ use Rattle.dch_accept.specs.Frames.{Frame}
 use Rattle.dch_accept.specs.Plans.{Planned}
 use Rattle.dch_rxframes.specs.RxFrames.{RxFrame, RxFrames}
 use Rattle.dch_rxframes.specs.Sent.{AreSentFrames as AreSentFramesBy, IsSentFrame as IsSentFrameBy}
+use Rattle.dch_rxframes.specs.Pushed.{AreSentAndPushed as AreSentAndPushedBy}
 use Rattle.dch_ulphy.specs.Frames.{IsFrame}
+use Rattle.dch_ulphy.specs.Kept.{cells_in}
 use Rattle.dch_ulphy.specs.Loaded.{IsLoaded, IsTtiOf, Loaded}
 use Rattle.dch_ulphy.specs.Tables.{code_length}
 
@@ -40,3 +42,8 @@ pub record IsSentTti (planned : Planned) (reader : RxFrames) (i f : ℕ) (sequen
   pub from : IsLoaded (channel_at planned.config.uplink.side i) f blocks loaded
   pub whole : length blocks ≡ bits_of (format_at (channel_at planned.config.uplink.side i) f)
   pub frames : AreSentFrames planned reader i sequence loaded
+
+-- the frames of a TTI of channel i are taken one after another from its first CFN on, just as they were written in a sequence of
+-- combinations, while this stayed loaded of the channel; reader n is what is kept before frame n
+abbrev pub AreSentAndPushed : Planned → ℕ → ℕ → List ℕ → Loaded → (ℕ → RxFrames) → Type 0
+AreSentAndPushed planned i first sequence loaded readers = AreSentAndPushedBy planned.config.uplink.side (IsWritten planned) (cells_in planned) code_length i first sequence loaded readers

@@ -37,5 +37,5 @@ pub fn channel_of(accepted: &Accepted, channel: u8) -> &Trch
     ensures good { IsChannel result.now }
     ensures clear { IsClear accepted.now.config }
 {
-    dch_rxframes::channel_of(&accepted.config().uplink.side, channel)
+    accepted.config().uplink.side.channel(channel as usize)
 }

@@ -13,7 +13,7 @@ mod tti;
 mod writer;
 
 pub use dch_rxframes::TtiOutcome;
-pub use laws::written_frame_law;
+pub use laws::{pushed_tti_law, written_frame_law};
 pub use reader::UlReader;
 pub use tti::UlTti;
 pub use writer::write;

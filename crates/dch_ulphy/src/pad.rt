@@ -3,13 +3,11 @@ ghost use Rattle.dch_bits.specs.declared.bit.Bit.TheVariants.{Zero};
 ghost use Rattle.dch_bits.specs.declared.bit.Trit.TheVariants.{Off};
 ghost use Rattle.dch_inter.specs.Places.{IsFrames};
 ghost use Rattle.dch_frame.specs.Stages.{as_cell};
-ghost use Rattle.dch_ulphy.specs.Loaded.{padded};
+ghost use Rattle.dch_types.specs.Lengths.{padded};
 
 use dch_bits::{Bit, Trit};
 use dch_frame::show;
-
-/// The most bits of a padded TTI.
-pub const MOST_BITS: usize = 131_072;
+use dch_inter::equalise;
 
 /// Writes the coded bits of a TTI to the front of `out` as cells, with zeros behind them up to whole radio frames, and
 /// answers how many cells there are (TS 25.212 4.2.4).
@@ -22,7 +20,7 @@ pub fn pad(frames: usize, coded: &[Bit], out: &mut [Trit]) -> usize
     ensures fits { result ≤ 131072 }
     ensures cells { (p : ℕ) → p < result → slice_index_or out.new p Off ≡ as_cell (slice_index_or coded.now p Zero) }
 {
-    let len = coded.len().div_ceil(frames) * frames;
+    let len = equalise(coded.len(), frames);
     show_padded(coded, &mut out[..len]);
     len
 }

@@ -5,7 +5,7 @@ ghost use Rattle.dch_legal.specs.Sequences.{IsLegal};
 ghost use Rattle.dch_accept.specs.Blocks.{HoldsTtis};
 ghost use Rattle.dch_decode.specs.Received.{ArrivesAs};
 ghost use Rattle.dch_rxframes.specs.RxFrames.{rx_frame_at};
-ghost use Rattle.dch_ulphy.specs.Kept.{AreMissing, HasUplinkTfci, IsReaderOf, Keeps};
+ghost use Rattle.dch_ulphy.specs.Kept.{AreMissing, HasUplinkTfci, IsPushed, IsReaderOf, Keeps};
 ghost use Rattle.dch_ulphy.specs.Outcomes.{IsOutcome, IsSentBack};
 ghost use Rattle.dch_rxframes.specs.Formats.{IsFormatOf};
 ghost use Rattle.dch_ulphy.specs.Read.{IsTtiRead};
@@ -13,13 +13,13 @@ ghost use Rattle.dch_ulphy.specs.Sent.{IsSentTti};
 
 use crate::demultiplexing::demultiplex_tti;
 use crate::formats::{channel_of, format_of_tti};
-use crate::pad::MOST_BITS;
 use crate::reception::receive_frame;
 use crate::tables::Tables;
 use dch_accept::{Accepted, FrameView, TtiBlocks};
 use dch_bits::{NoMemory, Vote};
 use dch_decode::Decoder;
-use dch_rxframes::{ReceivedFrames, TtiOutcome, format_of};
+use dch_rxframes::{ReceivedFrames, TtiOutcome};
+use dch_types::MAX_TTI_BITS;
 use std::alloc::Global;
 use std::marker::Model;
 
@@ -69,6 +69,7 @@ impl UlReader {
     pub fn push(&mut self, accepted: &Accepted, cfn: u8, frame: Option<FrameView<'_>>)
         requires opened { IsReaderOf accepted.now self.old }
         requires tfci { HasUplinkTfci frame }
+        ensures pushed { IsPushed accepted.now cfn frame.entry self.old self.new }
         ensures kept { Keeps accepted.now frame.entry (rx_frame_at self.new.frames (cfn % 8)) }
         ensures others { (k : ℕ) → k ≢ cfn % 8 → rx_frame_at self.new.frames k ≡ rx_frame_at self.old.frames k }
         ensures last { self.new.cfn ≡ cfn }
@@ -114,8 +115,8 @@ impl RxScratch {
     fn open(alloc: Global) -> Result<RxScratch, NoMemory> {
         let none = Vote { zeros: 0, ones: 0 };
         Ok(RxScratch {
-            counted: vec![in alloc; none; MOST_BITS]?,
-            votes: vec![in alloc; none; MOST_BITS]?,
+            counted: vec![in alloc; none; MAX_TTI_BITS]?,
+            votes: vec![in alloc; none; MAX_TTI_BITS]?,
             decoder: Decoder::open(alloc)?,
         })
     }
@@ -176,7 +177,7 @@ fn read_tti(
     ensures room { out.new.room ≡ out.old.room }
 {
     let trch = channel_of(accepted, channel);
-    let kind = format_of(trch, format);
+    let kind = trch.format(format as usize);
     let bits = trch.tti_bits(kind) as usize;
     let frames = trch.frames as usize;
     let rows = bits.div_ceil(frames);

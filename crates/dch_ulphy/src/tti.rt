@@ -4,13 +4,13 @@ ghost use Rattle.dch_types.specs.Parts.{channel_at, format_at};
 ghost use Rattle.dch_accept.specs.Blocks.{bits_of};
 ghost use Rattle.dch_ulphy.specs.Loaded.{IsLoaded, IsLong, IsTtiOf, loaded_at};
 
-use crate::pad::{MOST_BITS, pad};
+use crate::pad::pad;
 use crate::tables::Tables;
 use dch_accept::Accepted;
 use dch_bits::{Bit, NoMemory, Trit};
 use dch_coding::TtiCoder;
 use dch_ttibuf::{TtiBuffer, tti_buffers};
-use dch_types::Trch;
+use dch_types::{MAX_TTI_BITS, Trch};
 use std::alloc::Global;
 use std::marker::Model;
 
@@ -43,8 +43,8 @@ impl UlTti {
         let channels = accepted.config().uplink.side.channels.len();
         Ok(UlTti {
             coder: TtiCoder::open(alloc)?,
-            coded: vec![in alloc; Bit::Zero; MOST_BITS]?,
-            padded: vec![in alloc; Trit::Off; MOST_BITS]?,
+            coded: vec![in alloc; Bit::Zero; MAX_TTI_BITS]?,
+            padded: vec![in alloc; Trit::Off; MAX_TTI_BITS]?,
             tables: Tables::open(alloc)?,
             tti_buffers: tti_buffers(alloc, channels)?,
         })
@@ -61,7 +61,7 @@ impl UlTti {
         ensures loaded { IsLoaded (channel_at accepted.now.config.uplink.side channel) format blocks.now (loaded_at self.new channel) }
         ensures same { (i : ℕ) → i ≢ channel → loaded_at self.new i ≡ loaded_at self.old i }
     {
-        let trch = &accepted.config().uplink.side.channels.as_slice()[channel as usize];
+        let trch = accepted.config().uplink.side.channel(channel as usize);
         let buffer = &mut self.tti_buffers[channel as usize];
         load(
             &mut self.coder,
@@ -107,7 +107,7 @@ fn load(
     ensures loaded { IsLoaded channel.now format blocks.now buffer.new }
     ensures long { IsLong channel.now buffer.new }
 {
-    let kind = &channel.formats.as_slice()[format as usize];
+    let kind = channel.format(format as usize);
     let coded = &mut coded[..channel.tti_bits(kind) as usize];
     coder.code(channel, kind, blocks, coded);
     let frames = channel.frames as usize;

@@ -1,5 +1,7 @@
-use Rattle.std.proofs.Common.{◌≡◌, List, ap₂, ◌∙◌, length, arith, subst}
+use Rattle.std.proofs.Common.{◌≡◌, List, ap, ap₂, ◌∙◌, length, arith, subst}
+use Rattle.dch_types.specs.declared.config.Config.{Config}
 use Rattle.dch_types.specs.declared.config.Downlink.{Downlink}
+use Rattle.dch_types.specs.Parts.{format_number}
 use Rattle.dch_match.specs.declared.downlink_plan.RateMatching.{RateMatching}
 use Rattle.dch_match.specs.Downlinks.{IsDownlinkPlan, matching_at}
 use Rattle.dch_match.proofs.SharesLemmas.{part_le}
@@ -12,5 +14,5 @@ returns-clause-inside c =
     let downlink : Downlink = planned.config.downlink in
     let plan : IsDownlinkPlan downlink planned.downlink = subst (IsDownlinkPlan downlink) c.downlink_plan.ensures.value c.downlink_plan.ensures.plan in
     let cells : c.cells.result ≡ bits_per_frame planned c.args.combination c.args.channel =
-    c.cells.ensures ∙ ap₂ (λ (plan : List (List RateMatching)) f. (matching_at plan c.args.channel f).cells) c.downlink_plan.ensures.value c.tfi-format.ensures.value in
+    c.cells.ensures ∙ ap₂ (λ (plan : List (List RateMatching)) f. (matching_at plan c.args.channel f).cells) c.downlink_plan.ensures.value (c.tfi-format.ensures.value ∙ ap (λ (config : Config). format_number config.downlink.side c.args.combination c.args.channel) c.config.ensures.value) in
     omega (arith, cells, part_le (bits_per_frame planned c.args.combination) c.args.channel (length downlink.side.channels) c.requires.channel, plan.room c.args.combination c.requires.combination)

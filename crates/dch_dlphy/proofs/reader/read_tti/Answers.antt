@@ -37,14 +37,14 @@ returns-clause-read c =
     let long : length rx_frames ≡ bits_per_tti planned i f = search rules in
     let fits : c.kept.result ≤ length rx_frames = search rules in
     let same = c.channel_of-trch.ensures.value in
-    let kind : c.format_of-kind.result.now ≡ format_at (channel_at planned.config.downlink.side i) f = c.format_of-kind.ensures ∙ ap (λ (channel : Trch). format_at channel f) same in
+    let kind : c.format-kind.result.now ≡ format_at (channel_at planned.config.downlink.side i) f = c.format-kind.ensures.value ∙ ap (λ (channel : Trch). format_at channel f) same in
     let sized : length votes ≡ pattern.len = search rules in
     let kept : AreKeptCells planned c.args.rx_frames.now i f (take c.kept.result rx_frames) = kept_cells planned c.args.rx_frames.now i f c.kept.result pattern rx_frames c.pattern_of-pattern.ensures.value c.kept.ensures.sum long fits c.demultiplex_tti.ensures in
     tti_read planned c.args.rx_frames.now i f (take c.kept.result rx_frames) votes c.read.new.out c.requires.format kept
     (sized ∙ c.pattern_of-pattern.ensures.len)
     (λ j v inside. c.count_votes.ensures.votes j v inside ∙ ap (λ (pattern : Pattern). votes_of pattern (take c.kept.result rx_frames) j) c.pattern_of-pattern.ensures.value)
     (subst (λ (format : Format). IsReceived (channel_at planned.config.downlink.side i) f format votes c.read.new.out) kind
-    (subst (λ (channel : Trch). IsReceived channel f c.format_of-kind.result.now votes c.read.new.out) same c.read.ensures.read))
+    (subst (λ (channel : Trch). IsReceived channel f c.format-kind.result.now votes c.read.new.out) same c.read.ensures.read))
 
 pub returns-clause-undamaged : goal.returns-clause-undamaged
 returns-clause-undamaged c sequence blocks =
@@ -58,6 +58,6 @@ returns-clause-undamaged c sequence blocks =
     let clear : IsClear planned.config = subst IsClear c.config-config.ensures.value c.config-config.ensures.clear in
     let plan : IsDownlinkPlan planned.config.downlink planned.downlink = subst (IsDownlinkPlan planned.config.downlink) c.downlink_plan-plan.ensures.value c.downlink_plan-plan.ensures.plan in
     let kept : AreKeptCells planned c.args.rx_frames.now i f (take c.kept.result rx_frames) = kept_cells planned c.args.rx_frames.now i f c.kept.result c.pattern_of-pattern.result rx_frames c.pattern_of-pattern.ensures.value c.kept.ensures.sum long fits c.demultiplex_tti.ensures in
-    tti_arrives planned c.args.rx_frames.now i f sequence c.channel_of-trch.result.now c.format_of-kind.result.now c.pattern_of-pattern.result (take c.kept.result rx_frames) c.count_votes.new.out c.read.new.out blocks
-    c.channel_of-trch.ensures.value c.format_of-kind.ensures c.pattern_of-pattern.ensures.value good.downlink plan c.requires.opened c.requires.channel kept
+    tti_arrives planned c.args.rx_frames.now i f sequence c.channel_of-trch.result.now c.format-kind.result.now c.pattern_of-pattern.result (take c.kept.result rx_frames) c.count_votes.new.out c.read.new.out blocks
+    c.channel_of-trch.ensures.value c.format-kind.ensures.value c.pattern_of-pattern.ensures.value good.downlink plan c.requires.opened c.requires.channel kept
     (omega (arith, length-take-le c.kept.result rx_frames fits, fits, long)) c.count_votes.ensures.undamaged c.read.ensures.undamaged clear

@@ -1,7 +1,7 @@
 use Rattle.std.proofs.Common.{◌≡◌, ◌≤◌, ◌+◌, ◌-◌, ℕ, List, length, arith, ap, ◌∙◌}
 use Rattle.dch_bits.specs.declared.bit.Trit.{Trit}
 use Rattle.dch_types.specs.declared.config.Config.{Config}
-use Rattle.dch_match.specs.Downlinks.{ndata_of}
+use Rattle.dch_types.specs.Lengths.{frame_bits}
 use Rattle.dch_frame.proofs.Codes.{length_code}
 use Rattle.dch_dlphy.specs.Frames.{multiplexed_cell}
 use Rattle.dch_dlphy.proofs.Sent.{multiplexed_none, multiplexed_more, multiplexed_all}
@@ -17,7 +17,7 @@ loop-i-preserved c =
     let at : ℕ = c.loop-i.at in
     let n : ℕ = c.bits_in_frame.result in
     let out : List Trit = c.loop-i.out in
-    let frame : at + n ≤ ndata_of planned.config.downlink = omega (arith, c.bits_in_frame.ensures.inside, c.loop-i.invariant.place) in
+    let frame : at + n ≤ frame_bits planned.config.downlink = omega (arith, c.bits_in_frame.ensures.inside, c.loop-i.invariant.place) in
     let room : at + n ≤ length out = omega (arith, frame, c.loop-i.auto.out, c.requires.room) in
     let long : length c.write_channel.new.out ≡ n = c.write_channel.auto.out ∙ length_code out at n room in
     multiplexed_more planned c.args.tti_buffers.now c.args.cfn c.args.combination out c.write_channel.new.out i at n (at + n - at) c.loop-i.invariant c.bits_in_frame.ensures.value frame room long c.write_channel.ensures

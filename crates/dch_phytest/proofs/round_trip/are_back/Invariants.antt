@@ -1,5 +1,5 @@
 use Rattle.std.proofs.Common.{◌≡◌}
-use Rattle.dch_config.specs.Bearers.{side_of}
+use Rattle.dch_types.specs.Parts.{side_of}
 use Rattle.dch_accept.specs.Blocks.{HoldsTtis}
 use Rattle.dch_phytest.proofs.round_trip.are_back.Given as goal
 

@@ -1,5 +1,5 @@
 use Rattle.std.proofs.Common.{◌≡◌, length}
-use Rattle.dch_config.specs.Bearers.{side_of}
+use Rattle.dch_types.specs.Parts.{side_of}
 use Rattle.dch_accept.specs.Blocks.{HoldsTtis}
 use Rattle.dch_phytest.specs.Trips.{AreNoted}
 use Rattle.dch_phytest.proofs.round_trip.load_channels.Given as goal

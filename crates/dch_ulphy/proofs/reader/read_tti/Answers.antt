@@ -10,5 +10,5 @@ returns-clause-undamaged c sequence blocks =
     let heard : List Vote = c.demultiplex_tti.new.votes in
     let long : length heard ≡ div_ceil bits c.channel_of-trch.result.now.frames * c.channel_of-trch.result.now.frames = search rules in
     let fits : bits ≤ length heard = search (rules, long) in
-    tti_arrives c.args.accepted.now c.args.rx_frames.now c.args.channel c.args.format bits sequence c.channel_of-trch.result.now c.format_of-kind.result.now heard c.read.new.out blocks
-    c.channel_of-trch.ensures.value c.format_of-kind.ensures c.tti_bits-bits.ensures long fits c.demultiplex_tti.ensures.undamaged c.read.ensures.undamaged c.channel_of-trch.ensures.clear c.requires.channel
+    tti_arrives c.args.accepted.now c.args.rx_frames.now c.args.channel c.args.format bits sequence c.channel_of-trch.result.now c.format-kind.result.now heard c.read.new.out blocks
+    c.channel_of-trch.ensures.value c.format-kind.ensures.value c.tti_bits-bits.ensures long fits c.demultiplex_tti.ensures.undamaged c.read.ensures.undamaged c.channel_of-trch.ensures.clear c.requires.channel

@@ -16,7 +16,7 @@ returns c =
     record {
       format = c.load.ensures.format;
       coded = coded;
-      is = subst (λ (format : Format). IsCodedTti c.args.channel.now format c.args.blocks.now coded) c.format_of-kind.ensures c.code_front-bits.ensures.coded;
+      is = subst (λ (format : Format). IsCodedTti c.args.channel.now format c.args.blocks.now coded) c.format-kind.ensures.value c.code_front-bits.ensures.coded;
       cells = are_filled c.args.channel.now.frames c.args.places c.args.pattern.now coded c.fill_front.new.tti _ (search rules) c.requires.fits
           (λ p low. c.fill_front.ensures p low ∙ ap (λ (bits : List Bit). filled_cell c.args.pattern.now (take c.code_front-bits.result bits) p) same)
           (subst (λ (tti : List Trit). AreInterleaved c.args.channel.now.frames (take (c.args.channel.now.frames * c.args.places) tti) c.load.new.self.cells) tti c.load.ensures.cells);

@@ -1,9 +1,9 @@
 ghost use Rattle.std.specs.Prelude.{IfOk};
 
+use crate::ends::Ends;
 use dch_accept::{Accepted, PhyFrame, TtiBlocks};
 use dch_bits::{Bit, NoMemory};
 use dch_dlphy::{DlReader, DlTti, write};
-use dch_phytest::Ends;
 use dch_rxframes::TtiOutcome;
 use dch_types::Dir;
 use std::alloc::Global;

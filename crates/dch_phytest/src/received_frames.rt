@@ -1,6 +1,6 @@
-use super::*;
 use dch_bits::Trit;
 use dch_frame::Interleaver;
+use dch_rxframes::ReceivedFrames;
 use std::test::Fail;
 
 #[test]
