@@ -1,4 +1,3 @@
-pub mod Added
 pub mod Back
 pub mod Checks
 pub mod Fronts

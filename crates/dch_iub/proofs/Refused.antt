@@ -6,8 +6,7 @@ use Rattle.dch_iub.specs.declared.read.IubUl.{IubUl}
 use Rattle.dch_types.specs.declared.channel.Dir.{Dir}
 use Rattle.dch_types.specs.declared.channel.Trch.{Trch}
 use Rattle.dch_types.specs.declared.config.Config.{Config}
-use Rattle.dch_types.specs.Parts.{channel_at}
-use Rattle.dch_config.specs.Bearers.{side_of}
+use Rattle.dch_types.specs.Parts.{channel_at, side_of}
 use Rattle.dch_accept.specs.Blocks.{Held}
 use Rattle.dch_accept.specs.HeldSets.{AreIdleFormats, HeldSet, HasFormat, IsSetOf, held_at}
 use Rattle.dch_accept.specs.Blocks.{HoldsFormats}

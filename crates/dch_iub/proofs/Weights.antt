@@ -6,8 +6,7 @@ use Rattle.dch_types.specs.declared.channel.Dir.{Dir}
 use Rattle.dch_types.specs.declared.channel.Dir.TheVariants.{Up, Down}
 use Rattle.dch_types.specs.declared.channel.Side.{Side}
 use Rattle.dch_types.specs.declared.config.Config.{Config}
-use Rattle.dch_types.specs.Parts.{channel_at}
-use Rattle.dch_config.specs.Bearers.{side_of}
+use Rattle.dch_types.specs.Parts.{channel_at, side_of}
 use Rattle.dch_accept.specs.Padded.{format_octets}
 use Rattle.dch_iub.specs.Longest.{weight}
 use Rattle.dch_iub.specs.Shape.{ForSet, format_in, frame_octets, payload_end, sum_before}

@@ -1,5 +1,6 @@
 -- What was written is in the written form.
-use Rattle.std.proofs.Common.{◌≡◌, ◌+◌, ◌*◌, ◌<◌, ◌≤◌, ℕ, List, length, drop, arith, ap, ap₂, sym, ◌∙◌, length-drop, true}
+use Rattle.std.proofs.Common.{◌≡◌, ◌+◌, ◌*◌, ◌<◌, ◌≤◌, ℕ, List, length, drop, arith, ap, ap₂, sym, subst, ◌∙◌, length-drop, true}
+use Rattle.std.specs.Prelude.{Bool, slice_index}
 use Rattle.std.specs.Int.{div_ceil}
 use Rattle.std.proofs.lemmas.Grind.{div_ceil_times}
 use Rattle.std.proofs.lemmas.List.{get_or_past, length-take-le}
@@ -11,15 +12,14 @@ use Rattle.dch_types.specs.declared.channel.Dir.TheVariants.{Up}
 use Rattle.dch_types.specs.declared.channel.Side.{Side}
 use Rattle.dch_types.specs.declared.channel.Trch.{Trch}
 use Rattle.dch_types.specs.declared.config.Config.{Config}
-use Rattle.dch_types.specs.Parts.{channel_at, format_at}
-use Rattle.dch_config.specs.Bearers.{side_of}
+use Rattle.dch_types.specs.Parts.{channel_at, format_at, side_of}
 use Rattle.dch_accept.specs.Blocks.{Held, block_at}
-use Rattle.dch_accept.specs.HeldSets.{HeldSet, HasFormat, held_at}
+use Rattle.dch_accept.specs.HeldSets.{HeldSet, HasFormat, IsSetOf, held_at}
 use Rattle.dch_accept.proofs.Unpacked.{bits_are}
-use Rattle.dch_iub.specs.Shape.{ForSet, frame_octets, header_octets, payload_end, blocks_end, mark_count, marks_before, format_in}
+use Rattle.dch_iub.specs.Shape.{ForSet, check_octets, formats_of, frame_octets, header_octets, payload_end, blocks_end, mark_count, marks_before, format_in}
 use Rattle.dch_iub.specs.Forms.{ArePadded, AreMarked, IsPayloadCheck, IsTail, IsTailPadded, IsWrittenForm, StandAt}
 use Rattle.dch_iub.specs.Steps.{ArePacked, IsFront, IsMarked}
-use Rattle.dch_iub.proofs.Sums.{sum_before-fits}
+use Rattle.dch_iub.proofs.Sums.{formats_of-at, frame_octets-same, sum_before-fits}
 use Rattle.dch_iub.proofs.Transfers.{AreOf}
 
 -- a block is as long as its format says
@@ -82,3 +82,34 @@ written config dir set cfn qe frame numbers held known front long tail tail_padd
   padding = λ i inside member. padded (channel_at (side_of config dir) i) frame _ (held_at held.blocks i) (known.formats i inside member) (front.blocks i inside member);
   tail_padding = tail_padding;
 }
+
+-- the numbers of the formats of a set's blocks, of which a channel's is that of its blocks
+numbers_of : (config : Config) (dir : Dir) (set : ℕ) (numbers : List ℕ) (held : HeldSet) → IsSetOf config dir set held
+    → ((i : ℕ) → i < length (side_of config dir).channels → slice_index numbers i ≡ (held_at held.blocks i).format)
+    → frame_octets config dir set (formats_of held) ≡ frame_octets config dir set numbers
+numbers_of config dir set numbers held opened numbered =
+    frame_octets-same config dir set (formats_of held) numbers
+    (λ i inside member. formats_of-at held i (subst (λ n. i < n) (sym opened.rooms.all) inside) ∙ sym (numbered i inside))
+
+-- the octets of a frame, where the channels and the payload check are those of a configuration
+pub frame_room : (config : Config) (dir : Dir) (set : ℕ) (numbers : List ℕ) (held : HeldSet) (side : Side) (on : Bool) → side ≡ side_of config dir → on ≡ config.payload_check
+    → IsSetOf config dir set held → ((i : ℕ) → i < length side.channels → slice_index numbers i ≡ (held_at held.blocks i).format)
+    → frame_octets config dir set (formats_of held) ≡ payload_end dir side set numbers + check_octets on
+frame_room config dir set numbers held side on same checked opened numbered =
+    numbers_of config dir set numbers held opened (subst (λ (s : Side). (i : ℕ) → i < length s.channels → slice_index numbers i ≡ (held_at held.blocks i).format) same numbered)
+    ∙ ap₂ (λ (s : Side) (b : Bool). payload_end dir s set numbers + check_octets b) (sym same) (sym checked)
+
+-- what was written for the channels of a configuration
+pub record IsFilled (dir : Dir) (side : Side) (on : Bool) (set cfn qe : ℕ) (frame numbers : List ℕ) (held : HeldSet) : Type 0 where
+  pub numbered : (i : ℕ) → i < length side.channels → slice_index numbers i ≡ (held_at held.blocks i).format
+  pub front : IsFront side set frame cfn numbers held
+  pub tail : ForSet side set (λ i. HasFormat (channel_at side i) (held_at held.blocks i)) → IsTail dir side set frame qe numbers held
+  pub padding : IsTailPadded dir side set frame numbers
+  pub check : on ≡ true → IsPayloadCheck frame (header_octets side set) (payload_end dir side set numbers)
+
+pub filled_frame : (config : Config) (dir : Dir) (set cfn qe : ℕ) (frame numbers : List ℕ) (held : HeldSet) (side : Side) (on : Bool) → side ≡ side_of config dir → on ≡ config.payload_check
+    → IsSetOf config dir set held → length frame ≡ frame_octets config dir set (formats_of held) → IsFilled dir side on set cfn qe frame numbers held → IsWrittenForm config dir set frame cfn qe held
+filled_frame config dir set cfn qe frame numbers held side on same checked opened long filled =
+    let is : IsFilled dir (side_of config dir) on set cfn qe frame numbers held = subst (λ (s : Side). IsFilled dir s on set cfn qe frame numbers held) same filled in
+    written config dir set cfn qe frame numbers held (record { numbered = is.numbered; formats = opened.formats }) is.front
+    (long ∙ numbers_of config dir set numbers held opened is.numbered) (is.tail opened.formats) is.padding (λ h. is.check (checked ∙ h))

@@ -5,8 +5,7 @@ use Rattle.dch_types.specs.declared.channel.Dir.TheVariants.{Up, Down}
 use Rattle.dch_types.specs.declared.channel.Format.{Format}
 use Rattle.dch_types.specs.declared.channel.Trch.{Trch}
 use Rattle.dch_types.specs.declared.config.Config.{Config}
-use Rattle.dch_types.specs.Parts.{format_at}
-use Rattle.dch_config.specs.Bearers.{side_of}
+use Rattle.dch_types.specs.Parts.{format_at, side_of}
 use Rattle.dch_accept.specs.Padded.{format_octets}
 use Rattle.dch_iub.specs.Shape.{AreFormats, frame_octets}
 

@@ -9,7 +9,7 @@ ghost use Rattle.dch_iub.specs.Forms.{mark_of};
 ghost use Rattle.dch_iub.specs.Shape.{AreFormats, ForSet, format_in, blocks_end, header_octets, mark_count};
 ghost use Rattle.dch_iub.specs.Steps.{AreCollected, AreListed, ArePacked, AreWritten, IsPacked};
 
-use crate::shape::{block_octets, channel_of, format_octets, format_of};
+use crate::shape::{block_octets, format_octets};
 use dch_accept::{SetBlocks, TtiBlocks};
 use dch_bits::{Bit, pack};
 use dch_types::Side;
@@ -53,8 +53,8 @@ fn write_channel(
     ensures packed { (channel_at side.now channel).set ≡ set → ArePacked out.new at (length blocks.now.good) blocks.now }
     ensures before { take at out.new ≡ take at out.old }
 {
-    if channel_of(side, channel).set == set {
-        let format = format_of(side, channel, blocks.format());
+    if side.channel(channel).set == set {
+        let format = side.channel(channel).format(usize::from(blocks.format()));
         write_tti(blocks, block_octets(format), at, out);
         at + format_octets(format)
     } else {
@@ -121,7 +121,7 @@ fn list_channel(
     ensures listed { (channel_at side.now channel).set ≡ set → AreListed out.new at (length blocks.now.good) blocks.now }
     ensures before { take at out.new ≡ take at out.old }
 {
-    if channel_of(side, channel).set == set {
+    if side.channel(channel).set == set {
         list_tti(blocks, at, out);
         at + blocks.count()
     } else {

@@ -3,7 +3,7 @@ ghost use Rattle.dch_types.specs.Limits.{IsSide};
 ghost use Rattle.dch_types.specs.Parts.{channel_at, format_at};
 ghost use Rattle.dch_iub.specs.Longest.{IsGreatest, IsLongest, weight};
 
-use crate::shape::{channel_of, format_octets, format_of, frame_octets, side_of};
+use crate::shape::{format_octets, frame_octets};
 use dch_accept::Accepted;
 use dch_types::{Dir, Format, Side};
 
@@ -27,10 +27,10 @@ fn longest_format(dir: Dir, side: &Side, channel: usize) -> u8
     ensures { IsGreatest dir (channel_at side.now channel) (length (channel_at side.now channel).formats) result }
 {
     let mut longest = 0;
-    for f in 0..channel_of(side, channel).formats.len() {
+    for f in 0..side.channel(channel).formats.len() {
         let number = f as u8;
-        let least = weight(dir, format_of(side, channel, longest));
-        if least < weight(dir, format_of(side, channel, number)) {
+        let least = weight(dir, side.channel(channel).format(usize::from(longest)));
+        if least < weight(dir, side.channel(channel).format(usize::from(number))) {
             longest = number;
         }
     }
@@ -53,6 +53,6 @@ fn longest_formats(dir: Dir, side: &Side) -> [u8; 8]
 pub fn longest(accepted: &Accepted, dir: Dir, set: u8) -> usize
     ensures { IsLongest accepted.now.config dir set result }
 {
-    let numbers = longest_formats(dir, side_of(accepted, dir));
+    let numbers = longest_formats(dir, accepted.side(dir));
     frame_octets(accepted, dir, set, &numbers)
 }

@@ -6,7 +6,6 @@ ghost use Rattle.dch_iub.specs.Shape.{AreFormats, header_octets};
 ghost use Rattle.dch_iub.specs.Steps.{AreNamed};
 
 use crate::check::header_check;
-use crate::shape::channel_of;
 use dch_types::Side;
 
 /// Writes the format number of a channel, if it belongs to a set, and answers the place after it.
@@ -26,7 +25,7 @@ fn write_number(
     ensures named { (channel_at side.now channel).set ≡ set → slice_index out.new at ≡ number }
     ensures before { take at out.new ≡ take at out.old }
 {
-    if channel_of(side, channel).set == set {
+    if side.channel(channel).set == set {
         out[at] = number;
         at + 1
     } else {

@@ -6,7 +6,7 @@ ghost use Rattle.dch_iub.specs.Shape.{header_octets};
 
 use crate::check::{header_fits, payload_fits};
 use crate::error::IubError;
-use crate::shape::{channel_of, check_octets, shape_of, tail_octets};
+use crate::shape::{check_octets, shape_of, tail_octets};
 use dch_types::{Dir, Side};
 
 /// One if a channel belongs to a set, or else zero.
@@ -16,7 +16,7 @@ fn member(side: &Side, set: u8, channel: usize) -> usize
     ensures value { result ≡ (if (channel_at side.now channel).set == set then 1 else 0) }
     ensures one { result ≤ 1 }
 {
-    usize::from(channel_of(side, channel).set == set)
+    usize::from(side.channel(channel).set == set)
 }
 
 /// The octets of the header of a set's frames.
@@ -61,7 +61,7 @@ fn read_number(side: &Side, set: u8, channel: usize, frame: &[u8], at: usize) ->
     requires inside { at + (if (channel_at side.now channel).set == set then 1 else 0) ≤ length frame.now }
     ensures { Reads side.now set frame.now channel at result }
 {
-    let channel = channel_of(side, channel);
+    let channel = side.channel(channel);
     if channel.set != set {
         return Ok(0);
     }

@@ -1,7 +1,7 @@
 ghost use Rattle.std.specs.Prelude.{ℕ, List};
 ghost use Rattle.dch_types.specs.declared.channel.Dir.{Dir};
 ghost use Rattle.dch_types.specs.declared.config.Config.{Config};
-ghost use Rattle.dch_config.specs.Bearers.{side_of};
+ghost use Rattle.dch_types.specs.Parts.{side_of};
 ghost use Rattle.dch_accept.specs.HeldSets.{HeldSet};
 ghost use Rattle.dch_iub.specs.Back.{IsReadBack};
 ghost use Rattle.dch_iub.specs.Forms.{IsReadForm, IsWrittenForm};

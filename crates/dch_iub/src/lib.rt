@@ -19,6 +19,3 @@ pub use laws::one_reading;
 pub use read::{IubUl, read_dl, read_ul};
 pub use shape::frame_len;
 pub use write::{write_dl, write_ul};
-
-#[cfg(test)]
-mod tests;

@@ -1,7 +1,7 @@
 ghost use Rattle.std.specs.Prelude.{◌≡◌, ◌+◌, ◌<◌, ℕ, length, IfErr, IfOk, OnErr, OnOk};
 ghost use Rattle.dch_types.specs.declared.channel.Dir.TheVariants.{Up, Down};
 ghost use Rattle.dch_types.specs.Limits.{IsSide};
-ghost use Rattle.dch_config.specs.Bearers.{side_of};
+ghost use Rattle.dch_types.specs.Parts.{side_of};
 ghost use Rattle.dch_accept.specs.HeldSets.{AreRooms, HeldSet, IsSetOf, held_at};
 ghost use Rattle.dch_iub.specs.Answers.{IsCause, IsFault};
 ghost use Rattle.dch_iub.specs.Forms.{IsReadForm};
@@ -10,7 +10,7 @@ ghost use Rattle.dch_iub.specs.Taken.{AreAllGood, AreGood, IsKept, IsReceived};
 
 use crate::error::IubError;
 use crate::judge::judge;
-use crate::shape::{shape_of, side_of};
+use crate::shape::shape_of;
 use crate::take::{take_blocks, take_marks};
 use dch_accept::{Accepted, SetBlocks};
 use dch_types::{Dir, Side};
@@ -90,7 +90,7 @@ pub fn read_dl(
     ensures no_form { OnErr result ((cfn qe : ℕ) (held : HeldSet) → ¬ IsReadForm accepted.now.config Down set frame.now cfn qe held) }
     ensures same { OnErr result (out.new ≡ out.old) }
 {
-    let side = side_of(accepted, Dir::Down);
+    let side = accepted.side(Dir::Down);
     let on = accepted.config().payload_check;
     receive_dl(side, on, set, frame, out)
 }
@@ -110,7 +110,7 @@ pub fn read_ul(
     ensures no_form { OnErr result ((cfn qe : ℕ) (held : HeldSet) → ¬ IsReadForm accepted.now.config Up set frame.now cfn qe held) }
     ensures same { OnErr result (out.new ≡ out.old) }
 {
-    let side = side_of(accepted, Dir::Up);
+    let side = accepted.side(Dir::Up);
     let on = accepted.config().payload_check;
     receive_ul(side, on, set, frame, out)
 }

@@ -1,13 +1,12 @@
 ghost use Rattle.std.specs.Prelude.{◌≡◌, ◌+◌, ◌*◌, ◌==◌, ◌<◌, ◌≤◌, ℕ, length, if◌then◌else◌, slice_index};
 ghost use Rattle.dch_types.specs.Limits.{IsChannel, IsSide};
-ghost use Rattle.dch_types.specs.Parts.{channel_at, format_at};
-ghost use Rattle.dch_config.specs.Bearers.{side_of};
+ghost use Rattle.dch_types.specs.Parts.{channel_at, format_at, side_of};
 ghost use Rattle.dch_accept.specs.HeldSets.{held_at, IsSetOf};
 ghost use Rattle.dch_accept.specs.Padded.{block_octets, format_octets};
 ghost use Rattle.dch_iub.specs.Shape.{AreFormats, check_octets, format_in, formats_of, frame_octets, header_octets, mark_count, number_place, octets_before, sum_before, tail_octets};
 
 use dch_accept::{Accepted, SetBlocks};
-use dch_types::{Dir, Format, Side, Trch};
+use dch_types::{Dir, Format, Side};
 
 /// How many octets the header has, how many the blocks, and how many blocks there are.
 #[derive(Clone, Copy)]
@@ -15,40 +14,6 @@ pub struct Shape {
     pub header: usize,
     pub octets: usize,
     pub marks: usize,
-}
-
-/// The channels of a direction.
-pub fn side_of(accepted: &Accepted, dir: Dir) -> &Side
-    ensures value { result.now ≡ side_of accepted.now.config dir }
-    ensures good { IsSide result.now }
-{
-    let config = accepted.config();
-    match dir {
-        Dir::Up => &config.uplink.side,
-        Dir::Down => &config.downlink.side,
-    }
-}
-
-/// A channel of a direction.
-pub fn channel_of(side: &Side, channel: usize) -> &Trch
-    requires side { IsSide side.now }
-    requires channel { channel < length side.now.channels }
-    ensures value { result.now ≡ channel_at side.now channel }
-    ensures good { IsChannel result.now }
-{
-    &side.channels.as_slice()[channel]
-}
-
-/// A format of a channel.
-pub fn format_of(side: &Side, channel: usize, number: u8) -> &Format
-    requires side { IsSide side.now }
-    requires channel { channel < length side.now.channels }
-    requires number { number < length (channel_at side.now channel).formats }
-    ensures value { result.now ≡ format_at (channel_at side.now channel) number }
-    ensures few { result.now.number ≤ 64 }
-    ensures small { result.now.size ≤ 5000 }
-{
-    &channel_of(side, channel).formats.as_slice()[number as usize]
 }
 
 /// The octets of a block of a format.
@@ -82,8 +47,8 @@ fn part_of(side: &Side, set: u8, channel: usize, number: u8) -> Shape
     ensures small { result.octets ≤ 40000 }
     ensures few { result.marks ≤ 64 }
 {
-    if channel_of(side, channel).set == set {
-        let format = format_of(side, channel, number);
+    if side.channel(channel).set == set {
+        let format = side.channel(channel).format(usize::from(number));
         Shape {
             header: 1,
             octets: format_octets(format),
@@ -163,7 +128,7 @@ pub fn frame_octets(accepted: &Accepted, dir: Dir, set: u8, numbers: &[u8; 8]) -
     requires formats { AreFormats (side_of accepted.now.config dir) set numbers.now }
     ensures { result ≡ frame_octets accepted.now.config dir set numbers.now }
 {
-    let shape = shape_of(side_of(accepted, dir), set, numbers);
+    let shape = shape_of(accepted.side(dir), set, numbers);
     shape.header
         + shape.octets
         + tail_octets(dir, shape.marks)
@@ -175,6 +140,6 @@ pub fn frame_len(accepted: &Accepted, dir: Dir, blocks: &SetBlocks) -> usize
     requires { IsSetOf accepted.now.config dir blocks.now.set blocks.now }
     ensures { result ≡ frame_octets accepted.now.config dir blocks.now.set (formats_of blocks.now) }
 {
-    let numbers = numbers_of(side_of(accepted, dir), blocks);
+    let numbers = numbers_of(accepted.side(dir), blocks);
     frame_octets(accepted, dir, blocks.set(), &numbers)
 }

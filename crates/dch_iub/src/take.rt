@@ -8,7 +8,7 @@ ghost use Rattle.dch_iub.specs.Forms.{AreMarked, mark_of};
 ghost use Rattle.dch_iub.specs.Shape.{AreFormats, blocks_end, header_octets, mark_count};
 ghost use Rattle.dch_iub.specs.Taken.{AreAllGood, AreCounted, AreGood, AreMarksTaken, AreSet, AreTaken, IsKept, IsMarkedAs, IsTaken, Replaces};
 
-use crate::shape::{channel_of, format_octets, format_of};
+use crate::shape::format_octets;
 use dch_accept::SetBlocks;
 use dch_bits::get_bits;
 use dch_types::Side;
@@ -32,7 +32,7 @@ fn take_member(
     ensures good { AreGood (held_at out.new.blocks channel) }
     ensures others { Replaces channel out.old out.new }
 {
-    let format = format_of(side, channel, number);
+    let format = side.channel(channel).format(usize::from(number));
     let octets = &frame[at..at + format_octets(format)];
     out.unpack(channel as u8, number, format, octets);
 }
@@ -58,9 +58,9 @@ fn take_channel(
     ensures good { (channel_at side.now channel).set ≡ set → AreGood (held_at out.new.blocks channel) }
     ensures others { Replaces channel out.old out.new }
 {
-    if channel_of(side, channel).set == set {
+    if side.channel(channel).set == set {
         take_member(side, channel, number, frame, at, out);
-        at + format_octets(format_of(side, channel, number))
+        at + format_octets(side.channel(channel).format(usize::from(number)))
     } else {
         at
     }
@@ -136,8 +136,8 @@ fn mark_channel(
     ensures same { IsMarkedAs (held_at out.old.blocks channel) (held_at out.new.blocks channel) }
     ensures others { Replaces channel out.old out.new }
 {
-    if channel_of(side, channel).set == set {
-        let count = usize::from(format_of(side, channel, number).number);
+    if side.channel(channel).set == set {
+        let count = usize::from(side.channel(channel).format(usize::from(number)).number);
         mark_member(channel as u8, count, frame, bit, out);
         bit + count
     } else {

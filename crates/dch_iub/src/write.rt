@@ -11,7 +11,7 @@ ghost use Rattle.dch_iub.specs.Steps.{IsFront, IsMarked};
 use crate::blocks::{list_marks, write_bits, write_blocks};
 use crate::check::write_check;
 use crate::header::write_header;
-use crate::shape::{Shape, numbers_of, shape_of, side_of, tail_octets};
+use crate::shape::{Shape, numbers_of, shape_of, tail_octets};
 use dch_accept::{Accepted, SetBlocks};
 use dch_bits::Bit;
 use dch_types::{Dir, Side};
@@ -131,7 +131,7 @@ pub fn write_dl(accepted: &Accepted, set: u8, cfn: u8, blocks: &SetBlocks, out: 
     requires room { length out.old ≡ frame_octets accepted.now.config Down set (formats_of blocks.now) }
     ensures { IsWrittenForm accepted.now.config Down set out.new cfn 0 blocks.now }
 {
-    let side = side_of(accepted, Dir::Down);
+    let side = accepted.side(Dir::Down);
     let numbers = numbers_of(side, blocks);
     let on = accepted.config().payload_check;
     fill_dl(side, on, set, cfn, &numbers, blocks, out);
@@ -144,7 +144,7 @@ pub fn write_ul(accepted: &Accepted, set: u8, cfn: u8, qe: u8, blocks: &SetBlock
     requires room { length out.old ≡ frame_octets accepted.now.config Up set (formats_of blocks.now) }
     ensures { IsWrittenForm accepted.now.config Up set out.new cfn qe blocks.now }
 {
-    let side = side_of(accepted, Dir::Up);
+    let side = accepted.side(Dir::Up);
     let numbers = numbers_of(side, blocks);
     let on = accepted.config().payload_check;
     fill_ul(side, on, set, cfn, qe, &numbers, blocks, out);

@@ -17,7 +17,7 @@ use Rattle.dch_dlphy.specs.Loaded.{IsLoaded, Running}
 use Rattle.dch_script.specs.Held.{Held as Text}
 use Rattle.dch_nodeb.specs.Moves.{AreGiven, AreReady, Transmits, IsReady, RunsIn, Writes}
 use Rattle.dch_nodeb.specs.Opened.{AreNoted, AreRxBuffersOf}
-use Rattle.dch_nodeb.specs.Sets.{set_frames, starts}
+use Rattle.dch_types.specs.Timing.{set_frames, starts}
 use Rattle.dch_nodeb.specs.Standing.{NothingSent, KeepsFrame, Represents, Stepped}
 use Rattle.dch_nodeb.specs.State.{Blocks, DownlinkIubFrame, DownlinkDue, Radio, State, given_now, idle_blocks, kept_still, leaving, taken}
 use Rattle.dch_nodeb.specs.Steps.{AreAllLoaded, AreRunning, IsRadio, as_line, blocks_at, radio_text}

@@ -10,7 +10,7 @@ use Rattle.dch_accept.specs.Plans.{Planned}
 use Rattle.dch_script.specs.Held.{Held as Text}
 use Rattle.dch_nodeb.specs.Moves.{AreNewRxBuffers, AreReady, IsFilled, IsReady, Keeps}
 use Rattle.dch_nodeb.specs.Opened.{AreRxBuffersOf}
-use Rattle.dch_nodeb.specs.Sets.{set_frames, starts}
+use Rattle.dch_types.specs.Timing.{set_frames, starts}
 use Rattle.dch_nodeb.specs.Values.{IubRxBuffer, rx_buffer_at}
 
 own_place : (planned : Planned) (rx_buffers : List IubRxBuffer) (set : ℕ) (new : IubRxBuffer) → AreRxBuffersOf planned rx_buffers → set < 8 → rx_buffer_at (slice_set rx_buffers set new) set ≡ new

@@ -11,9 +11,8 @@ use Rattle.dch_types.specs.declared.channel.Format.{Format}
 use Rattle.dch_types.specs.declared.channel.Side.{Side}
 use Rattle.dch_types.specs.declared.channel.Trch.{Trch}
 use Rattle.dch_types.specs.declared.config.Config.{Config}
-use Rattle.dch_types.specs.Lengths.{joined_bits, tti_bits}
+use Rattle.dch_types.specs.Lengths.{frame_bits, joined_bits, tti_bits}
 use Rattle.dch_types.specs.Limits.{IsDownlink, IsFormat, IsSide}
-use Rattle.dch_match.specs.Downlinks.{ndata_of}
 use Rattle.dch_bits.specs.declared.bit.Trit.{Trit}
 use Rattle.dch_types.specs.Parts.{channel_at}
 use Rattle.dch_coding.proofs.Lengths.{joined_short}
@@ -76,7 +75,7 @@ pub frame-fits : (config : Config) (set most : ℕ) (held : HeldSet) → IsSetOf
 frame-fits config set most held is longest = longest.most (formats_of held) (formats-are config set held is)
 
 -- the cells of a downlink radio frame
-pub cells-le : (own config : Config) (cells : List Trit) → IsDownlink own.downlink → own ≡ config → length cells ≡ ndata_of config.downlink → length cells ≤ 57240
+pub cells-le : (own config : Config) (cells : List Trit) → IsDownlink own.downlink → own ≡ config → length cells ≡ frame_bits config.downlink → length cells ≤ 57240
 cells-le own config cells good same long =
     let is : IsDownlink config.downlink = subst (λ (c : Config). IsDownlink c.downlink) same good in
     let slots : 15 * config.downlink.slot_bits ≤ 19080 = omega (arith, is.few_bits) in

@@ -9,7 +9,7 @@ use Rattle.dch_ulphy.specs.Kept.{AreMissing}
 use Rattle.dch_dlphy.specs.Loaded.{IsLoaded}
 use Rattle.dch_nodeb.specs.Moves.{AreGiven, AreNewTxBuffers, AreNewRxBuffers}
 use Rattle.dch_nodeb.specs.Opened.{AreNoted, AreRxBuffersOf, IsNodeOf, IsReceiverOf}
-use Rattle.dch_nodeb.specs.Sets.{starts}
+use Rattle.dch_types.specs.Timing.{starts}
 use Rattle.dch_nodeb.specs.Standing.{RepresentsHistory}
 use Rattle.dch_nodeb.specs.State.{Blocks, idle_blocks, opened_state, no_output}
 use Rattle.dch_nodeb.specs.Steps.{AreAllLoaded}

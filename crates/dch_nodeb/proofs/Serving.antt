@@ -6,7 +6,7 @@ use Rattle.dch_accept.specs.HeldSets.{HeldSet}
 use Rattle.dch_iub.specs.Forms.{IsWrittenForm}
 use Rattle.dch_script.specs.Report.{iub_text}
 use Rattle.dch_nodeb.specs.Sending.{SendsUp}
-use Rattle.dch_nodeb.specs.Sets.{ends, set_frames, started}
+use Rattle.dch_types.specs.Timing.{ends, set_frames, started}
 use Rattle.std.specs.Prelude.{◌==◌, if◌then◌else◌, slice_set}
 use Rattle.std.proofs.lemmas.Bool.Decides.{eqb_tells}
 use Rattle.dch_accept.specs.Plans.{Planned}

@@ -5,7 +5,7 @@ use Rattle.std.proofs.lemmas.Bool.Decides.{eqb_tells}
 use Rattle.dch_types.specs.declared.channel.Side.{Side}
 use Rattle.dch_types.specs.Limits.{IsFrames, IsSide}
 use Rattle.dch_types.specs.Parts.{channel_at}
-use Rattle.dch_nodeb.specs.Sets.{frames_among, set_frames, starts}
+use Rattle.dch_types.specs.Timing.{frames_among, set_frames, starts}
 
 -- a set's TTIs are those of each of its channels
 frames_among-member : (side : Side) (set frames n i : ℕ) → ((j : ℕ) → j < n → (channel_at side j).set ≡ set → (channel_at side j).frames ≡ frames)

@@ -3,7 +3,6 @@ pub mod Moves
 pub mod Opened
 pub mod Rooms
 pub mod Sending
-pub mod Sets
 pub mod Standing
 pub mod State
 pub mod Steps

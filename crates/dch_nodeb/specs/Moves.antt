@@ -18,7 +18,7 @@ use Rattle.dch_iub.specs.declared.error.IubError.{IubError}
 use Rattle.dch_script.specs.Held.{Held as Text}
 use Rattle.dch_script.specs.Report.{pair_text}
 use Rattle.dch_nodeb.specs.Opened.{AreTxBuffersOf, AreRxBuffersOf, IsTxBufferOf, IsReceiverOf, IsTransmitterOf}
-use Rattle.dch_nodeb.specs.Sets.{set_frames, starts}
+use Rattle.dch_types.specs.Timing.{set_frames, starts}
 use Rattle.dch_nodeb.specs.State.{Radio}
 use Rattle.dch_nodeb.specs.Steps.{KeepsRadio, DeliversSet, as_line, joined, radio_text, refusal_number}
 use Rattle.dch_nodeb.specs.Values.{IubTxBuffer, IubRxBuffer, UplinkReceiver, DownlinkTransmitter, tx_buffer_at, rx_buffer_at, radio_if}

@@ -4,11 +4,10 @@ ghost use Rattle.dch_nodeb.specs.Opened.{AreNoted, AreRxBuffersOf, IsTransmitter
 ghost use Rattle.dch_nodeb.specs.Rooms.{HasRoomFor};
 
 use crate::iub_rx_buffer::{IubRxBuffer, blocks_of, ready};
-use crate::sets::{downlink, starts};
 use crate::transmitter::DownlinkTransmitter;
 use dch_accept::Accepted;
-use dch_rxframes::channel_of;
 use dch_script::Report;
+use dch_types::{Dir, starts};
 
 /// Loads the blocks that the receive buffers have for the channels whose TTI starts at a CFN.
 pub fn load(
@@ -21,10 +20,10 @@ pub fn load(
     requires transmitter { IsTransmitterOf accepted.now transmitter.old }
     ensures { AreGiven accepted.now cfn (length accepted.now.config.downlink.side.channels) rx_buffers.now transmitter.old transmitter.new }
 {
-    let side = downlink(accepted);
+    let side = accepted.side(Dir::Down);
     for i in 0..side.channels.len() {
-        let channel = channel_of(side, i as u8);
-        if starts(channel.frames, u16::from(cfn)) {
+        let channel = side.channel(i);
+        if starts(channel.frames, cfn) {
             transmitter.load(
                 accepted,
                 i as u8,

@@ -9,12 +9,12 @@ ghost use Rattle.dch_nodeb.specs.Standing.{HasSet};
 ghost use Rattle.dch_nodeb.specs.Values.{rx_buffer_at};
 
 use crate::report::put_refusal;
-use crate::sets::{SETS, downlink, rx_buffer_of, set_frames, starts};
+use crate::sets::{SETS, rx_buffer_of};
 use dch_accept::{Accepted, SetBlocks, TtiBlocks};
 use dch_bits::NoMemory;
 use dch_iub::{IubError, read_dl};
 use dch_script::Report;
-use dch_types::Dir;
+use dch_types::{Dir, starts};
 use std::alloc::Global;
 use std::marker::Model;
 
@@ -122,9 +122,9 @@ pub fn ready(accepted: &Accepted, cfn: u8, rx_buffers: &mut [IubRxBuffer])
     requires { AreRxBuffersOf accepted.now rx_buffers.old }
     ensures { AreReady accepted.now cfn 8 rx_buffers.old rx_buffers.new }
 {
-    let side = downlink(accepted);
+    let side = accepted.side(Dir::Down);
     for set in 0..SETS {
-        if starts(set_frames(side, set), u16::from(cfn)) {
+        if starts(side.set_frames(set), cfn) {
             rx_buffers[set as usize].ready(cfn);
         }
     }

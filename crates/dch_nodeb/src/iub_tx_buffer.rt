@@ -7,7 +7,7 @@ ghost use Rattle.dch_nodeb.specs.Moves.{AreNewTxBuffers, Delivered};
 ghost use Rattle.dch_nodeb.specs.Opened.{IsTxBufferOf, IsReceiverOf};
 ghost use Rattle.dch_nodeb.specs.Rooms.{HasRoomFor};
 ghost use Rattle.dch_nodeb.specs.Sending.{AreCleared, SendsUp, octets_of};
-ghost use Rattle.dch_nodeb.specs.Sets.{ends, set_frames, started};
+ghost use Rattle.dch_types.specs.Timing.{ends, set_frames, started};
 
 use crate::receiver::UplinkReceiver;
 use crate::report::{put_bad_tti, put_iub};

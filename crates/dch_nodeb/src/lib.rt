@@ -14,6 +14,3 @@ mod uplink;
 
 pub use event::NodeBEvent;
 pub use node::NodeB;
-
-#[cfg(test)]
-mod tests;

@@ -12,12 +12,12 @@ use crate::event::NodeBEvent;
 use crate::iub_rx_buffer::{IubRxBuffer, keep, rx_buffers};
 use crate::iub_tx_buffer::{IubTxBuffer, clear_sent, tx_buffers};
 use crate::receiver::UplinkReceiver;
-use crate::sets::downlink;
 use crate::transmitter::DownlinkTransmitter;
 use crate::uplink::receive;
 use dch_accept::{Accepted, FrameView};
 use dch_bits::NoMemory;
 use dch_script::Report;
+use dch_types::Dir;
 use std::alloc::Global;
 use std::marker::Model;
 
@@ -51,7 +51,7 @@ impl NodeB {
         ensures stands { IfOk result (RepresentsHistory accepted.now first_cfn [] []) }
     {
         // The channels of a set have TTIs of one length in a good configuration.
-        let _side = downlink(accepted);
+        let _side = accepted.side(Dir::Down);
         let rx_buffers = rx_buffers(alloc, accepted)?;
         let mut transmitter = DownlinkTransmitter::open(alloc, accepted)?;
         load(accepted, first_cfn, &rx_buffers, &mut transmitter);
@@ -151,7 +151,7 @@ impl NodeB {
         ensures most { report.new.most ≡ report.old.most }
     {
         // The channels of a set have TTIs of one length in a good configuration.
-        let _side = downlink(accepted);
+        let _side = accepted.side(Dir::Down);
         transmit(
             accepted,
             self.cfn,

@@ -10,10 +10,8 @@ ghost use Rattle.dch_nodeb.specs.Opened.{IsReceiverOf};
 ghost use Rattle.dch_nodeb.specs.Standing.{HasTfci, radio_of};
 ghost use Rattle.dch_nodeb.specs.Steps.{AreRead, IsBadTti};
 
-use crate::sets::uplink;
 use dch_accept::{Accepted, FrameView, SetBlocks, TtiBlocks};
 use dch_bits::NoMemory;
-use dch_rxframes::channel_of;
 use dch_types::Dir;
 use dch_ulphy::{TtiOutcome, UlReader};
 use std::alloc::Global;
@@ -78,10 +76,10 @@ impl UplinkReceiver {
         ensures opened { IsReceiverOf accepted.now self.new }
         ensures same { self.new.rx_frames ≡ self.old.rx_frames }
     {
-        let side = uplink(accepted);
+        let side = accepted.side(Dir::Up);
         for i in 0..side.channels.len() {
             let channel = i as u8;
-            if channel_of(side, channel).set == set {
+            if side.channel(i).set == set {
                 match self.read(accepted, set, channel, blocks) {
                     Ok(()) => {}
                     Err(bad) => return Err(bad),

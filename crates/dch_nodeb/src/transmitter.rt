@@ -9,11 +9,9 @@ ghost use Rattle.dch_nodeb.specs.Standing.{radio_of};
 ghost use Rattle.dch_nodeb.specs.Values.{radio_if};
 
 use crate::report::{put_no_radio, put_radio};
-use crate::sets::downlink;
 use dch_accept::{Accepted, FrameView, PhyFrame, TtiBlocks};
 use dch_bits::NoMemory;
 use dch_dlphy::{DlTti, write};
-use dch_rxframes::format_number;
 use dch_script::Report;
 use dch_types::{Dir, Side};
 use std::alloc::Global;
@@ -90,7 +88,7 @@ impl DownlinkTransmitter {
         requires room { HasRoomFor report.old 60000 }
         ensures { Sends accepted.now cfn self.old self.new report.old report.new }
     {
-        match first_combination(downlink(accepted), &self.formats) {
+        match first_combination(accepted.side(Dir::Down), &self.formats) {
             Some(combination) => self.write(accepted, cfn, combination, report),
             None => {
                 self.sent = false;
@@ -138,7 +136,7 @@ fn runs_in(side: &Side, combination: u16, formats: &[u8]) -> bool
     ensures no { result ≡ false → ¬ RunsIn side.now combination formats.now }
 {
     for i in 0..side.channels.len() {
-        if formats[i] != format_number(side, combination, i as u8) {
+        if formats[i] != side.tfi(usize::from(combination), i) {
             return false;
         }
     }

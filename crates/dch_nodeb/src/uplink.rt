@@ -7,9 +7,10 @@ ghost use Rattle.dch_nodeb.specs.Values.{tx_buffer_at};
 
 use crate::iub_tx_buffer::IubTxBuffer;
 use crate::receiver::UplinkReceiver;
-use crate::sets::{SETS, set_frames, started, starts, uplink};
+use crate::sets::SETS;
 use dch_accept::{Accepted, FrameView};
 use dch_script::Report;
+use dch_types::{Dir, ends, started};
 
 /// Serves a set: where its TTI ends with the radio frame of the CFN, its Iub frame is sent.
 fn deliver_set(
@@ -27,8 +28,8 @@ fn deliver_set(
     requires room { HasRoomFor report.old 300000 }
     ensures { Delivered accepted.now receiver.old.rx_frames set tx_buffer.new receiver.new report.old report.new }
 {
-    let frames = set_frames(uplink(accepted), set);
-    if starts(frames, u16::from(cfn) + 1) {
+    let frames = accepted.side(Dir::Up).set_frames(set);
+    if ends(frames, cfn) {
         tx_buffer.deliver_set(accepted, set, started(frames, cfn), receiver, report);
     }
 }

@@ -7,7 +7,7 @@ use Rattle.dch_accept.specs.HeldSets.{held_at}
 use Rattle.dch_iub.specs.Shape.{marks_before, format_in}
 use Rattle.dch_iub.specs.Steps.{AreListed}
 use Rattle.dch_iub.proofs.Fronts.{listed_front}
-use Rattle.dch_iub.proofs.Sums.{sum_before-up, sum_before-fits, marks_before-next}
+use Rattle.dch_iub.proofs.Sums.{sum_before-fits, marks_before-fits, marks_before-next}
 use Rattle.dch_iub.proofs.blocks.list_marks.Goals as goal
 
 pub list_channel-at-requires-clause-room : goal.list_channel-at-requires-clause-room
@@ -17,10 +17,8 @@ list_channel-at-requires-clause-room c =
     let i : ℕ = c.loop-i.i in
     let inside : i < length side.channels = omega arith in
     let named : c.channel.result.now.format ≡ slice_index numbers i = ap (λ (h : Held). h.format) c.channel.ensures ∙ sym (c.requires.numbered i inside) in
-    let next = marks_before-next side c.args.set numbers i c.channel.result.now.format named in
-    let up : marks_before side c.args.set numbers (i + 1) ≤ marks_before side c.args.set numbers (length side.channels) =
-    sum_before-up side c.args.set (λ j. (format_in side numbers j).number) (i + 1) (length side.channels) (omega arith) in
-    omega (arith, next, up, c.loop-i.invariant.place, c.requires.room)
+    let fits = marks_before-fits side c.args.set numbers i c.channel.result.now.format named inside in
+    omega (arith, fits, c.loop-i.invariant.place, c.requires.room)
 
 pub loop-i-preserved : goal.loop-i-preserved
 loop-i-preserved c =

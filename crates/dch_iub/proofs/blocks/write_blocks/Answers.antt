@@ -8,7 +8,7 @@ use Rattle.dch_accept.specs.Padded.{format_octets}
 use Rattle.dch_iub.specs.Shape.{blocks_place, format_in, octets_before}
 use Rattle.dch_iub.specs.Steps.{ArePacked}
 use Rattle.dch_iub.proofs.Fronts.{front_less, all_packed_front}
-use Rattle.dch_iub.proofs.Sums.{sum_before-up, sum_before-fits, blocks_place-next, channel_octets}
+use Rattle.dch_iub.proofs.Sums.{sum_before-fits, blocks_place-fits, blocks_place-next, channel_octets}
 use Rattle.dch_iub.proofs.blocks.write_blocks.Goals as goal
 
 pub write_channel-at-requires-clause-room : goal.write_channel-at-requires-clause-room
@@ -18,10 +18,8 @@ write_channel-at-requires-clause-room c =
     let i : ℕ = c.loop-i.i in
     let inside : i < length side.channels = omega arith in
     let named : c.channel.result.now.format ≡ slice_index numbers i = ap (λ (h : Held). h.format) c.channel.ensures ∙ sym (c.requires.numbered i inside) in
-    let next = blocks_place-next side c.args.set numbers i c.channel.result.now.format named in
-    let up : octets_before side c.args.set numbers (i + 1) ≤ octets_before side c.args.set numbers (length side.channels) =
-    sum_before-up side c.args.set (λ j. format_octets (format_in side numbers j)) (i + 1) (length side.channels) (omega arith) in
-    omega (arith, next, up, c.loop-i.invariant.place, c.requires.room)
+    let fits = blocks_place-fits side c.args.set numbers i c.channel.result.now.format named inside in
+    omega (arith, fits, c.loop-i.invariant.place, c.requires.room)
 
 pub loop-i-preserved : goal.loop-i-preserved
 loop-i-preserved c =

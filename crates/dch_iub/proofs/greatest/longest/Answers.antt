@@ -2,8 +2,7 @@ use Rattle.std.proofs.Common.{◌<◌, ◌≤◌, ℕ, List, length, sym, subst}
 use Rattle.dch_iub.specs.Shape.{frame_octets}
 use Rattle.std.specs.Prelude.{slice_index}
 use Rattle.dch_types.specs.declared.channel.Side.{Side}
-use Rattle.dch_types.specs.Parts.{channel_at}
-use Rattle.dch_config.specs.Bearers.{side_of}
+use Rattle.dch_types.specs.Parts.{channel_at, side_of}
 use Rattle.dch_iub.specs.Longest.{IsGreatest}
 use Rattle.dch_iub.proofs.Weights.{frame_octets-le}
 use Rattle.dch_iub.proofs.greatest.longest.Goals as goal
@@ -14,7 +13,7 @@ returns c =
     let dir = c.args.dir in
     let numbers : List ℕ = c.longest_formats-numbers.result in
     let known : (i : ℕ) → i < length (side_of config dir).channels → IsGreatest dir (channel_at (side_of config dir) i) (length (channel_at (side_of config dir) i).formats) (slice_index numbers i) =
-    subst (λ (side : Side). (i : ℕ) → i < length side.channels → IsGreatest dir (channel_at side i) (length (channel_at side i).formats) (slice_index numbers i)) c.side_of.ensures.value c.longest_formats-numbers.ensures in record {
+    subst (λ (side : Side). (i : ℕ) → i < length side.channels → IsGreatest dir (channel_at side i) (length (channel_at side i).formats) (slice_index numbers i)) c.side.ensures.value c.longest_formats-numbers.ensures in record {
       numbers = numbers;
       formats = λ i inside member. (known i inside).there;
       reached = sym c.frame_octets.ensures;

@@ -12,5 +12,5 @@ returns-clause-no_form c =
     let config = c.args.accepted.now.config in
     let frame : List ℕ = c.args.frame.now in
     no_form_of config Down c.args.set frame c.receive_dl.result
-    (subst (λ (side : Side). IfErr c.receive_dl.result (IsFault Down side config.payload_check c.args.set frame)) c.side_of-side.ensures.value
-    (subst (λ (g : Config). IfErr c.receive_dl.result (IsFault Down c.side_of-side.result.now g.payload_check c.args.set frame)) c.config.ensures.value c.receive_dl.ensures.refused))
+    (subst (λ (side : Side). IfErr c.receive_dl.result (IsFault Down side config.payload_check c.args.set frame)) c.side-side.ensures.value
+    (subst (λ (g : Config). IfErr c.receive_dl.result (IsFault Down c.side-side.result.now g.payload_check c.args.set frame)) c.config.ensures.value c.receive_dl.ensures.refused))

@@ -15,13 +15,13 @@ returns-clause-ok c =
     let frame : List ℕ = c.args.frame.now in
     let held : HeldSet = c.receive_ul.new.out in
     read_of config c.args.set frame held c.receive_ul.result
-    (subst (λ (side : Side). IfOk c.receive_ul.result (λ read. IsReceived Up side config.payload_check c.args.set frame read.cfn read.qe held)) c.side_of-side.ensures.value
-    (subst (λ (g : Config). IfOk c.receive_ul.result (λ read. IsReceived Up c.side_of-side.result.now g.payload_check c.args.set frame read.cfn read.qe held)) c.config.ensures.value c.receive_ul.ensures.ok))
+    (subst (λ (side : Side). IfOk c.receive_ul.result (λ read. IsReceived Up side config.payload_check c.args.set frame read.cfn read.qe held)) c.side-side.ensures.value
+    (subst (λ (g : Config). IfOk c.receive_ul.result (λ read. IsReceived Up c.side-side.result.now g.payload_check c.args.set frame read.cfn read.qe held)) c.config.ensures.value c.receive_ul.ensures.ok))
 
 pub returns-clause-no_form : goal.returns-clause-no_form
 returns-clause-no_form c =
     let config = c.args.accepted.now.config in
     let frame : List ℕ = c.args.frame.now in
     no_form_of config Up c.args.set frame c.receive_ul.result
-    (subst (λ (side : Side). IfErr c.receive_ul.result (IsFault Up side config.payload_check c.args.set frame)) c.side_of-side.ensures.value
-    (subst (λ (g : Config). IfErr c.receive_ul.result (IsFault Up c.side_of-side.result.now g.payload_check c.args.set frame)) c.config.ensures.value c.receive_ul.ensures.refused))
+    (subst (λ (side : Side). IfErr c.receive_ul.result (IsFault Up side config.payload_check c.args.set frame)) c.side-side.ensures.value
+    (subst (λ (g : Config). IfErr c.receive_ul.result (IsFault Up c.side-side.result.now g.payload_check c.args.set frame)) c.config.ensures.value c.receive_ul.ensures.refused))

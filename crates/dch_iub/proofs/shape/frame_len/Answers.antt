@@ -11,5 +11,5 @@ returns c =
     let held = c.args.blocks.now in
     c.frame_octets.ensures ∙ ap (λ set. frame_octets config c.args.dir set numbers) c.set.ensures
     ∙ frame_octets-same config c.args.dir held.set numbers (formats_of held)
-    (λ i inside member. c.numbers_of-numbers.ensures i (subst (λ (side : Side). i < length side.channels) (sym c.side_of.ensures.value) inside)
+    (λ i inside member. c.numbers_of-numbers.ensures i (subst (λ (side : Side). i < length side.channels) (sym c.side.ensures.value) inside)
     ∙ sym (formats_of-at held i (subst (λ n. i < n) (sym c.requires.rooms.all) inside)))

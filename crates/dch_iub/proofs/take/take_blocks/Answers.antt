@@ -15,10 +15,8 @@ take_channel-at-requires-clause-room c =
     let side = c.args.side.now in
     let numbers : List ℕ = c.args.numbers.now in
     let i : ℕ = c.loop-i.i in
-    let inside : i < length side.channels = omega arith in
-    let next = blocks_place-next side c.args.set numbers i (slice_index numbers i) refl in
-    let fits = blocks_place-fits side c.args.set numbers i inside in
-    omega (arith, next, fits, c.loop-i.invariant.place, c.requires.room)
+    let fits = blocks_place-fits side c.args.set numbers i (slice_index numbers i) refl (omega arith) in
+    omega (arith, fits, c.loop-i.invariant.place, c.requires.room)
 
 pub loop-i-preserved : goal.loop-i-preserved
 loop-i-preserved c =

@@ -14,20 +14,16 @@ mark_channel-bit-requires-clause-room c =
     let side = c.args.side.now in
     let numbers : List ℕ = c.args.numbers.now in
     let i : ℕ = c.loop-i.i in
-    let inside : i < length side.channels = omega arith in
-    let next = marks_before-next side c.args.set numbers i (slice_index numbers i) refl in
-    let fits = marks_before-fits side c.args.set numbers i inside in
-    omega (arith, next, fits, c.loop-i.invariant.place, c.requires.room)
+    let fits = marks_before-fits side c.args.set numbers i (slice_index numbers i) refl (omega arith) in
+    omega (arith, fits, c.loop-i.invariant.place, c.requires.room)
 
 pub mark_channel-bit-requires-clause-small : goal.mark_channel-bit-requires-clause-small
 mark_channel-bit-requires-clause-small c =
     let side = c.args.side.now in
     let numbers : List ℕ = c.args.numbers.now in
     let i : ℕ = c.loop-i.i in
-    let inside : i < length side.channels = omega arith in
-    let next = marks_before-next side c.args.set numbers i (slice_index numbers i) refl in
-    let fits = marks_before-fits side c.args.set numbers i inside in
-    omega (arith, next, fits, c.loop-i.invariant.place, c.requires.small)
+    let fits = marks_before-fits side c.args.set numbers i (slice_index numbers i) refl (omega arith) in
+    omega (arith, fits, c.loop-i.invariant.place, c.requires.small)
 
 pub mark_channel-bit-requires-clause-count : goal.mark_channel-bit-requires-clause-count
 mark_channel-bit-requires-clause-count c member =

@@ -1,5 +1,6 @@
-use Rattle.std.proofs.Common.{◌≡◌, ◌+◌, ◌-◌, ◌∙◌, ℕ, List, take, drop, arith, ap, subst}
+use Rattle.std.proofs.Common.{◌≡◌, ◌+◌, ◌-◌, ◌∙◌, ℕ, List, take, drop, arith, ap, ap₂, subst}
 use Rattle.dch_types.specs.declared.channel.Format.{Format}
+use Rattle.dch_types.specs.declared.channel.Trch.{Trch}
 use Rattle.dch_types.specs.Parts.{channel_at, format_at}
 use Rattle.dch_accept.specs.HeldSets.{held_at}
 use Rattle.dch_accept.specs.Padded.{IsUnpacked, format_octets}
@@ -12,6 +13,7 @@ returns-clause-taken c =
     let frame : List ℕ = c.args.frame.now in
     let at : ℕ = c.args.at in
     let n : ℕ = at + c.format_octets.result - at in
-    let octets : c.format_octets.result ≡ format_octets (format_at channel c.args.number) = c.format_octets.ensures.value ∙ ap format_octets c.format_of-format.ensures.value in
+    let format : c.format-format.result.now ≡ format_at channel c.args.number = c.format-format.ensures.value ∙ ap₂ (λ (t : Trch) (f : ℕ). format_at t f) c.channel.ensures.value c.from.ensures in
+    let octets : c.format_octets.result ≡ format_octets (format_at channel c.args.number) = c.format_octets.ensures.value ∙ ap format_octets format in
     unpacked_taken channel c.args.number at n frame (held_at c.unpack.new.self.blocks c.args.channel) c.requires.number (omega (arith, octets))
-    (subst (λ (f : Format). IsUnpacked c.args.number f (take n (drop at frame)) (held_at c.unpack.new.self.blocks c.args.channel)) c.format_of-format.ensures.value c.unpack.ensures.unpacked)
+    (subst (λ (f : Format). IsUnpacked c.args.number f (take n (drop at frame)) (held_at c.unpack.new.self.blocks c.args.channel)) format c.unpack.ensures.unpacked)
