@@ -8,6 +8,3 @@ mod telling;
 
 pub use dch_am::{MrwTaken, Taken};
 pub use recv::AmRecv;
-
-#[cfg(test)]
-mod tests;

@@ -7,6 +7,3 @@ mod send;
 
 pub use dch_am::StatusTaken;
 pub use send::AmSend;
-
-#[cfg(test)]
-mod tests;

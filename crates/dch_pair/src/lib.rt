@@ -13,6 +13,3 @@ pub use laws::in_order_law;
 pub use outcome::PairEnd;
 pub use run::run_pair;
 pub use setup::{End, PairEvent, PairSetup};
-
-#[cfg(test)]
-mod tests;

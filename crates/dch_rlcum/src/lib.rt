@@ -8,6 +8,3 @@ mod send;
 pub use laws::{known_units_law, read_pdus_law};
 pub use receive::UmRecv;
 pub use send::UmSend;
-
-#[cfg(test)]
-mod tests;
