@@ -5,7 +5,8 @@ use Rattle.dch_bits.specs.Text.{letter_of}
 use Rattle.dch_types.specs.declared.channel.Dir.{Dir}
 use Rattle.dch_accept.specs.declared.refusal.Refusal.{Refusal}
 use Rattle.dch_accept.specs.declared.refusal.Refusal.TheVariants.{NoMemory, NoRate, Sequences, Collision}
-use Rattle.dch_check.specs.Refusals.{dir_name}
+use Rattle.dch_script.specs.Report.{dir_word, line_text}
+use Rattle.dch_script.specs.declared.report.Line.TheVariants.{Accepted}
 
 -- further numbers of a list, each behind a comma
 abbrev pub more_numbers : List ℕ → List ℕ
@@ -23,7 +24,7 @@ letters bits = map letter_of bits
 
 -- the line where the count of what may collide is this
 abbrev pub accepted_line : ℕ → List ℕ
-accepted_line count = codes "accepted count=" ++ decimal count ++ codes "\n"
+accepted_line count = line_text (Accepted count)
 
 -- the line of a combination without a rate
 abbrev pub of_combination : ℕ → List ℕ
@@ -35,7 +36,7 @@ of_count n = codes "refused 27 count=" ++ decimal n ++ codes "\n"
 
 -- where two code blocks collide
 abbrev pub of_block : Dir → ℕ → ℕ → ℕ → List ℕ
-of_block dir channel format block = codes "refused 40 " ++ dir_name dir ++ (codes " channel=" ++ decimal channel) ++ (codes " format=" ++ decimal format) ++ (codes " block=" ++ decimal block)
+of_block dir channel format block = codes "refused 40 " ++ dir_word dir ++ (codes " channel=" ++ decimal channel) ++ (codes " format=" ++ decimal format) ++ (codes " block=" ++ decimal block)
 
 -- the sequence under which they collide, and the two blocks
 abbrev pub of_collision : List ℕ → List Bit → List Bit → List ℕ

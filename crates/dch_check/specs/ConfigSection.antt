@@ -56,4 +56,4 @@ behind old bytes = if old.complete then bytes else behind_separator old.line byt
 
 -- the text of the configuration, where the input ends here or the line `---` has come
 abbrev pub settled : Gathered → List ℕ
-settled front = front.text ++ section_of (front.line ∷ [])
+settled section = section.text ++ section_of (section.line ∷ [])

@@ -1,13 +1,9 @@
 -- The line that answers a text which is not read as a configuration.
 use Rattle.std.specs.Prelude.{ℕ, List, ◌++◌, Option, Some, None, codes, decimal}
 use Rattle.dch_types.specs.declared.channel.Dir.{Dir}
-use Rattle.dch_types.specs.declared.channel.Dir.TheVariants.{Up, Down}
+use Rattle.dch_script.specs.Report.{dir_word}
 use Rattle.dch_config.specs.declared.error.ConfigError.{ConfigError}
 use Rattle.dch_config.specs.declared.error.ConfigError.TheVariants.{NoMemory, NotToml, Key, Range, TrchCount, FormatCount, NoIdleFormat, CombinationCount, NoSuchFormat, NotClosed, BlockSize, NoCheck, PduSize, Window, TtiBits}
-
-abbrev pub dir_name : Dir → List ℕ
-dir_name Up = codes "up"
-dir_name Down = codes "down"
 
 -- the line of a refusal that names a key
 abbrev pub of_key : List ℕ → List ℕ → List ℕ
@@ -15,11 +11,11 @@ of_key what path = codes "refused " ++ what ++ codes "=" ++ path ++ codes "\n"
 
 -- the line of a refusal that names a direction
 abbrev pub of_direction : ℕ → Dir → List ℕ
-of_direction number dir = codes "refused " ++ decimal number ++ codes " " ++ dir_name dir ++ codes "\n"
+of_direction number dir = codes "refused " ++ decimal number ++ codes " " ++ dir_word dir ++ codes "\n"
 
 -- the line of a refusal that names a channel or a combination of a direction
 abbrev pub of_place : ℕ → Dir → List ℕ → ℕ → List ℕ
-of_place number dir what i = codes "refused " ++ decimal number ++ codes " " ++ dir_name dir ++ codes " " ++ what ++ codes "=" ++ decimal i ++ codes "\n"
+of_place number dir what i = codes "refused " ++ decimal number ++ codes " " ++ dir_word dir ++ codes " " ++ what ++ codes "=" ++ decimal i ++ codes "\n"
 
 -- the line of a refusal that names a bearer
 abbrev pub of_bearer : ℕ → ℕ → List ℕ

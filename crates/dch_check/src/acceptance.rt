@@ -2,9 +2,9 @@ ghost use Rattle.std.specs.Prelude.{◌≡◌, ◌++◌, Some, IfOk, OnOk, decim
 ghost use Rattle.dch_bits.specs.Text.{letter_of};
 ghost use Rattle.dch_check.specs.Acceptance.{acceptance_refusal, accepted_line, of_combination, of_count, of_block, of_collision, numbers_text, more_numbers, letters};
 
-use crate::refusal::dir_name;
 use dch_accept::Refusal;
 use dch_bits::{Bit, NoMemory};
+use dch_script::dir_word;
 use dch_types::Dir;
 use std::alloc::Global;
 
@@ -70,7 +70,7 @@ fn block_text(
 ) -> Result<String, NoMemory>
     ensures { IfOk result (λ text. string_bytes text ≡ of_block dir channel format block) }
 {
-    let dir = dir_name(dir);
+    let dir = dir_word(dir);
     let mut text = format!(in alloc; "refused 40 {dir}")?;
     push_field(alloc, &mut text, " channel=", u16::from(channel))?;
     push_field(alloc, &mut text, " format=", u16::from(format))?;

@@ -27,7 +27,7 @@ impl Model for ConfigSection {
 }
 
 impl ConfigSection {
-    /// The front of an input of which nothing has come.
+    /// The section of an input of which nothing has come.
     pub fn new(alloc: Global) -> Self
         ensures { result ≡ nothing }
     {

@@ -1,8 +1,9 @@
 ghost use Rattle.std.specs.Prelude.{◌≡◌, Some, IfOk, string_bytes, codes};
-ghost use Rattle.dch_check.specs.Refusals.{refusal, dir_name, of_key, of_direction, of_place, of_bearer};
+ghost use Rattle.dch_check.specs.Refusals.{refusal, of_key, of_direction, of_place, of_bearer};
 
 use dch_bits::NoMemory;
 use dch_config::ConfigError;
+use dch_script::dir_word;
 use dch_types::Dir;
 use std::alloc::Global;
 
@@ -46,7 +47,7 @@ fn path_line(alloc: Global, what: &str, path: &str) -> Result<String, NoMemory>
 fn direction_line(alloc: Global, number: u8, dir: Dir) -> Result<String, NoMemory>
     ensures { IfOk result (λ line. string_bytes line ≡ of_direction number dir) }
 {
-    let dir = dir_name(dir);
+    let dir = dir_word(dir);
     let line = format!(in alloc; "refused {number} {dir}\n")?;
     Ok(line)
 }
@@ -60,7 +61,7 @@ fn place_line(
 ) -> Result<String, NoMemory>
     ensures { IfOk result (λ line. string_bytes line ≡ of_place number dir what.now place) }
 {
-    let dir = dir_name(dir);
+    let dir = dir_word(dir);
     let line = format!(in alloc; "refused {number} {dir} {what}={place}\n")?;
     Ok(line)
 }
@@ -70,13 +71,4 @@ fn bearer_line(alloc: Global, number: u8, bearer: u8) -> Result<String, NoMemory
 {
     let line = format!(in alloc; "refused {number} bearer={bearer}\n")?;
     Ok(line)
-}
-
-pub fn dir_name(dir: Dir) -> &'static str
-    ensures { result.now ≡ dir_name dir }
-{
-    match dir {
-        Dir::Up => "up",
-        Dir::Down => "down",
-    }
 }

@@ -1,6 +1,6 @@
-ghost use Rattle.std.specs.Prelude.{◌≡◌, IfOk};
+ghost use Rattle.std.specs.Prelude.{◌≡◌, ℕ, List, IfOk};
 ghost use Rattle.dch_config.specs.Good.{IsGood};
-ghost use Rattle.dch_check.specs.Verdicts.{Judges, JudgesConfig, verdict_line};
+ghost use Rattle.dch_check.specs.Verdicts.{IsAccepted, Judges, JudgesConfig, Refuses, verdict_line};
 
 use crate::acceptance::{acceptance_line, accepted_line};
 use crate::refusal::refusal_line;
@@ -60,3 +60,8 @@ fn judge_config(alloc: Global, config: Config) -> Result<Verdict, NoMemory>
         }
     }
 }
+
+/// A law: no text is both accepted and refused.
+pub fn one_judgement_law()
+    ensures { (text line other : List ℕ) → IsAccepted text line → ¬ Refuses text other }
+{}

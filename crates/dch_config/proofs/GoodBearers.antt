@@ -9,12 +9,12 @@ use Rattle.dch_types.specs.declared.bearer.Mode.TheVariants.{Tm, Um, Am}
 use Rattle.dch_types.specs.declared.bearer.Bearer.{Bearer}
 use Rattle.dch_types.specs.declared.config.Config.{Config}
 use Rattle.dch_types.specs.Lengths.{crc_size}
-use Rattle.dch_types.specs.Parts.{channel_at}
+use Rattle.dch_types.specs.Parts.{channel_at, side_of}
 use Rattle.dch_tree.specs.Bearers.{is_transparent, bearer_at}
 use Rattle.dch_tree.proofs.Bearers.{KeepsRules, KeepsBearer, IsSomewhere}
 use Rattle.dch_tree.proofs.Partners.{KeepsSharing}
 use Rattle.dch_tree.proofs.Whole.{KeepsKeys, document_keeps}
-use Rattle.dch_config.specs.Bearers.{side_of, has_ct, has_no_check, lacks_check, check_refusal, are_pdus, has_wrong_blocks, lacks_pdus, pdu_refusal, has_wrong_window, window_refusal}
+use Rattle.dch_config.specs.Bearers.{has_ct, has_no_check, lacks_check, check_refusal, are_pdus, has_wrong_blocks, lacks_pdus, pdu_refusal, has_wrong_window, window_refusal}
 use Rattle.dch_config.specs.Limits.{count_refusals, combination_refusals, bearer_refusals, bits_refusals, limit_refusals, first_count_refusal, first_combination_refusal, first_bearer_refusal, first_bits_refusal, limit_refusal}
 use Rattle.dch_config.specs.Reading.{IsConfig, ReadsTree}
 use Rattle.std.specs.Prelude.{IfOk, Result, Ok, Err}

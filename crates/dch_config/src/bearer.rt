@@ -5,7 +5,7 @@ ghost use Rattle.dch_types.specs.Limits.{is_idle};
 ghost use Rattle.dch_types.specs.Parts.{channel_at};
 ghost use Rattle.dch_tree.specs.Bearers.{is_transparent};
 ghost use Rattle.dch_config.specs.Refusals.{Judges};
-ghost use Rattle.dch_config.specs.Bearers.{side_of, channel_number, names, has_ct, has_no_check, lacks_check, check_refusal, first_size, have_one_size, is_pdu, is_pdu_bits, are_pdus, has_wrong_blocks, lacks_pdus, pdu_refusal, has_wrong_window, window_refusal};
+ghost use Rattle.dch_config.specs.Bearers.{channel_number, names, has_ct, has_no_check, lacks_check, check_refusal, first_size, have_one_size, is_pdu, is_pdu_bits, are_pdus, has_wrong_blocks, lacks_pdus, pdu_refusal, has_wrong_window, window_refusal};
 
 use crate::error::ConfigError;
 use crate::side::is_idle;
@@ -146,21 +146,12 @@ fn are_pdus(mode: Mode, ct: bool, formats: &[Format]) -> bool
     }
 }
 
-fn side_of(config: &Config, dir: Dir) -> &Side
-    ensures { result.now ≡ side_of config.now dir }
-{
-    match dir {
-        Dir::Up => &config.uplink.side,
-        Dir::Down => &config.downlink.side,
-    }
-}
-
 fn has_wrong_blocks(config: &Config, mode: Mode, dir: Dir, channel: Option<u8>) -> bool
     ensures { result ≡ has_wrong_blocks config.now mode dir channel }
 {
     match channel {
         None => false,
-        Some(i) => !are_pdus_of(side_of(config, dir), mode, has_ct(config, dir, i), i),
+        Some(i) => !are_pdus_of(config.side(dir), mode, has_ct(config, dir, i), i),
     }
 }
 

@@ -15,6 +15,3 @@ pub use dch_types::{
 };
 pub use error::ConfigError;
 pub use reading::read;
-
-#[cfg(test)]
-mod tests;

@@ -10,7 +10,7 @@ use Rattle.dch_io.specs.Ends.{End, span}
 use Rattle.dch_script.specs.Lines.{lines_after, rest_after}
 use Rattle.dch_script.specs.declared.event.LineError.{LineError}
 use Rattle.dch_script.specs.declared.event.LineError.TheVariants.{Long}
-use Rattle.dch_lines.specs.Bounds.{most_bytes}
+use Rattle.dch_io.specs.declared.feed.TheConstants.{LIMIT}
 use Rattle.dch_lines.specs.Semantics.{Semantics, RefusesLong}
 use Rattle.dch_lines.specs.Processor.{Progress}
 use Rattle.dch_lines.specs.Followed.{FollowsInput, IsRefused}
@@ -64,7 +64,7 @@ refused_none semantics IsGood source state begun input taken more good why stric
 
 pub completes : {S : Type 0} (semantics : Semantics S) (IsGood : List ℕ → Type 0) (before now k l : Option (List ℕ)) (f g h i : ℕ) (old : Progress S) (state : S) (part : List ℕ) (outcome : Outcome) → RefusesLong semantics → TakesAll semantics IsGood
     → FollowsInput semantics (span before now f g) (span k l h i) old state part outcome
-    → IfSome before (λ input. All (λ line. (is_empty line ≡ true) ⊎ IsGood line) (lines_after old.line (part ++ input)) → rest_after old.line (part ++ input) ≡ [] → old.bytes + length (part ++ input) ≤ most_bytes → ¬ Rose f g → ¬ Rose h i → outcome ≡ Ok)
+    → IfSome before (λ input. All (λ line. (is_empty line ≡ true) ⊎ IsGood line) (lines_after old.line (part ++ input)) → rest_after old.line (part ++ input) ≡ [] → old.bytes + length (part ++ input) ≤ LIMIT → ¬ Rose f g → ¬ Rose h i → outcome ≡ Ok)
 completes semantics IsGood None now k l f g h i old state part outcome strict takes run = tt
 completes semantics IsGood (Some input) now k l f g h i old state part Ok strict takes run = λ good rest size s t. refl
 completes semantics IsGood (Some input) now k l f g h i old state part ReadFault strict takes run = λ good rest size s t. absurd (s run.answers.fails)

@@ -103,5 +103,5 @@ none_said semantics old line before sink breaks = ([], (inl refl, rw append-nil 
 -- a line is counted
 pub line_added : {S : Type 0} (semantics : Semantics S) (sink : End) (old new : S) (line before now : List ℕ) (bytes lines nonempty_lines count : ℕ) → LineOutcome semantics sink old line new before now (Ok count)
     → AddsLine semantics sink (record { handler = old; line = line; text = before; bytes = bytes; lines = lines; nonempty_lines = nonempty_lines }) (record { handler = new; line = []; text = now; bytes = bytes; lines = lines + 1; nonempty_lines = nonempty_lines + count })
-line_added semantics sink old new line before now bytes lines nonempty_lines count speaks =
-    rw speaks.1.2 (record { handler = new; more = speaks.0; handles = speaks.1.0; text = now; passes = speaks.1.1; added = refl })
+line_added semantics sink old new line before now bytes lines nonempty_lines count handled =
+    rw handled.1.2 (record { handler = new; more = handled.0; handles = handled.1.0; text = now; passes = handled.1.1; added = refl })

@@ -6,7 +6,7 @@ use Rattle.dch_script.specs.Code.{longest}
 use Rattle.dch_script.specs.Lines.{lines_after, rest_after}
 use Rattle.dch_script.specs.declared.event.LineError.{LineError}
 use Rattle.dch_script.specs.declared.event.LineError.TheVariants.{Cut}
-use Rattle.dch_lines.specs.Bounds.{most_bytes, most_of_a_piece}
+use Rattle.dch_io.specs.declared.feed.TheConstants.{LIMIT, PIECE}
 use Rattle.dch_lines.specs.Semantics.{Semantics}
 use Rattle.dch_lines.specs.Processor.{Progress, MeetsMalformed}
 use Rattle.dch_lines.specs.LineTexts.{BeginsNext, HandlesLines, nonempty_lines, refusal}
@@ -27,7 +27,7 @@ IsRefused semantics source state begun bytes good why = MeetsMalformed semantics
 -- the input was read to its end, each line of it is good and leads to this state, and the text of all is written
 pub record IsWhole {S : Type 0} (semantics : Semantics S) (source : End) (old : Progress S) (state : S) (bytes written : List ℕ) : Type 0 where
   pub end : IsAtEnd source.now
-  pub within : old.bytes + length bytes ≤ most_bytes
+  pub within : old.bytes + length bytes ≤ LIMIT
   pub ended : rest_after old.line bytes ≡ []
   pub text : List ℕ
   pub handles : HandlesLines semantics old.handler (lines_after old.line bytes) state text
@@ -35,7 +35,7 @@ pub record IsWhole {S : Type 0} (semantics : Semantics S) (source : End) (old : 
 
 -- the text of the good lines before a malformed one is written, and the line that says so
 pub record Refuses {S : Type 0} (semantics : Semantics S) (source : End) (old : Progress S) (bytes written : List ℕ) : Type 0 where
-  pub within : old.bytes + length bytes ≤ most_bytes
+  pub within : old.bytes + length bytes ≤ LIMIT
   pub good : List (List ℕ)
   pub state : S
   pub why : LineError
@@ -47,7 +47,7 @@ pub record Refuses {S : Type 0} (semantics : Semantics S) (source : End) (old : 
 -- a read failed; each whole line is good, and its text is written
 pub record FailsReading {S : Type 0} (semantics : Semantics S) (source : End) (old : Progress S) (bytes written : List ℕ) : Type 0 where
   pub fails : Fails source
-  pub within : old.bytes + length bytes ≤ most_bytes
+  pub within : old.bytes + length bytes ≤ LIMIT
   pub short : length (rest_after old.line bytes) ≤ longest
   pub state : S
   pub text : List ℕ
@@ -67,7 +67,7 @@ pub record CoversAll {S : Type 0} (semantics : Semantics S) (old : Progress S) (
   pub before : List ℕ
   pub piece : List ℕ
   pub pieces : bytes ≡ before ++ piece
-  pub small : length piece ≤ most_of_a_piece
+  pub small : length piece ≤ PIECE
   pub state : S
   pub text : List ℕ
   pub handles : HandlesLines semantics old.handler (lines_after old.line before) state text
@@ -78,7 +78,7 @@ pub record CoversAll {S : Type 0} (semantics : Semantics S) (old : Progress S) (
 -- it covers all lines that came before the last piece
 pub record FailsWriting {S : Type 0} (semantics : Semantics S) (source sink : End) (old : Progress S) (part taken written : List ℕ) : Type 0 where
   pub fails : Fails sink
-  pub within : old.bytes + length (part ++ taken) ≤ most_bytes
+  pub within : old.bytes + length (part ++ taken) ≤ LIMIT
   pub good : List (List ℕ)
   pub later : List (List ℕ)
   pub lines : lines_after old.line (part ++ taken) ≡ good ++ later
@@ -92,10 +92,10 @@ pub record FailsWriting {S : Type 0} (semantics : Semantics S) (source sink : En
 
 -- more bytes were taken than may come; the text of the whole lines within the limit is written
 pub record IsTooLong {S : Type 0} (semantics : Semantics S) (old : Progress S) (bytes written : List ℕ) : Type 0 where
-  pub long : most_bytes < old.bytes + length bytes
+  pub long : LIMIT < old.bytes + length bytes
   pub state : S
   pub text : List ℕ
-  pub handles : HandlesLines semantics old.handler (lines_after old.line (take (most_bytes - old.bytes) bytes)) state text
+  pub handles : HandlesLines semantics old.handler (lines_after old.line (take (LIMIT - old.bytes) bytes)) state text
   pub all : written ≡ old.text ++ text
 
 -- what is written where these bytes were at hand, and the source gave those

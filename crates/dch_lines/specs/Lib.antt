@@ -1,4 +1,3 @@
-pub mod Bounds
 pub mod Semantics
 pub mod Processor
 pub mod Followed

@@ -21,7 +21,7 @@ pub fn process_line<C: LineHandler, K: Sink>(
     requires wanted { C.most handler.old ≤ wanted }
     requires room { wanted ≤ report.old.most }
     requires fits { length report.old.text ≤ report.old.most }
-    ensures speaks { LineOutcome C.semantics (end_of K.taken K.faults sink.old sink.new) handler.old line.now handler.new report.old.text report.new.text result }
+    ensures handles { LineOutcome C.semantics (end_of K.taken K.faults sink.old sink.new) handler.old line.now handler.new report.old.text report.new.text result }
     ensures later { K.faults sink.old ≤ K.faults sink.new }
     ensures room { report.new.most ≡ report.old.most }
     ensures fits { length report.new.text ≤ report.new.most }
@@ -62,7 +62,7 @@ fn finish_line<C: LineHandler, K: Sink>(
     ensures stands { C.stands handler.new }
     ensures most { C.most handler.new ≡ C.most handler.old }
 {
-    'rounds: while handler.remaining() > 0 {
+    'steps: while handler.remaining() > 0 {
         match make_room(report, wanted, sink) {
             Ok(()) => handler.resume(report),
             Err(failed) => return Err(failed),

@@ -13,6 +13,3 @@ pub use handler::LineHandler;
 pub use input::follow_input;
 pub use processor::{InputOffset, LineProcessor};
 pub use stop::Outcome;
-
-#[cfg(test)]
-mod tests;

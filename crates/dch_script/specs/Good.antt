@@ -3,7 +3,7 @@ use Rattle.std.specs.Prelude.{◌≡◌, ◌<◌, ◌≤◌, ℕ, List, true, le
 use Rattle.dch_types.specs.declared.channel.Dir.{Dir}
 use Rattle.dch_types.specs.declared.channel.Dir.TheVariants.{Up, Down}
 use Rattle.dch_types.specs.declared.config.Config.{Config}
-use Rattle.dch_config.specs.Bearers.{side_of}
+use Rattle.dch_types.specs.Parts.{side_of}
 use Rattle.dch_script.specs.declared.event.Command.{Command}
 use Rattle.dch_script.specs.declared.event.Command.TheVariants.{Encode, Link, Ue, NodeB, Rnc}
 use Rattle.dch_script.specs.Code.{is_bits, longest}

@@ -8,7 +8,7 @@ use Rattle.hex.specs.declared.error.FromHexError.{FromHexError}
 use Rattle.dch_types.specs.declared.channel.Dir.{Dir}
 use Rattle.dch_types.specs.declared.channel.Dir.TheVariants.{Up, Down}
 use Rattle.dch_types.specs.declared.config.Config.{Config}
-use Rattle.dch_config.specs.Bearers.{side_of}
+use Rattle.dch_types.specs.Parts.{side_of}
 use Rattle.dch_script.specs.declared.event.LineError.{LineError}
 use Rattle.dch_script.specs.declared.event.LineError.TheVariants.{Number, Text}
 use Rattle.dch_script.specs.Said.{◌>>=◌}

@@ -4,9 +4,9 @@ ghost use Rattle.dch_script.specs.Words.{words_of, later_words};
 
 use crate::content::content_of;
 use crate::event::{Command, Event, LineError};
-use crate::texts::{LONGEST_BLOCK, is_bits};
+use crate::texts::is_bits;
 use crate::words::cut_word;
-use dch_types::{Coding, Crc};
+use dch_types::{Coding, Crc, MAX_BLOCK_BITS};
 
 /// The most bytes of a line, its line feed apart.
 pub const LONGEST_LINE: usize = 1_048_576;
@@ -56,7 +56,7 @@ fn judged<'a>(coding: &[u8], crc: &[u8], bits: &'a [u8]) -> Result<Event<'a>, Li
     ensures { IsSaid (code_of (coding_of coding.now) (crc_of crc.now) bits.entry.now) result }
 {
     match (read_coding(coding), read_crc(crc)) {
-        (Some(coding), Some(crc)) if is_bits(bits, LONGEST_BLOCK) => {
+        (Some(coding), Some(crc)) if is_bits(bits, MAX_BLOCK_BITS) => {
             Ok(Event::Code { coding, crc, bits })
         }
         _ => Err(LineError::Text),

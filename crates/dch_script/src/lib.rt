@@ -18,7 +18,4 @@ pub use code::{LONGEST_LINE, parse};
 pub use event::{Command, Event, LineError};
 pub use judge::parse_in;
 pub use numbers::decimal_law;
-pub use report::{Line, Report};
-
-#[cfg(test)]
-mod tests;
+pub use report::{Line, Report, dir_word};

@@ -1,13 +1,12 @@
 ghost use Rattle.std.specs.Prelude.{◌≡◌, ◌==◌, ◌≤◌, IfOk};
 ghost use Rattle.std.specs.List.{list_any};
-ghost use Rattle.dch_config.specs.Bearers.{side_of};
 ghost use Rattle.dch_script.specs.Forms.{one_shown};
 ghost use Rattle.dch_script.specs.Parts.{combination_of, count_of, dir_of, has_set, iub_dir_of, mask_of, number_in, hex_of, part_of, set_of, tfci_letters, tfci_of};
 
 use crate::event::LineError;
 use crate::numbers::read_number;
 use crate::texts::{is_octets, is_word_of_bits};
-use dch_types::{Config, Dir, Side};
+use dch_types::{Config, Dir};
 
 /// The direction that a word names.
 #[tactic(auto, unfolding(crate::specs::Parts::dir_of))]
@@ -59,22 +58,13 @@ pub fn number_in(word: &[u8], most: u32) -> Result<u32, LineError>
     }
 }
 
-fn side_of(config: &Config, dir: Dir) -> &Side
-    ensures { result.now ≡ side_of config.now dir }
-{
-    match dir {
-        Dir::Up => &config.uplink.side,
-        Dir::Down => &config.downlink.side,
-    }
-}
-
 /// The combination of a direction that a word names.
 #[tactic(auto, unfolding(crate::specs::Parts::combination_of))]
 pub fn read_combination(config: &Config, dir: Dir, word: &[u8]) -> Result<u16, LineError>
     ensures { result ≡ combination_of config.now dir word.now }
 {
     let combination = number_in(word, 65535)?;
-    if (combination as usize) < side_of(config, dir).combinations.len() {
+    if (combination as usize) < config.side(dir).combinations.len() {
         Ok(combination as u16)
     } else {
         Err(LineError::Number)
@@ -85,7 +75,8 @@ pub fn read_combination(config: &Config, dir: Dir, word: &[u8]) -> Result<u16, L
 fn has_set(config: &Config, dir: Dir, set: u8) -> bool
     ensures { result ≡ has_set config.now dir set }
 {
-    side_of(config, dir)
+    config
+        .side(dir)
         .channels
         .as_slice()
         .iter()

@@ -291,10 +291,7 @@ impl Report {
         ensures text { self.new ≡ record self.old { text = self.old.text ++ dir_word dir } }
         ensures len { length self.new.text ≡ length self.old.text + length (dir_word dir) }
     {
-        match dir {
-            Dir::Up => self.put_text(b"up"),
-            Dir::Down => self.put_text(b"down"),
-        }
+        self.put_text(dir_word(dir).as_bytes());
     }
 
     #[tactic(auto, unfolding(crate::specs::Report::iub_text))]
@@ -426,5 +423,15 @@ fn hex_text(octets: &[u8], out: &mut [u8])
     match encode_to_slice(octets, out) {
         Ok(()) => {}
         Err(_) => unreachable!(),
+    }
+}
+
+/// The word of a direction.
+pub fn dir_word(dir: Dir) -> &'static str
+    ensures { result.now ≡ dir_word dir }
+{
+    match dir {
+        Dir::Up => "up",
+        Dir::Down => "down",
     }
 }

@@ -4,13 +4,7 @@ ghost use Rattle.hex.specs.Hex.{is_hex_digit};
 ghost use Rattle.dch_script.specs.Code.{is_bits};
 ghost use Rattle.dch_script.specs.Texts.{are_cells, is_word_of_bits, is_cells, is_octets, is_unit};
 
-use dch_types::{Dir, Mode};
-
-/// The most cells of a radio frame: the data bits of six codes (TS 25.211 5.2.1).
-const MOST_CELLS: usize = 57_600;
-
-/// The most bits of a transport block.
-pub const LONGEST_BLOCK: usize = 5000;
+use dch_types::{Dir, MAX_BLOCK_BITS, MAX_UPLINK_CELLS, Mode};
 
 /// The most hexadecimal digits of a unit: those of 2,000 octets.
 const LONGEST_UNIT: usize = 4000;
@@ -64,8 +58,8 @@ pub fn are_cells(dir: Dir, word: &[u8]) -> bool
     ensures { result ≡ are_cells dir word.now }
 {
     match dir {
-        Dir::Up => is_bits(word, MOST_CELLS),
-        Dir::Down => is_cells(word, MOST_CELLS),
+        Dir::Up => is_bits(word, MAX_UPLINK_CELLS),
+        Dir::Down => is_cells(word, MAX_UPLINK_CELLS),
     }
 }
 
@@ -99,7 +93,7 @@ pub fn is_unit(mode: Mode, word: &[u8]) -> bool
     ensures { result ≡ is_unit mode word.now }
 {
     match mode {
-        Mode::Tm => is_bits(word, LONGEST_BLOCK),
+        Mode::Tm => is_bits(word, MAX_BLOCK_BITS),
         Mode::Um | Mode::Am => word.len() <= LONGEST_UNIT && is_octets(word),
     }
 }

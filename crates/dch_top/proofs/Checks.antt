@@ -12,7 +12,7 @@ use Rattle.dch_check.specs.declared.verdict.Verdict.{Verdict}
 use Rattle.dch_check.specs.declared.verdict.Verdict.TheVariants.{Accepted as AcceptedBy, Refused as RefusedBy}
 use Rattle.dch_check.proofs.ConfigSections.{configuration_more}
 use Rattle.dch_check.proofs.Judgements.{one_judgement}
-use Rattle.dch_lines.specs.Bounds.{most_bytes}
+use Rattle.dch_io.specs.declared.feed.TheConstants.{LIMIT}
 use Rattle.dch_top.specs.Checked.{Answers, Checks, HasEnded, Judged}
 use Rattle.dch_top.specs.declared.command.Status.{Status}
 use Rattle.dch_top.specs.declared.command.Status.TheVariants.{Ok as Done, Refused, Usage, ReadFault, WriteFault, NoMemory, TooLong}
@@ -52,7 +52,7 @@ judged_whole source input taken more cut all ended =
 
 -- an accepted configuration is answered without a fault
 pub good_answered : (before now k l : Option (List ℕ)) (f g h i : ℕ) (status : Status) → Checks (span before now f g) (span k l h i) status
-    → IfSome before (λ input. (line : List ℕ) → IsAccepted (configuration_of input) line → length input ≤ most_bytes → ¬ Rose f g → ¬ Rose h i → (status ≡ Done) ⊎ (status ≡ NoMemory))
+    → IfSome before (λ input. (line : List ℕ) → IsAccepted (configuration_of input) line → length input ≤ LIMIT → ¬ Rose f g → ¬ Rose h i → (status ≡ Done) ⊎ (status ≡ NoMemory))
 good_answered None now k l f g h i status run = tt
 good_answered (Some input) now k l f g h i Done run = λ line good size s t. inl refl
 good_answered (Some input) now k l f g h i NoMemory run = λ line good size s t. inr refl
@@ -69,7 +69,7 @@ good_answered (Some input) now k l f g h i Refused run = λ line good size s t.
 
 -- and so is a refused one
 pub refused_answered : (before now k l : Option (List ℕ)) (f g h i : ℕ) (status : Status) → Checks (span before now f g) (span k l h i) status
-    → IfSome before (λ input. (line : List ℕ) → Refuses (configuration_of input) line → length input ≤ most_bytes → ¬ Rose f g → ¬ Rose h i → (status ≡ Refused) ⊎ (status ≡ NoMemory))
+    → IfSome before (λ input. (line : List ℕ) → Refuses (configuration_of input) line → length input ≤ LIMIT → ¬ Rose f g → ¬ Rose h i → (status ≡ Refused) ⊎ (status ≡ NoMemory))
 refused_answered None now k l f g h i status run = tt
 refused_answered (Some input) now k l f g h i Refused run = λ line refused size s t. inl refl
 refused_answered (Some input) now k l f g h i NoMemory run = λ line refused size s t. inr refl

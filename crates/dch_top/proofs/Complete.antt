@@ -7,7 +7,7 @@ use Rattle.dch_io.specs.Causes.{Rose}
 use Rattle.dch_io.specs.Ends.{span}
 use Rattle.dch_script.specs.Code.{meaning}
 use Rattle.dch_script.specs.Lines.{lines_of, rest_of}
-use Rattle.dch_lines.specs.Bounds.{most_bytes}
+use Rattle.dch_io.specs.declared.feed.TheConstants.{LIMIT}
 use Rattle.dch_lines.specs.Followed.{FollowsInput}
 use Rattle.dch_lines.specs.declared.stop.Outcome.{Outcome}
 use Rattle.dch_lines.specs.declared.stop.Outcome.TheVariants.{Ok as Done, Refused as MetMalformed, ReadFault as FailedReading, WriteFault as FailedWriting, TooLong as TookTooMuch}
@@ -26,12 +26,12 @@ takes_all : TakesAll encoding (λ line. IsOk (meaning line))
 takes_all state line why ok same = error_is_none (meaning line) why same ok
 
 -- good lines are followed to the end
-ends_well : (input : List ℕ) (now k l : Option (List ℕ)) (f g h i : ℕ) (outcome : Outcome) → FollowsInput encoding (span (Some input) now f g) (span k l h i) beginning tt [] outcome → AreGood (lines_of input) → rest_of input ≡ [] → length input ≤ most_bytes → ¬ Rose f g → ¬ Rose h i → outcome ≡ Done
+ends_well : (input : List ℕ) (now k l : Option (List ℕ)) (f g h i : ℕ) (outcome : Outcome) → FollowsInput encoding (span (Some input) now f g) (span k l h i) beginning tt [] outcome → AreGood (lines_of input) → rest_of input ≡ [] → length input ≤ LIMIT → ¬ Rose f g → ¬ Rose h i → outcome ≡ Done
 ends_well input now k l f g h i outcome run good rest size s t =
     follows_all encoding (λ line. IsOk (meaning line)) (Some input) now k l f g h i beginning tt [] outcome encoding_refuses_long takes_all run good rest (omega (arith, size)) s t
 
 pub completes : (before now k l : Option (List ℕ)) (f g h i : ℕ) (status : Status) → Encodes (span before now f g) (span k l h i) status
-    → IfSome before (λ input. AreGood (lines_of input) → rest_of input ≡ [] → length input ≤ most_bytes → ¬ Rose f g → ¬ Rose h i → (status ≡ Ok) ⊎ (status ≡ NoMemory))
+    → IfSome before (λ input. AreGood (lines_of input) → rest_of input ≡ [] → length input ≤ LIMIT → ¬ Rose f g → ¬ Rose h i → (status ≡ Ok) ⊎ (status ≡ NoMemory))
 completes None now k l f g h i status run = tt
 completes (Some input) now k l f g h i Ok run = λ good rest size s t. inl refl
 completes (Some input) now k l f g h i NoMemory run = λ good rest size s t. inr refl

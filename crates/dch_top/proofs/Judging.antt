@@ -59,26 +59,26 @@ passes_fault a b c f g h first count TooLong passing reads = record {
 passes_fault a b c f g h first count status passing reads = absurd reads
 
 -- no line `---` has come yet
-pub record Gathering (source : End) (front : Gathered) (count : ℕ) : Type 0 where
+pub record Gathering (source : End) (section : Gathered) (count : ℕ) : Type 0 where
   pub taken : List ℕ
   pub takes : Consumes source.before source.now taken
   pub counted : count ≡ length taken
   pub within : count ≤ LIMIT
-  pub gathers : front ≡ gathered nothing taken
+  pub gathers : section ≡ gathered nothing taken
   pub going : is_complete taken ≡ false
   pub later : source.faults_before ≤ source.faults_now
 
-pub gathers_first : (a : Option (List ℕ)) (f : ℕ) (front : Gathered) → front ≡ nothing → Gathering (span a a f f) front 0
-gathers_first a f front empty = record { taken = []; takes = Consumes-nil a; counted = refl; within = omega arith; gathers = empty; going = refl; later = omega arith }
+pub gathers_first : (a : Option (List ℕ)) (f : ℕ) (section : Gathered) → section ≡ nothing → Gathering (span a a f f) section 0
+gathers_first a f section empty = record { taken = []; takes = Consumes-nil a; counted = refl; within = omega arith; gathers = empty; going = refl; later = omega arith }
 
 -- what has come with the next piece
-gathers_next : (front next : Gathered) (taken piece : List ℕ) → front ≡ gathered nothing taken → next ≡ gathered front piece → next ≡ gathered nothing (taken ++ piece)
-gathers_next front next taken piece first then_is = then_is ∙ ap (λ (s : Gathered). gathered s piece) first ∙ gathered_on nothing taken piece
+gathers_next : (section next : Gathered) (taken piece : List ℕ) → section ≡ gathered nothing taken → next ≡ gathered section piece → next ≡ gathered nothing (taken ++ piece)
+gathers_next section next taken piece first then_is = then_is ∙ ap (λ (s : Gathered). gathered s piece) first ∙ gathered_on nothing taken piece
 
-pub gathers_piece : (a b c : Option (List ℕ)) (f g h count : ℕ) (front next : Gathered) (piece : List ℕ) → g ≤ h → Gathering (span a b f g) front count → IsPiece (span b c g h) count piece
-    → next ≡ gathered front piece → next.complete ≡ false → Gathering (span a c f h) next (count + length piece)
-gathers_piece a b c f g h count front next piece later gathering is_piece is_next going =
-    let whole = gathers_next front next gathering.taken piece gathering.gathers is_next in
+pub gathers_piece : (a b c : Option (List ℕ)) (f g h count : ℕ) (section next : Gathered) (piece : List ℕ) → g ≤ h → Gathering (span a b f g) section count → IsPiece (span b c g h) count piece
+    → next ≡ gathered section piece → next.complete ≡ false → Gathering (span a c f h) next (count + length piece)
+gathers_piece a b c f g h count section next piece later gathering is_piece is_next going =
+    let whole = gathers_next section next gathering.taken piece gathering.gathers is_next in
     record {
       taken = gathering.taken ++ piece;
       takes = Consumes-trans a b c gathering.taken piece gathering.takes is_piece.takes;
@@ -90,8 +90,8 @@ gathers_piece a b c f g h count front next piece later gathering is_piece is_nex
     }
 
 -- a fault while no line `---` has come
-pub gathers_fault : (a b c : Option (List ℕ)) (f g h count : ℕ) (front : Gathered) (status : Status) → Gathering (span a b f g) front count → ReadsOn (span b c g h) count (Err status) → Judged (span a c f h) (Err status)
-gathers_fault a b c f g h count front ReadFault gathering reads = record {
+pub gathers_fault : (a b c : Option (List ℕ)) (f g h count : ℕ) (section : Gathered) (status : Status) → Gathering (span a b f g) section count → ReadsOn (span b c g h) count (Err status) → Judged (span a c f h) (Err status)
+gathers_fault a b c f g h count section ReadFault gathering reads = record {
   taken = gathering.taken;
   takes = Consumes-kept a b c gathering.taken gathering.takes reads.1;
   finds = record {
@@ -100,7 +100,7 @@ gathers_fault a b c f g h count front ReadFault gathering reads = record {
     good = λ done. absurd (false≢true (sym gathering.going ∙ done));
   };
 }
-gathers_fault a b c f g h count front TooLong gathering reads =
+gathers_fault a b c f g h count section TooLong gathering reads =
     let full : LIMIT ≡ length gathering.taken = omega (arith, gathering.counted, reads.full) in
     let front_is : take LIMIT (gathering.taken ++ reads.piece) ≡ gathering.taken = take-append-le LIMIT gathering.taken reads.piece (omega arith) ∙ take_all LIMIT gathering.taken (omega arith) in
     record {
@@ -111,30 +111,30 @@ gathers_fault a b c f g h count front TooLong gathering reads =
         good = rw front_is (λ done. absurd (false≢true (sym gathering.going ∙ done)));
       };
     }
-gathers_fault a b c f g h count front status gathering reads = absurd reads
+gathers_fault a b c f g h count section status gathering reads = absurd reads
 
 -- want of memory, after some bytes
-pub no_memory : (a b c : Option (List ℕ)) (f g h count : ℕ) (front : Gathered) (piece : List ℕ) (status : Status) → Gathering (span a b f g) front count → IsPiece (span b c g h) count piece → status ≡ NoMemory → Judged (span a c f h) (Err status)
-no_memory a b c f g h count front piece status gathering next same = rw same (record {
+pub no_memory : (a b c : Option (List ℕ)) (f g h count : ℕ) (section : Gathered) (piece : List ℕ) (status : Status) → Gathering (span a b f g) section count → IsPiece (span b c g h) count piece → status ≡ NoMemory → Judged (span a c f h) (Err status)
+no_memory a b c f g h count section piece status gathering next same = rw same (record {
   taken = gathering.taken ++ piece;
   takes = Consumes-trans a b c gathering.taken piece gathering.takes next.takes;
   finds = tt;
 })
 
 -- the input ends without the line `---`
-pub judged_at_end : (a b c : Option (List ℕ)) (f g h count : ℕ) (front : Gathered) (piece : List ℕ) (found : Result Verdict Status) → Gathering (span a b f g) front count → IsPiece (span b c g h) count piece
-    → length piece ≡ 0 → JudgesText (settled front) found → Judged (span a c f h) found
-judged_at_end a b c f g h count front piece (Err status) gathering next none judges = no_memory a b c f g h count front piece status gathering next judges
-judged_at_end a b c f g h count front piece (Ok (AcceptedBy line)) gathering next none judges =
-    let text : settled front ≡ configuration_of gathering.taken = ap settled gathering.gathers ∙ settled_all gathering.taken in
+pub judged_at_end : (a b c : Option (List ℕ)) (f g h count : ℕ) (section : Gathered) (piece : List ℕ) (found : Result Verdict Status) → Gathering (span a b f g) section count → IsPiece (span b c g h) count piece
+    → length piece ≡ 0 → JudgesText (settled section) found → Judged (span a c f h) found
+judged_at_end a b c f g h count section piece (Err status) gathering next none judges = no_memory a b c f g h count section piece status gathering next judges
+judged_at_end a b c f g h count section piece (Ok (AcceptedBy line)) gathering next none judges =
+    let text : settled section ≡ configuration_of gathering.taken = ap settled gathering.gathers ∙ settled_all gathering.taken in
     let nil : piece ≡ [] = nil_from_length piece none in
     record {
       taken = gathering.taken;
       takes = subst (Consumes a c) (ap (λ l. gathering.taken ++ l) nil ∙ append-nil gathering.taken) (Consumes-trans a b c gathering.taken piece gathering.takes next.takes);
       finds = record { end = next.end none; within = omega (arith, gathering.counted, gathering.within); good = subst (λ t. IsAccepted t (string_bytes line)) text judges };
     }
-judged_at_end a b c f g h count front piece (Ok (RefusedBy line)) gathering next none judges =
-    let text : settled front ≡ configuration_of gathering.taken = ap settled gathering.gathers ∙ settled_all gathering.taken in
+judged_at_end a b c f g h count section piece (Ok (RefusedBy line)) gathering next none judges =
+    let text : settled section ≡ configuration_of gathering.taken = ap settled gathering.gathers ∙ settled_all gathering.taken in
     let nil : piece ≡ [] = nil_from_length piece none in
     record {
       taken = gathering.taken;
@@ -164,10 +164,10 @@ pub record Completes (source : End) (next : Gathered) (count : ℕ) : Type 0 whe
   pub text : settled next ≡ configuration_of (taken ++ piece)
   pub later : source.faults_before ≤ source.faults_now
 
-pub completes_with : (a b c : Option (List ℕ)) (f g h count : ℕ) (front next : Gathered) (piece : List ℕ) → g ≤ h → Gathering (span a b f g) front count → IsPiece (span b c g h) count piece
-    → next ≡ gathered front piece → next.complete ≡ true → Completes (span a c f h) next (count + length piece)
-completes_with a b c f g h count front next piece later gathering is_piece is_next done =
-    let whole = gathers_next front next gathering.taken piece gathering.gathers is_next in
+pub completes_with : (a b c : Option (List ℕ)) (f g h count : ℕ) (section next : Gathered) (piece : List ℕ) → g ≤ h → Gathering (span a b f g) section count → IsPiece (span b c g h) count piece
+    → next ≡ gathered section piece → next.complete ≡ true → Completes (span a c f h) next (count + length piece)
+completes_with a b c f g h count section next piece later gathering is_piece is_next done =
+    let whole = gathers_next section next gathering.taken piece gathering.gathers is_next in
     record {
       taken = gathering.taken;
       piece = piece;

@@ -8,14 +8,13 @@ use Rattle.dch_check.specs.ConfigSection.{configuration_of, is_complete}
 use Rattle.dch_check.specs.Verdicts.{IsAccepted, Judges, Refuses}
 use Rattle.dch_check.specs.declared.verdict.Verdict.{Verdict}
 use Rattle.dch_check.specs.declared.verdict.Verdict.TheVariants.{Accepted as AcceptedBy, Refused as RefusedBy}
-use Rattle.dch_lines.specs.Bounds.{most_bytes, most_of_a_piece}
 use Rattle.dch_top.specs.declared.command.Status.{Status}
 use Rattle.dch_top.specs.declared.command.Status.TheVariants.{Ok as Done, Refused, Usage, ReadFault, WriteFault, NoMemory, TooLong}
 
 -- the input was taken to its end, and its configuration is accepted by this line
 pub record IsGoodInput (source : End) (taken line : List ℕ) : Type 0 where
   pub end : IsAtEnd source.now
-  pub within : length taken ≤ most_bytes
+  pub within : length taken ≤ LIMIT
   pub good : IsAccepted (configuration_of taken) line
 
 -- the configuration is complete: the line `---` was taken, or the input ended
@@ -24,13 +23,13 @@ HasEnded source taken = (is_complete taken ≡ true) ⊎ IsAtEnd source.now
 
 -- the configuration is refused by this line, with the piece that completes it
 pub record IsRefusedInput (source : End) (taken line : List ℕ) : Type 0 where
-  pub within : length taken ≤ most_bytes
+  pub within : length taken ≤ LIMIT
   pub ended : HasEnded source taken
   pub refuses : Refuses (configuration_of taken) line
   pub old : List ℕ
   pub piece : List ℕ
   pub pieces : taken ≡ old ++ piece
-  pub small : length piece ≤ most_of_a_piece
+  pub small : length piece ≤ PIECE
   pub soon : is_complete old ≡ false
 
 -- no configuration that is complete is refused
@@ -40,13 +39,13 @@ IsGoodSoFar taken = is_complete taken ≡ true → (line : List ℕ) × IsAccept
 -- a read failed
 pub record FailsJudging (source : End) (taken : List ℕ) : Type 0 where
   pub fails : Fails source
-  pub within : length taken ≤ most_bytes
+  pub within : length taken ≤ LIMIT
   pub good : IsGoodSoFar taken
 
 -- more bytes were taken than may come
 pub record IsBeyond (taken : List ℕ) : Type 0 where
-  pub long : most_bytes < length taken
-  pub good : IsGoodSoFar (take most_bytes taken)
+  pub long : LIMIT < length taken
+  pub good : IsGoodSoFar (take LIMIT taken)
 
 -- a write failed within the one line of the answer
 pub record FailsAnswering (source sink : End) (taken written : List ℕ) : Type 0 where

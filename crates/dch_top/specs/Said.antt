@@ -2,7 +2,7 @@
 use Rattle.std.specs.Prelude.{◌≡◌, ℕ, List, [], ◌++◌, Result, Ok, Err, codes, decimal, if◌then◌else◌, map}
 use Rattle.std.specs.Str.{bytes_eq}
 use Rattle.dch_bits.specs.declared.bit.Bit.{Bit}
-use Rattle.dch_bits.specs.Text.{bit_of}
+use Rattle.dch_bits.specs.Text.{bit_of_letter}
 use Rattle.dch_coding.specs.Chain.{IsCoded}
 use Rattle.dch_script.specs.Code.{CodeLine, meaning}
 use Rattle.dch_script.specs.Report.{bits_shown}
@@ -11,7 +11,7 @@ use Rattle.dch_lines.specs.Semantics.{Semantics, one_step}
 
 -- the bits of a bit text, where a dot stands for none
 abbrev pub block_of : List ℕ → List Bit
-block_of text = if bytes_eq text (codes ".") then [] else map bit_of text
+block_of text = if bytes_eq text (codes ".") then [] else map bit_of_letter text
 
 -- the line `coded` of a transport block
 pub record IsAnswer (line : CodeLine) (text : List ℕ) : Type 0 where

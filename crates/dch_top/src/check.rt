@@ -51,17 +51,17 @@ fn judge_pieces<S: Source>(
     requires { length room.old ≡ PIECE }
     ensures { Judged (end_of S.left S.faults source.old source.new) result }
 {
-    let mut front = ConfigSection::new(alloc);
+    let mut section = ConfigSection::new(alloc);
     let mut count = 0;
     'pieces: loop {
         let piece = read_on(source, room, count)?;
         if piece.is_empty() {
-            return judge_section(alloc, &front);
+            return judge_section(alloc, &section);
         }
         count += piece.len();
-        front = gather(front, piece)?;
-        if front.is_complete() {
-            let verdict = judge_section(alloc, &front)?;
+        section = gather(section, piece)?;
+        if section.is_complete() {
+            let verdict = judge_section(alloc, &section)?;
             return match verdict {
                 Verdict::Accepted(line) => {
                     pass_over(source, room, count)?;
@@ -73,21 +73,21 @@ fn judge_pieces<S: Source>(
     }
 }
 
-fn gather(front: ConfigSection, piece: &[u8]) -> Result<ConfigSection, Status>
-    ensures ok { IfOk result (λ next. next ≡ gathered front piece.now) }
+fn gather(section: ConfigSection, piece: &[u8]) -> Result<ConfigSection, Status>
+    ensures ok { IfOk result (λ next. next ≡ gathered section piece.now) }
     ensures err { IfErr result (λ status. status ≡ Status.NoMemory) }
 {
-    match front.follow(piece) {
-        Ok(front) => Ok(front),
+    match section.follow(piece) {
+        Ok(section) => Ok(section),
         Err(NoMemory) => Err(Status::NoMemory),
     }
 }
 
 /// Judges a configuration that is complete.
-fn judge_section(alloc: Global, front: &ConfigSection) -> Result<Verdict, Status>
-    ensures { JudgesText (settled front.now) result }
+fn judge_section(alloc: Global, section: &ConfigSection) -> Result<Verdict, Status>
+    ensures { JudgesText (settled section.now) result }
 {
-    match judge(alloc, front.text()) {
+    match judge(alloc, section.text()) {
         Ok(verdict) => Ok(verdict),
         Err(NoMemory) => Err(Status::NoMemory),
     }

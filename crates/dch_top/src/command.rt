@@ -5,7 +5,7 @@ ghost use Rattle.dch_script.specs.Lines.{lines_of, rest_of};
 ghost use Rattle.dch_check.specs.ConfigSection.{configuration_of};
 ghost use Rattle.dch_check.specs.Verdicts.{IsAccepted, Refuses};
 ghost use Rattle.dch_words.specs.declared.arguments.Subcommand.TheVariants.{Check, Encode};
-ghost use Rattle.dch_lines.specs.Bounds.{most_bytes};
+ghost use Rattle.dch_io.specs.declared.feed.TheConstants.{LIMIT};
 ghost use Rattle.dch_top.specs.Ran.{Ran, Asks, IsNoCommand, Misuses, AreGood};
 
 use crate::bench::Bench;
@@ -35,6 +35,21 @@ pub enum Status {
     TooLong,
 }
 
+impl Status {
+    /// The exit status of the program.
+    pub fn number(self) -> u8
+        ensures ok { self ≡ Status.Ok → result ≡ 0 }
+        ensures refused { self ≡ Status.Refused → result ≡ 1 }
+        ensures usage { self ≡ Status.Usage → result ≡ 2 }
+        ensures read_fault { self ≡ Status.ReadFault → result ≡ 3 }
+        ensures write_fault { self ≡ Status.WriteFault → result ≡ 4 }
+        ensures no_memory { self ≡ Status.NoMemory → result ≡ 5 }
+        ensures too_long { self ≡ Status.TooLong → result ≡ 6 }
+    {
+        self as u8
+    }
+}
+
 /// Runs the command that the words name: reads from the source and writes to the sink. The words don't hold the
 /// program's name. The bench is empty, and stays so for the commands that have come so far.
 pub fn run<S: Source, K: Sink>(
@@ -53,15 +68,15 @@ pub fn run<S: Source, K: Sink>(
     ensures usage { result ≡ Status.Usage → IsNoCommand words.now }
 
     // Good lines without a fault are all answered.
-    ensures complete { Asks words.now Encode → IfSome (S.left source.old) (λ input. AreGood (lines_of input) → rest_of input ≡ [] → length input ≤ most_bytes
+    ensures complete { Asks words.now Encode → IfSome (S.left source.old) (λ input. AreGood (lines_of input) → rest_of input ≡ [] → length input ≤ LIMIT
         → ¬ Rose (S.faults source.old) (S.faults source.new) → ¬ Rose (K.faults sink.old) (K.faults sink.new)
         → (result ≡ Status.Ok) ⊎ (result ≡ Status.NoMemory)) }
 
     // A configuration without a fault is judged.
-    ensures good { Asks words.now Check → IfSome (S.left source.old) (λ input. (line : List ℕ) → IsAccepted (configuration_of input) line → length input ≤ most_bytes
+    ensures good { Asks words.now Check → IfSome (S.left source.old) (λ input. (line : List ℕ) → IsAccepted (configuration_of input) line → length input ≤ LIMIT
         → ¬ Rose (S.faults source.old) (S.faults source.new) → ¬ Rose (K.faults sink.old) (K.faults sink.new)
         → (result ≡ Status.Ok) ⊎ (result ≡ Status.NoMemory)) }
-    ensures refused { Asks words.now Check → IfSome (S.left source.old) (λ input. (line : List ℕ) → Refuses (configuration_of input) line → length input ≤ most_bytes
+    ensures refused { Asks words.now Check → IfSome (S.left source.old) (λ input. (line : List ℕ) → Refuses (configuration_of input) line → length input ≤ LIMIT
         → ¬ Rose (S.faults source.old) (S.faults source.new) → ¬ Rose (K.faults sink.old) (K.faults sink.new)
         → (result ≡ Status.Refused) ⊎ (result ≡ Status.NoMemory)) }
 {

@@ -9,13 +9,12 @@ use dch_bits::{Bit, NoMemory, read_bits_text};
 use dch_coding::BlockCoder;
 use dch_lines::LineHandler;
 use dch_script::{Command, Event, Line, LineError, Report, parse};
+use dch_types::MAX_BLOCK_BITS;
 use std::alloc::Global;
 use std::marker::Model;
 
 /// The most bytes of the text of a line.
 pub const LONGEST_TEXT: usize = 16_384;
-
-const LONGEST_BLOCK: usize = 5000;
 
 /// The handler of `encode`: codes the transport block of each line, in room that is taken once.
 #[derive(Drop)]
@@ -37,7 +36,7 @@ impl Model for EncodeHandler {
 impl EncodeHandler {
     /// A handler with its room.
     pub fn open(alloc: Global) -> Result<EncodeHandler, NoMemory> {
-        let Ok(block) = vec![in alloc; Bit::Zero; LONGEST_BLOCK] else {
+        let Ok(block) = vec![in alloc; Bit::Zero; MAX_BLOCK_BITS] else {
             return Err(NoMemory);
         };
         let Ok(handler) = BlockCoder::open(alloc) else {

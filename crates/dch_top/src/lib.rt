@@ -9,6 +9,3 @@ mod encode_handler;
 
 pub use bench::Bench;
 pub use command::{Status, run};
-
-#[cfg(test)]
-mod tests;

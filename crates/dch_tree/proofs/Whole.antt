@@ -15,7 +15,7 @@ use Rattle.dch_tree.specs.declared.fault.Fault.{Fault}
 use Rattle.dch_tree.specs.Rules.{number_within, number_among}
 use Rattle.dch_tree.specs.Tables.{required, members_at, table_faults, list_at, items_values}
 use Rattle.dch_tree.specs.Channels.{channel_of}
-use Rattle.dch_tree.specs.Sides.{side_faults, side_of, uplink_faults, uplink_of, downlink_faults, downlink_of}
+use Rattle.dch_tree.specs.Sides.{side_faults, side_from, uplink_faults, uplink_of, downlink_faults, downlink_of}
 use Rattle.dch_tree.specs.Bearers.{bearer_at, bearer_faults, bearer_of, bearers_faults, bearers_of, shares, together_faults}
 use Rattle.dch_tree.specs.Documents.{uplink_channels, downlink_channels, document_faults, config_of}
 use Rattle.dch_tree.proofs.Kept.{front_none, back_none, few_bearers}
@@ -32,8 +32,8 @@ pub record KeepsSide (side : Side) : Type 0 where
 channel_ranges : (items : Items) (i : ℕ) (d : Trch) → i < length (items_values channel_of items) → KeepsRanges (get_or (items_values channel_of items) i d)
 channel_ranges items i d inside = let (ms, is) = values_at channel_of items i d inside in subst KeepsRanges (sym is) (channel_keeps ms)
 
-side_keeps : (path : List ℕ) (ms : Members) → side_faults path ms ≡ [] → KeepsSide (side_of ms)
-unfolding side_faults side_of
+side_keeps : (path : List ℕ) (ms : Members) → side_faults path ms ≡ [] → KeepsSide (side_from ms)
+unfolding side_faults side_from
 side_keeps path ms none = record {
   channels = λ i inside. channel_ranges (list_at (codes "channel") ms) i _ inside;
   sets = λ i j before inside same. sets_kept path (codes "channel") (list_at (codes "channel") ms) (back_none _ _ (front_none _ _ none)) (back_none _ _ none) i j _ before inside same;

@@ -50,8 +50,8 @@ side_faults path ms =
     ++ items_faults channel_faults path (codes "channel") 0 (list_at (codes "channel") ms)
     ++ indexed (set_faults path (sets_and_ttis (list_at (codes "channel") ms))) (length (sets_and_ttis (list_at (codes "channel") ms)))
 
-unfoldable pub side_of : Members → Side
-side_of ms = record {
+unfoldable pub side_from : Members → Side
+side_from ms = record {
   channels = items_values channel_of (list_at (codes "channel") ms);
   combinations = field [] combinations_of (codes "combinations") ms;
 }
@@ -69,7 +69,7 @@ uplink_faults path ms =
 
 unfoldable pub uplink_of : Members → Uplink
 uplink_of ms = record {
-  side = side_of ms;
+  side = side_from ms;
   largest = field 150 (number_among frame_sizes) (codes "largest") ms;
   pl = field 100 (number_within 40 100) (codes "pl") ms;
 }
@@ -89,7 +89,7 @@ downlink_faults path ms =
 
 unfoldable pub downlink_of : Members → Downlink
 downlink_of ms = record {
-  side = side_of ms;
+  side = side_from ms;
   slot_bits = field 1 (number_within 1 1272) (codes "slot_bits") ms;
   codes = field 1 (number_within 1 3) (codes "codes") ms;
   sf = field 4 (number_among spreading_factors) (codes "sf") ms;

@@ -1,6 +1,6 @@
 ghost use Rattle.std.specs.Prelude.{◌≡◌, find, ◌==◌, IfOk};
 ghost use Rattle.toml.specs.View.{view};
-ghost use Rattle.dch_tree.specs.Rules.{number_of, number_within, number_among, frames_of_tti, crc_of, coding_of, coding_of_word, fixed_of, fixed_of_word, mode_of, mode_of_word, window_of, channel_of, formats_of, format_of, member_of, combination_of, combinations_of};
+ghost use Rattle.dch_tree.specs.Rules.{number_of, number_within, number_among, frames_of_time, frames_of_tti, crc_of, crc_of_bits, is_word, coding_of, coding_of_word, fixed_of, fixed_of_word, mode_of, mode_of_word, window_of, window_of_number, channel_of, formats_of, format_of, member_of, combination_of, combinations_of};
 
 use dch_bits::NoMemory;
 use dch_types::{Coding, Combination, Crc, Format, Mode, Sequence};
@@ -51,7 +51,14 @@ fn find_number(allowed: &[u32], number: u64) -> Option<u32>
 pub(crate) fn frames(value: &Value) -> Option<u8>
     ensures { result ≡ frames_of_tti (view value.now) }
 {
-    match number(value)? {
+    frames_of_time(number(value)?)
+}
+
+/// The radio frames of a TTI of so many milliseconds.
+fn frames_of_time(time: u64) -> Option<u8>
+    ensures { result ≡ frames_of_time time }
+{
+    match time {
         10 => Some(1),
         20 => Some(2),
         40 => Some(4),
@@ -63,7 +70,14 @@ pub(crate) fn frames(value: &Value) -> Option<u8>
 pub(crate) fn crc(value: &Value) -> Option<Crc>
     ensures { result ≡ crc_of (view value.now) }
 {
-    match number(value)? {
+    crc_of_bits(number(value)?)
+}
+
+/// The parity bits, by their number.
+fn crc_of_bits(bits: u64) -> Option<Crc>
+    ensures { result ≡ crc_of_bits bits }
+{
+    match bits {
         0 => Some(Crc::C0),
         8 => Some(Crc::C8),
         12 => Some(Crc::C12),
@@ -79,14 +93,21 @@ pub(crate) fn coding(value: &Value) -> Option<Coding>
     coding_of_word(value.as_str()?)
 }
 
+/// Whether a text is this word.
+pub(crate) fn is_word(text: &str, word: &str) -> bool
+    ensures { result ≡ is_word text.now word.now }
+{
+    text == word
+}
+
 fn coding_of_word(word: &str) -> Option<Coding>
     ensures { result ≡ coding_of_word word.now }
 {
-    if word == "none" {
+    if is_word(word, "none") {
         Some(Coding::Uncoded)
-    } else if word == "half" {
+    } else if is_word(word, "half") {
         Some(Coding::Half)
-    } else if word == "third" {
+    } else if is_word(word, "third") {
         Some(Coding::Third)
     } else {
         None
@@ -103,9 +124,9 @@ pub(crate) fn fixed(value: &Value) -> Option<bool>
 fn fixed_of_word(word: &str) -> Option<bool>
     ensures { result ≡ fixed_of_word word.now }
 {
-    if word == "fixed" {
+    if is_word(word, "fixed") {
         Some(true)
-    } else if word == "flexible" {
+    } else if is_word(word, "flexible") {
         Some(false)
     } else {
         None
@@ -121,11 +142,11 @@ pub(crate) fn mode(value: &Value) -> Option<Mode>
 fn mode_of_word(word: &str) -> Option<Mode>
     ensures { result ≡ mode_of_word word.now }
 {
-    if word == "tm" {
+    if is_word(word, "tm") {
         Some(Mode::Tm)
-    } else if word == "um" {
+    } else if is_word(word, "um") {
         Some(Mode::Um)
-    } else if word == "am" {
+    } else if is_word(word, "am") {
         Some(Mode::Am)
     } else {
         None
@@ -135,8 +156,14 @@ fn mode_of_word(word: &str) -> Option<Mode>
 pub(crate) fn window(value: &Value) -> Option<u16>
     ensures { result ≡ window_of (view value.now) }
 {
-    let number = value.as_integer()?;
-    Some(number.clamp(0, 65535) as u16)
+    Some(window_of_number(value.as_integer()?))
+}
+
+/// A whole number as a window: a negative one counts as 0, and one above the greatest u16 as that.
+fn window_of_number(number: i64) -> u16
+    ensures { result ≡ window_of_number number }
+{
+    number.clamp(0, 65535) as u16
 }
 
 /// The number of one of so many channels.
@@ -183,6 +210,13 @@ pub(crate) fn formats(alloc: Global, value: &Value) -> Result<Option<Sequence<Fo
     Ok(Some(formats))
 }
 
+/// The number of a format in a combination. One above the greatest u8 counts as that.
+fn member(value: &Value) -> Option<u8>
+    ensures { result ≡ member_of (view value.now) }
+{
+    Some(number(value)?.min(255) as u8)
+}
+
 fn combination(alloc: Global, value: &Value) -> Result<Option<Combination>, NoMemory>
     ensures { IfOk result (λ combination. combination ≡ combination_of (view value.now)) }
 {
@@ -191,10 +225,10 @@ fn combination(alloc: Global, value: &Value) -> Result<Option<Combination>, NoMe
     };
     let mut formats = Sequence::new(alloc);
     for item in items {
-        let Some(format) = number(item) else {
+        let Some(format) = member(item) else {
             return Ok(None);
         };
-        formats.push(format.min(255) as u8)?;
+        formats.push(format)?;
     }
     Ok(Some(Combination { formats }))
 }

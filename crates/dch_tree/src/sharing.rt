@@ -17,7 +17,8 @@ fn is_same_channel(a: Option<u8>, b: Option<u8>) -> bool
 {
     match (a, b) {
         (Some(i), Some(j)) => i == j,
-        _ => false,
+        (Some(_i), None) => false,
+        (None, _j) => false,
     }
 }
 

@@ -5,7 +5,7 @@ ghost use Rattle.dch_tree.specs.declared.side.SetTti.{SetTti};
 ghost use Rattle.dch_tree.specs.Faults.{first_found};
 ghost use Rattle.dch_tree.specs.Tables.{item_faults, items_faults, items_values, item_value, indexed};
 ghost use Rattle.dch_tree.specs.Channels.{channel_faults, channel_of};
-ghost use Rattle.dch_tree.specs.Sides.{set_and_tti, sets_and_ttis, clashes, set_faults, set_fault, side_faults, side_of, uplink_faults, uplink_of, downlink_faults, downlink_of};
+ghost use Rattle.dch_tree.specs.Sides.{set_and_tti, sets_and_ttis, clashes, set_faults, set_fault, side_faults, side_from, uplink_faults, uplink_of, downlink_faults, downlink_of};
 
 use crate::fault::Faults;
 use crate::path::element;
@@ -135,10 +135,10 @@ impl Faults {
         Ok(())
     }
 
-    #[tactic(auto, unfolding(crate::specs::Sides::side_of))]
+    #[tactic(auto, unfolding(crate::specs::Sides::side_from))]
     fn side(&mut self, path: &str, table: &Table) -> Result<Side, NoMemory>
         ensures first { OnOk result (self.new.first ≡ first_found self.old.first (side_faults path.now (table_view table.now))) }
-        ensures value { IfOk result (λ side. side ≡ side_of (table_view table.now)) }
+        ensures value { IfOk result (λ side. side ≡ side_from (table_view table.now)) }
     {
         let combinations = combinations_at(self.alloc, table, "combinations")?;
         let combinations = self.required(

@@ -8,8 +8,8 @@ ghost use Rattle.dch_tree.specs.Rules.{number_within, number_among, frames_of_tt
 
 use crate::fault::Faults;
 use crate::rule::{
-    channel, coding, combinations, crc, fixed, formats, frames, mode, number_among, number_within,
-    octet_within, window,
+    channel, coding, combinations, crc, fixed, formats, frames, is_word, mode, number_among,
+    number_within, octet_within, window,
 };
 use dch_bits::NoMemory;
 use dch_types::{Coding, Combination, Crc, Format, Mode, Sequence};
@@ -206,5 +206,5 @@ impl Faults {
 fn is_known(key: &str, known: &[&str]) -> bool
     ensures { result ≡ list_any (λ k. is_word key.now k.now) known.now }
 {
-    known.iter().any(|word| key == *word)
+    known.iter().any(|word| is_word(key, word))
 }

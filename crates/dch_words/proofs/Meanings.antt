@@ -22,15 +22,15 @@ one_number default least most (Some text) m n fits first second =
     decimal_injective m n (omega arith) (omega arith) (sym first.0 ∙ second.0)
 
 -- commands of one word are one
-one_verb : (v w : Subcommand) → subcommand_name v ≡ subcommand_name w → v ≡ w
-one_verb Check Check same = refl
-one_verb Check Encode same =
+one_subcommand : (v w : Subcommand) → subcommand_name v ≡ subcommand_name w → v ≡ w
+one_subcommand Check Check same = refl
+one_subcommand Check Encode same =
     let lengths : 5 ≡ 6 = ap (λ (name : Text). length name) same in
     absurd (omega (arith, lengths))
-one_verb Encode Check same =
+one_subcommand Encode Check same =
     let lengths : 6 ≡ 5 = ap (λ (name : Text). length name) same in
     absurd (omega (arith, lengths))
-one_verb Encode Encode same = refl
+one_subcommand Encode Encode same = refl
 
 -- an option is not both none and some
 pub none_some : {T : Type 0} (x : T) → None ≡ Some x → ⊥
@@ -41,18 +41,18 @@ pub some_one : {T : Type 0} (x y : T) → Some x ≡ Some y → x ≡ y
 some_one x y same = cc
 
 -- the words with these fields
-abbrev words_of : Subcommand → ℕ → ℕ → Bool → Arguments
-words_of subcommand count start quiet = record { subcommand = subcommand; count = count; start = start; quiet = quiet }
+abbrev arguments_of : Subcommand → ℕ → ℕ → Bool → Arguments
+arguments_of subcommand count start quiet = record { subcommand = subcommand; count = count; start = start; quiet = quiet }
 
 -- words with equal fields are equal
 joined : (v w : Subcommand) (m n s t : ℕ) (p q : Bool)
-    → v ≡ w → m ≡ n → s ≡ t → p ≡ q → words_of v m s p ≡ words_of w n t q
+    → v ≡ w → m ≡ n → s ≡ t → p ≡ q → arguments_of v m s p ≡ arguments_of w n t q
 joined v w m n s t p q subcommand count start quiet = rw (subcommand, count, start, quiet) refl
 
 -- words say one thing at most
 pub one_meaning : (texts : List Text) (a b : Arguments) → Says texts a → Says texts b → a ≡ b
 one_meaning texts a b first second = joined a.subcommand b.subcommand a.count b.count a.start b.start a.quiet b.quiet
-    (one_verb a.subcommand b.subcommand (some_one _ _ (sym first.1.subcommand ∙ second.1.subcommand)))
+    (one_subcommand a.subcommand b.subcommand (some_one _ _ (sym first.1.subcommand ∙ second.1.subcommand)))
     (one_number 1000 1 100000 _ a.count b.count (omega arith) first.1.count second.1.count)
     (one_number 0 0 31 _ a.start b.start (omega arith) first.1.start second.1.start)
     (first.1.quiet ∙ sym second.1.quiet)

@@ -2,8 +2,8 @@ use Rattle.std.proofs.Common.{◌≡◌, ◌≤◌, length}
 use Rattle.dch_lines.proofs.LineSteps.{Done}
 use Rattle.dch_lines.proofs.handling.finish_line.Given as goal
 
-abbrev pub invariant-rounds : goal.invariant-rounds
-invariant-rounds g l = record {
+abbrev pub invariant-steps : goal.invariant-steps
+invariant-steps g l = record {
   done : Done g.C.LineHandler.semantics l.initial.handler l.handler l.initial.report.text l.report.text (g.K.Sink.taken l.initial.sink) (g.K.Sink.taken l.sink) (g.K.Sink.faults l.initial.sink) (g.K.Sink.faults l.sink);
   later : g.K.Sink.faults l.initial.sink ≤ g.K.Sink.faults l.sink;
   room : l.report.most ≡ l.initial.report.most;
@@ -12,5 +12,5 @@ invariant-rounds g l = record {
   most : g.C.LineHandler.most l.handler ≡ g.C.LineHandler.most l.initial.handler;
 }
 
-abbrev pub decreases-rounds : goal.decreases-rounds
-decreases-rounds g l = g.C.LineHandler.semantics.remaining l.handler
+abbrev pub decreases-steps : goal.decreases-steps
+decreases-steps g l = g.C.LineHandler.semantics.remaining l.handler

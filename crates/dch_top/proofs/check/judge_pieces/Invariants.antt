@@ -5,7 +5,7 @@ use Rattle.dch_top.proofs.Judging.{Gathering}
 use Rattle.dch_top.proofs.check.judge_pieces.Given as goal
 
 abbrev pub invariant-pieces : goal.invariant-pieces
-invariant-pieces g l = Gathering (end_of g.S.Source.left g.S.Source.faults l.fn.source l.source) l.front l.count
+invariant-pieces g l = Gathering (end_of g.S.Source.left g.S.Source.faults l.fn.source l.source) l.section l.count
 
 abbrev pub decreases-pieces : goal.decreases-pieces
 decreases-pieces g l = LIMIT - l.count
