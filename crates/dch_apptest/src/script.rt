@@ -1,0 +1,294 @@
+use dch_config::read;
+use dch_script::{Command, Event, Line, LineError, Report, parse, parse_in};
+use dch_types::{Coding, Config, Crc, Dir};
+use std::alloc::Global;
+use std::test::Fail;
+
+/// Two uplink channels, in the sets 0 and 3, and two downlink channels in the set 5, with 120 TFCI bits. Bearer 0 is
+/// transparent and has an uplink channel alone, bearer 1 is acknowledged, and bearer 2 is transparent and has a downlink
+/// channel alone.
+fn small() -> &'static str {
+    "[iub]\npayload_check = false\nqe = 0
+[uplink]\nlargest = 150\npl = 100\ncombinations = [[0,0],[1,0]]
+channel = [
+  { tti = 10, code = \"none\", crc = 0, rm = 256, set = 0, formats = [[0,0],[1,8]] },
+  { tti = 10, code = \"none\", crc = 16, rm = 256, set = 3, formats = [[0,0],[1,144]] }
+]
+[downlink]\nslot_bits = 10\ncodes = 1\nsf = 64\npositions = \"fixed\"\ncombinations = [[0,0],[1,0],[0,1]]
+channel = [
+  { tti = 10, code = \"none\", crc = 16, rm = 256, set = 5, formats = [[0,0],[1,144]] },
+  { tti = 10, code = \"none\", crc = 0, rm = 256, set = 5, formats = [[0,0],[1,8]] }
+]
+[[bearer]]\nmode = \"tm\"\nup = 0\npriority = 1\nbuffer = 4
+[[bearer]]\nmode = \"am\"\nup = 1\ndown = 0\npriority = 1\nbuffer = 64
+[[bearer]]\nmode = \"tm\"\ndown = 1\npriority = 1\nbuffer = 4
+"
+}
+
+/// What a line is: its kind of error, or `good`.
+fn kind(said: &Result<Event<'_>, LineError>) -> &'static str {
+    match said {
+        Ok(_) => "good",
+        Err(LineError::Long) => "long",
+        Err(LineError::Cut) => "cut",
+        Err(LineError::Word) => "word",
+        Err(LineError::Count) => "count",
+        Err(LineError::Number) => "number",
+        Err(LineError::Text) => "text",
+        Err(LineError::Bearer) => "bearer",
+        Err(LineError::When) => "when",
+    }
+}
+
+/// Whether a row, which is a kind, a space and a line of a command, tells the line's kind.
+fn is_right(alloc: Global, command: Command, config: &Config, row: &str) -> Result<bool, Fail> {
+    match row.split_once(' ') {
+        Some((expected, line)) => {
+            let line = format!(in alloc; "{line}\n")?;
+            Ok(kind(&parse_in(command, config, line.as_bytes())) == expected)
+        }
+        None => Ok(false),
+    }
+}
+
+/// The first row of a table that is wrong.
+fn first_wrong<'a>(
+    alloc: Global,
+    command: Command,
+    rows: &'a str,
+) -> Result<Option<&'a str>, Fail> {
+    let config = read(alloc, small().as_bytes())?;
+    for row in rows.split('\n') {
+        if !is_right(alloc, command, &config, row)? {
+            return Ok(Some(row));
+        }
+    }
+    Ok(None)
+}
+
+fn rows_of_link() -> &'static str {
+    "good unit up 1 .
+good frame 100000
+good spoil iubdown 5 2 Fa
+word change
+word Frame
+count frame 1 2
+number frame 
+number frame 0
+number frame 100001
+number frame 01
+number frame +1
+count unit up 0
+text unit left 9 2
+number unit up x 2
+number unit up 00 2
+bearer unit up 3 01
+bearer unit up 2 01
+bearer unit down 0 01
+bearer unit up 99999999999999999999999 01
+text unit up 0 7d
+text unit up 1 7d0
+text unit up 1 
+number block up 2
+text flip up c 0
+number flip up d 65536
+text lose iubup
+text lose up 0
+number lose iubup 5
+count spoil iubup 0 9
+text spoil iubup 0 9 9
+number spoil iubup 0 65536 9g
+count spoil iubup 0 0 0 0"
+}
+
+fn rows_of_ue() -> &'static str {
+    "word iub 0 00
+count tick 
+count phy
+text phy nothing
+text phy 101010101010101101010101010101 .
+number block 2
+bearer unit 2 0"
+}
+
+fn rows_of_node_b() -> &'static str {
+    "good iub 5 .
+good phy 101010101010101101010101010101 .
+word tick
+count down 1
+number iub 0 8a
+text iub 5 8a0
+text phy 10101010101010110101010101010 .
+text phy 101010101010101101010101010101 01-
+text phy . ."
+}
+
+fn rows_of_rnc() -> &'static str {
+    "word phy none
+count change 2
+number iub 5 00
+text iub 3 x0
+bearer unit 0 00"
+}
+
+#[test]
+fn malformed_lines(rt: HostRuntime) -> Result<(), Fail> {
+    let alloc = rt.alloc();
+    assert_eq!(rt; first_wrong(alloc, Command::Link, rows_of_link())?, None);
+    assert_eq!(rt; first_wrong(alloc, Command::Ue, rows_of_ue())?, None);
+    assert_eq!(rt; first_wrong(alloc, Command::NodeB, rows_of_node_b())?, None);
+    assert_eq!(rt; first_wrong(alloc, Command::Rnc, rows_of_rnc())?, None);
+    Ok(())
+}
+
+/// Whether a line of a command, given without its line feed, is this event.
+fn says(alloc: Global, command: Command, line: &str, event: Event<'_>) -> Result<bool, Fail> {
+    let config = read(alloc, small().as_bytes())?;
+    let line = format!(in alloc; "{line}\n")?;
+    Ok(parse_in(command, &config, line.as_bytes()) == Ok(event))
+}
+
+fn unit(dir: Dir, bearer: u8, text: &[u8]) -> Event<'_> {
+    Event::Unit { dir, bearer, text }
+}
+
+fn flip(dir: Dir, tfci: bool, place: u16) -> Event<'static> {
+    Event::Flip { dir, tfci, place }
+}
+
+fn spoil(dir: Dir, set: u8, octet: u16, mask: u8) -> Event<'static> {
+    Event::Spoil {
+        dir,
+        set,
+        octet,
+        mask,
+    }
+}
+
+fn block(dir: Dir, combination: u16) -> Event<'static> {
+    Event::Block { dir, combination }
+}
+
+fn free(dir: Dir, combination: u16) -> Event<'static> {
+    Event::Free { dir, combination }
+}
+
+#[test]
+fn lines_of_link(rt: HostRuntime) -> Result<(), Fail> {
+    let (alloc, link) = (rt.alloc(), Command::Link);
+    let (up, down) = (Dir::Up, Dir::Down);
+    assert!(rt; says(alloc, link, "unit up 0 01", unit(up, 0, b"01"))?);
+    assert!(rt; says(alloc, link, "unit down 1 7dF0", unit(down, 1, b"7dF0"))?);
+    assert!(rt; says(alloc, link, "block down 2", block(down, 2))?);
+    assert!(rt; says(alloc, link, "free up 1", free(up, 1))?);
+    assert!(rt; says(alloc, link, "flip up d 364", flip(up, false, 364))?);
+    assert!(rt; says(alloc, link, "flip down t 65535", flip(down, true, 65535))?);
+    assert!(rt; says(alloc, link, "lose up", Event::Lose { dir: up })?);
+    assert!(rt;
+        says(
+            alloc,
+            link,
+            "lose iubup 3",
+            Event::LoseIub { dir: up, set: 3 }
+        )?
+    );
+    assert!(rt;
+        says(
+            alloc,
+            link,
+            "lose iubdown 5",
+            Event::LoseIub { dir: down, set: 5 }
+        )?
+    );
+    assert!(rt; says(alloc, link, "spoil iubup 0 9 9e", spoil(up, 0, 9, 0x9e))?);
+    assert!(rt; says(alloc, link, "frame", Event::Frame(1))?);
+    Ok(())
+}
+
+#[test]
+fn lines_of_one_node(rt: HostRuntime) -> Result<(), Fail> {
+    let alloc = rt.alloc();
+    let (ue, node_b, rnc) = (Command::Ue, Command::NodeB, Command::Rnc);
+    assert!(rt; says(alloc, ue, "unit 0 01", unit(Dir::Up, 0, b"01"))?);
+    assert!(rt; says(alloc, ue, "block 1", block(Dir::Up, 1))?);
+    assert!(rt; says(alloc, ue, "free 0", free(Dir::Up, 0))?);
+    assert!(rt; says(alloc, ue, "phy none", Event::PhyNone)?);
+    assert!(rt; says(alloc, ue, "tick", Event::Tick)?);
+    assert!(rt; says(alloc, ue, "change", Event::Change)?);
+    assert!(rt;
+        says(
+            alloc,
+            node_b,
+            "iub 5 8A01",
+            Event::Iub {
+                set: 5,
+                hex: b"8A01"
+            }
+        )?
+    );
+    assert!(rt; says(alloc, node_b, "down", Event::Down)?);
+    assert!(rt; says(alloc, rnc, "unit 1 413754", unit(Dir::Down, 1, b"413754"))?);
+    assert!(rt; says(alloc, rnc, "block 2", block(Dir::Down, 2))?);
+    assert!(rt; says(alloc, rnc, "iub 3 00", Event::Iub { set: 3, hex: b"00" })?);
+    Ok(())
+}
+
+/// A radio frame of so many TFCI bits, and these cells.
+fn phy_says(alloc: Global, command: Command, bits: usize, cells: &str) -> Result<bool, Fail> {
+    let tfci = "1".repeat(alloc, bits)?;
+    let line = format!(in alloc; "phy {tfci} {cells}")?;
+    let event = Event::Phy {
+        tfci: tfci.as_bytes(),
+        cells: cells.as_bytes(),
+    };
+    says(alloc, command, line.as_str(), event)
+}
+
+#[test]
+fn lines_of_radio_frames(rt: HostRuntime) -> Result<(), Fail> {
+    assert!(rt; phy_says(rt.alloc(), Command::Ue, 120, "01-")?);
+    assert!(rt; phy_says(rt.alloc(), Command::NodeB, 30, "011")?);
+    Ok(())
+}
+
+/// Whether a line of `link` is of a kind.
+fn is_of_kind(config: &Config, line: &[u8], expected: &str) -> bool {
+    kind(&parse_in(Command::Link, config, line)) == expected
+}
+
+#[test]
+fn lines_at_the_limit(rt: HostRuntime) -> Result<(), Fail> {
+    let config = read(rt.alloc(), small().as_bytes())?;
+    let mut line = vec![in rt.alloc(); b'x'; 1_048_576]?;
+    assert!(rt; is_of_kind(&config, &line, "cut"));
+    line.push(b'\n')?;
+    assert!(rt; is_of_kind(&config, &line, "word"));
+    line[1_048_576] = b'x';
+    assert!(rt; is_of_kind(&config, &line, "long"));
+    line.push(b'\n')?;
+    assert!(rt; is_of_kind(&config, &line, "long"));
+    Ok(())
+}
+
+#[test]
+fn a_line_of_encode(rt: HostRuntime) -> Result<(), Fail> {
+    let event = Event::Code {
+        coding: Coding::Half,
+        crc: Crc::C8,
+        bits: b".",
+    };
+    assert!(rt; parse(Command::Encode, b"code half 8 .\n") == Ok(event));
+    assert!(rt; says(rt.alloc(), Command::Encode, "code half 8 .", event)?);
+    Ok(())
+}
+
+#[test]
+fn a_report(rt: HostRuntime) -> Result<(), Fail> {
+    let mut report = Report::open(rt.alloc(), 80)?;
+    report.put_text(b"open\n");
+    assert_eq!(rt; report.spare(), 75);
+    report.clear();
+    report.put(&Line::PhyNone);
+    assert_eq!(rt; report.bytes(), b"phydown none\n".as_slice());
+    Ok(())
+}

@@ -1,0 +1,293 @@
+ghost use Rattle.std.specs.Prelude.{IfOk, IfSome};
+ghost use Rattle.dch_types.specs.Limits.{IsUplink, IsDownlink};
+ghost use Rattle.dch_match.specs.Patterns.{IsWellFormed};
+
+use dch_bits::NoMemory;
+use dch_match::{Kind, Pattern, UplinkPlan, Walk, downlink, frame, keeps, kept, origin, uplink};
+use dch_samples::{flexible_speech, packets, reference, speech, tiny_codes};
+use dch_types::{Downlink, Uplink};
+use std::alloc::Global;
+use std::test::Fail;
+
+/// The start of the error counter.
+fn e_ini(kind: &Kind) -> u64 {
+    match kind {
+        Kind::Same => 0,
+        Kind::Repeat(steps) => steps.e_ini,
+        Kind::Puncture(steps) => steps.e_ini,
+    }
+}
+
+/// Whether a combination has this frame size and these amounts.
+fn are_amounts(
+    config: &Uplink,
+    combination: u16,
+    ndata: u32,
+    before: [u32; 8],
+    sent: [u32; 8],
+) -> bool
+    requires { IsUplink config.now }
+{
+    if combination as usize >= config.side.combinations.len() {
+        return false;
+    }
+    match uplink(config, combination) {
+        Ok(plan) => {
+            plan == UplinkPlan {
+                ndata,
+                before,
+                sent,
+            }
+        }
+        Err(_) => false,
+    }
+}
+
+/// Whether the error counter starts at these numbers in the frames of a channel.
+fn are_starts(config: &Uplink, combination: u16, channel: u8, starts: &[u64]) -> bool
+    requires { IsUplink config.now }
+{
+    let (c, i) = (combination as usize, channel as usize);
+    if c >= config.side.combinations.len() || i >= config.side.channels.len() {
+        return false;
+    }
+    let Ok(plan) = uplink(config, combination) else {
+        return false;
+    };
+    let frames = config.side.channel(i).frames;
+    for n in 0..frames {
+        let pattern = frame(config, combination, &plan, channel, n);
+        if starts.get(n as usize).copied() != Some(e_ini(&pattern.kind)) {
+            return false;
+        }
+    }
+    starts.len() == frames as usize
+}
+
+fn reference_uplink(config: &Uplink) -> bool
+    requires { IsUplink config.now }
+{
+    let (before, sent) = ([402, 90, 0, 0, 0, 0, 0, 0], [490, 110, 0, 0, 0, 0, 0, 0]);
+    are_amounts(config, 2, 600, before, sent) && are_starts(config, 2, 0, &[1, 353])
+}
+
+fn speech_uplink(config: &Uplink) -> bool
+    requires { IsUplink config.now }
+{
+    let (before, sent) = (
+        [152, 167, 68, 129, 0, 0, 0, 0],
+        [180, 187, 95, 138, 0, 0, 0, 0],
+    );
+    are_amounts(config, 5, 600, before, sent) && are_starts(config, 3, 3, &[1, 127, 211, 43])
+}
+
+fn packets_uplink(config: &Uplink) -> bool
+    requires { IsUplink config.now }
+{
+    let (before, sent) = (
+        [152, 167, 68, 129, 8604, 0, 0, 0],
+        [238, 250, 126, 192, 8794, 0, 0, 0],
+    );
+    are_amounts(config, 35, 9600, before, sent)
+}
+
+/// Whether the channels have these places in a frame, each in a format.
+fn are_cells(alloc: Global, config: &Downlink, cells: &[(u8, u32)]) -> Result<bool, NoMemory>
+    requires { IsDownlink config.now }
+{
+    let plan = downlink(alloc, config)?;
+    let count = config.side.channels.len();
+    for i in 0..count {
+        let Some((format, wanted)) = cells.get(i).copied() else {
+            return Ok(false);
+        };
+        if format as usize >= config.side.channel(i).formats.len()
+            || plan.cells(i as u8, format) != wanted
+        {
+            return Ok(false);
+        }
+    }
+    Ok(cells.len() == count)
+}
+
+/// The pattern of format 1 of the first channel.
+fn first_pattern(alloc: Global, config: &Downlink) -> Result<Option<Pattern>, NoMemory>
+    requires { IsDownlink config.now }
+    ensures { IfOk result (λ pattern. IfSome pattern IsWellFormed) }
+{
+    let plan = downlink(alloc, config)?;
+    if config.side.channel(0).formats.len() < 2 {
+        return Ok(None);
+    }
+    Ok(Some(plan.pattern(0, 1)))
+}
+
+/// Whether so many bits are kept, and of the first 14 these are removed.
+fn are_removed(pattern: &Pattern, left: u32, removed: &[u32]) -> bool
+    requires { IsWellFormed pattern.now }
+{
+    for bit in 0..14 {
+        if bit >= pattern.len || (keeps(pattern, bit) == 0) != removed.contains(&bit) {
+            return false;
+        }
+    }
+    kept(pattern) == left
+}
+
+/// Whether each bit has so many copies.
+fn are_copies(pattern: &Pattern, copies: u32) -> bool
+    requires { IsWellFormed pattern.now }
+{
+    for bit in 0..pattern.len {
+        if keeps(pattern, bit) != copies {
+            return false;
+        }
+    }
+    kept(pattern) as u64 == copies as u64 * pattern.len as u64
+}
+
+/// Whether a walk and the counted form give the same copies of each bit, and the places show the bits with copies in their
+/// order.
+fn is_walked(pattern: &Pattern) -> bool
+    requires { IsWellFormed pattern.now }
+{
+    let mut walk = Walk::new(pattern);
+    let mut shown = 0;
+    for bit in 0..pattern.len {
+        if walk.is_done() {
+            return false;
+        }
+        let copies = walk.next();
+        if copies != keeps(pattern, bit) {
+            return false;
+        }
+        for _ in 0..copies {
+            if shown >= kept(pattern) || origin(pattern, shown) != bit {
+                return false;
+            }
+            shown += 1;
+        }
+    }
+    walk.is_done() && shown == kept(pattern)
+}
+
+fn reference_downlink(alloc: Global, config: &Downlink) -> Result<bool, NoMemory>
+    requires { IsDownlink config.now }
+{
+    if !are_cells(alloc, config, &[(1, 343), (1, 77)])? {
+        return Ok(false);
+    }
+    let Some(pattern) = first_pattern(alloc, config)? else {
+        return Ok(false);
+    };
+    Ok(pattern.len == 804 && are_removed(&pattern, 804 - 118, &[0, 6, 13]) && is_walked(&pattern))
+}
+
+fn speech_downlink(alloc: Global, config: &Downlink) -> Result<bool, NoMemory>
+    requires { IsDownlink config.now }
+{
+    are_cells(alloc, config, &[(1, 152), (1, 160), (1, 80), (1, 118)])
+}
+
+/// The last combination would have 153, 160, 81 and 118 places of 510.
+fn lowered_speech(alloc: Global, config: &Downlink) -> Result<bool, NoMemory>
+    requires { IsDownlink config.now }
+{
+    Ok(
+        are_cells(alloc, config, &[(2, 152), (1, 160), (1, 80), (1, 118)])?
+            && are_cells(alloc, config, &[(1, 90), (0, 0), (0, 0), (0, 0)])?,
+    )
+}
+
+fn packets_downlink(alloc: Global, config: &Downlink) -> Result<bool, NoMemory>
+    requires { IsDownlink config.now }
+{
+    are_cells(
+        alloc,
+        config,
+        &[(1, 226), (1, 236), (1, 119), (1, 184), (1, 8355)],
+    )
+}
+
+/// The last combination would have 227, 237, 120, 184 and 8355 places of 9120.
+fn lowered_packets(alloc: Global, config: &Downlink) -> Result<bool, NoMemory>
+    requires { IsDownlink config.now }
+{
+    let greatest = [(2, 226), (1, 236), (1, 119), (1, 184), (5, 8355)];
+    let other = [(1, 133), (0, 0), (0, 0), (0, 0), (3, 2785)];
+    Ok(are_cells(alloc, config, &greatest)? && are_cells(alloc, config, &other)?)
+}
+
+/// Whether each of the 150 bits of the one channel has so many copies.
+fn are_repeated(alloc: Global, config: &Downlink, copies: u32) -> bool
+    requires { IsDownlink config.now }
+{
+    match first_pattern(alloc, config) {
+        Ok(Some(pattern)) => {
+            pattern.len == 150 && are_copies(&pattern, copies) && is_walked(&pattern)
+        }
+        _ => false,
+    }
+}
+
+// A configuration is held in each test by itself, and no error is answered while it is held: both would make its proof dear.
+
+#[test]
+fn reference_channel(rt: HostRuntime) -> Result<(), Fail> {
+    let accepted = reference(rt.alloc())?;
+    let config = accepted.config();
+    assert!(rt; reference_uplink(&config.uplink));
+    assert!(rt; matches!(reference_downlink(rt.alloc(), &config.downlink), Ok(true)));
+    Ok(())
+}
+
+#[test]
+fn speech_in_three_classes(rt: HostRuntime) -> Result<(), Fail> {
+    let accepted = speech(rt.alloc())?;
+    let config = accepted.config();
+    assert!(rt; speech_uplink(&config.uplink));
+    assert!(rt; matches!(speech_downlink(rt.alloc(), &config.downlink), Ok(true)));
+    Ok(())
+}
+
+#[test]
+fn speech_at_flexible_positions(rt: HostRuntime) -> Result<(), Fail> {
+    let accepted = flexible_speech(rt.alloc())?;
+    let config = accepted.config();
+    assert!(rt; matches!(lowered_speech(rt.alloc(), &config.downlink), Ok(true)));
+    Ok(())
+}
+
+#[test]
+fn speech_and_packets(rt: HostRuntime) -> Result<(), Fail> {
+    let accepted = packets(rt.alloc(), true)?;
+    let config = accepted.config();
+    assert!(rt; packets_uplink(&config.uplink));
+    assert!(rt; matches!(packets_downlink(rt.alloc(), &config.downlink), Ok(true)));
+    Ok(())
+}
+
+#[test]
+fn packets_at_flexible_positions(rt: HostRuntime) -> Result<(), Fail> {
+    let accepted = packets(rt.alloc(), false)?;
+    let config = accepted.config();
+    assert!(rt; matches!(lowered_packets(rt.alloc(), &config.downlink), Ok(true)));
+    Ok(())
+}
+
+#[test]
+fn nothing_to_send_and_three_copies(rt: HostRuntime) -> Result<(), Fail> {
+    let accepted = tiny_codes(rt.alloc(), 3, true)?;
+    let config = accepted.config();
+    assert!(rt; are_amounts(&config.uplink, 0, 0, [0; 8], [0; 8]));
+    assert!(rt; are_repeated(rt.alloc(), &config.downlink, 3));
+    Ok(())
+}
+
+#[test]
+fn one_copy_at_flexible_positions(rt: HostRuntime) -> Result<(), Fail> {
+    let accepted = tiny_codes(rt.alloc(), 1, false)?;
+    let config = accepted.config();
+    assert!(rt; are_repeated(rt.alloc(), &config.downlink, 1));
+    Ok(())
+}

@@ -1,0 +1,223 @@
+ghost use Rattle.std.specs.Prelude.{◌≡◌, ◌<◌, ◌%◌, true};
+ghost use Rattle.dch_accept.specs.Reports.{step_bytes};
+ghost use Rattle.dch_nodeb.specs.Opened.{IsNodeOf};
+ghost use Rattle.dch_nodeb.specs.Rooms.{HasRoomFor};
+ghost use Rattle.dch_nodeb.specs.Standing.{HasSet};
+
+use dch_accept::{Accepted, FrameView};
+use dch_bits::{Bit, NoMemory, Trit, read_bits_text, read_trits_text};
+use dch_nodeb::{NodeB, NodeBEvent};
+use dch_samples::{alone, pair};
+use dch_script::Report;
+use std::alloc::{AllocError, Global};
+use std::test::Fail;
+
+/// What happens at a Node B: an Iub frame, the downlink's radio frame, one of the uplink as text, or none.
+#[derive(Clone, Copy)]
+enum Happens<'a> {
+    Iub(u8, &'a [u8]),
+    Down,
+    Phy(&'a [u8], &'a [u8]),
+    None,
+}
+
+/// Whether the downlink has a set.
+fn has_set(accepted: &Accepted, set: u8) -> bool
+    ensures { result ≡ true → HasSet accepted.now.config.downlink.side set }
+{
+    let channels = accepted.config().downlink.side.channels.as_slice();
+    for i in 0..channels.len() {
+        if channels[i].set == set {
+            return true;
+        }
+    }
+    false
+}
+
+/// Takes the uplink radio frame of these letters.
+fn receive_radio(
+    accepted: &Accepted,
+    node: &mut NodeB,
+    tfci: &[u8],
+    cells: &[u8],
+    report: &mut Report,
+) -> Result<(), Fail>
+    requires opened { IsNodeOf accepted.now node.old }
+    requires room { HasRoomFor report.old (step_bytes accepted.now.config) }
+    ensures { IsNodeOf accepted.now node.new }
+{
+    let mut bits = [Bit::Zero; 30];
+    let mut trits = [Trit::Off; 150];
+    match (
+        read_bits_text(tfci, &mut bits),
+        read_trits_text(cells, &mut trits),
+    ) {
+        (Ok(_), Ok(count)) if count <= 150 => {
+            let frame = FrameView {
+                tfci: &bits,
+                cells: &trits[..count],
+            };
+            node.step(accepted, NodeBEvent::Phy { frame: Some(frame) }, report);
+            Ok(())
+        }
+        _ => Err(Fail::new("other letters")),
+    }
+}
+
+/// Takes one step.
+fn take(
+    accepted: &Accepted,
+    node: &mut NodeB,
+    happens: Happens<'_>,
+    report: &mut Report,
+) -> Result<(), Fail>
+    requires opened { IsNodeOf accepted.now node.old }
+    requires room { HasRoomFor report.old (step_bytes accepted.now.config) }
+    ensures { IsNodeOf accepted.now node.new }
+{
+    match happens {
+        Happens::Iub(set, frame) => {
+            if !has_set(accepted, set) {
+                return Err(Fail::new("no such set"));
+            }
+            node.step(accepted, NodeBEvent::Iub { set, frame }, report);
+        }
+        Happens::Down => node.step(accepted, NodeBEvent::Down, report),
+        Happens::Phy(tfci, cells) => receive_radio(accepted, node, tfci, cells, report)?,
+        Happens::None => node.step(accepted, NodeBEvent::Phy { frame: None }, report),
+    }
+    Ok(())
+}
+
+/// The TFCI word of combination 0.
+fn none() -> &'static [u8] {
+    b"000000000000000000000000000000"
+}
+
+/// The TFCI word of combination 1.
+fn one() -> &'static [u8] {
+    b"101010101010101101010101010101"
+}
+
+/// A report with room for those of a step, and for those of a script.
+fn empty_report(alloc: Global) -> Result<Report, NoMemory> {
+    Report::open(alloc, 5_000_000)
+}
+
+/// What a letter of a script stands for. A frame of the uplink has these cells.
+fn meaning<'a>(letter: u8, cells: &'a [u8]) -> Happens<'a> {
+    match letter {
+        // No block for CFN 0.
+        b'a' => Happens::Iub(0, &[0x00, 0x00, 0x00]),
+        // A block for CFN 248, and one for CFN 252.
+        b'b' => Happens::Iub(1, &[0xcc, 0xf8, 0x01, 0xff]),
+        b'c' => Happens::Iub(1, &[0x80, 0xfc, 0x01, 0x55]),
+        // A block for CFN 248 of another set, a control frame, and no octet.
+        b'd' => Happens::Iub(5, &[0xcc, 0xf8, 0x01, 0xab, 0xcd]),
+        b'e' => Happens::Iub(5, &[0x01]),
+        b'f' => Happens::Iub(5, &[]),
+        b'v' => Happens::Down,
+        b'0' => Happens::Phy(none(), cells),
+        b'1' => Happens::Phy(one(), cells),
+        _ => Happens::None,
+    }
+}
+
+/// Takes all steps of a script, as long as the report has room.
+fn take_all(
+    accepted: &Accepted,
+    node: &mut NodeB,
+    script: &[u8],
+    cells: &[u8],
+    report: &mut Report,
+) -> Result<(), Fail>
+    requires { IsNodeOf accepted.now node.old }
+{
+    for letter in script {
+        if report.spare() < accepted.step_bytes() {
+            return Err(Fail::new("no room"));
+        }
+        take(accepted, node, meaning(*letter, cells), report)?;
+    }
+    Ok(())
+}
+
+/// Whether a Node B that is opened at a CFN reports just this text.
+fn reports(
+    alloc: Global,
+    accepted: &Accepted,
+    first_cfn: u8,
+    script: &[u8],
+    cells: &[u8],
+    wanted: &[u8],
+) -> Result<bool, Fail>
+    requires { first_cfn % 8 ≡ 0 }
+{
+    let mut report = empty_report(alloc)?;
+    let mut node = NodeB::open(alloc, accepted, first_cfn)?;
+    take_all(accepted, &mut node, script, cells, &mut report)?;
+    node.close();
+    Ok(report.bytes() == wanted)
+}
+
+/// So many of a letter.
+fn row(alloc: Global, letter: char, count: usize) -> Result<String, AllocError> {
+    let mut text = String::new(alloc);
+    for _k in 0..count {
+        text.push(letter)?;
+    }
+    Ok(text)
+}
+
+#[test]
+fn one_frame_each_way(rt: HostRuntime) -> Result<(), Fail> {
+    let accepted = alone(rt.alloc())?;
+
+    // A block of 150 bits of which only the sixth is 1.
+    let zeros = row(rt.alloc(), '0', 144)?;
+    let cells = format!(in rt.alloc(); "000001{zeros}")?;
+    let wanted = each_way(rt.alloc())?;
+    let same = reports(
+        rt.alloc(),
+        &accepted,
+        0,
+        b"av1",
+        cells.as_bytes(),
+        wanted.as_bytes(),
+    )?;
+    assert!(rt; same);
+    Ok(())
+}
+
+fn each_way(alloc: Global) -> Result<String, AllocError> {
+    let tfci = row(alloc, '0', 30)?;
+    let dashes = row(alloc, '-', 150)?;
+    let octets = row(alloc, '0', 36)?;
+    format!(in alloc; "phydown {tfci} {dashes}\niubup 0 8a0001000008{octets}\n")
+}
+
+// Two frames of which no combination has both, frames that are refused or come too early, and frames that are missing.
+#[test]
+fn two_sets_and_what_is_not_sent(rt: HostRuntime) -> Result<(), Fail> {
+    let accepted = pair(rt.alloc())?;
+    let wanted = of_two_sets(rt.alloc())?;
+    let same = reports(
+        rt.alloc(),
+        &accepted,
+        248,
+        b"bdvvefc-v000",
+        b"",
+        wanted.as_bytes(),
+    )?;
+    assert!(rt; same);
+    Ok(())
+}
+
+fn of_two_sets(alloc: Global) -> Result<String, AllocError> {
+    let tfci = row(alloc, '0', 30)?;
+    let dashes = row(alloc, '-', 15)?;
+    let idle = format!(in alloc; "phydown {tfci} {dashes}\n")?;
+    let refused = "iubbad down 5 3\niubbad down 5 1\nbadtti up 0 0\n";
+    let later = "iubup 1 60fa0009\niubup 1 b6fb0009\niubup 5 60fa0009\n";
+    format!(in alloc; "phydown none\n{idle}{refused}{idle}iubup 1 90f90009\nbadtti up 1 0\n{later}")
+}

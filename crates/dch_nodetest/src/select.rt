@@ -1,0 +1,81 @@
+use dch_accept::Accepted;
+use dch_samples::{greatest_choice, two_priorities};
+use dch_select::{Head, choose};
+use dch_types::Dir;
+use std::test::Fail;
+
+/// The combination for these offers, where there are as many of them as there should be.
+fn chosen(
+    accepted: &Accepted,
+    (cfn, running): (u8, u16),
+    (first, second): ((u16, u16), (u16, u16)),
+    blocked: &[bool],
+) -> Option<u16> {
+    let offers = [head(first), head(second)];
+    let config = accepted.config();
+    let combinations = config.uplink.side.combinations.len();
+    if config.bearers.len() == 2
+        && blocked.len() == combinations
+        && (running as usize) < combinations
+    {
+        Some(choose(accepted, Dir::Up, cfn, running, &offers, blocked))
+    } else {
+        None
+    }
+}
+
+fn head((size, count): (u16, u16)) -> Head {
+    Head { size, count }
+}
+
+/// The second channel sends nothing, eight blocks or, beside one of the first channel, four.
+const COMBINATIONS: &str = "[[0,0],[1,0],[0,1],[1,2]]";
+
+#[test]
+fn bits_of_the_first_priority_count_first(rt: HostRuntime) -> Result<(), Fail> {
+    let accepted = two_priorities(rt.alloc(), 10, COMBINATIONS)?;
+    let none = [false; 4];
+    for (offers, blocked, want) in [
+        (((10, 1), (10, 10)), none, 3),
+        (((10, 0), (10, 10)), none, 2),
+        (((10, 1), (10, 3)), none, 1),
+        (((10, 0), (10, 3)), none, 0),
+        (((9, 1), (10, 8)), none, 2),
+        (((10, 1), (10, 10)), [false, false, false, true], 1),
+        (((10, 1), (10, 10)), [true; 4], 0),
+    ] {
+        let got = chosen(&accepted, (0, 0), offers, &blocked);
+        assert!(rt; got == Some(want), "{want}");
+    }
+    Ok(())
+}
+
+#[test]
+fn nothing_is_sent_of_nothing(rt: HostRuntime) -> Result<(), Fail> {
+    let accepted = two_priorities(rt.alloc(), 10, "[[0,0],[1,0]]")?;
+    assert!(rt; chosen(&accepted, (0, 1), ((0, 0), (0, 0)), &[false; 2]) == Some(0));
+    Ok(())
+}
+
+#[test]
+fn a_channel_whose_tti_goes_on(rt: HostRuntime) -> Result<(), Fail> {
+    let accepted = two_priorities(rt.alloc(), 20, COMBINATIONS)?;
+    let offers = ((10, 1), (10, 10));
+    for (cfn, running, want) in [(1, 0, 2), (1, 1, 3), (2, 0, 3), (255, 2, 2)] {
+        let got = chosen(&accepted, (cfn, running), offers, &[false; 4]);
+        assert!(rt; got == Some(want), "{cfn} {running}");
+    }
+    Ok(())
+}
+
+#[test]
+fn a_choice_of_128_for_sixteen_bearers(rt: HostRuntime) -> Result<(), Fail> {
+    let accepted = greatest_choice(rt.alloc())?;
+    let config = accepted.config();
+    assert_eq!(rt; config.bearers.len(), 16);
+    assert_eq!(rt; config.uplink.side.combinations.len(), 128);
+    let offers = [Head { size: 28, count: 2 }; 16];
+    let chosen = choose(&accepted, Dir::Up, 0, 0, &offers, &[false; 128]);
+    assert_eq!(rt; chosen, 127);
+    Ok(())
+}
