@@ -1,10 +1,10 @@
 -- PDUs in flight, place by place.
-use Rattle.std.proofs.Common.{◌≡◌, ◌+◌, ◌<◌, ◌≤◌, ℕ, zero, suc, List, [], ◌∷◌, Bool, true, false, cond, length, set, drop, arith, refl, sym, ap, ◌∙◌, subst}
-use Rattle.std.specs.Prelude.{min}
-use Rattle.std.proofs.lemmas.Bool.{both_ways}
+use Rattle.std.proofs.Common.{◌≡◌, ◌+◌, ◌<◌, ◌≤◌, ℕ, zero, suc, List, [], ◌∷◌, Bool, true, false, cond, length, set, drop, arith, refl, sym, ap, ◌∙◌, subst, ⊎_elim}
+use Rattle.std.specs.Prelude.{min, nat_lt}
+use Rattle.std.proofs.lemmas.Bool.{both_ways, cases_lt, le-ltb, lt-ltb}
 use Rattle.std.proofs.lemmas.List.{drop_more}
 use Rattle.dch_flight.specs.declared.flown.Flown.{Flown}
-use Rattle.dch_flight.specs.Flights.{at, blank, acknowledged, unwanted, changed_below, first_wanted, front_acked, wanted_in, IsBounded, IsFirstWanted}
+use Rattle.dch_flight.specs.Flights.{at, blank, acknowledged, unwanted, changed_below, first_wanted, front_acked, wanted_in, IsBounded, IsFirstWanted, IsTight}
 
 -- one place more is changed
 pub changed_next : (change : Flown → Flown) (i : ℕ) (flown : List Flown) → i < length flown → set (changed_below change i flown) i (change (at (changed_below change i flown) i)) ≡ changed_below change (i + 1) flown
@@ -60,6 +60,12 @@ first_is (f ∷ flown) k is = go f.wanted refl k is (λ j h. first_is flown j h)
     go false e zero is rest = absurd (both_ways f.wanted e (is.here (omega arith)))
     go false e (suc k) is rest = ap suc (rest k (record { before = λ i l. is.before (suc i) (omega arith); here = λ l. is.here (omega arith); within = omega (arith, is.within) }))
 
+-- a place where one is wanted is that of a PDU
+inside : (xs : List Flown) (j : ℕ) → (at xs j).wanted ≡ true → j < length xs
+inside [] j e = absurd (cc)
+inside (x ∷ xs) zero e = omega arith
+inside (x ∷ xs) (suc j) e = omega (arith, inside xs j e)
+
 -- how many are wanted from a place on
 pub wanted_here : (flown : List Flown) (i : ℕ) → i < length flown → (at flown i).wanted ≡ true → wanted_in (drop i flown) ≡ 1 + wanted_in (drop (i + 1) flown)
 wanted_here flown i l e = ap wanted_in (drop_more flown i blank l) ∙ ap (λ b. cond b (suc (wanted_in (drop (i + 1) flown))) (wanted_in (drop (i + 1) flown))) e ∙ omega arith
@@ -91,8 +97,36 @@ wanted_from flown low high is = wanted_low flown low (λ j l. is_not (at flown j
 
 pub wanted_to : (flown : List Flown) (low high k : ℕ) → min high (length flown) ≤ k → IsBounded flown low high → wanted_in (drop k flown) ≡ 0
 wanted_to flown low high k past is = wanted_high flown k (λ j l. is_not (at flown j).wanted (λ e. omega (arith, l, past, (is.wanted j e).1, inside flown j e)))
+
+-- one is wanted exactly between tight bounds
+wanted_some : (flown : List Flown) (k : ℕ) → (at flown k).wanted ≡ true → 0 < wanted_in flown
+wanted_some [] k e = absurd (cc)
+wanted_some (f ∷ flown) zero e = rw e (omega arith)
+wanted_some (f ∷ flown) (suc k) e = go f.wanted (wanted_some flown k e)
   where
-    inside : (xs : List Flown) (j : ℕ) → (at xs j).wanted ≡ true → j < length xs
-    inside [] j e = absurd (cc)
-    inside (x ∷ xs) zero e = omega arith
-    inside (x ∷ xs) (suc j) e = omega (arith, inside xs j e)
+    go : (b : Bool) → 0 < wanted_in flown → 0 < cond b (suc (wanted_in flown)) (wanted_in flown)
+    go true l = omega arith
+    go false l = l
+
+not_wanted : (flown : List Flown) (low high j : ℕ) → IsBounded flown low high → (low ≤ j → j < high → ⊥) → (at flown j).wanted ≡ false
+not_wanted flown low high j is out = is_not (at flown j).wanted (λ e. out (is.wanted j e).0 (is.wanted j e).1)
+
+pub wanted_tight : (flown : List Flown) (low high : ℕ) → IsTight flown low high → nat_lt low high ≡ nat_lt 0 (wanted_in flown)
+wanted_tight flown low high is = ⊎_elim
+    (λ (l : low < high). lt-ltb low high l ∙ sym (lt-ltb 0 (wanted_in flown) (wanted_some flown low (is.first l))))
+    (λ (l : high ≤ low). le-ltb low high l ∙ sym (le-ltb 0 (wanted_in flown) (omega (arith, wanted_none flown (λ j. not_wanted flown low high j is.bounded (λ a b. omega (arith, l, a, b)))))))
+    (cases_lt low high)
+
+pub first_tight : (flown : List Flown) (low high : ℕ) → low < high → IsTight flown low high → IsFirstWanted flown low
+first_tight flown low high l is = record {
+  before = λ i less. not_wanted flown low high i is.bounded (λ a b. omega (arith, less, a));
+  here = λ within. is.first l;
+  within = omega (arith, inside flown low (is.first l));
+}
+
+pub none_tight : (flown : List Flown) (low high : ℕ) → high ≤ low → IsTight flown low high → IsFirstWanted flown (length flown)
+none_tight flown low high l is = record {
+  before = λ i less. not_wanted flown low high i is.bounded (λ a b. omega (arith, l, a, b));
+  here = λ within. absurd (omega (arith, within));
+  within = omega arith;
+}

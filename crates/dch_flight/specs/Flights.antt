@@ -1,5 +1,5 @@
 -- The PDUs of a sender that are in flight (TS 25.322 9.4, 11.5.3): those from the lowest number that is not acknowledged on.
-use Rattle.std.specs.Prelude.{◌≡◌, ◌+◌, ◌≤◌, ◌<◌, ◌&&◌, ◌||◌, ℕ, zero, suc, List, [], ◌∷◌, Bool, true, false, not, length, nat_lt, nat_le, slice_index_or, if◌then◌else◌}
+use Rattle.std.specs.Prelude.{◌≡◌, ◌+◌, ◌≤◌, ◌<◌, ◌&&◌, ◌||◌, ℕ, zero, suc, List, [], ◌∷◌, Bool, true, false, not, length, max, min, nat_lt, nat_le, slice_index_or, if◌then◌else◌}
 use Rattle.dch_flight.specs.declared.flown.Flown.{Flown}
 
 -- no PDU
@@ -64,3 +64,12 @@ front_acked (f ∷ flown) = if f.acked then suc (front_acked flown) else 0
 -- every PDU that is wanted stands from one place to before another
 pub record IsBounded (flown : List Flown) (low high : ℕ) : Type 0 where
   pub wanted : (i : ℕ) → (at flown i).wanted ≡ true → (low ≤ i) × (i < high)
+
+-- the first place is that of one that is wanted, or none is
+pub record IsTight (flown : List Flown) (low high : ℕ) : Type 0 where
+  pub bounded : IsBounded flown low high
+  pub first : low < high → (at flown low).wanted ≡ true
+
+-- the bounds with those of one more that is wanted
+abbrev pub wider : ℕ → ℕ → ℕ → ℕ → ℕ × ℕ
+wider low high from to = if nat_lt low high then (min low from, max high to) else (from, to)

@@ -1,6 +1,6 @@
-ghost use Rattle.std.specs.Prelude.{◌≡◌, ◌+◌, ◌-◌, ◌<◌, ◌≤◌, ◌++◌, ℕ, [], ◌∷◌, false, true, IfOk, length, drop, min, slice_set};
+ghost use Rattle.std.specs.Prelude.{◌≡◌, ◌+◌, ◌-◌, ◌<◌, ◌≤◌, ◌++◌, ℕ, [], ◌∷◌, false, true, IfOk, length, drop, min, nat_lt, slice_set};
 ghost use Rattle.circular_buffer.specs.Buffer.{buffer};
-ghost use Rattle.dch_flight.specs.Flights.{at, named_from, unnamed, acknowledged, unwanted, built, changed_below, first_wanted, front_acked, wanted_in, IsFirstWanted, IsBounded};
+ghost use Rattle.dch_flight.specs.Flights.{at, named_from, unnamed, acknowledged, unwanted, built, changed_below, first_wanted, front_acked, wanted_in, IsFirstWanted, IsBounded, IsTight, wider};
 
 use crate::flown::Flown;
 use crate::places::{acknowledge_at, at_place, build_at, name_at, unname_at, unwant_at};
@@ -9,7 +9,8 @@ use dch_bits::NoMemory;
 use std::alloc::Global;
 use std::marker::Model;
 
-/// The PDUs in flight, the one of the lowest open number first. Those that are wanted stand from `low` to before `high`.
+/// The PDUs in flight, the one of the lowest open number first. Those that are wanted stand from `low` to before `high`, and the one at
+/// `low` is wanted. Where none is, `high` is at most `low`.
 #[derive(Drop)]
 pub struct Flight {
     ring: HeapCircularBuffer<Flown>,
@@ -20,13 +21,13 @@ pub struct Flight {
 impl Model for Flight {
     ghost use Rattle.circular_buffer.specs.Buffer.{Buffer};
     ghost use Rattle.dch_flight.specs.declared.flown.Flown.{Flown};
-    ghost use Rattle.dch_flight.specs.Flights.{IsBounded};
+    ghost use Rattle.dch_flight.specs.Flights.{IsTight};
 
     ghost Value = { Buffer Flown };
 
     ghost view = { λ f. f.ring };
 
-    ghost invariant = { λ f. IsBounded f.ring.items f.low f.high };
+    ghost invariant = { λ f. IsTight f.ring.items f.low f.high };
 }
 
 impl Flight {
@@ -72,13 +73,8 @@ impl Flight {
         ensures { self.new ≡ buffer (slice_set self.old.items i (named_from from i (at self.old.items i))) self.old.capacity }
     {
         let end = self.ring.len().min(i + 1);
-        name_at(&mut self.ring, i, from);
-        if self.low < self.high {
-            self.low = self.low.min(i);
-            self.high = self.high.max(end);
-        } else {
-            self.low = i;
-            self.high = end;
+        if name_at(&mut self.ring, i, from) {
+            (self.low, self.high) = widened(self.low, self.high, i, end);
         }
     }
 
@@ -96,7 +92,7 @@ impl Flight {
         ensures { self.new ≡ buffer (slice_set self.old.items i (built (at self.old.items i))) self.old.capacity }
     {
         build_at(&mut self.ring, i);
-        self.settle();
+        (self.low, self.high) = tightened(&self.ring, self.low, self.high);
     }
 
     /// The PDUs before a place are acknowledged, but for those that are named missing.
@@ -105,7 +101,7 @@ impl Flight {
         ensures { self.new ≡ buffer (changed_below acknowledged to self.old.items) self.old.capacity }
     {
         acknowledge_below(&mut self.ring, to);
-        self.settle();
+        (self.low, self.high) = tightened(&self.ring, self.low, self.high);
     }
 
     /// The PDUs before a place aren't wanted any more.
@@ -114,7 +110,7 @@ impl Flight {
         ensures { self.new ≡ buffer (changed_below unwanted to self.old.items) self.old.capacity }
     {
         unwant_below(&mut self.ring, to);
-        self.settle();
+        (self.low, self.high) = tightened(&self.ring, self.low, self.high);
     }
 
     /// The first PDU that is wanted; their number where none is.
@@ -122,7 +118,18 @@ impl Flight {
         ensures place { IsFirstWanted self.now.items result }
         ensures first { result ≡ first_wanted self.now.items }
     {
-        first_wanted(&self.ring, self.low, self.high)
+        if self.low < self.high {
+            self.low
+        } else {
+            self.ring.len()
+        }
+    }
+
+    /// A PDU is wanted.
+    pub fn is_wanted(&self) -> bool
+        ensures { result ≡ nat_lt 0 (wanted_in self.now.items) }
+    {
+        self.low < self.high
     }
 
     /// How many PDUs are wanted, at most so many.
@@ -153,21 +160,35 @@ impl Flight {
     {
         let kept = self.ring.len() - count;
         self.ring.truncate_front(kept);
-        self.low = self.low.saturating_sub(count);
-        self.high = self.high.saturating_sub(count);
+        (self.low, self.high) = tightened(
+            &self.ring,
+            self.low.saturating_sub(count),
+            self.high.saturating_sub(count),
+        );
     }
+}
 
-    /// No PDU before the first that is wanted is looked at again.
-    fn settle(&mut self)
-        ensures { self.new ≡ self.old }
-    {
-        let first = first_wanted(&self.ring, self.low, self.high);
-        if first < self.ring.len() {
-            self.low = first;
-        } else {
-            self.low = 0;
-            self.high = 0;
-        }
+/// The bounds with those of one PDU more that is wanted.
+fn widened(low: usize, high: usize, from: usize, to: usize) -> (usize, usize)
+    ensures { result ≡ wider low high from to }
+{
+    if low < high {
+        (low.min(from), high.max(to))
+    } else {
+        (from, to)
+    }
+}
+
+/// The bounds from the first PDU on that is wanted, where all that are stand from one place to before another.
+fn tightened(ring: &HeapCircularBuffer<Flown>, low: usize, high: usize) -> (usize, usize)
+    requires { IsBounded ring.now.items low high }
+    ensures { IsTight ring.now.items result.0 result.1 }
+{
+    let first = first_wanted(ring, low, high);
+    if first < ring.len() {
+        (first, high)
+    } else {
+        (0, 0)
     }
 }
 

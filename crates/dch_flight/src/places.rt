@@ -13,15 +13,18 @@ pub fn at_place(ring: &HeapCircularBuffer<Flown>, i: usize) -> Flown
     *ring.get(i).unwrap()
 }
 
-/// It is named missing, and wanted unless it is acknowledged or stands before a place.
-pub fn name_at(ring: &mut HeapCircularBuffer<Flown>, i: usize, from: usize)
+/// It is named missing, and wanted unless it is acknowledged or stands before a place. Answers whether it is wanted now.
+pub fn name_at(ring: &mut HeapCircularBuffer<Flown>, i: usize, from: usize) -> bool
     requires { i < length ring.old.items }
-    ensures { ring.new ≡ buffer (slice_set ring.old.items i (named_from from i (at ring.old.items i))) ring.old.capacity }
+    ensures wanted { result ≡ (named_from from i (at ring.old.items i)).wanted }
+    ensures after { ring.new ≡ buffer (slice_set ring.old.items i (named_from from i (at ring.old.items i))) ring.old.capacity }
 {
-    if let Some(flown) = ring.get_mut(i) {
-        flown.named = true;
-        flown.wanted = flown.wanted || (!flown.acked && from <= i);
-    }
+    let Some(flown) = ring.get_mut(i) else {
+        return false;
+    };
+    flown.named = true;
+    flown.wanted = flown.wanted || (!flown.acked && from <= i);
+    flown.wanted
 }
 
 /// It isn't named any more.

@@ -1,3 +1,4 @@
+pub mod Available
 pub mod Bodies
 pub mod Building
 pub mod Chained
@@ -10,4 +11,5 @@ pub mod Known
 pub mod Marking
 pub mod Parts
 pub mod Reading
+pub mod Received
 pub mod Walking

@@ -1,7 +1,8 @@
 ghost use Rattle.std.specs.Prelude.{◌≡◌, ◌-◌, ◌≤◌, ℕ, List, Bool, true};
 ghost use Rattle.dch_filling.specs.Pdus.{AreCuts, first_front, pdus};
-ghost use Rattle.dch_rlcum.specs.Handing.{AreFewLost, AreRead, AreUnits, handed_up, known_units, sent_from};
+ghost use Rattle.dch_rlcum.specs.Handing.{AreFewLost, AreRead, AreUnits, Sent, handed_up, known_units, sent_from};
 ghost use Rattle.dch_rlcum.specs.History.{joined, sizes};
+ghost use Rattle.dch_rlcum.specs.Received.{arrived_from, units_in};
 ghost use Rattle.dch_rlcum.specs.Receiving.{opened};
 
 /// A law: whichever PDUs of a sender arrive, a receiver hands up exactly the known units, in order, where fewer than 128
@@ -19,4 +20,9 @@ pub fn read_pdus_law()
     ensures { (pdu : ℕ) (starts : Bool) (units : List (List ℕ)) (cuts : List ℕ) →
         3 ≤ pdu → pdu ≤ 125 → AreUnits units → AreCuts (pdu - 1) starts (sizes units) 0 first_front cuts →
         AreRead pdu units 0 (pdus (pdu - 1) starts (sizes units) cuts) }
+{}
+
+/// A law: these are the units that end in the PDUs that arrive, of whatever list of PDUs.
+pub fn arrived_units_law()
+    ensures { (pdu : ℕ) (row : List ℕ) (xs : List Sent) → handed_up pdu row 0 opened xs ≡ units_in (arrived_from pdu row 0 xs) }
 {}

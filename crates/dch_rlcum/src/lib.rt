@@ -5,6 +5,6 @@ mod laws;
 mod receive;
 mod send;
 
-pub use laws::{known_units_law, read_pdus_law};
+pub use laws::{arrived_units_law, known_units_law, read_pdus_law};
 pub use receive::UmRecv;
 pub use send::UmSend;

@@ -1,5 +1,7 @@
-ghost use Rattle.std.specs.Prelude.{◌≡◌, ◌+◌, ◌<◌, ◌≤◌, ◌==◌, [], true, false, IfOk, length};
-ghost use Rattle.dch_rlcum.specs.Receiving.{opened, added, ended, dropped, after_first, after_number, after_parts, after_pdu, after_unit, handed_of, written, held};
+ghost use Rattle.std.specs.Prelude.{◌≡◌, ◌+◌, ◌<◌, ◌≤◌, ◌==◌, ◌++◌, ℕ, List, [], ◌∷◌, true, false, IfNone, IfOk, drop, length};
+ghost use Rattle.dch_rlcpdu.specs.declared.um.UmView.{UmView};
+ghost use Rattle.dch_rlcum.specs.Received.{IsReceiverOf, handed_after, units_in};
+ghost use Rattle.dch_rlcum.specs.Receiving.{is_settled, opened, added, ended, dropped, after_first, after_number, after_parts, after_pdu, after_unit, handed_of, written, held};
 ghost use Rattle.dch_rlcpdu.specs.Parts.{ends_of, parts_of};
 
 use circular_buffer::HeapCircularBuffer;
@@ -34,7 +36,8 @@ impl Model for UmRecv {
 impl UmRecv {
     /// A receiver before its first PDU, whose number is then 0.
     pub fn open(alloc: Global) -> Result<UmRecv, NoMemory>
-        ensures { IfOk result (λ receiver. receiver ≡ opened) }
+        ensures opened { IfOk result (λ receiver. receiver ≡ opened) }
+        ensures history { IfOk result (λ receiver. IsReceiverOf [] 0 receiver) }
     {
         // 1,501 octets of a unit in progress, and those of a PDU, each of which may be a mark.
         let octets = HeapCircularBuffer::with_capacity(alloc, 1625)?;
@@ -48,16 +51,28 @@ impl UmRecv {
         })
     }
 
-    /// No unit waits.
+    /// No unit that ended waits.
     pub fn settled(&self) -> bool
-        ensures { result ≡ (length self.now.waiting == 0) }
+        ensures settled { result ≡ is_settled self.now }
+        ensures history { (pdus : List UmView) (handed : ℕ) → IsReceiverOf pdus handed self.now → result ≡ (handed == length (units_in pdus)) }
     {
         self.sizes.is_empty()
     }
 
     /// Takes a PDU of at most 125 octets. All units that ended before it have been handed up.
     pub fn pdu(&mut self, p: &UmView<'_>)
-        requires settled { self.old.waiting ≡ [] }
+        requires settled { is_settled self.old ≡ true }
+        requires number { p.now.sn < 128 }
+        requires small { length p.now.body.marks + length p.now.body.octets ≤ 124 }
+        ensures after { self.new ≡ after_pdu p.now self.old }
+        ensures history { (pdus : List UmView) (handed : ℕ) → IsReceiverOf pdus handed self.old → IsReceiverOf (pdus ++ p.now ∷ []) handed self.new }
+    {
+        self.take(p);
+    }
+
+    /// Takes it, by what waits.
+    fn take(&mut self, p: &UmView<'_>)
+        requires settled { is_settled self.old ≡ true }
         requires number { p.now.sn < 128 }
         requires small { length p.now.body.marks + length p.now.body.octets ≤ 124 }
         ensures { self.new ≡ after_pdu p.now self.old }
@@ -72,6 +87,21 @@ impl UmRecv {
 
     /// Hands up the first unit that waits, at the front of `out`, which has 1,500 octets.
     pub fn next_unit(&mut self, out: &mut [u8]) -> Option<Handed>
+        requires { length out.old ≡ 1500 }
+        ensures answer { result ≡ handed_of self.old.waiting }
+        ensures unit { out.new ≡ written self.old.waiting out.old }
+        ensures rest { self.new ≡ after_unit self.old }
+        ensures none { IfNone result (self.new ≡ self.old) }
+        // it is the next of the units that ended in the PDUs that came
+        ensures history { (pdus : List UmView) (handed : ℕ) → IsReceiverOf pdus handed self.old → IsReceiverOf pdus (handed_after result handed) self.new }
+        ensures next { (pdus : List UmView) (handed : ℕ) → IsReceiverOf pdus handed self.old → result ≡ handed_of (drop handed (units_in pdus)) }
+        ensures octets { (pdus : List UmView) (handed : ℕ) → IsReceiverOf pdus handed self.old → out.new ≡ written (drop handed (units_in pdus)) out.old }
+    {
+        self.hand_up(out)
+    }
+
+    /// Hands it up, by what waits.
+    fn hand_up(&mut self, out: &mut [u8]) -> Option<Handed>
         requires { length out.old ≡ 1500 }
         ensures answer { result ≡ handed_of self.old.waiting }
         ensures unit { out.new ≡ written self.old.waiting out.old }

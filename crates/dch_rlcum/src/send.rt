@@ -1,13 +1,14 @@
-ghost use Rattle.std.specs.Prelude.{◌≡◌, ◌+◌, ◌-◌, ◌*◌, ◌<◌, ◌≤◌, ◌==◌, ◌++◌, ℕ, List, [], ◌∷◌, true, IfOk, Some, IsTrue, drop, length, nat_lt, slice_get, take};
+ghost use Rattle.std.specs.Prelude.{◌≡◌, ◌≢◌, ◌+◌, ◌-◌, ◌*◌, ◌<◌, ◌≤◌, ◌==◌, ◌++◌, ℕ, List, [], ◌∷◌, true, IfOk, Some, IsTrue, drop, length, nat_lt, slice_get, take};
 ghost use Rattle.dch_rlcpdu.specs.declared.marks.Mode.TheVariants.{Unacknowledged};
 ghost use Rattle.dch_rlcpdu.specs.Body.{fills};
 ghost use Rattle.dch_rlcpdu.specs.Marks.{are_marks};
 ghost use Rattle.dch_rlcpdu.specs.Um.{um_pdu};
 ghost use Rattle.circular_buffer.specs.Buffer.{buffer};
 ghost use Rattle.dch_filling.specs.Filling.{AreSome, IsCarried};
-ghost use Rattle.dch_rlcum.specs.History.{IsSenderOf, accepted, texts};
+ghost use Rattle.dch_bits.specs.declared.offer.Offer.TheVariants.{Accepted};
+ghost use Rattle.dch_rlcum.specs.History.{IsAvailable, IsSenderOf, accepted, texts};
 ghost use Rattle.dch_rlcum.specs.Queue.{IsPlace, units_at, used_of};
-ghost use Rattle.dch_rlcum.specs.Sending.{after_build, after_offer, answer_of, blocks, builds, carried, carried_by, ends_in, is_unsent, leading, left_by, listed, marks_in, no_units, pdu_of, room_of, units_after};
+ghost use Rattle.dch_rlcum.specs.Sending.{after_build, after_offer, answer_of, blocks, builds, carried, carried_by, ends_in, is_due, is_unsent, leading, left_by, listed, marks_in, no_units, pdu_of, room_of, units_after};
 
 use circular_buffer::HeapCircularBuffer;
 use dch_bits::{NoMemory, Offer};
@@ -93,6 +94,7 @@ impl UmSend {
     pub fn offer(&mut self, unit: &[u8]) -> Offer
         ensures answer { result ≡ answer_of unit.now self.old }
         ensures after { self.new ≡ after_offer result unit.now self.old }
+        ensures refused { result ≢ Accepted → self.new ≡ self.old }
         ensures history { (units : List (List ℕ)) (cuts : List ℕ) → IsSenderOf units cuts self.old → IsSenderOf (accepted result unit.now units) cuts self.new }
         // no PDU before is another one for it
         ensures built { (units : List (List ℕ)) (cuts : List ℕ) → IsSenderOf units cuts self.old → texts self.old.pdu self.old.mark_start (accepted result unit.now units) cuts ≡ texts self.old.pdu self.old.mark_start units cuts }
@@ -113,7 +115,9 @@ impl UmSend {
     /// How many PDUs could be built one after another, at most 64.
     pub fn available(&self) -> u16
         ensures count { result ≡ builds 64 self.now.pdu self.now.mark_start self.now.units }
-        ensures some { nat_lt 0 result ≡ is_unsent self.now.units }
+        ensures some { nat_lt 0 result ≡ is_due self.now }
+        // so many more PDUs of the list could follow
+        ensures history { (units : List (List ℕ)) (cuts : List ℕ) → IsSenderOf units cuts self.now → IsAvailable 64 self.now.pdu self.now.mark_start units cuts result }
     {
         let mut place = self.first();
         for count in 0..64u16 {
@@ -123,6 +127,13 @@ impl UmSend {
             place = self.after_pdu(&place);
         }
         64
+    }
+
+    /// A PDU can be built.
+    pub fn is_due(&self) -> bool
+        ensures { result ≡ is_due self.now }
+    {
+        self.owed > 0 || !self.lengths.is_empty()
     }
 
     /// Where the units begin.
@@ -192,7 +203,7 @@ impl UmSend {
 
     /// Writes the next PDU. There is one.
     pub fn build(&mut self, out: &mut [u8])
-        requires some { is_unsent self.old.units ≡ true }
+        requires due { is_due self.old ≡ true }
         requires size { length out.old ≡ self.old.pdu }
         ensures text { out.new ≡ pdu_of self.old }
         ensures after { self.new ≡ after_build self.old }
@@ -207,7 +218,7 @@ impl UmSend {
 
     /// Writes the next PDU, by what waits.
     fn write_next(&mut self, out: &mut [u8])
-        requires some { is_unsent self.old.units ≡ true }
+        requires due { is_due self.old ≡ true }
         requires size { length out.old ≡ self.old.pdu }
         ensures text { out.new ≡ pdu_of self.old }
         ensures after { self.new ≡ after_build self.old }

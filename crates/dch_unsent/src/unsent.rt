@@ -71,7 +71,7 @@ impl Unsent {
     fn is_some(&self) -> bool
         ensures { result ≡ is_unsent self.now.units }
     {
-        self.fresh.available() > 0
+        self.fresh.is_due()
     }
 
     /// How many PDUs could be filled one after another, at most 64.

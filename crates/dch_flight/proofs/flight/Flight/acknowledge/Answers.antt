@@ -4,5 +4,5 @@ use Rattle.dch_flight.specs.declared.flown.Flown.{Flown}
 use Rattle.dch_flight.proofs.Changes.{acknowledged_bounded}
 use Rattle.dch_flight.proofs.flight.Flight.acknowledge.Goals as goal
 
-pub invariant_of-self : goal.invariant_of-self
-invariant_of-self c = acknowledged_bounded c.args.to c.self.inside.ring.items c.acknowledge_below.new.ring.items c.self.inside.low c.self.inside.high (ap (λ (b : Buffer Flown). b.items) c.acknowledge_below.ensures) c.self.invariant
+pub tightened-requires : goal.tightened-requires
+tightened-requires c = acknowledged_bounded c.args.to c.self.inside.ring.items c.acknowledge_below.new.ring.items c.self.inside.low c.self.inside.high (ap (λ (b : Buffer Flown). b.items) c.acknowledge_below.ensures) c.self.invariant.bounded
