@@ -10,7 +10,7 @@ use Rattle.dch_am.specs.Bodies.{Body, ends, ends_of, next_body}
 use Rattle.dch_am.specs.Building.{anew}
 use Rattle.dch_am.specs.Cuts.{IsCut}
 use Rattle.dch_am.specs.Discards.{discards_at}
-use Rattle.dch_am.specs.Sender.{Sender, after_offer, blocks, first_open, held, next_new, opened_sender}
+use Rattle.dch_am.specs.Sender.{Sender, after_offer, blocks, discarded, first_open, held, next_new, opened_sender}
 use Rattle.dch_am.proofs.Reading.{cut_few, ends_split}
 use Rattle.dch_held.specs.declared.unit.Unit.{Unit as OneUnit}
 use Rattle.dch_held.specs.Held.{Held, age_at, blocks_for, capped, discarding, ended, has_room, left, no_unit, nothing, sizes_of, ticked, total, unit_at, with_pdu, with_unit}
@@ -19,7 +19,7 @@ use Rattle.dch_held.proofs.Ages.{at_aged, length-aged, sizes_of-aged}
 use Rattle.dch_held.proofs.Sums.{length-sizes_of, sizes_of-append, sizes_of-drop}
 
 -- what a sender is to what is held
-record At (rules : Rules) (h : Held) (accepted : List (List ℕ)) (bodies : List Body) (low : ℕ) (times : List ℕ) (ticks dropped : ℕ) (gone : List ℕ) : Type 0 where
+record At (rules : Rules) (h : Held) (accepted : List (List ℕ)) (bodies : List Body) (low : ℕ) (times : List ℕ) (ticks dropped gone : ℕ) : Type 0 where
   buffer : h.buffer ≡ rules.buffer
   window : h.window ≡ rules.window
   sizes : sizes_of h.units ≡ blocks_each (drop (ends (take low bodies)) accepted)
@@ -28,19 +28,19 @@ record At (rules : Rules) (h : Held) (accepted : List (List ℕ)) (bodies : List
   early : (i : ℕ) → slice_index times i ≤ ticks
   times_are : length times ≡ length accepted
   passed : h.passed ≡ dropped - ends (take low bodies)
-  discarded : h.discarded ≡ capped (length gone)
+  discarded : h.discarded ≡ capped gone
 
 -- the parts of a sender
-of_sender : (rules : Rules) (h : Held) (s : Sender) → Holds rules h s → At rules h s.accepted s.bodies (first_open s) s.accepted_at s.ticks s.dropped s.gone
+of_sender : (rules : Rules) (h : Held) (s : Sender) → Holds rules h s → At rules h s.accepted s.bodies (first_open s) s.accepted_at s.ticks s.dropped (discarded s)
 of_sender rules h s is = record { buffer = is.buffer; window = is.window; sizes = is.sizes; flying = is.ends; ages = is.ages; early = is.early; times_are = is.times; passed = is.passed; discarded = is.discarded }
 
 -- and back
-to_sender : (rules : Rules) (h : Held) (s : Sender) → At rules h s.accepted s.bodies (first_open s) s.accepted_at s.ticks s.dropped s.gone → Holds rules h s
+to_sender : (rules : Rules) (h : Held) (s : Sender) → At rules h s.accepted s.bodies (first_open s) s.accepted_at s.ticks s.dropped (discarded s) → Holds rules h s
 to_sender rules h s is = record { buffer = is.buffer; window = is.window; sizes = is.sizes; ends = is.flying; ages = is.ages; early = is.early; times = is.times_are; passed = is.passed; discarded = is.discarded }
 
 -- a sender with these parts
-with_parts : (rules : Rules) (h : Held) (s : Sender) (accepted : List (List ℕ)) (bodies : List Body) (low : ℕ) (times : List ℕ) (ticks dropped : ℕ) (gone : List ℕ)
-    → s.accepted ≡ accepted → s.bodies ≡ bodies → first_open s ≡ low → s.accepted_at ≡ times → s.ticks ≡ ticks → s.dropped ≡ dropped → s.gone ≡ gone
+with_parts : (rules : Rules) (h : Held) (s : Sender) (accepted : List (List ℕ)) (bodies : List Body) (low : ℕ) (times : List ℕ) (ticks dropped gone : ℕ)
+    → s.accepted ≡ accepted → s.bodies ≡ bodies → first_open s ≡ low → s.accepted_at ≡ times → s.ticks ≡ ticks → s.dropped ≡ dropped → discarded s ≡ gone
     → At rules h accepted bodies low times ticks dropped gone → Holds rules h s
 with_parts rules h s accepted bodies low times ticks dropped gone e1 e2 e3 e4 e5 e6 e7 is = to_sender rules h s
     (subst (λ x. At rules h s.accepted s.bodies (first_open s) s.accepted_at s.ticks s.dropped x) (sym e7)
@@ -53,7 +53,7 @@ with_parts rules h s accepted bodies low times ticks dropped gone e1 e2 e3 e4 e5
 
 -- a sender that differs in nothing that is held
 pub holds_as : (rules : Rules) (h : Held) (s now : Sender) → IsAlike s now → Holds rules h s → Holds rules h now
-holds_as rules h s now a is = with_parts rules h now s.accepted s.bodies (first_open s) s.accepted_at s.ticks s.dropped s.gone a.accepted a.bodies a.low a.accepted_at a.ticks a.dropped a.gone (of_sender rules h s is)
+holds_as rules h s now a is = with_parts rules h now s.accepted s.bodies (first_open s) s.accepted_at s.ticks s.dropped (discarded s) a.accepted a.bodies a.low a.accepted_at a.ticks a.dropped a.gone (of_sender rules h s is)
 
 -- what is held after the same steps
 pub holds_same : (rules : Rules) (h now : Held) (s : Sender) → now ≡ h → Holds rules h s → Holds rules now s
@@ -220,7 +220,7 @@ offer_holds rules h now s unit octets e long cut is = holds_same rules (with_uni
 
 -- a new PDU
 pub built_holds : (rules : Rules) (h now : Held) (d : ℕ) (s : Sender) (ends : ℕ) → now ≡ with_pdu ends h → ends ≡ ends_of (next_body d s.unsent) → first_open (anew d s) ≡ first_open s → first_open s ≤ next_new s → Holds rules h s → Holds rules now (anew d s)
-built_holds rules h now d s new e count low within is = holds_same rules (with_pdu new h) now (anew d s) e (with_parts rules (with_pdu new h) (anew d s) s.accepted (s.bodies ++ body ∷ []) (first_open s) s.accepted_at s.ticks s.dropped s.gone refl refl low refl refl refl refl (record {
+built_holds rules h now d s new e count low within is = holds_same rules (with_pdu new h) now (anew d s) e (with_parts rules (with_pdu new h) (anew d s) s.accepted (s.bodies ++ body ∷ []) (first_open s) s.accepted_at s.ticks s.dropped (discarded s) refl refl low refl refl refl refl (record {
   buffer = is.buffer;
   window = is.window;
   sizes = is.sizes ∙ ap (λ n. blocks_each (drop n s.accepted)) (sym same);
@@ -240,7 +240,7 @@ built_holds rules h now d s new e count low within is = holds_same rules (with_p
 
 -- PDUs in front are acknowledged
 pub left_holds : (rules : Rules) (h after : Held) (s now : Sender) (pdus : ℕ) → after ≡ left pdus h → IsCut s.accepted s.unsent s.bodies → AreAcknowledged pdus s now → Holds rules h s → Holds rules after now
-left_holds rules h after s now pdus e cut a is = holds_same rules (left pdus h) after now e (with_parts rules (left pdus h) now s.accepted s.bodies (first_open s + pdus) s.accepted_at s.ticks s.dropped s.gone a.accepted a.bodies a.low a.accepted_at a.ticks a.dropped a.gone (record {
+left_holds rules h after s now pdus e cut a is = holds_same rules (left pdus h) after now e (with_parts rules (left pdus h) now s.accepted s.bodies (first_open s + pdus) s.accepted_at s.ticks s.dropped (discarded s) a.accepted a.bodies a.low a.accepted_at a.ticks a.dropped a.gone (record {
   buffer = is.buffer;
   window = is.window;
   sizes = sizes_of-drop gone h.units ∙ (ap (drop gone) is.sizes ∙ (blocks_each-drop gone (held s) ∙ (ap blocks_each (drop-drop gone (released s) s.accepted) ∙ ap (λ n. blocks_each (drop n s.accepted)) (sym more))));
@@ -276,7 +276,7 @@ one_older age time ticks le e = omega arith
 
 -- all units are one older
 pub ticked_holds : (rules : Rules) (h after : Held) (s now : Sender) → after ≡ ticked h → IsTicked s now → Holds rules h s → Holds rules after now
-ticked_holds rules h after s now e a is = holds_same rules (ticked h) after now e (with_parts rules (ticked h) now s.accepted s.bodies (first_open s) s.accepted_at (s.ticks + 1) s.dropped s.gone a.accepted a.bodies a.low a.accepted_at a.ticks a.dropped a.gone (record {
+ticked_holds rules h after s now e a is = holds_same rules (ticked h) after now e (with_parts rules (ticked h) now s.accepted s.bodies (first_open s) s.accepted_at (s.ticks + 1) s.dropped (discarded s) a.accepted a.bodies a.low a.accepted_at a.ticks a.dropped a.gone (record {
   buffer = is.buffer;
   window = is.window;
   sizes = sizes_of-aged h.units ∙ is.sizes;
@@ -290,7 +290,7 @@ ticked_holds rules h after s now e a is = holds_same rules (ticked h) after now 
 
 -- where units are not discarded by age, a tick changes nothing that is held
 pub not_timed : (rules : Rules) (h : Held) (s now : Sender) → rules.discard_age ≡ 0 → IsTicked s now → Holds rules h s → Holds rules h now
-not_timed rules h s now off a is = with_parts rules h now s.accepted s.bodies (first_open s) s.accepted_at (s.ticks + 1) s.dropped s.gone a.accepted a.bodies a.low a.accepted_at a.ticks a.dropped a.gone (record {
+not_timed rules h s now off a is = with_parts rules h now s.accepted s.bodies (first_open s) s.accepted_at (s.ticks + 1) s.dropped (discarded s) a.accepted a.bodies a.low a.accepted_at a.ticks a.dropped a.gone (record {
   buffer = is.buffer;
   window = is.window;
   sizes = is.sizes;
@@ -318,7 +318,7 @@ discarding_holds rules h after s to r p e to_is is = holds_same rules (discardin
   early = is.early;
   times = is.times;
   passed = omega (arith, to_is);
-  discarded = ap (λ n. capped (n + (to - h.passed))) is.discarded ∙ (capped_more (length s.gone) (to - h.passed) ∙ ap capped (sym (length-append (range from count) s.gone ∙ (ap (λ n. n + length s.gone) (length-range from count) ∙ omega (arith, to_is, is.passed)))));
+  discarded = ap (λ n. capped (n + (to - h.passed))) is.discarded ∙ (capped_more (discarded s) (to - h.passed) ∙ ap capped (omega (arith, to_is, is.passed, length-append (range from count) s.gone, length-range from count)));
 })
   where
     from : ℕ

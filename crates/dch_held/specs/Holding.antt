@@ -2,7 +2,7 @@
 use Rattle.std.specs.Prelude.{◌≡◌, ◌+◌, ◌-◌, ◌<◌, ◌≤◌, ℕ, List, [], ◌∷◌, length, take, drop, min, slice_index}
 use Rattle.dch_am.specs.Rules.{Rules}
 use Rattle.dch_am.specs.Bodies.{Body, ends_of, ends}
-use Rattle.dch_am.specs.Sender.{Sender, first_open, held}
+use Rattle.dch_am.specs.Sender.{Sender, discarded, first_open, held}
 use Rattle.dch_held.specs.Held.{Held, age_at, blocks_for, capped, sizes_of}
 
 -- how many units are acknowledged with all PDUs before their end marks
@@ -29,7 +29,7 @@ pub record Holds (rules : Rules) (h : Held) (s : Sender) : Type 0 where
   pub early : (i : ℕ) → slice_index s.accepted_at i ≤ s.ticks
   pub times : length s.accepted_at ≡ length s.accepted
   pub passed : h.passed ≡ s.dropped - released s
-  pub discarded : h.discarded ≡ capped (length s.gone)
+  pub discarded : h.discarded ≡ capped (discarded s)
 
 -- PDUs in front are acknowledged, so many
 pub record AreAcknowledged (pdus : ℕ) (s now : Sender) : Type 0 where
@@ -38,7 +38,7 @@ pub record AreAcknowledged (pdus : ℕ) (s now : Sender) : Type 0 where
   pub accepted_at : now.accepted_at ≡ s.accepted_at
   pub ticks : now.ticks ≡ s.ticks
   pub dropped : now.dropped ≡ s.dropped
-  pub gone : now.gone ≡ s.gone
+  pub gone : discarded now ≡ discarded s
   pub low : first_open now ≡ first_open s + pdus
 
 -- one tick has come
@@ -48,7 +48,7 @@ pub record IsTicked (s now : Sender) : Type 0 where
   pub accepted_at : now.accepted_at ≡ s.accepted_at
   pub ticks : now.ticks ≡ s.ticks + 1
   pub dropped : now.dropped ≡ s.dropped
-  pub gone : now.gone ≡ s.gone
+  pub gone : discarded now ≡ discarded s
   pub low : first_open now ≡ first_open s
 
 -- nothing changed of which what is held tells
@@ -58,5 +58,5 @@ pub record IsAlike (s now : Sender) : Type 0 where
   pub accepted_at : now.accepted_at ≡ s.accepted_at
   pub ticks : now.ticks ≡ s.ticks
   pub dropped : now.dropped ≡ s.dropped
-  pub gone : now.gone ≡ s.gone
+  pub gone : discarded now ≡ discarded s
   pub low : first_open now ≡ first_open s

@@ -2,7 +2,8 @@ ghost use Rattle.std.specs.Prelude.{◌≡◌, ◌+◌, ◌<◌, ◌≤◌, ◌=
 ghost use Rattle.dch_am.specs.Status.{runs};
 ghost use Rattle.dch_inorder.specs.Lines.{handed, nothing, passed, run_on, with_body};
 ghost use Rattle.dch_units.specs.Taking.{handed_of, written};
-ghost use Rattle.dch_window.specs.Places.{body_in, front, is_kept, laid, put, vacant};
+ghost use Rattle.dch_am.specs.Contents.{body_in};
+ghost use Rattle.dch_window.specs.Places.{front, is_kept, laid, put, vacant};
 
 use crate::reading::{greater_trim, read_on, run_on};
 use dch_bits::NoMemory;

@@ -1,5 +1,6 @@
 use Rattle.std.proofs.Common.{◌≡◌, ◌∙◌, ap}
-use Rattle.dch_window.specs.Places.{body_in, front, put}
+use Rattle.dch_am.specs.Contents.{body_in}
+use Rattle.dch_window.specs.Places.{front, put}
 use Rattle.dch_inorder.specs.Lines.{line, run_on, with_body}
 use Rattle.dch_inorder.proofs.Ordered.{idle_is}
 use Rattle.dch_inorder.proofs.line.Line.keep.Goals as goal
