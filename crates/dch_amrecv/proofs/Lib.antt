@@ -4,3 +4,4 @@ pub mod Whole
 pub mod Settling
 pub mod Events
 pub mod Tells
+pub mod Handing

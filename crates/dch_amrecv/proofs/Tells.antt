@@ -12,7 +12,8 @@ use Rattle.dch_window.specs.Places.{is_kept, vacant}
 use Rattle.dch_amrecv.specs.Holding.{Holding, after_telling, fields_told, gaps, is_due, lsn_told, numbered, pairs_told, plain_due, some_ack}
 use Rattle.dch_am.specs.Rules.{rules_of}
 use Rattle.dch_amrecv.specs.Standing.{Stands, said, sent_ack}
-use Rattle.dch_amrecv.specs.Texts.{IsHeard, IsTold, text_told, told_text}
+use Rattle.dch_am.specs.Texts.{IsHeard, IsTold, told_text}
+use Rattle.dch_amrecv.specs.Texts.{text_told}
 use Rattle.dch_am.specs.Status.{Told}
 use Rattle.dch_status.specs.Reading.{status_of as fields_in}
 use Rattle.dch_status.specs.Writing.{IsText, mrw_ack_text, status_text}

@@ -29,6 +29,10 @@ pub record Holding : Type 0 where
 abbrev pub opened : AmRules → ℕ → ℕ → Holding
 opened rules pdu reply = record { rules = rules; pdu = pdu; reply = reply; next = 0; kept = nothing rules.window; ack = None; owed = false; prohibit = 0; period = rules.status_period }
 
+-- no unit that ended waits
+abbrev pub is_settled : Holding → Bool
+is_settled h = length h.kept.units.waiting == 0
+
 -- what a PDU of this number is answered
 abbrev pub answer : ℕ → Holding → Taken
 answer sn h =
@@ -55,6 +59,10 @@ abbrev pub move_answer : ℕ → Holding → MrwTaken
 move_answer sn h =
     if nat_le (4096 - h.rules.window) (ahead h.next sn) then Old
     else (if nat_le h.rules.window (ahead h.next sn) then OutsideMove sn else Obeyed)
+
+-- another MRW_ACK is owed, or none
+abbrev pub with_mrw_ack : Option (ℕ × ℕ) → Holding → Holding
+with_mrw_ack ack h = record h { ack = ack }
 
 -- the MRW_ACK that answers it
 abbrev pub with_ack : ℕ → ℕ → Holding → Holding

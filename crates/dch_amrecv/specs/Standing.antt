@@ -1,5 +1,6 @@
 -- When what a running receiver holds stands for all that came to it (TS 25.322 9.4).
 use Rattle.std.specs.Prelude.{◌≡◌, ◌+◌, ◌≤◌, ℕ, zero, suc, List, [], ◌∷◌, Bool, true, false, length, map, drop, take, Option, Some, None, ◌==◌, if◌then◌else◌}
+use Rattle.dch_rlcpdu.specs.declared.handed.Handed.{Handed}
 use Rattle.dch_am.specs.Bodies.{Body, Reading}
 use Rattle.dch_am.specs.Numbers.{has, wrapped}
 use Rattle.dch_am.specs.Status.{MrwAck, Told, fields_of}
@@ -53,6 +54,11 @@ pub record Stands (h : Holding) (given : ℕ) (r : Receiver) : Type 0 where
   pub owed : h.owed ≡ r.owed
   pub prohibit : h.prohibit ≡ r.prohibit
   pub period : h.period ≡ r.period
+
+-- how many units were handed up after an answer
+abbrev pub given_after : Option Handed → ℕ → ℕ
+given_after None given = given
+given_after (Some answer) given = given + 1
 
 -- what is told, as the fields of a status
 abbrev pub said : Option Told → Option (List Field)

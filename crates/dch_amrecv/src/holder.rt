@@ -1,6 +1,6 @@
 ghost use Rattle.std.specs.Prelude.{◌≡◌, ◌+◌, ◌*◌, ◌<◌, ◌≤◌, ◌==◌, [], ◌∷◌, All, IfOk, Some, length, take, true};
 ghost use Rattle.dch_units.specs.Taking.{handed_of, written};
-ghost use Rattle.dch_window.specs.Places.{body_in};
+ghost use Rattle.dch_am.specs.Contents.{body_in};
 ghost use Rattle.dch_amrecv.specs.Holding.{after_answer, after_move, after_telling, after_tick, after_unit, answer, fields_told, is_due, lsn_told, move_answer, opened, pairs_told, plain_due};
 ghost use Rattle.dch_am.specs.Status.{fits};
 ghost use Rattle.dch_status.specs.Reading.{status_of};

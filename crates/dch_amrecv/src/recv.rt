@@ -1,14 +1,16 @@
-ghost use Rattle.std.specs.Prelude.{◌≡◌, ◌+◌, ◌*◌, ◌<◌, ◌≤◌, ◌==◌, ℕ, [], IfOk, Some, length, true};
+ghost use Rattle.std.specs.Prelude.{◌≡◌, ◌≢◌, ◌+◌, ◌*◌, ◌<◌, ◌≤◌, ◌==◌, ℕ, [], IfNone, IfOk, Some, drop, length, true};
+ghost use Rattle.dch_am.specs.declared.answers.MrwTaken.TheVariants.{Obeyed, Old};
+ghost use Rattle.dch_am.specs.declared.answers.Taken.TheVariants.{Duplicate, Outside};
 ghost use Rattle.dch_am.specs.Moves.{after_control as after_moves, control_answer as moves_answer};
 ghost use Rattle.dch_am.specs.Receiver.{Receiver, after_pdu, opened_receiver, taken};
 ghost use Rattle.dch_am.specs.Telling.{after_telling as after_told, is_due as is_told, tells_now, tick_receiver};
-ghost use Rattle.dch_window.specs.Places.{body_in};
+ghost use Rattle.dch_am.specs.Contents.{body_in};
 ghost use Rattle.dch_units.specs.Taking.{handed_of, written};
 ghost use Rattle.dch_status.specs.Reading.{status_of};
-ghost use Rattle.dch_amrecv.specs.Holding.{after_unit, is_due, opened};
+ghost use Rattle.dch_amrecv.specs.Holding.{after_unit, is_due, is_settled, opened, with_mrw_ack, with_owed};
 ghost use Rattle.dch_am.specs.Rules.{rules_of};
-ghost use Rattle.dch_amrecv.specs.Standing.{IsSame, Stands, said};
-ghost use Rattle.dch_amrecv.specs.Texts.{IsHeard, IsTold};
+ghost use Rattle.dch_amrecv.specs.Standing.{IsSame, Stands, given_after, said};
+ghost use Rattle.dch_am.specs.Texts.{IsHeard, IsTold};
 
 use crate::holder::Holder;
 use crate::moves::last_move;
@@ -51,12 +53,15 @@ impl AmRecv {
     /// Takes a PDU (TS 25.322 11.3.3). All units that ended before it have been handed up. Marks and octets of the body are together
     /// at most two fewer than the octets of a PDU.
     pub fn pdu(&mut self, sn: u16, poll: bool, body: &Body<'_>) -> Taken
-        requires settled { self.old.kept.units.waiting ≡ [] }
+        requires settled { is_settled self.old ≡ true }
         requires number { sn < 4096 }
         requires small { length body.now.marks + length body.now.octets + 2 ≤ self.old.pdu }
         ensures answer { (buffer given : ℕ) (r : Receiver) → Stands self.old given r → result ≡ taken (rules_of buffer self.old.rules) r sn }
         ensures stands { (buffer given : ℕ) (r : Receiver) → Stands self.old given r →
             Stands self.new given (after_pdu (rules_of buffer self.old.rules) (taken (rules_of buffer self.old.rules) r sn) r sn poll (body_in body.now)) }
+        // a duplicate with the poll bit has a status owed, and nothing else
+        ensures duplicate { result ≡ Duplicate → self.new ≡ with_owed poll self.old }
+        ensures outside { result ≡ Outside → self.new ≡ self.old }
         ensures same { IsSame self.old self.new }
     {
         self.holder.pdu(sn, poll, body)
@@ -64,7 +69,8 @@ impl AmRecv {
 
     /// No unit that ended waits.
     pub fn settled(&self) -> bool
-        ensures value { result ≡ (length self.now.kept.units.waiting == 0) }
+        ensures value { result ≡ is_settled self.now }
+        ensures history { (given : ℕ) (r : Receiver) → Stands self.now given r → result ≡ (given == length r.reading.units) }
     {
         self.holder.settled()
     }
@@ -75,7 +81,11 @@ impl AmRecv {
         ensures answer { result ≡ handed_of self.old.kept.units.waiting }
         ensures unit { out.new ≡ written self.old.kept.units.waiting out.old }
         ensures rest { self.new ≡ after_unit self.old }
-        ensures stands { (given : ℕ) (r : Receiver) → 0 < length self.old.kept.units.waiting → Stands self.old given r → Stands self.new (given + 1) r }
+        ensures none { IfNone result (self.new ≡ self.old) }
+        // it is the next of the receiver's units
+        ensures next { (given : ℕ) (r : Receiver) → Stands self.old given r → result ≡ handed_of (drop given r.reading.units) }
+        ensures octets { (given : ℕ) (r : Receiver) → Stands self.old given r → out.new ≡ written (drop given r.reading.units) out.old }
+        ensures stands { (given : ℕ) (r : Receiver) → Stands self.old given r → Stands self.new (given_after result given) r }
         ensures same { IsSame self.old self.new }
     {
         self.holder.next_unit(out)
@@ -107,9 +117,12 @@ impl AmRecv {
 
     /// Obeys the last MRW of a status (TS 25.322 11.6.3). All units that ended before it have been handed up.
     pub fn control(&mut self, status: &StatusView<'_>) -> MrwTaken
-        requires settled { self.old.kept.units.waiting ≡ [] }
+        requires settled { is_settled self.old ≡ true }
         ensures answer { (buffer given : ℕ) (r : Receiver) → Stands self.old given r → result ≡ moves_answer (rules_of buffer self.old.rules) r status.now }
         ensures stands { (buffer given : ℕ) (r : Receiver) → Stands self.old given r → Stands self.new given (after_moves (rules_of buffer self.old.rules) r status.now) }
+        // an old MRW is answered, and nothing else
+        ensures old { result ≡ Old → self.new ≡ with_mrw_ack self.new.ack self.old }
+        ensures unchanged { result ≢ Obeyed → result ≢ Old → self.new ≡ self.old }
         ensures same { IsSame self.old self.new }
     {
         match last_move(status) {

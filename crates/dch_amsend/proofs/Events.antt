@@ -38,7 +38,8 @@ use Rattle.dch_unsent.proofs.Fills.{fills_is}
 use Rattle.dch_unsent.proofs.Room.{room_waits}
 use Rattle.dch_amsend.specs.Counting.{builds_of}
 use Rattle.dch_amsend.specs.Framing.{framed}
-use Rattle.dch_amsend.specs.Outgoing.{IsOutgoing, Outgoing, available_of, new_ends, next_pdu, pdu_of_choice, with_line}
+use Rattle.dch_am.specs.Texts.{next_pdu, pdu_of_choice}
+use Rattle.dch_amsend.specs.Outgoing.{IsOutgoing, Outgoing, available_of, new_ends, with_line}
 use Rattle.dch_amsend.proofs.Counting.{counts, no_more}
 use Rattle.dch_amsend.proofs.Framing.{framed_is}
 

@@ -1,4 +1,5 @@
 pub mod Counting
+pub mod Due
 pub mod Framing
 pub mod Events
 pub mod Sending

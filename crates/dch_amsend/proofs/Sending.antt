@@ -10,9 +10,10 @@ use Rattle.dch_am.specs.declared.answers.StatusTaken.TheVariants.{Taken, Outside
 use Rattle.dch_am.specs.Acknowledging.{after_ack, after_acks, after_answer, after_fields, after_telling_of, all_names, ended_at, ends_discard, lsn_of, status_answer, tells, told}
 use Rattle.dch_am.specs.Bodies.{ends_of, is_empty, next_body}
 use Rattle.dch_am.specs.Building.{Choice, Again, New, Last, NoPdu, after_build, after_choice, anew, body_at, choice}
-use Rattle.dch_am.specs.Discards.{after_mrw, after_tick, can_take, discards, discards_at, due_by_age, due_by_sending, mrw_due, place_from, sent_enough, tick_sender}
+use Rattle.dch_am.specs.Discards.{after_moving, after_mrw, after_tick, can_take, discards, discards_at, due_by_age, due_by_sending, mrw_due, place_from, sent_enough, tick_sender}
+use Rattle.dch_am.specs.Texts.{IsMoved, IsMrw}
 use Rattle.dch_am.specs.Rules.{Rules, rules_of}
-use Rattle.dch_am.specs.Sender.{Discard, Sender, after_offer, blocks, first_open, held, next_new, offered}
+use Rattle.dch_am.specs.Sender.{Discard, Sender, after_offer, blocks, discarded, first_open, held, next_new, offered}
 use Rattle.dch_held.specs.Held.{Held}
 use Rattle.dch_held.specs.Holding.{AreAcknowledged, Holds, IsAlike, IsTicked}
 use Rattle.dch_held.proofs.Holding.{holds_as}
@@ -27,7 +28,7 @@ use Rattle.dch_sent.specs.Standing.{IsRunning, timed, timer_of}
 use Rattle.dch_sent.specs.declared.line.Running.{Running}
 use Rattle.dch_status.specs.Fields.{Field, NoMoreField, WindowField, AckField, ListField, BitmapField, MrwField, MrwAckField}
 use Rattle.dch_amsend.specs.Outgoing.{IsOutgoing, Outgoing, new_ends}
-use Rattle.dch_amsend.specs.Standing.{IsMoved, IsMrw, Sending, Stands, after_moving}
+use Rattle.dch_amsend.specs.Standing.{Sending, Stands}
 
 -- a status changes neither units nor PDUs nor what is counted of them
 record Unchanged (s now : Sender) : Type 0 where
@@ -36,7 +37,7 @@ record Unchanged (s now : Sender) : Type 0 where
   accepted_at : now.accepted_at ≡ s.accepted_at
   ticks : now.ticks ≡ s.ticks
   dropped : now.dropped ≡ s.dropped
-  gone : now.gone ≡ s.gone
+  gone : discarded now ≡ discarded s
 
 unchanged_itself : (s : Sender) → Unchanged s s
 unchanged_itself s = record { accepted = refl; bodies = refl; accepted_at = refl; ticks = refl; dropped = refl; gone = refl }

@@ -1,14 +1,12 @@
 -- What a sender of the acknowledged mode has sent and has still to send (TS 25.322 9.4), and when it stands for a sender over numbers
 -- without wrap.
-use Rattle.std.specs.Prelude.{◌≡◌, ◌+◌, ◌-◌, ◌<◌, ℕ, List, length, min, Option, Some, None}
+use Rattle.std.specs.Prelude.{◌≡◌, ◌+◌, ◌-◌, ◌<◌, ℕ, Bool, length, min, nat_lt, Option, Some, None}
 use Rattle.dch_flight.specs.Flights.{at, wanted_in}
-use Rattle.dch_am.specs.Numbers.{wrapped}
 use Rattle.dch_am.specs.Rules.{Rules}
-use Rattle.dch_am.specs.Bodies.{carried, ends_of, marks_of, next_body}
+use Rattle.dch_am.specs.Bodies.{ends_of, next_body}
 use Rattle.dch_am.specs.Cuts.{IsCut}
 use Rattle.dch_am.specs.Sender.{Sender, first_open}
-use Rattle.dch_am.specs.Building.{Choice, Again, New, Last, NoPdu, body_at, body_of_choice, choice, number_of, polls_at}
-use Rattle.dch_rlcpdu.specs.Am.{am_pdu}
+use Rattle.dch_am.specs.Building.{Choice, Again, New, Last, NoPdu, body_at}
 use Rattle.dch_rlcum.specs.Sending.{Sending, builds}
 use Rattle.dch_sent.specs.Line.{Line}
 use Rattle.dch_sent.specs.Standing.{Stands}
@@ -28,6 +26,10 @@ with_line l v = record { size = v.size; line = l; waiting = v.waiting }
 abbrev pub available_of : Outgoing → ℕ
 available_of v = min 64 (builds_of (min 64 (wanted_in v.line.flown)) (min (v.line.window - length v.line.flown) (builds 64 v.waiting.pdu v.waiting.mark_start v.waiting.units)) v.line.owed (length v.line.flown))
 
+-- a PDU can be built
+abbrev pub can_build : Outgoing → Bool
+can_build v = nat_lt 0 (available_of v)
+
 -- it stands for this sender, whose PDUs have d octets behind the header
 pub record IsOutgoing (rules : Rules) (d : ℕ) (v : Outgoing) (s : Sender) : Type 0 where
   pub size : v.size ≡ d + 2
@@ -36,13 +38,6 @@ pub record IsOutgoing (rules : Rules) (d : ℕ) (v : Outgoing) (s : Sender) : Ty
   pub room : v.waiting.buffer ≡ rules.buffer
   pub cut : IsCut s.accepted s.unsent s.bodies
   pub flown : (i : ℕ) → i < length v.line.flown → Has d (at v.line.flown i) (body_at s.bodies (first_open s + i))
-
--- the next PDU: its number in 12 bits, its poll bit, its marks and its octets
-abbrev pub pdu_of_choice : Rules → ℕ → Sender → Choice → List ℕ
-pdu_of_choice rules d s c = am_pdu (wrapped (number_of c s)) (polls_at c rules d s) (marks_of d (body_of_choice c d s)) (carried (body_of_choice c d s)) (d + 2)
-
-abbrev pub next_pdu : Rules → ℕ → Sender → List ℕ
-next_pdu rules d s = pdu_of_choice rules d s (choice rules s)
 
 -- how many units end in it, where it is a new one
 abbrev pub new_ends : ℕ → Sender → Choice → Option ℕ

@@ -1,8 +1,9 @@
-ghost use Rattle.std.specs.Prelude.{◌≡◌, ◌+◌, ◌-◌, ◌<◌, ◌≤◌, ◌∷◌, ℕ, is_some, true, IfOk, IfSome, Some, length};
+ghost use Rattle.std.specs.Prelude.{◌≡◌, ◌≢◌, ◌+◌, ◌-◌, ◌<◌, ◌≤◌, ◌&&◌, ◌||◌, ◌∷◌, ℕ, is_some, true, IfOk, IfSome, Some, length, nat_lt};
 ghost use Rattle.dch_flight.specs.Flights.{at};
 ghost use Rattle.dch_bits.specs.declared.offer.Offer.TheVariants.{Accepted};
+ghost use Rattle.dch_am.specs.declared.answers.StatusTaken.TheVariants.{Taken};
 ghost use Rattle.dch_am.specs.Acknowledging.{after_fields, status_answer};
-ghost use Rattle.dch_am.specs.Building.{after_build, after_choice, available, body_of_choice, choice, New};
+ghost use Rattle.dch_am.specs.Building.{after_build, after_choice, available, body_of_choice, choice, gives, New};
 ghost use Rattle.dch_am.specs.Bodies.{ends_of, next_body};
 ghost use Rattle.dch_am.specs.Discards.{after_mrw, discards_at, mrw_due};
 ghost use Rattle.dch_am.specs.Numbers.{wrapped};
@@ -17,7 +18,8 @@ ghost use Rattle.dch_status.specs.Fields.{mrw_fields};
 ghost use Rattle.dch_status.specs.Reading.{status_of};
 ghost use Rattle.dch_status.specs.Writing.{IsText, mrw_text};
 ghost use Rattle.dch_amsend.specs.Framing.{framed};
-ghost use Rattle.dch_amsend.specs.Outgoing.{IsOutgoing, available_of, more_of, new_ends, next_pdu, pdu_of_choice, with_line};
+ghost use Rattle.dch_am.specs.Texts.{next_pdu, pdu_of_choice};
+ghost use Rattle.dch_amsend.specs.Outgoing.{IsOutgoing, available_of, can_build, more_of, new_ends, with_line};
 
 use crate::frame::write_frame;
 use dch_am::StatusTaken;
@@ -77,6 +79,7 @@ impl Outgoing {
     pub fn offer(&mut self, unit: &[u8]) -> Offer
         ensures size { self.new.size ≡ self.old.size }
         ensures line { self.new.line ≡ self.old.line }
+        ensures refused { result ≢ Accepted → self.new ≡ self.old }
         ensures history { (rules : Rules) (d : ℕ) (s : Sender) → IsOutgoing rules d self.old s → offered rules s unit.now ≡ Accepted → (result ≡ Accepted) × IsOutgoing rules d self.new (after_offer Accepted s unit.now) }
     {
         self.waiting.offer(unit)
@@ -106,6 +109,41 @@ impl Outgoing {
         builds.min(64) as u16
     }
 
+    /// A PDU can be built.
+    pub fn is_due(&self) -> bool
+        ensures value { result ≡ can_build self.now }
+        ensures history { (rules : Rules) (d : ℕ) (s : Sender) → IsOutgoing rules d self.now s → result ≡ gives rules s }
+    {
+        self.can_build()
+    }
+
+    fn can_build(&self) -> bool
+        ensures { result ≡ can_build self.now }
+    {
+        self.line.is_wanted() || self.has_unrequested()
+    }
+
+    /// A PDU can be built that isn't requested: a new one, or the last one again.
+    fn has_unrequested(&self) -> bool
+        ensures { result ≡ ((nat_lt (length self.now.line.flown) self.now.line.window && is_unsent self.now.waiting.units) || (self.now.line.owed && nat_lt 0 (length self.now.line.flown))) }
+    {
+        self.has_new() || self.has_last()
+    }
+
+    /// A new PDU can be built: unsent matter is left, and the window has room.
+    fn has_new(&self) -> bool
+        ensures { result ≡ (nat_lt (length self.now.line.flown) self.now.line.window && is_unsent self.now.waiting.units) }
+    {
+        self.line.len() < self.line.window() && self.waiting.is_left()
+    }
+
+    /// The last PDU can be built again: a poll is owed.
+    fn has_last(&self) -> bool
+        ensures { result ≡ (self.now.line.owed && nat_lt 0 (length self.now.line.flown)) }
+    {
+        self.line.is_owed() && self.line.len() > 0
+    }
+
     /// How many PDUs are in flight.
     pub fn len(&self) -> usize
         ensures count { result ≡ length self.now.line.flown }
@@ -123,7 +161,7 @@ impl Outgoing {
 
     /// Builds the next PDU. Answers how many units end in it, where it is a new one.
     pub fn build(&mut self, out: &mut [u8]) -> Option<u8>
-        requires some { 0 < available_of self.old }
+        requires due { can_build self.old ≡ true }
         requires size { length out.old ≡ self.old.size }
         ensures size { self.new.size ≡ self.old.size }
         ensures window { self.new.line.window ≡ self.old.line.window }
@@ -196,6 +234,7 @@ impl Outgoing {
         ensures size { self.new.size ≡ self.old.size }
         ensures window { self.new.line.window ≡ self.old.line.window }
         ensures fewer { length self.new.line.flown ≤ length self.old.line.flown }
+        ensures outside { result ≢ Taken → self.new ≡ self.old }
         ensures history { (rules : Rules) (d : ℕ) (s : Sender) → IsOutgoing rules d self.old s →
             (result ≡ status_answer rules s status.now) × IsOutgoing rules d self.new (after_fields rules s status.now) }
     {

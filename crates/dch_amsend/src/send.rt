@@ -1,15 +1,17 @@
-ghost use Rattle.std.specs.Prelude.{◌≡◌, ◌<◌, ◌≤◌, ◌&&◌, ◌||◌, not, ℕ, true, IfOk, is_some, length, nat_lt};
+ghost use Rattle.std.specs.Prelude.{◌≡◌, ◌≢◌, ◌<◌, ◌≤◌, ◌&&◌, ◌||◌, not, ℕ, true, IfOk, is_some, length, nat_lt};
+ghost use Rattle.dch_bits.specs.declared.offer.Offer.TheVariants.{Accepted};
+ghost use Rattle.dch_am.specs.declared.answers.StatusTaken.TheVariants.{Taken};
 ghost use Rattle.dch_am.specs.Acknowledging.{after_fields, status_answer};
-ghost use Rattle.dch_am.specs.Building.{after_build, available, body_of_choice, choice};
-ghost use Rattle.dch_am.specs.Discards.{discards, mrw_due, tick_sender};
+ghost use Rattle.dch_am.specs.Building.{after_build, available, body_of_choice, choice, gives};
+ghost use Rattle.dch_am.specs.Discards.{after_moving, discards, mrw_due, tick_sender};
 ghost use Rattle.dch_am.specs.Rules.{Rules, rules_of};
 ghost use Rattle.dch_am.specs.Sender.{Sender, after_offer, discarded, offered, opened_sender};
 ghost use Rattle.dch_am.specs.Short.{IsShort};
+ghost use Rattle.dch_am.specs.Texts.{IsMrw, next_pdu};
 ghost use Rattle.dch_held.specs.Held.{capped};
-ghost use Rattle.dch_sent.specs.Line.{is_due};
 ghost use Rattle.dch_sent.specs.Standing.{timed};
-ghost use Rattle.dch_amsend.specs.Outgoing.{available_of, next_pdu};
-ghost use Rattle.dch_amsend.specs.Standing.{IsMrw, IsSame, Stands, after_moving, room_in};
+ghost use Rattle.dch_amsend.specs.Outgoing.{available_of};
+ghost use Rattle.dch_amsend.specs.Standing.{IsSame, Stands, is_control_due, is_due, pdu_octets, room_in};
 
 use crate::outgoing::Outgoing;
 use dch_am::StatusTaken;
@@ -46,7 +48,7 @@ impl AmSend {
         requires from { 6 ≤ pdu }
         requires most { pdu ≤ 126 }
         requires window { rules.window ≤ 2048 }
-        ensures size { IfOk result (λ v. v.outgoing.size ≡ pdu) }
+        ensures size { IfOk result (λ v. pdu_octets v ≡ pdu) }
         ensures stands { IfOk result (λ v. Stands (rules_of buffer rules) v opened_sender) }
     {
         let outgoing = Outgoing::open(alloc, pdu, buffer, rules)?;
@@ -62,6 +64,7 @@ impl AmSend {
     /// beside those of the units that are held, which are all units that aren't acknowledged with all PDUs before their ends.
     pub fn offer(&mut self, unit: &[u8]) -> Offer
         ensures answer { (rules : Rules) (s : Sender) → Stands rules self.old s → result ≡ offered rules s unit.now }
+        ensures refused { result ≢ Accepted → self.new ≡ self.old }
         ensures stands { (rules : Rules) (s : Sender) → Stands rules self.old s → Stands rules self.new (after_offer (offered rules s unit.now) s unit.now) }
         ensures same { IsSame self.old self.new }
     {
@@ -80,9 +83,18 @@ impl AmSend {
         }
     }
 
+    /// A PDU can be built.
+    pub fn is_due(&self) -> bool
+        ensures value { result ≡ is_due self.now }
+        ensures due { (rules : Rules) (s : Sender) → Stands rules self.now s → result ≡ gives rules s }
+    {
+        self.outgoing.is_due()
+    }
+
     /// How many PDUs could be built one after another, with no other event between, at most 64 (TS 25.322 11.3.2).
     pub fn available(&self) -> u16
         ensures value { result ≡ available_of self.now.outgoing }
+        ensures due { nat_lt 0 result ≡ is_due self.now }
         ensures available { (rules : Rules) (s : Sender) → Stands rules self.now s → result ≡ available rules (room_in self.now) s }
     {
         self.outgoing.available()
@@ -90,8 +102,8 @@ impl AmSend {
 
     /// Builds the next PDU: the lowest requested one, else a new one, else the last one again for an owed poll.
     pub fn build(&mut self, out: &mut [u8])
-        requires some { 0 < available_of self.old.outgoing }
-        requires size { length out.old ≡ self.old.outgoing.size }
+        requires due { is_due self.old ≡ true }
+        requires size { length out.old ≡ pdu_octets self.old }
         ensures pdu { (rules : Rules) (s : Sender) → Stands rules self.old s → out.new ≡ next_pdu rules (room_in self.old) s }
         // it says all that it holds
         ensures short { (rules : Rules) (s : Sender) → Stands rules self.old s → IsShort (room_in self.old) (body_of_choice (choice rules s) (room_in self.old) s) }
@@ -106,6 +118,7 @@ impl AmSend {
     /// Hears a status (TS 25.322 11.5.3): its MRW_ACKs act first; then the first number that isn't in the window refuses it whole.
     pub fn status(&mut self, status: &StatusView<'_>) -> StatusTaken
         ensures answer { (rules : Rules) (s : Sender) → Stands rules self.old s → result ≡ status_answer rules s status.now }
+        ensures outside { result ≢ Taken → self.new ≡ self.old }
         ensures stands { (rules : Rules) (s : Sender) → Stands rules self.old s → Stands rules self.new (after_fields rules s status.now) }
         ensures same { IsSame self.old self.new }
     {
@@ -166,7 +179,7 @@ impl AmSend {
 
     /// An MRW is due, which tells the receiver of discarded units (TS 25.322 11.6.2).
     pub fn control_due(&self) -> bool
-        ensures value { result ≡ is_due self.now.outgoing.line.running }
+        ensures value { result ≡ is_control_due self.now }
         ensures due { (rules : Rules) (s : Sender) → Stands rules self.now s → result ≡ mrw_due s.discard }
     {
         self.outgoing.mrw_due()
@@ -174,8 +187,8 @@ impl AmSend {
 
     /// Writes the MRW that is due.
     pub fn write_control(&mut self, out: &mut [u8])
-        requires due { is_due self.old.outgoing.line.running ≡ true }
-        requires size { length out.old ≡ self.old.outgoing.size }
+        requires due { is_control_due self.old ≡ true }
+        requires size { length out.old ≡ pdu_octets self.old }
         ensures mrw { (rules : Rules) (s : Sender) → Stands rules self.old s → IsMrw out.new s.discard }
         ensures stands { (rules : Rules) (s : Sender) → Stands rules self.old s → Stands rules self.new (after_moving rules s s.discard) }
         ensures same { IsSame self.old self.new }

@@ -9,3 +9,4 @@ pub mod Sending
 pub mod Picking
 pub mod Ticking
 pub mod Keeping
+pub mod Refusing

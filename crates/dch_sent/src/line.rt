@@ -1,6 +1,7 @@
-ghost use Rattle.std.specs.Prelude.{ℕ, Some, true, ◌≡◌, ◌+◌, ◌-◌, ◌<◌, ◌≤◌, ◌++◌, ◌∷◌, false, IfOk, is_some, length, min, slice_set};
+ghost use Rattle.std.specs.Prelude.{ℕ, Some, true, ◌≡◌, ◌≢◌, ◌+◌, ◌-◌, ◌<◌, ◌≤◌, ◌++◌, ◌∷◌, false, IfOk, is_some, length, min, nat_lt, slice_set};
 ghost use Rattle.dch_flight.specs.Flights.{at, built, front_acked, wanted_in};
 ghost use Rattle.dch_said.specs.Sayings.{said_by};
+ghost use Rattle.dch_am.specs.declared.answers.StatusTaken.TheVariants.{Taken};
 ghost use Rattle.dch_am.specs.Acknowledging.{after_fields, status_answer};
 ghost use Rattle.dch_am.specs.Discards.{after_mrw, discards_at, mrw_due};
 ghost use Rattle.dch_am.specs.Rules.{Rules, rules_of};
@@ -102,6 +103,13 @@ impl Line {
         self.flight.wanted(most)
     }
 
+    /// A PDU is wanted.
+    pub fn is_wanted(&self) -> bool
+        ensures { result ≡ nat_lt 0 (wanted_in self.now.flown) }
+    {
+        self.flight.is_wanted()
+    }
+
     /// How many PDUs may be in flight.
     pub fn window(&self) -> usize
         ensures count { result ≡ self.now.window }
@@ -136,6 +144,7 @@ impl Line {
     pub fn hear(&mut self, status: &StatusView<'_>) -> StatusTaken
         ensures answer { result ≡ answer_of (said_by status.now) self.old }
         ensures after { self.new ≡ after_hearing (said_by status.now) self.old }
+        ensures outside { result ≢ Taken → self.new ≡ self.old }
         ensures kept { AreKept self.old.flown self.new.flown }
         // the same over numbers without wrap
         ensures history { (rules : Rules) (s : Sender) → Stands rules self.old s → (result ≡ status_answer rules s status.now) × Stands rules self.new (after_fields rules s status.now) }

@@ -1,6 +1,6 @@
 use Rattle.std.proofs.Common.{◌≡◌, ◌∙◌, ap, ap₂, subst, sym}
 use Rattle.dch_am.specs.Receiver.{after_pdu, taken}
-use Rattle.dch_window.specs.Places.{body_in}
+use Rattle.dch_am.specs.Contents.{body_in}
 use Rattle.dch_amrecv.specs.Holding.{after_answer, answer}
 use Rattle.dch_am.specs.Rules.{rules_of}
 use Rattle.dch_amrecv.specs.Standing.{IsSame, Stands}

@@ -1,9 +1,10 @@
-use Rattle.std.proofs.Common.{◌≡◌, ◌+◌, ◌-◌, ◌<◌, ◌∙◌, arith, ap, length, subst, sym, None, Some}
+use Rattle.std.proofs.Common.{◌≡◌, ◌+◌, ◌-◌, ◌<◌, ◌∙◌, arith, ap, length, subst, sym, true, None, Some}
+use Rattle.std.proofs.lemmas.Bool.{ltb-true}
 use Rattle.dch_am.specs.Bodies.{is_left}
 use Rattle.dch_am.specs.Building.{Again as Requested, New as Fresh, Last as Latest, choice}
 use Rattle.dch_am.specs.Numbers.{has}
 use Rattle.dch_am.specs.Sender.{first_open, next_new}
-use Rattle.dch_amsend.specs.Outgoing.{IsOutgoing, Outgoing, available_of}
+use Rattle.dch_amsend.specs.Outgoing.{IsOutgoing, Outgoing, available_of, can_build}
 use Rattle.dch_amsend.proofs.Counting.{last_is, last_not}
 use Rattle.dch_amsend.proofs.Events.{IsLast, again_goes, built_by, last_goes, none_goes, picked_again, picked_last}
 use Rattle.dch_amsend.proofs.outgoing.Outgoing.build.Goals as goal
@@ -42,4 +43,4 @@ returns-in-NoPdu-clause-history c = λ rules d s is.
     let v : Outgoing = record { size = c.self.inside.size; line = c.self.inside.line; waiting = c.self.inside.waiting } in
     let here : IsOutgoing rules d v s = subst (λ x. IsOutgoing rules d x s) (sym c.self.view_is) is in
     let left : c.is_left.result ≡ is_left s.unsent = c.is_left.ensures.history d s here.waiting in
-    absurd (none_goes rules d v s (subst (λ x. 0 < available_of x) (sym c.self.view_is) c.requires.some) here (sym (c.in-NoPdu.ensures.history rules s here.line left)))
+    absurd (none_goes rules d v s (ltb-true 0 (available_of v) (subst (λ x. can_build x ≡ true) (sym c.self.view_is) c.requires.due)) here (sym (c.in-NoPdu.ensures.history rules s here.line left)))

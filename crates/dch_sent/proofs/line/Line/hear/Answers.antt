@@ -5,6 +5,7 @@ use Rattle.dch_sent.specs.Line.{Line}
 use Rattle.dch_sent.specs.Standing.{AreKept, Stands}
 use Rattle.dch_sent.proofs.Hearing.{hears}
 use Rattle.dch_sent.proofs.Keeping.{hearing_kept}
+use Rattle.dch_sent.proofs.Refusing.{outside_same}
 use Rattle.dch_sent.proofs.line.Line.hear.Goals as goal
 
 pub returns-clause-history : goal.returns-clause-history
@@ -15,3 +16,6 @@ returns-clause-history c = λ rules s is. (
 
 pub returns-clause-kept : goal.returns-clause-kept
 returns-clause-kept c = subst (λ (l : Line). AreKept c.args.self.now.flown l.flown) (sym c.answer.ensures.after) (hearing_kept (said_by c.args.status.now) c.args.self.now)
+
+pub returns-clause-outside : goal.returns-clause-outside
+returns-clause-outside c = λ other. outside_same (said_by c.args.status.now) c.args.self.now c.answer.new.self c.answer.result c.answer.ensures.answer c.answer.ensures.after other

@@ -1,0 +1,20 @@
+use Rattle.std.proofs.Common.{◌∙◌, ◌&&◌, ◌||◌, Bool, ap, length, sym}
+use Rattle.std.specs.Prelude.{nat_lt}
+use Rattle.dch_rlcum.specs.Sending.{is_unsent}
+use Rattle.dch_amsend.specs.Outgoing.{Outgoing, can_build}
+use Rattle.dch_amsend.proofs.Due.{can_build_is}
+use Rattle.dch_amsend.proofs.outgoing.Outgoing.can_build.Goals as goal
+
+-- a PDU that isn't requested
+abbrev others : Outgoing → Bool
+others v = (nat_lt (length v.line.flown) v.line.window && is_unsent v.waiting.units) || (v.line.owed && nat_lt 0 (length v.line.flown))
+
+pub returns-then-is_wanted : goal.returns-then-is_wanted
+returns-then-is_wanted c =
+    let v : Outgoing = record { size = c.self.inside.size; line = c.self.inside.line; waiting = c.self.inside.waiting } in
+    c.if-is_wanted.true ∙ (ap (λ b. b || others v) (sym c.if-is_wanted.true ∙ c.is_wanted.ensures) ∙ (can_build_is v ∙ ap can_build c.self.view_is))
+
+pub returns-else-is_wanted : goal.returns-else-is_wanted
+returns-else-is_wanted c =
+    let v : Outgoing = record { size = c.self.inside.size; line = c.self.inside.line; waiting = c.self.inside.waiting } in
+    c.has_unrequested.ensures ∙ (ap others (sym c.self.view_is) ∙ (ap (λ b. b || others v) (sym c.if-is_wanted.false ∙ c.is_wanted.ensures) ∙ (can_build_is v ∙ ap can_build c.self.view_is)))
