@@ -4,14 +4,14 @@ use Rattle.dch_am.specs.Bodies.{ends}
 use Rattle.dch_am.specs.Numbers.{has}
 use Rattle.dch_am.specs.Sender.{discarded}
 use Rattle.dch_held.specs.Held.{capped}
-use Rattle.dch_entity.specs.declared.entity.Record.{Record}
+use Rattle.dch_pair.specs.declared.peer.Record.{Record}
 use Rattle.dch_pair.specs.declared.setup.End.{End as Side}
 use Rattle.dch_pair.specs.declared.setup.End.TheVariants.{First, Second}
 use Rattle.dch_am.specs.Rules.{Rules, rules_of}
 use Rattle.dch_pair.specs.declared.setup.PairSetup.{PairSetup}
 use Rattle.dch_pair.specs.declared.setup.PairEvent.{PairEvent}
 use Rattle.dch_pair.specs.declared.setup.PairEvent.TheVariants.{Offer as Offers, Build as Builds, Tick as Ticks}
-use Rattle.dch_pair.specs.Pair.{Arrive, At, Build, End, Event, Far, Lose, Near, Offer, Pair, Tick, after, gap_free, in_span, opened, picked}
+use Rattle.dch_amlaw.specs.Pair.{Arrive, At, Build, End, Event, Far, Lose, Near, Offer, Pair, Tick, after, gap_free, in_span, opened, picked}
 
 -- the octets of an offered unit lie in the octets
 abbrev pub IsInside : List ℕ → PairEvent → Type 0
@@ -70,9 +70,9 @@ record_of Second o = o.second
 
 -- that is what an end has done
 pub record IsRecord (r : Record) (e : End) : Type 0 where
-  pub accepted : r.accepted ≡ length e.sender.accepted
-  pub discarded : r.discarded ≡ capped (discarded e.sender)
-  pub units : r.units ≡ e.receiver.reading.units
+  pub accepted : r.accepted ≡ length e.entity.sender.accepted
+  pub discarded : r.discarded ≡ capped (discarded e.entity.sender)
+  pub units : r.units ≡ e.entity.receiver.reading.units
 
 -- that is the outcome of a pair
 pub record IsOutcome (o : Outcome) (p : Pair) : Type 0 where
@@ -82,8 +82,8 @@ pub record IsOutcome (o : Outcome) (p : Pair) : Type 0 where
 -- handed up at an end are those accepted units of the other end that were picked, in order; and each unit whose end mark lies below the
 -- lowest number that is missing is among them or was discarded
 pub record IsDelivered (from to : End) (units : List (List ℕ)) : Type 0 where
-  pub in_order : units ≡ picked from.sender.bodies to.spans 0 from.sender.accepted
-  pub none_lost : (i : ℕ) → i < ends (take (gap_free to) from.sender.bodies) → (in_span from.sender.bodies to.spans i ≡ true) ⊎ (has i from.sender.gone ≡ true)
+  pub in_order : units ≡ picked from.entity.sender.bodies to.spans 0 from.entity.sender.accepted
+  pub none_lost : (i : ℕ) → i < ends (take (gap_free to) from.entity.sender.bodies) → (in_span from.entity.sender.bodies to.spans i ≡ true) ⊎ (has i from.entity.sender.gone ≡ true)
 
 pub record AreDelivered (o : Outcome) (p : Pair) : Type 0 where
   pub to_second : IsDelivered p.near p.far o.second.units

@@ -2,14 +2,15 @@
 #![tactic(auto)]
 
 mod inside;
-mod laws;
 mod outcome;
+mod peer;
 mod run;
 mod running;
 mod setup;
+mod store;
 
+pub use dch_amlaw::in_order_law;
 pub use inside::are_inside;
-pub use laws::in_order_law;
 pub use outcome::PairEnd;
 pub use run::run_pair;
 pub use setup::{End, PairEvent, PairSetup};

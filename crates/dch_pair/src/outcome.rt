@@ -1,8 +1,8 @@
 ghost use Rattle.std.specs.Prelude.{◌≡◌, ◌<◌, Some, length, slice_get};
 ghost use Rattle.dch_pair.specs.Running.{record_of};
 
+use crate::peer::Record;
 use crate::setup::End;
-use dch_entity::Record;
 use std::marker::Model;
 
 /// What two ends have done with units.

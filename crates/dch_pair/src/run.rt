@@ -1,5 +1,5 @@
 ghost use Rattle.std.specs.Prelude.{◌≤◌, ℕ, All, IfOk, take};
-ghost use Rattle.dch_pair.specs.Pair.{IsSafe};
+ghost use Rattle.dch_amlaw.specs.Pair.{IsSafe};
 ghost use Rattle.dch_pair.specs.Running.{AreDelivered, IsInside, IsOutcome, history, pair_after, rules_in};
 
 use crate::outcome::PairEnd;

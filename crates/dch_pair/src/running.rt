@@ -1,27 +1,25 @@
 ghost use Rattle.std.specs.Prelude.{◌≡◌, ◌+◌, ◌<◌, ◌≤◌, ◌^◌, ◌∷◌, [], IfOk};
 ghost use Rattle.dch_am.specs.Rules.{Rules};
-ghost use Rattle.dch_entity.specs.Entities.{AreSizes, size_in, size_of};
-ghost use Rattle.dch_pair.specs.Pair.{Build, Far, Near, Pair, after};
+ghost use Rattle.dch_amlaw.specs.Pair.{Build, Far, Near, Pair, after};
 ghost use Rattle.dch_pair.specs.Running.{IsInside, by_first, end_of, fate, pair_after, rules_in, seen};
-ghost use Rattle.dch_pair.specs.Standing.{AreRunning};
+ghost use Rattle.dch_pair.specs.Standing.{AreRunning, AreSame, size_in, size_of};
 
+use crate::peer::Peer;
 use crate::setup::{End, PairEvent, PairSetup};
 use dch_bits::NoMemory;
-use dch_entity::Entity;
 use std::alloc::Global;
 use std::marker::Model;
 
 /// Two entities, of which each takes the PDUs of the other.
 #[derive(Drop)]
 pub struct Running {
-    pub first: Entity,
-    pub second: Entity,
+    pub first: Peer,
+    pub second: Peer,
 }
 
 impl Model for Running {
     ghost use Rattle.std.specs.Prelude.{◌≡◌};
-    ghost use Rattle.dch_entity.specs.Entities.{size_in, size_of};
-    ghost use Rattle.dch_pair.specs.Standing.{Running};
+    ghost use Rattle.dch_pair.specs.Standing.{Running, size_in, size_of};
 
     ghost Value = { Running };
 
@@ -41,8 +39,8 @@ impl Running {
         ensures history { IfOk result (λ v. AreRunning (rules_in setup.now) v.first v.second (pair_after setup.now [])) }
     {
         let (one, other) = (setup.first_pdu, setup.second_pdu);
-        let first = Entity::open(alloc, one, other, setup.buffer, setup.rules)?;
-        let second = Entity::open(alloc, other, one, setup.buffer, setup.rules)?;
+        let first = Peer::open(alloc, one, other, setup.buffer, setup.rules)?;
+        let second = Peer::open(alloc, other, one, setup.buffer, setup.rules)?;
         Ok(Running { first, second })
     }
 
@@ -76,16 +74,16 @@ fn side(event: PairEvent) -> End
 
 /// What is done at one of two ends.
 fn happen_at(
-    near: &mut Entity,
-    far: &mut Entity,
+    near: &mut Peer,
+    far: &mut Peer,
     octets: &[u8],
     event: PairEvent,
 ) -> Result<(), NoMemory>
     requires inside { IsInside octets.now event }
     requires room { near.old.accepted + 1 < 2 ^ 64 }
     requires fits { size_in far.old ≡ size_of near.old }
-    ensures near_sizes { AreSizes near.old near.new }
-    ensures far_sizes { AreSizes far.old far.new }
+    ensures near_same { AreSame near.old near.new }
+    ensures far_same { AreSame far.old far.new }
     ensures near_count { near.new.accepted ≤ near.old.accepted + 1 }
     ensures far_count { far.new.accepted ≡ far.old.accepted }
     ensures history { IfOk result (λ _. (rules : Rules) (p : Pair) → AreRunning rules near.old far.old p →
@@ -105,10 +103,10 @@ fn happen_at(
 }
 
 /// What is due is built, and arrives at once or is lost.
-fn build(near: &mut Entity, far: &mut Entity, arrives: bool) -> Result<(), NoMemory>
+fn build(near: &mut Peer, far: &mut Peer, arrives: bool) -> Result<(), NoMemory>
     requires fits { size_in far.old ≡ size_of near.old }
-    ensures near_sizes { AreSizes near.old near.new }
-    ensures far_sizes { AreSizes far.old far.new }
+    ensures near_same { AreSame near.old near.new }
+    ensures far_same { AreSame far.old far.new }
     ensures near_count { near.new.accepted ≡ near.old.accepted }
     ensures far_count { far.new.accepted ≡ far.old.accepted }
     ensures history { IfOk result (λ _. (rules : Rules) (p : Pair) → AreRunning rules near.old far.old p →

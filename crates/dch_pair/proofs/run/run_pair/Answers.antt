@@ -1,8 +1,8 @@
 use Rattle.std.proofs.Common.{take}
 use Rattle.dch_pair.specs.Running.{IsOutcome, history, pair_after, rules_in}
-use Rattle.dch_entity.proofs.Handing.{ok_more}
-use Rattle.dch_pair.proofs.History.{always_safe}
-use Rattle.dch_pair.proofs.Short.{delivered_is}
+use Rattle.dch_pair.proofs.Units.{ok_more}
+use Rattle.dch_amlaw.proofs.History.{always_safe}
+use Rattle.dch_pair.proofs.Delivered.{delivered_is}
 use Rattle.dch_pair.proofs.run.run_pair.Goals as goal
 
 pub returns-clause-delivered : goal.returns-clause-delivered

@@ -1,9 +1,9 @@
 use Rattle.std.proofs.Common.{subst, sym}
 use Rattle.dch_am.specs.Rules.{Rules}
-use Rattle.dch_pair.specs.Pair.{Pair, after, turned}
+use Rattle.dch_amlaw.specs.Pair.{Pair, after, turned}
 use Rattle.dch_pair.specs.Running.{by_first, seen}
 use Rattle.dch_pair.specs.Standing.{AreRunning, Running}
-use Rattle.dch_entity.proofs.Handing.{ok_more}
+use Rattle.dch_pair.proofs.Units.{ok_more}
 use Rattle.dch_pair.proofs.Meeting.{after-flipped, running_turned}
 use Rattle.dch_pair.proofs.running.Running.happen.Goals as goal
 
