@@ -1,20 +1,8 @@
-//! Tests of RLC: its public calls over values from outside. A crate with tests is proved twice, so they stand here together.
+//! Tests of PDUs, of the transparent and the unacknowledged mode, and of the pool of blocks. A crate with tests is proved twice, so they stand here together.
 #![tactic(auto)]
 
 #[cfg(test)]
-mod amrecv;
-#[cfg(test)]
-mod amsend;
-#[cfg(test)]
 mod filling;
-#[cfg(test)]
-mod flight;
-#[cfg(test)]
-mod held;
-#[cfg(test)]
-mod overdue;
-#[cfg(test)]
-mod pair;
 #[cfg(test)]
 mod pool;
 #[cfg(test)]
@@ -24,12 +12,4 @@ mod rlctm;
 #[cfg(test)]
 mod rlcum;
 #[cfg(test)]
-mod said;
-#[cfg(test)]
-mod sent;
-#[cfg(test)]
 mod status;
-#[cfg(test)]
-mod unsent;
-#[cfg(test)]
-mod window;

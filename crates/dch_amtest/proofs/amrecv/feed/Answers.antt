@@ -1,6 +1,6 @@
 use Rattle.std.proofs.Common.{arith}
 use Rattle.dch_window.proofs.Texts.{payload_size}
-use Rattle.dch_rlctest.proofs.amrecv.feed.Goals as goal
+use Rattle.dch_amtest.proofs.amrecv.feed.Goals as goal
 
 pub pdu-requires-clause-small : goal.pdu-requires-clause-small
 pdu-requires-clause-small c =
