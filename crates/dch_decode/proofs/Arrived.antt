@@ -11,11 +11,11 @@ use Rattle.dch_types.specs.declared.channel.Format.{Format}
 use Rattle.dch_types.specs.declared.channel.Trch.{Trch}
 use Rattle.dch_types.specs.Lengths.{crc_size, joined_bits, coded_bits, tti_bits}
 use Rattle.dch_crc.specs.Parity.{IsAttached}
-use Rattle.dch_coding.specs.Ttis.{IsCodedTti}
+use Rattle.dch_coding.specs.Ttis.{IsCodedTti, part}
 use Rattle.dch_accept.specs.Blocks.{Held, bits_of, block_at}
 use Rattle.dch_accept.specs.BlockLending.{with_bits}
 use Rattle.dch_accept.specs.Frames.{overwritten}
-use Rattle.dch_decode.specs.Read.{part, AreRead}
+use Rattle.dch_decode.specs.Read.{AreRead}
 use Rattle.dch_decode.specs.Copies.{AreCopies}
 use Rattle.dch_collision.specs.Clear.{HasNoCollision}
 use Rattle.dch_decode.specs.Received.{IsReceived, ArrivesAs}

@@ -8,7 +8,7 @@ use Rattle.dch_types.specs.declared.channel.Crc.{Crc}
 use Rattle.dch_types.specs.Lengths.{crc_size}
 use Rattle.dch_crc.specs.Parity.{IsAttached}
 use Rattle.dch_accept.specs.Blocks.{Held}
-use Rattle.dch_decode.specs.Read.{part}
+use Rattle.dch_coding.specs.Ttis.{part}
 
 -- a mark says whether the parity of block i fits
 abbrev IsMark : Crc → ℕ → List Bit → ℕ → Bool → Type 0

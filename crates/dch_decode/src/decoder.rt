@@ -6,7 +6,8 @@ ghost use Rattle.dch_types.specs.Lengths.{coded_block, coded_bits, joined_bits, 
 ghost use Rattle.dch_segment.specs.Segments.{plan_of, filler_of};
 ghost use Rattle.dch_coding.specs.Chain.{coded_of};
 ghost use Rattle.dch_trellis.specs.Nearest.{disagreement};
-ghost use Rattle.dch_decode.specs.Read.{part, IsRead, AreRead};
+ghost use Rattle.dch_decode.specs.Read.{IsRead, AreRead};
+ghost use Rattle.dch_coding.specs.Ttis.{part};
 ghost use Rattle.dch_decode.specs.Copies.{AreCopies};
 ghost use Rattle.dch_collision.specs.Clear.{HasNoCollision};
 

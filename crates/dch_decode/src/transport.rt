@@ -2,7 +2,7 @@ ghost use Rattle.std.specs.Prelude.{◌≡◌, ◌+◌, ◌*◌, ◌≤◌, ◌�
 ghost use Rattle.dch_bits.specs.declared.bit.Bit.{Bit};
 ghost use Rattle.dch_types.specs.Lengths.{crc_size};
 ghost use Rattle.dch_crc.specs.Parity.{IsAttached};
-ghost use Rattle.dch_decode.specs.Read.{part};
+ghost use Rattle.dch_coding.specs.Ttis.{part};
 
 use dch_bits::Bit;
 use dch_crc::{check, size};

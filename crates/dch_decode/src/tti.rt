@@ -4,7 +4,7 @@ ghost use Rattle.dch_bits.specs.declared.bit.Vote.{Vote};
 ghost use Rattle.dch_types.specs.Lengths.{crc_size, tti_bits};
 ghost use Rattle.dch_crc.specs.Parity.{IsAttached};
 ghost use Rattle.dch_accept.specs.Blocks.{Held, bits_of};
-ghost use Rattle.dch_decode.specs.Read.{part};
+ghost use Rattle.dch_coding.specs.Ttis.{part};
 ghost use Rattle.dch_decode.specs.Received.{IsReceived, ReadsCopies};
 
 use crate::decoder::Decoder;

@@ -1,5 +1,5 @@
 ghost use Rattle.std.specs.Prelude.{◌≡◌, ◌<◌, length};
-ghost use Rattle.dch_types.specs.Limits.{IsChannel, IsDownlink, IsFormat, IsSide, IsUplink};
+ghost use Rattle.dch_types.specs.Limits.{IsChannel, IsDownlink, IsFormat, IsFrames, IsSide, IsUplink};
 ghost use Rattle.dch_types.specs.Parts.{channel_at, format_at, format_number, side_of};
 
 use crate::channel::{Dir, Format, Side, Trch};
@@ -26,6 +26,17 @@ impl Side {
         ensures good { IsSide self.now → IsChannel result.now }
     {
         &self.channels.as_slice()[i]
+    }
+
+    /// The radio frames of the TTI of channel `i`: 1, 2, 4 or 8.
+    pub fn frames_of(&self, i: usize) -> u8
+        requires good { IsSide self.now }
+        requires channel { i < length self.now.channels }
+        ensures value { result ≡ (channel_at self.now i).frames }
+        ensures some { 0 < result }
+        ensures frames { IsFrames result }
+    {
+        self.channel(i).frames
     }
 
     /// The transport format indicator (TFI) of channel `i` in combination `c`: the number of its format (TS 25.302 7.1.8).

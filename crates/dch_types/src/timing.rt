@@ -1,9 +1,22 @@
-ghost use Rattle.std.specs.Prelude.{◌≡◌, ◌<◌, true};
-ghost use Rattle.dch_types.specs.Timing.{ends, set_frames, started, starts};
+ghost use Rattle.std.specs.Prelude.{◌≡◌, ◌<◌, ◌≤◌, true};
+ghost use Rattle.dch_types.specs.Limits.{IsSide};
+ghost use Rattle.dch_types.specs.Timing.{ends, has_set, set_frames, started, starts};
 
 use crate::channel::Side;
 
 impl Side {
+    /// Whether some channel belongs to an Iub frame set.
+    pub fn has_set(&self, set: u8) -> bool
+        ensures value { result ≡ has_set self.now set }
+        ensures small { IsSide self.now → result ≡ true → set ≤ 7 }
+    {
+        let mut found = false;
+        for i in 0..self.channels.len() {
+            found = found || self.channels.as_slice()[i].set == set;
+        }
+        found
+    }
+
     /// The radio frames of a TTI of the channels of an Iub frame set; 0 where no channel belongs to it.
     pub fn set_frames(&self, set: u8) -> u8
         ensures { result ≡ set_frames self.now set }

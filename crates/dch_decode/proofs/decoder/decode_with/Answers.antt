@@ -7,7 +7,8 @@ use Rattle.dch_types.specs.Lengths.{coded_block}
 use Rattle.dch_segment.specs.Segments.{plan_of, filler_of}
 use Rattle.dch_segment.specs.declared.cut.Plan.{Plan}
 use Rattle.dch_coding.specs.Chain.{code_block}
-use Rattle.dch_decode.specs.Read.{part, IsRead}
+use Rattle.dch_decode.specs.Read.{IsRead}
+use Rattle.dch_coding.specs.Ttis.{part}
 use Rattle.dch_decode.proofs.Blocks.{all_read, plan_short, plan_uncoded, plan_room}
 use Rattle.dch_decode.proofs.decoder.decode_with.Goals as goal
 

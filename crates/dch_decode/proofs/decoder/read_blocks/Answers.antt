@@ -4,7 +4,8 @@ use Rattle.dch_bits.specs.declared.bit.Bit.{Bit}
 use Rattle.dch_bits.specs.declared.bit.Vote.{Vote}
 use Rattle.dch_types.specs.declared.channel.Coding.{Coding}
 use Rattle.dch_segment.specs.declared.cut.Plan.{Plan}
-use Rattle.dch_decode.specs.Read.{part, IsRead}
+use Rattle.dch_decode.specs.Read.{IsRead}
+use Rattle.dch_coding.specs.Ttis.{part}
 use Rattle.dch_segment.specs.Segments.{filler_of}
 use Rattle.dch_decode.proofs.Parts.{part_fits, length_slice}
 use Rattle.dch_decode.proofs.Blocks.{read_here, read_earlier}

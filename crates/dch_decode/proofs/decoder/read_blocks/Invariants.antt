@@ -1,5 +1,6 @@
 use Rattle.std.proofs.Common.{◌≡◌, ◌<◌, ℕ}
-use Rattle.dch_decode.specs.Read.{part, IsRead}
+use Rattle.dch_decode.specs.Read.{IsRead}
+use Rattle.dch_coding.specs.Ttis.{part}
 use Rattle.dch_segment.specs.Segments.{filler_of}
 use Rattle.dch_decode.proofs.decoder.read_blocks.Given as goal
 

@@ -2,7 +2,7 @@ use Rattle.std.proofs.Common.{◌≡◌, ◌+◌, ◌-◌, ◌*◌, ◌≤◌, �
 use borrow.Rule.Slice.PartMut.{put_mid}
 use Rattle.dch_bits.specs.declared.bit.Bit.{Bit}
 use Rattle.dch_types.specs.Lengths.{crc_size}
-use Rattle.dch_decode.specs.Read.{part}
+use Rattle.dch_coding.specs.Ttis.{part}
 use Rattle.dch_decode.proofs.Parts.{part_fits, part-put_here, part-put_earlier, length_slice}
 use Rattle.dch_decode.proofs.tti.write_blocks.Goals as goal
 

@@ -1,6 +1,6 @@
 use Rattle.std.proofs.Common.{◌≡◌, ◌+◌, ◌<◌, ℕ, take}
 use Rattle.dch_types.specs.Lengths.{crc_size}
-use Rattle.dch_decode.specs.Read.{part}
+use Rattle.dch_coding.specs.Ttis.{part}
 use Rattle.dch_decode.proofs.tti.write_blocks.Given as goal
 
 abbrev pub invariant-loop-i : goal.invariant-loop-i
