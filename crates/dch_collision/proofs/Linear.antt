@@ -5,10 +5,10 @@ use Rattle.std.proofs.lemmas.List.Sums.{sum_by-cons}
 use Rattle.std.proofs.lemmas.Bool.Decides.{leb_tells}
 use Rattle.dch_bits.specs.declared.bit.Bit.{Bit}
 use Rattle.dch_bits.specs.declared.bit.Bit.TheVariants.{Zero, One}
-use Rattle.dch_bits.specs.Bits.{number_of, plus}
+use Rattle.dch_bits.specs.Bits.{number_of, plus, bit_of_number}
 use Rattle.dch_conv.specs.declared.rate.Rate.{Rate}
 use Rattle.dch_conv.specs.declared.rate.Rate.TheVariants.{Half, Third}
-use Rattle.dch_conv.specs.Conv.{outputs, taps, input, coded, bit_of, coded_bit, coded_length, encoded}
+use Rattle.dch_conv.specs.Conv.{outputs, taps, input, coded, coded_bit, coded_length, encoded}
 use Rattle.dch_conv.proofs.Codes.{encoded-at, coded_bit-at}
 use Rattle.dch_trellis.specs.Nearest.{IsBlock}
 
@@ -54,23 +54,23 @@ sum_by-sum f g h parts (d ∷ ds) = omega (arith, sum_by-cons f d ds, sum_by-con
 coded-sum : (rate : Rate) (a b : List Bit) (k t : ℕ) → coded rate (sum a b) k t ≡ (coded rate a k t + coded rate b k t) % 2
 coded-sum rate a b k t = omega (arith, sum_by-sum (input (sum a b) k) (input a k) (input b k) (input-sum a b k) (taps rate t))
 
-bit_of-same : (m n : ℕ) → m < 2 → n < 2 → bit_of m ≡ bit_of n → m ≡ n
-bit_of-same zero zero low high same = refl
-bit_of-same zero (suc zero) low high same = cc
-bit_of-same (suc zero) zero low high same = cc
-bit_of-same (suc zero) (suc zero) low high same = refl
-bit_of-same (suc (suc m)) n low high same = absurd (omega arith)
-bit_of-same zero (suc (suc n)) low high same = absurd (omega arith)
-bit_of-same (suc zero) (suc (suc n)) low high same = absurd (omega arith)
+bit_of_number-same : (m n : ℕ) → m < 2 → n < 2 → bit_of_number m ≡ bit_of_number n → m ≡ n
+bit_of_number-same zero zero low high same = refl
+bit_of_number-same zero (suc zero) low high same = cc
+bit_of_number-same (suc zero) zero low high same = cc
+bit_of_number-same (suc zero) (suc zero) low high same = refl
+bit_of_number-same (suc (suc m)) n low high same = absurd (omega arith)
+bit_of_number-same zero (suc (suc n)) low high same = absurd (omega arith)
+bit_of_number-same (suc zero) (suc (suc n)) low high same = absurd (omega arith)
 
 -- where two codes agree that of the sum is zero
 coded_bit-sum : (rate : Rate) (a b : List Bit) (i : ℕ) → coded_bit rate a i ≡ coded_bit rate b i → coded_bit rate (sum a b) i ≡ Zero
 coded_bit-sum rate a b i same =
     let k : ℕ = i / outputs rate in
     let t : ℕ = i % outputs rate in
-    let equal : coded rate a k t ≡ coded rate b k t = bit_of-same (coded rate a k t) (coded rate b k t) (omega arith) (omega arith) same in
+    let equal : coded rate a k t ≡ coded rate b k t = bit_of_number-same (coded rate a k t) (coded rate b k t) (omega arith) (omega arith) same in
     let none : coded rate (sum a b) k t ≡ 0 = omega (arith, coded-sum rate a b k t, equal) in
-    ap bit_of none
+    ap bit_of_number none
 
 pub encoded-sum : (rate : Rate) (size : ℕ) (a b : List Bit) (i : ℕ) → length a ≡ size → length b ≡ size → i < coded_length rate size → get_or (encoded rate a) i Zero ≡ get_or (encoded rate b) i Zero → get_or (encoded rate (sum a b)) i Zero ≡ Zero
 encoded-sum rate size a b i first second within same =
@@ -106,7 +106,7 @@ input-now block k =
     (λ (before : (nat_le 0 k ≡ false) × (k < 0)). absurd (omega (arith, before.1)))
     (leb_tells 0 k)
 
-bit-number : (x : Bit) → bit_of (number_of x % 2) ≡ x
+bit-number : (x : Bit) → bit_of_number (number_of x % 2) ≡ x
 bit-number Zero = refl
 bit-number One = refl
 
@@ -150,7 +150,7 @@ pub encoded-start : (rate : Rate) (size k t at : ℕ) (block : List Bit) → IsB
 encoded-start rate size k t at block shape inside within place =
     encoded-at rate block at (let P : ℕ → Type 0 = λ n. at < coded_length rate n in subst P (sym shape.sized) (omega (arith, place, start-inside rate size k t inside within)))
     ∙ coded_bit-at rate block k t at within place
-    ∙ ap bit_of (coded-start rate t size k block within shape)
+    ∙ ap bit_of_number (coded-start rate t size k block within shape)
     ∙ bit-number (get_or block k Zero)
 
 pub encoded-first : (rate : Rate) (size k : ℕ) (block : List Bit) → IsBlock size k block → k < size → get_or (encoded rate block) (outputs rate * k) Zero ≡ get_or block k Zero
@@ -173,4 +173,4 @@ encoded-zeros rate n i within =
     let k : ℕ = i / outputs rate in
     let t : ℕ = i % outputs rate in
     let none : sum_by (input (replicate n Zero) k) (taps rate t) ≡ 0 = sum_by-zero (input (replicate n Zero) k) (taps rate t) (zero_everywhere (input (replicate n Zero) k) (input-zeros n k) (taps rate t)) in
-    encoded-at rate (replicate n Zero) i within ∙ ap (λ n. bit_of (n % 2)) none
+    encoded-at rate (replicate n Zero) i within ∙ ap (λ n. bit_of_number (n % 2)) none

@@ -32,7 +32,7 @@ if_some None up here = here
 pub record AreFlags (sent : ℕ → ℕ) (shape : Shape) (n : ℕ) (sent_flags : List Bool) : Type 0 where
   pub whole : shape.plan.blocks * coded_block shape.coding shape.plan.size ≤ n
   pub room : n ≤ length sent_flags
-  pub told : AreSentFlags sent (take n sent_flags)
+  pub shown : AreSentFlags sent (take n sent_flags)
 
 flag_is : (sent : ℕ → ℕ) (shape : Shape) (n : ℕ) (sent_flags : List Bool) (r t : ℕ) → AreFlags sent shape n sent_flags → r < shape.plan.blocks → t < coded_block shape.coding shape.plan.size
     → get_or sent_flags (r * coded_block shape.coding shape.plan.size + t) false ≡ nat_lt 0 (sent (r * coded_block shape.coding shape.plan.size + t))
@@ -40,7 +40,7 @@ flag_is sent shape n sent_flags r t flags row place =
     let j : ℕ = r * coded_block shape.coding shape.plan.size + t in
     let inside : j < shape.plan.blocks * coded_block shape.coding shape.plan.size = bit_inside r shape.plan.blocks (coded_block shape.coding shape.plan.size) t (shape.plan.blocks * coded_block shape.coding shape.plan.size) refl row place in
     let below : j < n = omega (arith, inside, flags.whole) in
-    sym (get_or-take n sent_flags j false below) ∙ flags.told j (omega (arith, below, length-take-le n sent_flags flags.room))
+    sym (get_or-take n sent_flags j false below) ∙ flags.shown j (omega (arith, below, length-take-le n sent_flags flags.room))
 
 positive : (m : ℕ) → nat_lt 0 m ≡ true → 0 < m
 positive m is = grind (arith, nat_tests)
@@ -87,7 +87,7 @@ hit_in_channel side sent i f sequence room hit is before = record {
 pub clear_channel : (side : Side) (sent : Copies) (i : ℕ) → IsSide side → i < length side.channels → ((f : ℕ) → f < length (channel_at side i).formats → IsClearFormat side sent i f) → IsClearChannel side sent i
 clear_channel side sent i good inside each f sequence legal = each f (no_format side i f sequence good inside legal) sequence legal
 
--- and the collision that is told is the first of the direction
+-- and the collision that is shown is the first of the direction
 pub found_of : (side : Side) (sent : Copies) (i : ℕ) (sequence : List ℕ) (room : List Bit) (hit : FormatCollision) (found : Found) → found ≡ record { channel = i; format = hit.format; sequence = sequence; block = hit.block; second = block_of hit room }
     → i < length side.channels → IsCollisionInChannel side sent i sequence room hit → ((j : ℕ) → j < i → IsClearChannel side sent j) → Finds side sent (Some found)
 found_of side sent i sequence room hit found is there hits before =

@@ -17,7 +17,7 @@ use Rattle.dch_inter.specs.Places.{frame_of, place_of}
 use Rattle.dch_inter.proofs.FirstColumns.{frame_of-below}
 use Rattle.dch_frame.proofs.Carried.{whole_rows}
 use Rattle.dch_segment.specs.declared.cut.Plan.{Plan}
-use Rattle.dch_segment.specs.Segments.{plan_of}
+use Rattle.dch_segment.specs.Segments.{plan_of, filler_of}
 use Rattle.dch_match.specs.declared.pattern.Kind.{Kind}
 use Rattle.dch_match.specs.Patterns.{copies}
 use Rattle.dch_match.specs.Matched.{matched, frame_pattern}
@@ -27,7 +27,7 @@ use Rattle.dch_legal.specs.Sequences.{IsLegal}
 use Rattle.dch_puncture.specs.Copies.{frame_size, bits_in, padded_in, frame_copies, uplink_copies, downlink_copies}
 use Rattle.dch_puncture.specs.Counted.{removes, removes_below, uplink_punctures, punctures_below, downlink_punctures}
 use Rattle.dch_puncture.proofs.Sizes.{some_frames}
-use Rattle.dch_collision.specs.Clear.{filler_of, block_copies, joined_in, IsClearFormat}
+use Rattle.dch_collision.specs.Clear.{block_copies, joined_in, IsClearFormat}
 use Rattle.dch_collision.proofs.Whole.{whole_none}
 
 neither : (a b : Bool) → (a || b) ≡ false → (a ≡ false) × (b ≡ false)

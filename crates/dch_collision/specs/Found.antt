@@ -5,11 +5,11 @@ use Rattle.dch_types.specs.declared.channel.Coding.{Coding}
 use Rattle.dch_types.specs.declared.channel.Side.{Side}
 use Rattle.dch_types.specs.Parts.{channel_at}
 use Rattle.dch_segment.specs.declared.cut.Plan.{Plan}
-use Rattle.dch_segment.specs.Segments.{plan_of}
+use Rattle.dch_segment.specs.Segments.{plan_of, filler_of}
 use Rattle.dch_legal.specs.Sequences.{IsLegal, IsBefore}
 use Rattle.dch_collision.specs.Collisions.{IsFirstCollision}
 use Rattle.dch_collision.specs.declared.found.Found.{Found}
-use Rattle.dch_collision.specs.Clear.{filler_of, block_copies, joined_in, Copies, IsClearBlock, IsClearUnder, IsClearFormat, IsClearChannel, IsClearSide}
+use Rattle.dch_collision.specs.Clear.{block_copies, joined_in, Copies, IsClearBlock, IsClearUnder, IsClearFormat, IsClearChannel, IsClearSide}
 
 -- a block is the first in text order that collides with the block of zeros in the place of code block r
 abbrev pub IsFirstInBlock : Coding → Plan → (ℕ → ℕ) → ℕ → List Bit → Type 0

@@ -1,4 +1,4 @@
--- Blocks whose code is not told from that of zeros, by the place of their first One, and the votes that find them.
+-- Blocks whose code is not shown from that of zeros, by the place of their first One, and the votes that find them.
 use Rattle.std.specs.Prelude.{◌≡◌, ◌+◌, ◌*◌, ◌<◌, ◌&&◌, not, ℕ, List, Bool, true, false, length, sum_by, slice_index_or}
 use Rattle.dch_bits.specs.declared.bit.Bit.{Bit}
 use Rattle.dch_bits.specs.declared.bit.Bit.TheVariants.{Zero, One}

@@ -88,7 +88,7 @@ fn is_punctured(rate: Rate, sent_flags: &[bool], k: usize) -> bool
     }
 }
 
-/// Looks for a block that is not told from zeros, with its first One as late as possible.
+/// Looks for a block that is not shown from zeros, with its first One as late as possible.
 fn last_start(
     trellis: &mut Trellis,
     rate: Rate,
@@ -115,7 +115,7 @@ fn last_start(
     false
 }
 
-/// Whether a block with its first One at bit `k` is not told from zeros; `out` becomes the first such block. All outputs
+/// Whether a block with its first One at bit `k` is not shown from zeros; `out` becomes the first such block. All outputs
 /// of that step are the bit itself, so none is sent, and a vote asks for a One in the first.
 fn starts(
     trellis: &mut Trellis,

@@ -1,77 +1,25 @@
-ghost use Rattle.std.specs.Prelude.{◌≡◌, ◌<◌, ◌≤◌, ℕ, List, None, length, take, IfOk, IfSome};
+ghost use Rattle.std.specs.Prelude.{◌≡◌, ◌<◌, ◌≤◌, ℕ, List, None, length, take, IfSome};
 ghost use Rattle.dch_types.specs.Limits.{IsDownlink};
 ghost use Rattle.dch_types.specs.Parts.{channel_at};
 ghost use Rattle.dch_match.specs.Downlinks.{IsDownlinkPlan};
 ghost use Rattle.dch_legal.specs.Sequences.{frames_of};
 ghost use Rattle.dch_puncture.specs.Copies.{downlink_copies, AreSentFlags};
-ghost use Rattle.dch_collision.specs.Clear.{IsClearUnder, IsClearFormat, IsClearChannel};
-ghost use Rattle.dch_collision.specs.Found.{Finds};
-ghost use Rattle.dch_collision.specs.Shapes.{IsFirstUnder, IsCollisionInFormat, IsCollisionInChannel, IsShape};
+ghost use Rattle.dch_collision.specs.Clear.{IsClearUnder, IsClearFormat};
+ghost use Rattle.dch_collision.specs.Shapes.{IsFirstUnder, IsCollisionInFormat, IsShape};
 
 use crate::blocks::first_collision;
 use crate::collider::Collider;
-use crate::found::{FormatCollision, Found, format_collision, keep};
+use crate::found::{FormatCollision, format_collision};
 use crate::search::Room;
 use crate::shape::{Shape, shape_of};
-use dch_bits::{Bit, NoMemory};
+use dch_bits::Bit;
 use dch_legal::first;
 use dch_match::DownlinkPlan;
 use dch_puncture::{downlink_punctures, downlink_sent_flags};
 use dch_types::Downlink;
-use std::alloc::Global;
-
-/// The first collision in the downlink.
-pub(crate) fn find(
-    alloc: Global,
-    room: &mut Room,
-    config: &Downlink,
-    plan: &DownlinkPlan,
-    block: &mut [Bit],
-) -> Result<Option<Found>, NoMemory>
-    requires good { IsDownlink config.now }
-    requires plan { IsDownlinkPlan config.now plan.now }
-    requires block { length block.old ≡ 131072 }
-    ensures { IfOk result (Finds config.now.side (downlink_copies config.now)) }
-{
-    let mut places = [0; 8];
-    for i in 0..config.side.channels.len() {
-        let i = i as u8;
-        let sequence = &mut places[..usize::from(config.side.channel(usize::from(i)).frames)];
-        if let Some(hit) = first_in_channel(room, config, plan, i, sequence, block) {
-            return Ok(Some(keep(alloc, i, &hit, sequence, block)?));
-        }
-    }
-    Ok(None)
-}
-
-/// The first collision in a channel. Its sequence is left in `sequence`.
-fn first_in_channel(
-    room: &mut Room,
-    config: &Downlink,
-    plan: &DownlinkPlan,
-    i: u8,
-    sequence: &mut [u16],
-    block: &mut [Bit],
-) -> Option<FormatCollision>
-    requires good { IsDownlink config.now }
-    requires plan { IsDownlinkPlan config.now plan.now }
-    requires channel { i < length config.now.side.channels }
-    requires room { length sequence.old ≡ frames_of config.now.side i }
-    requires block { length block.old ≡ 131072 }
-    ensures some { IfSome result (λ hit. IsCollisionInChannel config.now.side (downlink_copies config.now) i sequence.new block.new hit) }
-    ensures none { result ≡ None → IsClearChannel config.now.side (downlink_copies config.now) i }
-{
-    for f in 0..config.side.channel(usize::from(i)).formats.len() {
-        let f = f as u8;
-        if let Some(hit) = first_in_format(room, config, plan, i, f, sequence, block) {
-            return Some(hit);
-        }
-    }
-    None
-}
 
 /// The first collision in a format: under its first legal sequence, since the others remove the same bits.
-fn first_in_format(
+pub(crate) fn first_in_format(
     room: &mut Room,
     config: &Downlink,
     plan: &DownlinkPlan,

@@ -5,6 +5,7 @@
 mod blocks;
 mod coded;
 mod collider;
+mod direction;
 mod downlink;
 mod found;
 mod search;
@@ -14,5 +15,6 @@ mod uplink;
 mod votes;
 
 pub use collider::Collider;
+pub use direction::Direction;
 pub use found::Found;
 pub use search::Search;

@@ -1,16 +1,16 @@
-ghost use Rattle.std.specs.Prelude.{◌≡◌, length, IfOk};
-ghost use Rattle.dch_types.specs.Limits.{IsUplink, IsDownlink};
-ghost use Rattle.dch_match.specs.Downlinks.{IsDownlinkPlan};
-ghost use Rattle.dch_puncture.specs.Plans.{AreAllPlans};
-ghost use Rattle.dch_puncture.specs.Copies.{uplink_copies, downlink_copies};
-ghost use Rattle.dch_collision.specs.Found.{Finds};
+ghost use Rattle.std.specs.Prelude.{◌≡◌, ◌<◌, None, length, IfOk, IfSome};
 ghost use Rattle.dch_types.specs.declared.limits.TheConstants.{MAX_TTI_BITS};
+ghost use Rattle.dch_legal.specs.Sequences.{frames_of};
+ghost use Rattle.dch_collision.specs.Clear.{IsClearChannel};
+ghost use Rattle.dch_collision.specs.Directions.{IsPlanned, copies_in, side_in};
+ghost use Rattle.dch_collision.specs.Found.{Finds};
+ghost use Rattle.dch_collision.specs.Shapes.{IsCollisionInChannel};
 
 use crate::collider::Collider;
-use crate::found::Found;
+use crate::direction::Direction;
+use crate::found::{FormatCollision, Found, keep};
 use dch_bits::{Bit, NoMemory};
-use dch_match::{DownlinkPlan, UplinkPlan};
-use dch_types::{Downlink, MAX_TTI_BITS, Uplink};
+use dch_types::MAX_TTI_BITS;
 use std::alloc::Global;
 
 /// The memory of a search for collisions of code blocks.
@@ -45,34 +45,65 @@ impl Search {
         })
     }
 
-    /// The first collision in the uplink: by channel, format, legal sequence of combinations, and code block. `None` where no
-    /// two code blocks collide under any legal sequence.
-    pub fn uplink(
+    /// The first collision in a direction: by channel, format, legal sequence of combinations, and code block. `None` where no
+    /// two code blocks collide under any legal sequence. In the downlink all legal sequences of a format remove the same bits.
+    pub fn find(
         &mut self,
         alloc: Global,
-        config: &Uplink,
-        plans: &[UplinkPlan],
+        direction: Direction<'_>,
     ) -> Result<Option<Found>, NoMemory>
-        requires good { IsUplink config.now }
-        requires plans { AreAllPlans config.now plans.now }
-        ensures { IfOk result (Finds config.now.side (uplink_copies config.now)) }
+        requires { IsPlanned direction }
+        ensures { IfOk result (Finds (side_in direction.entry) (copies_in direction.entry)) }
     {
-        crate::uplink::find(alloc, &mut self.room, config, plans, &mut self.block)
+        find(alloc, &mut self.room, direction, &mut self.block)
     }
+}
 
-    /// The same of the downlink, where only the first legal sequence of a format has to be looked at.
-    pub fn downlink(
-        &mut self,
-        alloc: Global,
-        config: &Downlink,
-        plan: &DownlinkPlan,
-    ) -> Result<Option<Found>, NoMemory>
-        requires good { IsDownlink config.now }
-        requires plan { IsDownlinkPlan config.now plan.now }
-        ensures { IfOk result (Finds config.now.side (downlink_copies config.now)) }
-    {
-        crate::downlink::find(alloc, &mut self.room, config, plan, &mut self.block)
+fn find(
+    alloc: Global,
+    room: &mut Room,
+    direction: Direction<'_>,
+    block: &mut [Bit],
+) -> Result<Option<Found>, NoMemory>
+    requires planned { IsPlanned direction }
+    requires block { length block.old ≡ 131072 }
+    ensures { IfOk result (Finds (side_in direction.entry) (copies_in direction.entry)) }
+{
+    let side = direction.side();
+    let mut places = [0; 8];
+    for i in 0..side.channels.len() {
+        let sequence = &mut places[..usize::from(side.frames_of(i))];
+        let i = i as u8;
+        if let Some(hit) = first_in_channel(room, direction, i, sequence, block) {
+            return Ok(Some(keep(alloc, i, &hit, sequence, block)?));
+        }
     }
+    Ok(None)
+}
+
+/// The first collision in a channel. Its sequence is left in `sequence`.
+fn first_in_channel(
+    room: &mut Room,
+    direction: Direction<'_>,
+    i: u8,
+    sequence: &mut [u16],
+    block: &mut [Bit],
+) -> Option<FormatCollision>
+    requires planned { IsPlanned direction }
+    requires channel { i < length (side_in direction).channels }
+    requires room { length sequence.old ≡ frames_of (side_in direction) i }
+    requires block { length block.old ≡ 131072 }
+    ensures some { IfSome result (λ hit. IsCollisionInChannel (side_in direction.entry) (copies_in direction.entry) i sequence.new block.new hit) }
+    ensures none { result ≡ None → IsClearChannel (side_in direction.entry) (copies_in direction.entry) i }
+{
+    let side = direction.side();
+    for f in 0..side.channel(usize::from(i)).formats.len() {
+        let f = f as u8;
+        if let Some(hit) = direction.first_in_format(room, i, f, sequence, block) {
+            return Some(hit);
+        }
+    }
+    None
 }
 
 fn flags(alloc: Global, count: usize) -> Result<Vec<bool>, NoMemory>

@@ -1,77 +1,25 @@
-ghost use Rattle.std.specs.Prelude.{◌≡◌, ◌<◌, ◌≤◌, None, length, take, IfOk, IfSome};
+ghost use Rattle.std.specs.Prelude.{◌≡◌, ◌<◌, ◌≤◌, None, length, take, IfSome};
 ghost use Rattle.dch_types.specs.Limits.{IsUplink};
 ghost use Rattle.dch_types.specs.Parts.{channel_at};
 ghost use Rattle.dch_legal.specs.Sequences.{frames_of, IsLegal};
 ghost use Rattle.dch_puncture.specs.Plans.{AreAllPlans};
 ghost use Rattle.dch_puncture.specs.Copies.{uplink_copies, AreSentFlags};
-ghost use Rattle.dch_collision.specs.Clear.{IsClearUnder, IsClearFormat, IsClearChannel};
-ghost use Rattle.dch_collision.specs.Found.{Finds};
-ghost use Rattle.dch_collision.specs.Shapes.{IsFirstUnder, IsCollisionInFormat, IsCollisionInChannel, IsShape};
+ghost use Rattle.dch_collision.specs.Clear.{IsClearUnder, IsClearFormat};
+ghost use Rattle.dch_collision.specs.Shapes.{IsFirstUnder, IsCollisionInFormat, IsShape};
 
 use crate::blocks::first_collision;
 use crate::collider::Collider;
-use crate::found::{FormatCollision, Found, format_collision, keep};
+use crate::found::{FormatCollision, format_collision};
 use crate::search::Room;
 use crate::shape::{Shape, shape_of};
-use dch_bits::{Bit, NoMemory};
+use dch_bits::Bit;
 use dch_legal::{first, next};
 use dch_match::UplinkPlan;
 use dch_puncture::{uplink_punctures, uplink_sent_flags};
 use dch_types::Uplink;
-use std::alloc::Global;
-
-/// The first collision in the uplink.
-pub(crate) fn find(
-    alloc: Global,
-    room: &mut Room,
-    config: &Uplink,
-    plans: &[UplinkPlan],
-    block: &mut [Bit],
-) -> Result<Option<Found>, NoMemory>
-    requires good { IsUplink config.now }
-    requires plans { AreAllPlans config.now plans.now }
-    requires block { length block.old ≡ 131072 }
-    ensures { IfOk result (Finds config.now.side (uplink_copies config.now)) }
-{
-    let mut places = [0; 8];
-    for i in 0..config.side.channels.len() {
-        let i = i as u8;
-        let sequence = &mut places[..usize::from(config.side.channel(usize::from(i)).frames)];
-        if let Some(hit) = first_in_channel(room, config, plans, i, sequence, block) {
-            return Ok(Some(keep(alloc, i, &hit, sequence, block)?));
-        }
-    }
-    Ok(None)
-}
-
-/// The first collision in a channel. Its sequence is left in `sequence`.
-fn first_in_channel(
-    room: &mut Room,
-    config: &Uplink,
-    plans: &[UplinkPlan],
-    i: u8,
-    sequence: &mut [u16],
-    block: &mut [Bit],
-) -> Option<FormatCollision>
-    requires good { IsUplink config.now }
-    requires plans { AreAllPlans config.now plans.now }
-    requires channel { i < length config.now.side.channels }
-    requires room { length sequence.old ≡ frames_of config.now.side i }
-    requires block { length block.old ≡ 131072 }
-    ensures some { IfSome result (λ hit. IsCollisionInChannel config.now.side (uplink_copies config.now) i sequence.new block.new hit) }
-    ensures none { result ≡ None → IsClearChannel config.now.side (uplink_copies config.now) i }
-{
-    for f in 0..config.side.channel(usize::from(i)).formats.len() {
-        let f = f as u8;
-        if let Some(hit) = first_in_format(room, config, plans, i, f, sequence, block) {
-            return Some(hit);
-        }
-    }
-    None
-}
 
 /// The first collision in a format: under each legal sequence, if some of them removes bits.
-fn first_in_format(
+pub(crate) fn first_in_format(
     room: &mut Room,
     config: &Uplink,
     plans: &[UplinkPlan],

@@ -13,7 +13,7 @@ returns-clause-some c =
     (record {
       whole = omega (arith, c.requires.shape.whole);
       room = omega (arith, c.requires.shape.few, c.requires.shape.fits, c.flag.auto.sent_flags, c.requires.sent_flags);
-      told = c.flag.ensures sequence;
+      shown = c.flag.ensures sequence;
     }) first)
     c.first_collision.ensures.some
 
@@ -26,5 +26,5 @@ returns-clause-none c none sequence =
     (record {
       whole = omega (arith, c.requires.shape.whole);
       room = omega (arith, c.requires.shape.few, c.requires.shape.fits, c.flag.auto.sent_flags, c.requires.sent_flags);
-      told = c.flag.ensures sequence;
+      shown = c.flag.ensures sequence;
     }) (c.first_collision.ensures.none none)

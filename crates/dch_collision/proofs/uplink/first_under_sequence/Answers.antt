@@ -11,7 +11,7 @@ returns-clause-some c =
     let flags : AreFlags (sent c.args.i c.args.f c.args.sequence.now) shape shape.padded c.flag.new.sent_flags = record {
       whole = omega (arith, c.requires.shape.whole, c.requires.shape.fits);
       room = omega (arith, c.requires.shape.few, c.flag.auto.sent_flags, c.requires.sent_flags);
-      told = c.flag.ensures;
+      shown = c.flag.ensures;
     } in
     if_some c.first_collision.result (λ r first. found_under side sent c.args.i c.args.f shape.padded r c.args.sequence.now shape c.flag.new.sent_flags _ c.requires.shape flags first) c.first_collision.ensures.some
 
@@ -23,6 +23,6 @@ returns-clause-none c none =
     let flags : AreFlags (sent c.args.i c.args.f c.args.sequence.now) shape shape.padded c.flag.new.sent_flags = record {
       whole = omega (arith, c.requires.shape.whole, c.requires.shape.fits);
       room = omega (arith, c.requires.shape.few, c.flag.auto.sent_flags, c.requires.sent_flags);
-      told = c.flag.ensures;
+      shown = c.flag.ensures;
     } in
     clear_under side sent c.args.i c.args.f shape.padded c.args.sequence.now shape c.flag.new.sent_flags c.requires.shape flags (c.first_collision.ensures.none none)
