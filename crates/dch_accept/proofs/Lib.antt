@@ -2,4 +2,5 @@ pub mod Causes
 pub mod IdleFormats
 pub mod MorePlans
 pub mod Overwritten
+pub mod Sizes
 pub mod Unpacked

@@ -15,7 +15,8 @@ use Rattle.dch_collision.specs.Clear.{Copies, IsClear, IsClearSide}
 use Rattle.dch_collision.specs.Found.{IsFirstOf}
 use Rattle.dch_accept.specs.declared.refusal.Refusal.{Refusal}
 use Rattle.dch_accept.specs.declared.refusal.Refusal.TheVariants.{NoMemory, NoRate, Sequences, Collision}
-use Rattle.dch_accept.specs.Plans.{Planned, ArePlans}
+use Rattle.dch_accept.specs.Plans.{Planned}
+use Rattle.dch_puncture.specs.Plans.{ArePlans}
 
 -- at no frame size does the puncturing of combination c keep to its limit
 abbrev pub HasNoRate : Uplink → ℕ → Type 0

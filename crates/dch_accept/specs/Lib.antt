@@ -4,6 +4,7 @@ pub mod BlockRoom
 pub mod Blocks
 pub mod FrameLending
 pub mod FrameRoom
+pub mod Cells
 pub mod Frames
 pub mod HeldSets
 pub mod Padded

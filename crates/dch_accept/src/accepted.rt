@@ -1,37 +1,40 @@
 ghost use Rattle.std.specs.Prelude.{◌≡◌, ◌<◌, length, replicate, IfOk};
 ghost use Rattle.dch_bits.specs.declared.bit.Bit.TheVariants.{Zero};
-ghost use Rattle.dch_types.specs.Limits.{IsSide, IsUplink};
-ghost use Rattle.dch_types.specs.Parts.{side_of};
+ghost use Rattle.dch_types.specs.Limits.{IsChannel, IsFrames, IsSide, IsUplink};
+ghost use Rattle.dch_types.specs.Parts.{channel_at, side_of};
 ghost use Rattle.dch_config.specs.Good.{IsGood};
 ghost use Rattle.dch_config.specs.Bearers.{has_ct};
 ghost use Rattle.dch_match.specs.Uplinks.{IsPlan};
 ghost use Rattle.dch_match.specs.Downlinks.{IsDownlinkPlan};
 ghost use Rattle.dch_collision.specs.Clear.{IsClear};
-ghost use Rattle.dch_accept.specs.Plans.{plan_at};
-ghost use Rattle.dch_puncture.specs.Plans.{AreAllPlans};
+ghost use Rattle.dch_puncture.specs.Plans.{plan_at, AreAllPlans};
 ghost use Rattle.dch_accept.specs.Answers.{Accepts, IsSearched, Plans, count_of};
 ghost use Rattle.dch_accept.specs.Reports.{step_bytes};
 
 use crate::refusal::Refusal;
 use dch_bits::{Bit, NoMemory};
-use dch_collision::{Found, Search};
+use dch_collision::{Direction, Found, Search};
+use dch_frame::{Interleaver, UplinkInterleavers};
 use dch_match::{DownlinkPlan, MatchError, UplinkPlan, downlink, uplink};
 use dch_puncture::count;
-use dch_types::{Config, Dir, Sequence, Side, Uplink};
+use dch_types::{Config, Dir, Sequence, Side, Trch, Uplink};
 use std::alloc::Global;
 use std::marker::Model;
 
-/// A configuration that was accepted, with the plans of its rate matching.
+/// A configuration that was accepted, with the plans of its rate matching and the tables of its second interleavers.
 #[derive(Debug, Drop)]
 pub struct Accepted {
     config: Config,
     uplink: Sequence<UplinkPlan>,
     downlink: DownlinkPlan,
+    pub(crate) uplink_interleavers: UplinkInterleavers,
+    pub(crate) downlink_interleaver: Interleaver,
     count: u128,
 }
 
 impl Model for Accepted {
     ghost use Rattle.std.specs.Prelude.{◌≡◌};
+    ghost use Rattle.dch_types.specs.Lengths.{code_bits};
     ghost use Rattle.dch_accept.specs.Plans.{Planned, IsPlanned};
     ghost use Rattle.dch_accept.specs.Answers.{count_of};
 
@@ -39,7 +42,7 @@ impl Model for Accepted {
 
     ghost view = { λ a. record { config = a.config; uplink = a.uplink; downlink = a.downlink } };
 
-    ghost invariant = { λ a. IsPlanned (record { config = a.config; uplink = a.uplink; downlink = a.downlink }) × (a.count ≡ count_of a.config) };
+    ghost invariant = { λ a. IsPlanned (record { config = a.config; uplink = a.uplink; downlink = a.downlink }) × (a.downlink_interleaver ≡ code_bits a.config.downlink) × (a.count ≡ count_of a.config) };
 }
 
 /// The most code blocks that are looked at for collisions, each under all legal sequences.
@@ -63,10 +66,14 @@ pub fn accept(alloc: Global, config: Config) -> Result<Accepted, Refusal>
         return Err(Refusal::Sequences(count));
     }
     look_for_collisions(alloc, &config, uplink.as_slice(), &downlink)?;
+    let uplink_interleavers = UplinkInterleavers::open(alloc)?;
+    let downlink_interleaver = Interleaver::open(alloc, config.downlink.code_bits())?;
     Ok(Accepted {
         config,
         uplink,
         downlink,
+        uplink_interleavers,
+        downlink_interleaver,
         count,
     })
 }
@@ -99,10 +106,18 @@ fn look_for_collisions(
     ensures { IsSearched config.now result }
 {
     let mut search = Search::open(alloc)?;
-    if let Some(found) = search.uplink(alloc, &config.uplink, plans)? {
+    let uplink = Direction::Up {
+        config: &config.uplink,
+        plans,
+    };
+    if let Some(found) = search.find(alloc, uplink)? {
         return Err(collision(alloc, Dir::Up, found)?);
     }
-    if let Some(found) = search.downlink(alloc, &config.downlink, plan)? {
+    let downlink = Direction::Down {
+        config: &config.downlink,
+        plan,
+    };
+    if let Some(found) = search.find(alloc, downlink)? {
         return Err(collision(alloc, Dir::Down, found)?);
     }
     Ok(())
@@ -150,6 +165,25 @@ impl Accepted {
         ensures good { IsSide result.now }
     {
         self.config().side(dir)
+    }
+
+    /// A channel of a direction.
+    pub fn channel(&self, dir: Dir, channel: u8) -> &Trch
+        requires { channel < length (side_of self.now.config dir).channels }
+        ensures value { result.now ≡ channel_at (side_of self.now.config dir) channel }
+        ensures good { IsChannel result.now }
+    {
+        self.side(dir).channel(channel as usize)
+    }
+
+    /// The radio frames of a channel's TTI: 1, 2, 4 or 8.
+    pub fn frames_of(&self, dir: Dir, channel: u8) -> u8
+        requires { channel < length (side_of self.now.config dir).channels }
+        ensures value { result ≡ (channel_at (side_of self.now.config dir) channel).frames }
+        ensures some { 0 < result }
+        ensures frames { IsFrames result }
+    {
+        self.side(dir).frames_of(channel as usize)
     }
 
     /// The amounts of a radio frame in an uplink combination.

@@ -1,9 +1,8 @@
-ghost use Rattle.std.specs.Prelude.{◌≡◌, ◌≤◌, ◌*◌, ◌^◌, ◌<◌, [], length, replicate, IfOk};
+ghost use Rattle.std.specs.Prelude.{◌≡◌, ◌≤◌, ◌*◌, [], length, replicate, IfOk};
 ghost use Rattle.dch_bits.specs.declared.bit.Bit.TheVariants.{Zero};
 ghost use Rattle.dch_bits.specs.declared.bit.Trit.TheVariants.{Off};
 ghost use Rattle.std.specs.Borrow.{sem};
-ghost use Rattle.dch_config.specs.Good.{IsGood};
-ghost use Rattle.dch_accept.specs.Frames.{most_cells, tfci_bits, IsOpenedFor};
+ghost use Rattle.dch_accept.specs.Frames.{tfci_bits, IsOpenedFor};
 ghost use Rattle.dch_accept.specs.FrameLending.{LendsTfci, LendsCells};
 ghost use Rattle.dch_accept.specs.declared.frame.TheConstants.{MOST_TFCI};
 
@@ -54,7 +53,7 @@ impl PhyFrame {
         ensures empty { IfOk result (λ frame. frame.cells ≡ []) }
         ensures opened { IfOk result (IsOpenedFor accepted.now.config dir) }
     {
-        let room = most_cells(accepted.config(), dir);
+        let room = accepted.most_cells(dir);
         let bits = tfci_bits(accepted.config(), dir);
         Ok(PhyFrame {
             tfci: vec![in alloc; Bit::Zero; MOST_TFCI]?,
@@ -119,17 +118,5 @@ fn tfci_bits(config: &Config, dir: Dir) -> usize
     match dir {
         Dir::Down if config.downlink.sf < 128 => 120,
         Dir::Down | Dir::Up => 30,
-    }
-}
-
-/// The most cells of a radio frame of a direction.
-fn most_cells(config: &Config, dir: Dir) -> usize
-    requires { IsGood config.now }
-    ensures value { result ≡ most_cells config.now dir }
-    ensures small { result < 2 ^ 32 }
-{
-    match dir {
-        Dir::Up => config.uplink.largest as usize,
-        Dir::Down => config.downlink.frame_bits(),
     }
 }

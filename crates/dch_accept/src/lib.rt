@@ -3,6 +3,7 @@
 
 mod accepted;
 mod blocks;
+mod cells;
 mod clear;
 mod frame;
 mod refusal;

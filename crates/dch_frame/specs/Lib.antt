@@ -1,3 +1,4 @@
+pub mod Sizes
 pub mod Stages
 pub mod Votes
 pub mod Table

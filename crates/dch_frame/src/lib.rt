@@ -7,6 +7,7 @@ mod dematching;
 mod interleaver;
 mod matching;
 mod segments;
+mod uplink_interleavers;
 mod votes;
 
 pub use cells::show;
@@ -14,4 +15,5 @@ pub use dematching::rate_dematch;
 pub use interleaver::Interleaver;
 pub use matching::rate_match;
 pub use segments::{put_segment, segment};
+pub use uplink_interleavers::UplinkInterleavers;
 pub use votes::count_votes;

@@ -1,5 +1,6 @@
 ghost use Rattle.std.specs.Prelude.{◌≡◌, ◌≢◌, ◌*◌, ◌/◌, ◌%◌, ◌^◌, ◌<◌, ◌≤◌, ℕ, length, slice_index_or};
-ghost use Rattle.dch_inter.specs.Places.{IsFrames, first_column, frame_of, place_of};
+ghost use Rattle.dch_inter.specs.Places.{first_column, frame_of, place_of};
+ghost use Rattle.dch_types.specs.Limits.{IsFrames};
 ghost use Rattle.dch_frame.specs.Stages.{segment_place};
 
 use dch_inter::first;

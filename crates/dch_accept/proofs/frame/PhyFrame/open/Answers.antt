@@ -12,4 +12,4 @@ returns-clause-tfci c =
     ap (λ (items : List Bit). take bits.result items) (c.in_ok-vec.ensures.items_if_clones_equal (λ y same. same))
     ∙ take-replicate bits.result 120 Zero bits.ensures.small
     ∙ ap (λ (n : ℕ). replicate n Zero) bits.ensures.value
-    ∙ ap (λ (config : Config). replicate (tfci_bits config c.args.dir) Zero) c.config-2.ensures.value
+    ∙ ap (λ (config : Config). replicate (tfci_bits config c.args.dir) Zero) c.config.ensures.value
