@@ -8,6 +8,7 @@ use Rattle.std.proofs.Math.Nat.{mul-mod_right}
 use Rattle.dch_bits.specs.declared.bit.Bit.{Bit}
 use Rattle.dch_bits.specs.declared.bit.Bit.TheVariants.{Zero}
 use Rattle.dch_bits.specs.declared.bit.Trit.TheVariants.{Off}
+use Rattle.dch_types.specs.declared.channel.Dir.TheVariants.{Down}
 use Rattle.dch_types.specs.declared.channel.Side.{Side}
 use Rattle.dch_types.specs.Limits.{IsDownlink, IsFrames}
 use Rattle.dch_types.specs.Parts.{channel_at}
@@ -15,20 +16,19 @@ use Rattle.dch_inter.specs.Places.{first_of, first_back_of, frame_of, place_of}
 use Rattle.dch_inter.proofs.FirstColumns.{first_of-back, first_back_of-inside, frame_of-below, frame_place}
 use Rattle.dch_match.specs.declared.pattern.Pattern.{Pattern}
 use Rattle.dch_match.specs.Downlinks.{IsDownlinkPlan}
-use Rattle.dch_types.specs.Lengths.{frame_bits}
+use Rattle.dch_types.specs.Lengths.{code_bits, frame_bits}
 use Rattle.dch_match.specs.Patterns.{copies_below}
-use Rattle.dch_match.proofs.SharesLemmas.{part_le}
+use Rattle.dch_types.proofs.Sums.{part_le}
 use Rattle.dch_frame.specs.Stages.{as_cell, code_back, origin_of}
 use Rattle.dch_frame.proofs.Carried.{place_inside, rows_of, whole_rows}
 use Rattle.dch_frame.proofs.Codes.{code_back-inside, code_place-back}
 use Rattle.dch_accept.specs.Plans.{Planned}
-use Rattle.dch_rxframes.specs.RxFrames.{RxFrame, RxFrames, frame_at, tti_place}
+use Rattle.dch_rxframes.specs.RxFrames.{IsReaderOf, RxFrame, RxFrames, frame_at, tti_place}
 use Rattle.dch_ttibuf.specs.Loaded.{Loaded, loaded_at}
 use Rattle.dch_rxframes.proofs.Sent.{sent_number}
 use Rattle.dch_dlphy.specs.Frames.{IsFrame, frame_cell, multiplexed_cell, bits_before, bits_per_frame, sent_cell}
-use Rattle.dch_dlphy.specs.Kept.{AreRxFramesOf, codes_in}
-use Rattle.dch_dlphy.specs.Loaded.{code_length, filled_cell, matching_of}
-use Rattle.dch_dlphy.specs.Read.{received_cell, tti_cell, tti_pattern, bits_per_tti}
+use Rattle.dch_dlphy.specs.Loaded.{filled_cell, matching_of, tti_cells}
+use Rattle.dch_dlphy.specs.Read.{received_cell, tti_cell, tti_pattern}
 use Rattle.dch_dlphy.specs.Sent.{IsSentFrame, IsSentTti}
 use Rattle.dch_dlphy.proofs.Sent.{multiplexed_before, multiplexed_here}
 
@@ -60,7 +60,7 @@ kept_cell : (planned : Planned) (i n c : ℕ) (loaded : Loaded) (kept : RxFrame)
 unfolding frame_cell
 kept_cell planned i n c loaded kept sent p good inside =
     let ndata : ℕ = frame_bits planned.config.downlink in
-    let v : ℕ = code_length planned in
+    let v : ℕ = code_bits planned.config.downlink in
     let long : length sent.frame.cells ≡ ndata = sent.written.long in
     let some : 0 < v = omega (arith, good.some_bits) in
     let whole : ndata % v ≡ 0 = mul-mod_right v planned.config.downlink.codes in
@@ -86,15 +86,15 @@ frame_arrived planned i n c m places loaded kept sent good plan channel listed s
     ∙ ap (λ places. get_or loaded.cells (n * places + m) Off) size
 
 -- and so the cells of the TTI are those that were filled
-pub cell_arrived : (planned : Planned) (reader : RxFrames) (i f p : ℕ) (sequence : List ℕ) (blocks : List Bit) (sent : IsSentTti planned reader i f sequence blocks) → IsDownlink planned.config.downlink → IsDownlinkPlan planned.config.downlink planned.downlink → AreRxFramesOf planned reader
-    → i < length planned.config.downlink.side.channels → p < bits_per_tti planned i f → tti_cell planned reader i (bits_per_tti planned i f) p ≡ filled_cell (tti_pattern planned i f) sent.from.coded p
+pub cell_arrived : (planned : Planned) (reader : RxFrames) (i f p : ℕ) (sequence : List ℕ) (blocks : List Bit) (sent : IsSentTti planned reader i f sequence blocks) → IsDownlink planned.config.downlink → IsDownlinkPlan planned.config.downlink planned.downlink → IsReaderOf planned Down reader
+    → i < length planned.config.downlink.side.channels → p < tti_cells planned i f → tti_cell planned reader i (tti_cells planned i f) p ≡ filled_cell (tti_pattern planned i f) sent.from.coded p
 cell_arrived planned reader i f p sequence blocks sent good plan held channel inside =
     let side : Side = planned.config.downlink.side in
     let frames : ℕ = (channel_at side i).frames in
     let is : IsFrames frames = (good.side.channels i channel).frames in
     let some : 0 < frames = omega (arith, is) in
     let places : ℕ = (matching_of planned i f).cells in
-    let len : ℕ = bits_per_tti planned i f in
+    let len : ℕ = tti_cells planned i f in
     let whole : len ≡ places * frames = omega arith in
     let n : ℕ = frame_of frames len p in
     let m : ℕ = place_of frames len p in
@@ -102,7 +102,7 @@ cell_arrived planned reader i f p sequence blocks sent good plan held channel in
     let low : m < places = place_inside frames places len p is some whole inside in
     let frame = sent.frames n below in
     let c : ℕ = slice_index sequence n in
-    let size : bits_per_frame planned c i ≡ places = ap (λ f. (matching_of planned i f).cells) (sent_number side (IsFrame planned) (codes_in planned) i f n c sent.loaded _ frame sent.from.format channel) in
+    let size : bits_per_frame planned c i ≡ places = ap (λ f. (matching_of planned i f).cells) (sent_number planned Down (IsFrame planned) i f n c sent.loaded _ frame sent.from.format channel) in
     let listed : c < length side.combinations = (held.each (tti_place reader.cfn frames n) (mod_below _ 8 (omega arith))).listed c frame.found in
     let height : len / frames ≡ places = rows_of frames places len some whole in
     let place : n * places + m ≡ first_back_of frames len p = ap (λ rows. n * rows + m) (sym height) ∙ frame_place frames len p in

@@ -4,6 +4,7 @@ use Rattle.std.specs.Prelude.{slice_index}
 use Rattle.std.proofs.lemmas.List.{get_or-replicate, length-replicate}
 use Rattle.std.proofs.lemmas.Nat.{mod_below}
 use Rattle.dch_bits.specs.declared.bit.Bit.{Bit}
+use Rattle.dch_types.specs.declared.channel.Dir.TheVariants.{Down}
 use Rattle.dch_types.specs.declared.channel.Side.{Side}
 use Rattle.dch_types.specs.Limits.{IsDownlink, IsFrames}
 use Rattle.dch_types.specs.Parts.{channel_at, format_number}
@@ -13,10 +14,9 @@ use Rattle.dch_match.specs.Patterns.{copies}
 use Rattle.dch_legal.specs.Sequences.{IsLegal}
 use Rattle.dch_collision.specs.Clear.{HasNoCollision, IsClear, joined_in}
 use Rattle.dch_accept.specs.Plans.{Planned}
-use Rattle.dch_rxframes.specs.RxFrames.{RxFrames, tti_place}
+use Rattle.dch_rxframes.specs.RxFrames.{IsReaderOf, RxFrames, tti_place}
 use Rattle.dch_rxframes.proofs.Sent.{sent_number}
 use Rattle.dch_dlphy.specs.Frames.{IsFrame}
-use Rattle.dch_dlphy.specs.Kept.{AreRxFramesOf, codes_in}
 use Rattle.dch_dlphy.specs.Read.{tti_pattern}
 use Rattle.dch_dlphy.specs.Sent.{IsSentTti}
 
@@ -38,7 +38,7 @@ one_legal side i f c listed format =
     }
 
 -- so the format is one of those that acceptance looked at
-pub downlink_clear : (planned : Planned) (reader : RxFrames) (i f : ℕ) (sequence : List ℕ) (blocks : List Bit) → IsDownlink planned.config.downlink → IsDownlinkPlan planned.config.downlink planned.downlink → AreRxFramesOf planned reader → i < length planned.config.downlink.side.channels
+pub downlink_clear : (planned : Planned) (reader : RxFrames) (i f : ℕ) (sequence : List ℕ) (blocks : List Bit) → IsDownlink planned.config.downlink → IsDownlinkPlan planned.config.downlink planned.downlink → IsReaderOf planned Down reader → i < length planned.config.downlink.side.channels
     → IsSentTti planned reader i f sequence blocks → IsClear planned.config → HasNoCollision (channel_at planned.config.downlink.side i).coding (joined_in planned.config.downlink.side i f) (copies (tti_pattern planned i f).kind)
 downlink_clear planned reader i f sequence blocks good plan held channel sent clear =
     let side : Side = planned.config.downlink.side in
@@ -47,7 +47,7 @@ downlink_clear planned reader i f sequence blocks good plan held channel sent cl
     let frame = sent.frames 0 (omega (arith, is)) in
     let c : ℕ = slice_index sequence 0 in
     let listed : c < length side.combinations = (held.each (tti_place reader.cfn frames 0) (mod_below _ 8 (omega arith))).listed c frame.found in
-    let format : format_number side c i ≡ f = sent_number side (IsFrame planned) (codes_in planned) i f 0 c sent.loaded _ frame sent.from.format channel in
+    let format : format_number side c i ≡ f = sent_number planned Down (IsFrame planned) i f 0 c sent.loaded _ frame sent.from.format channel in
     let there : f < length (channel_at side i).formats = subst (λ f. f < length (channel_at side i).formats) format ((good.side.combinations c listed).formats i channel) in
     subst (λ (pattern : Pattern). HasNoCollision (channel_at side i).coding (joined_in side i f) (copies pattern.kind)) (sym ((plan.rows i channel).matchings f there).pattern)
     (clear.down i channel f (replicate frames c) (one_legal side i f c listed format))

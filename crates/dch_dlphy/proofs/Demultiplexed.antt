@@ -15,10 +15,11 @@ use Rattle.dch_accept.specs.Plans.{Planned}
 use Rattle.dch_decode.specs.Received.{IsReceived}
 use Rattle.dch_rxframes.specs.Formats.{IsFormatOf}
 use Rattle.dch_rxframes.specs.RxFrames.{RxFrames}
-use Rattle.dch_dlphy.specs.Read.{AreKeptCells, IsTtiRead, tti_cell, tti_pattern, bits_per_tti}
+use Rattle.dch_dlphy.specs.Loaded.{tti_cells}
+use Rattle.dch_dlphy.specs.Read.{AreKeptCells, IsTtiRead, tti_cell, tti_pattern}
 
 -- the front of a TTI, as far as bits are kept
-pub kept_cells : (planned : Planned) (reader : RxFrames) (i f kept : ℕ) (pattern : Pattern) (rx_frames : List Trit) → pattern ≡ tti_pattern planned i f → kept ≡ copies_below pattern.kind pattern.len → length rx_frames ≡ bits_per_tti planned i f → kept ≤ length rx_frames
+pub kept_cells : (planned : Planned) (reader : RxFrames) (i f kept : ℕ) (pattern : Pattern) (rx_frames : List Trit) → pattern ≡ tti_pattern planned i f → kept ≡ copies_below pattern.kind pattern.len → length rx_frames ≡ tti_cells planned i f → kept ≤ length rx_frames
     → ((p : ℕ) → p < length rx_frames → get_or rx_frames p Off ≡ tti_cell planned reader i (length rx_frames) p) → AreKeptCells planned reader i f (take kept rx_frames)
 kept_cells planned reader i f kept pattern rx_frames same is long fits cells =
     let front : length (take kept rx_frames) ≡ kept = length-take-le kept rx_frames fits in

@@ -5,6 +5,7 @@ use Rattle.dch_bits.specs.declared.bit.Bit.TheVariants.{Zero}
 use Rattle.dch_bits.specs.declared.bit.Trit.{Trit}
 use Rattle.dch_bits.specs.declared.bit.Trit.TheVariants.{Off}
 use Rattle.dch_bits.specs.declared.bit.Vote.{Vote}
+use Rattle.dch_types.specs.declared.channel.Dir.TheVariants.{Down}
 use Rattle.dch_types.specs.declared.channel.Format.{Format}
 use Rattle.dch_types.specs.declared.channel.Trch.{Trch}
 use Rattle.dch_types.specs.Limits.{IsDownlink}
@@ -19,19 +20,12 @@ use Rattle.dch_accept.specs.Plans.{Planned}
 use Rattle.dch_decode.specs.Copies.{AreCopies}
 use Rattle.dch_collision.specs.Clear.{IsClear}
 use Rattle.dch_decode.specs.Received.{ArrivesAs, ReadsCopies}
-use Rattle.dch_rxframes.specs.Formats.{AllGive}
-use Rattle.dch_rxframes.specs.RxFrames.{RxFrames}
-use Rattle.dch_rxframes.proofs.Sent.{sent_formats}
-use Rattle.dch_dlphy.specs.Frames.{IsFrame}
-use Rattle.dch_dlphy.specs.Kept.{AreRxFramesOf, codes_in}
-use Rattle.dch_dlphy.specs.Read.{AreKeptCells, tti_pattern, bits_per_tti}
+use Rattle.dch_rxframes.specs.RxFrames.{IsReaderOf, RxFrames}
+use Rattle.dch_dlphy.specs.Loaded.{tti_cells}
+use Rattle.dch_dlphy.specs.Read.{AreKeptCells, tti_pattern}
 use Rattle.dch_dlphy.specs.Sent.{IsSentTti}
 use Rattle.dch_dlphy.proofs.Arrived.{cell_arrived, filled_kept}
 use Rattle.dch_dlphy.proofs.Clear.{downlink_clear}
-
--- all frames give the channel the format in which its blocks were sent
-pub all_give : (planned : Planned) (reader : RxFrames) (i f : ℕ) (sequence : List ℕ) (blocks : List Bit) → IsSentTti planned reader i f sequence blocks → i < length planned.config.downlink.side.channels → AllGive planned.config.downlink.side reader i f
-all_give planned reader i f sequence blocks sent channel = sent_formats planned.config.downlink.side (IsFrame planned) (codes_in planned) reader i f sequence sent.loaded sent.frames sent.from.format channel
 
 -- what counting promises of cells that show copies of bits
 abbrev pub CountsCopies : Pattern → List Trit → List Vote → Type 0
@@ -42,8 +36,8 @@ CountsCopies pattern cells votes =
 -- the votes of a TTI that is kept as it was sent give its blocks
 pub tti_arrives : (planned : Planned) (reader : RxFrames) (i f : ℕ) (sequence : List ℕ) (channel : Trch) (format : Format) (pattern : Pattern) (cells : List Trit) (votes : List Vote) (held : Held) (blocks : List Bit)
     → channel ≡ channel_at planned.config.downlink.side i → format ≡ format_at channel f → pattern ≡ tti_pattern planned i f
-    → IsDownlink planned.config.downlink → IsDownlinkPlan planned.config.downlink planned.downlink → AreRxFramesOf planned reader → i < length planned.config.downlink.side.channels
-    → AreKeptCells planned reader i f cells → length cells ≤ bits_per_tti planned i f → CountsCopies pattern cells votes
+    → IsDownlink planned.config.downlink → IsDownlinkPlan planned.config.downlink planned.downlink → IsReaderOf planned Down reader → i < length planned.config.downlink.side.channels
+    → AreKeptCells planned reader i f cells → length cells ≤ tti_cells planned i f → CountsCopies pattern cells votes
     → ReadsCopies channel format votes held → IsClear planned.config → IsSentTti planned reader i f sequence blocks → ArrivesAs blocks held
 tti_arrives planned reader i f sequence channel format pattern cells votes held blocks same kind is good plan opened inside kept fits counts decodes clear sent =
     let side = planned.config.downlink.side in

@@ -1,20 +1,21 @@
 ghost use Rattle.std.specs.Prelude.{◌≡◌, ◌≢◌, ◌<◌, ◌≤◌, ◌+◌, ◌*◌, ℕ, Some, None, length, slice_index_or};
 ghost use Rattle.dch_bits.specs.declared.bit.Trit.TheVariants.{Off};
+ghost use Rattle.dch_types.specs.declared.channel.Dir.TheVariants.{Down};
 ghost use Rattle.dch_types.specs.Parts.{channel_at};
 ghost use Rattle.dch_inter.specs.Places.{frame_of, place_of};
 ghost use Rattle.dch_types.specs.Lengths.{frame_bits};
 ghost use Rattle.dch_rxframes.specs.Formats.{IsFormatOf};
-ghost use Rattle.dch_rxframes.specs.RxFrames.{IsKeptOf};
+ghost use Rattle.dch_rxframes.specs.RxFrames.{IsKeptOf, IsReaderOf};
 ghost use Rattle.dch_dlphy.specs.Frames.{bits_before, bits_per_frame};
-ghost use Rattle.dch_dlphy.specs.Kept.{AreRxFramesOf, cells_in};
 ghost use Rattle.dch_dlphy.specs.Loaded.{matching_of};
 ghost use Rattle.dch_dlphy.specs.Read.{received_cell, tti_cell};
 
-use crate::parts::{bits_in_frame, channel_of, frame_length};
+use crate::parts::bits_in_frame;
 use dch_accept::Accepted;
 use dch_bits::Trit;
 use dch_frame::put_segment;
-use dch_rxframes::{ReceivedFrame, ReceivedFrames, frames_of};
+use dch_rxframes::{ReceivedFrame, ReceivedFrames};
+use dch_types::Dir;
 
 /// Puts what the radio frames of a channel's TTI carried of it to its places before the first interleaver.
 pub fn demultiplex_tti(
@@ -24,13 +25,13 @@ pub fn demultiplex_tti(
     format: u8,
     out: &mut [Trit],
 )
-    requires opened { AreRxFramesOf accepted.now rx_frames.now }
+    requires opened { IsReaderOf accepted.now Down rx_frames.now }
     requires channel { channel < length accepted.now.config.downlink.side.channels }
     requires format { IsFormatOf accepted.now.config.downlink.side rx_frames.now channel format }
     requires whole { length out.old ≡ (matching_of accepted.now channel format).cells * (channel_at accepted.now.config.downlink.side channel).frames }
     ensures { (p : ℕ) → p < length out.new → slice_index_or out.new p Off ≡ tti_cell accepted.now rx_frames.now channel (length out.new) p }
 {
-    let frames = frames_of(&accepted.config().downlink.side, channel);
+    let frames = accepted.frames_of(Dir::Down, channel);
     for n in 0..frames {
         demultiplex_frame(accepted, rx_frames.frame(frames, n), channel, n, out);
     }
@@ -44,7 +45,7 @@ fn demultiplex_frame(
     n: u8,
     out: &mut [Trit],
 )
-    requires kept { IsKeptOf accepted.now.config.downlink.side (cells_in accepted.now) (frame_bits accepted.now.config.downlink) kept.now }
+    requires kept { IsKeptOf accepted.now Down kept.now }
     requires channel { channel < length accepted.now.config.downlink.side.channels }
     requires frame { n < (channel_at accepted.now.config.downlink.side channel).frames }
     requires there { kept.now.combination ≢ None }
@@ -61,7 +62,7 @@ fn demultiplex_frame(
     let Some(combination) = kept.combination() else {
         return;
     };
-    let frames = channel_of(accepted, channel).frames as usize;
+    let frames = accepted.frames_of(Dir::Down, channel) as usize;
     let segment = channel_cells(accepted, combination, channel, kept.cells());
     put_segment(frames, n as usize, segment, out);
 }
@@ -81,7 +82,7 @@ fn channel_cells<'a>(
     ensures long { length result.now ≡ bits_per_frame accepted.now combination channel }
 {
     // A radio frame of the downlink has at most 57,240 cells.
-    let _cells = frame_length(&accepted.config().downlink);
+    let _cells = accepted.config().downlink.frame_bits();
     let from = bits_before(accepted, combination, channel);
     &cells[from..from + bits_in_frame(accepted, combination, channel)]
 }

@@ -1,13 +1,14 @@
 ghost use Rattle.std.specs.Prelude.{◌≡◌, ◌<◌, ◌≤◌, ◌%◌, ℕ, List, Some, length};
 ghost use Rattle.dch_bits.specs.declared.bit.Bit.{Bit};
+ghost use Rattle.dch_types.specs.declared.channel.Dir.TheVariants.{Down};
 ghost use Rattle.dch_types.specs.Parts.{channel_at, format_at};
 ghost use Rattle.dch_accept.specs.Blocks.{bits_of};
+ghost use Rattle.dch_accept.specs.Cells.{code_cells};
 ghost use Rattle.dch_accept.specs.Frames.{Frame};
 ghost use Rattle.dch_accept.specs.Plans.{Planned};
-ghost use Rattle.dch_rxframes.specs.RxFrames.{RxFrame, RxFrames};
+ghost use Rattle.dch_rxframes.specs.RxFrames.{AreBack, IsKept, RxFrame, RxFrames};
 ghost use Rattle.dch_ttibuf.specs.Loaded.{Loaded};
 ghost use Rattle.dch_dlphy.specs.Frames.{IsFrame};
-ghost use Rattle.dch_dlphy.specs.Kept.{AreBack, IsKept};
 ghost use Rattle.dch_dlphy.specs.Loaded.{IsLoaded};
 ghost use Rattle.dch_dlphy.specs.Sent.{AreSentAndPushed, IsSentTti};
 
@@ -18,8 +19,8 @@ use dch_accept::Accepted;
 pub fn written_frame_law()
     ensures { (planned : Planned) (tti : List Loaded) (cfn c : ℕ) (frame : Frame) (kept : RxFrame) →
         c < length planned.config.downlink.side.combinations → length planned.config.downlink.side.combinations ≤ 128 →
-        IsFrame planned tti cfn c frame → IsKept planned frame.tfci frame.cells kept →
-        (kept.combination ≡ Some c) × AreBack planned frame.cells kept.cells }
+        IsFrame planned tti cfn c frame → IsKept planned Down frame.tfci frame.cells kept →
+        (kept.combination ≡ Some c) × AreBack (code_cells planned Down (length frame.cells)) frame.cells kept.cells }
 {}
 
 /// A law: the radio frames of a TTI are pushed as they were written, each in its combination, while the channel's blocks stay

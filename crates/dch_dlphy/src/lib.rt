@@ -7,7 +7,6 @@ mod fill;
 mod laws;
 mod parts;
 mod reader;
-mod reception;
 mod tti;
 mod writer;
 

@@ -1,6 +1,5 @@
-ghost use Rattle.std.specs.Prelude.{◌≡◌, ◌<◌, ◌≤◌, ◌+◌, ◌*◌, ◌^◌, length};
+ghost use Rattle.std.specs.Prelude.{◌≡◌, ◌<◌, ◌≤◌, ◌+◌, ◌*◌, length};
 ghost use Rattle.dch_types.specs.Lengths.{frame_bits, tti_bits};
-ghost use Rattle.dch_types.specs.Limits.{IsChannel, IsDownlink};
 ghost use Rattle.dch_types.specs.Parts.{channel_at, format_at};
 ghost use Rattle.dch_match.specs.Patterns.{IsWellFormed, copies_below};
 ghost use Rattle.dch_dlphy.specs.Frames.{bits_before, bits_per_frame};
@@ -8,16 +7,6 @@ ghost use Rattle.dch_dlphy.specs.Loaded.{matching_of};
 
 use dch_accept::Accepted;
 use dch_match::Pattern;
-use dch_types::{Downlink, Trch};
-
-/// A channel of the downlink.
-pub fn channel_of(accepted: &Accepted, channel: u8) -> &Trch
-    requires { channel < length accepted.now.config.downlink.side.channels }
-    ensures value { result.now ≡ channel_at accepted.now.config.downlink.side channel }
-    ensures good { IsChannel result.now }
-{
-    accepted.config().downlink.side.channel(channel as usize)
-}
 
 /// The rate matching of a TTI of a channel in a format.
 pub fn pattern_of(accepted: &Accepted, channel: u8, format: u8) -> Pattern
@@ -54,23 +43,4 @@ pub fn bits_in_frame(accepted: &Accepted, combination: u16, channel: u8) -> usiz
     let side = &accepted.config().downlink.side;
     let format = side.tfi(combination as usize, channel as usize);
     accepted.downlink_plan().cells(channel, format) as usize
-}
-
-/// The cells of a code.
-pub fn code_length(config: &Downlink) -> usize
-    requires { IsDownlink config.now }
-    ensures value { result ≡ 15 * config.now.slot_bits }
-    ensures some { 0 < result }
-    ensures small { result ≤ 19080 }
-{
-    15 * config.slot_bits as usize
-}
-
-/// The cells of a radio frame: those of all its codes.
-pub fn frame_length(config: &Downlink) -> usize
-    requires { IsDownlink config.now }
-    ensures value { result ≡ frame_bits config.now }
-    ensures small { result ≤ 57240 }
-{
-    code_length(config) * config.codes as usize
 }

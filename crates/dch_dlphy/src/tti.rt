@@ -9,14 +9,13 @@ ghost use Rattle.dch_ttibuf.specs.Loaded.{loaded_at};
 ghost use Rattle.dch_dlphy.specs.Loaded.{IsLoaded, IsMatched, IsTtiOf};
 
 use crate::fill::fill_front;
-use crate::parts::{bits_per_frame, channel_of, code_length, pattern_of};
+use crate::parts::{bits_per_frame, pattern_of};
 use dch_accept::Accepted;
 use dch_bits::{Bit, NoMemory, Trit};
 use dch_coding::TtiCoder;
-use dch_frame::Interleaver;
 use dch_match::Pattern;
 use dch_ttibuf::{TtiBuffer, tti_buffers};
-use dch_types::{Format, MAX_TTI_BITS, MAX_TTI_CELLS, Trch};
+use dch_types::{Dir, Format, MAX_TTI_BITS, MAX_TTI_CELLS, Trch};
 use std::alloc::Global;
 use std::marker::Model;
 
@@ -99,16 +98,16 @@ fn code_front(
 #[derive(Drop)]
 pub struct DlTti {
     room: Room,
-    interleaver: Interleaver,
     tti_buffers: Vec<TtiBuffer>,
 }
 
 impl Model for DlTti {
-    ghost use Rattle.dch_dlphy.specs.Loaded.{Running};
+    ghost use Rattle.std.specs.Prelude.{List};
+    ghost use Rattle.dch_ttibuf.specs.Loaded.{Loaded};
 
-    ghost Value = { Running };
+    ghost Value = { List Loaded };
 
-    ghost view = { λ t. record { loaded = t.tti_buffers.items; code = t.interleaver } };
+    ghost view = { λ t. t.tti_buffers.items };
 }
 
 impl DlTti {
@@ -116,11 +115,10 @@ impl DlTti {
     pub fn open(alloc: Global, accepted: &Accepted) -> Result<DlTti, NoMemory>
         ensures { IfOk result (IsTtiOf accepted.now) }
     {
-        let config = &accepted.config().downlink;
+        let channels = accepted.config().downlink.side.channels.len();
         Ok(DlTti {
             room: Room::open(alloc)?,
-            interleaver: Interleaver::open(alloc, code_length(config))?,
-            tti_buffers: tti_buffers(alloc, config.side.channels.len())?,
+            tti_buffers: tti_buffers(alloc, channels)?,
         })
     }
 
@@ -132,10 +130,10 @@ impl DlTti {
         requires format { format < length (channel_at accepted.now.config.downlink.side channel).formats }
         requires blocks { length blocks.now ≡ bits_of (format_at (channel_at accepted.now.config.downlink.side channel) format) }
         ensures opened { IsTtiOf accepted.now self.new }
-        ensures loaded { IsLoaded accepted.now channel format blocks.now (loaded_at self.new.loaded channel) }
-        ensures same { (i : ℕ) → i ≢ channel → loaded_at self.new.loaded i ≡ loaded_at self.old.loaded i }
+        ensures loaded { IsLoaded accepted.now channel format blocks.now (loaded_at self.new channel) }
+        ensures same { (i : ℕ) → i ≢ channel → loaded_at self.new i ≡ loaded_at self.old i }
     {
-        let trch = channel_of(accepted, channel);
+        let trch = accepted.channel(Dir::Down, channel);
         let pattern = pattern_of(accepted, channel, format);
         let places = bits_per_frame(accepted, channel, format);
         let buffer = &mut self.tti_buffers[channel as usize];
@@ -147,15 +145,8 @@ impl DlTti {
 impl DlTti {
     /// What is loaded of each channel.
     pub fn tti_buffers(&self) -> &[TtiBuffer]
-        ensures { result.now ≡ self.now.loaded }
+        ensures { result.now ≡ self.now }
     {
         &self.tti_buffers
-    }
-
-    /// The second interleaver of a code.
-    pub(crate) fn interleaver(&self) -> &Interleaver
-        ensures { result.now ≡ self.now.code }
-    {
-        &self.interleaver
     }
 }

@@ -1,20 +1,20 @@
 ghost use Rattle.std.specs.Prelude.{◌≡◌, ◌<◌, ◌≤◌, ◌+◌, ◌*◌, ◌^◌, ℕ, length, slice_index_or};
 ghost use Rattle.dch_bits.specs.declared.bit.Trit.TheVariants.{Off};
 ghost use Rattle.dch_types.specs.declared.channel.Dir.TheVariants.{Down};
-ghost use Rattle.dch_types.specs.Lengths.{frame_bits};
+ghost use Rattle.dch_accept.specs.Cells.{frame_cells};
 ghost use Rattle.dch_accept.specs.Frames.{IsOpenedFor};
 ghost use Rattle.dch_ttibuf.specs.Loaded.{AreFormats};
-ghost use Rattle.dch_dlphy.specs.Loaded.{AreLong, IsTtiOf};
+ghost use Rattle.dch_dlphy.specs.Loaded.{IsTtiOf};
 ghost use Rattle.dch_dlphy.specs.Frames.{IsFrame, frame_cell, multiplexed_cell, bits_per_frame, sent_cell};
 
 use crate::fill::leave_off;
-use crate::parts::{bits_in_frame, frame_length};
+use crate::parts::bits_in_frame;
 use crate::tti::DlTti;
 use dch_accept::{Accepted, PhyFrame};
 use dch_bits::Trit;
-use dch_rxframes::frames_of;
 use dch_tfci::send;
 use dch_ttibuf::TtiBuffer;
+use dch_types::Dir;
 
 /// Writes the radio frame of a CFN in a combination: its TFCI, and of each channel the radio frame of its TTI that is on
 /// (TS 25.212 4.2.6 to 4.2.12, 4.3.3, 4.3.5).
@@ -22,13 +22,13 @@ pub fn write(accepted: &Accepted, tti: &DlTti, cfn: u8, combination: u16, out: &
     requires opened { IsTtiOf accepted.now tti.now }
     requires frame { IsOpenedFor accepted.now.config Down out.old }
     requires combination { combination < length accepted.now.config.downlink.side.combinations }
-    requires formats { AreFormats accepted.now.config.downlink.side combination tti.now.loaded }
-    ensures written { IsFrame accepted.now tti.now.loaded cfn combination out.new }
+    requires formats { AreFormats accepted.now.config.downlink.side combination tti.now }
+    ensures written { IsFrame accepted.now tti.now cfn combination out.new }
     ensures frame { IsOpenedFor accepted.now.config Down out.new }
 {
     // A good configuration has at most 128 combinations.
-    let config = accepted.config();
-    let cells = frame_length(&config.downlink);
+    let _config = accepted.config();
+    let cells = accepted.frame_cells(Dir::Down, combination);
     out.shape(cells);
     send(combination, out.tfci_mut());
     write_cells(accepted, tti, cfn, combination, cells, out.workspace_mut());
@@ -45,16 +45,17 @@ fn write_cells(
 )
     requires opened { IsTtiOf accepted.now tti.now }
     requires combination { combination < length accepted.now.config.downlink.side.combinations }
-    requires formats { AreFormats accepted.now.config.downlink.side combination tti.now.loaded }
-    requires count { count ≡ frame_bits accepted.now.config.downlink }
-    requires code { 0 < tti.now.code }
-    requires small { count ≤ 57240 }
+    requires formats { AreFormats accepted.now.config.downlink.side combination tti.now }
+    requires count { count ≡ frame_cells accepted.now Down combination }
+    requires small { count ≤ 57600 }
     requires room { length out.old ≡ 2 * count }
-    ensures { (k : ℕ) → k < count → slice_index_or out.new k Off ≡ frame_cell accepted.now tti.now.loaded cfn combination k }
+    ensures { (k : ℕ) → k < count → slice_index_or out.new k Off ≡ frame_cell accepted.now tti.now cfn combination k }
 {
     let (cells, stream) = out.split_at_mut(count);
     multiplex(accepted, tti.tti_buffers(), cfn, combination, stream);
-    tti.interleaver().write(stream, cells);
+    accepted
+        .interleaver(Dir::Down, combination)
+        .write(stream, cells);
 }
 
 /// Writes the channels' cells one after another. Nothing is sent in the places past the last of them (the second insertion
@@ -66,11 +67,11 @@ fn multiplex(
     combination: u16,
     out: &mut [Trit],
 )
-    requires long { AreLong accepted.now tti_buffers.now }
+    requires opened { IsTtiOf accepted.now tti_buffers.now }
     requires combination { combination < length accepted.now.config.downlink.side.combinations }
     requires formats { AreFormats accepted.now.config.downlink.side combination tti_buffers.now }
-    requires room { length out.old ≡ frame_bits accepted.now.config.downlink }
-    requires small { length out.old ≤ 57240 }
+    requires room { length out.old ≡ frame_cells accepted.now Down combination }
+    requires small { length out.old ≤ 57600 }
     ensures { (p : ℕ) → p < length out.new → slice_index_or out.new p Off ≡ multiplexed_cell accepted.now tti_buffers.now cfn combination (length accepted.now.config.downlink.side.channels) p }
 {
     let channels = accepted.config().downlink.side.channels.len();
@@ -100,14 +101,16 @@ fn write_channel(
     i: u8,
     out: &mut [Trit],
 )
-    requires long { AreLong accepted.now tti_buffers.now }
+    requires opened { IsTtiOf accepted.now tti_buffers.now }
     requires combination { combination < length accepted.now.config.downlink.side.combinations }
     requires formats { AreFormats accepted.now.config.downlink.side combination tti_buffers.now }
     requires channel { i < length accepted.now.config.downlink.side.channels }
     requires room { length out.old ≡ bits_per_frame accepted.now combination i }
     ensures { (q : ℕ) → q < length out.new → slice_index_or out.new q Off ≡ sent_cell accepted.now tti_buffers.now cfn combination i q }
 {
-    let n = cfn % frames_of(&accepted.config().downlink.side, i);
+    // A combination names a format of each channel.
+    let _side = accepted.side(Dir::Down);
+    let n = cfn % accepted.frames_of(Dir::Down, i);
     copy_segment(tti_buffers[i as usize].cells(), n, out);
 }
 

@@ -29,14 +29,14 @@ impl DownlinkEnds {
 
 impl Ends for DownlinkEnds {
     ghost use Rattle.dch_types.specs.declared.channel.Dir.TheVariants.{Down};
-    ghost use Rattle.dch_dlphy.specs.Kept.{IsReaderOf};
+    ghost use Rattle.dch_rxframes.specs.RxFrames.{IsReaderOf};
     ghost use Rattle.dch_dlphy.specs.Loaded.{IsTtiOf};
 
     ghost dir = { Down };
 
-    ghost loaded = { λ ends. ends.tti.loaded };
+    ghost loaded = { λ ends. ends.tti };
 
-    ghost opened = { λ planned ends. IsTtiOf planned ends.tti × IsReaderOf planned ends.reader };
+    ghost opened = { λ planned ends. IsTtiOf planned ends.tti × IsReaderOf planned Down ends.reader };
 
     fn dir() -> Dir {
         Dir::Down

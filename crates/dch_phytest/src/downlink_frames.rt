@@ -47,7 +47,7 @@ fn load_all(tti: &mut DlTti, accepted: &Accepted, loads: &[(u8, &[u8])]) -> bool
 /// Whether the loaded formats are those of a combination.
 fn is_ready(accepted: &Accepted, tti: &DlTti, combination: u16) -> bool
     requires { IsTtiOf accepted.now tti.now }
-    ensures { result ≡ true → (combination < length accepted.now.config.downlink.side.combinations) × AreFormats accepted.now.config.downlink.side combination tti.now.loaded }
+    ensures { result ≡ true → (combination < length accepted.now.config.downlink.side.combinations) × AreFormats accepted.now.config.downlink.side combination tti.now }
 {
     let side = &accepted.config().downlink.side;
     if combination as usize >= side.combinations.len() {

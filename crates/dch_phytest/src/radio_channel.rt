@@ -56,14 +56,14 @@ fn damage(radio: RadioChannel, received: &mut PhyFrame)
 {
     match radio {
         RadioChannel::Flipped(every) => flip(received.cells_mut(), every),
-        RadioChannel::Silent => silence(received.cells_mut()),
+        RadioChannel::Silent => switch_off(received.cells_mut()),
         RadioChannel::Unlisted => send(UNLISTED, received.tfci_mut()),
         RadioChannel::Missing => {}
     }
 }
 
 /// Makes each cell Off.
-fn silence(cells: &mut [Trit])
+fn switch_off(cells: &mut [Trit])
     ensures { length cells.new ≡ length cells.old }
 {
     for k in 0..cells.len() {

@@ -29,14 +29,14 @@ impl UplinkEnds {
 
 impl Ends for UplinkEnds {
     ghost use Rattle.dch_types.specs.declared.channel.Dir.TheVariants.{Up};
-    ghost use Rattle.dch_ulphy.specs.Kept.{IsReaderOf};
+    ghost use Rattle.dch_rxframes.specs.RxFrames.{IsReaderOf};
     ghost use Rattle.dch_ulphy.specs.Loaded.{IsTtiOf};
 
     ghost dir = { Up };
 
     ghost loaded = { λ ends. ends.tti };
 
-    ghost opened = { λ planned ends. IsTtiOf planned.config.uplink.side ends.tti × IsReaderOf planned ends.reader };
+    ghost opened = { λ planned ends. IsTtiOf planned ends.tti × IsReaderOf planned Up ends.reader };
 
     fn dir() -> Dir {
         Dir::Up

@@ -1,4 +1,5 @@
 pub mod Formats
+pub mod Outcomes
 pub mod Pushed
 pub mod RxFrames
 pub mod Sent

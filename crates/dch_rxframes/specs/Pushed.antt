@@ -1,15 +1,16 @@
 -- Radio frames that arrive one after another just as they were written, and the frames that are kept after each.
 use Rattle.std.specs.Prelude.{◌≡◌, ◌≢◌, ◌<◌, ◌+◌, ◌%◌, ℕ, List, Option, Some, length, slice_index}
-use Rattle.dch_types.specs.declared.channel.Side.{Side}
-use Rattle.dch_types.specs.Parts.{channel_at}
+use Rattle.dch_types.specs.declared.channel.Dir.{Dir}
+use Rattle.dch_types.specs.Parts.{channel_at, side_of}
 use Rattle.dch_accept.specs.declared.frame.FrameView.{FrameView}
 use Rattle.dch_accept.specs.Frames.{Frame}
+use Rattle.dch_accept.specs.Plans.{Planned}
 use Rattle.dch_ttibuf.specs.Loaded.{AreFormats, Loaded, loaded_at}
 use Rattle.dch_rxframes.specs.RxFrames.{Keeps, RxFrames, rx_frame_at}
 
 -- the radio frame of a CFN is taken: what is kept of it has the place of its CFN, the others stay, and it is the last one
-pub record IsPushed (side : Side) (lengths codes : ℕ → ℕ) (cfn : ℕ) (frame : Option FrameView) (old new : RxFrames) : Type 0 where
-  pub kept : Keeps side lengths codes frame (rx_frame_at new.frames (cfn % 8))
+pub record IsPushed (planned : Planned) (dir : Dir) (cfn : ℕ) (frame : Option FrameView) (old new : RxFrames) : Type 0 where
+  pub kept : Keeps planned dir frame (rx_frame_at new.frames (cfn % 8))
   pub others : (k : ℕ) → k ≢ cfn % 8 → rx_frame_at new.frames k ≡ rx_frame_at old.frames k
   pub last : new.cfn ≡ cfn
 
@@ -19,19 +20,19 @@ pub record IsViewOf (frame : Frame) (view : FrameView) : Type 0 where
   pub cells : view.cells.now ≡ frame.cells
 
 -- the frame of a CFN is taken just as it was written in combination c of the list, while this was loaded of channel i
-pub record IsSentAndPushed (side : Side) (Writes : List Loaded → ℕ → ℕ → Frame → Type 0) (lengths codes : ℕ → ℕ) (i cfn c : ℕ) (loaded : Loaded) (old new : RxFrames) : Type 0 where
-  pub listed : c < length side.combinations
+pub record IsSentAndPushed (planned : Planned) (dir : Dir) (Writes : List Loaded → ℕ → ℕ → Frame → Type 0) (i cfn c : ℕ) (loaded : Loaded) (old new : RxFrames) : Type 0 where
+  pub listed : c < length (side_of planned.config dir).combinations
   pub tti : List Loaded
-  pub formats : AreFormats side c tti
+  pub formats : AreFormats (side_of planned.config dir) c tti
   pub holds : loaded_at tti i ≡ loaded
   pub frame : Frame
   pub written : Writes tti cfn c frame
   pub view : FrameView
   pub shown : IsViewOf frame view
-  pub pushed : IsPushed side lengths codes cfn (Some view) old new
+  pub pushed : IsPushed planned dir cfn (Some view) old new
 
 -- and so are all frames of a TTI of channel i from its first CFN on, each in its combination of a sequence; reader n is what is
 -- kept before frame n
-abbrev pub AreSentAndPushed : Side → (List Loaded → ℕ → ℕ → Frame → Type 0) → (ℕ → ℕ) → (ℕ → ℕ) → ℕ → ℕ → List ℕ → Loaded → (ℕ → RxFrames) → Type 0
-AreSentAndPushed side Writes lengths codes i first sequence loaded readers =
-    (n : ℕ) → n < (channel_at side i).frames → IsSentAndPushed side Writes lengths codes i (first + n) (slice_index sequence n) loaded (readers n) (readers (n + 1))
+abbrev pub AreSentAndPushed : Planned → Dir → (List Loaded → ℕ → ℕ → Frame → Type 0) → ℕ → ℕ → List ℕ → Loaded → (ℕ → RxFrames) → Type 0
+AreSentAndPushed planned dir Writes i first sequence loaded readers =
+    (n : ℕ) → n < (channel_at (side_of planned.config dir) i).frames → IsSentAndPushed planned dir Writes i (first + n) (slice_index sequence n) loaded (readers n) (readers (n + 1))

@@ -1,22 +1,35 @@
 ghost use Rattle.std.specs.Prelude.{◌≡◌, ◌<◌, ℕ, Some, length};
 ghost use Rattle.dch_types.specs.Limits.{IsSide};
-ghost use Rattle.dch_types.specs.Parts.{channel_at};
+ghost use Rattle.dch_types.specs.Parts.{channel_at, side_of};
 ghost use Rattle.dch_rxframes.specs.Formats.{AreListed, FindsFormat, tti_format};
+ghost use Rattle.dch_rxframes.specs.RxFrames.{IsReaderOf};
 
-use crate::parts::{format_number, frames_of};
 use crate::received_frames::ReceivedFrames;
-use dch_types::Side;
+use dch_accept::Accepted;
+use dch_types::{Dir, Side};
 
-/// The format that all radio frames of a channel's TTI give it, or the first frame that is missing or gives it another
-/// one than frame 0 does.
-pub fn format_of_tti(side: &Side, rx_frames: &ReceivedFrames, channel: u8) -> Result<u8, u8>
+impl ReceivedFrames {
+    /// The format that all radio frames of a channel's TTI give it, or the first frame that is missing or gives it another one
+    /// than frame 0 does.
+    pub fn format_of_tti(&self, accepted: &Accepted, dir: Dir, channel: u8) -> Result<u8, u8>
+        requires opened { IsReaderOf accepted.now dir self.now }
+        requires channel { channel < length (side_of accepted.now.config dir).channels }
+        ensures found { FindsFormat (side_of accepted.now.config dir) self.now channel result }
+        ensures some { 0 < (channel_at (side_of accepted.now.config dir) channel).frames }
+    {
+        format_of_tti(accepted.side(dir), self, channel)
+    }
+}
+
+/// The same, of a direction.
+fn format_of_tti(side: &Side, rx_frames: &ReceivedFrames, channel: u8) -> Result<u8, u8>
     requires side { IsSide side.now }
     requires listed { AreListed side.now rx_frames.now }
     requires channel { channel < length side.now.channels }
     ensures found { FindsFormat side.now rx_frames.now channel result }
     ensures some { 0 < (channel_at side.now channel).frames }
 {
-    let frames = frames_of(side, channel);
+    let frames = side.frames_of(channel as usize);
     let Some(format) = format_in_frame(side, rx_frames, channel, 0) else {
         return Err(0);
     };
@@ -37,6 +50,8 @@ fn format_in_frame(side: &Side, rx_frames: &ReceivedFrames, channel: u8, n: u8) 
     ensures value { result ≡ tti_format side.now rx_frames.now channel n }
     ensures inside { (f : ℕ) → result ≡ Some f → f < length (channel_at side.now channel).formats }
 {
-    let combination = rx_frames.frame(frames_of(side, channel), n).combination()?;
-    Some(format_number(side, combination, channel))
+    let combination = rx_frames
+        .frame(side.frames_of(channel as usize), n)
+        .combination()?;
+    Some(side.tfi(combination as usize, channel as usize))
 }

@@ -4,12 +4,12 @@
 
 mod formats;
 mod outcome;
-mod parts;
 mod received_frame;
 mod received_frames;
+mod reception;
+mod tti_reader;
 
-pub use formats::format_of_tti;
 pub use outcome::TtiOutcome;
-pub use parts::{channel_of, format_number, frames_of};
 pub use received_frame::ReceivedFrame;
 pub use received_frames::ReceivedFrames;
+pub use tti_reader::{ReadTti, TtiReader};

@@ -1,5 +1,8 @@
 ghost use Rattle.std.specs.Prelude.{◌≡◌, ◌≢◌, ◌<◌, ◌≤◌, ◌%◌, ℕ, None, length, IfOk};
-ghost use Rattle.dch_types.specs.declared.channel.Side.{Side};
+ghost use Rattle.dch_types.specs.declared.channel.Dir.{Dir};
+ghost use Rattle.dch_types.specs.Parts.{side_of};
+ghost use Rattle.dch_accept.specs.Cells.{frame_cells};
+ghost use Rattle.dch_accept.specs.Plans.{Planned};
 ghost use Rattle.dch_rxframes.specs.RxFrames.{AreMissing, IsHeld, IsReaderOf, rx_frame_at, tti_place};
 
 use crate::received_frame::ReceivedFrame;
@@ -48,8 +51,8 @@ impl ReceivedFrames {
         ensures held { IsHeld combination interleaver.now cells.now (rx_frame_at self.new.frames (cfn % 8)) }
         ensures others { (k : ℕ) → k ≢ cfn % 8 → rx_frame_at self.new.frames k ≡ rx_frame_at self.old.frames k }
         ensures last { self.new.cfn ≡ cfn }
-        ensures opened { (side : Side) (lengths : ℕ → ℕ) (room : ℕ) → IsReaderOf side lengths room self.old →
-            combination < length side.combinations → length cells.now ≡ lengths combination → IsReaderOf side lengths room self.new }
+        ensures opened { (planned : Planned) (dir : Dir) → IsReaderOf planned dir self.old → combination < length (side_of planned.config dir).combinations →
+            length cells.now ≡ frame_cells planned dir combination → IsReaderOf planned dir self.new }
     {
         self.frames[cfn as usize % FRAMES].keep(combination, interleaver, cells);
         self.cfn = cfn;
@@ -60,7 +63,7 @@ impl ReceivedFrames {
         ensures missing { (rx_frame_at self.new.frames (cfn % 8)).combination ≡ None }
         ensures others { (k : ℕ) → k ≢ cfn % 8 → rx_frame_at self.new.frames k ≡ rx_frame_at self.old.frames k }
         ensures last { self.new.cfn ≡ cfn }
-        ensures opened { (side : Side) (lengths : ℕ → ℕ) (room : ℕ) → IsReaderOf side lengths room self.old → IsReaderOf side lengths room self.new }
+        ensures opened { (planned : Planned) (dir : Dir) → IsReaderOf planned dir self.old → IsReaderOf planned dir self.new }
     {
         self.frames[cfn as usize % FRAMES].miss();
         self.cfn = cfn;

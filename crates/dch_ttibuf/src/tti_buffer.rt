@@ -1,6 +1,7 @@
 ghost use Rattle.std.specs.Prelude.{◌≡◌, ◌<◌, ◌≤◌, ◌+◌, ◌*◌, ◌%◌, ℕ, None, Some, length, slice_index_or, take, IfOk};
 ghost use Rattle.dch_bits.specs.declared.bit.Trit.TheVariants.{Off};
-ghost use Rattle.dch_inter.specs.Places.{IsFrames, first_of};
+ghost use Rattle.dch_inter.specs.Places.{first_of};
+ghost use Rattle.dch_types.specs.Limits.{IsFrames};
 ghost use Rattle.dch_ttibuf.specs.Loaded.{AreEmpty, AreInterleaved};
 
 use dch_bits::{NoMemory, Trit};

@@ -1,6 +1,6 @@
 -- The votes of a radio frame that is kept as it was written.
 use Rattle.std.proofs.Common.{◌≡◌, ◌+◌, ◌-◌, ◌*◌, ◌/◌, ◌<◌, ◌≤◌, ℕ, zero, suc, List, length, drop, get_or, arith, refl, ap, sym, ◌∙◌, subst, inl, inr, add-one}
-use Rattle.std.specs.Prelude.{slice_index, map}
+use Rattle.std.specs.Prelude.{slice_index, map, min}
 use Rattle.std.specs.List.{range_with_len}
 use Rattle.std.proofs.lemmas.Bool.{cases_lt}
 use Rattle.std.proofs.lemmas.List.{get_or-take, get_or-drop}
@@ -11,9 +11,9 @@ use Rattle.dch_bits.specs.declared.bit.Bit.TheVariants.{Zero}
 use Rattle.dch_bits.specs.declared.bit.Trit.{Trit}
 use Rattle.dch_bits.specs.declared.bit.Trit.TheVariants.{Off}
 use Rattle.dch_bits.specs.declared.bit.Vote.{Vote}
-use Rattle.dch_types.specs.Limits.{IsSide}
+use Rattle.dch_types.specs.Limits.{IsSide, IsFrames}
 use Rattle.dch_types.specs.Parts.{channel_at, format_number}
-use Rattle.dch_inter.specs.Places.{IsFrames, first_of, first_back_of, frame_of, place_of}
+use Rattle.dch_inter.specs.Places.{first_of, first_back_of, frame_of, place_of}
 use Rattle.dch_inter.proofs.FirstColumns.{first_of-back, frame_place}
 use Rattle.dch_match.specs.Uplinks.{IsPlan, before_of, uplink_pattern}
 use Rattle.dch_puncture.specs.Copies.{frame_copies}
@@ -23,19 +23,21 @@ use Rattle.dch_frame.specs.Votes.{copies_as_votes}
 use Rattle.dch_match.specs.Matched.{frame_pattern}
 use Rattle.dch_match.specs.declared.pattern.Pattern.{Pattern}
 use Rattle.dch_match.specs.declared.uplink_plan.UplinkPlan.{UplinkPlan}
-use Rattle.dch_match.proofs.SharesLemmas.{part_le}
+use Rattle.dch_types.proofs.Sums.{part_le}
 use Rattle.dch_frame.specs.Stages.{as_cell, origin_of, code_back}
 use Rattle.dch_frame.proofs.Carried.{rows_of, whole_rows, place_inside}
 use Rattle.dch_frame.proofs.Codes.{code_back-inside, code_place-back}
 use Rattle.dch_frame.proofs.Kept.{origin_of-inside}
-use Rattle.dch_accept.specs.Plans.{Planned, plan_at}
-use Rattle.dch_ulphy.specs.Frames.{frame_number, pattern_of, sent_cell, bits_before, multiplexed_cell, frame_cell}
+use Rattle.dch_accept.specs.Plans.{Planned}
+use Rattle.dch_puncture.specs.Plans.{plan_at}
+use Rattle.dch_ulphy.specs.Frames.{pattern_of, sent_cell, bits_before, multiplexed_cell, frame_cell}
+use Rattle.dch_ttibuf.specs.Loaded.{frame_number, loaded_at, Loaded}
 use Rattle.dch_rxframes.specs.RxFrames.{RxFrame}
-use Rattle.dch_ulphy.specs.Loaded.{AreInterleaved, Loaded, loaded_at}
+use Rattle.dch_ulphy.specs.Loaded.{AreInterleaved}
 use Rattle.dch_ulphy.specs.Read.{channel_cells, pattern_in}
 use Rattle.dch_ulphy.specs.Sent.{IsSentFrame}
-use Rattle.dch_ulphy.specs.Tables.{IsFrameSize, code_length}
-use Rattle.dch_ulphy.proofs.Sizes.{plan_sized}
+use Rattle.dch_frame.specs.Sizes.{IsFrameSize}
+use Rattle.dch_accept.proofs.Sizes.{plan_sized}
 use Rattle.dch_ulphy.proofs.Sent.{multiplexed_before, multiplexed_here}
 
 -- a place of channel i shows what that channel sends, however many channels follow
@@ -67,12 +69,12 @@ kept_cell : (planned : Planned) (i n c : ℕ) (loaded : Loaded) (kept : RxFrame)
 unfolding frame_cell
 kept_cell planned i n c loaded kept sent p size inside =
     let ndata : ℕ = (plan_at planned.uplink c).ndata in
-    let v : ℕ = code_length ndata in
+    let v : ℕ = min ndata 9600 in
     let long : length sent.frame.cells ≡ ndata = sent.written.shows.long in
     let some : 0 < v = omega arith in
     let there : code_back v p < ndata = code_back-inside ndata v p size.whole some inside in
     sent.back.shown p (omega (arith, sent.back.whole, long))
-    ∙ ap (λ m. get_or sent.frame.cells (code_back (code_length m) p) Off) long
+    ∙ ap (λ m. get_or sent.frame.cells (code_back (min m 9600) p) Off) long
     ∙ sent.written.shows.cells (code_back v p) (omega (arith, there, long))
     ∙ ap (multiplexed_cell planned sent.tti sent.cfn c (length planned.config.uplink.side.channels)) (code_place-back v p some)
 

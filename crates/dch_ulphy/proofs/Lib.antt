@@ -3,5 +3,3 @@ pub mod Demultiplexed
 pub mod Padded
 pub mod Sent
 pub mod SentBack
-pub mod Sizes
-pub mod Ttis

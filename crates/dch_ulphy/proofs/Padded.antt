@@ -8,7 +8,8 @@ use Rattle.dch_bits.specs.declared.bit.Bit.{Bit}
 use Rattle.dch_bits.specs.declared.bit.Bit.TheVariants.{Zero}
 use Rattle.dch_bits.specs.declared.bit.Trit.{Trit}
 use Rattle.dch_bits.specs.declared.bit.Trit.TheVariants.{Off}
-use Rattle.dch_inter.specs.Places.{IsFrames, first_column, first_of}
+use Rattle.dch_inter.specs.Places.{first_column, first_of}
+use Rattle.dch_types.specs.Limits.{IsFrames}
 use Rattle.dch_inter.proofs.FirstColumns.{frame_of_column, frame_of-below}
 use Rattle.dch_frame.specs.Stages.{as_cell}
 use Rattle.dch_ttibuf.specs.Loaded.{AreInterleaved as AreCellsInterleaved}

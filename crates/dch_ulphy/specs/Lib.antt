@@ -1,7 +1,5 @@
 pub mod Frames
-pub mod Kept
+pub mod Given
 pub mod Loaded
-pub mod Outcomes
 pub mod Read
 pub mod Sent
-pub mod Tables

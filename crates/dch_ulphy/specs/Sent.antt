@@ -1,9 +1,11 @@
 -- A TTI whose radio frames are kept just as they were written, and the copies of its bits.
 use Rattle.std.specs.Prelude.{◌≡◌, ℕ, List, length, slice_index}
 use Rattle.dch_bits.specs.declared.bit.Bit.{Bit}
+use Rattle.dch_types.specs.declared.channel.Dir.TheVariants.{Up}
 use Rattle.dch_types.specs.declared.config.Uplink.{Uplink}
 use Rattle.dch_types.specs.Parts.{channel_at, format_at}
 use Rattle.dch_inter.specs.Places.{frame_of, place_of}
+use Rattle.dch_legal.specs.Sequences.{IsLegal}
 use Rattle.dch_puncture.specs.Copies.{frame_copies}
 use Rattle.dch_accept.specs.Blocks.{bits_of}
 use Rattle.dch_accept.specs.Frames.{Frame}
@@ -12,22 +14,21 @@ use Rattle.dch_rxframes.specs.RxFrames.{RxFrame, RxFrames}
 use Rattle.dch_rxframes.specs.Sent.{AreSentFrames as AreSentFramesBy, IsSentFrame as IsSentFrameBy}
 use Rattle.dch_rxframes.specs.Pushed.{AreSentAndPushed as AreSentAndPushedBy}
 use Rattle.dch_ulphy.specs.Frames.{IsFrame}
-use Rattle.dch_ulphy.specs.Kept.{cells_in}
-use Rattle.dch_ulphy.specs.Loaded.{IsLoaded, IsTtiOf, Loaded}
-use Rattle.dch_ulphy.specs.Tables.{code_length}
+use Rattle.dch_ulphy.specs.Loaded.{IsLoaded, IsTtiOf}
+use Rattle.dch_ttibuf.specs.Loaded.{Loaded}
 
 -- the frame of a CFN and a combination shows loaded TTIs that fit the configuration
 pub record IsWritten (planned : Planned) (tti : List Loaded) (cfn c : ℕ) (frame : Frame) : Type 0 where
-  pub opened : IsTtiOf planned.config.uplink.side tti
+  pub opened : IsTtiOf planned tti
   pub shows : IsFrame planned tti cfn c frame
 
 -- a frame is kept as it was written in combination c, as frame n of the TTI of channel i, of which this was loaded
 abbrev pub IsSentFrame : Planned → ℕ → ℕ → ℕ → Loaded → RxFrame → Type 0
-IsSentFrame planned i n c loaded kept = IsSentFrameBy planned.config.uplink.side (IsWritten planned) code_length i n c loaded kept
+IsSentFrame planned i n c loaded kept = IsSentFrameBy planned Up (IsWritten planned) i n c loaded kept
 
 -- and so are all frames of the TTI, each in its combination of a sequence
 abbrev pub AreSentFrames : Planned → RxFrames → ℕ → List ℕ → Loaded → Type 0
-AreSentFrames planned reader i sequence loaded = AreSentFramesBy planned.config.uplink.side (IsWritten planned) code_length reader i sequence loaded
+AreSentFrames planned reader i sequence loaded = AreSentFramesBy planned Up (IsWritten planned) reader i sequence loaded
 
 -- the copies of coded bit j of a TTI of so many bits that are sent in a sequence of combinations
 abbrev pub tti_copies : Uplink → ℕ → List ℕ → ℕ → ℕ → ℕ
@@ -39,11 +40,17 @@ tti_copies uplink i sequence len j =
 -- blocks in format f were loaded for channel i, and all frames of the TTI are kept as they were written meanwhile
 pub record IsSentTti (planned : Planned) (reader : RxFrames) (i f : ℕ) (sequence : List ℕ) (blocks : List Bit) : Type 0 where
   pub loaded : Loaded
-  pub from : IsLoaded (channel_at planned.config.uplink.side i) f blocks loaded
+  pub from : IsLoaded planned i f blocks loaded
   pub whole : length blocks ≡ bits_of (format_at (channel_at planned.config.uplink.side i) f)
   pub frames : AreSentFrames planned reader i sequence loaded
+
+-- and so for some sequence of combinations that is legal for the channel and the format
+pub record WasSent (planned : Planned) (reader : RxFrames) (i f : ℕ) (blocks : List Bit) : Type 0 where
+  pub sequence : List ℕ
+  pub legal : IsLegal planned.config.uplink.side i f sequence
+  pub sent : IsSentTti planned reader i f sequence blocks
 
 -- the frames of a TTI of channel i are taken one after another from its first CFN on, just as they were written in a sequence of
 -- combinations, while this stayed loaded of the channel; reader n is what is kept before frame n
 abbrev pub AreSentAndPushed : Planned → ℕ → ℕ → List ℕ → Loaded → (ℕ → RxFrames) → Type 0
-AreSentAndPushed planned i first sequence loaded readers = AreSentAndPushedBy planned.config.uplink.side (IsWritten planned) (cells_in planned) code_length i first sequence loaded readers
+AreSentAndPushed planned i first sequence loaded readers = AreSentAndPushedBy planned Up (IsWritten planned) i first sequence loaded readers

@@ -2,24 +2,25 @@ ghost use Rattle.std.specs.Prelude.{◌≡◌, ◌≢◌, ◌<◌, ◌≤◌, �
 ghost use Rattle.dch_bits.specs.declared.bit.Bit.{Bit};
 ghost use Rattle.dch_bits.specs.declared.bit.Bit.TheVariants.{Zero};
 ghost use Rattle.dch_bits.specs.declared.bit.Vote.{Vote};
+ghost use Rattle.dch_types.specs.declared.channel.Dir.TheVariants.{Up};
 ghost use Rattle.dch_types.specs.Parts.{channel_at};
 ghost use Rattle.dch_inter.specs.Places.{frame_of, place_of};
 ghost use Rattle.dch_match.specs.Uplinks.{before_of};
 ghost use Rattle.dch_frame.specs.Votes.{copies_as_votes};
 ghost use Rattle.dch_puncture.specs.Copies.{frame_copies};
 ghost use Rattle.dch_ulphy.specs.Frames.{bits_before};
-ghost use Rattle.dch_rxframes.specs.RxFrames.{frame_at};
-ghost use Rattle.dch_ulphy.specs.Kept.{IsKeptOf, IsReaderOf};
-ghost use Rattle.dch_ulphy.specs.Loaded.{AreInterleaved, Loaded};
+ghost use Rattle.dch_rxframes.specs.RxFrames.{IsKeptOf, IsReaderOf, frame_at};
+ghost use Rattle.dch_ulphy.specs.Loaded.{AreInterleaved};
+ghost use Rattle.dch_ttibuf.specs.Loaded.{Loaded};
 ghost use Rattle.dch_ulphy.specs.Read.{channel_cells, frame_votes, tti_votes};
 ghost use Rattle.dch_ulphy.specs.Sent.{AreSentFrames, IsSentFrame, tti_copies};
 
-use crate::formats::frames_of;
 use dch_accept::Accepted;
 use dch_bits::{Trit, Vote};
 use dch_frame::rate_dematch;
 use dch_match::{UplinkPlan, frame};
 use dch_rxframes::{ReceivedFrame, ReceivedFrames};
+use dch_types::Dir;
 
 /// Counts the votes for the bits of a channel's TTI, padded to whole radio frames, in all of its frames. `counted` is room
 /// for the votes of one frame.
@@ -30,7 +31,7 @@ pub fn demultiplex_tti(
     counted: &mut [Vote],
     votes: &mut [Vote],
 )
-    requires opened { IsReaderOf accepted.now rx_frames.now }
+    requires opened { IsReaderOf accepted.now Up rx_frames.now }
     requires channel { channel < length accepted.now.config.uplink.side.channels }
     requires there { (n : ℕ) → n < (channel_at accepted.now.config.uplink.side channel).frames →
         (frame_at accepted.now.config.uplink.side rx_frames.now channel n).combination ≢ None }
@@ -46,7 +47,7 @@ pub fn demultiplex_tti(
     ensures few { (j : ℕ) (v : Vote) → j < length votes.new →
         (slice_index_or votes.new j v).zeros + (slice_index_or votes.new j v).ones ≤ 57600 }
 {
-    let frames = frames_of(accepted, channel);
+    let frames = accepted.frames_of(Dir::Up, channel);
     for n in 0..frames {
         demultiplex_frame(
             accepted,
@@ -68,7 +69,7 @@ fn demultiplex_frame(
     counted: &mut [Vote],
     votes: &mut [Vote],
 )
-    requires kept { IsKeptOf accepted.now kept.now }
+    requires kept { IsKeptOf accepted.now Up kept.now }
     requires channel { channel < length accepted.now.config.uplink.side.channels }
     requires frame { n < (channel_at accepted.now.config.uplink.side channel).frames }
     requires there { kept.now.combination ≢ None }
@@ -97,7 +98,7 @@ fn demultiplex_frame(
     let config = &accepted.config().uplink;
     let plan = accepted.uplink_plan(combination);
     let pattern = frame(config, combination, plan, channel, n);
-    let frames = frames_of(accepted, channel) as usize;
+    let frames = accepted.frames_of(Dir::Up, channel) as usize;
     let cells = channel_cells(plan, channel as usize, kept.cells());
     rate_dematch(frames, n as usize, &pattern, cells, counted, votes);
 }

@@ -3,12 +3,9 @@
 #![tactic(auto)]
 
 mod demultiplexing;
-mod formats;
 mod laws;
 mod pad;
 mod reader;
-mod reception;
-mod tables;
 mod tti;
 mod writer;
 

@@ -1,7 +1,7 @@
 ghost use Rattle.std.specs.Prelude.{◌≡◌, ◌<◌, ◌≤◌, ◌+◌, ◌*◌, ◌%◌, ℕ, length, slice_index_or};
 ghost use Rattle.dch_bits.specs.declared.bit.Bit.TheVariants.{Zero};
 ghost use Rattle.dch_bits.specs.declared.bit.Trit.TheVariants.{Off};
-ghost use Rattle.dch_inter.specs.Places.{IsFrames};
+ghost use Rattle.dch_types.specs.Limits.{IsFrames};
 ghost use Rattle.dch_frame.specs.Stages.{as_cell};
 ghost use Rattle.dch_types.specs.Lengths.{padded};
 

@@ -2,15 +2,15 @@ ghost use Rattle.std.specs.Prelude.{◌≡◌, ◌≢◌, ◌<◌, ℕ, length, 
 ghost use Rattle.dch_types.specs.Limits.{IsChannel};
 ghost use Rattle.dch_types.specs.Parts.{channel_at, format_at};
 ghost use Rattle.dch_accept.specs.Blocks.{bits_of};
-ghost use Rattle.dch_ulphy.specs.Loaded.{IsLoaded, IsLong, IsTtiOf, loaded_at};
+ghost use Rattle.dch_ttibuf.specs.Loaded.{IsLong, loaded_at};
+ghost use Rattle.dch_ulphy.specs.Loaded.{IsLoaded, IsPadded, IsTtiOf, padded_cells};
 
 use crate::pad::pad;
-use crate::tables::Tables;
 use dch_accept::Accepted;
 use dch_bits::{Bit, NoMemory, Trit};
 use dch_coding::TtiCoder;
 use dch_ttibuf::{TtiBuffer, tti_buffers};
-use dch_types::{MAX_TTI_BITS, Trch};
+use dch_types::{Dir, MAX_TTI_BITS, Trch};
 use std::alloc::Global;
 use std::marker::Model;
 
@@ -20,13 +20,12 @@ pub struct UlTti {
     coder: TtiCoder,
     coded: Vec<Bit>,
     padded: Vec<Trit>,
-    tables: Tables,
     tti_buffers: Vec<TtiBuffer>,
 }
 
 impl Model for UlTti {
     ghost use Rattle.std.specs.Prelude.{◌≡◌, List, length};
-    ghost use Rattle.dch_ulphy.specs.Loaded.{Loaded};
+    ghost use Rattle.dch_ttibuf.specs.Loaded.{Loaded};
 
     ghost Value = { List Loaded };
 
@@ -38,14 +37,13 @@ impl Model for UlTti {
 impl UlTti {
     /// Takes all memory that coding and sending want. Nothing is loaded.
     pub fn open(alloc: Global, accepted: &Accepted) -> Result<UlTti, NoMemory>
-        ensures { IfOk result (IsTtiOf accepted.now.config.uplink.side) }
+        ensures { IfOk result (IsTtiOf accepted.now) }
     {
         let channels = accepted.config().uplink.side.channels.len();
         Ok(UlTti {
             coder: TtiCoder::open(alloc)?,
             coded: vec![in alloc; Bit::Zero; MAX_TTI_BITS]?,
             padded: vec![in alloc; Trit::Off; MAX_TTI_BITS]?,
-            tables: Tables::open(alloc)?,
             tti_buffers: tti_buffers(alloc, channels)?,
         })
     }
@@ -53,15 +51,15 @@ impl UlTti {
     /// Loads the blocks of a channel for its next TTI: as many as the format has, one after another. They replace those
     /// that were loaded for that channel.
     pub fn load(&mut self, accepted: &Accepted, channel: u8, format: u8, blocks: &[Bit])
-        requires opened { IsTtiOf accepted.now.config.uplink.side self.old }
+        requires opened { IsTtiOf accepted.now self.old }
         requires channel { channel < length accepted.now.config.uplink.side.channels }
         requires format { format < length (channel_at accepted.now.config.uplink.side channel).formats }
         requires blocks { length blocks.now ≡ bits_of (format_at (channel_at accepted.now.config.uplink.side channel) format) }
-        ensures opened { IsTtiOf accepted.now.config.uplink.side self.new }
-        ensures loaded { IsLoaded (channel_at accepted.now.config.uplink.side channel) format blocks.now (loaded_at self.new channel) }
+        ensures opened { IsTtiOf accepted.now self.new }
+        ensures loaded { IsLoaded accepted.now channel format blocks.now (loaded_at self.new channel) }
         ensures same { (i : ℕ) → i ≢ channel → loaded_at self.new i ≡ loaded_at self.old i }
     {
-        let trch = accepted.config().uplink.side.channel(channel as usize);
+        let trch = accepted.channel(Dir::Up, channel);
         let buffer = &mut self.tti_buffers[channel as usize];
         load(
             &mut self.coder,
@@ -77,15 +75,10 @@ impl UlTti {
 
 impl UlTti {
     /// What is loaded of each channel.
-    pub(crate) fn tti_buffers(&self) -> &[TtiBuffer]
+    pub fn tti_buffers(&self) -> &[TtiBuffer]
         ensures { result.now ≡ self.now }
     {
         &self.tti_buffers
-    }
-
-    /// The tables of the second interleaver.
-    pub(crate) fn tables(&self) -> &Tables {
-        &self.tables
     }
 }
 
@@ -104,8 +97,8 @@ fn load(
     requires blocks { length blocks.now ≡ bits_of (format_at channel.now format) }
     requires room { length coded.old ≡ 131072 }
     requires padded { length padded.old ≡ 131072 }
-    ensures loaded { IsLoaded channel.now format blocks.now buffer.new }
-    ensures long { IsLong channel.now buffer.new }
+    ensures loaded { IsPadded channel.now format blocks.now buffer.new }
+    ensures long { IsLong channel.now (padded_cells channel.now) buffer.new }
 {
     let kind = channel.format(format as usize);
     let coded = &mut coded[..channel.tti_bits(kind) as usize];

@@ -1,25 +1,26 @@
-ghost use Rattle.std.specs.Prelude.{◌≡◌, ◌<◌, ◌≤◌, ◌+◌, ◌*◌, ◌^◌, ℕ, length, slice_index, slice_index_or};
+ghost use Rattle.std.specs.Prelude.{◌≡◌, ◌<◌, ◌≤◌, ◌+◌, ◌*◌, ℕ, length, slice_index, slice_index_or};
 ghost use Rattle.dch_bits.specs.declared.bit.Trit.TheVariants.{Off};
 ghost use Rattle.dch_types.specs.declared.channel.Dir.TheVariants.{Up};
+ghost use Rattle.dch_accept.specs.Cells.{frame_cells};
 ghost use Rattle.dch_accept.specs.Frames.{IsOpenedFor};
-ghost use Rattle.dch_accept.specs.Plans.{plan_at};
-ghost use Rattle.dch_ulphy.specs.Loaded.{IsTtiOf, loaded_at};
-ghost use Rattle.dch_ulphy.specs.Tables.{IsFrameSize};
-ghost use Rattle.dch_ulphy.specs.Frames.{AreFormats, IsFrame, frame_cell, multiplexed_cell, sent_cell};
+ghost use Rattle.dch_puncture.specs.Plans.{plan_at};
+ghost use Rattle.dch_ulphy.specs.Loaded.{IsTtiOf};
+ghost use Rattle.dch_ttibuf.specs.Loaded.{loaded_at, AreFormats};
+ghost use Rattle.dch_ulphy.specs.Frames.{IsFrame, frame_cell, multiplexed_cell, sent_cell};
 
 use crate::tti::UlTti;
 use dch_accept::{Accepted, PhyFrame};
 use dch_bits::Trit;
 use dch_frame::rate_match;
 use dch_match::frame;
-use dch_rxframes::frames_of;
 use dch_tfci::send;
 use dch_ttibuf::TtiBuffer;
+use dch_types::Dir;
 
 /// Writes the radio frame of a CFN in a combination: its TFCI, and of each channel the radio frame of its TTI that is on
 /// (TS 25.212 4.2.5 to 4.2.12, 4.3.3).
 pub fn write(accepted: &Accepted, tti: &UlTti, cfn: u8, combination: u16, out: &mut PhyFrame)
-    requires opened { IsTtiOf accepted.now.config.uplink.side tti.now }
+    requires opened { IsTtiOf accepted.now tti.now }
     requires frame { IsOpenedFor accepted.now.config Up out.old }
     requires combination { combination < length accepted.now.config.uplink.side.combinations }
     requires formats { AreFormats accepted.now.config.uplink.side combination tti.now }
@@ -28,7 +29,7 @@ pub fn write(accepted: &Accepted, tti: &UlTti, cfn: u8, combination: u16, out: &
 {
     // A good configuration has at most 128 combinations.
     let _config = accepted.config();
-    let cells = accepted.uplink_plan(combination).ndata as usize;
+    let cells = accepted.frame_cells(Dir::Up, combination);
     out.shape(cells);
     send(combination, out.tfci_mut());
     write_cells(accepted, tti, cfn, combination, cells, out.workspace_mut());
@@ -43,18 +44,19 @@ fn write_cells(
     count: usize,
     out: &mut [Trit],
 )
-    requires opened { IsTtiOf accepted.now.config.uplink.side tti.now }
+    requires opened { IsTtiOf accepted.now tti.now }
     requires combination { combination < length accepted.now.config.uplink.side.combinations }
     requires formats { AreFormats accepted.now.config.uplink.side combination tti.now }
-    requires count { count ≡ (plan_at accepted.now.uplink combination).ndata }
-    requires size { IsFrameSize count }
-    requires small { count < 2 ^ 32 }
+    requires count { count ≡ frame_cells accepted.now Up combination }
+    requires small { count ≤ 57600 }
     requires room { length out.old ≡ 2 * count }
     ensures { (k : ℕ) → k < count → slice_index_or out.new k Off ≡ frame_cell accepted.now tti.now cfn combination k }
 {
     let (cells, stream) = out.split_at_mut(count);
     multiplex(accepted, tti.tti_buffers(), cfn, combination, stream);
-    tti.tables().interleave(stream, cells);
+    accepted
+        .interleaver(Dir::Up, combination)
+        .write(stream, cells);
 }
 
 /// Writes the channels' cells one after another.
@@ -65,11 +67,11 @@ fn multiplex(
     combination: u16,
     out: &mut [Trit],
 )
-    requires opened { IsTtiOf accepted.now.config.uplink.side tti_buffers.now }
+    requires opened { IsTtiOf accepted.now tti_buffers.now }
     requires combination { combination < length accepted.now.config.uplink.side.combinations }
     requires formats { AreFormats accepted.now.config.uplink.side combination tti_buffers.now }
     requires room { length out.old ≡ (plan_at accepted.now.uplink combination).ndata }
-    requires small { length out.old < 2 ^ 32 }
+    requires small { length out.old ≤ 57600 }
     ensures { (p : ℕ) → p < length out.new → slice_index_or out.new p Off ≡ multiplexed_cell accepted.now tti_buffers.now cfn combination (length accepted.now.config.uplink.side.channels) p }
 {
     let channels = accepted.config().uplink.side.channels.len();
@@ -98,7 +100,7 @@ fn write_channel(
     i: usize,
     out: &mut [Trit],
 )
-    requires opened { IsTtiOf accepted.now.config.uplink.side tti_buffers.now }
+    requires opened { IsTtiOf accepted.now tti_buffers.now }
     requires combination { combination < length accepted.now.config.uplink.side.combinations }
     requires formats { AreFormats accepted.now.config.uplink.side combination tti_buffers.now }
     requires channel { i < length accepted.now.config.uplink.side.channels }
@@ -106,7 +108,7 @@ fn write_channel(
     ensures { (q : ℕ) → q < length out.new → slice_index_or out.new q Off ≡ sent_cell accepted.now tti_buffers.now cfn combination i q }
 {
     let config = &accepted.config().uplink;
-    let n = cfn % frames_of(&config.side, i as u8);
+    let n = cfn % accepted.frames_of(Dir::Up, i as u8);
     let pattern = frame(
         config,
         combination,

@@ -1,5 +1,5 @@
 use Rattle.std.proofs.Common.{◌+◌, ap, sym, ◌∙◌}
-use Rattle.dch_match.proofs.SharesLemmas.{total-zero, total-more}
+use Rattle.dch_types.proofs.Sums.{total-more, total-zero}
 use Rattle.dch_dlphy.specs.Frames.{bits_before, bits_per_frame}
 use Rattle.dch_dlphy.proofs.demultiplexing.bits_before.Goals as goal
 

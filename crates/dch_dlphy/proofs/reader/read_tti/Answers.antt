@@ -13,7 +13,8 @@ use Rattle.dch_frame.specs.Votes.{votes_of}
 use Rattle.dch_frame.proofs.Kept.{copies_inside}
 use Rattle.dch_decode.specs.Received.{IsReceived}
 use Rattle.dch_collision.specs.Clear.{IsClear}
-use Rattle.dch_dlphy.specs.Read.{AreKeptCells, bits_per_tti}
+use Rattle.dch_dlphy.specs.Loaded.{tti_cells}
+use Rattle.dch_dlphy.specs.Read.{AreKeptCells}
 use Rattle.dch_dlphy.proofs.Demultiplexed.{kept_cells, tti_read}
 use Rattle.dch_dlphy.proofs.SentBack.{tti_arrives}
 use Rattle.dch_dlphy.proofs.reader.read_tti.Goals as goal
@@ -34,9 +35,9 @@ returns-clause-read c =
     let pattern : Pattern = c.pattern_of-pattern.result in
     let rx_frames : List Trit = c.demultiplex_tti.new.out in
     let votes : List Vote = c.count_votes.new.out in
-    let long : length rx_frames ≡ bits_per_tti planned i f = search rules in
+    let long : length rx_frames ≡ tti_cells planned i f = search rules in
     let fits : c.kept.result ≤ length rx_frames = search rules in
-    let same = c.channel_of-trch.ensures.value in
+    let same = c.channel-trch.ensures.value in
     let kind : c.format-kind.result.now ≡ format_at (channel_at planned.config.downlink.side i) f = c.format-kind.ensures.value ∙ ap (λ (channel : Trch). format_at channel f) same in
     let sized : length votes ≡ pattern.len = search rules in
     let kept : AreKeptCells planned c.args.rx_frames.now i f (take c.kept.result rx_frames) = kept_cells planned c.args.rx_frames.now i f c.kept.result pattern rx_frames c.pattern_of-pattern.ensures.value c.kept.ensures.sum long fits c.demultiplex_tti.ensures in
@@ -52,12 +53,12 @@ returns-clause-undamaged c sequence blocks =
     let i : ℕ = c.args.channel in
     let f : ℕ = c.args.format in
     let rx_frames : List Trit = c.demultiplex_tti.new.out in
-    let long : length rx_frames ≡ bits_per_tti planned i f = search rules in
+    let long : length rx_frames ≡ tti_cells planned i f = search rules in
     let fits : c.kept.result ≤ length rx_frames = search rules in
     let good : IsGood planned.config = subst IsGood c.config-config.ensures.value c.config-config.ensures.good in
     let clear : IsClear planned.config = subst IsClear c.config-config.ensures.value c.config-config.ensures.clear in
     let plan : IsDownlinkPlan planned.config.downlink planned.downlink = subst (IsDownlinkPlan planned.config.downlink) c.downlink_plan-plan.ensures.value c.downlink_plan-plan.ensures.plan in
     let kept : AreKeptCells planned c.args.rx_frames.now i f (take c.kept.result rx_frames) = kept_cells planned c.args.rx_frames.now i f c.kept.result c.pattern_of-pattern.result rx_frames c.pattern_of-pattern.ensures.value c.kept.ensures.sum long fits c.demultiplex_tti.ensures in
-    tti_arrives planned c.args.rx_frames.now i f sequence c.channel_of-trch.result.now c.format-kind.result.now c.pattern_of-pattern.result (take c.kept.result rx_frames) c.count_votes.new.out c.read.new.out blocks
-    c.channel_of-trch.ensures.value c.format-kind.ensures.value c.pattern_of-pattern.ensures.value good.downlink plan c.requires.opened c.requires.channel kept
+    tti_arrives planned c.args.rx_frames.now i f sequence c.channel-trch.result.now c.format-kind.result.now c.pattern_of-pattern.result (take c.kept.result rx_frames) c.count_votes.new.out c.read.new.out blocks
+    c.channel-trch.ensures.value c.format-kind.ensures.value c.pattern_of-pattern.ensures.value good.downlink plan c.requires.opened c.requires.channel kept
     (omega (arith, length-take-le c.kept.result rx_frames fits, fits, long)) c.count_votes.ensures.undamaged c.read.ensures.undamaged clear

@@ -1,7 +1,7 @@
 use Rattle.std.proofs.Common.{◌+◌, ◌≤◌, arith, ap, sym, ◌∙◌}
 use Rattle.std.specs.Prelude.{slice_index}
-use Rattle.dch_match.specs.Shares.{total}
-use Rattle.dch_match.proofs.SharesLemmas.{total-zero, total-more, part_le}
+use Rattle.dch_types.specs.Sums.{total}
+use Rattle.dch_types.proofs.Sums.{part_le, total-more, total-zero}
 use Rattle.dch_ulphy.proofs.demultiplexing.bits_before.Goals as goal
 
 pub loop-before-init : goal.loop-before-init

@@ -10,9 +10,9 @@ use Rattle.dch_match.specs.Patterns.{copies_below}
 use Rattle.dch_match.specs.Uplinks.{before_of, sent_of, uplink_pattern}
 use Rattle.dch_frame.specs.Stages.{origin_of}
 use Rattle.dch_frame.proofs.Kept.{origin_of-inside}
-use Rattle.dch_accept.specs.Plans.{plan_at}
-use Rattle.dch_ulphy.specs.Loaded.{Loaded, loaded_at}
-use Rattle.dch_ulphy.specs.Frames.{frame_number, pattern_of}
+use Rattle.dch_puncture.specs.Plans.{plan_at}
+use Rattle.dch_ttibuf.specs.Loaded.{loaded_at, Loaded, frame_number}
+use Rattle.dch_ulphy.specs.Frames.{pattern_of}
 use Rattle.dch_ulphy.proofs.Sent.{segment_room, sent_is}
 use Rattle.dch_ulphy.proofs.writer.write_channel.Goals as goal
 
@@ -24,7 +24,7 @@ segment-requires c =
     let n : ℕ = c.args.cfn % c.frames_of.result in
     let before : ℕ = before_of side comb i in
     let value = c.config.ensures.value in
-    let frames : c.frames_of.result ≡ (channel_at side i).frames = c.frames_of.ensures.value ∙ ap (λ (config : Config). (channel_at config.uplink.side i).frames) value in
+    let frames : c.frames_of.result ≡ (channel_at side i).frames = c.frames_of.ensures.value in
     let len : c.frame-pattern.result.len ≡ before = c.frame-pattern.ensures.len ∙ ap (λ (config : Config). before_of config.uplink.side comb i) value in
     let good : IsGood c.args.accepted.now.config = subst IsGood value c.config.ensures.good in
     let small : n < c.frames_of.result = mod_below c.args.cfn c.frames_of.result c.frames_of.ensures.some in
@@ -42,7 +42,7 @@ returns c q inside =
     let pattern : Pattern = c.frame-pattern.result in
     let plan : UplinkPlan = c.uplink_plan.result.now in
     let value = c.config.ensures.value in
-    let frame : n ≡ frame_number side i c.args.cfn = ap (λ f. c.args.cfn % f) (c.frames_of.ensures.value ∙ ap (λ (config : Config). (channel_at config.uplink.side i).frames) value) in
+    let frame : n ≡ frame_number side i c.args.cfn = ap (λ f. c.args.cfn % f) c.frames_of.ensures.value in
     let kept : copies_below pattern.kind pattern.len ≡ sent_of side comb plan.ndata i = c.frame-pattern.ensures.kept ∙ ap (λ (config : Config). sent_of config.uplink.side comb plan.ndata i) value in
     let fits : length c.args.out.now ≡ copies_below pattern.kind pattern.len =
     c.requires.room ∙ ap (λ (plan : UplinkPlan). slice_index plan.sent i) (sym c.uplink_plan.ensures.value) ∙ c.uplink_plan.ensures.plan.sent i c.requires.channel ∙ sym kept in

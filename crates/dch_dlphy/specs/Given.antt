@@ -1,0 +1,10 @@
+-- Where blocks were sent, all radio frames of their TTI give the channel the format of the blocks.
+use Rattle.dch_types.specs.declared.channel.Dir.TheVariants.{Down}
+use Rattle.dch_rxframes.specs.Outcomes.{GivesItsFormat}
+use Rattle.dch_rxframes.proofs.Sent.{sent_formats}
+use Rattle.dch_dlphy.specs.Frames.{IsFrame}
+use Rattle.dch_dlphy.specs.Sent.{WasSent}
+
+pub gives_its_format : GivesItsFormat Down WasSent
+gives_its_format planned reader i f blocks was channel =
+    sent_formats planned Down (IsFrame planned) reader i f was.sequence was.sent.loaded was.sent.frames was.sent.from.format channel

@@ -1,0 +1,120 @@
+ghost use Rattle.std.specs.Prelude.{◌≡◌, ◌<◌, ℕ, List, length, IfOk};
+ghost use Rattle.dch_bits.specs.declared.bit.Bit.{Bit};
+ghost use Rattle.dch_types.specs.declared.channel.Dir.{Dir};
+ghost use Rattle.dch_types.specs.Parts.{side_of};
+ghost use Rattle.dch_accept.specs.Blocks.{Held, HoldsTtis};
+ghost use Rattle.dch_accept.specs.Frames.{most_cells};
+ghost use Rattle.dch_accept.specs.Plans.{Planned};
+ghost use Rattle.dch_decode.specs.Received.{ArrivesAs};
+ghost use Rattle.dch_rxframes.specs.Formats.{IsFormatOf};
+ghost use Rattle.dch_rxframes.specs.Outcomes.{GivesItsFormat, IsOutcome, IsSentBack};
+ghost use Rattle.dch_rxframes.specs.Pushed.{IsPushed};
+ghost use Rattle.dch_rxframes.specs.RxFrames.{AreMissing, HasTfci, IsReaderOf, RxFrames};
+
+use crate::outcome::TtiOutcome;
+use crate::received_frames::ReceivedFrames;
+use dch_accept::{Accepted, FrameView, TtiBlocks};
+use dch_bits::NoMemory;
+use dch_types::Dir;
+use std::alloc::Global;
+use std::marker::Model;
+
+/// How a direction reads the TTI of a channel from the radio frames that are kept of it: its votes are counted and decoded.
+pub trait ReadTti {
+    ghost dir: { Dir };
+
+    // What is read of a channel.
+    ghost reads: { Planned → RxFrames → ℕ → Held → Type 0 };
+
+    // Blocks of a channel in a format were sent, and the radio frames of their TTI are kept as they were written.
+    ghost sent: { Planned → RxFrames → ℕ → ℕ → List Bit → Type 0 };
+
+    /// The direction.
+    fn dir() -> Dir
+        ensures { result ≡ dir };
+
+    /// Takes all memory that reading wants.
+    fn open(alloc: Global) -> Result<Self, NoMemory>;
+
+    /// Reads the TTI of a channel in a format that all of its radio frames give it.
+    fn read(
+        &mut self,
+        accepted: &Accepted,
+        rx_frames: &ReceivedFrames,
+        channel: u8,
+        format: u8,
+        out: &mut TtiBlocks,
+    )
+        requires opened { IsReaderOf accepted.now dir rx_frames.now }
+        requires blocks { HoldsTtis (side_of accepted.now.config dir) out.old.room }
+        requires channel { channel < length (side_of accepted.now.config dir).channels }
+        requires format { IsFormatOf (side_of accepted.now.config dir) rx_frames.now channel format }
+        ensures read { reads accepted.now rx_frames.now channel out.new }
+        ensures undamaged { (blocks : List Bit) → sent accepted.now rx_frames.now channel format blocks → ArrivesAs blocks out.new }
+        ensures number { out.new.format ≡ format }
+        ensures room { out.new.room ≡ out.old.room };
+
+    /// The radio frames of such a TTI give the channel the format in which its blocks were sent.
+    ghost gives: { GivesItsFormat dir sent };
+}
+
+/// Received radio frames of a direction, and the room to read the TTIs of its channels from them.
+#[derive(Drop)]
+pub struct TtiReader<R> {
+    rx_frames: ReceivedFrames,
+    scratch: R,
+}
+
+impl<R> Model for TtiReader<R> {
+    ghost use Rattle.dch_rxframes.specs.RxFrames.{RxFrames};
+
+    ghost Value = { RxFrames };
+
+    ghost view = { λ r. r.rx_frames };
+}
+
+impl<R: ReadTti + Drop> TtiReader<R> {
+    /// Takes all memory that receiving wants. No frame is there.
+    pub fn open(alloc: Global, accepted: &Accepted) -> Result<TtiReader<R>, NoMemory>
+        ensures missing { IfOk result (λ reader. AreMissing (most_cells accepted.now.config R.dir) 8 reader.frames) }
+        ensures opened { IfOk result (IsReaderOf accepted.now R.dir) }
+    {
+        Ok(TtiReader {
+            rx_frames: ReceivedFrames::open(alloc, accepted.most_cells(R::dir()))?,
+            scratch: R::open(alloc)?,
+        })
+    }
+
+    /// Takes the radio frame of the next CFN, or that it is missing. The last 8 are held. A frame is kept where its TFCI
+    /// names a combination of the list and it is as long as the frames of that one (TS 25.212 4.3.3, 4.3.5); otherwise it
+    /// counts as missing.
+    pub fn push(&mut self, accepted: &Accepted, cfn: u8, frame: Option<FrameView<'_>>)
+        requires opened { IsReaderOf accepted.now R.dir self.old }
+        requires tfci { HasTfci accepted.now R.dir frame }
+        ensures pushed { IsPushed accepted.now R.dir cfn frame.entry self.old self.new }
+        ensures opened { IsReaderOf accepted.now R.dir self.new }
+    {
+        self.rx_frames.push(accepted, R::dir(), cfn, frame);
+    }
+
+    /// Reads the TTI of a channel that the last frame ends (TS 25.212 4.2.1 to 4.2.12, read backwards). A bad frame leaves the
+    /// blocks as they were.
+    pub fn read(&mut self, accepted: &Accepted, channel: u8, out: &mut TtiBlocks) -> TtiOutcome
+        requires opened { IsReaderOf accepted.now R.dir self.old }
+        requires blocks { HoldsTtis (side_of accepted.now.config R.dir) out.old.room }
+        requires channel { channel < length (side_of accepted.now.config R.dir).channels }
+        ensures outcome { IsOutcome (side_of accepted.now.config R.dir) (R.reads accepted.now) self.old channel out.old result out.new }
+        ensures undamaged { (format : ℕ) (blocks : List Bit) → R.sent accepted.now self.old channel format blocks → IsSentBack format blocks result out.new }
+        ensures room { out.new.room ≡ out.old.room }
+        ensures kept { self.new ≡ self.old }
+    {
+        match self.rx_frames.format_of_tti(accepted, R::dir(), channel) {
+            Ok(format) => {
+                self.scratch
+                    .read(accepted, &self.rx_frames, channel, format, out);
+                TtiOutcome::Blocks
+            }
+            Err(n) => TtiOutcome::BadFrame(n),
+        }
+    }
+}
