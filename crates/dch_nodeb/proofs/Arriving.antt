@@ -6,8 +6,10 @@ use Rattle.dch_accept.specs.Plans.{Planned}
 use Rattle.dch_script.specs.Held.{Held as Text}
 use Rattle.dch_nodeb.specs.Moves.{IsRefused, IsTaken, Keeps}
 use Rattle.dch_nodeb.specs.Standing.{NothingSent, KeepsFrame, Represents, Stepped}
-use Rattle.dch_nodeb.specs.State.{IubFrame, DownlinkIubFrame, State, keeping, no_output}
-use Rattle.dch_nodeb.specs.Steps.{blocks_at}
+use Rattle.dch_node.specs.Lines.{Line, text_of}
+use Rattle.dch_node.specs.Values.{no_output, says}
+use Rattle.dch_nodeb.specs.State.{IubFrame, DownlinkIubFrame, State, keeping}
+use Rattle.dch_node.specs.IubFrames.{blocks_at}
 use Rattle.dch_nodeb.specs.Values.{Node, IubRxBuffer, rx_buffer_at}
 
 -- the frame that is kept for a set, where one for another set is kept too
@@ -21,10 +23,10 @@ keeps-other side state set s frame old new other same keeps = elim (eqb_tells s 
 keeps-own : (side : Side) (state : State) (set s : ℕ) (frame : DownlinkIubFrame) (new : IubRxBuffer) → s ≡ set → KeepsFrame side s (Some frame) new → KeepsFrame side s ((keeping state set frame).kept s) new
 keeps-own side state set s frame new same keeps = rw (eq-eqb s set same) keeps
 
-taken_step : (planned : Planned) (state : State) (node : Node) (new : List IubRxBuffer) (set : ℕ) (octets text : List ℕ) (before after : Text) → Represents planned state node → NothingSent node
-    → ((s : ℕ) → s ≢ set → rx_buffer_at new s ≡ rx_buffer_at node.rx_buffers s) → IsTaken planned set octets (rx_buffer_at new set) text → after ≡ record before { text = before.text ++ text }
+taken_step : (planned : Planned) (state : State) (node : Node) (new : List IubRxBuffer) (set : ℕ) (octets : List ℕ) (lines : List Line) (before after : Text) → Represents planned state node → NothingSent node
+    → ((s : ℕ) → s ≢ set → rx_buffer_at new s ≡ rx_buffer_at node.rx_buffers s) → IsTaken planned set octets (rx_buffer_at new set) lines → after ≡ record before { text = before.text ++ text_of lines }
     → Stepped planned state (IubFrame set octets) (record node { rx_buffers = new }) before.text after.text
-taken_step planned state node new set octets text before after stands quiet others taken told =
+taken_step planned state node new set octets lines before after stands quiet others taken reported =
     let filled = taken.filled in
     let frame : DownlinkIubFrame = record { cfn = filled.cfn; blocks = blocks_at (rx_buffer_at new set).held } in
     record {
@@ -42,21 +44,21 @@ taken_step planned state node new set octets text before after stands quiet othe
         frames = stands.frames;
       };
       shows = record { radio = rw quiet.radio refl; iub = quiet.iub };
-      told = ap (λ (t : Text). t.text) told ∙ ap (λ (t : List ℕ). before.text ++ t) taken.quiet;
+      reported = ap (λ (t : Text). t.text) reported ∙ ap (λ (l : List Line). before.text ++ text_of l) taken.quiet;
     }
 
-refused_step : (planned : Planned) (state : State) (node : Node) (new : List IubRxBuffer) (set : ℕ) (octets text : List ℕ) (before after : Text) → Represents planned state node → NothingSent node
-    → ((s : ℕ) → s ≢ set → rx_buffer_at new s ≡ rx_buffer_at node.rx_buffers s) → IsRefused planned set octets (rx_buffer_at node.rx_buffers set) (rx_buffer_at new set) text → after ≡ record before { text = before.text ++ text }
+refused_step : (planned : Planned) (state : State) (node : Node) (new : List IubRxBuffer) (set : ℕ) (octets : List ℕ) (lines : List Line) (before after : Text) → Represents planned state node → NothingSent node
+    → ((s : ℕ) → s ≢ set → rx_buffer_at new s ≡ rx_buffer_at node.rx_buffers s) → IsRefused planned set octets (rx_buffer_at node.rx_buffers set) (rx_buffer_at new set) lines → after ≡ record before { text = before.text ++ text_of lines }
     → Stepped planned state (IubFrame set octets) (record node { rx_buffers = new }) before.text after.text
-refused_step planned state node new set octets text before after stands quiet others refused told =
+refused_step planned state node new set octets lines before after stands quiet others refused reported =
     let same : (s : ℕ) → rx_buffer_at new s ≡ rx_buffer_at node.rx_buffers s = (λ s. elim (eqb_tells s set) [
       | inl is ↦ subst (λ k. rx_buffer_at new k ≡ rx_buffer_at node.rx_buffers k) (sym is.1) refused.same
       | inr other ↦ others s other.1
     ]) in
     record {
       next = state;
-      output = record no_output { text = text };
-      step = inr (record { error = refused.error; cause = refused.cause; state = refl; told = ap (λ (t : List ℕ). record no_output { text = t }) refused.told });
+      output = says lines;
+      step = inr (record { error = refused.error; cause = refused.cause; state = refl; reported = ap says refused.reported });
       stands = record {
         cfn = stands.cfn;
         kept = λ s few. subst (λ (p : IubRxBuffer). KeepsFrame planned.config.downlink.side s (state.kept s) p) (sym (same s)) (stands.kept s few);
@@ -64,13 +66,13 @@ refused_step planned state node new set octets text before after stands quiet ot
         frames = stands.frames;
       };
       shows = record { radio = rw quiet.radio refl; iub = quiet.iub };
-      told = ap (λ (t : Text). t.text) told;
+      reported = ap (λ (t : Text). t.text) reported;
     }
 
 -- the step of a frame that arrives
 pub arrived : (planned : Planned) (state : State) (node : Node) (new : List IubRxBuffer) (set : ℕ) (octets : List ℕ) (before after : Text) → NothingSent node → Keeps planned set octets node.rx_buffers new before after
     → Represents planned state node → Stepped planned state (IubFrame set octets) (record node { rx_buffers = new }) before.text after.text
 arrived planned state node new set octets before after quiet keeps stands = elim keeps.took [
-  | inl taken ↦ taken_step planned state node new set octets keeps.text before after stands quiet keeps.others taken keeps.told
-  | inr refused ↦ refused_step planned state node new set octets keeps.text before after stands quiet keeps.others refused keeps.told
+  | inl taken ↦ taken_step planned state node new set octets keeps.lines before after stands quiet keeps.others taken keeps.reported
+  | inr refused ↦ refused_step planned state node new set octets keeps.lines before after stands quiet keeps.others refused keeps.reported
 ]

@@ -1,5 +1,5 @@
 -- The downlink radio frame that is due, as a step of the definition.
-use Rattle.std.proofs.Common.{◌≡◌, ◌<◌, ◌∙◌, ◌*◌, ℕ, List, [], length, refl, ap, sym, subst, inl, inr, true, false, Option, Some, None, arith}
+use Rattle.std.proofs.Common.{◌≡◌, ◌<◌, ◌∙◌, ◌*◌, ℕ, List, [], ◌∷◌, length, refl, ap, sym, subst, inl, inr, true, false, Option, Some, None, arith}
 use Rattle.std.specs.Prelude.{replicate, slice_index}
 use Rattle.std.proofs.lemmas.Bool.Decides.{eqb_tells}
 use Rattle.dch_bits.specs.declared.bit.Bit.TheVariants.{Zero}
@@ -13,14 +13,16 @@ use Rattle.dch_accept.specs.declared.set_blocks.Idle.{Idle}
 use Rattle.dch_accept.specs.HeldSets.{HeldSet, IsIdleSet, IsSetOf, idle_at}
 use Rattle.dch_accept.specs.Plans.{Planned}
 use Rattle.dch_ttibuf.specs.Loaded.{Loaded, loaded_at}
-use Rattle.dch_dlphy.specs.Loaded.{IsLoaded, Running}
+use Rattle.dch_dlphy.specs.Loaded.{IsLoaded}
 use Rattle.dch_script.specs.Held.{Held as Text}
 use Rattle.dch_nodeb.specs.Moves.{AreGiven, AreReady, Transmits, IsReady, RunsIn, Writes}
 use Rattle.dch_nodeb.specs.Opened.{AreNoted, AreRxBuffersOf}
 use Rattle.dch_types.specs.Timing.{set_frames, starts}
 use Rattle.dch_nodeb.specs.Standing.{NothingSent, KeepsFrame, Represents, Stepped}
-use Rattle.dch_nodeb.specs.State.{Blocks, DownlinkIubFrame, DownlinkDue, Radio, State, given_now, idle_blocks, kept_still, leaving, taken}
-use Rattle.dch_nodeb.specs.Steps.{AreAllLoaded, AreRunning, IsRadio, as_line, blocks_at, radio_text}
+use Rattle.dch_node.specs.Values.{Blocks, Radio, idle_blocks}
+use Rattle.dch_nodeb.specs.State.{DownlinkIubFrame, DownlinkDue, State, given_now, kept_still, leaving, taken}
+use Rattle.dch_node.specs.IubFrames.{blocks_at}
+use Rattle.dch_nodeb.specs.Steps.{AreAllLoaded, AreRunning, IsRadio, radio_line}
 use Rattle.dch_nodeb.specs.Values.{Node, IubRxBuffer, DownlinkTransmitter, rx_buffer_at, radio_if}
 use Rattle.dch_nodeb.proofs.Steady.{set_frames-member, tells}
 
@@ -55,8 +57,8 @@ loaded-as planned i blocks own loaded same is = subst (λ (b : Blocks). IsLoaded
 -- what is loaded then is what the channels run
 all_given : (planned : Planned) (state : State) (old new : List IubRxBuffer) (transmitter loaded : DownlinkTransmitter) → IsSide planned.config.downlink.side → AreRxBuffersOf planned old
     → AreReady planned state.cfn 8 old new → AreGiven planned state.cfn (length planned.config.downlink.side.channels) new transmitter loaded
-    → ((s : ℕ) → s < 8 → KeepsFrame planned.config.downlink.side s (state.kept s) (rx_buffer_at old s)) → AreAllLoaded planned state.given transmitter.running.loaded
-    → AreAllLoaded planned (given_now planned.config.downlink.side state) loaded.running.loaded
+    → ((s : ℕ) → s < 8 → KeepsFrame planned.config.downlink.side s (state.kept s) (rx_buffer_at old s)) → AreAllLoaded planned state.given transmitter.running
+    → AreAllLoaded planned (given_now planned.config.downlink.side state) loaded.running
 all_given planned state old new transmitter loaded good opened ready given kept before i inside =
     let side = planned.config.downlink.side in
     let set : ℕ = (channel_at side i).set in
@@ -68,16 +70,16 @@ all_given planned state old new transmitter loaded good opened ready given kept 
           let blocks : blocks_at (rx_buffer_at new set).held i ≡ taken side state.cfn (state.kept set) i =
           ready_blocks planned.config state.cfn set i (state.kept set) (rx_buffer_at old set) (rx_buffer_at new set) (ready.on set few place_on) (kept set few) (opened.each set few) inside refl in
           let own : given_now side state i ≡ taken side state.cfn (state.kept set) i = rw on.0 refl in
-          loaded-as planned i (given_now side state i) (blocks_at (rx_buffer_at new set).held i) (loaded_at loaded.running.loaded i) (blocks ∙ sym own) (given.on i inside on.0).loaded
+          loaded-as planned i (given_now side state i) (blocks_at (rx_buffer_at new set).held i) (loaded_at loaded.running i) (blocks ∙ sym own) (given.on i inside on.0).loaded
       | inr off ↦
           let own : given_now side state i ≡ state.given i = rw off.0 refl in
-          loaded-as planned i (given_now side state i) (state.given i) (loaded_at loaded.running.loaded i) (sym own)
+          loaded-as planned i (given_now side state i) (state.given i) (loaded_at loaded.running i) (sym own)
           (subst (λ (l : Loaded). IsLoaded planned i (state.given i).format (state.given i).bits l) (sym (given.off i inside off.0).loaded) (before i inside))
     ]
 
 -- and what is noted
 pub noted_on : (planned : Planned) (cfn : ℕ) (rx_buffers : List IubRxBuffer) (old new : DownlinkTransmitter) → AreGiven planned cfn (length planned.config.downlink.side.channels) rx_buffers old new
-    → AreNoted planned old.formats old.running.loaded → AreNoted planned new.formats new.running.loaded
+    → AreNoted planned old.formats old.running → AreNoted planned new.formats new.running
 noted_on planned cfn rx_buffers old new given noted i inside =
     let side = planned.config.downlink.side in
     elim (tells (starts (channel_at side i).frames cfn)) [
@@ -89,7 +91,7 @@ some_same : (a b : ℕ) → Some a ≡ Some b → a ≡ b
 some_same a b same = cc
 
 -- the noted formats are those of the blocks that run
-noted_formats : (planned : Planned) (given : ℕ → Blocks) (transmitter : DownlinkTransmitter) → AreNoted planned transmitter.formats transmitter.running.loaded → AreAllLoaded planned given transmitter.running.loaded
+noted_formats : (planned : Planned) (given : ℕ → Blocks) (transmitter : DownlinkTransmitter) → AreNoted planned transmitter.formats transmitter.running → AreAllLoaded planned given transmitter.running
     → (i : ℕ) → i < length planned.config.downlink.side.channels → slice_index transmitter.formats i ≡ (given i).format
 noted_formats planned given transmitter noted loaded i inside =
     some_same (slice_index transmitter.formats i) (given i).format (sym (noted i inside) ∙ (loaded i inside).format)
@@ -102,8 +104,8 @@ runs_back : (side : Side) (given : ℕ → Blocks) (formats : List ℕ) (c : ℕ
 runs_back side given formats c same runs i inside = same i inside ∙ runs i inside
 
 -- the radio frame that is written is the one of the definition
-written_radio : (planned : Planned) (state : State) (transmitter : DownlinkTransmitter) (shown : Option Radio) → AreNoted planned transmitter.formats transmitter.running.loaded
-    → AreAllLoaded planned state.given transmitter.running.loaded → Writes planned state.cfn transmitter shown → IsRadio planned state shown
+written_radio : (planned : Planned) (state : State) (transmitter : DownlinkTransmitter) (shown : Option Radio) → AreNoted planned transmitter.formats transmitter.running
+    → AreAllLoaded planned state.given transmitter.running → Writes planned state.cfn transmitter shown → IsRadio planned state shown
 written_radio planned state transmitter None noted loaded writes = λ c listed runs.
     writes c listed (runs_back planned.config.downlink.side state.given transmitter.formats c (noted_formats planned state.given transmitter noted loaded) runs)
 written_radio planned state transmitter (Some radio) noted loaded writes =
@@ -114,7 +116,7 @@ written_radio planned state transmitter (Some radio) noted loaded writes =
       listed = writes.is.listed;
       formats = runs_as side state.given transmitter.formats writes.combination same writes.is.runs;
       first = λ c early runs. writes.is.first c early (runs_back side state.given transmitter.formats c same runs);
-      tti = transmitter.running.loaded;
+      tti = transmitter.running;
       loaded = loaded;
       frame = writes.frame;
       written = writes.written;
@@ -131,36 +133,36 @@ still_kept side state s old new on off keeps = elim (tells (starts (set_frames s
 ]
 
 departed_at : (planned : Planned) (state : State) (node : Node) (new : List IubRxBuffer) (sent : DownlinkTransmitter) (before after : Text) → IsSide planned.config.downlink.side → AreRxBuffersOf planned node.rx_buffers
-    → AreNoted planned node.transmitter.formats node.transmitter.running.loaded → NothingSent node → Transmits planned state.cfn node.rx_buffers new node.transmitter sent before after → Represents planned state node
+    → AreNoted planned node.transmitter.formats node.transmitter.running → NothingSent node → Transmits planned state.cfn node.rx_buffers new node.transmitter sent before after → Represents planned state node
     → Stepped planned state DownlinkDue (record node { rx_buffers = new; transmitter = sent }) before.text after.text
 departed_at planned state node new sent before after good opened noted quiet departs stands =
     let side = planned.config.downlink.side in
     let loaded : DownlinkTransmitter = departs.loaded in
     let next : State = leaving side state in
     let shown : Option Radio = radio_if sent.sent sent.frame in
-    let all : AreAllLoaded planned next.given loaded.running.loaded = all_given planned state node.rx_buffers new node.transmitter loaded good opened departs.ready departs.given stands.kept stands.given in
+    let all : AreAllLoaded planned next.given loaded.running = all_given planned state node.rx_buffers new node.transmitter loaded good opened departs.ready departs.given stands.kept stands.given in
     record {
       next = next;
-      output = record { text = as_line (radio_text shown); sent = shown; iub = λ s. None };
+      output = record { lines = radio_line shown ∷ []; sent = shown; iub = λ s. None };
       step = record {
         state = refl;
         radio = written_radio planned next loaded shown (noted_on planned state.cfn new node.transmitter loaded departs.given noted) all departs.sends.writes;
-        told = refl;
+        reported = refl;
         no_iub = λ s few. refl;
       };
       stands = record {
         cfn = stands.cfn;
         kept = λ s few. still_kept side state s (rx_buffer_at node.rx_buffers s) (rx_buffer_at new s) (λ on. (departs.ready.on s few on).empty) (λ off. departs.ready.off s few off) (stands.kept s few);
-        given = λ i inside. subst (λ (l : List Loaded). IsLoaded planned i (next.given i).format (next.given i).bits (loaded_at l i)) (ap (λ (r : Running). r.loaded) (sym departs.sends.running)) (all i inside);
+        given = λ i inside. subst (λ (l : List Loaded). IsLoaded planned i (next.given i).format (next.given i).bits (loaded_at l i)) (sym departs.sends.running) (all i inside);
         frames = stands.frames;
       };
       shows = record { radio = refl; iub = quiet.iub };
-      told = ap (λ (t : Text). t.text) departs.sends.told;
+      reported = ap (λ (t : Text). t.text) departs.sends.reported;
     }
 
 -- the step of a radio frame that is due
 pub departed : (planned : Planned) (state : State) (node : Node) (new : List IubRxBuffer) (sent : DownlinkTransmitter) (before after : Text) → IsSide planned.config.downlink.side → AreRxBuffersOf planned node.rx_buffers
-    → AreNoted planned node.transmitter.formats node.transmitter.running.loaded → NothingSent node → Transmits planned node.cfn node.rx_buffers new node.transmitter sent before after → Represents planned state node
+    → AreNoted planned node.transmitter.formats node.transmitter.running → NothingSent node → Transmits planned node.cfn node.rx_buffers new node.transmitter sent before after → Represents planned state node
     → Stepped planned state DownlinkDue (record node { rx_buffers = new; transmitter = sent }) before.text after.text
 departed planned state node new sent before after good opened noted quiet departs stands =
     departed_at planned state node new sent before after good opened noted quiet

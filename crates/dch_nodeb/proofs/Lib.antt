@@ -7,6 +7,7 @@ pub mod Lengths
 pub mod Opening
 pub mod Reading
 pub mod Receiving
+pub mod Same
 pub mod Serving
 pub mod Steady
 pub mod Texts

@@ -2,21 +2,24 @@
 use Rattle.std.proofs.Common.{◌+◌, ◌<◌, ℕ, List, refl, ap, sym, subst, inl, inr, Option, None}
 use Rattle.std.specs.Prelude.{◌%◌}
 use Rattle.std.proofs.lemmas.Bool.Decides.{eqb_tells}
+use Rattle.dch_types.specs.declared.channel.Dir.TheVariants.{Up}
 use Rattle.dch_accept.specs.Plans.{Planned}
 use Rattle.dch_rxframes.specs.RxFrames.{RxFrame, RxFrames, rx_frame_at}
 use Rattle.dch_script.specs.Held.{Held as Text}
 use Rattle.dch_nodeb.specs.Moves.{Hears, Receives}
 use Rattle.dch_nodeb.specs.Standing.{NothingSent, Represents, Stepped}
-use Rattle.dch_nodeb.specs.State.{UplinkFrame, Radio, State, coming}
-use Rattle.dch_nodeb.specs.Steps.{KeepsRadio, joined}
+use Rattle.dch_node.specs.Values.{Radio}
+use Rattle.dch_nodeb.specs.State.{UplinkFrame, State, coming}
+use Rattle.dch_node.specs.RxFrames.{KeepsRadio}
+use Rattle.dch_node.specs.Lines.{joined}
 use Rattle.dch_nodeb.specs.Values.{IubTxBuffer, Node, UplinkReceiver, tx_buffer_at}
 
 -- the frames that are kept then
 frames_kept : (planned : Planned) (state : State) (radio : Option Radio) (old new : RxFrames) → Hears planned state.cfn radio old new
-    → ((k : ℕ) → k < 8 → KeepsRadio planned (state.frames k) (rx_frame_at old.frames k)) → (k : ℕ) → k < 8 → KeepsRadio planned ((coming state radio).frames k) (rx_frame_at new.frames k)
+    → ((k : ℕ) → k < 8 → KeepsRadio planned Up (state.frames k) (rx_frame_at old.frames k)) → (k : ℕ) → k < 8 → KeepsRadio planned Up ((coming state radio).frames k) (rx_frame_at new.frames k)
 frames_kept planned state radio old new hears before k few = elim (eqb_tells k (state.cfn % 8)) [
-  | inl same ↦ rw same.0 (subst (λ n. KeepsRadio planned radio (rx_frame_at new.frames n)) (sym same.1) hears.kept)
-  | inr other ↦ rw other.0 (subst (λ (kept : RxFrame). KeepsRadio planned (state.frames k) kept) (sym (hears.others k other.1)) (before k few))
+  | inl same ↦ rw same.0 (subst (λ n. KeepsRadio planned Up radio (rx_frame_at new.frames n)) (sym same.1) hears.kept)
+  | inr other ↦ rw other.0 (subst (λ (kept : RxFrame). KeepsRadio planned Up (state.frames k) kept) (sym (hears.others k other.1)) (before k few))
 ]
 
 received_at : (planned : Planned) (state : State) (node : Node) (radio : Option Radio) (tx_buffers : List IubTxBuffer) (receiver : UplinkReceiver) (before after : Text) → NothingSent node
@@ -25,23 +28,23 @@ received_at : (planned : Planned) (state : State) (node : Node) (radio : Option 
 received_at planned state node radio tx_buffers receiver before after quiet receives stands =
     let next : State = coming state radio in
     let served = receives.served in
-    let frames : (k : ℕ) → k < 8 → KeepsRadio planned (next.frames k) (rx_frame_at receiver.rx_frames.frames k) =
+    let frames : (k : ℕ) → k < 8 → KeepsRadio planned Up (next.frames k) (rx_frame_at receiver.rx_frames.frames k) =
     frames_kept planned state radio node.receiver.rx_frames receiver.rx_frames receives.hears stands.frames in
     record {
       next = next;
-      output = record { text = joined served.texts 8; sent = None; iub = λ s. (tx_buffer_at tx_buffers s).sent };
+      output = record { lines = joined served.lines 8; sent = None; iub = λ s. (tx_buffer_at tx_buffers s).sent };
       step = record {
         state = refl;
         rx_frames = receiver.rx_frames;
         kept = record { last = receives.hears.last; kept = frames };
-        texts = served.texts;
+        lines = served.lines;
         sets = served.sets;
-        told = refl;
+        reported = refl;
         no_radio = refl;
       };
       stands = record { cfn = ap (λ n. (n + 1) % 256) stands.cfn; kept = stands.kept; given = stands.given; frames = frames };
       shows = record { radio = rw quiet.radio refl; iub = λ s few. refl };
-      told = ap (λ (t : Text). t.text) served.told;
+      reported = ap (λ (t : Text). t.text) served.reported;
     }
 
 -- the step of a radio frame that comes, or is missing

@@ -1,10 +1,10 @@
 -- The sets that are served one after another.
-use Rattle.std.proofs.Common.{◌≡◌, ◌≢◌, ◌+◌, ◌<◌, ◌∙◌, ◌++◌, ℕ, zero, suc, List, [], length, get_or, arith, refl, ap, ap₂, sym, subst, inl, inr, true, eq-eqb, add-one, append_assoc, length-append, get_or-set_same, get_or-set_other, None, ◌∷◌, append-nil}
+use Rattle.std.proofs.Common.{◌≡◌, ◌≢◌, ◌+◌, ◌<◌, ◌≤◌, ◌∙◌, ◌++◌, ℕ, zero, suc, List, [], length, get_or, arith, refl, ap, ap₂, sym, subst, inl, inr, true, eq-eqb, add-one, append_assoc, length-append, get_or-set_same, get_or-set_other, None, ◌∷◌, append-nil}
 use Rattle.std.proofs.lemmas.List.{get_or_append_left, get_or_default, get_or_push, length-set}
 use Rattle.dch_types.specs.declared.channel.Dir.TheVariants.{Up}
 use Rattle.dch_accept.specs.HeldSets.{HeldSet}
 use Rattle.dch_iub.specs.Forms.{IsWrittenForm}
-use Rattle.dch_script.specs.Report.{iub_text}
+use Rattle.dch_node.proofs.Texts.{text_of-append}
 use Rattle.dch_nodeb.specs.Sending.{SendsUp}
 use Rattle.dch_types.specs.Timing.{ends, set_frames, started}
 use Rattle.std.specs.Prelude.{◌==◌, if◌then◌else◌, slice_set}
@@ -14,34 +14,35 @@ use Rattle.dch_rxframes.specs.RxFrames.{RxFrames}
 use Rattle.dch_script.specs.Held.{Held as Text}
 use Rattle.dch_nodeb.specs.Moves.{AreNewTxBuffers, AreDelivered, Delivered}
 use Rattle.dch_nodeb.specs.Opened.{AreTxBuffersOf, IsTxBufferOf, IsReceiverOf}
-use Rattle.dch_nodeb.specs.Steps.{AreRead, DeliversSet, as_line, joined}
+use Rattle.dch_node.specs.Lines.{BadTti, Iub, Line, joined, text_of}
+use Rattle.dch_nodeb.specs.Steps.{AreRead, DeliversSet, IsBadTti}
 use Rattle.dch_nodeb.specs.Values.{IubTxBuffer, UplinkReceiver, tx_buffer_at}
 
--- the texts with another one for a set
-with_text : (ℕ → List ℕ) → ℕ → List ℕ → ℕ → List ℕ
-with_text texts set text s = if s == set then text else texts s
+-- the lines with other ones for a set
+with_lines : (ℕ → List Line) → ℕ → List Line → ℕ → List Line
+with_lines all set lines s = if s == set then lines else all s
 
-with_text-here : (texts : ℕ → List ℕ) (set : ℕ) (text : List ℕ) → with_text texts set text set ≡ text
-unfolding with_text
-with_text-here texts set text = rw (eq-eqb set set refl) refl
+with_lines-here : (all : ℕ → List Line) (set : ℕ) (lines : List Line) → with_lines all set lines set ≡ lines
+unfolding with_lines
+with_lines-here all set lines = rw (eq-eqb set set refl) refl
 
-with_text-other : (texts : ℕ → List ℕ) (set : ℕ) (text : List ℕ) (s : ℕ) → s ≢ set → with_text texts set text s ≡ texts s
-unfolding with_text
-with_text-other texts set text s other = elim (eqb_tells s set) [
+with_lines-other : (all : ℕ → List Line) (set : ℕ) (lines : List Line) (s : ℕ) → s ≢ set → with_lines all set lines s ≡ all s
+unfolding with_lines
+with_lines-other all set lines s other = elim (eqb_tells s set) [
   | inl same ↦ absurd (other same.1)
   | inr is ↦ rw is.0 refl
 ]
 
--- texts that are the same
-joined-same : (f g : ℕ → List ℕ) (n : ℕ) → ((s : ℕ) → s < n → f s ≡ g s) → joined f n ≡ joined g n
+-- lines that are the same
+joined-same : (f g : ℕ → List Line) (n : ℕ) → ((s : ℕ) → s < n → f s ≡ g s) → joined f n ≡ joined g n
 joined-same f g zero same = refl
-joined-same f g (suc n) same = ap₂ (λ (a b : List ℕ). a ++ b) (joined-same f g n (λ s early. same s (omega arith))) (same n (omega arith))
+joined-same f g (suc n) same = ap₂ (λ (a b : List Line). a ++ b) (joined-same f g n (λ s early. same s (omega arith))) (same n (omega arith))
 
-joined-next : (texts : ℕ → List ℕ) (set : ℕ) (text : List ℕ) → joined (with_text texts set text) (set + 1) ≡ joined texts set ++ text
-joined-next texts set text =
-    rw add-one (ap₂ (λ (a b : List ℕ). a ++ b)
-    (joined-same (with_text texts set text) texts set (λ s early. with_text-other texts set text s (omega arith)))
-    (with_text-here texts set text))
+joined-next : (all : ℕ → List Line) (set : ℕ) (lines : List Line) → joined (with_lines all set lines) (set + 1) ≡ joined all set ++ lines
+joined-next all set lines =
+    rw add-one (ap₂ (λ (a b : List Line). a ++ b)
+    (joined-same (with_lines all set lines) all set (λ s early. with_lines-other all set lines s (omega arith)))
+    (with_lines-here all set lines))
 
 -- one more set was served
 pub served_next : (planned : Planned) (rx_frames : RxFrames) (set : ℕ) (tx_buffers : List IubTxBuffer) (tx_buffer : IubTxBuffer) (receiver next : UplinkReceiver) (before now after : Text)
@@ -50,27 +51,29 @@ pub served_next : (planned : Planned) (rx_frames : RxFrames) (set : ℕ) (tx_buf
 served_next planned rx_frames set tx_buffers tx_buffer receiver next before now after are inside served =
     let new : List IubTxBuffer = slice_set tx_buffers set tx_buffer in
     let room : set < length tx_buffers = subst (λ n. set < n) (sym are.letters_opened.all) inside in
-    let texts : ℕ → List ℕ = with_text are.texts set served.text in
+    let all : ℕ → List Line = with_lines are.lines set served.lines in
     let own : tx_buffer_at new set ≡ tx_buffer = get_or-set_same tx_buffers set tx_buffer _ room in
     let others : (s : ℕ) → s ≢ set → tx_buffer_at new s ≡ tx_buffer_at tx_buffers s = (λ s other. get_or-set_other tx_buffers set s tx_buffer _ other) in
-    let here : DeliversSet planned rx_frames set (texts set) (tx_buffer_at new set).sent =
-    subst (λ (t : List ℕ). DeliversSet planned rx_frames set t (tx_buffer_at new set).sent) (sym (with_text-here are.texts set served.text))
-    (subst (λ (l : IubTxBuffer). DeliversSet planned rx_frames set served.text l.sent) (sym own) served.serves) in
-    let there : (s : ℕ) → s < set → DeliversSet planned rx_frames s (texts s) (tx_buffer_at new s).sent =
+    let here : DeliversSet planned rx_frames set (all set) (tx_buffer_at new set).sent =
+    subst (λ (t : List Line). DeliversSet planned rx_frames set t (tx_buffer_at new set).sent) (sym (with_lines-here are.lines set served.lines))
+    (subst (λ (l : IubTxBuffer). DeliversSet planned rx_frames set served.lines l.sent) (sym own) served.serves) in
+    let there : (s : ℕ) → s < set → DeliversSet planned rx_frames s (all s) (tx_buffer_at new s).sent =
     (λ s early.
     let apart : s ≢ set = omega arith in
-    subst (λ (t : List ℕ). DeliversSet planned rx_frames s t (tx_buffer_at new s).sent) (sym (with_text-other are.texts set served.text s apart))
-    (subst (λ (l : IubTxBuffer). DeliversSet planned rx_frames s (are.texts s) l.sent) (sym (others s apart)) (are.sets s early))) in
-    let long : joined texts (set + 1) ≡ joined are.texts set ++ served.text = joined-next are.texts set served.text in
+    subst (λ (t : List Line). DeliversSet planned rx_frames s t (tx_buffer_at new s).sent) (sym (with_lines-other are.lines set served.lines s apart))
+    (subst (λ (l : IubTxBuffer). DeliversSet planned rx_frames s (are.lines s) l.sent) (sym (others s apart)) (are.sets s early))) in
+    let next_lines : joined all (set + 1) ≡ joined are.lines set ++ served.lines = joined-next are.lines set served.lines in
+    let long : text_of (joined all (set + 1)) ≡ text_of (joined are.lines set) ++ text_of served.lines =
+    ap (λ (l : List Line). text_of l) next_lines ∙ text_of-append (joined are.lines set) served.lines in
     record {
-      texts = texts;
+      lines = all;
       sets = λ s early. elim (eqb_tells s set) [
-        | inl same ↦ subst (λ k. DeliversSet planned rx_frames k (texts k) (tx_buffer_at new k).sent) (sym same.1) here
+        | inl same ↦ subst (λ k. DeliversSet planned rx_frames k (all k) (tx_buffer_at new k).sent) (sym same.1) here
         | inr other ↦ there s (let apart : s ≢ set = other.1 in omega arith)
       ];
       later = λ s late few. ap (λ (l : IubTxBuffer). l.sent) (others s (omega arith)) ∙ are.later s (omega arith) few;
       few = rw long (rw length-append (omega (arith, are.few, served.few)));
-      told = served.told ∙ ap (λ (t : Text). record t { text = t.text ++ served.text }) are.told ∙ ap (λ (t : List ℕ). record before { text = t }) (append_assoc before.text (joined are.texts set) served.text ∙ ap (λ (t : List ℕ). before.text ++ t) (sym long));
+      reported = served.reported ∙ ap (λ (t : Text). record t { text = t.text ++ text_of served.lines }) are.reported ∙ ap (λ (t : List ℕ). record before { text = t }) (append_assoc before.text (text_of (joined are.lines set)) (text_of served.lines) ∙ ap (λ (t : List ℕ). before.text ++ t) (sym long));
       letters_opened = record {
         all = length-set tx_buffers set tx_buffer ∙ are.letters_opened.all;
         each = λ s few. elim (eqb_tells s set) [
@@ -87,7 +90,7 @@ pub sent_up : (planned : Planned) (rx_frames : RxFrames) (set start : ℕ) (old 
     → ends (set_frames planned.config.uplink.side set) rx_frames.cfn ≡ true → start ≡ started (set_frames planned.config.uplink.side set) rx_frames.cfn → IsReceiverOf planned receiver → receiver.rx_frames ≡ rx_frames
     → Delivered planned rx_frames set new receiver before after
 sent_up planned rx_frames set start old new receiver before after sends read over begun opened same = record {
-  text = as_line (iub_text Up set sends.octets);
+  lines = Iub Up set sends.octets ∷ [];
   few = sends.few;
   serves = inr (inr (record {
     over = over;
@@ -95,11 +98,25 @@ sent_up planned rx_frames set start old new receiver before after sends read ove
     read = subst (λ (h : HeldSet). AreRead planned rx_frames set h) (sym sends.held) read;
     octets = sends.octets;
     written = subst (λ n. IsWrittenForm planned.config Up set sends.octets n planned.config.qe new.held) begun sends.written;
-    told = refl;
+    reported = refl;
     sent = sends.sent;
   }));
-  told = sends.told;
+  reported = sends.reported;
   letter_opened = sends.opened;
+  receiver_opened = opened;
+  same = same;
+}
+
+-- the TTI of a set could not be read
+pub lost_set : (planned : Planned) (rx_frames : RxFrames) (set channel frame : ℕ) (tx_buffer : IubTxBuffer) (receiver : UplinkReceiver) (before after : Text) → IsBadTti planned.config.uplink.side rx_frames set channel frame
+    → ends (set_frames planned.config.uplink.side set) rx_frames.cfn ≡ true → tx_buffer.sent ≡ None → IsTxBufferOf planned set tx_buffer → IsReceiverOf planned receiver → receiver.rx_frames ≡ rx_frames
+    → length (text_of (BadTti Up channel frame ∷ [])) ≤ 300 → after ≡ record before { text = before.text ++ text_of (BadTti Up channel frame ∷ []) } → Delivered planned rx_frames set tx_buffer receiver before after
+lost_set planned rx_frames set channel frame tx_buffer receiver before after is over none letter opened same few reported = record {
+  lines = BadTti Up channel frame ∷ [];
+  few = omega (arith, few);
+  serves = inr (inl (record { over = over; channel = channel; frame = frame; is = is; reported = refl; none = none }));
+  reported = reported;
+  letter_opened = letter;
   receiver_opened = opened;
   same = same;
 }
@@ -108,11 +125,11 @@ sent_up planned rx_frames set start old new receiver before after sends read ove
 pub none_served : (planned : Planned) (tx_buffers : List IubTxBuffer) (receiver : UplinkReceiver) (before : Text) → AreTxBuffersOf planned tx_buffers → IsReceiverOf planned receiver
     → ((s : ℕ) → s < 8 → (tx_buffer_at tx_buffers s).sent ≡ None) → AreDelivered planned receiver.rx_frames 0 tx_buffers receiver before before
 none_served planned tx_buffers receiver before are opened quiet = record {
-  texts = λ s. [];
+  lines = λ s. [];
   sets = λ s early. absurd (omega arith);
   later = λ s late few. quiet s few;
   few = omega arith;
-  told = ap (λ (t : List ℕ). record before { text = t }) (sym (append-nil before.text));
+  reported = ap (λ (t : List ℕ). record before { text = t }) (sym (append-nil before.text));
   letters_opened = are;
   receiver_opened = opened;
   same = refl;

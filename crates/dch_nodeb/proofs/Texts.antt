@@ -1,5 +1,5 @@
 -- How long the lines of a report are.
-use Rattle.std.proofs.Common.{◌≡◌, refl, ◌<◌, ◌≤◌, ◌+◌, ◌*◌, ℕ, List, [], ◌∷◌, length, arith, length-append}
+use Rattle.std.proofs.Common.{◌≡◌, refl, ◌<◌, ◌≤◌, ◌+◌, ◌*◌, ◌++◌, ℕ, List, [], ◌∷◌, length, arith, length-append}
 use Rattle.std.specs.Prelude.{codes, decimal, map}
 use Rattle.std.proofs.lemmas.Fmt.{length-decimal-le}
 use Rattle.std.proofs.lemmas.List.{length-map}
@@ -11,7 +11,6 @@ use Rattle.dch_bits.specs.Text.{cell_letter, letter_of}
 use Rattle.dch_types.specs.declared.channel.Dir.{Dir}
 use Rattle.dch_types.specs.declared.channel.Dir.TheVariants.{Up, Down}
 use Rattle.dch_script.specs.Report.{bits_shown, cells_shown, dir_word, iub_text, octets_shown, pair_text, phy_text, place_text}
-use Rattle.dch_nodeb.specs.Steps.{as_line}
 
 short : (n : ℕ) → n < 256 → length (decimal n) ≤ 3
 short n small = length-decimal-le 3 n (omega arith) (omega arith) (omega arith)
@@ -33,7 +32,7 @@ dir_long Up = omega arith
 dir_long Down = omega arith
 
 -- a line of two numbers
-pub pair_line : (word : List ℕ) (dir : Dir) (n more : ℕ) → length word ≤ 10 → n < 256 → more < 256 → length (as_line (pair_text word dir n more)) ≤ 300
+pub pair_line : (word : List ℕ) (dir : Dir) (n more : ℕ) → length word ≤ 10 → n < 256 → more < 256 → length (pair_text word dir n more ++ codes "\n") ≤ 300
 unfolding pair_text place_text
 pair_line word dir n more few small less =
     let one : length (codes " ") ≡ 1 = refl in
@@ -41,7 +40,7 @@ pair_line word dir n more few small less =
     simp length-append (omega (arith, dir_long dir, short n small, short more less, one, feed))
 
 -- a line of an uplink Iub frame
-pub iub_line : (set : ℕ) (octets : List ℕ) → set < 256 → length octets ≤ 140000 → length (as_line (iub_text Up set octets)) ≤ 300000
+pub iub_line : (set : ℕ) (octets : List ℕ) → set < 256 → length octets ≤ 140000 → length (iub_text Up set octets ++ codes "\n") ≤ 300000
 unfolding iub_text
 iub_line set octets small few =
     let one : length (codes " ") ≡ 1 = refl in
@@ -50,7 +49,7 @@ iub_line set octets small few =
     simp length-append (omega (arith, dir_long Up, short set small, octets_long octets, one, word, feed))
 
 -- a line of a downlink radio frame
-pub phy_line : (tfci : List Bit) (cells : List Trit) → length tfci ≤ 120 → length cells ≤ 57240 → length (as_line (phy_text Down tfci cells)) ≤ 60000
+pub phy_line : (tfci : List Bit) (cells : List Trit) → length tfci ≤ 120 → length cells ≤ 57240 → length (phy_text Down tfci cells ++ codes "\n") ≤ 60000
 unfolding phy_text
 phy_line tfci cells bits few =
     let one : length (codes " ") ≡ 1 = refl in

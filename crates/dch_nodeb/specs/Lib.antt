@@ -1,7 +1,7 @@
-pub mod History
 pub mod Moves
 pub mod Opened
 pub mod Rooms
+pub mod Same
 pub mod Sending
 pub mod Standing
 pub mod State

@@ -1,6 +1,6 @@
 -- What the parts of a Node B do in a step, each by itself.
-use Rattle.std.specs.Prelude.{◌≡◌, ◌≢◌, ◌<◌, ◌≤◌, ◌*◌, ◌%◌, ◌⊎◌, ◌++◌, ℕ, List, [], Option, Some, None, true, false, codes, length, slice_index}
-use Rattle.dch_types.specs.declared.channel.Dir.TheVariants.{Down}
+use Rattle.std.specs.Prelude.{◌≡◌, ◌≢◌, ◌<◌, ◌≤◌, ◌*◌, ◌%◌, ◌⊎◌, ◌++◌, ℕ, List, [], ◌∷◌, Option, Some, None, true, false, length, slice_index}
+use Rattle.dch_types.specs.declared.channel.Dir.TheVariants.{Down, Up}
 use Rattle.dch_types.specs.declared.channel.Side.{Side}
 use Rattle.dch_types.specs.declared.config.Config.{Config}
 use Rattle.dch_types.specs.Parts.{channel_at, format_number}
@@ -16,11 +16,13 @@ use Rattle.dch_iub.specs.Answers.{IsCause}
 use Rattle.dch_iub.specs.Forms.{IsReadForm}
 use Rattle.dch_iub.specs.declared.error.IubError.{IubError}
 use Rattle.dch_script.specs.Held.{Held as Text}
-use Rattle.dch_script.specs.Report.{pair_text}
 use Rattle.dch_nodeb.specs.Opened.{AreTxBuffersOf, AreRxBuffersOf, IsTxBufferOf, IsReceiverOf, IsTransmitterOf}
 use Rattle.dch_types.specs.Timing.{set_frames, starts}
-use Rattle.dch_nodeb.specs.State.{Radio}
-use Rattle.dch_nodeb.specs.Steps.{KeepsRadio, DeliversSet, as_line, joined, radio_text, refusal_number}
+use Rattle.dch_node.specs.Values.{Radio}
+use Rattle.dch_node.specs.RxFrames.{KeepsRadio}
+use Rattle.dch_node.specs.Lines.{IubBad, Line, joined, text_of}
+use Rattle.dch_node.specs.IubFrames.{refusal_number}
+use Rattle.dch_nodeb.specs.Steps.{DeliversSet, radio_line}
 use Rattle.dch_nodeb.specs.Values.{IubTxBuffer, IubRxBuffer, UplinkReceiver, DownlinkTransmitter, tx_buffer_at, rx_buffer_at, radio_if}
 
 -- receive buffers for the first sets, with idle formats and no frame
@@ -36,25 +38,25 @@ pub record IsFilled (planned : Planned) (set : ℕ) (octets : List ℕ) (rx_buff
   pub read : IsReadForm planned.config Down set octets cfn 0 rx_buffer.held
 
 -- a frame was read without a word
-pub record IsTaken (planned : Planned) (set : ℕ) (octets : List ℕ) (new : IubRxBuffer) (text : List ℕ) : Type 0 where
+pub record IsTaken (planned : Planned) (set : ℕ) (octets : List ℕ) (new : IubRxBuffer) (lines : List Line) : Type 0 where
   pub filled : IsFilled planned set octets new
-  pub quiet : text ≡ []
+  pub quiet : lines ≡ []
 
--- or refused, which is told
-pub record IsRefused (planned : Planned) (set : ℕ) (octets : List ℕ) (old new : IubRxBuffer) (text : List ℕ) : Type 0 where
+-- or refused, which is reported
+pub record IsRefused (planned : Planned) (set : ℕ) (octets : List ℕ) (old new : IubRxBuffer) (lines : List Line) : Type 0 where
   pub error : IubError
   pub cause : IsCause planned.config Down set octets error
   pub same : new ≡ old
-  pub told : text ≡ as_line (pair_text (codes "iubbad ") Down set (refusal_number error))
+  pub reported : lines ≡ IubBad Down set (refusal_number error) ∷ []
 
 -- an Iub frame came for a set
 pub record Keeps (planned : Planned) (set : ℕ) (octets : List ℕ) (old new : List IubRxBuffer) (before after : Text) : Type 0 where
   pub opened : AreRxBuffersOf planned new
   pub others : (s : ℕ) → s ≢ set → rx_buffer_at new s ≡ rx_buffer_at old s
-  pub text : List ℕ
-  pub few : length text ≤ 300
-  pub took : IsTaken planned set octets (rx_buffer_at new set) text ⊎ IsRefused planned set octets (rx_buffer_at old set) (rx_buffer_at new set) text
-  pub told : after ≡ record before { text = before.text ++ text }
+  pub lines : List Line
+  pub few : length (text_of lines) ≤ 300
+  pub took : IsTaken planned set octets (rx_buffer_at new set) lines ⊎ IsRefused planned set octets (rx_buffer_at old set) (rx_buffer_at new set) lines
+  pub reported : after ≡ record before { text = before.text ++ text_of lines }
 
 -- a receive buffer is ready for a TTI that starts at a CFN: it has the blocks of its frame where that is the one of this CFN, and else of the
 -- idle formats; and it is empty
@@ -72,12 +74,12 @@ pub record AreReady (planned : Planned) (cfn count : ℕ) (old new : List IubRxB
 
 -- the blocks of channel i are loaded, in the format that is noted
 pub record IsGiven (planned : Planned) (i : ℕ) (held : Held) (transmitter : DownlinkTransmitter) : Type 0 where
-  pub loaded : IsLoaded planned i held.format held.bits (loaded_at transmitter.running.loaded i)
+  pub loaded : IsLoaded planned i held.format held.bits (loaded_at transmitter.running i)
   pub noted : slice_index transmitter.formats i ≡ held.format
 
 -- channel i is as it was
 pub record IsUntouched (i : ℕ) (old new : DownlinkTransmitter) : Type 0 where
-  pub loaded : loaded_at new.running.loaded i ≡ loaded_at old.running.loaded i
+  pub loaded : loaded_at new.running i ≡ loaded_at old.running i
   pub noted : slice_index new.formats i ≡ slice_index old.formats i
 
 -- a channel was loaded, and no other one
@@ -119,7 +121,7 @@ pub record IsWritten (planned : Planned) (cfn : ℕ) (transmitter : DownlinkTran
   pub combination : ℕ
   pub is : IsFirst planned.config.downlink.side transmitter.formats combination
   pub frame : Frame
-  pub written : IsFrame planned transmitter.running.loaded cfn combination frame
+  pub written : IsFrame planned transmitter.running cfn combination frame
   pub tfci : radio.tfci ≡ frame.tfci
   pub cells : radio.cells ≡ frame.cells
 
@@ -133,8 +135,8 @@ pub record Sends (planned : Planned) (cfn : ℕ) (old new : DownlinkTransmitter)
   pub running : new.running ≡ old.running
   pub formats : new.formats ≡ old.formats
   pub writes : Writes planned cfn old (radio_if new.sent new.frame)
-  pub few : length (as_line (radio_text (radio_if new.sent new.frame))) ≤ 60000
-  pub told : after ≡ record before { text = before.text ++ as_line (radio_text (radio_if new.sent new.frame)) }
+  pub few : length (text_of (radio_line (radio_if new.sent new.frame) ∷ [])) ≤ 60000
+  pub reported : after ≡ record before { text = before.text ++ text_of (radio_line (radio_if new.sent new.frame) ∷ []) }
 
 -- the radio frame of the CFN is due: receive buffers are made ready, the channels that start are loaded, and the frame is sent
 pub record Transmits (planned : Planned) (cfn : ℕ) (old new : List IubRxBuffer) (transmitter sent : DownlinkTransmitter) (before after : Text) : Type 0 where
@@ -146,26 +148,26 @@ pub record Transmits (planned : Planned) (cfn : ℕ) (old new : List IubRxBuffer
 -- a radio frame is kept for a CFN, or that it is missing
 pub record Hears (planned : Planned) (cfn : ℕ) (radio : Option Radio) (old new : RxFrames) : Type 0 where
   pub last : new.cfn ≡ cfn
-  pub kept : KeepsRadio planned radio (rx_frame_at new.frames (cfn % 8))
+  pub kept : KeepsRadio planned Up radio (rx_frame_at new.frames (cfn % 8))
   pub others : (k : ℕ) → k ≢ cfn % 8 → rx_frame_at new.frames k ≡ rx_frame_at old.frames k
 
 -- a set was served
 pub record Delivered (planned : Planned) (rx_frames : RxFrames) (set : ℕ) (tx_buffer : IubTxBuffer) (receiver : UplinkReceiver) (before after : Text) : Type 0 where
-  pub text : List ℕ
-  pub few : length text ≤ 300000
-  pub serves : DeliversSet planned rx_frames set text tx_buffer.sent
-  pub told : after ≡ record before { text = before.text ++ text }
+  pub lines : List Line
+  pub few : length (text_of lines) ≤ 300000
+  pub serves : DeliversSet planned rx_frames set lines tx_buffer.sent
+  pub reported : after ≡ record before { text = before.text ++ text_of lines }
   pub letter_opened : IsTxBufferOf planned set tx_buffer
   pub receiver_opened : IsReceiverOf planned receiver
   pub same : receiver.rx_frames ≡ rx_frames
 
 -- the first sets were served, and the others send nothing
 pub record AreDelivered (planned : Planned) (rx_frames : RxFrames) (count : ℕ) (tx_buffers : List IubTxBuffer) (receiver : UplinkReceiver) (before after : Text) : Type 0 where
-  pub texts : ℕ → List ℕ
-  pub sets : (s : ℕ) → s < count → DeliversSet planned rx_frames s (texts s) (tx_buffer_at tx_buffers s).sent
+  pub lines : ℕ → List Line
+  pub sets : (s : ℕ) → s < count → DeliversSet planned rx_frames s (lines s) (tx_buffer_at tx_buffers s).sent
   pub later : (s : ℕ) → count ≤ s → s < 8 → (tx_buffer_at tx_buffers s).sent ≡ None
-  pub few : length (joined texts count) ≤ count * 300000
-  pub told : after ≡ record before { text = before.text ++ joined texts count }
+  pub few : length (text_of (joined lines count)) ≤ count * 300000
+  pub reported : after ≡ record before { text = before.text ++ text_of (joined lines count) }
   pub letters_opened : AreTxBuffersOf planned tx_buffers
   pub receiver_opened : IsReceiverOf planned receiver
   pub same : receiver.rx_frames ≡ rx_frames

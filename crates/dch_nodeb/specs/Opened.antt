@@ -5,9 +5,9 @@ use Rattle.dch_accept.specs.Blocks.{HoldsTtis}
 use Rattle.dch_accept.specs.Frames.{IsOpenedFor}
 use Rattle.dch_accept.specs.HeldSets.{IsSetOf}
 use Rattle.dch_accept.specs.Plans.{Planned}
+use Rattle.dch_rxframes.specs.RxFrames.{IsReaderOf}
 use Rattle.dch_ttibuf.specs.Loaded.{Loaded, loaded_at}
 use Rattle.dch_dlphy.specs.Loaded.{IsTtiOf}
-use Rattle.dch_ulphy.specs.Kept.{IsReaderOf}
 use Rattle.dch_iub.specs.Longest.{IsLongest}
 use Rattle.dch_nodeb.specs.Values.{IubTxBuffer, Node, IubRxBuffer, UplinkReceiver, DownlinkTransmitter, tx_buffer_at, rx_buffer_at}
 
@@ -29,7 +29,7 @@ AreNoted planned formats tti =
 
 -- what receives radio frames fits the uplink
 pub record IsReceiverOf (planned : Planned) (receiver : UplinkReceiver) : Type 0 where
-  pub rx_frames : IsReaderOf planned receiver.rx_frames
+  pub rx_frames : IsReaderOf planned Up receiver.rx_frames
   pub tti : HoldsTtis planned.config.uplink.side receiver.tti.room
 
 -- an Iub frame of a set, with room for the longest one
@@ -46,6 +46,6 @@ pub record AreTxBuffersOf (planned : Planned) (tx_buffers : List IubTxBuffer) : 
 pub record IsNodeOf (planned : Planned) (node : Node) : Type 0 where
   pub rx_buffers : AreRxBuffersOf planned node.rx_buffers
   pub transmitter : IsTransmitterOf planned node.transmitter
-  pub noted : AreNoted planned node.transmitter.formats node.transmitter.running.loaded
+  pub noted : AreNoted planned node.transmitter.formats node.transmitter.running
   pub receiver : IsReceiverOf planned node.receiver
   pub tx_buffers : AreTxBuffersOf planned node.tx_buffers

@@ -3,9 +3,9 @@ use Rattle.std.specs.Prelude.{ℕ, List, [], Bool, true, false, Option, Some, No
 use Rattle.dch_accept.specs.Blocks.{Held}
 use Rattle.dch_accept.specs.Frames.{Frame}
 use Rattle.dch_accept.specs.HeldSets.{HeldSet}
-use Rattle.dch_dlphy.specs.Loaded.{Running}
+use Rattle.dch_ttibuf.specs.Loaded.{Loaded}
 use Rattle.dch_rxframes.specs.RxFrames.{RxFrames}
-use Rattle.dch_nodeb.specs.State.{Radio}
+use Rattle.dch_node.specs.Values.{Radio}
 
 -- a receive buffer for the downlink Iub frame of a set: the CFN of the frame, if one is kept, and the blocks
 pub record IubRxBuffer : Type 0 where
@@ -18,7 +18,7 @@ rx_buffer_at rx_buffers s = slice_index_or rx_buffers s (record { cfn = None; he
 
 -- what is loaded for the running TTIs, in which format each channel, the last radio frame, and whether the last step sent it
 pub record DownlinkTransmitter : Type 0 where
-  pub running : Running
+  pub running : List Loaded
   pub formats : List ℕ
   pub frame : Frame
   pub sent : Bool

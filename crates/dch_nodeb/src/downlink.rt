@@ -44,7 +44,7 @@ pub fn transmit(
 )
     requires rx_buffers { AreRxBuffersOf accepted.now rx_buffers.old }
     requires transmitter { IsTransmitterOf accepted.now transmitter.old }
-    requires noted { AreNoted accepted.now transmitter.old.formats transmitter.old.running.loaded }
+    requires noted { AreNoted accepted.now transmitter.old.formats transmitter.old.running }
     requires room { HasRoomFor report.old 60000 }
     ensures { Transmits accepted.now cfn rx_buffers.old rx_buffers.new transmitter.old transmitter.new report.old report.new }
 {

@@ -1,11 +1,11 @@
-ghost use Rattle.std.specs.Prelude.{◌≡◌, ◌<◌, None, Some, length, IfErr, IfOk, OnErr};
+ghost use Rattle.std.specs.Prelude.{◌≡◌, ◌<◌, None, Some, length, IfErr, IfOk, OnErr, true};
 ghost use Rattle.dch_types.specs.declared.channel.Dir.TheVariants.{Down};
+ghost use Rattle.dch_types.specs.Timing.{has_set};
 ghost use Rattle.dch_accept.specs.HeldSets.{IsIdleSet, IsSetOf, held_at};
 ghost use Rattle.dch_iub.specs.Answers.{IsCause};
 ghost use Rattle.dch_nodeb.specs.Moves.{AreNewRxBuffers, AreReady, IsFilled, IsReady, Keeps};
 ghost use Rattle.dch_nodeb.specs.Opened.{AreRxBuffersOf};
 ghost use Rattle.dch_nodeb.specs.Rooms.{HasRoomFor};
-ghost use Rattle.dch_nodeb.specs.Standing.{HasSet};
 ghost use Rattle.dch_nodeb.specs.Values.{rx_buffer_at};
 
 use crate::report::put_refusal;
@@ -107,7 +107,7 @@ pub fn keep(
     report: &mut Report,
 )
     requires rx_buffers { AreRxBuffersOf accepted.now rx_buffers.old }
-    requires set { HasSet accepted.now.config.downlink.side set }
+    requires set { has_set accepted.now.config.downlink.side set ≡ true }
     requires room { HasRoomFor report.old 300 }
     ensures { Keeps accepted.now set frame.now rx_buffers.old rx_buffers.new report.old report.new }
 {

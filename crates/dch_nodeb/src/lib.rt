@@ -5,6 +5,7 @@ mod downlink;
 mod event;
 mod iub_rx_buffer;
 mod iub_tx_buffer;
+mod laws;
 mod node;
 mod receiver;
 mod report;
@@ -13,4 +14,5 @@ mod transmitter;
 mod uplink;
 
 pub use event::NodeBEvent;
+pub use laws::one_state_law;
 pub use node::NodeB;

@@ -1,9 +1,13 @@
-ghost use Rattle.std.specs.Prelude.{◌≡◌, ◌<◌, ◌≤◌, ◌+◌, ◌%◌, ℕ, List, [], length, IfOk};
+ghost use Rattle.std.specs.Prelude.{◌≡◌, ◌<◌, ◌≤◌, ◌+◌, ◌%◌, ℕ, List, [], length, IfOk, true};
+ghost use Rattle.dch_types.specs.declared.channel.Dir.TheVariants.{Up};
+ghost use Rattle.dch_types.specs.Timing.{has_set};
 ghost use Rattle.dch_accept.specs.Reports.{step_bytes};
+ghost use Rattle.dch_rxframes.specs.RxFrames.{HasTfci};
+ghost use Rattle.dch_node.specs.Lines.{Line};
 ghost use Rattle.dch_nodeb.specs.Opened.{IsNodeOf};
 ghost use Rattle.dch_nodeb.specs.Rooms.{HasRoomFor};
 ghost use Rattle.dch_nodeb.specs.Sending.{octets_of};
-ghost use Rattle.dch_nodeb.specs.Standing.{HasSet, HasTfci, NothingSent, MayCome, Represents, RepresentsHistory, Stepped, ExtendsHistory, event_of, radio_of};
+ghost use Rattle.dch_nodeb.specs.Standing.{NothingSent, MayCome, Represents, RepresentsHistory, Stepped, ExtendsHistory, event_of, radio_of};
 ghost use Rattle.dch_nodeb.specs.State.{IubFrame, UplinkFrame, Event, DownlinkDue, State};
 ghost use Rattle.dch_nodeb.specs.Values.{iub_shown, radio_shown};
 
@@ -71,8 +75,8 @@ impl NodeB {
         requires room { HasRoomFor report.old (step_bytes accepted.now.config) }
         ensures opened { IsNodeOf accepted.now self.new }
         ensures step { (state : State) → Represents accepted.now state self.old → Stepped accepted.now state (event_of event.entry) self.new report.old.text report.new.text }
-        ensures history { (first : ℕ) (events : List Event) (text : List ℕ) → RepresentsHistory accepted.now first events text self.old →
-            ExtendsHistory accepted.now first events text (event_of event.entry) self.new report.old.text report.new.text }
+        ensures history { (first : ℕ) (events : List Event) (lines : List Line) → RepresentsHistory accepted.now first events lines self.old →
+            ExtendsHistory accepted.now first events lines (event_of event.entry) self.new report.old.text report.new.text }
         ensures few { length report.new.text ≤ length report.old.text + 4000000 }
         ensures most { report.new.most ≡ report.old.most }
     {
@@ -130,7 +134,7 @@ impl NodeB {
     fn receive_iub(&mut self, accepted: &Accepted, set: u8, frame: &[u8], report: &mut Report)
         requires opened { IsNodeOf accepted.now self.old }
         requires quiet { NothingSent self.old }
-        requires set { HasSet accepted.now.config.downlink.side set }
+        requires set { has_set accepted.now.config.downlink.side set ≡ true }
         requires room { HasRoomFor report.old 4000000 }
         ensures opened { IsNodeOf accepted.now self.new }
         ensures step { (state : State) → Represents accepted.now state self.old → Stepped accepted.now state (IubFrame set frame.now) self.new report.old.text report.new.text }
@@ -170,7 +174,7 @@ impl NodeB {
     )
         requires opened { IsNodeOf accepted.now self.old }
         requires quiet { NothingSent self.old }
-        requires tfci { HasTfci frame }
+        requires tfci { HasTfci accepted.now Up frame }
         requires room { HasRoomFor report.old 4000000 }
         ensures opened { IsNodeOf accepted.now self.new }
         ensures step { (state : State) → Represents accepted.now state self.old → Stepped accepted.now state (UplinkFrame (radio_of frame.entry)) self.new report.old.text report.new.text }

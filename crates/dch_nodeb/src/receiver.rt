@@ -1,13 +1,14 @@
 ghost use Rattle.std.specs.Prelude.{◌≡◌, ◌≢◌, ◌<◌, ℕ, length, IfErr, IfOk};
 ghost use Rattle.dch_types.specs.declared.channel.Dir.TheVariants.{Up};
 ghost use Rattle.dch_types.specs.Parts.{channel_at};
+ghost use Rattle.dch_accept.specs.Frames.{most_cells};
 ghost use Rattle.dch_accept.specs.HeldSets.{IsSetOf, held_at};
 ghost use Rattle.dch_rxframes.specs.Formats.{IsBadFrame};
-ghost use Rattle.dch_ulphy.specs.Kept.{AreMissing};
 ghost use Rattle.dch_ulphy.specs.Read.{IsTtiRead};
+ghost use Rattle.dch_rxframes.specs.RxFrames.{AreMissing, HasTfci};
 ghost use Rattle.dch_nodeb.specs.Moves.{Hears};
 ghost use Rattle.dch_nodeb.specs.Opened.{IsReceiverOf};
-ghost use Rattle.dch_nodeb.specs.Standing.{HasTfci, radio_of};
+ghost use Rattle.dch_nodeb.specs.Standing.{radio_of};
 ghost use Rattle.dch_nodeb.specs.Steps.{AreRead, IsBadTti};
 
 use dch_accept::{Accepted, FrameView, SetBlocks, TtiBlocks};
@@ -43,7 +44,7 @@ impl UplinkReceiver {
     /// Takes all memory that receiving wants. No frame is there.
     pub fn open(alloc: Global, accepted: &Accepted) -> Result<UplinkReceiver, NoMemory>
         ensures opened { IfOk result (IsReceiverOf accepted.now) }
-        ensures missing { IfOk result (λ receiver. AreMissing accepted.now 8 receiver.rx_frames.frames) }
+        ensures missing { IfOk result (λ receiver. AreMissing (most_cells accepted.now.config Up) 8 receiver.rx_frames.frames) }
     {
         Ok(UplinkReceiver {
             reader: UlReader::open(alloc, accepted)?,
@@ -54,7 +55,7 @@ impl UplinkReceiver {
     /// Takes the radio frame of the next CFN, or that it is missing.
     pub fn push(&mut self, accepted: &Accepted, cfn: u8, frame: Option<FrameView<'_>>)
         requires opened { IsReceiverOf accepted.now self.old }
-        requires tfci { HasTfci frame }
+        requires tfci { HasTfci accepted.now Up frame }
         ensures hears { Hears accepted.now cfn (radio_of frame.entry) self.old.rx_frames self.new.rx_frames }
         ensures opened { IsReceiverOf accepted.now self.new }
     {

@@ -1,5 +1,5 @@
-ghost use Rattle.std.specs.Prelude.{◌≡◌, ◌<◌};
-ghost use Rattle.dch_nodeb.specs.Standing.{HasSet};
+ghost use Rattle.std.specs.Prelude.{◌≡◌, ◌<◌, true};
+ghost use Rattle.dch_types.specs.Timing.{has_set};
 
 use dch_accept::Accepted;
 use dch_types::Dir;
@@ -9,11 +9,11 @@ pub const SETS: u8 = 8;
 
 /// The receive buffer of a set that the downlink has.
 pub fn rx_buffer_of(accepted: &Accepted, set: u8) -> usize
-    requires { HasSet accepted.now.config.downlink.side set }
+    requires { has_set accepted.now.config.downlink.side set ≡ true }
     ensures value { result ≡ set }
     ensures inside { result < 8 }
 {
     // A set's number is at most 7 in a good configuration.
-    let _side = accepted.side(Dir::Down);
+    let _few = accepted.side(Dir::Down).has_set(set);
     set as usize
 }

@@ -84,7 +84,7 @@ impl DownlinkTransmitter {
     /// is sent (TS 25.212 4.3).
     pub fn send(&mut self, accepted: &Accepted, cfn: u8, report: &mut Report)
         requires opened { IsTransmitterOf accepted.now self.old }
-        requires noted { AreNoted accepted.now self.old.formats self.old.running.loaded }
+        requires noted { AreNoted accepted.now self.old.formats self.old.running }
         requires room { HasRoomFor report.old 60000 }
         ensures { Sends accepted.now cfn self.old self.new report.old report.new }
     {
@@ -100,7 +100,7 @@ impl DownlinkTransmitter {
     /// Writes the radio frame of a CFN in a combination, and reports it.
     fn write(&mut self, accepted: &Accepted, cfn: u8, combination: u16, report: &mut Report)
         requires opened { IsTransmitterOf accepted.now self.old }
-        requires noted { AreNoted accepted.now self.old.formats self.old.running.loaded }
+        requires noted { AreNoted accepted.now self.old.formats self.old.running }
         requires first { IsFirst accepted.now.config.downlink.side self.old.formats combination }
         requires room { HasRoomFor report.old 60000 }
         ensures { Sends accepted.now cfn self.old self.new report.old report.new }

@@ -1,8 +1,10 @@
 ghost use Rattle.std.specs.Prelude.{◌≡◌, ◌<◌, ℕ, None};
+ghost use Rattle.dch_types.specs.declared.channel.Dir.TheVariants.{Up};
+ghost use Rattle.dch_rxframes.specs.RxFrames.{HasTfci};
 ghost use Rattle.dch_nodeb.specs.Moves.{Receives, Delivered};
 ghost use Rattle.dch_nodeb.specs.Opened.{AreTxBuffersOf, IsTxBufferOf, IsReceiverOf};
 ghost use Rattle.dch_nodeb.specs.Rooms.{HasRoomFor};
-ghost use Rattle.dch_nodeb.specs.Standing.{HasTfci, radio_of};
+ghost use Rattle.dch_nodeb.specs.Standing.{radio_of};
 ghost use Rattle.dch_nodeb.specs.Values.{tx_buffer_at};
 
 use crate::iub_tx_buffer::IubTxBuffer;
@@ -46,7 +48,7 @@ pub fn receive(
     requires receiver { IsReceiverOf accepted.now receiver.old }
     requires tx_buffers { AreTxBuffersOf accepted.now tx_buffers.old }
     requires quiet { (s : ℕ) → s < 8 → (tx_buffer_at tx_buffers.old s).sent ≡ None }
-    requires tfci { HasTfci frame }
+    requires tfci { HasTfci accepted.now Up frame }
     requires room { HasRoomFor report.old 2400000 }
     ensures { Receives accepted.now cfn (radio_of frame.entry) receiver.old.rx_frames tx_buffers.new receiver.new report.old report.new }
 {

@@ -79,14 +79,19 @@ fn refusals() -> [(usize, u8, usize, u8); 27] {
 #[test]
 fn spoiled_and_cut_frames(rt: HostRuntime) -> Result<(), Fail> {
     let accepted = octet(rt.alloc(), true)?;
+    assert!(rt; matches!(are_refused(rt.alloc(), &accepted), Ok(true)));
+    Ok(())
+}
+
+/// Whether each frame is answered by the number of its refusal.
+fn are_refused(alloc: Global, accepted: &Accepted) -> Result<bool, NoMemory> {
     for (octet, mask, length, number) in refusals() {
         let frame = spoiled(octet, mask);
-        assert_eq!(rt;
-            refusal(rt.alloc(), &accepted, &frame[..length.min(7)])?,
-            number
-        );
+        if refusal(alloc, accepted, &frame[..length.min(7)])? != number {
+            return Ok(false);
+        }
     }
-    Ok(())
+    Ok(true)
 }
 
 /// Reads a downlink frame, and writes what was read; answers whether that is the same.
@@ -114,7 +119,13 @@ fn is_sent_again(alloc: Global, accepted: &Accepted, frame: &[u8]) -> Result<boo
 #[test]
 fn a_downlink_frame_both_ways(rt: HostRuntime) -> Result<(), Fail> {
     let accepted = octet(rt.alloc(), true)?;
-    assert!(rt; is_written_again(rt.alloc(), &accepted, &frame()[..6])?);
+    let frame = frame();
+    assert!(rt;
+        matches!(
+            is_written_again(rt.alloc(), &accepted, &frame[..6]),
+            Ok(true)
+        )
+    );
     assert_eq!(rt; longest(&accepted, Dir::Down, 0), 6);
     assert_eq!(rt; longest(&accepted, Dir::Up, 0), 26);
     Ok(())
@@ -132,7 +143,12 @@ fn uplink_frame() -> [u8; 24] {
 #[test]
 fn an_uplink_frame_both_ways(rt: HostRuntime) -> Result<(), Fail> {
     let accepted = octet(rt.alloc(), false)?;
-    assert!(rt; is_sent_again(rt.alloc(), &accepted, &uplink_frame())?);
+    assert!(rt;
+        matches!(
+            is_sent_again(rt.alloc(), &accepted, &uplink_frame()),
+            Ok(true)
+        )
+    );
     Ok(())
 }
 
@@ -167,6 +183,7 @@ fn added(alloc: Global, accepted: &Accepted, frame: &[u8]) -> Result<bool, NoMem
 #[test]
 fn a_frame_of_added_blocks(rt: HostRuntime) -> Result<(), Fail> {
     let accepted = octet(rt.alloc(), true)?;
-    assert!(rt; added(rt.alloc(), &accepted, &frame()[..6])?);
+    let frame = frame();
+    assert!(rt; matches!(added(rt.alloc(), &accepted, &frame[..6]), Ok(true)));
     Ok(())
 }

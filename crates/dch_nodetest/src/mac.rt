@@ -19,6 +19,12 @@ fn answer(accepted: &Accepted, channel: u8, front: &str, len: usize) -> Option<D
 #[test]
 fn blocks_of_a_shared_channel(rt: HostRuntime) -> Result<(), Fail> {
     let accepted = speech(rt.alloc())?;
+    assert!(rt; are_answered(&accepted));
+    Ok(())
+}
+
+/// Whether blocks of a shared channel, and of one that isn't shared, go to their bearers.
+fn are_answered(accepted: &Accepted) -> bool {
     for (channel, front, len, want) in [
         (3, "1111", 148, Demux::Reserved),
         (3, "0010", 148, Demux::NoBearer(3)),
@@ -27,12 +33,11 @@ fn blocks_of_a_shared_channel(rt: HostRuntime) -> Result<(), Fail> {
         (3, "1", 1, Demux::NoBearer(9)),
         (1, "1111", 103, Demux::To { bearer: 1, skip: 0 }),
     ] {
-        assert!(rt;
-            answer(&accepted, channel, front, len) == Some(want),
-            "{front}"
-        );
+        if answer(accepted, channel, front, len) != Some(want) {
+            return false;
+        }
     }
-    Ok(())
+    true
 }
 
 #[test]

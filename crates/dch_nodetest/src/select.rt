@@ -34,6 +34,11 @@ const COMBINATIONS: &str = "[[0,0],[1,0],[0,1],[1,2]]";
 #[test]
 fn bits_of_the_first_priority_count_first(rt: HostRuntime) -> Result<(), Fail> {
     let accepted = two_priorities(rt.alloc(), 10, COMBINATIONS)?;
+    assert!(rt; first_priorities_count(&accepted));
+    Ok(())
+}
+
+fn first_priorities_count(accepted: &Accepted) -> bool {
     let none = [false; 4];
     for (offers, blocked, want) in [
         (((10, 1), (10, 10)), none, 3),
@@ -44,10 +49,11 @@ fn bits_of_the_first_priority_count_first(rt: HostRuntime) -> Result<(), Fail> {
         (((10, 1), (10, 10)), [false, false, false, true], 1),
         (((10, 1), (10, 10)), [true; 4], 0),
     ] {
-        let got = chosen(&accepted, (0, 0), offers, &blocked);
-        assert!(rt; got == Some(want), "{want}");
+        if chosen(accepted, (0, 0), offers, &blocked) != Some(want) {
+            return false;
+        }
     }
-    Ok(())
+    true
 }
 
 #[test]
@@ -60,12 +66,18 @@ fn nothing_is_sent_of_nothing(rt: HostRuntime) -> Result<(), Fail> {
 #[test]
 fn a_channel_whose_tti_goes_on(rt: HostRuntime) -> Result<(), Fail> {
     let accepted = two_priorities(rt.alloc(), 20, COMBINATIONS)?;
+    assert!(rt; channels_go_on(&accepted));
+    Ok(())
+}
+
+fn channels_go_on(accepted: &Accepted) -> bool {
     let offers = ((10, 1), (10, 10));
     for (cfn, running, want) in [(1, 0, 2), (1, 1, 3), (2, 0, 3), (255, 2, 2)] {
-        let got = chosen(&accepted, (cfn, running), offers, &[false; 4]);
-        assert!(rt; got == Some(want), "{cfn} {running}");
+        if chosen(accepted, (cfn, running), offers, &[false; 4]) != Some(want) {
+            return false;
+        }
     }
-    Ok(())
+    true
 }
 
 #[test]

@@ -1,8 +1,8 @@
-use Rattle.std.proofs.Common.{◌<◌, sym, subst, arith}
+use Rattle.std.proofs.Common.{◌<◌, get_or, sym, subst, arith}
 use Rattle.dch_types.specs.declared.channel.Dir.TheVariants.{Down}
 use Rattle.dch_accept.specs.HeldSets.{IsSetOf}
 use Rattle.dch_nodeb.specs.Values.{IubRxBuffer}
-use Rattle.dch_nodeb.proofs.Keeping.{place_in, taken_keeps}
+use Rattle.dch_nodeb.proofs.Keeping.{place_in, refused_keeps, taken_keeps}
 use Rattle.dch_nodeb.proofs.iub_rx_buffer.keep.Goals as goal
 
 pub keep-requires : goal.keep-requires
@@ -17,3 +17,12 @@ returns-in-Ok c =
     let small : c.args.set < 8 = omega (arith, c.rx_buffer_of.ensures.value, c.rx_buffer_of.ensures.inside) in
     taken_keeps c.args.accepted.now c.args.set c.rx_buffer_of.result c.args.frame.now c.args.rx_buffers.now c.keep.new.self c.args.report.now c.rx_buffer_of.ensures.value small c.requires.rx_buffers
     c.in-Ok.ensures.opened c.in-Ok.ensures.ok
+
+pub returns-in-Err : goal.returns-in-Err
+returns-in-Err c =
+    let small : c.args.set < 8 = omega (arith, c.rx_buffer_of.ensures.value, c.rx_buffer_of.ensures.inside) in
+    let old : IubRxBuffer = get_or c.args.rx_buffers.now c.rx_buffer_of.result c.index-rx_buffers-rx_buffer_of.result in
+    refused_keeps c.args.accepted.now c.args.set c.rx_buffer_of.result c.args.frame.now c.args.rx_buffers.now c.in-Err.error old c.keep.new.self c.args.report.now c.put_refusal.new.report
+    c.rx_buffer_of.ensures.value small c.requires.rx_buffers
+    (place_in c.args.accepted.now c.args.rx_buffers.now c.rx_buffer_of.result c.args.set c.index-rx_buffers-rx_buffer_of.result c.requires.rx_buffers c.rx_buffer_of.ensures.value small)
+    c.in-Err.ensures.same c.in-Err.ensures.err c.put_refusal.ensures.few c.put_refusal.ensures.reported

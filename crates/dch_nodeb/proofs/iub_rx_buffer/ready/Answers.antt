@@ -1,4 +1,4 @@
-use Rattle.std.proofs.Common.{◌≡◌, ◌+◌, ◌∙◌, ℕ, List, ap, refl, sym, subst, true, false}
+use Rattle.std.proofs.Common.{◌≡◌, ◌+◌, ◌∙◌, ℕ, List, ap, refl, sym, subst}
 use Rattle.dch_types.specs.declared.channel.Side.{Side}
 use Rattle.dch_nodeb.specs.Moves.{AreReady, IsReady}
 use Rattle.dch_types.specs.Timing.{set_frames, starts}

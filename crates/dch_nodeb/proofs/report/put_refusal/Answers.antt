@@ -1,6 +1,6 @@
 use Rattle.std.proofs.Common.{◌<◌, ℕ, codes, arith}
 use Rattle.dch_types.specs.declared.channel.Dir.TheVariants.{Down}
-use Rattle.dch_nodeb.specs.Steps.{refusal_number}
+use Rattle.dch_node.specs.IubFrames.{refusal_number}
 use Rattle.dch_nodeb.proofs.Texts.{pair_line}
 use Rattle.dch_nodeb.proofs.report.put_refusal.Goals as goal
 

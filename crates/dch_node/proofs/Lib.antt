@@ -1,0 +1,3 @@
+pub mod IubFrames
+pub mod Texts
+pub mod Traces

@@ -1,0 +1,6 @@
+pub mod IubFrames
+pub mod Lines
+pub mod RxFrames
+pub mod Standing
+pub mod Traces
+pub mod Values

@@ -1,0 +1,24 @@
+-- Two states of a Node B that say the same.
+use Rattle.std.specs.Prelude.{◌≡◌, ◌<◌, ℕ, Option, Some, None, length}
+use Rattle.dch_types.specs.declared.channel.Side.{Side}
+use Rattle.dch_iub.specs.Shape.{ForSet}
+use Rattle.dch_nodeb.specs.State.{DownlinkIubFrame, State}
+
+-- another frame is kept for the set, with the same CFN and the same blocks of each of its channels
+pub record KeepsAgain (side : Side) (set : ℕ) (frame : DownlinkIubFrame) (other : Option DownlinkIubFrame) : Type 0 where
+  pub again : DownlinkIubFrame
+  pub is : other ≡ Some again
+  pub cfn : again.cfn ≡ frame.cfn
+  pub blocks : ForSet side set (λ i. again.blocks i ≡ frame.blocks i)
+
+-- the same is kept for a set
+abbrev pub KeepsSame : Side → ℕ → Option DownlinkIubFrame → Option DownlinkIubFrame → Type 0
+KeepsSame side set None other = other ≡ None
+KeepsSame side set (Some frame) other = KeepsAgain side set frame other
+
+-- the states agree in the CFN, in what is kept for each set, in the blocks of each downlink channel, and in the uplink radio frames
+pub record IsSameState (side : Side) (state other : State) : Type 0 where
+  pub cfn : other.cfn ≡ state.cfn
+  pub kept : (s : ℕ) → KeepsSame side s (state.kept s) (other.kept s)
+  pub given : (i : ℕ) → i < length side.channels → other.given i ≡ state.given i
+  pub frames : (k : ℕ) → other.frames k ≡ state.frames k
