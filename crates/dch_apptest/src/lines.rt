@@ -1,6 +1,6 @@
-ghost use Rattle.std.specs.Prelude.{◌≡◌, codes};
-ghost use Rattle.dch_script.specs.declared.event.LineError.TheVariants.{Long};
-ghost use Rattle.std.proofs.Common.{refl};
+ghost use Rattle.std.specs.Prelude.{◌≡◌, ℕ};
+ghost use Rattle.std.proofs.Common.{refl, sym};
+ghost use Rattle.dch_apptest.specs.Echo.{echoing, echoing_finishes};
 
 use dch_io::{MemorySink, MemorySource, new_piece};
 use dch_lines::*;
@@ -8,22 +8,31 @@ use dch_script::{LineError, Report};
 use std::alloc::Global;
 use std::test::Fail;
 
-/// A handler that takes a line in three steps, and refuses lines of more than four bytes.
+/// A handler that takes a line in three steps, finds no memory for one, and refuses lines of more than five bytes.
 #[derive(Drop)]
 struct Echo {
     remaining: u32,
 }
 
 impl LineHandler for Echo {
-    ghost semantics = { record { handles = λ old line new text. (text ≡ codes "once\n") × (new.remaining ≡ 2); remaining = λ s. s.remaining; resumes = λ old new text. text ≡ codes "again\n"; refuses = λ s line why. why ≡ Long; closing = λ s count. codes "end\n" } };
+    ghost State = { ℕ };
+
+    ghost semantics = { echoing };
+
+    ghost represents = { λ state echo. echo.remaining ≡ state };
 
     ghost most = { λ _. 6 };
 
+    ghost remaining = { λ echo. echo.remaining };
+
     ghost stands = { λ _. Unit {0} };
 
-    fn handle_line(&mut self, line: &[u8], report: &mut Report) -> Result<(), LineError> {
-        if line.len() > 4 {
-            return Err(LineError::Long);
+    fn handle_line(&mut self, line: &[u8], report: &mut Report) -> Result<(), LineFault> {
+        if line == b"much\n".as_slice() {
+            return Err(LineFault::NoMemory);
+        }
+        if line.len() > 5 {
+            return Err(LineFault::Malformed(LineError::Long));
         }
         report.put_text(b"once\n");
         self.remaining = 2;
@@ -50,6 +59,12 @@ impl LineHandler for Echo {
     }
 
     ghost overlong = { λ _ _ _. refl };
+
+    ghost counts = { λ state echo is. sym is };
+
+    ghost use Rattle.dch_apptest.specs.declared.lines.Echo.{Echo};
+
+    ghost finishes = { λ state echo is. echoing_finishes (λ (state : ℕ) (echo : Echo). echo.remaining ≡ state) state echo is };
 }
 
 /// How an input is followed after a first part, and what is written.
@@ -88,5 +103,8 @@ fn steps_of_lines_after_a_first_part(rt: HostRuntime) -> Result<(), Fail> {
     let (outcome, sink) = followed(alloc, b"", b"one\n", &[3])?;
     assert_eq!(rt; outcome, Outcome::WriteFault);
     assert_eq!(rt; sink.bytes(), b"open\nonce".as_slice());
+    let (outcome, sink) = followed(alloc, b"", b"one\nmuch\ntwo\n", &[])?;
+    assert_eq!(rt; outcome, Outcome::NoMemory);
+    assert_eq!(rt; sink.bytes(), b"open\nonce\nagain\nagain\n".as_slice());
     Ok(())
 }

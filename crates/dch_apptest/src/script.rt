@@ -26,8 +26,8 @@ channel = [
 }
 
 /// What a line is: its kind of error, or `good`.
-fn kind(said: &Result<Event<'_>, LineError>) -> &'static str {
-    match said {
+fn kind(parsed: &Result<Event<'_>, LineError>) -> &'static str {
+    match parsed {
         Ok(_) => "good",
         Err(LineError::Long) => "long",
         Err(LineError::Cut) => "cut",
@@ -142,7 +142,7 @@ fn malformed_lines(rt: HostRuntime) -> Result<(), Fail> {
 }
 
 /// Whether a line of a command, given without its line feed, is this event.
-fn says(alloc: Global, command: Command, line: &str, event: Event<'_>) -> Result<bool, Fail> {
+fn parses_as(alloc: Global, command: Command, line: &str, event: Event<'_>) -> Result<bool, Fail> {
     let config = read(alloc, small().as_bytes())?;
     let line = format!(in alloc; "{line}\n")?;
     Ok(parse_in(command, &config, line.as_bytes()) == Ok(event))
@@ -177,15 +177,15 @@ fn free(dir: Dir, combination: u16) -> Event<'static> {
 fn lines_of_link(rt: HostRuntime) -> Result<(), Fail> {
     let (alloc, link) = (rt.alloc(), Command::Link);
     let (up, down) = (Dir::Up, Dir::Down);
-    assert!(rt; says(alloc, link, "unit up 0 01", unit(up, 0, b"01"))?);
-    assert!(rt; says(alloc, link, "unit down 1 7dF0", unit(down, 1, b"7dF0"))?);
-    assert!(rt; says(alloc, link, "block down 2", block(down, 2))?);
-    assert!(rt; says(alloc, link, "free up 1", free(up, 1))?);
-    assert!(rt; says(alloc, link, "flip up d 364", flip(up, false, 364))?);
-    assert!(rt; says(alloc, link, "flip down t 65535", flip(down, true, 65535))?);
-    assert!(rt; says(alloc, link, "lose up", Event::Lose { dir: up })?);
+    assert!(rt; parses_as(alloc, link, "unit up 0 01", unit(up, 0, b"01"))?);
+    assert!(rt; parses_as(alloc, link, "unit down 1 7dF0", unit(down, 1, b"7dF0"))?);
+    assert!(rt; parses_as(alloc, link, "block down 2", block(down, 2))?);
+    assert!(rt; parses_as(alloc, link, "free up 1", free(up, 1))?);
+    assert!(rt; parses_as(alloc, link, "flip up d 364", flip(up, false, 364))?);
+    assert!(rt; parses_as(alloc, link, "flip down t 65535", flip(down, true, 65535))?);
+    assert!(rt; parses_as(alloc, link, "lose up", Event::Lose { dir: up })?);
     assert!(rt;
-        says(
+        parses_as(
             alloc,
             link,
             "lose iubup 3",
@@ -193,15 +193,15 @@ fn lines_of_link(rt: HostRuntime) -> Result<(), Fail> {
         )?
     );
     assert!(rt;
-        says(
+        parses_as(
             alloc,
             link,
             "lose iubdown 5",
             Event::LoseIub { dir: down, set: 5 }
         )?
     );
-    assert!(rt; says(alloc, link, "spoil iubup 0 9 9e", spoil(up, 0, 9, 0x9e))?);
-    assert!(rt; says(alloc, link, "frame", Event::Frame(1))?);
+    assert!(rt; parses_as(alloc, link, "spoil iubup 0 9 9e", spoil(up, 0, 9, 0x9e))?);
+    assert!(rt; parses_as(alloc, link, "frame", Event::Frame(1))?);
     Ok(())
 }
 
@@ -209,14 +209,14 @@ fn lines_of_link(rt: HostRuntime) -> Result<(), Fail> {
 fn lines_of_one_node(rt: HostRuntime) -> Result<(), Fail> {
     let alloc = rt.alloc();
     let (ue, node_b, rnc) = (Command::Ue, Command::NodeB, Command::Rnc);
-    assert!(rt; says(alloc, ue, "unit 0 01", unit(Dir::Up, 0, b"01"))?);
-    assert!(rt; says(alloc, ue, "block 1", block(Dir::Up, 1))?);
-    assert!(rt; says(alloc, ue, "free 0", free(Dir::Up, 0))?);
-    assert!(rt; says(alloc, ue, "phy none", Event::PhyNone)?);
-    assert!(rt; says(alloc, ue, "tick", Event::Tick)?);
-    assert!(rt; says(alloc, ue, "change", Event::Change)?);
+    assert!(rt; parses_as(alloc, ue, "unit 0 01", unit(Dir::Up, 0, b"01"))?);
+    assert!(rt; parses_as(alloc, ue, "block 1", block(Dir::Up, 1))?);
+    assert!(rt; parses_as(alloc, ue, "free 0", free(Dir::Up, 0))?);
+    assert!(rt; parses_as(alloc, ue, "phy none", Event::PhyNone)?);
+    assert!(rt; parses_as(alloc, ue, "tick", Event::Tick)?);
+    assert!(rt; parses_as(alloc, ue, "change", Event::Change)?);
     assert!(rt;
-        says(
+        parses_as(
             alloc,
             node_b,
             "iub 5 8A01",
@@ -226,10 +226,10 @@ fn lines_of_one_node(rt: HostRuntime) -> Result<(), Fail> {
             }
         )?
     );
-    assert!(rt; says(alloc, node_b, "down", Event::Down)?);
-    assert!(rt; says(alloc, rnc, "unit 1 413754", unit(Dir::Down, 1, b"413754"))?);
-    assert!(rt; says(alloc, rnc, "block 2", block(Dir::Down, 2))?);
-    assert!(rt; says(alloc, rnc, "iub 3 00", Event::Iub { set: 3, hex: b"00" })?);
+    assert!(rt; parses_as(alloc, node_b, "down", Event::Down)?);
+    assert!(rt; parses_as(alloc, rnc, "unit 1 413754", unit(Dir::Down, 1, b"413754"))?);
+    assert!(rt; parses_as(alloc, rnc, "block 2", block(Dir::Down, 2))?);
+    assert!(rt; parses_as(alloc, rnc, "iub 3 00", Event::Iub { set: 3, hex: b"00" })?);
     Ok(())
 }
 
@@ -241,7 +241,7 @@ fn phy_says(alloc: Global, command: Command, bits: usize, cells: &str) -> Result
         tfci: tfci.as_bytes(),
         cells: cells.as_bytes(),
     };
-    says(alloc, command, line.as_str(), event)
+    parses_as(alloc, command, line.as_str(), event)
 }
 
 #[test]
@@ -278,7 +278,7 @@ fn a_line_of_encode(rt: HostRuntime) -> Result<(), Fail> {
         bits: b".",
     };
     assert!(rt; parse(Command::Encode, b"code half 8 .\n") == Ok(event));
-    assert!(rt; says(rt.alloc(), Command::Encode, "code half 8 .", event)?);
+    assert!(rt; parses_as(rt.alloc(), Command::Encode, "code half 8 .", event)?);
     Ok(())
 }
 

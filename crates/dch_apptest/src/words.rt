@@ -11,7 +11,7 @@ fn words_of(alloc: Global, text: &str) -> Result<Vec<String>, AllocError> {
     Ok(words)
 }
 
-fn said(subcommand: Subcommand, count: u32, start: u8, quiet: bool) -> Option<Arguments> {
+fn parsed(subcommand: Subcommand, count: u32, start: u8, quiet: bool) -> Option<Arguments> {
     Some(Arguments {
         subcommand,
         count,
@@ -28,9 +28,9 @@ fn read(alloc: Global, text: &str) -> Result<Option<Arguments>, Fail> {
 #[test]
 fn what_words_say(rt: HostRuntime) -> Result<(), Fail> {
     let alloc = rt.alloc();
-    let plain = said(Subcommand::Encode, 1000, 0, false);
+    let plain = parsed(Subcommand::Encode, 1000, 0, false);
     assert!(rt; read(alloc, "encode")? == plain);
-    let full = said(Subcommand::Check, 100_000, 31, true);
+    let full = parsed(Subcommand::Check, 100_000, 31, true);
     assert!(rt; read(alloc, "--quiet check 100000 --start=31")? == full);
     assert!(rt; read(alloc, "encode 5 --start 32")? == None);
     Ok(())

@@ -1,5 +1,5 @@
 -- An input without faults, of good lines, is followed to its end.
-use Rattle.std.proofs.Common.{◌≡◌, ◌⊎◌, ◌+◌, ◌≤◌, ◌++◌, ℕ, List, [], ◌∷◌, length, get_or, refl, ap, sym, ◌∙◌, append-nil, append_assoc, length-append, true, arith, IfSome, None, Some, ⊎_elim}
+use Rattle.std.proofs.Common.{◌≡◌, ◌⊎◌, ◌+◌, ◌≤◌, ◌++◌, ℕ, List, [], ◌∷◌, length, get_or, refl, ap, sym, ◌∙◌, inl, inr, append-nil, append_assoc, length-append, true, arith, IfSome, None, Some, ⊎_elim}
 use Rattle.std.specs.Prelude.{All}
 use Rattle.std.proofs.lemmas.Bool.{false≢true}
 use Rattle.std.proofs.Math.Seq.{get_or-append_seam}
@@ -14,9 +14,10 @@ use Rattle.dch_io.specs.declared.feed.TheConstants.{LIMIT}
 use Rattle.dch_lines.specs.Semantics.{Semantics, RefusesLong}
 use Rattle.dch_lines.specs.Processor.{Progress}
 use Rattle.dch_lines.specs.Followed.{FollowsInput, IsRefused}
-use Rattle.dch_lines.specs.LineTexts.{IsMalformed, is_empty}
+use Rattle.dch_lines.specs.LineTexts.{IsFaulty, is_empty}
+use Rattle.dch_lines.specs.declared.stop.LineFault.TheVariants.{Malformed}
 use Rattle.dch_lines.specs.declared.stop.Outcome.{Outcome}
-use Rattle.dch_lines.specs.declared.stop.Outcome.TheVariants.{Ok, Refused, ReadFault, WriteFault, TooLong}
+use Rattle.dch_lines.specs.declared.stop.Outcome.TheVariants.{Ok, Refused, ReadFault, WriteFault, NoMemory as Lacking, TooLong}
 use Rattle.dch_lines.proofs.Parts.{lines_on, rest_on}
 use Rattle.dch_lines.proofs.Steps.{overlong}
 
@@ -35,13 +36,13 @@ all_consumed input taken (Some rest) takes end = takes ∙ ap (λ l. taken ++ l)
 
 -- a good list has no malformed line
 none_malformed : {S : Type 0} (semantics : Semantics S) (IsGood : List ℕ → Type 0) (state : S) (lines before later : List (List ℕ)) (line : List ℕ) (why : LineError) → TakesAll semantics IsGood → All (λ line. (is_empty line ≡ true) ⊎ IsGood line) lines → lines ≡ before ++ (line ∷ later)
-    → IsMalformed semantics state line why → ⊥
-none_malformed semantics IsGood state lines before later line why takes good same malformed =
+    → IsFaulty semantics state line (Malformed why) → ⊥
+none_malformed semantics IsGood state lines before later line why takes good same faulty =
     let there : All (λ line. (is_empty line ≡ true) ⊎ IsGood line) (before ++ (line ∷ later)) = rw same at good in
     let here = there (length before) [] (omega (arith, length-append before (line ∷ later))) in
     let at : get_or (before ++ (line ∷ later)) (length before) [] ≡ line = get_or-append_seam before line later [] in
     let this : (is_empty line ≡ true) ⊎ IsGood line = rw at at here in
-    ⊎_elim (λ empty. false≢true (sym malformed.words ∙ empty)) (λ ok. takes state line why ok malformed.refused) this
+    ⊎_elim (λ empty. false≢true (sym faulty.words ∙ empty)) (λ ok. takes state line why ok faulty.cause) this
 
 refused_none : {S : Type 0} (semantics : Semantics S) (IsGood : List ℕ → Type 0) (source : End) (state : S) (begun input taken more : List ℕ) (good : List (List ℕ)) (why : LineError) → RefusesLong semantics → TakesAll semantics IsGood → input ≡ taken ++ more → (IsAtEnd source.now → input ≡ taken)
     → All (λ line. (is_empty line ≡ true) ⊎ IsGood line) (lines_after begun input) → rest_after begun input ≡ [] → IsRefused semantics source state begun taken good why → ⊥
@@ -53,9 +54,9 @@ refused_none semantics IsGood source state begun input taken more good why stric
     ⊎_elim
     (λ meets. ⊎_elim
     (λ m. none_malformed semantics IsGood state (lines_after begun input) good (m.later ++ lines_after held more) m.line why takes lines_good
-    (lines ∙ ap (λ l. l ++ lines_after held more) m.lines ∙ append_assoc good (m.line ∷ m.later) (lines_after held more)) m.malformed)
+    (lines ∙ ap (λ l. l ++ lines_after held more) m.lines ∙ append_assoc good (m.line ∷ m.later) (lines_after held more)) m.faulty)
     (λ over. ⊎_elim
-    (λ m. none_malformed semantics IsGood state (lines_after begun input) before m.later m.line Long takes lines_good (lines ∙ ap (λ l. before ++ l) m.lines) m.malformed)
+    (λ m. none_malformed semantics IsGood state (lines_after begun input) before m.later m.line Long takes lines_good (lines ∙ ap (λ l. before ++ l) m.lines) m.faulty)
     (λ m. let empty : rest_after held more ≡ [] = sym rest ∙ ended in absurd (omega (arith, m.long, ap length empty)))
     (overlong semantics state held more strict over.1.long))
     meets)
@@ -64,9 +65,10 @@ refused_none semantics IsGood source state begun input taken more good why stric
 
 pub completes : {S : Type 0} (semantics : Semantics S) (IsGood : List ℕ → Type 0) (before now k l : Option (List ℕ)) (f g h i : ℕ) (old : Progress S) (state : S) (part : List ℕ) (outcome : Outcome) → RefusesLong semantics → TakesAll semantics IsGood
     → FollowsInput semantics (span before now f g) (span k l h i) old state part outcome
-    → IfSome before (λ input. All (λ line. (is_empty line ≡ true) ⊎ IsGood line) (lines_after old.line (part ++ input)) → rest_after old.line (part ++ input) ≡ [] → old.bytes + length (part ++ input) ≤ LIMIT → ¬ Rose f g → ¬ Rose h i → outcome ≡ Ok)
+    → IfSome before (λ input. All (λ line. (is_empty line ≡ true) ⊎ IsGood line) (lines_after old.line (part ++ input)) → rest_after old.line (part ++ input) ≡ [] → old.bytes + length (part ++ input) ≤ LIMIT → ¬ Rose f g → ¬ Rose h i → (outcome ≡ Ok) ⊎ (outcome ≡ Lacking))
 completes semantics IsGood None now k l f g h i old state part outcome strict takes run = tt
-completes semantics IsGood (Some input) now k l f g h i old state part Ok strict takes run = λ good rest size s t. refl
+completes semantics IsGood (Some input) now k l f g h i old state part Ok strict takes run = λ good rest size s t. inl refl
+completes semantics IsGood (Some input) now k l f g h i old state part Lacking strict takes run = λ good rest size s t. inr refl
 completes semantics IsGood (Some input) now k l f g h i old state part ReadFault strict takes run = λ good rest size s t. absurd (s run.answers.fails)
 completes semantics IsGood (Some input) now k l f g h i old state part WriteFault strict takes run = λ good rest size s t. absurd (t run.answers.fails)
 completes semantics IsGood (Some input) now k l f g h i old state part TooLong strict takes run = λ good rest size s t.
@@ -77,3 +79,7 @@ completes semantics IsGood (Some input) now k l f g h i old state part Refused s
     let cut : part ++ input ≡ part ++ run.taken ++ more.0 = ap (λ l. part ++ l) more.1 ∙ sym (append_assoc part run.taken more.0) in
     let all : IsAtEnd now → part ++ input ≡ part ++ run.taken = λ end. ap (λ l. part ++ l) (all_consumed input run.taken now run.takes end) in
     absurd (refused_none semantics IsGood (span (Some input) now f g) run.answers.state old.line (part ++ input) (part ++ run.taken) more.0 run.answers.good run.answers.why strict takes cut all good rest run.answers.refused)
+
+-- no line wants memory
+pub never_lacks : {S : Type 0} (semantics : Semantics S) (source sink : End) (old : Progress S) (state : S) (part : List ℕ) → ((state : S) (line : List ℕ) → semantics.wants_memory state line → ⊥) → FollowsInput semantics source sink old state part Lacking → ⊥
+never_lacks semantics source sink old state part none run = none run.answers.state run.answers.lacks.line run.answers.lacks.faulty.cause

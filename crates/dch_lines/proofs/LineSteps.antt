@@ -1,13 +1,17 @@
 -- The steps of a line, one after another.
-use Rattle.std.proofs.Common.{◌≡◌, ◌⊎◌, ◌+◌, ◌<◌, ◌≤◌, ℕ, suc, List, [], ◌++◌, Option, true, false, arith, refl, ap, ◌∙◌, append_assoc, append-nil, inl, inr}
-use Rattle.std.specs.Prelude.{Ok}
+use Rattle.std.proofs.Common.{◌≡◌, ◌+◌, ◌≤◌, ℕ, suc, List, [], ◌++◌, Option, true, false, arith, refl, ap, subst, ◌∙◌, append_assoc, append-nil, inr}
+use Rattle.std.specs.Prelude.{Ok, Err}
 use Rattle.std.proofs.KnownBytes.{Appends-nil}
 use Rattle.dch_io.specs.Ends.{End, Passes, Breaks, span}
 use Rattle.dch_script.specs.Held.{Held}
-use Rattle.dch_lines.specs.Semantics.{Adds, Semantics, IsFront}
-use Rattle.dch_lines.specs.Processor.{AddsLine, FailsWithin, GoesThrough, LineOutcome}
+use Rattle.dch_lines.specs.Finishing.{resumes_on}
+use Rattle.dch_lines.specs.Semantics.{Adds, Finishes, IsFault, Resumes, Semantics}
+use Rattle.dch_lines.specs.Processor.{AddsLine, BreaksAt, EndsLine, FailsWithin, GoesThrough, LineOutcome, Progress}
 use Rattle.dch_lines.specs.LineTexts.{is_empty}
-use Rattle.dch_lines.proofs.Parts.{breaks_on, passes_on}
+use Rattle.dch_lines.specs.declared.stop.LineFault.{LineFault}
+use Rattle.dch_lines.specs.declared.stop.Stop.{Stop}
+use Rattle.dch_lines.specs.declared.stop.Stop.TheVariants.{Fault, Failed}
+use Rattle.dch_lines.proofs.Parts.{breaks_more, breaks_on, passes_on}
 
 -- some steps are done
 pub record Done {S : Type 0} (semantics : Semantics S) (old new : S) (before now : List ℕ) (a b : Option (List ℕ)) (f g : ℕ) : Type 0 where
@@ -23,9 +27,9 @@ none_done semantics old text a f = record {
 }
 
 -- one more
-pub one_more : {S : Type 0} (semantics : Semantics S) (old mid new : S) (before now : List ℕ) (room said : Held) (a b c : Option (List ℕ)) (f g h : ℕ) → Done semantics old mid before now a b f g → Passes (span b c g h) now room.text → Adds (semantics.resumes mid new) room said → semantics.remaining new + 1 ≡ semantics.remaining mid
-    → Done semantics old new before said.text a c f h
-one_more semantics old mid new before now room said a b c f g h done passes adds remaining =
+pub one_more : {S : Type 0} (semantics : Semantics S) (old mid new : S) (before now : List ℕ) (room parsed : Held) (a b c : Option (List ℕ)) (f g h : ℕ) → Done semantics old mid before now a b f g → Passes (span b c g h) now room.text → Adds (semantics.resumes mid new) room parsed → semantics.remaining new + 1 ≡ semantics.remaining mid
+    → Done semantics old new before parsed.text a c f h
+one_more semantics old mid new before now room parsed a b c f g h done passes adds remaining =
     let through = done.through in
     let last : List ℕ = adds.more in
     rw adds.added (record {
@@ -47,19 +51,16 @@ all_done semantics old new before now a b f g done none =
     let same : semantics.remaining old ≡ done.count = omega (arith, done.counted, none) in
     rw same done.through
 
--- the sink fails before the next
-pub fails_within : {S : Type 0} (semantics : Semantics S) (old mid : S) (before now : List ℕ) (a b c : Option (List ℕ)) (f g h : ℕ) → f ≤ g → Done semantics old mid before now a b f g → 0 < semantics.remaining mid → Breaks (span b c g h) now → FailsWithin semantics (span a c f h) old before
-fails_within semantics old mid before now a b c f g h later done some breaks =
+-- the sink fails before the next, and those that are left can be done
+pub fails_within : {S : Type 0} (semantics : Semantics S) (old mid : S) (before now : List ℕ) (a b c : Option (List ℕ)) (f g h : ℕ) → f ≤ g → Done semantics old mid before now a b f g → Finishes semantics mid → Breaks (span b c g h) now → FailsWithin semantics (span a c f h) old before
+fails_within semantics old mid before now a b c f g h later done finishes breaks =
     let through = done.through in
+    let last : List ℕ = finishes.1.0 in
     record {
-      count = done.count;
-      remaining = semantics.remaining mid;
-      counted = done.counted;
-      some = some;
-      new = mid;
-      rest = through.rest;
-      resumes = through.resumes;
-      breaks = rw (← append-nil (before ++ through.rest)) (breaks_on a b c f g h (before ++ through.rest) now [] later through.passes (rw append-nil breaks));
+      new = finishes.0;
+      rest = through.rest ++ last;
+      resumes = subst (λ n. Resumes semantics n old finishes.0 (through.rest ++ last)) done.counted (resumes_on semantics done.count (semantics.remaining mid) old mid finishes.0 through.rest last through.resumes finishes.1.1);
+      breaks = rw (← append_assoc before through.rest last) (breaks_on a b c f g h (before ++ through.rest) now last later through.passes (breaks_more (span b c g h) now last breaks));
     }
 
 -- a line is empty
@@ -67,41 +68,58 @@ pub nothing_said : {S : Type 0} (semantics : Semantics S) (old : S) (line text :
 nothing_said semantics old line text a f empty = rw empty ([], ((refl, refl), record { written = []; writes = Appends-nil a; whole = append-nil text }, refl))
 
 -- all steps of a line are done
-pub all_said : {S : Type 0} (semantics : Semantics S) (old mid new : S) (line before now : List ℕ) (room said : Held) (a b c : Option (List ℕ)) (f g h : ℕ) → is_empty line ≡ false → Passes (span a b f g) before room.text → Adds (semantics.handles old line mid) room said
-    → GoesThrough semantics (span b c g h) (semantics.remaining mid) mid new said.text now → LineOutcome semantics (span a c f h) old line new before now (Ok 1)
-all_said semantics old mid new line before now room said a b c f g h words passes adds through =
+pub all_said : {S : Type 0} (semantics : Semantics S) (old mid new : S) (line before now : List ℕ) (room parsed : Held) (a b c : Option (List ℕ)) (f g h : ℕ) → is_empty line ≡ false → Passes (span a b f g) before room.text → Adds (semantics.handles old line mid) room parsed
+    → GoesThrough semantics (span b c g h) (semantics.remaining mid) mid new parsed.text now → LineOutcome semantics (span a c f h) old line new before now (Ok 1)
+all_said semantics old mid new line before now room parsed a b c f g h words passes adds through =
     let first : List ℕ = adds.more in
     let rest : List ℕ = through.rest in
-    let text : said.text ++ rest ≡ room.text ++ (first ++ rest) = ap (λ (r : Held). r.text ++ rest) adds.added ∙ append_assoc room.text first rest in
+    let text : parsed.text ++ rest ≡ room.text ++ (first ++ rest) = ap (λ (r : Held). r.text ++ rest) adds.added ∙ append_assoc room.text first rest in
     rw words (
       first ++ rest,
       (
-        record { mid = mid; first = first; handles = adds.handles; count = semantics.remaining mid; counted = omega arith; rest = rest; resumes = through.resumes; whole = refl },
+        record { mid = mid; first = first; handles = adds.handles; rest = rest; resumes = through.resumes; whole = refl },
         passes_on a b c f g h before room.text (first ++ rest) now passes (rw text at through.passes),
         refl,
       ),
     )
 
+-- a line is not handled
+pub not_said : {S : Type 0} (semantics : Semantics S) (sink : End) (old : S) (line before : List ℕ) (room parsed : Held) (fault : LineFault) → is_empty line ≡ false → IsFault semantics old line fault → Passes sink before room.text → parsed ≡ room → LineOutcome semantics sink old line old before parsed.text (Err (Fault fault))
+not_said semantics sink old line before room parsed fault words cause passes same = (record { words = words; cause = cause }, refl, rw same passes)
+
 -- the sink fails after some of them
-pub some_said : {S : Type 0} (semantics : Semantics S) (old mid : S) (line before : List ℕ) (room said : Held) (a b c : Option (List ℕ)) (f g h : ℕ) → f ≤ g → Passes (span a b f g) before room.text → Adds (semantics.handles old line mid) room said
-    → FailsWithin semantics (span b c g h) mid said.text → (part : List ℕ) × (((part ≡ []) ⊎ IsFront semantics old line part) × Breaks (span a c f h) (before ++ part))
-some_said semantics old mid line before room said a b c f g h later passes adds fails =
+pub some_said : {S : Type 0} (semantics : Semantics S) (old mid : S) (line before : List ℕ) (room parsed : Held) (a b c : Option (List ℕ)) (f g h : ℕ) → f ≤ g → is_empty line ≡ false → Passes (span a b f g) before room.text → Adds (semantics.handles old line mid) room parsed
+    → FailsWithin semantics (span b c g h) mid parsed.text → BreaksAt semantics (span a c f h) old line before
+some_said semantics old mid line before room parsed a b c f g h later words passes adds fails =
     let first : List ℕ = adds.more in
     let rest : List ℕ = fails.rest in
-    let text : said.text ++ rest ≡ room.text ++ (first ++ rest) = ap (λ (r : Held). r.text ++ rest) adds.added ∙ append_assoc room.text first rest in (
-      first ++ rest,
+    let text : parsed.text ++ rest ≡ room.text ++ (first ++ rest) = ap (λ (r : Held). r.text ++ rest) adds.added ∙ append_assoc room.text first rest in
+    rw words (inr (
+      fails.new,
       (
-        inr (fails.remaining, (fails.new, (fails.some, record { mid = mid; first = first; handles = adds.handles; count = fails.count; counted = fails.counted; rest = rest; resumes = fails.resumes; whole = refl }))),
-        breaks_on a b c f g h before room.text (first ++ rest) later passes (rw text at fails.breaks),
+        first ++ rest,
+        (
+          record { mid = mid; first = first; handles = adds.handles; rest = rest; resumes = fails.resumes; whole = refl },
+          breaks_on a b c f g h before room.text (first ++ rest) later passes (rw text at fails.breaks),
+        ),
       ),
-    )
-
--- the sink fails before the first
-pub none_said : {S : Type 0} (semantics : Semantics S) (old : S) (line before : List ℕ) (sink : End) → Breaks sink before → (part : List ℕ) × (((part ≡ []) ⊎ IsFront semantics old line part) × Breaks sink (before ++ part))
-none_said semantics old line before sink breaks = ([], (inl refl, rw append-nil breaks))
+    ))
 
 -- a line is counted
 pub line_added : {S : Type 0} (semantics : Semantics S) (sink : End) (old new : S) (line before now : List ℕ) (bytes lines nonempty_lines count : ℕ) → LineOutcome semantics sink old line new before now (Ok count)
     → AddsLine semantics sink (record { handler = old; line = line; text = before; bytes = bytes; lines = lines; nonempty_lines = nonempty_lines }) (record { handler = new; line = []; text = now; bytes = bytes; lines = lines + 1; nonempty_lines = nonempty_lines + count })
 line_added semantics sink old new line before now bytes lines nonempty_lines count handled =
     rw handled.1.2 (record { handler = new; more = handled.0; handles = handled.1.0; text = now; passes = handled.1.1; added = refl })
+
+-- a line stops the work
+stops : {S : Type 0} (semantics : Semantics S) (sink : End) (old new : S) (line before now : List ℕ) (bytes lines nonempty_lines : ℕ) (stop : Stop) → LineOutcome semantics sink old line new before now (Err stop)
+    → EndsLine semantics sink (record { handler = old; line = line; text = before; bytes = bytes; lines = lines; nonempty_lines = nonempty_lines }) (record { handler = new; line = line; text = now; bytes = bytes; lines = lines; nonempty_lines = nonempty_lines }) (Err stop)
+stops semantics sink old new line before now bytes lines nonempty_lines (Fault fault) said = (said.0, said.2, rw said.1 refl)
+stops semantics sink old new line before now bytes lines nonempty_lines Failed said = said
+
+pub line_stopped : {S : Type 0} (semantics : Semantics S) (sink : End) (first : Progress S) (old new : S) (line at before now : List ℕ) (bytes lines nonempty_lines : ℕ) (stop : Stop)
+    → record { handler = old; line = line; text = before; bytes = bytes; lines = lines; nonempty_lines = nonempty_lines } ≡ first → at ≡ line → LineOutcome semantics sink old at new before now (Err stop)
+    → EndsLine semantics sink first (record { handler = new; line = line; text = now; bytes = bytes; lines = lines; nonempty_lines = nonempty_lines }) (Err stop)
+line_stopped semantics sink first old new line at before now bytes lines nonempty_lines stop seen same said =
+    let here : LineOutcome semantics sink old line new before now (Err stop) = subst (λ l. LineOutcome semantics sink old l new before now (Err stop)) same said in
+    subst (λ p. EndsLine semantics sink p (record { handler = new; line = line; text = now; bytes = bytes; lines = lines; nonempty_lines = nonempty_lines }) (Err stop)) seen (stops semantics sink old new line before now bytes lines nonempty_lines stop here)

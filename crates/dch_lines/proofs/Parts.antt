@@ -4,10 +4,10 @@ use Rattle.std.specs.Io.KnownBytes.{Appends}
 use Rattle.std.proofs.KnownBytes.{Appends-trans}
 use Rattle.dch_io.specs.Ends.{End, Passes, Breaks, span}
 use Rattle.dch_script.specs.Lines.{lines_after, rest_after}
-use Rattle.dch_script.specs.declared.event.LineError.{LineError}
 use Rattle.dch_script.proofs.Lines.{lines_after-append, rest_after-append}
 use Rattle.dch_lines.specs.Semantics.{Semantics}
-use Rattle.dch_lines.specs.Processor.{Progress, MeetsMalformed, Takes, StopsAt, FailsIn}
+use Rattle.dch_lines.specs.Processor.{Progress, MeetsFault, Takes, StopsAt, FailsIn}
+use Rattle.dch_lines.specs.declared.stop.LineFault.{LineFault}
 use Rattle.dch_lines.proofs.Cuts.{says_append, nonempty_lines-append}
 
 pub passes_on : (a b c : Option (List ℕ)) (f g h : ℕ) (text mid more remaining : List ℕ) → Passes (span a b f g) text mid → Passes (span b c g h) (mid ++ more) remaining → Passes (span a c f h) (text ++ more) remaining
@@ -53,24 +53,24 @@ takes_on semantics a b c f g h old mid new xs ys first then =
     }
 
 -- what the later bytes meet is what all meet
-pub meets_on : {S : Type 0} (semantics : Semantics S) (state : S) (begun mid xs ys : List ℕ) (good : List (List ℕ)) (why : LineError) → mid ≡ rest_after begun xs
-    → MeetsMalformed semantics state mid ys good why → MeetsMalformed semantics state begun (xs ++ ys) (lines_after begun xs ++ good) why
-meets_on semantics state begun mid xs ys good why remaining meets =
+pub meets_on : {S : Type 0} (semantics : Semantics S) (state : S) (begun mid xs ys : List ℕ) (good : List (List ℕ)) (fault : LineFault) → mid ≡ rest_after begun xs
+    → MeetsFault semantics state mid ys good fault → MeetsFault semantics state begun (xs ++ ys) (lines_after begun xs ++ good) fault
+meets_on semantics state begun mid xs ys good fault remaining meets =
     let lines = lines_on begun mid xs ys remaining in
     let rest = rest_on begun mid xs ys remaining in
     let here : List (List ℕ) = lines_after begun xs in
     ⊎_elim
-    (λ m. inl (record { line = m.line; later = m.later; lines = lines ∙ ap (λ l. here ++ l) m.lines ∙ sym (append_assoc here good (m.line ∷ m.later)); malformed = m.malformed }))
+    (λ m. inl (record { line = m.line; later = m.later; lines = lines ∙ ap (λ l. here ++ l) m.lines ∙ sym (append_assoc here good (m.line ∷ m.later)); faulty = m.faulty }))
     (λ m. inr (m.0, record { lines = lines ∙ ap (λ l. here ++ l) m.1.lines; long = rw rest m.1.long }))
     meets
 
-pub stops_on : {S : Type 0} (semantics : Semantics S) (a b c : Option (List ℕ)) (f g h : ℕ) (old mid new : Progress S) (xs ys : List ℕ) (why : LineError) → Takes semantics (span a b f g) old mid xs → StopsAt semantics (span b c g h) mid new ys why → StopsAt semantics (span a c f h) old new (xs ++ ys) why
-stops_on semantics a b c f g h old mid new xs ys why first then =
+pub stops_on : {S : Type 0} (semantics : Semantics S) (a b c : Option (List ℕ)) (f g h : ℕ) (old mid new : Progress S) (xs ys : List ℕ) (fault : LineFault) → Takes semantics (span a b f g) old mid xs → StopsAt semantics (span b c g h) mid new ys fault → StopsAt semantics (span a c f h) old new (xs ++ ys) fault
+stops_on semantics a b c f g h old mid new xs ys fault first then =
     let here : List (List ℕ) = lines_after old.line xs in
     record {
       good = here ++ then.good;
       state = then.state;
-      meets = meets_on semantics then.state old.line mid.line xs ys then.good why first.line then.meets;
+      meets = meets_on semantics then.state old.line mid.line xs ys then.good fault first.line then.meets;
       more = first.more ++ then.more;
       handles = says_append semantics old.handler mid.handler then.state here then.good first.more then.more first.handles then.handles;
       passes = rw (← append_assoc old.text first.more then.more) (passes_on a b c f g h (old.text ++ first.more) mid.text then.more new.text first.passes then.passes);
@@ -88,10 +88,7 @@ fails_on semantics a b c f g h old mid xs ys later first then =
       state = then.state;
       more = first.more ++ then.more;
       handles = says_append semantics old.handler mid.handler then.state here then.good first.more then.more first.handles then.handles;
-      part = then.part;
-      begins = then.begins;
-      breaks = rw (← append_assoc old.text first.more then.more, append_assoc (old.text ++ first.more) then.more then.part)
-          (breaks_on a b c f g h (old.text ++ first.more) mid.text (then.more ++ then.part) later first.passes (rw (← append_assoc mid.text then.more then.part) then.breaks));
+      breaks = rw (← append_assoc old.text first.more then.more) (breaks_on a b c f g h (old.text ++ first.more) mid.text then.more later first.passes then.breaks);
     }
 
 -- some of the bytes are followed, and these are left

@@ -8,14 +8,15 @@ use Rattle.dch_io.specs.Ends.{End, Breaks, Fails, span}
 use Rattle.dch_io.specs.declared.feed.TheConstants.{LIMIT, PIECE}
 use Rattle.dch_script.specs.Code.{longest}
 use Rattle.dch_script.specs.Lines.{lines_after}
-use Rattle.dch_script.specs.declared.event.LineError.TheVariants.{Cut}
+use Rattle.dch_script.specs.declared.event.LineError.TheVariants.{Cut, Long}
 use Rattle.dch_lines.specs.Semantics.{Semantics}
-use Rattle.dch_lines.specs.Processor.{Progress, Takes}
+use Rattle.dch_lines.specs.Processor.{HasFaulty, MeetsFault, Progress, Takes}
 use Rattle.dch_lines.specs.Followed.{CoversAll, FollowsInput, IsCutOff, MayFollow}
-use Rattle.dch_lines.specs.Pieces.{Going, RefusesIn, BreaksIn, TakesPiece, EndsInput}
+use Rattle.dch_lines.specs.Pieces.{Going, RefusesIn, LacksIn, BreaksIn, TakesPiece, EndsInput}
 use Rattle.dch_lines.specs.LineTexts.{refusal, nonempty_lines}
+use Rattle.dch_lines.specs.declared.stop.LineFault.TheVariants.{Malformed, NoMemory}
 use Rattle.dch_lines.specs.declared.stop.Outcome.{Outcome}
-use Rattle.dch_lines.specs.declared.stop.Outcome.TheVariants.{Ok, Refused, ReadFault, WriteFault, TooLong}
+use Rattle.dch_lines.specs.declared.stop.Outcome.TheVariants.{Ok, Refused, ReadFault, WriteFault, NoMemory as Lacking, TooLong}
 use Rattle.dch_lines.proofs.Parts.{lines_on, meets_on, takes_on}
 use Rattle.dch_lines.proofs.Cuts.{says_append}
 
@@ -80,10 +81,38 @@ refuses semantics a c k l m f e h i j first old state part taken done piece cut 
         good = before ++ stops.good;
         state = stops.state;
         why = stops.why;
-        refused = rw cut (inl (meets_on semantics stops.state first.line old.line done piece stops.good stops.why at.line stops.meets));
+        refused = rw cut (inl (meets_on semantics stops.state first.line old.line done piece stops.good (Malformed stops.why) at.line stops.meets));
         text = at.more ++ stops.more;
         handles = says_append semantics first.handler old.handler stops.state before stops.good at.more stops.more at.handles stops.handles;
         all = joined_more at.passes.written old.text first.text at.more stops.more last (refusal (first.lines + length (before ++ stops.good)) stops.why) at.passes.whole (ap (λ n. refusal n stops.why) count);
+      };
+    }
+
+-- only a whole line wants memory
+lacking_line : {S : Type 0} (semantics : Semantics S) (state : S) (begun bytes : List ℕ) (good : List (List ℕ)) → MeetsFault semantics state begun bytes good NoMemory → HasFaulty semantics state begun bytes good NoMemory
+lacking_line semantics state begun bytes good meets = ⊎_elim (λ m. m) (λ m. absurd (apart m.0)) meets
+  where
+    apart : NoMemory ≡ Malformed Long → ⊥
+    apart same = cc
+
+-- a line wants memory: `done` was followed before, and then the piece
+lacks : {S : Type 0} (semantics : Semantics S) (a c k l m : Option (List ℕ)) (f e h i j : ℕ) (first old : Progress S) (state : S) (part taken done piece : List ℕ) → part ++ taken ≡ done ++ piece → Consumes a c taken
+    → Takes semantics (span k l h i) first old done → old.bytes + length piece ≤ LIMIT → LacksIn semantics (span l m i j) old piece → FollowsInput semantics (span a c f e) (span k m h j) first state part Lacking
+lacks semantics a c k l m f e h i j first old state part taken done piece cut consumes at within stops =
+    let before : List (List ℕ) = lines_after first.line done in
+    record {
+      taken = taken;
+      written = at.passes.written ++ (old.text ++ stops.more);
+      takes = consumes;
+      writes = Appends-trans k l m at.passes.written (old.text ++ stops.more) at.passes.writes stops.writes;
+      answers = record {
+        within = rw cut (omega (arith, at.counted, length-append done piece));
+        good = before ++ stops.good;
+        state = stops.state;
+        lacks = rw cut (lacking_line semantics stops.state first.line (done ++ piece) (before ++ stops.good) (meets_on semantics stops.state first.line old.line done piece stops.good NoMemory at.line stops.meets));
+        text = at.more ++ stops.more;
+        handles = says_append semantics first.handler old.handler stops.state before stops.good at.more stops.more at.handles stops.handles;
+        all = sym (append_assoc at.passes.written old.text stops.more) ∙ ap (λ l. l ++ stops.more) (sym at.passes.whole) ∙ append_assoc first.text at.more stops.more;
       };
     }
 
@@ -113,7 +142,7 @@ breaks_off semantics a c k l m f e h i j first old state part taken done piece c
         last = breaks.last;
         follows = ⊎_elim
             (λ none. inl none)
-            (λ other. ⊎_elim (λ begun. inr (inl begun)) (λ m. inr (inr (inr (m.0, (rw cut (inl (meets_on semantics breaks.state first.line old.line done piece breaks.good m.0 at.line m.1.0)), m.1.1 ∙ ap (λ n. refusal n m.0) count))))) other)
+            (λ m. inr (inr (m.0, (rw cut (inl (meets_on semantics breaks.state first.line old.line done piece breaks.good (Malformed m.0) at.line m.1.0)), m.1.1 ∙ ap (λ n. refusal n m.0) count))))
             breaks.follows;
         cut = record {
           rest = breaks.breaks.cut.rest;
@@ -145,6 +174,7 @@ pub part_ends : {S : Type 0} (semantics : Semantics S) (a k m : Option (List ℕ
 part_ends semantics a k m f h j first new part Refused short within takes = refuses semantics a a k k m f f h h j first first new.handler part [] [] part (append-nil part) (Consumes-nil a) (nothing_taken semantics k h first short) within takes
 part_ends semantics a k m f h j first new part WriteFault short within takes =
     breaks_off semantics a a k k m f f h h j first first new.handler part [] [] part (append-nil part) (Consumes-nil a) (omega arith) (nothing_taken semantics k h first short) within (λ since. inl refl) takes
+part_ends semantics a k m f h j first new part Lacking short within takes = lacks semantics a a k k m f f h h j first first new.handler part [] [] part (append-nil part) (Consumes-nil a) (nothing_taken semantics k h first short) within takes
 part_ends semantics a k m f h j first new part Ok short within takes = absurd takes
 part_ends semantics a k m f h j first new part ReadFault short within takes = absurd takes
 part_ends semantics a k m f h j first new part TooLong short within takes = absurd takes
@@ -158,6 +188,8 @@ piece_ends semantics a b c k l m f g e h i j first old new part piece WriteFault
     let cut : part ++ (going.taken ++ piece) ≡ part ++ going.taken ++ piece = sym (append_assoc part going.taken piece) in
     breaks_off semantics a c k l m f e h i j first old new.handler part (going.taken ++ piece) (part ++ going.taken) piece cut (Consumes-trans a b c going.taken piece going.takes consumes) going.sink_later going.at within
     (λ since. inr (covers_before semantics (span k l h i) first old (part ++ (going.taken ++ piece)) (part ++ going.taken) piece since cut small going.at going.idle)) takes
+piece_ends semantics a b c k l m f g e h i j first old new part piece Lacking going consumes within small takes =
+    lacks semantics a c k l m f e h i j first old new.handler part (going.taken ++ piece) (part ++ going.taken) piece (sym (append_assoc part going.taken piece)) (Consumes-trans a b c going.taken piece going.takes consumes) going.at within takes
 piece_ends semantics a b c k l m f g e h i j first old new part piece Ok going consumes within small takes = absurd takes
 piece_ends semantics a b c k l m f g e h i j first old new part piece ReadFault going consumes within small takes = absurd takes
 piece_ends semantics a b c k l m f g e h i j first old new part piece TooLong going consumes within small takes = absurd takes
@@ -189,7 +221,7 @@ taken_all a b c taken first none = subst (Consumes a c) (append-nil taken) (Cons
 
 -- the sink fails at the end of the input
 breaks_at_end : {S : Type 0} (semantics : Semantics S) (a b c k l m : Option (List ℕ)) (f g e h i j : ℕ) (first old : Progress S) (state : S) (part last new : List ℕ) → (going : Going semantics (span a b f g) (span k l h i) first old part) → Consumes b c []
-    → last ≡ new → MayFollow semantics (span a c f e) first old.handler (part ++ going.taken) (lines_after first.line (part ++ going.taken)) [] new → old.bytes ≤ LIMIT → Breaks (span l m i j) (old.text ++ last) → FollowsInput semantics (span a c f e) (span k m h j) first state part WriteFault
+    → last ≡ new → MayFollow semantics (span a c f e) first old.handler (part ++ going.taken) (lines_after first.line (part ++ going.taken)) new → old.bytes ≤ LIMIT → Breaks (span l m i j) (old.text ++ last) → FollowsInput semantics (span a c f e) (span k m h j) first state part WriteFault
 breaks_at_end semantics a b c k l m f g e h i j first old state part last new going none same follows within breaks =
     let done : List ℕ = part ++ going.taken in
     let written : List ℕ = going.at.passes.written in
@@ -264,11 +296,12 @@ ends semantics a b c k l m f g e h i j first old new part WriteFault going none 
     let lines : List (List ℕ) = lines_after first.line (part ++ going.taken) in
     ⊎_elim
     (λ done. breaks_at_end semantics a b c k l m f g e h i j first old new.handler part (semantics.closing old.handler old.nonempty_lines) (semantics.closing old.handler (first.nonempty_lines + nonempty_lines lines)) going none
-    (ap (λ n. semantics.closing old.handler n) going.at.nonempty_lines) (inr (inr (inl ((end, refl, sym going.at.line ∙ done.0), refl)))) within done.1)
+    (ap (λ n. semantics.closing old.handler n) going.at.nonempty_lines) (inr (inl ((end, refl, sym going.at.line ∙ done.0), refl))) within done.1)
     (λ cut. breaks_at_end semantics a b c k l m f g e h i j first old new.handler part (refusal old.lines Cut) (refusal (first.lines + length lines) Cut) going none
-    (ap (λ n. refusal n Cut) going.at.lines) (inr (inr (inr (Cut, (inr (refl, cut_off semantics (span a c f e) (span k l h i) first old (part ++ going.taken) end going.at cut.0), refl))))) within cut.1)
+    (ap (λ n. refusal n Cut) going.at.lines) (inr (inr (Cut, (inr (refl, cut_off semantics (span a c f e) (span k l h i) first old (part ++ going.taken) end going.at cut.0), refl)))) within cut.1)
     ended
 ends semantics a b c k l m f g e h i j first old new part ReadFault going none end within ended = absurd ended
+ends semantics a b c k l m f g e h i j first old new part Lacking going none end within ended = absurd ended
 ends semantics a b c k l m f g e h i j first old new part TooLong going none end within ended = absurd ended
 
 kept_none : (b c : Option (List ℕ)) → Keeps b c → Consumes b c []

@@ -8,10 +8,11 @@ use Rattle.dch_script.specs.declared.event.LineError.{LineError}
 use Rattle.dch_script.specs.declared.event.LineError.TheVariants.{Cut}
 use Rattle.dch_io.specs.declared.feed.TheConstants.{LIMIT, PIECE}
 use Rattle.dch_lines.specs.Semantics.{Semantics}
-use Rattle.dch_lines.specs.Processor.{Progress, MeetsMalformed}
-use Rattle.dch_lines.specs.LineTexts.{BeginsNext, HandlesLines, nonempty_lines, refusal}
+use Rattle.dch_lines.specs.Processor.{Progress, HasFaulty, MeetsFault}
+use Rattle.dch_lines.specs.LineTexts.{HandlesLines, nonempty_lines, refusal}
+use Rattle.dch_lines.specs.declared.stop.LineFault.TheVariants.{Malformed, NoMemory}
 use Rattle.dch_lines.specs.declared.stop.Outcome.{Outcome}
-use Rattle.dch_lines.specs.declared.stop.Outcome.TheVariants.{Ok, Refused, ReadFault, WriteFault, TooLong}
+use Rattle.dch_lines.specs.declared.stop.Outcome.TheVariants.{Ok, Refused, ReadFault, WriteFault, TooLong, NoMemory as Lacking}
 
 -- these are the lines that end in the bytes, and the input ended within a line
 pub record IsCutOff (source : End) (begun bytes : List ℕ) (good : List (List ℕ)) : Type 0 where
@@ -22,7 +23,7 @@ pub record IsCutOff (source : End) (begun bytes : List ℕ) (good : List (List �
 
 -- a line is refused in this state, after these good ones
 abbrev pub IsRefused : {S : Type 0} → Semantics S → End → S → List ℕ → List ℕ → List (List ℕ) → LineError → Type 0
-IsRefused semantics source state begun bytes good why = MeetsMalformed semantics state begun bytes good why ⊎ ((why ≡ Cut) × IsCutOff source begun bytes good)
+IsRefused semantics source state begun bytes good why = MeetsFault semantics state begun bytes good (Malformed why) ⊎ ((why ≡ Cut) × IsCutOff source begun bytes good)
 
 -- the input was read to its end, each line of it is good and leads to this state, and the text of all is written
 pub record IsWhole {S : Type 0} (semantics : Semantics S) (source : End) (old : Progress S) (state : S) (bytes written : List ℕ) : Type 0 where
@@ -54,13 +55,22 @@ pub record FailsReading {S : Type 0} (semantics : Semantics S) (source : End) (o
   pub handles : HandlesLines semantics old.handler (lines_after old.line bytes) state text
   pub all : written ≡ old.text ++ text
 
--- what may follow the text of good lines: nothing, the text of some steps of the next line, or the closing or refusal line
-abbrev pub MayFollow : {S : Type 0} → Semantics S → End → Progress S → S → List ℕ → List (List ℕ) → List (List ℕ) → List ℕ → Type 0
-MayFollow semantics source old state bytes good later last =
+-- a line wants memory; the text of the good lines before it is written
+pub record LacksMemory {S : Type 0} (semantics : Semantics S) (old : Progress S) (bytes written : List ℕ) : Type 0 where
+  pub within : old.bytes + length bytes ≤ LIMIT
+  pub good : List (List ℕ)
+  pub state : S
+  pub lacks : HasFaulty semantics state old.line bytes good NoMemory
+  pub text : List ℕ
+  pub handles : HandlesLines semantics old.handler good state text
+  pub all : written ≡ old.text ++ text
+
+-- what may follow the text of good lines: nothing, or the closing or refusal line
+abbrev pub MayFollow : {S : Type 0} → Semantics S → End → Progress S → S → List ℕ → List (List ℕ) → List ℕ → Type 0
+MayFollow semantics source old state bytes good last =
     (last ≡ [])
-    ⊎ (BeginsNext semantics state later last
     ⊎ (((IsAtEnd source.now × (lines_after old.line bytes ≡ good) × (rest_after old.line bytes ≡ [])) × (last ≡ semantics.closing state (old.nonempty_lines + nonempty_lines good)))
-    ⊎ ((why : LineError) × (IsRefused semantics source state old.line bytes good why × (last ≡ refusal (old.lines + length good) why)))))
+    ⊎ ((why : LineError) × (IsRefused semantics source state old.line bytes good why × (last ≡ refusal (old.lines + length good) why))))
 
 -- the text of all lines that came before the last piece is written
 pub record CoversAll {S : Type 0} (semantics : Semantics S) (old : Progress S) (bytes written : List ℕ) : Type 0 where
@@ -74,8 +84,8 @@ pub record CoversAll {S : Type 0} (semantics : Semantics S) (old : Progress S) (
   pub since : List ℕ
   pub begins : written ≡ old.text ++ text ++ since
 
--- a write failed; a front of the text of some lines and of what may follow them is written. Where the source gave bytes,
--- it covers all lines that came before the last piece
+-- a write failed; a front is written of the whole text of some good lines, up to and with the one in whose text it failed, and of
+-- what may follow them. Where the source gave bytes, it covers all lines that came before the last piece
 pub record FailsWriting {S : Type 0} (semantics : Semantics S) (source sink : End) (old : Progress S) (part taken written : List ℕ) : Type 0 where
   pub fails : Fails sink
   pub within : old.bytes + length (part ++ taken) ≤ LIMIT
@@ -86,7 +96,7 @@ pub record FailsWriting {S : Type 0} (semantics : Semantics S) (source sink : En
   pub text : List ℕ
   pub handles : HandlesLines semantics old.handler good state text
   pub last : List ℕ
-  pub follows : MayFollow semantics source old state (part ++ taken) good later last
+  pub follows : MayFollow semantics source old state (part ++ taken) good last
   pub cut : IsCutShort written (old.text ++ text ++ last)
   pub covers : (taken ≡ []) ⊎ CoversAll semantics old (part ++ taken) written
 
@@ -104,6 +114,7 @@ AnswersTaken semantics source sink old state part taken written Ok = IsWhole sem
 AnswersTaken semantics source sink old state part taken written Refused = Refuses semantics source old (part ++ taken) written
 AnswersTaken semantics source sink old state part taken written ReadFault = FailsReading semantics source old (part ++ taken) written
 AnswersTaken semantics source sink old state part taken written WriteFault = FailsWriting semantics source sink old part taken written
+AnswersTaken semantics source sink old state part taken written Lacking = LacksMemory semantics old (part ++ taken) written
 AnswersTaken semantics source sink old state part taken written TooLong = IsTooLong semantics old (part ++ taken) written
 
 -- the source gave some bytes, and the sink took the answer to them; a part was at hand before. The handler's state is this

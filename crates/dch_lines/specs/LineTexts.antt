@@ -3,7 +3,8 @@ use Rattle.std.specs.Prelude.{◌≡◌, ◌+◌, ℕ, List, [], ◌∷◌, ◌+
 use Rattle.std.specs.Str.{bytes_eq}
 use Rattle.dch_script.specs.declared.event.LineError.{LineError}
 use Rattle.dch_script.specs.declared.event.LineError.TheVariants.{Long, Cut, Word, Count, Number, Text, Bearer, When}
-use Rattle.dch_lines.specs.Semantics.{Semantics, IsFront, LineSteps}
+use Rattle.dch_lines.specs.Semantics.{Semantics, IsFault, LineSteps}
+use Rattle.dch_lines.specs.declared.stop.LineFault.{LineFault}
 
 -- a line without words, which is passed over
 abbrev pub is_empty : List ℕ → Bool
@@ -11,7 +12,7 @@ is_empty line = bytes_eq line (codes "\n")
 
 -- what a good line does to the state, and adds to the text
 abbrev pub HandlesLine : {S : Type 0} → Semantics S → S → List ℕ → S → List ℕ → Type 0
-HandlesLine semantics old line new text = MatchBool (is_empty line) ((new ≡ old) × (text ≡ [])) (LineSteps semantics old line 0 new text)
+HandlesLine semantics old line new text = MatchBool (is_empty line) ((new ≡ old) × (text ≡ [])) (LineSteps semantics old line new text)
 
 -- what good lines do, one after another
 abbrev pub HandlesLines : {S : Type 0} → Semantics S → S → List (List ℕ) → S → List ℕ → Type 0
@@ -22,15 +23,10 @@ HandlesLines {S} semantics old (line ∷ lines) new text = (mid : S) × ((first 
 abbrev pub nonempty_lines : List (List ℕ) → ℕ
 nonempty_lines lines = count_by (λ line. not (is_empty line)) lines
 
--- a line that isn't empty and is malformed for this reason, in this state
-pub record IsMalformed {S : Type 0} (semantics : Semantics S) (state : S) (line : List ℕ) (why : LineError) : Type 0 where
+-- a line that isn't empty and is not handled in this state, for this fault
+pub record IsFaulty {S : Type 0} (semantics : Semantics S) (state : S) (line : List ℕ) (fault : LineFault) : Type 0 where
   pub words : is_empty line ≡ false
-  pub refused : semantics.refuses state line why
-
--- the text of some steps of the next line
-abbrev pub BeginsNext : {S : Type 0} → Semantics S → S → List (List ℕ) → List ℕ → Type 0
-BeginsNext semantics state [] text = ⊥
-BeginsNext semantics state (line ∷ later) text = IsFront semantics state line text
+  pub cause : IsFault semantics state line fault
 
 abbrev pub reason : LineError → List ℕ
 reason Long = codes "long"

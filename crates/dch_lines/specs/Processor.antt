@@ -7,13 +7,14 @@ use Rattle.dch_io.specs.declared.feed.WriteFailed.{WriteFailed}
 use Rattle.dch_script.specs.Code.{longest}
 use Rattle.dch_script.specs.Lines.{lines_after, rest_after}
 use Rattle.dch_script.specs.declared.code.TheConstants.{LONGEST_LINE}
-use Rattle.dch_script.specs.declared.event.LineError.{LineError}
 use Rattle.dch_script.specs.declared.event.LineError.TheVariants.{Long}
-use Rattle.dch_lines.specs.Semantics.{Semantics, Resumes, IsFront}
-use Rattle.dch_lines.specs.LineTexts.{BeginsNext, IsMalformed, is_empty, HandlesLine, HandlesLines, nonempty_lines}
+use Rattle.dch_lines.specs.Semantics.{Leads, Semantics, Resumes}
+use Rattle.dch_lines.specs.LineTexts.{IsFaulty, is_empty, HandlesLine, HandlesLines, nonempty_lines}
 use Rattle.dch_lines.specs.declared.processor.TheConstants.{LEAST_ROOM}
+use Rattle.dch_lines.specs.declared.stop.LineFault.{LineFault}
+use Rattle.dch_lines.specs.declared.stop.LineFault.TheVariants.{Malformed}
 use Rattle.dch_lines.specs.declared.stop.Stop.{Stop}
-use Rattle.dch_lines.specs.declared.stop.Stop.TheVariants.{Malformed, Failed}
+use Rattle.dch_lines.specs.declared.stop.Stop.TheVariants.{Fault, Failed}
 
 -- what a line processor shows: the handler, the line that has begun, the text that waits to be written, and the bytes, the lines, and
 -- the lines that aren't empty so far
@@ -37,33 +38,41 @@ pub record IsOpen (capacity wanted needed room line text bytes lines nonempty_li
   pub few_lines : lines ≤ bytes
   pub few_nonempty : nonempty_lines ≤ lines
 
--- the steps of a line that were left are done, and their text is written or waits
+-- the same, with a state in place of the handler
+abbrev pub standing : {S C : Type 0} → S → Progress C → Progress S
+standing state progress = record { handler = state; line = progress.line; text = progress.text; bytes = progress.bytes; lines = progress.lines; nonempty_lines = progress.nonempty_lines }
+
+-- for each state that the handler stands for before, there is one that it stands for afterwards, and this holds of the work with the two
+abbrev pub LeadsOn : {S C : Type 0} → (S → C → Type 0) → Progress C → Progress C → (Progress S → Progress S → Type 0) → Type 0
+LeadsOn represents old new Holds = Leads represents old.handler new.handler (λ before after. Holds (standing before old) (standing after new))
+
+-- so many steps of a line are done, and their text is written or waits
 pub record GoesThrough {S : Type 0} (semantics : Semantics S) (sink : End) (count : ℕ) (old new : S) (before now : List ℕ) : Type 0 where
   pub rest : List ℕ
   pub resumes : Resumes semantics count old new rest
   pub passes : Passes sink (before ++ rest) now
 
--- the sink failed within the text of some of the steps that were left
+-- the sink failed within the text of the steps that were left
 pub record FailsWithin {S : Type 0} (semantics : Semantics S) (sink : End) (old : S) (before : List ℕ) : Type 0 where
-  pub count : ℕ
-  pub remaining : ℕ
-  pub counted : count + remaining ≡ semantics.remaining old
-  pub some : 0 < remaining
   pub new : S
   pub rest : List ℕ
-  pub resumes : Resumes semantics count old new rest
+  pub resumes : Resumes semantics (semantics.remaining old) old new rest
   pub breaks : Breaks sink (before ++ rest)
 
 -- what doing the steps that are left does
-abbrev pub Finishes : {S : Type 0} → Semantics S → End → S → S → List ℕ → List ℕ → Result (Unit {0}) WriteFailed → Type 0
-Finishes semantics sink old new before now (Ok done) = GoesThrough semantics sink (semantics.remaining old) old new before now
-Finishes semantics sink old new before now (Err failed) = FailsWithin semantics sink old before
+abbrev pub EndsSteps : {S : Type 0} → Semantics S → End → S → S → List ℕ → List ℕ → Result (Unit {0}) WriteFailed → Type 0
+EndsSteps semantics sink old new before now (Ok done) = GoesThrough semantics sink (semantics.remaining old) old new before now
+EndsSteps semantics sink old new before now (Err failed) = FailsWithin semantics sink old before
+
+-- the sink failed within the text that waits, or within that and the whole text of this good line
+abbrev pub BreaksAt : {S : Type 0} → Semantics S → End → S → List ℕ → List ℕ → Type 0
+BreaksAt {S} semantics sink old line before = Breaks sink before ⊎ ((next : S) × ((more : List ℕ) × (HandlesLine semantics old line next more × Breaks sink (before ++ more))))
 
 -- what doing what a line says, and adding its text to the text that waits, does: that may be written first
 abbrev pub LineOutcome : {S : Type 0} → Semantics S → End → S → List ℕ → S → List ℕ → List ℕ → Result ℕ Stop → Type 0
 LineOutcome semantics sink old line new before now (Ok count) = (more : List ℕ) × (HandlesLine semantics old line new more × Passes sink (before ++ more) now × (count ≡ (if is_empty line then 0 else 1)))
-LineOutcome semantics sink old line new before now (Err (Malformed why)) = IsMalformed semantics old line why × (new ≡ old) × Passes sink before now
-LineOutcome semantics sink old line new before now (Err Failed) = (part : List ℕ) × (((part ≡ []) ⊎ IsFront semantics old line part) × Breaks sink (before ++ part))
+LineOutcome semantics sink old line new before now (Err (Fault fault)) = IsFaulty semantics old line fault × (new ≡ old) × Passes sink before now
+LineOutcome semantics sink old line new before now (Err Failed) = BreaksAt semantics sink old line before
 
 -- the line is good; its text is written or waits, and it is counted
 pub record AddsLine {S : Type 0} (semantics : Semantics S) (sink : End) (old new : Progress S) : Type 0 where
@@ -77,8 +86,8 @@ pub record AddsLine {S : Type 0} (semantics : Semantics S) (sink : End) (old new
 -- what ending a line does
 abbrev pub EndsLine : {S : Type 0} → Semantics S → End → Progress S → Progress S → Result (Unit {0}) Stop → Type 0
 EndsLine semantics sink old new (Ok done) = AddsLine semantics sink old new
-EndsLine semantics sink old new (Err (Malformed why)) = IsMalformed semantics old.handler old.line why × Passes sink old.text new.text × (new ≡ record old { text = new.text })
-EndsLine semantics sink old new (Err Failed) = (part : List ℕ) × (((part ≡ []) ⊎ IsFront semantics old.handler old.line part) × Breaks sink (old.text ++ part))
+EndsLine semantics sink old new (Err (Fault fault)) = IsFaulty semantics old.handler old.line fault × Passes sink old.text new.text × (new ≡ record old { text = new.text })
+EndsLine semantics sink old new (Err Failed) = BreaksAt semantics sink old.handler old.line old.text
 
 -- the lines that end in some bytes are good, and their text is written or waits
 pub record Takes {S : Type 0} (semantics : Semantics S) (sink : End) (old new : Progress S) (bytes : List ℕ) : Type 0 where
@@ -91,33 +100,33 @@ pub record Takes {S : Type 0} (semantics : Semantics S) (sink : End) (old new : 
   pub lines : new.lines ≡ old.lines + length (lines_after old.line bytes)
   pub nonempty_lines : new.nonempty_lines ≡ old.nonempty_lines + nonempty_lines (lines_after old.line bytes)
 
--- a line that ends in the bytes, after these, is malformed in this state
-pub record HasMalformed {S : Type 0} (semantics : Semantics S) (state : S) (begun bytes : List ℕ) (good : List (List ℕ)) (why : LineError) : Type 0 where
+-- a line that ends in the bytes, after these, is not handled in this state
+pub record HasFaulty {S : Type 0} (semantics : Semantics S) (state : S) (begun bytes : List ℕ) (good : List (List ℕ)) (fault : LineFault) : Type 0 where
   pub line : List ℕ
   pub later : List (List ℕ)
   pub lines : lines_after begun bytes ≡ good ++ (line ∷ later)
-  pub malformed : IsMalformed semantics state line why
+  pub faulty : IsFaulty semantics state line fault
 
 -- these are the lines that end in the bytes, and more bytes than a line may have follow without a line feed
 pub record IsOverlong (begun bytes : List ℕ) (good : List (List ℕ)) : Type 0 where
   pub lines : lines_after begun bytes ≡ good
   pub long : longest < length (rest_after begun bytes)
 
--- after these lines one is malformed in this state, or begins with too many bytes
-abbrev pub MeetsMalformed : {S : Type 0} → Semantics S → S → List ℕ → List ℕ → List (List ℕ) → LineError → Type 0
-MeetsMalformed semantics state begun bytes good why = HasMalformed semantics state begun bytes good why ⊎ ((why ≡ Long) × IsOverlong begun bytes good)
+-- after these lines one is not handled in this state, or begins with too many bytes
+abbrev pub MeetsFault : {S : Type 0} → Semantics S → S → List ℕ → List ℕ → List (List ℕ) → LineFault → Type 0
+MeetsFault semantics state begun bytes good fault = HasFaulty semantics state begun bytes good fault ⊎ ((fault ≡ Malformed Long) × IsOverlong begun bytes good)
 
--- a line is malformed; the text of those before it is written or waits
-pub record StopsAt {S : Type 0} (semantics : Semantics S) (sink : End) (old new : Progress S) (bytes : List ℕ) (why : LineError) : Type 0 where
+-- a line is not handled; the text of those before it is written or waits
+pub record StopsAt {S : Type 0} (semantics : Semantics S) (sink : End) (old new : Progress S) (bytes : List ℕ) (fault : LineFault) : Type 0 where
   pub good : List (List ℕ)
   pub state : S
-  pub meets : MeetsMalformed semantics state old.line bytes good why
+  pub meets : MeetsFault semantics state old.line bytes good fault
   pub more : List ℕ
   pub handles : HandlesLines semantics old.handler good state more
   pub passes : Passes sink (old.text ++ more) new.text
   pub lines : new.lines ≡ old.lines + length good
 
--- the sink failed within the text of some good lines, or of a good line that follows
+-- the sink failed within the text of some good lines
 pub record FailsIn {S : Type 0} (semantics : Semantics S) (sink : End) (old : Progress S) (bytes : List ℕ) : Type 0 where
   pub good : List (List ℕ)
   pub later : List (List ℕ)
@@ -125,14 +134,12 @@ pub record FailsIn {S : Type 0} (semantics : Semantics S) (sink : End) (old : Pr
   pub state : S
   pub more : List ℕ
   pub handles : HandlesLines semantics old.handler good state more
-  pub part : List ℕ
-  pub begins : (part ≡ []) ⊎ BeginsNext semantics state later part
-  pub breaks : Breaks sink (old.text ++ more ++ part)
+  pub breaks : Breaks sink (old.text ++ more)
 
 -- what following some bytes does
 abbrev pub Follows : {S : Type 0} → Semantics S → End → Progress S → Progress S → List ℕ → Result (Unit {0}) Stop → Type 0
 Follows semantics sink old new bytes (Ok done) = Takes semantics sink old new bytes
-Follows semantics sink old new bytes (Err (Malformed why)) = StopsAt semantics sink old new bytes why
+Follows semantics sink old new bytes (Err (Fault fault)) = StopsAt semantics sink old new bytes fault
 Follows semantics sink old new bytes (Err Failed) = FailsIn semantics sink old bytes
 
 -- the line that has begun ends with the part
@@ -146,7 +153,7 @@ GoesOnIn begun part = (lines_after begun part ≡ []) × (rest_after begun part 
 -- what following a part does, whatever comes after it
 abbrev pub FollowsPart : {S : Type 0} → Semantics S → End → Progress S → Progress S → List ℕ → Result (Unit {0}) Stop → Type 0
 FollowsPart semantics sink old new part (Ok done) = Takes semantics sink old new part
-FollowsPart semantics sink old new part (Err (Malformed why)) = (remaining : List ℕ) → StopsAt semantics sink old new (part ++ remaining) why
+FollowsPart semantics sink old new part (Err (Fault fault)) = (remaining : List ℕ) → StopsAt semantics sink old new (part ++ remaining) fault
 FollowsPart semantics sink old new part (Err Failed) = (remaining : List ℕ) → FailsIn semantics sink old (part ++ remaining)
 
 -- some bytes were followed, and these are left
@@ -159,5 +166,5 @@ pub record Advances {S : Type 0} (semantics : Semantics S) (sink : End) (old new
 -- what following bytes to the end of a line does
 abbrev pub Steps : {S : Type 0} → Semantics S → End → Progress S → Progress S → List ℕ → Result (Bor (List ℕ)) Stop → Type 0
 Steps semantics sink old new bytes (Ok remaining) = Advances semantics sink old new bytes remaining.now
-Steps semantics sink old new bytes (Err (Malformed why)) = StopsAt semantics sink old new bytes why
+Steps semantics sink old new bytes (Err (Fault fault)) = StopsAt semantics sink old new bytes fault
 Steps semantics sink old new bytes (Err Failed) = FailsIn semantics sink old bytes

@@ -1,6 +1,7 @@
-ghost use Rattle.std.specs.Prelude.{◌≡◌, ◌≤◌, ◌+◌, length, OnOk};
+ghost use Rattle.std.specs.Prelude.{◌≡◌, ◌≤◌, ◌+◌, length, OnOk, IfOk};
 ghost use Rattle.dch_io.specs.Ends.{end_of};
-ghost use Rattle.dch_lines.specs.Processor.{Finishes, LineOutcome};
+ghost use Rattle.dch_lines.specs.Processor.{EndsSteps, LineOutcome};
+ghost use Rattle.dch_lines.specs.Semantics.{Leads};
 
 use crate::handler::LineHandler;
 use crate::room::make_room;
@@ -21,7 +22,8 @@ pub fn process_line<C: LineHandler, K: Sink>(
     requires wanted { C.most handler.old ≤ wanted }
     requires room { wanted ≤ report.old.most }
     requires fits { length report.old.text ≤ report.old.most }
-    ensures handles { LineOutcome C.semantics (end_of K.taken K.faults sink.old sink.new) handler.old line.now handler.new report.old.text report.new.text result }
+    ensures handles { Leads C.represents handler.old handler.new (λ old new. LineOutcome C.semantics (end_of K.taken K.faults sink.old sink.new) old line.now new report.old.text report.new.text result) }
+    ensures few { IfOk result (λ count. count ≤ 1) }
     ensures later { K.faults sink.old ≤ K.faults sink.new }
     ensures room { report.new.most ≡ report.old.most }
     ensures fits { length report.new.text ≤ report.new.most }
@@ -40,7 +42,7 @@ pub fn process_line<C: LineHandler, K: Sink>(
             Ok(()) => Ok(1),
             Err(_failed) => Err(Stop::Failed),
         },
-        Err(why) => Err(Stop::Malformed(why)),
+        Err(fault) => Err(Stop::Fault(fault)),
     }
 }
 
@@ -55,7 +57,7 @@ fn finish_line<C: LineHandler, K: Sink>(
     requires wanted { C.most handler.old ≤ wanted }
     requires room { wanted ≤ report.old.most }
     requires fits { length report.old.text ≤ report.old.most }
-    ensures finishes { Finishes C.semantics (end_of K.taken K.faults sink.old sink.new) handler.old handler.new report.old.text report.new.text result }
+    ensures finishes { Leads C.represents handler.old handler.new (λ old new. EndsSteps C.semantics (end_of K.taken K.faults sink.old sink.new) old new report.old.text report.new.text result) }
     ensures later { K.faults sink.old ≤ K.faults sink.new }
     ensures room { report.new.most ≡ report.old.most }
     ensures fits { length report.new.text ≤ report.new.most }

@@ -1,13 +1,14 @@
-ghost use Rattle.std.specs.Prelude.{◌≡◌, ◌<◌, ◌≤◌, ◌+◌, ◌-◌, length, slice_range};
+ghost use Rattle.std.specs.Prelude.{◌≡◌, ◌<◌, ◌≤◌, ◌+◌, ◌-◌, length, slice_range, OnOk};
 ghost use Rattle.dch_io.specs.Ends.{end_of};
 ghost use Rattle.dch_io.specs.declared.feed.TheConstants.{LIMIT, PIECE};
 ghost use Rattle.dch_script.specs.Code.{longest};
 ghost use Rattle.dch_lines.specs.Followed.{FollowsInput};
-ghost use Rattle.dch_lines.specs.Pieces.{TakesPiece, EndsInput};
+ghost use Rattle.dch_lines.specs.Pieces.{AnswersFault, TakesPiece, EndsInput};
+ghost use Rattle.dch_lines.specs.Processor.{LeadsOn};
 
 use crate::handler::LineHandler;
 use crate::processor::LineProcessor;
-use crate::stop::{Outcome, Stop};
+use crate::stop::{LineFault, Outcome, Stop};
 use dch_io::{Failed, LIMIT, PIECE, Sink, Source, read_piece};
 use dch_script::LineError;
 
@@ -26,7 +27,7 @@ pub fn follow_input<C: LineHandler, S: Source, K: Sink>(
     requires to { to ≤ PIECE }
     requires within { processor.old.bytes + (to - from) ≤ LIMIT }
     requires short { length processor.old.line ≤ longest }
-    ensures { FollowsInput C.semantics (end_of S.left S.faults source.old source.new) (end_of K.taken K.faults sink.old sink.new) processor.old processor.new.handler (slice_range piece.old from to) result }
+    ensures { LeadsOn C.represents processor.old processor.new (λ old new. FollowsInput C.semantics (end_of S.left S.faults source.old source.new) (end_of K.taken K.faults sink.old sink.new) old new.handler (slice_range piece.old from to) result) }
 {
     match take_piece(processor, &piece[from..to], sink) {
         Ok(()) => {}
@@ -65,7 +66,9 @@ fn take_piece<C: LineHandler, K: Sink>(
 ) -> Result<(), Outcome>
     requires within { processor.old.bytes + length piece.now ≤ LIMIT }
     requires short { length processor.old.line ≤ longest }
-    ensures taken { TakesPiece C.semantics (end_of K.taken K.faults sink.old sink.new) processor.old processor.new piece.now result }
+    ensures taken { LeadsOn C.represents processor.old processor.new (λ old new. TakesPiece C.semantics (end_of K.taken K.faults sink.old sink.new) old new piece.now result) }
+    ensures counted { OnOk result (processor.new.bytes ≡ processor.old.bytes + length piece.now) }
+    ensures short { OnOk result (length processor.new.line ≤ longest) }
     ensures later { K.faults sink.old ≤ K.faults sink.new }
 {
     match processor.follow(piece, sink) {
@@ -73,17 +76,36 @@ fn take_piece<C: LineHandler, K: Sink>(
             Ok(()) => Ok(()),
             Err(_failed) => Err(Outcome::WriteFault),
         },
-        Err(Stop::Malformed(why)) => match processor.refuse(why, sink) {
-            Ok(()) => Err(Outcome::Refused),
-            Err(_failed) => Err(Outcome::WriteFault),
-        },
+        Err(Stop::Fault(fault)) => Err(answer_fault(processor, fault, sink)),
         Err(Stop::Failed) => Err(Outcome::WriteFault),
+    }
+}
+
+/// Writes the text that waits where a line is not handled, and refuses the line if it is malformed.
+fn answer_fault<C: LineHandler, K: Sink>(
+    processor: &mut LineProcessor<C>,
+    fault: LineFault,
+    sink: &mut K,
+) -> Outcome
+    ensures answers { AnswersFault (end_of K.taken K.faults sink.old sink.new) processor.old.text processor.old.lines fault result }
+    ensures handler { processor.new.handler ≡ processor.old.handler }
+    ensures later { K.faults sink.old ≤ K.faults sink.new }
+{
+    match fault {
+        LineFault::Malformed(why) => match processor.refuse(why, sink) {
+            Ok(()) => Outcome::Refused,
+            Err(_failed) => Outcome::WriteFault,
+        },
+        LineFault::NoMemory => match processor.flush(sink) {
+            Ok(()) => Outcome::NoMemory,
+            Err(_failed) => Outcome::WriteFault,
+        },
     }
 }
 
 /// Ends the work at the end of the input.
 fn end_input<C: LineHandler, K: Sink>(processor: &mut LineProcessor<C>, sink: &mut K) -> Outcome
-    ensures ended { EndsInput C.semantics (end_of K.taken K.faults sink.old sink.new) processor.old processor.new result }
+    ensures ended { LeadsOn C.represents processor.old processor.new (λ old new. EndsInput C.semantics (end_of K.taken K.faults sink.old sink.new) old new result) }
     ensures later { K.faults sink.old ≤ K.faults sink.new }
 {
     if processor.has_begun() {

@@ -12,4 +12,4 @@ mod stop;
 pub use handler::LineHandler;
 pub use input::follow_input;
 pub use processor::{InputOffset, LineProcessor};
-pub use stop::Outcome;
+pub use stop::{LineFault, Outcome};

@@ -4,7 +4,7 @@ ghost use Rattle.dch_io.specs.Ends.{Breaks, end_of, span};
 ghost use Rattle.dch_io.specs.declared.feed.TheConstants.{LIMIT};
 ghost use Rattle.dch_script.specs.Code.{longest};
 ghost use Rattle.dch_script.specs.declared.code.TheConstants.{LONGEST_LINE};
-ghost use Rattle.dch_lines.specs.Processor.{Progress, EndsLine, Steps, Follows, FollowsPart, EndsIn, GoesOnIn, Takes, StopsAt};
+ghost use Rattle.dch_lines.specs.Processor.{Progress, EndsLine, LeadsOn, Steps, Follows, FollowsPart, EndsIn, GoesOnIn, Takes, StopsAt};
 ghost use Rattle.dch_lines.specs.LineTexts.{refusal};
 ghost use Rattle.dch_lines.specs.declared.processor.TheConstants.{LEAST_ROOM};
 
@@ -12,7 +12,7 @@ use crate::handler::LineHandler;
 use crate::handling::process_line;
 use crate::refusal::put_refusal;
 use crate::room::{flush, make_room};
-use crate::stop::Stop;
+use crate::stop::{LineFault, Stop};
 use dch_bits::NoMemory;
 use dch_io::{Sink, WriteFailed};
 use dch_script::{LONGEST_LINE, LineError, Report};
@@ -104,6 +104,7 @@ impl<C: LineHandler> LineProcessor<C> {
         ensures ok { OnOk result (Appends (K.taken sink.old) (K.taken sink.new) self.old.text) }
         ensures new { OnOk result (self.new ≡ record self.old { text = [] }) }
         ensures err { OnErr result (Breaks (end_of K.taken K.faults sink.old sink.new) self.old.text) }
+        ensures handler { self.new.handler ≡ self.old.handler }
         ensures later { K.faults sink.old ≤ K.faults sink.new }
     {
         flush(&mut self.report, sink)
@@ -119,6 +120,7 @@ impl<C: LineHandler> LineProcessor<C> {
         ensures ok { OnOk result (Appends (K.taken sink.old) (K.taken sink.new) (self.old.text ++ refusal self.old.lines why)) }
         ensures new { OnOk result (self.new ≡ record self.old { text = [] }) }
         ensures err { OnErr result (Breaks (end_of K.taken K.faults sink.old sink.new) (self.old.text ++ refusal self.old.lines why)) }
+        ensures handler { self.new.handler ≡ self.old.handler }
         ensures later { K.faults sink.old ≤ K.faults sink.new }
     {
         make_room(&mut self.report, self.wanted, sink)?;
@@ -132,9 +134,10 @@ impl<C: LineHandler> LineProcessor<C> {
     /// Writes the text that waits, and then the closing line.
     #[tactic(auto, using(crate::proofs::Parts::breaks_on, crate::proofs::Parts::breaks_more, crate::proofs::Parts::appends_on))]
     pub(crate) fn close<K: Sink>(&mut self, sink: &mut K) -> Result<(), WriteFailed>
-        ensures ok { OnOk result (Appends (K.taken sink.old) (K.taken sink.new) (self.old.text ++ C.semantics.closing self.old.handler self.old.nonempty_lines)) }
+        ensures ok { OnOk result ((state : C.State) → C.represents state self.old.handler → Appends (K.taken sink.old) (K.taken sink.new) (self.old.text ++ C.semantics.closing state self.old.nonempty_lines)) }
         ensures new { OnOk result (self.new ≡ record self.old { text = [] }) }
-        ensures err { OnErr result (Breaks (end_of K.taken K.faults sink.old sink.new) (self.old.text ++ C.semantics.closing self.old.handler self.old.nonempty_lines)) }
+        ensures err { OnErr result ((state : C.State) → C.represents state self.old.handler → Breaks (end_of K.taken K.faults sink.old sink.new) (self.old.text ++ C.semantics.closing state self.old.nonempty_lines)) }
+        ensures handler { self.new.handler ≡ self.old.handler }
         ensures later { K.faults sink.old ≤ K.faults sink.new }
     {
         make_room(&mut self.report, self.wanted, sink)?;
@@ -173,7 +176,8 @@ impl<C: LineHandler> LineProcessor<C> {
     /// Ends the line that has begun: does what it says, adds its text, and counts it.
     fn end_line<K: Sink>(&mut self, sink: &mut K) -> Result<(), Stop>
         requires { self.old.lines < self.old.bytes }
-        ensures ended { EndsLine C.semantics (end_of K.taken K.faults sink.old sink.new) self.old self.new result }
+        ensures ended { LeadsOn C.represents self.old self.new (λ old new. EndsLine C.semantics (end_of K.taken K.faults sink.old sink.new) old new result) }
+        ensures cleared { OnOk result ((self.new.line ≡ []) × (self.new.bytes ≡ self.old.bytes)) }
         ensures later { K.faults sink.old ≤ K.faults sink.new }
     {
         match process_line(
@@ -184,8 +188,7 @@ impl<C: LineHandler> LineProcessor<C> {
             sink,
         ) {
             Ok(nonempty_lines) => self.nonempty_lines += nonempty_lines,
-            Err(Stop::Malformed(why)) => return Err(Stop::Malformed(why)),
-            Err(Stop::Failed) => return Err(Stop::Failed),
+            Err(stop) => return Err(stop),
         }
         self.line.clear();
         self.lines += 1;
@@ -197,7 +200,10 @@ impl<C: LineHandler> LineProcessor<C> {
         requires some { 0 < length bytes.now }
         requires within { self.old.bytes + length bytes.now ≤ LIMIT }
         requires short { length self.old.line ≤ longest }
-        ensures steps { Steps C.semantics (end_of K.taken K.faults sink.old sink.new) self.old self.new bytes.entry.now result }
+        ensures steps { LeadsOn C.represents self.old self.new (λ old new. Steps C.semantics (end_of K.taken K.faults sink.old sink.new) old new bytes.entry.now result) }
+        ensures counted { IfOk result (λ remaining. self.new.bytes + length remaining.now ≡ self.old.bytes + length bytes.entry.now) }
+        ensures shorter { IfOk result (λ remaining. length remaining.now < length bytes.entry.now) }
+        ensures short { OnOk result (length self.new.line ≤ longest) }
         ensures later { K.faults sink.old ≤ K.faults sink.new }
     {
         let reach = bytes.len().min(LONGEST_LINE + 1 - self.line.len());
@@ -214,7 +220,7 @@ impl<C: LineHandler> LineProcessor<C> {
                 if self.resume_with(part) {
                     Ok(remaining)
                 } else {
-                    Err(Stop::Malformed(LineError::Long))
+                    Err(Stop::Fault(LineFault::Malformed(LineError::Long)))
                 }
             }
         }
@@ -227,7 +233,8 @@ impl<C: LineHandler> LineProcessor<C> {
         requires count { self.old.lines ≤ self.old.bytes }
         requires line { length self.old.line + length part.now ≤ LONGEST_LINE + 1 }
         requires bytes { self.old.bytes + length part.now ≤ LIMIT }
-        ensures follows { FollowsPart C.semantics (end_of K.taken K.faults sink.old sink.new) self.old self.new part.now result }
+        ensures follows { LeadsOn C.represents self.old self.new (λ old new. FollowsPart C.semantics (end_of K.taken K.faults sink.old sink.new) old new part.now result) }
+        ensures cleared { OnOk result ((self.new.line ≡ []) × (self.new.bytes ≡ self.old.bytes + length part.now)) }
         ensures later { K.faults sink.old ≤ K.faults sink.new }
     {
         self.hold(part);
@@ -239,8 +246,10 @@ impl<C: LineHandler> LineProcessor<C> {
         requires feed { GoesOnIn self.old.line part.now }
         requires line { length self.old.line + length part.now ≤ LONGEST_LINE + 1 }
         requires bytes { self.old.bytes + length part.now ≤ LIMIT }
-        ensures fits { result ≡ true → (a : Option (List ℕ)) (f : ℕ) → Takes C.semantics (span a a f f) self.old self.new part.now }
-        ensures too_long { result ≡ false → (a : Option (List ℕ)) (f : ℕ) (remaining : List ℕ) → StopsAt C.semantics (span a a f f) self.old self.new (part.now ++ remaining) LineError.Long }
+        ensures fits { result ≡ true → (a : Option (List ℕ)) (f : ℕ) → LeadsOn C.represents self.old self.new (λ old new. Takes C.semantics (span a a f f) old new part.now) }
+        ensures too_long { result ≡ false → (a : Option (List ℕ)) (f : ℕ) (remaining : List ℕ) → LeadsOn C.represents self.old self.new (λ old new. StopsAt C.semantics (span a a f f) old new (part.now ++ remaining) (LineFault.Malformed LineError.Long)) }
+        ensures bytes { self.new.bytes ≡ self.old.bytes + length part.now }
+        ensures short { result ≡ true → length self.new.line ≤ longest }
     {
         self.hold(part);
         self.line_length() <= LONGEST_LINE
@@ -256,7 +265,9 @@ impl<C: LineHandler> LineProcessor<C> {
     pub(crate) fn follow<K: Sink>(&mut self, bytes: &[u8], sink: &mut K) -> Result<(), Stop>
         requires within { self.old.bytes + length bytes.now ≤ LIMIT }
         requires short { length self.old.line ≤ longest }
-        ensures follows { Follows C.semantics (end_of K.taken K.faults sink.old sink.new) self.old self.new bytes.now result }
+        ensures follows { LeadsOn C.represents self.old self.new (λ old new. Follows C.semantics (end_of K.taken K.faults sink.old sink.new) old new bytes.now result) }
+        ensures counted { OnOk result (self.new.bytes ≡ self.old.bytes + length bytes.now) }
+        ensures short { OnOk result (length self.new.line ≤ longest) }
         ensures later { K.faults sink.old ≤ K.faults sink.new }
     {
         let mut remaining = bytes;

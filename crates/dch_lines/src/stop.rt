@@ -1,10 +1,19 @@
 use dch_script::LineError;
 
+/// Why a line is not handled.
+#[derive(Clone, Copy, Debug, PartialEq, Eq)]
+pub enum LineFault {
+    /// The line is malformed.
+    Malformed(LineError),
+    /// Memory was wanted and not found.
+    NoMemory,
+}
+
 /// Why the lines of a piece are not all good and written.
 #[derive(Clone, Copy, Debug, PartialEq, Eq)]
 pub enum Stop {
-    /// A line is malformed.
-    Malformed(LineError),
+    /// A line is not handled.
+    Fault(LineFault),
     /// The sink failed.
     Failed,
 }
@@ -20,6 +29,8 @@ pub enum Outcome {
     ReadFault,
     /// The sink failed.
     WriteFault,
+    /// Memory was wanted for a line and not found. The text of the lines before it is written.
+    NoMemory,
     /// More than 67,108,864 bytes came in.
     TooLong,
 }

@@ -5,8 +5,8 @@ use Rattle.dch_script.specs.declared.event.LineError.{LineError}
 use Rattle.dch_script.specs.declared.event.LineError.TheVariants.{Long, Cut}
 use Rattle.dch_script.specs.Code.{content, is_ended, line_words, longest, meaning}
 use Rattle.dch_script.specs.Meaning.{content_of}
-use Rattle.dch_script.specs.Said.{◌>>=◌}
-use Rattle.dch_script.specs.Words.{words_of}
+use Rattle.dch_script.specs.ParsedLine.{◌>>=◌}
+use Rattle.dch_script.specs.LineWords.{words_of}
 
 -- a choice of three, by its last step
 chosen : {A B : Type 0} (long ended : Bool) (text : A) (later : A → Result B LineError) → (if long then Err Long else (if ended then later text else Err Cut)) ≡ ((if long then Err Long else (if ended then Ok text else Err Cut)) >>= later)

@@ -6,8 +6,8 @@ use Rattle.memchr.specs.Find.{IsFirstByte, is_byte}
 use Rattle.dch_script.specs.declared.event.LineError.TheVariants.{Count}
 use Rattle.dch_script.specs.Code.{code_words}
 use Rattle.dch_script.specs.Forms.{alone, one}
-use Rattle.dch_script.specs.Said.{Said}
-use Rattle.dch_script.specs.Words.{words_from, words_of}
+use Rattle.dch_script.specs.ParsedLine.{ParsedLine}
+use Rattle.dch_script.specs.LineWords.{words_from, words_of}
 
 -- the words of a text after the front of its first word, cut at its first space
 abbrev cut_at : List ℕ → List ℕ → Option ℕ → List (List ℕ)
@@ -35,11 +35,11 @@ too_many a b d front (c ∷ text) =
     [ true ↦ refl | false ↦ too_many a b d (front ++ c ∷ []) text ]
 
 -- a text has a word, so that a form without further words is refused before it, and one of one word after another
-pub not_alone : (said : Said) (front text : List ℕ) → alone said (words_from front text) ≡ Err Count
-not_alone said front [] = refl
-not_alone said front (c ∷ text) =
-    elim (c == 32) as (λ t. alone said (if t then front ∷ words_from [] text else words_from (front ++ c ∷ []) text) ≡ Err Count)
-    [ true ↦ refl | false ↦ not_alone said (front ++ c ∷ []) text ]
+pub not_alone : (parsed : ParsedLine) (front text : List ℕ) → alone parsed (words_from front text) ≡ Err Count
+not_alone parsed front [] = refl
+not_alone parsed front (c ∷ text) =
+    elim (c == 32) as (λ t. alone parsed (if t then front ∷ words_from [] text else words_from (front ++ c ∷ []) text) ≡ Err Count)
+    [ true ↦ refl | false ↦ not_alone parsed (front ++ c ∷ []) text ]
 
 pub not_one : (a front text : List ℕ) → one (a ∷ words_from front text) ≡ Err Count
 not_one a front [] = refl

@@ -13,18 +13,18 @@ use Rattle.dch_script.specs.declared.event.LineError.{LineError}
 use Rattle.dch_script.specs.declared.event.LineError.TheVariants.{Text}
 use Rattle.dch_script.specs.Code.{CodeLine, IsSaid, code_of, code_words, coding_of, crc_of, is_bits, line_words}
 use Rattle.dch_script.specs.Good.{IsGood, IsOfEncode}
-use Rattle.dch_script.specs.Meaning.{code_said, command_words, content_of, meaning_in}
-use Rattle.dch_script.specs.Said.{Said, code, said, said_of, ◌>>=◌}
-use Rattle.dch_script.specs.Words.{words_of}
+use Rattle.dch_script.specs.Meaning.{code_parsed, command_words, content_of, meaning_in}
+use Rattle.dch_script.specs.ParsedLine.{ParsedLine, code, parsed, parsed_of, ◌>>=◌}
+use Rattle.dch_script.specs.LineWords.{words_of}
 use Rattle.dch_script.proofs.Kept.{bind_keeps, if_keeps, ok_keeps}
 use Rattle.dch_script.proofs.LinkKept.{link_keeps}
 use Rattle.dch_script.proofs.NodesKept.{ue_keeps, node_b_keeps, rnc_keeps}
 
 -- an answer for `encode` says what is meant
-pub code_is_said : (meant : Result CodeLine LineError) (answer : Result Event LineError) → IsSaid meant answer → said answer ≡ (meant >>= code_said)
-code_is_said meant (Ok (Code coding crc bits)) is = rw is.0 refl
-code_is_said meant (Err error) is = rw is refl
-code_is_said meant (Ok event) is = absurd is
+pub code_is_parsed : (meant : Result CodeLine LineError) (answer : Result Event LineError) → IsSaid meant answer → parsed answer ≡ (meant >>= code_parsed)
+code_is_parsed meant (Ok (Code coding crc bits)) is = rw is.0 refl
+code_is_parsed meant (Err error) is = rw is refl
+code_is_parsed meant (Ok event) is = absurd is
 
 abbrev HasBits : CodeLine → Type 0
 HasBits line = is_bits 5000 line.bits ≡ true
@@ -52,30 +52,30 @@ line_words_keeps (first ∷ rest) line is =
     if_keeps (bytes_eq first (codes "code")) _ _ line (HasBits line) (code_words_keeps rest line) (λ wrong. absurd (cc)) is
 
 -- every line of `encode`
-encode_keeps : (words : List (List ℕ)) (said : Said) → (line_words words >>= code_said) ≡ Ok said → IsOfEncode said
-encode_keeps words said is =
-    bind_keeps (line_words words) code_said said (IsOfEncode said) (λ line good last.
-    ok_keeps (code line.coding line.crc line.bits) said IsOfEncode (line_words_keeps words line good) _ refl last) is
+encode_keeps : (words : List (List ℕ)) (parsed : ParsedLine) → (line_words words >>= code_parsed) ≡ Ok parsed → IsOfEncode parsed
+encode_keeps words parsed is =
+    bind_keeps (line_words words) code_parsed parsed (IsOfEncode parsed) (λ line good last.
+    ok_keeps (code line.coding line.crc line.bits) parsed IsOfEncode (line_words_keeps words line good) _ refl last) is
 
 -- every line of a command
-command_keeps : (command : Command) (config : Config) (words : List (List ℕ)) (said : Said) → command_words command config words ≡ Ok said → IsGood command config said
-command_keeps Encode config words said is = encode_keeps words said is
-command_keeps Link config [] said is = absurd (cc)
-command_keeps Ue config [] said is = absurd (cc)
-command_keeps NodeB config [] said is = absurd (cc)
-command_keeps Rnc config [] said is = absurd (cc)
-command_keeps Link config (first ∷ words) said is = link_keeps config first words said is
-command_keeps Ue config (first ∷ words) said is = ue_keeps config first words said is
-command_keeps NodeB config (first ∷ words) said is = node_b_keeps config first words said is
-command_keeps Rnc config (first ∷ words) said is = rnc_keeps config first words said is
+command_keeps : (command : Command) (config : Config) (words : List (List ℕ)) (parsed : ParsedLine) → command_words command config words ≡ Ok parsed → IsGood command config parsed
+command_keeps Encode config words parsed is = encode_keeps words parsed is
+command_keeps Link config [] parsed is = absurd (cc)
+command_keeps Ue config [] parsed is = absurd (cc)
+command_keeps NodeB config [] parsed is = absurd (cc)
+command_keeps Rnc config [] parsed is = absurd (cc)
+command_keeps Link config (first ∷ words) parsed is = link_keeps config first words parsed is
+command_keeps Ue config (first ∷ words) parsed is = ue_keeps config first words parsed is
+command_keeps NodeB config (first ∷ words) parsed is = node_b_keeps config first words parsed is
+command_keeps Rnc config (first ∷ words) parsed is = rnc_keeps config first words parsed is
 
 -- what a line says is an event that its command knows, with good words
-pub meaning_keeps : (command : Command) (config : Config) (line : List ℕ) (said : Said) → meaning_in command config line ≡ Ok said → IsGood command config said
+pub meaning_keeps : (command : Command) (config : Config) (line : List ℕ) (parsed : ParsedLine) → meaning_in command config line ≡ Ok parsed → IsGood command config parsed
 unfolding meaning_in
-meaning_keeps command config line said is =
-    bind_keeps (content_of line) (λ text. command_words command config (words_of text)) said (IsGood command config said) (λ text _ last. command_keeps command config (words_of text) said last) is
+meaning_keeps command config line parsed is =
+    bind_keeps (content_of line) (λ text. command_words command config (words_of text)) parsed (IsGood command config parsed) (λ text _ last. command_keeps command config (words_of text) parsed last) is
 
 -- the same of the answer
-pub event_keeps : (command : Command) (config : Config) (line : List ℕ) (answer : Result Event LineError) → said answer ≡ meaning_in command config line → IfOk answer (λ event. IsGood command config (said_of event))
-event_keeps command config line (Ok event) says = meaning_keeps command config line (said_of event) (sym says)
+pub event_keeps : (command : Command) (config : Config) (line : List ℕ) (answer : Result Event LineError) → parsed answer ≡ meaning_in command config line → IfOk answer (λ event. IsGood command config (parsed_of event))
+event_keeps command config line (Ok event) says = meaning_keeps command config line (parsed_of event) (sym says)
 event_keeps command config line (Err error) says = tt

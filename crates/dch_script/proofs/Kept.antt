@@ -7,14 +7,15 @@ use Rattle.dch_types.specs.declared.bearer.Mode.{Mode}
 use Rattle.dch_types.specs.declared.channel.Dir.{Dir}
 use Rattle.dch_types.specs.declared.config.Config.{Config}
 use Rattle.dch_types.specs.Parts.{side_of}
+use Rattle.dch_types.specs.Timing.{has_set}
 use Rattle.dch_script.specs.declared.event.LineError.{LineError}
 use Rattle.dch_script.specs.declared.event.LineError.TheVariants.{Number, Text, Bearer as NoBearer}
 use Rattle.dch_script.specs.Forms.{alone}
 use Rattle.dch_script.specs.Good.{IsListed, IsUnit}
 use Rattle.dch_script.specs.Nodes.{cells_of}
 use Rattle.dch_script.specs.Numbers.{is_numeral, number_of, value_after}
-use Rattle.dch_script.specs.Parts.{provided, combination_of, count_of, has_set, hex_of, number_in, set_of, tfci_letters, tfci_of}
-use Rattle.dch_script.specs.Said.{Said, unit, ◌>>=◌}
+use Rattle.dch_script.specs.Parts.{provided, combination_of, count_of, hex_of, number_in, set_of, tfci_letters, tfci_of}
+use Rattle.dch_script.specs.ParsedLine.{ParsedLine, unit, ◌>>=◌}
 use Rattle.dch_script.specs.Texts.{are_cells, is_octets, is_unit, is_word_of_bits}
 use Rattle.dch_script.specs.Units.{bearer_of, has_channel, mode_at, named_bearer, text_of, unit_of}
 
@@ -38,9 +39,9 @@ if_keeps true x y z P first second is = first is
 if_keeps false x y z P first second is = second is
 
 -- a form without further words says its event
-pub alone_keeps : (event said : Said) (words : List (List ℕ)) (P : Said → Type 0) → P event → alone event words ≡ Ok said → P said
-alone_keeps event said [] P here is = ok_keeps event said P here (Ok event) refl is
-alone_keeps event said (word ∷ words) P here is = absurd (cc)
+pub alone_keeps : (event parsed : ParsedLine) (words : List (List ℕ)) (P : ParsedLine → Type 0) → P event → alone event words ≡ Ok parsed → P parsed
+alone_keeps event parsed [] P here is = ok_keeps event parsed P here (Ok event) refl is
+alone_keeps event parsed (word ∷ words) P here is = absurd (cc)
 
 -- a number that is read is one of at most so much
 read_number : (good : Bool) (value most number : ℕ) → (good ≡ true → value ≤ most) → ok_or (if good then Some value else None) Number ≡ Ok number → number ≤ most
@@ -72,11 +73,11 @@ combination_keeps config dir word c is =
     (λ n _ later. provided_keeps (nat_lt n count) n c Number (IsListed config dir) (λ yes. ltb-true n count yes) later) is
 
 -- a set that is read is one of the direction
-pub set_keeps : (config : Config) (dir : Dir) (word : List ℕ) (set : ℕ) → set_of config dir word ≡ Ok set → has_set config dir set ≡ true
+pub set_keeps : (config : Config) (dir : Dir) (word : List ℕ) (set : ℕ) → set_of config dir word ≡ Ok set → has_set (side_of config dir) set ≡ true
 unfolding set_of
 set_keeps config dir word set is =
-    bind_keeps (number_in 255 word) (λ n. provided (has_set config dir n) n Number) set (has_set config dir set ≡ true)
-    (λ n _ later. provided_keeps (has_set config dir n) n set Number (λ (s : ℕ). has_set config dir s ≡ true) (λ yes. yes) later) is
+    bind_keeps (number_in 255 word) (λ n. provided (has_set (side_of config dir) n) n Number) set (has_set (side_of config dir) set ≡ true)
+    (λ n _ later. provided_keeps (has_set (side_of config dir) n) n set Number (λ (s : ℕ). has_set (side_of config dir) s ≡ true) (λ yes. yes) later) is
 
 -- a count that is read is 1 to 100,000
 pub count_keeps : (word : List ℕ) (count : ℕ) → count_of word ≡ Ok count → (1 ≤ count) × (count ≤ 100000)
@@ -119,9 +120,9 @@ unfolding text_of
 text_keeps mode word text is = provided_keeps (is_unit mode word) word text Text (λ (t : List ℕ). is_unit mode t ≡ true) (λ yes. yes) is
 
 -- a unit that is read has such a bearer and such a text
-pub unit_keeps : (config : Config) (dir : Dir) (bearer text : List ℕ) (said : Said) (P : Said → Type 0) → ((b : ℕ) (t : List ℕ) → IsUnit config dir b t → P (unit dir b t)) → unit_of config dir bearer text ≡ Ok said → P said
+pub unit_keeps : (config : Config) (dir : Dir) (bearer text : List ℕ) (parsed : ParsedLine) (P : ParsedLine → Type 0) → ((b : ℕ) (t : List ℕ) → IsUnit config dir b t → P (unit dir b t)) → unit_of config dir bearer text ≡ Ok parsed → P parsed
 unfolding unit_of
-unit_keeps config dir bearer text said P go is =
-    bind_keeps (bearer_of config dir bearer) _ said (P said) (λ b named rest.
-    bind_keeps (text_of (mode_at config b) text) _ said (P said) (λ t fits last.
-    ok_keeps (unit dir b t) said P (go b t (bearer_keeps config dir bearer b named, text_keeps (mode_at config b) text t fits)) _ refl last) rest) is
+unit_keeps config dir bearer text parsed P go is =
+    bind_keeps (bearer_of config dir bearer) _ parsed (P parsed) (λ b named rest.
+    bind_keeps (text_of (mode_at config b) text) _ parsed (P parsed) (λ t fits last.
+    ok_keeps (unit dir b t) parsed P (go b t (bearer_keeps config dir bearer b named, text_keeps (mode_at config b) text t fits)) _ refl last) rest) is

@@ -10,7 +10,7 @@ use Rattle.dch_script.specs.declared.event.Event.{Event}
 use Rattle.dch_script.specs.declared.event.Event.TheVariants.{Code}
 use Rattle.dch_script.specs.declared.event.LineError.{LineError}
 use Rattle.dch_script.specs.declared.event.LineError.TheVariants.{Long, Cut, Word, Count, Text}
-use Rattle.dch_script.specs.Words.{words_of}
+use Rattle.dch_script.specs.LineWords.{words_of}
 
 -- a transport block to be coded: `bits` is the text of its bits
 pub record CodeLine : Type 0 where
@@ -61,6 +61,6 @@ meaning line = if nat_lt longest (length (content line)) then Err Long else (if 
 
 -- an event or an error is what words or a line say; an event lends a text of bits
 abbrev pub IsSaid : Result CodeLine LineError → Result Event LineError → Type 0
-IsSaid said (Ok (Code coding crc bits)) = (said ≡ Ok (record { coding = coding; crc = crc; bits = bits.now })) × (is_bits 5000 bits.now ≡ true)
-IsSaid said (Err error) = said ≡ Err error
-IsSaid said (Ok event) = ⊥
+IsSaid parsed (Ok (Code coding crc bits)) = (parsed ≡ Ok (record { coding = coding; crc = crc; bits = bits.now })) × (is_bits 5000 bits.now ≡ true)
+IsSaid parsed (Err error) = parsed ≡ Err error
+IsSaid parsed (Ok event) = ⊥

@@ -3,12 +3,12 @@ use Rattle.std.specs.Prelude.{ℕ, List, [], ◌∷◌, Result, Ok, Err}
 use Rattle.std.specs.Borrow.{Bor}
 use Rattle.dch_script.specs.declared.event.LineError.{LineError}
 use Rattle.dch_script.specs.declared.event.LineError.TheVariants.{Count}
-use Rattle.dch_script.specs.Said.{Said, ◌>>=◌}
+use Rattle.dch_script.specs.ParsedLine.{ParsedLine, ◌>>=◌}
 
 -- what a form without further words says
-abbrev pub alone : Said → List (List ℕ) → Result Said LineError
-alone said [] = Ok said
-alone said (word ∷ words) = Err Count
+abbrev pub alone : ParsedLine → List (List ℕ) → Result ParsedLine LineError
+alone parsed [] = Ok parsed
+alone parsed (word ∷ words) = Err Count
 
 -- just one word
 abbrev pub one : List (List ℕ) → Result (List ℕ) LineError

@@ -9,7 +9,7 @@ pub mod Nodes
 pub mod Numbers
 pub mod Parts
 pub mod Report
-pub mod Said
+pub mod ParsedLine
 pub mod Texts
 pub mod Units
-pub mod Words
+pub mod LineWords

@@ -8,15 +8,15 @@ use Rattle.dch_script.specs.declared.event.LineError.TheVariants.{Long, Cut, Wor
 use Rattle.dch_script.specs.Code.{CodeLine, content, is_ended, line_words, longest}
 use Rattle.dch_script.specs.Link.{link_words}
 use Rattle.dch_script.specs.Nodes.{node_b_words, rnc_words, ue_words}
-use Rattle.dch_script.specs.Said.{Said, code, ◌>>=◌}
-use Rattle.dch_script.specs.Words.{words_of}
+use Rattle.dch_script.specs.ParsedLine.{ParsedLine, code, ◌>>=◌}
+use Rattle.dch_script.specs.LineWords.{words_of}
 
-abbrev pub code_said : CodeLine → Result Said LineError
-code_said line = Ok (code line.coding line.crc line.bits)
+abbrev pub code_parsed : CodeLine → Result ParsedLine LineError
+code_parsed line = Ok (code line.coding line.crc line.bits)
 
 -- what the words of a line of a command say
-abbrev pub command_words : Command → Config → List (List ℕ) → Result Said LineError
-command_words Encode config words = line_words words >>= code_said
+abbrev pub command_words : Command → Config → List (List ℕ) → Result ParsedLine LineError
+command_words Encode config words = line_words words >>= code_parsed
 command_words command config [] = Err Word
 command_words Link config (first ∷ words) = link_words config first words
 command_words Ue config (first ∷ words) = ue_words config first words
@@ -28,7 +28,7 @@ abbrev pub content_of : List ℕ → Result (List ℕ) LineError
 content_of line = if nat_lt longest (length (content line)) then Err Long else (if is_ended line then Ok (content line) else Err Cut)
 
 -- what a line of a command says, under a configuration
-unfoldable pub meaning_in : Command → Config → List ℕ → Result Said LineError
+unfoldable pub meaning_in : Command → Config → List ℕ → Result ParsedLine LineError
 meaning_in command config line = do
   text ← content_of line
   command_words command config (words_of text)

@@ -1,6 +1,5 @@
 -- The words of a line that name a direction, a combination, a set or a number, or lend a text.
 use Rattle.std.specs.Prelude.{◌==◌, ℕ, List, Bool, true, false, Result, Ok, Err, codes, if◌then◌else◌, length, nat_le, nat_lt, slice_index}
-use Rattle.std.specs.List.{list_any}
 use Rattle.std.specs.Option.{ok_or}
 use Rattle.std.specs.Str.{bytes_eq}
 use Rattle.hex.specs.Hex.{decode_sized}
@@ -9,9 +8,10 @@ use Rattle.dch_types.specs.declared.channel.Dir.{Dir}
 use Rattle.dch_types.specs.declared.channel.Dir.TheVariants.{Up, Down}
 use Rattle.dch_types.specs.declared.config.Config.{Config}
 use Rattle.dch_types.specs.Parts.{side_of}
+use Rattle.dch_types.specs.Timing.{has_set}
 use Rattle.dch_script.specs.declared.event.LineError.{LineError}
 use Rattle.dch_script.specs.declared.event.LineError.TheVariants.{Number, Text}
-use Rattle.dch_script.specs.Said.{◌>>=◌}
+use Rattle.dch_script.specs.ParsedLine.{◌>>=◌}
 use Rattle.dch_script.specs.Numbers.{number_of}
 use Rattle.dch_script.specs.Texts.{is_octets, is_word_of_bits}
 
@@ -42,15 +42,11 @@ combination_of config dir word = do
   c ← number_in 65535 word
   provided (nat_lt c (length (side_of config dir).combinations)) c Number
 
--- the direction has the set: some channel is in it
-unfoldable pub has_set : Config → Dir → ℕ → Bool
-has_set config dir set = list_any (λ channel. channel.set == set) (side_of config dir).channels
-
 -- SET of a direction
 unfoldable pub set_of : Config → Dir → List ℕ → Result ℕ LineError
 set_of config dir word = do
   set ← number_in 255 word
-  provided (has_set config dir set) set Number
+  provided (has_set (side_of config dir) set) set Number
 
 -- N of radio frames
 unfoldable pub count_of : List ℕ → Result ℕ LineError

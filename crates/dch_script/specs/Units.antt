@@ -10,7 +10,7 @@ use Rattle.dch_script.specs.declared.event.LineError.{LineError}
 use Rattle.dch_script.specs.declared.event.LineError.TheVariants.{Number, Text, Bearer as NoBearer}
 use Rattle.dch_script.specs.Numbers.{is_numeral, number_of}
 use Rattle.dch_script.specs.Parts.{provided}
-use Rattle.dch_script.specs.Said.{Said, unit, ◌>>=◌}
+use Rattle.dch_script.specs.ParsedLine.{ParsedLine, unit, ◌>>=◌}
 use Rattle.dch_script.specs.Texts.{is_unit}
 
 -- the bearer stands in the list and has a channel in the direction
@@ -34,7 +34,7 @@ unfoldable pub text_of : Mode → List ℕ → Result (List ℕ) LineError
 text_of mode text = provided (is_unit mode text) text Text
 
 -- BEARER TEXT
-unfoldable pub unit_of : Config → Dir → List ℕ → List ℕ → Result Said LineError
+unfoldable pub unit_of : Config → Dir → List ℕ → List ℕ → Result ParsedLine LineError
 unit_of config dir bearer text = do
   b ← bearer_of config dir bearer
   t ← text_of (mode_at config b) text

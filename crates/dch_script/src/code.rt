@@ -1,6 +1,6 @@
 ghost use Rattle.std.specs.Prelude.{◌≡◌};
 ghost use Rattle.dch_script.specs.Code.{IsSaid, meaning, line_words, code_words, code_of, coding_of, crc_of};
-ghost use Rattle.dch_script.specs.Words.{words_of, later_words};
+ghost use Rattle.dch_script.specs.LineWords.{words_of, later_words};
 
 use crate::content::content_of;
 use crate::event::{Command, Event, LineError};

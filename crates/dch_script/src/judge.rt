@@ -1,8 +1,8 @@
 ghost use Rattle.std.specs.Prelude.{◌≡◌, IfOk};
 ghost use Rattle.dch_script.specs.Good.{IsGood, IsWithin};
 ghost use Rattle.dch_script.specs.Meaning.{command_words, meaning_in};
-ghost use Rattle.dch_script.specs.Said.{said, said_of};
-ghost use Rattle.dch_script.specs.Words.{words_of};
+ghost use Rattle.dch_script.specs.ParsedLine.{parsed, parsed_of};
+ghost use Rattle.dch_script.specs.LineWords.{words_of};
 
 use crate::code::code_line;
 use crate::content::content_of;
@@ -20,27 +20,27 @@ pub fn parse_in<'a>(
     config: &Config,
     line: &'a [u8],
 ) -> Result<Event<'a>, LineError>
-    ensures says { said result ≡ meaning_in command config.now line.entry.now }
-    ensures good { IfOk result (λ event. IsGood command config.now (said_of event)) }
-    ensures within { IfOk result (λ event. IsWithin (said_of event)) }
+    ensures says { parsed result ≡ meaning_in command config.now line.entry.now }
+    ensures good { IfOk result (λ event. IsGood command config.now (parsed_of event)) }
+    ensures within { IfOk result (λ event. IsWithin (parsed_of event)) }
 {
     line_event(command, config, line)
 }
 
 #[tactic(auto, unfolding(crate::specs::Meaning::meaning_in))]
 fn line_event<'a>(command: Command, config: &Config, line: &'a [u8]) -> Result<Event<'a>, LineError>
-    ensures { said result ≡ meaning_in command config.now line.entry.now }
+    ensures { parsed result ≡ meaning_in command config.now line.entry.now }
 {
     command_event(command, config, content_of(line)?)
 }
 
-#[tactic(auto, using(crate::proofs::Judged::code_is_said))]
+#[tactic(auto, using(crate::proofs::Judged::code_is_parsed))]
 fn command_event<'a>(
     command: Command,
     config: &Config,
     content: &'a [u8],
 ) -> Result<Event<'a>, LineError>
-    ensures { said result ≡ command_words command config.now (words_of content.entry.now) }
+    ensures { parsed result ≡ command_words command config.now (words_of content.entry.now) }
 {
     let (first, words) = cut_word(content);
     match command {

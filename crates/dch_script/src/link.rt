@@ -1,7 +1,7 @@
 ghost use Rattle.std.specs.Prelude.{◌≡◌};
 ghost use Rattle.dch_script.specs.Link.{link_unit, link_block, link_free, link_flip, link_lose, link_spoil, link_frame, link_words};
-ghost use Rattle.dch_script.specs.Said.{said};
-ghost use Rattle.dch_script.specs.Words.{later_words};
+ghost use Rattle.dch_script.specs.ParsedLine.{parsed};
+ghost use Rattle.dch_script.specs.LineWords.{later_words};
 
 use crate::event::{Event, LineError};
 use crate::parts::{
@@ -18,7 +18,7 @@ pub fn link_event<'a>(
     first: &[u8],
     words: Option<&'a [u8]>,
 ) -> Result<Event<'a>, LineError>
-    ensures { said result ≡ link_words config.now first.now (later_words words.entry) }
+    ensures { parsed result ≡ link_words config.now first.now (later_words words.entry) }
 {
     if is_word(first, b"unit") {
         link_unit(config, words)
@@ -42,7 +42,7 @@ pub fn link_event<'a>(
 /// `unit DIR BEARER TEXT`
 #[tactic(auto, unfolding(crate::specs::Link::link_unit))]
 fn link_unit<'a>(config: &Config, words: Option<&'a [u8]>) -> Result<Event<'a>, LineError>
-    ensures { said result ≡ link_unit config.now (later_words words.entry) }
+    ensures { parsed result ≡ link_unit config.now (later_words words.entry) }
 {
     let (dir, bearer, text) = three_words(words)?;
     let dir = read_dir(dir)?;
@@ -52,7 +52,7 @@ fn link_unit<'a>(config: &Config, words: Option<&'a [u8]>) -> Result<Event<'a>, 
 /// `block DIR COMBINATION`
 #[tactic(auto, unfolding(crate::specs::Link::link_block))]
 fn link_block<'a>(config: &Config, words: Option<&'a [u8]>) -> Result<Event<'a>, LineError>
-    ensures { said result ≡ link_block config.now (later_words words.entry) }
+    ensures { parsed result ≡ link_block config.now (later_words words.entry) }
 {
     let (dir, combination) = two_words(words)?;
     let dir = read_dir(dir)?;
@@ -63,7 +63,7 @@ fn link_block<'a>(config: &Config, words: Option<&'a [u8]>) -> Result<Event<'a>,
 /// `free DIR COMBINATION`
 #[tactic(auto, unfolding(crate::specs::Link::link_free))]
 fn link_free<'a>(config: &Config, words: Option<&'a [u8]>) -> Result<Event<'a>, LineError>
-    ensures { said result ≡ link_free config.now (later_words words.entry) }
+    ensures { parsed result ≡ link_free config.now (later_words words.entry) }
 {
     let (dir, combination) = two_words(words)?;
     let dir = read_dir(dir)?;
@@ -74,7 +74,7 @@ fn link_free<'a>(config: &Config, words: Option<&'a [u8]>) -> Result<Event<'a>, 
 /// `flip DIR PART PLACE`
 #[tactic(auto, unfolding(crate::specs::Link::link_flip))]
 fn link_flip(words: Option<&[u8]>) -> Result<Event<'_>, LineError>
-    ensures { said result ≡ link_flip (later_words words.entry) }
+    ensures { parsed result ≡ link_flip (later_words words.entry) }
 {
     let (dir, part, place) = three_words(words)?;
     let dir = read_dir(dir)?;
@@ -86,7 +86,7 @@ fn link_flip(words: Option<&[u8]>) -> Result<Event<'_>, LineError>
 /// `lose iubdown SET` and `lose iubup SET`, or `lose DIR`
 #[tactic(auto, unfolding(crate::specs::Link::link_lose))]
 fn link_lose<'a>(config: &Config, words: Option<&'a [u8]>) -> Result<Event<'a>, LineError>
-    ensures { said result ≡ link_lose config.now (later_words words.entry) }
+    ensures { parsed result ≡ link_lose config.now (later_words words.entry) }
 {
     match two_words(words) {
         Ok((dir, set)) => {
@@ -104,7 +104,7 @@ fn link_lose<'a>(config: &Config, words: Option<&'a [u8]>) -> Result<Event<'a>, 
 /// `spoil iubdown SET OCTET MASK` and `spoil iubup SET OCTET MASK`
 #[tactic(auto, unfolding(crate::specs::Link::link_spoil))]
 fn link_spoil<'a>(config: &Config, words: Option<&'a [u8]>) -> Result<Event<'a>, LineError>
-    ensures { said result ≡ link_spoil config.now (later_words words.entry) }
+    ensures { parsed result ≡ link_spoil config.now (later_words words.entry) }
 {
     let (dir, set, octet, mask) = four_words(words)?;
     let dir = read_iub_dir(dir)?;
@@ -122,7 +122,7 @@ fn link_spoil<'a>(config: &Config, words: Option<&'a [u8]>) -> Result<Event<'a>,
 /// `frame N`, or `frame`
 #[tactic(auto, unfolding(crate::specs::Link::link_frame))]
 fn link_frame(words: Option<&[u8]>) -> Result<Event<'_>, LineError>
-    ensures { said result ≡ link_frame (later_words words.entry) }
+    ensures { parsed result ≡ link_frame (later_words words.entry) }
 {
     match one_word(words) {
         Ok(count) => Ok(Event::Frame(read_count(count)?)),

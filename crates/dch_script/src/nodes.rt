@@ -1,8 +1,8 @@
 ghost use Rattle.std.specs.Prelude.{◌≡◌};
 ghost use Rattle.dch_script.specs.Forms.{one_shown};
 ghost use Rattle.dch_script.specs.Nodes.{cells_of, node_unit, node_block, node_free, node_iub, node_phy, none_of, ue_words, node_b_words, rnc_words};
-ghost use Rattle.dch_script.specs.Said.{said};
-ghost use Rattle.dch_script.specs.Words.{later_words};
+ghost use Rattle.dch_script.specs.ParsedLine.{parsed};
+ghost use Rattle.dch_script.specs.LineWords.{later_words};
 
 use crate::event::{Event, LineError};
 use crate::parts::{read_combination, read_hex, read_set, read_tfci};
@@ -18,7 +18,7 @@ pub fn ue_event<'a>(
     first: &[u8],
     words: Option<&'a [u8]>,
 ) -> Result<Event<'a>, LineError>
-    ensures { said result ≡ ue_words config.now first.now (later_words words.entry) }
+    ensures { parsed result ≡ ue_words config.now first.now (later_words words.entry) }
 {
     if is_word(first, b"unit") {
         node_unit(config, Dir::Up, words)
@@ -44,7 +44,7 @@ pub fn node_b_event<'a>(
     first: &[u8],
     words: Option<&'a [u8]>,
 ) -> Result<Event<'a>, LineError>
-    ensures { said result ≡ node_b_words config.now first.now (later_words words.entry) }
+    ensures { parsed result ≡ node_b_words config.now first.now (later_words words.entry) }
 {
     if is_word(first, b"iub") {
         node_iub(config, Dir::Down, words)
@@ -66,7 +66,7 @@ pub fn rnc_event<'a>(
     first: &[u8],
     words: Option<&'a [u8]>,
 ) -> Result<Event<'a>, LineError>
-    ensures { said result ≡ rnc_words config.now first.now (later_words words.entry) }
+    ensures { parsed result ≡ rnc_words config.now first.now (later_words words.entry) }
 {
     if is_word(first, b"unit") {
         node_unit(config, Dir::Down, words)
@@ -88,7 +88,7 @@ pub fn rnc_event<'a>(
 /// `unit BEARER TEXT`
 #[tactic(auto, unfolding(crate::specs::Nodes::node_unit))]
 fn node_unit<'a>(config: &Config, dir: Dir, words: Option<&'a [u8]>) -> Result<Event<'a>, LineError>
-    ensures { said result ≡ node_unit config.now dir (later_words words.entry) }
+    ensures { parsed result ≡ node_unit config.now dir (later_words words.entry) }
 {
     let (bearer, text) = two_words(words)?;
     unit_event(config, dir, bearer, text)
@@ -101,7 +101,7 @@ fn node_block<'a>(
     dir: Dir,
     words: Option<&'a [u8]>,
 ) -> Result<Event<'a>, LineError>
-    ensures { said result ≡ node_block config.now dir (later_words words.entry) }
+    ensures { parsed result ≡ node_block config.now dir (later_words words.entry) }
 {
     let combination = read_combination(config, dir, one_word(words)?)?;
     Ok(Event::Block { dir, combination })
@@ -110,7 +110,7 @@ fn node_block<'a>(
 /// `free COMBINATION`
 #[tactic(auto, unfolding(crate::specs::Nodes::node_free))]
 fn node_free<'a>(config: &Config, dir: Dir, words: Option<&'a [u8]>) -> Result<Event<'a>, LineError>
-    ensures { said result ≡ node_free config.now dir (later_words words.entry) }
+    ensures { parsed result ≡ node_free config.now dir (later_words words.entry) }
 {
     let combination = read_combination(config, dir, one_word(words)?)?;
     Ok(Event::Free { dir, combination })
@@ -119,7 +119,7 @@ fn node_free<'a>(config: &Config, dir: Dir, words: Option<&'a [u8]>) -> Result<E
 /// `iub SET HEX`
 #[tactic(auto, unfolding(crate::specs::Nodes::node_iub))]
 fn node_iub<'a>(config: &Config, dir: Dir, words: Option<&'a [u8]>) -> Result<Event<'a>, LineError>
-    ensures { said result ≡ node_iub config.now dir (later_words words.entry) }
+    ensures { parsed result ≡ node_iub config.now dir (later_words words.entry) }
 {
     let (set, hex) = two_words(words)?;
     let set = read_set(config, dir, set)?;
@@ -142,7 +142,7 @@ fn read_cells(dir: Dir, word: &[u8]) -> Result<&[u8], LineError>
 /// `phy TFCI CELLS` or `phy TFCI BITS`, or `phy none`
 #[tactic(auto, unfolding(crate::specs::Nodes::node_phy))]
 fn node_phy<'a>(config: &Config, dir: Dir, words: Option<&'a [u8]>) -> Result<Event<'a>, LineError>
-    ensures { said result ≡ node_phy config.now dir (later_words words.entry) }
+    ensures { parsed result ≡ node_phy config.now dir (later_words words.entry) }
 {
     match two_words(words) {
         Ok((tfci, cells)) => {
@@ -155,7 +155,7 @@ fn node_phy<'a>(config: &Config, dir: Dir, words: Option<&'a [u8]>) -> Result<Ev
 }
 
 fn no_frame(word: &[u8]) -> Result<Event<'static>, LineError>
-    ensures { said result ≡ none_of word.now }
+    ensures { parsed result ≡ none_of word.now }
 {
     match word {
         b"none" => Ok(Event::PhyNone),

@@ -1,7 +1,7 @@
 ghost use Rattle.std.specs.Prelude.{◌≡◌, ◌==◌, ◌≤◌, IfOk};
 ghost use Rattle.std.specs.List.{list_any};
 ghost use Rattle.dch_script.specs.Forms.{one_shown};
-ghost use Rattle.dch_script.specs.Parts.{combination_of, count_of, dir_of, has_set, iub_dir_of, mask_of, number_in, hex_of, part_of, set_of, tfci_letters, tfci_of};
+ghost use Rattle.dch_script.specs.Parts.{combination_of, count_of, dir_of, iub_dir_of, mask_of, number_in, hex_of, part_of, set_of, tfci_letters, tfci_of};
 
 use crate::event::LineError;
 use crate::numbers::read_number;
@@ -71,25 +71,13 @@ pub fn read_combination(config: &Config, dir: Dir, word: &[u8]) -> Result<u16, L
     }
 }
 
-#[tactic(auto, unfolding(crate::specs::Parts::has_set))]
-fn has_set(config: &Config, dir: Dir, set: u8) -> bool
-    ensures { result ≡ has_set config.now dir set }
-{
-    config
-        .side(dir)
-        .channels
-        .as_slice()
-        .iter()
-        .any(|channel| channel.set == set)
-}
-
 /// The set of a direction that a word names.
 #[tactic(auto, unfolding(crate::specs::Parts::set_of))]
 pub fn read_set(config: &Config, dir: Dir, word: &[u8]) -> Result<u8, LineError>
     ensures { result ≡ set_of config.now dir word.now }
 {
     let set = number_in(word, 255)? as u8;
-    if has_set(config, dir, set) {
+    if config.side(dir).has_set(set) {
         Ok(set)
     } else {
         Err(LineError::Number)

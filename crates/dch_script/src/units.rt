@@ -1,7 +1,7 @@
 ghost use Rattle.std.specs.Prelude.{◌≡◌};
 ghost use Rattle.dch_config.specs.Bearers.{channel_number};
 ghost use Rattle.dch_script.specs.Forms.{one_shown};
-ghost use Rattle.dch_script.specs.Said.{said};
+ghost use Rattle.dch_script.specs.ParsedLine.{parsed};
 ghost use Rattle.dch_script.specs.Units.{bearer_of, has_channel, mode_at, unit_of, text_of};
 
 use crate::event::{Event, LineError};
@@ -73,7 +73,7 @@ pub fn unit_event<'a>(
     bearer: &[u8],
     text: &'a [u8],
 ) -> Result<Event<'a>, LineError>
-    ensures { said result ≡ unit_of config.now dir bearer.now text.entry.now }
+    ensures { parsed result ≡ unit_of config.now dir bearer.now text.entry.now }
 {
     let bearer = read_bearer(config, dir, bearer)?;
     let text = read_text(mode_at(config, bearer), text)?;

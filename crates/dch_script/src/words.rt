@@ -1,8 +1,8 @@
 ghost use Rattle.std.specs.Prelude.{◌≡◌, ◌∷◌, [], IfOk, IfErr};
 ghost use Rattle.std.specs.Str.{bytes_eq};
 ghost use Rattle.dch_script.specs.Forms.{alone, one, two, three, four, one_shown, two_shown, three_shown, four_shown};
-ghost use Rattle.dch_script.specs.Said.{said, said_of};
-ghost use Rattle.dch_script.specs.Words.{words_of, later_words};
+ghost use Rattle.dch_script.specs.ParsedLine.{parsed, parsed_of};
+ghost use Rattle.dch_script.specs.LineWords.{words_of, later_words};
 
 use crate::event::{Event, LineError};
 use memchr::memchr;
@@ -39,7 +39,7 @@ pub fn next_word(words: Option<&[u8]>) -> Result<(&[u8], Option<&[u8]>), LineErr
 /// The event of a form without further words; `Count` where a word is left.
 #[tactic(auto, using(crate::proofs::Cuts::not_alone))]
 pub fn alone<'a>(words: Option<&[u8]>, event: Event<'a>) -> Result<Event<'a>, LineError>
-    ensures { said result ≡ alone (said_of event.entry) (later_words words.entry) }
+    ensures { parsed result ≡ alone (parsed_of event.entry) (later_words words.entry) }
 {
     match words {
         None => Ok(event),

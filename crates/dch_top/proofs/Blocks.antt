@@ -9,7 +9,7 @@ use Rattle.std.proofs.lemmas.Bool.Decides.{nat_tests}
 use Rattle.dch_bits.specs.declared.text.BitsError.{BitsError}
 use Rattle.dch_bits.specs.Text.{is_no_bit, unless_bad, reading}
 use Rattle.dch_script.specs.Code.{is_bits}
-use Rattle.dch_top.specs.Said.{block_of}
+use Rattle.dch_top.specs.EncodeText.{block_of}
 
 -- a letter is 0 or 1, or else it is none
 letter_apart : (a b : Bool) → (a || b) ≡ true → (not a && not b) ≡ true → ⊥

@@ -2,7 +2,7 @@
 use Rattle.std.proofs.Common.{◌<◌, ◌≤◌, ◌^◌, ◌++◌, ℕ, length, arith, length-append}
 use Rattle.std.specs.Prelude.{decimal, codes}
 use Rattle.dch_lines.proofs.Texts.{decimal_short}
-use Rattle.dch_top.specs.Said.{closing}
+use Rattle.dch_top.specs.EncodeText.{closing}
 
 pub closing_short : (n : ℕ) → n < 2 ^ 64 → length (closing n) ≤ 31
 unfolding closing

@@ -1,4 +1,4 @@
 pub mod Checked
 pub mod Overlong
 pub mod Ran
-pub mod Said
+pub mod EncodeText

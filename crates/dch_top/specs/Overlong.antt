@@ -4,7 +4,7 @@ use Rattle.std.proofs.lemmas.Bool.{lt-ltb}
 use Rattle.dch_script.specs.Code.{longest, content, meaning}
 use Rattle.dch_script.specs.declared.event.LineError.TheVariants.{Long}
 use Rattle.dch_lines.specs.Semantics.{RefusesLong}
-use Rattle.dch_top.specs.Said.{encoding}
+use Rattle.dch_top.specs.EncodeText.{encoding}
 
 meaning_long : (line : List ℕ) → longest < length (content line) → meaning line ≡ Err Long
 unfolding meaning

@@ -4,7 +4,7 @@ use Rattle.std.specs.declared.alloc.Global.{Global}
 use Rattle.std.specs.Io.KnownBytes.{Consumes, Appends}
 use Rattle.dch_io.specs.Ends.{End, Fails, IsCutShort}
 use Rattle.dch_script.specs.Code.{meaning}
-use Rattle.dch_words.specs.Says.{IsCommand, Says}
+use Rattle.dch_words.specs.Parses.{IsCommand, Parses}
 use Rattle.dch_words.specs.declared.arguments.Subcommand.{Subcommand}
 use Rattle.dch_words.specs.declared.arguments.Subcommand.TheVariants.{Check, Encode}
 use Rattle.dch_words.specs.declared.arguments.Arguments.{Arguments}
@@ -13,7 +13,7 @@ use Rattle.dch_lines.specs.Followed.{FollowsInput}
 use Rattle.dch_lines.specs.LineTexts.{is_empty}
 use Rattle.dch_lines.specs.declared.stop.Outcome.TheVariants.{Ok as Done, Refused as MetMalformed, ReadFault as FailedReading, WriteFault as FailedWriting, TooLong as TookTooMuch}
 use Rattle.dch_top.specs.Checked.{Checks}
-use Rattle.dch_top.specs.Said.{encoding}
+use Rattle.dch_top.specs.EncodeText.{encoding}
 use Rattle.dch_top.specs.declared.command.Status.{Status}
 use Rattle.dch_top.specs.declared.command.Status.TheVariants.{Ok, Refused, Usage, ReadFault, WriteFault, NoMemory, TooLong}
 
@@ -54,7 +54,7 @@ pub record Misuses (source sink : End) (status : Status) : Type 0 where
 
 -- the words are a command, and ask for this
 abbrev pub Asks : List (String Global) → Subcommand → Type 0
-Asks words subcommand = (said : Arguments) × (Says (map string_bytes words) said × (said.subcommand ≡ subcommand))
+Asks words subcommand = (arguments : Arguments) × (Parses (map string_bytes words) arguments × (arguments.subcommand ≡ subcommand))
 
 -- the words are no command
 abbrev pub IsNoCommand : List (String Global) → Type 0

@@ -93,7 +93,7 @@ fn follow_words<S: Source, K: Sink>(
     ensures { Ran words.now (end_of S.left S.faults source.old source.new) (end_of K.taken K.faults sink.old sink.new) result }
 {
     match parse_arguments(alloc, words) {
-        Ok(Some(said)) => match said.subcommand {
+        Ok(Some(arguments)) => match arguments.subcommand {
             Subcommand::Check => check(alloc, source, sink),
             Subcommand::Encode => encode(alloc, source, sink),
         },

@@ -29,6 +29,7 @@ pub fn encode<S: Source, K: Sink>(alloc: Global, source: &mut S, sink: &mut K) -
         Outcome::Refused => Status::Refused,
         Outcome::ReadFault => Status::ReadFault,
         Outcome::WriteFault => Status::WriteFault,
+        Outcome::NoMemory => unreachable!(),
         Outcome::TooLong => Status::TooLong,
     }
 }

@@ -1,13 +1,13 @@
-ghost use Rattle.std.specs.Prelude.{◌≡◌, ◌≤◌, ◌+◌, ◌++◌, true, false, length, OnOk, IfErr};
+ghost use Rattle.std.specs.Prelude.{◌≡◌, ◌≤◌, ◌+◌, ◌++◌, [], true, false, length, refl, OnOk, IfErr};
 ghost use Rattle.dch_script.specs.Code.{meaning, is_bits};
 ghost use Rattle.dch_lines.specs.Semantics.{Adds};
 ghost use Rattle.dch_top.specs.Overlong.{encoding_refuses_long};
-ghost use Rattle.dch_top.specs.Said.{Answers, block_of, closing, encoding};
+ghost use Rattle.dch_top.specs.EncodeText.{Answers, block_of, closing, encoding};
 ghost use Rattle.dch_top.specs.declared.encode_handler.TheConstants.{LONGEST_TEXT};
 
 use dch_bits::{Bit, NoMemory, read_bits_text};
 use dch_coding::BlockCoder;
-use dch_lines::LineHandler;
+use dch_lines::{LineFault, LineHandler};
 use dch_script::{Command, Event, Line, LineError, Report, parse};
 use dch_types::MAX_BLOCK_BITS;
 use std::alloc::Global;
@@ -47,14 +47,23 @@ impl EncodeHandler {
 }
 
 impl LineHandler for EncodeHandler {
+    ghost State = { Unit {0} };
+
     ghost semantics = { encoding };
+
+    ghost represents = { λ _ _. Unit {0} };
 
     ghost most = { λ _. LONGEST_TEXT };
 
+    ghost remaining = { λ _. 0 };
+
     ghost stands = { λ _. Unit {0} };
 
-    fn handle_line(&mut self, line: &[u8], report: &mut Report) -> Result<(), LineError> {
-        code_line(line, &mut self.block, &mut self.handler, report)
+    fn handle_line(&mut self, line: &[u8], report: &mut Report) -> Result<(), LineFault> {
+        match code_line(line, &mut self.block, &mut self.handler, report) {
+            Ok(()) => Ok(()),
+            Err(why) => Err(LineFault::Malformed(why)),
+        }
     }
 
     fn remaining(&self) -> u32 {
@@ -63,7 +72,7 @@ impl LineHandler for EncodeHandler {
 
     fn resume(&mut self, _report: &mut Report) {}
 
-    #[tactic(auto, using(crate::proofs::Texts::closing_short), unfolding(crate::specs::Said::closing))]
+    #[tactic(auto, using(crate::proofs::Texts::closing_short), unfolding(crate::specs::EncodeText::closing))]
     fn close(&self, nonempty_lines: u64, report: &mut Report) {
         report.put(&Line::EndLines(nonempty_lines));
     }
@@ -73,6 +82,10 @@ impl LineHandler for EncodeHandler {
     }
 
     ghost overlong = { encoding_refuses_long };
+
+    ghost counts = { λ _ _ _. refl };
+
+    ghost finishes = { λ state _ _. (state, ([], (refl, refl))) };
 }
 
 /// Adds the coded bits of a line's transport block to the report.
@@ -86,6 +99,7 @@ fn code_line(
     requires room { length report.old.text + LONGEST_TEXT ≤ report.old.most }
     ensures ok { OnOk result (Adds (Answers (meaning line.now)) report.old report.new) }
     ensures err { IfErr result (λ why. (meaning line.now ≡ Err why) × (report.new ≡ report.old)) }
+    ensures room { report.new.most ≡ report.old.most }
     ensures fits { OnOk result (length report.new.text ≤ report.new.most) }
 {
     match parse(Command::Encode, line) {

@@ -7,7 +7,7 @@ use Rattle.dch_words.specs.declared.arguments.Subcommand.{Subcommand}
 use Rattle.dch_words.specs.declared.arguments.Subcommand.TheVariants.{Check, Encode}
 use Rattle.dch_words.specs.declared.arguments.Arguments.{Arguments}
 use Rattle.dch_words.specs.Line.{IsTaken, line_app}
-use Rattle.dch_words.specs.Says.{IsCommand, IsNumber, IsNumberOr, Means, Says, subcommand_name}
+use Rattle.dch_words.specs.Parses.{IsCommand, IsNumber, IsNumberOr, Means, Parses, subcommand_name}
 
 -- a text that is a number is read as that number
 pub number_read : {E : Type 0} (least most : ℕ) (text : Text) (read : Result ℕ E) → most < 2 ^ 32
@@ -50,7 +50,7 @@ joined : (v w : Subcommand) (m n s t : ℕ) (p q : Bool)
 joined v w m n s t p q subcommand count start quiet = rw (subcommand, count, start, quiet) refl
 
 -- words say one thing at most
-pub one_meaning : (texts : List Text) (a b : Arguments) → Says texts a → Says texts b → a ≡ b
+pub one_meaning : (texts : List Text) (a b : Arguments) → Parses texts a → Parses texts b → a ≡ b
 one_meaning texts a b first second = joined a.subcommand b.subcommand a.count b.count a.start b.start a.quiet b.quiet
     (one_subcommand a.subcommand b.subcommand (some_one _ _ (sym first.1.subcommand ∙ second.1.subcommand)))
     (one_number 1000 1 100000 _ a.count b.count (omega arith) first.1.count second.1.count)
@@ -59,7 +59,7 @@ one_meaning texts a b first second = joined a.subcommand b.subcommand a.count b.
 
 -- what the rows mean is what the words say
 pub IfSome-says : (texts : List Text) (rows : List Row) (read : Option Arguments) → IsTaken texts
-    → rows ≡ matches_of line_app texts → IfSome read (Means rows) → IfSome read (Says texts)
+    → rows ≡ matches_of line_app texts → IfSome read (Means rows) → IfSome read (Parses texts)
 IfSome-says texts rows None taken same means = tt
 IfSome-says texts rows (Some words) taken same means = (taken, subst (λ r. Means r words) same means)
 

@@ -1,7 +1,7 @@
 ghost use Rattle.std.specs.Prelude.{◌≡◌, List, IfOk, IfSome, IfNone, map, string_bytes};
 ghost use Rattle.clap.specs.Words.{Text, found_of, rows_of};
 ghost use Rattle.dch_words.specs.Line.{is_given};
-ghost use Rattle.dch_words.specs.Says.{IsCommand, Means, Says, subcommand_name};
+ghost use Rattle.dch_words.specs.Parses.{IsCommand, Means, Parses, subcommand_name};
 
 use crate::line::line_command;
 use crate::number::read_number_or;
@@ -34,7 +34,7 @@ pub struct Arguments {
 
 /// Reads the words after the program's name: `COMMAND [COUNT] [--start N] [--quiet]`. `None` is words that are no command.
 pub fn parse_arguments(alloc: Global, words: &[String]) -> Result<Option<Arguments>, NoMemory>
-    ensures says { IfOk result (λ read. IfSome read (Says (map string_bytes words.now))) }
+    ensures says { IfOk result (λ read. IfSome read (Parses (map string_bytes words.now))) }
     ensures none { IfOk result (λ read. IfNone read (¬ IsCommand (map string_bytes words.now))) }
 {
     let command = line_command(alloc)?;
@@ -85,5 +85,5 @@ fn parse_subcommand(text: &str) -> Option<Subcommand>
 
 /// A law: words say one thing at most.
 pub fn one_meaning_law()
-    ensures { (texts : List Text) (a b : Arguments) → Says texts a → Says texts b → a ≡ b }
+    ensures { (texts : List Text) (a b : Arguments) → Parses texts a → Parses texts b → a ≡ b }
 {}

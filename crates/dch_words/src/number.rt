@@ -1,5 +1,5 @@
 ghost use Rattle.std.specs.Prelude.{ℕ, IfSome, IfNone, option_map};
-ghost use Rattle.dch_words.specs.Says.{IsNumber, IsNumberOr};
+ghost use Rattle.dch_words.specs.Parses.{IsNumber, IsNumberOr};
 
 use itoa::Buffer;
 

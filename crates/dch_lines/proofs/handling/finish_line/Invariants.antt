@@ -1,10 +1,11 @@
 use Rattle.std.proofs.Common.{◌≡◌, ◌≤◌, length}
+use Rattle.dch_lines.specs.Semantics.{Leads}
 use Rattle.dch_lines.proofs.LineSteps.{Done}
 use Rattle.dch_lines.proofs.handling.finish_line.Given as goal
 
 abbrev pub invariant-steps : goal.invariant-steps
 invariant-steps g l = record {
-  done : Done g.C.LineHandler.semantics l.initial.handler l.handler l.initial.report.text l.report.text (g.K.Sink.taken l.initial.sink) (g.K.Sink.taken l.sink) (g.K.Sink.faults l.initial.sink) (g.K.Sink.faults l.sink);
+  done : Leads g.C.LineHandler.represents l.initial.handler l.handler (λ old mid. Done g.C.LineHandler.semantics old mid l.initial.report.text l.report.text (g.K.Sink.taken l.initial.sink) (g.K.Sink.taken l.sink) (g.K.Sink.faults l.initial.sink) (g.K.Sink.faults l.sink));
   later : g.K.Sink.faults l.initial.sink ≤ g.K.Sink.faults l.sink;
   room : l.report.most ≡ l.initial.report.most;
   fits : length l.report.text ≤ l.report.most;
@@ -13,4 +14,4 @@ invariant-steps g l = record {
 }
 
 abbrev pub decreases-steps : goal.decreases-steps
-decreases-steps g l = g.C.LineHandler.semantics.remaining l.handler
+decreases-steps g l = g.C.LineHandler.remaining l.handler

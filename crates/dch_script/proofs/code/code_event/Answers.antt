@@ -1,7 +1,7 @@
 use Rattle.std.proofs.Common.{◌∷◌, ◌∙◌, ℕ, List, ap, sym, []}
 use Rattle.std.specs.Borrow.{Bor}
 use Rattle.dch_script.specs.Code.{code_words}
-use Rattle.dch_script.specs.Words.{words_of, later_words}
+use Rattle.dch_script.specs.LineWords.{words_of, later_words}
 use Rattle.dch_script.proofs.Cuts.{too_many}
 use Rattle.dch_script.proofs.code.code_event.Goals as goal
 

@@ -1,7 +1,7 @@
 use Rattle.std.proofs.Common.{◌∙◌, Some, ap, codes, subst, sym}
 use Rattle.clap.specs.Words.{found_of}
 use Rattle.clap.proofs.WalkLemmas.{first_value-rows}
-use Rattle.dch_words.specs.Says.{IsNumberOr}
+use Rattle.dch_words.specs.Parses.{IsNumberOr}
 use Rattle.dch_words.proofs.Meanings.{none_some, some_one}
 use Rattle.dch_words.proofs.arguments.meaning_of.Goals as goal
 

@@ -28,9 +28,9 @@ pub record Means (rows : List Row) (words : Arguments) : Type 0 where
   pub quiet : words.quiet ≡ is_given (codes "quiet") rows
 
 -- `clap` takes the texts as `COMMAND [COUNT] [--start N] [--quiet]`, and they say these words of a command
-abbrev pub Says : List Text → Arguments → Type 0
-Says texts words = IsTaken texts × Means (matches_of line_app texts) words
+abbrev pub Parses : List Text → Arguments → Type 0
+Parses texts words = IsTaken texts × Means (matches_of line_app texts) words
 
 -- the texts are a command that has come
 abbrev pub IsCommand : List Text → Type 0
-IsCommand texts = (words : Arguments) × Says texts words
+IsCommand texts = (words : Arguments) × Parses texts words
