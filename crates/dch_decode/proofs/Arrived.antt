@@ -59,7 +59,7 @@ attached_front : (crc : Crc) (block out : List Bit) (size : ℕ) → length bloc
 attached_front crc block out size long attached = ap (take size) attached.whole ∙ take_at block (reverse attached.parity) size long
 
 -- lists with the same parts
-same_parts : (xs ys : List Bit) (n size : ℕ) → length xs ≡ n * size → length ys ≡ n * size → ((r : ℕ) → r < n → part r size xs ≡ part r size ys) → xs ≡ ys
+pub same_parts : (xs ys : List Bit) (n size : ℕ) → length xs ≡ n * size → length ys ≡ n * size → ((r : ℕ) → r < n → part r size xs ≡ part r size ys) → xs ≡ ys
 same_parts xs ys n size long longer same = same_lists xs ys (omega (arith, long, longer)) (λ k d inside.
     let within : k < n * size = omega (arith, long) in
     let some : 0 < size = some_size n size k within in

@@ -6,3 +6,5 @@ pub mod Few
 pub mod Lengths
 pub mod Arrived
 pub mod Marks
+pub mod Coded
+pub mod One

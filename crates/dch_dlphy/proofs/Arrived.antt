@@ -26,7 +26,7 @@ use Rattle.dch_accept.specs.Plans.{Planned}
 use Rattle.dch_rxframes.specs.RxFrames.{IsReaderOf, RxFrame, RxFrames, frame_at, tti_place}
 use Rattle.dch_ttibuf.specs.Loaded.{Loaded, loaded_at}
 use Rattle.dch_rxframes.proofs.Sent.{sent_number}
-use Rattle.dch_dlphy.specs.Frames.{IsFrame, frame_cell, multiplexed_cell, bits_before, bits_per_frame, sent_cell}
+use Rattle.dch_dlphy.specs.Frames.{multiplexed, multiplexed_cell, bits_before, bits_per_frame, sent_cell}
 use Rattle.dch_dlphy.specs.Loaded.{filled_cell, matching_of, tti_cells}
 use Rattle.dch_dlphy.specs.Read.{received_cell, tti_cell, tti_pattern}
 use Rattle.dch_dlphy.specs.Sent.{IsSentFrame, IsSentTti}
@@ -57,7 +57,6 @@ multiplexed_at planned tti cfn c (suc count) i q inside early =
 
 -- a multiplexed cell of a frame that is kept as it was written
 kept_cell : (planned : Planned) (i n c : ℕ) (loaded : Loaded) (kept : RxFrame) (sent : IsSentFrame planned i n c loaded kept) (p : ℕ) → IsDownlink planned.config.downlink → p < frame_bits planned.config.downlink → get_or kept.cells p Off ≡ multiplexed_cell planned sent.tti sent.cfn c (length planned.config.downlink.side.channels) p
-unfolding frame_cell
 kept_cell planned i n c loaded kept sent p good inside =
     let ndata : ℕ = frame_bits planned.config.downlink in
     let v : ℕ = code_bits planned.config.downlink in
@@ -102,7 +101,7 @@ cell_arrived planned reader i f p sequence blocks sent good plan held channel in
     let low : m < places = place_inside frames places len p is some whole inside in
     let frame = sent.frames n below in
     let c : ℕ = slice_index sequence n in
-    let size : bits_per_frame planned c i ≡ places = ap (λ f. (matching_of planned i f).cells) (sent_number planned Down (IsFrame planned) i f n c sent.loaded _ frame sent.from.format channel) in
+    let size : bits_per_frame planned c i ≡ places = ap (λ f. (matching_of planned i f).cells) (sent_number planned Down (multiplexed planned) i f n c sent.loaded _ frame sent.from.format channel) in
     let listed : c < length side.combinations = (held.each (tti_place reader.cfn frames n) (mod_below _ 8 (omega arith))).listed c frame.found in
     let height : len / frames ≡ places = rows_of frames places len some whole in
     let place : n * places + m ≡ first_back_of frames len p = ap (λ rows. n * rows + m) (sym height) ∙ frame_place frames len p in

@@ -16,7 +16,7 @@ use Rattle.dch_collision.specs.Clear.{HasNoCollision, IsClear, joined_in}
 use Rattle.dch_accept.specs.Plans.{Planned}
 use Rattle.dch_rxframes.specs.RxFrames.{IsReaderOf, RxFrames, tti_place}
 use Rattle.dch_rxframes.proofs.Sent.{sent_number}
-use Rattle.dch_dlphy.specs.Frames.{IsFrame}
+use Rattle.dch_dlphy.specs.Frames.{multiplexed}
 use Rattle.dch_dlphy.specs.Read.{tti_pattern}
 use Rattle.dch_dlphy.specs.Sent.{IsSentTti}
 
@@ -47,7 +47,7 @@ downlink_clear planned reader i f sequence blocks good plan held channel sent cl
     let frame = sent.frames 0 (omega (arith, is)) in
     let c : ℕ = slice_index sequence 0 in
     let listed : c < length side.combinations = (held.each (tti_place reader.cfn frames 0) (mod_below _ 8 (omega arith))).listed c frame.found in
-    let format : format_number side c i ≡ f = sent_number planned Down (IsFrame planned) i f 0 c sent.loaded _ frame sent.from.format channel in
+    let format : format_number side c i ≡ f = sent_number planned Down (multiplexed planned) i f 0 c sent.loaded _ frame sent.from.format channel in
     let there : f < length (channel_at side i).formats = subst (λ f. f < length (channel_at side i).formats) format ((good.side.combinations c listed).formats i channel) in
     subst (λ (pattern : Pattern). HasNoCollision (channel_at side i).coding (joined_in side i f) (copies pattern.kind)) (sym ((plan.rows i channel).matchings f there).pattern)
     (clear.down i channel f (replicate frames c) (one_legal side i f c listed format))

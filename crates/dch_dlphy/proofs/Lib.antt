@@ -1,7 +1,9 @@
 pub mod Arrived
 pub mod Clear
-pub mod Filled
 pub mod Demultiplexed
+pub mod Filled
+pub mod One
+pub mod OneFrame
 pub mod Rooms
 pub mod Sent
 pub mod SentBack

@@ -2,9 +2,9 @@
 use Rattle.dch_types.specs.declared.channel.Dir.TheVariants.{Down}
 use Rattle.dch_rxframes.specs.Outcomes.{GivesItsFormat}
 use Rattle.dch_rxframes.proofs.Sent.{sent_formats}
-use Rattle.dch_dlphy.specs.Frames.{IsFrame}
+use Rattle.dch_dlphy.specs.Frames.{multiplexed}
 use Rattle.dch_dlphy.specs.Sent.{WasSent}
 
 pub gives_its_format : GivesItsFormat Down WasSent
 gives_its_format planned reader i f blocks was channel =
-    sent_formats planned Down (IsFrame planned) reader i f was.sequence was.sent.loaded was.sent.frames was.sent.from.format channel
+    sent_formats planned Down (multiplexed planned) reader i f was.sequence was.sent.loaded was.sent.frames was.sent.from.format channel

@@ -1,38 +1,22 @@
-ghost use Rattle.std.specs.Prelude.{◌≡◌, ◌<◌, ◌≤◌, ◌%◌, ℕ, List, Some, length};
+ghost use Rattle.std.specs.Prelude.{◌≡◌, ◌<◌, ℕ, List, length};
 ghost use Rattle.dch_bits.specs.declared.bit.Bit.{Bit};
-ghost use Rattle.dch_types.specs.declared.channel.Dir.TheVariants.{Down};
-ghost use Rattle.dch_types.specs.Parts.{channel_at, format_at};
-ghost use Rattle.dch_accept.specs.Blocks.{bits_of};
-ghost use Rattle.dch_accept.specs.Cells.{code_cells};
-ghost use Rattle.dch_accept.specs.Frames.{Frame};
+ghost use Rattle.dch_types.specs.Limits.{IsSide};
+ghost use Rattle.dch_accept.specs.Blocks.{Held};
 ghost use Rattle.dch_accept.specs.Plans.{Planned};
-ghost use Rattle.dch_rxframes.specs.RxFrames.{AreBack, IsKept, RxFrame, RxFrames};
+ghost use Rattle.dch_rxframes.specs.RxFrames.{RxFrames};
 ghost use Rattle.dch_ttibuf.specs.Loaded.{Loaded};
-ghost use Rattle.dch_dlphy.specs.Frames.{IsFrame};
 ghost use Rattle.dch_dlphy.specs.Loaded.{IsLoaded};
-ghost use Rattle.dch_dlphy.specs.Sent.{AreSentAndPushed, IsSentTti};
+ghost use Rattle.dch_dlphy.specs.Read.{IsTtiRead};
 
-use dch_accept::Accepted;
-
-/// A law: a frame that is kept as it was written is kept in the combination in which it was written, with its cells in
-/// multiplexed order.
-pub fn written_frame_law()
-    ensures { (planned : Planned) (tti : List Loaded) (cfn c : ℕ) (frame : Frame) (kept : RxFrame) →
-        c < length planned.config.downlink.side.combinations → length planned.config.downlink.side.combinations ≤ 128 →
-        IsFrame planned tti cfn c frame → IsKept planned Down frame.tfci frame.cells kept →
-        (kept.combination ≡ Some c) × AreBack (code_cells planned Down (length frame.cells)) frame.cells kept.cells }
+/// A law: what is loaded of the same blocks of a channel in a format is the same.
+pub fn one_load_law()
+    ensures { (planned : Planned) (i f : ℕ) (blocks : List Bit) (one other : Loaded) →
+        IsLoaded planned i f blocks one → IsLoaded planned i f blocks other → one ≡ other }
 {}
 
-/// A law: the radio frames of a TTI are pushed as they were written, each in its combination, while the channel's blocks stay
-/// loaded. Then they all are kept so that reading the TTI answers just those blocks.
-pub fn pushed_tti_law(accepted: &Accepted)
-    ensures { (i format first : ℕ) (sequence : List ℕ) (blocks : List Bit) (loaded : Loaded) (readers : ℕ → RxFrames) →
-        i < length accepted.now.config.downlink.side.channels → first % (channel_at accepted.now.config.downlink.side i).frames ≡ 0 →
-        IsLoaded accepted.now i format blocks loaded →
-        length blocks ≡ bits_of (format_at (channel_at accepted.now.config.downlink.side i) format) →
-        AreSentAndPushed accepted.now i first sequence loaded readers →
-        IsSentTti accepted.now (readers (channel_at accepted.now.config.downlink.side i).frames) i format sequence blocks }
-{
-    // A good configuration has at most 128 combinations, and TTIs of one to eight radio frames.
-    let _config = accepted.config();
-}
+/// A law: what is read of a channel's TTI of the same kept radio frames is the same, in whatever room.
+pub fn one_reading_law()
+    ensures { (planned : Planned) (reader : RxFrames) (i : ℕ) (one other : Held) →
+        IsSide planned.config.downlink.side → i < length planned.config.downlink.side.channels →
+        IsTtiRead planned reader i one → IsTtiRead planned reader i other → one ≡ record other { room = one.room } }
+{}

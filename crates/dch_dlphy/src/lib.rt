@@ -11,7 +11,7 @@ mod tti;
 mod writer;
 
 pub use dch_rxframes::TtiOutcome;
-pub use laws::{pushed_tti_law, written_frame_law};
+pub use laws::{one_load_law, one_reading_law};
 pub use reader::DlReader;
 pub use tti::DlTti;
 pub use writer::write;

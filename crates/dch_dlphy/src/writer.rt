@@ -1,19 +1,17 @@
 ghost use Rattle.std.specs.Prelude.{◌≡◌, ◌<◌, ◌≤◌, ◌+◌, ◌*◌, ◌^◌, ℕ, length, slice_index_or};
 ghost use Rattle.dch_bits.specs.declared.bit.Trit.TheVariants.{Off};
 ghost use Rattle.dch_types.specs.declared.channel.Dir.TheVariants.{Down};
-ghost use Rattle.dch_accept.specs.Cells.{frame_cells};
 ghost use Rattle.dch_accept.specs.Frames.{IsOpenedFor};
 ghost use Rattle.dch_ttibuf.specs.Loaded.{AreFormats};
 ghost use Rattle.dch_dlphy.specs.Loaded.{IsTtiOf};
-ghost use Rattle.dch_dlphy.specs.Frames.{IsFrame, frame_cell, multiplexed_cell, bits_per_frame, sent_cell};
+ghost use Rattle.dch_dlphy.specs.Frames.{IsFrame, bits_per_frame, sent_cell};
 
 use crate::fill::leave_off;
 use crate::parts::bits_in_frame;
 use crate::tti::DlTti;
 use dch_accept::{Accepted, PhyFrame};
 use dch_bits::Trit;
-use dch_tfci::send;
-use dch_ttibuf::TtiBuffer;
+use dch_ttibuf::{MultiplexFrame, TtiBuffer, write_frame};
 use dch_types::Dir;
 
 /// Writes the radio frame of a CFN in a combination: its TFCI, and of each channel the radio frame of its TTI that is on
@@ -26,70 +24,50 @@ pub fn write(accepted: &Accepted, tti: &DlTti, cfn: u8, combination: u16, out: &
     ensures written { IsFrame accepted.now tti.now cfn combination out.new }
     ensures frame { IsOpenedFor accepted.now.config Down out.new }
 {
-    // A good configuration has at most 128 combinations.
-    let _config = accepted.config();
-    let cells = accepted.frame_cells(Dir::Down, combination);
-    out.shape(cells);
-    send(combination, out.tfci_mut());
-    write_cells(accepted, tti, cfn, combination, cells, out.workspace_mut());
+    write_frame::<DlTti>(accepted, tti.tti_buffers(), cfn, combination, out);
 }
 
-/// Writes the cells of a radio frame, by way of the multiplexed cells behind them.
-fn write_cells(
-    accepted: &Accepted,
-    tti: &DlTti,
-    cfn: u8,
-    combination: u16,
-    count: usize,
-    out: &mut [Trit],
-)
-    requires opened { IsTtiOf accepted.now tti.now }
-    requires combination { combination < length accepted.now.config.downlink.side.combinations }
-    requires formats { AreFormats accepted.now.config.downlink.side combination tti.now }
-    requires count { count ≡ frame_cells accepted.now Down combination }
-    requires small { count ≤ 57600 }
-    requires room { length out.old ≡ 2 * count }
-    ensures { (k : ℕ) → k < count → slice_index_or out.new k Off ≡ frame_cell accepted.now tti.now cfn combination k }
-{
-    let (cells, stream) = out.split_at_mut(count);
-    multiplex(accepted, tti.tti_buffers(), cfn, combination, stream);
-    accepted
-        .interleaver(Dir::Down, combination)
-        .write(stream, cells);
-}
+/// The channels' cells follow one another. Nothing is sent in the places past the last of them (the second insertion of DTX
+/// indications, TS 25.212 4.2.9.2).
+impl MultiplexFrame for DlTti {
+    ghost use Rattle.dch_types.specs.declared.channel.Dir.TheVariants.{Down};
+    ghost use Rattle.dch_dlphy.specs.Frames.{multiplexed};
+    ghost use Rattle.dch_dlphy.specs.Loaded.{IsTtiOf};
 
-/// Writes the channels' cells one after another. Nothing is sent in the places past the last of them (the second insertion
-/// of DTX indications, TS 25.212 4.2.9.2).
-fn multiplex(
-    accepted: &Accepted,
-    tti_buffers: &[TtiBuffer],
-    cfn: u8,
-    combination: u16,
-    out: &mut [Trit],
-)
-    requires opened { IsTtiOf accepted.now tti_buffers.now }
-    requires combination { combination < length accepted.now.config.downlink.side.combinations }
-    requires formats { AreFormats accepted.now.config.downlink.side combination tti_buffers.now }
-    requires room { length out.old ≡ frame_cells accepted.now Down combination }
-    requires small { length out.old ≤ 57600 }
-    ensures { (p : ℕ) → p < length out.new → slice_index_or out.new p Off ≡ multiplexed_cell accepted.now tti_buffers.now cfn combination (length accepted.now.config.downlink.side.channels) p }
-{
-    let channels = accepted.config().downlink.side.channels.len();
-    let mut at = 0;
-    for i in 0..channels {
-        let end = at + bits_in_frame(accepted, combination, i as u8);
-        write_channel(
-            accepted,
-            tti_buffers,
-            cfn,
-            combination,
-            i as u8,
-            &mut out[at..end],
-        );
-        at = end;
+    ghost dir = { Down };
+
+    ghost fits = { IsTtiOf };
+
+    ghost cell = { multiplexed };
+
+    fn dir() -> Dir {
+        Dir::Down
     }
-    let (_sent, rest) = out.split_at_mut(at);
-    leave_off(rest);
+
+    fn multiplex(
+        accepted: &Accepted,
+        tti_buffers: &[TtiBuffer],
+        cfn: u8,
+        combination: u16,
+        out: &mut [Trit],
+    ) {
+        let channels = accepted.config().downlink.side.channels.len();
+        let mut at = 0;
+        for i in 0..channels {
+            let end = at + bits_in_frame(accepted, combination, i as u8);
+            write_channel(
+                accepted,
+                tti_buffers,
+                cfn,
+                combination,
+                i as u8,
+                &mut out[at..end],
+            );
+            at = end;
+        }
+        let (_sent, rest) = out.split_at_mut(at);
+        leave_off(rest);
+    }
 }
 
 /// Writes what a channel sends: the segment of one radio frame.

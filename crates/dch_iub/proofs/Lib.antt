@@ -3,8 +3,10 @@ pub mod Checks
 pub mod Fronts
 pub mod Headers
 pub mod Kept
+pub mod OneWriting
 pub mod Refused
 pub mod Sums
+pub mod Told
 pub mod Transfers
 pub mod Unpacking
 pub mod Weights

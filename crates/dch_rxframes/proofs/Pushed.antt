@@ -1,34 +1,33 @@
 -- The frames of a TTI that are taken one after another are kept when the last one is taken.
 use Rattle.std.proofs.Common.{◌≡◌, ◌≢◌, ◌+◌, ◌-◌, ◌%◌, ◌<◌, ◌≤◌, ℕ, zero, suc, List, length, arith, ap, sym, ◌∙◌, subst, inl, inr}
-use Rattle.std.specs.Prelude.{Some, slice_index}
+use Rattle.std.specs.Prelude.{slice_index}
 use Rattle.dch_bits.specs.declared.bit.Bit.{Bit}
 use Rattle.dch_bits.specs.declared.bit.Trit.{Trit}
 use Rattle.dch_types.specs.declared.channel.Dir.{Dir}
-use Rattle.dch_types.specs.Limits.{IsFrames}
+use Rattle.dch_types.specs.Limits.{IsFrames, IsSide}
 use Rattle.dch_types.specs.Parts.{channel_at, side_of}
-use Rattle.dch_accept.specs.Cells.{code_cells}
-use Rattle.dch_accept.specs.Frames.{Frame}
 use Rattle.dch_accept.specs.Plans.{Planned}
 use Rattle.dch_ttibuf.specs.Loaded.{Loaded}
-use Rattle.dch_rxframes.specs.RxFrames.{AreBack, IsKept, RxFrame, RxFrames, frame_at, rx_frame_at, tti_place}
+use Rattle.dch_rxframes.specs.RxFrames.{IsKept, RxFrame, RxFrames, frame_at, rx_frame_at, tti_place}
 use Rattle.dch_rxframes.specs.Pushed.{AreSentAndPushed}
 use Rattle.dch_rxframes.specs.Sent.{AreSentFrames, IsSentFrame}
+use Rattle.dch_rxframes.proofs.Written.{kept-written}
 
 -- the place of an earlier frame of the TTI is another one
 apart : (first n k : ℕ) → n + 1 + k < 8 → (first + n) % 8 ≢ (first + (n + 1 + k)) % 8
 apart first n k early same = omega (arith, same)
 
 -- a frame is kept while the later ones of its TTI are taken
-stays : (planned : Planned) (dir : Dir) (Writes : List Loaded → ℕ → ℕ → Frame → Type 0) (i first n k : ℕ) (sequence : List ℕ) (loaded : Loaded) (readers : ℕ → RxFrames)
-    → AreSentAndPushed planned dir Writes i first sequence loaded readers → (channel_at (side_of planned.config dir) i).frames ≤ 8 → n + 1 + k ≤ (channel_at (side_of planned.config dir) i).frames
+stays : (planned : Planned) (dir : Dir) (multiplexed : List Loaded → ℕ → ℕ → ℕ → Trit) (i first n k : ℕ) (sequence : List ℕ) (loaded : Loaded) (readers : ℕ → RxFrames)
+    → AreSentAndPushed planned dir multiplexed i first sequence loaded readers → (channel_at (side_of planned.config dir) i).frames ≤ 8 → n + 1 + k ≤ (channel_at (side_of planned.config dir) i).frames
     → rx_frame_at (readers (n + 1 + k)).frames ((first + n) % 8) ≡ rx_frame_at (readers (n + 1)).frames ((first + n) % 8)
-stays planned dir Writes i first n zero sequence loaded readers sent few inside = ap (λ m. rx_frame_at (readers m).frames ((first + n) % 8)) (omega arith)
-stays planned dir Writes i first n (suc k) sequence loaded readers sent few inside =
+stays planned dir multiplexed i first n zero sequence loaded readers sent few inside = ap (λ m. rx_frame_at (readers m).frames ((first + n) % 8)) (omega arith)
+stays planned dir multiplexed i first n (suc k) sequence loaded readers sent few inside =
     let step = sent (n + 1 + k) (omega (arith, inside)) in
     let next : n + 1 + suc k ≡ n + 1 + k + 1 = omega arith in
     ap (λ m. rx_frame_at (readers m).frames ((first + n) % 8)) next
     ∙ step.pushed.others ((first + n) % 8) (apart first n k (omega (arith, inside, few)))
-    ∙ stays planned dir Writes i first n k sequence loaded readers sent few (omega (arith, inside))
+    ∙ stays planned dir multiplexed i first n k sequence loaded readers sent few (omega (arith, inside))
 
 few_frames : (frames : ℕ) → IsFrames frames → (0 < frames) × (frames ≤ 8)
 few_frames frames is = (omega (arith, is), omega (arith, is))
@@ -59,18 +58,13 @@ place_in frames first n last is starts inside = elim is [
   ]
 ]
 
--- what a direction keeps of a frame as it was written
-abbrev pub KeepsWritten : Planned → Dir → (List Loaded → ℕ → ℕ → Frame → Type 0) → Type 0
-KeepsWritten planned dir Writes =
-    (tti : List Loaded) (cfn c : ℕ) (frame : Frame) (kept : RxFrame) → c < length (side_of planned.config dir).combinations → Writes tti cfn c frame
-    → IsKept planned dir frame.tfci frame.cells kept → (kept.combination ≡ Some c) × AreBack (code_cells planned dir (length frame.cells)) frame.cells kept.cells
-
 -- and so all frames of the TTI are kept as they were written
-pub sent_frames : (planned : Planned) (dir : Dir) (Writes : List Loaded → ℕ → ℕ → Frame → Type 0) (i first : ℕ) (sequence : List ℕ) (loaded : Loaded) (readers : ℕ → RxFrames)
-    → KeepsWritten planned dir Writes → IsFrames (channel_at (side_of planned.config dir) i).frames → first % (channel_at (side_of planned.config dir) i).frames ≡ 0
-    → AreSentAndPushed planned dir Writes i first sequence loaded readers → AreSentFrames planned dir Writes (readers (channel_at (side_of planned.config dir) i).frames) i sequence loaded
-sent_frames planned dir Writes i first sequence loaded readers keeps is starts sent = λ n inside.
+pub sent_frames : (planned : Planned) (dir : Dir) (multiplexed : List Loaded → ℕ → ℕ → ℕ → Trit) (i first : ℕ) (sequence : List ℕ) (loaded : Loaded) (readers : ℕ → RxFrames)
+    → IsSide (side_of planned.config dir) → i < length (side_of planned.config dir).channels → first % (channel_at (side_of planned.config dir) i).frames ≡ 0
+    → AreSentAndPushed planned dir multiplexed i first sequence loaded readers → AreSentFrames planned dir multiplexed (readers (channel_at (side_of planned.config dir) i).frames) i sequence loaded
+sent_frames planned dir multiplexed i first sequence loaded readers good channel starts sent = λ n inside.
     let frames : ℕ = (channel_at (side_of planned.config dir) i).frames in
+    let is : IsFrames frames = (good.channels i channel).frames in
     let bounds = few_frames frames is in
     let push = sent n inside in
     let last : ℕ = frames - 1 in
@@ -82,12 +76,12 @@ sent_frames planned dir Writes i first sequence loaded readers keeps is starts s
     let same : frame_at (side_of planned.config dir) (readers frames) i n ≡ rx_frame_at (readers (n + 1)).frames ((first + n) % 8) =
     ap (rx_frame_at (readers frames).frames) place
     ∙ ap (λ m. rx_frame_at (readers m).frames ((first + n) % 8)) till
-    ∙ stays planned dir Writes i first n k sequence loaded readers sent bounds.1 (omega (arith, till)) in
+    ∙ stays planned dir multiplexed i first n k sequence loaded readers sent bounds.1 (omega (arith, till)) in
     let here : IsKept planned dir push.frame.tfci push.frame.cells (rx_frame_at (readers (n + 1)).frames ((first + n) % 8)) =
     subst (λ (tfci : List Bit). IsKept planned dir tfci push.frame.cells (rx_frame_at (readers (n + 1)).frames ((first + n) % 8))) push.shown.tfci
     (subst (λ (cells : List Trit). IsKept planned dir push.view.tfci.now cells (rx_frame_at (readers (n + 1)).frames ((first + n) % 8))) push.shown.cells push.pushed.kept) in
-    let both = keeps push.tti (first + n) (slice_index sequence n) push.frame _ push.listed push.written here in
-    subst (λ (kept : RxFrame). IsSentFrame planned dir Writes i n (slice_index sequence n) loaded kept) (sym same) (record {
+    let both = kept-written planned dir (multiplexed push.tti (first + n) (slice_index sequence n)) (slice_index sequence n) push.frame _ push.listed good.few_combinations push.written here in
+    subst (λ (kept : RxFrame). IsSentFrame planned dir multiplexed i n (slice_index sequence n) loaded kept) (sym same) (record {
       tti = push.tti;
       cfn = first + n;
       frame = push.frame;

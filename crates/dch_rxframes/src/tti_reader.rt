@@ -1,5 +1,6 @@
-ghost use Rattle.std.specs.Prelude.{◌≡◌, ◌<◌, ℕ, List, length, IfOk};
+ghost use Rattle.std.specs.Prelude.{◌≡◌, ◌<◌, ◌≤◌, ◌+◌, ℕ, List, length, slice_index_or, IfOk};
 ghost use Rattle.dch_bits.specs.declared.bit.Bit.{Bit};
+ghost use Rattle.dch_bits.specs.declared.bit.Vote.{Vote};
 ghost use Rattle.dch_types.specs.declared.channel.Dir.{Dir};
 ghost use Rattle.dch_types.specs.Parts.{side_of};
 ghost use Rattle.dch_accept.specs.Blocks.{Held, HoldsTtis};
@@ -9,22 +10,24 @@ ghost use Rattle.dch_decode.specs.Received.{ArrivesAs};
 ghost use Rattle.dch_rxframes.specs.Formats.{IsFormatOf};
 ghost use Rattle.dch_rxframes.specs.Outcomes.{GivesItsFormat, IsOutcome, IsSentBack};
 ghost use Rattle.dch_rxframes.specs.Pushed.{IsPushed};
+ghost use Rattle.dch_rxframes.specs.Read.{AreVotesOf, IsTtiRead, coded_in, votes_in};
 ghost use Rattle.dch_rxframes.specs.RxFrames.{AreMissing, HasTfci, IsReaderOf, RxFrames};
 
 use crate::outcome::TtiOutcome;
 use crate::received_frames::ReceivedFrames;
 use dch_accept::{Accepted, FrameView, TtiBlocks};
-use dch_bits::NoMemory;
-use dch_types::Dir;
+use dch_bits::{NoMemory, Vote};
+use dch_decode::Decoder;
+use dch_types::{Dir, MAX_TTI_BITS};
 use std::alloc::Global;
 use std::marker::Model;
 
-/// How a direction reads the TTI of a channel from the radio frames that are kept of it: its votes are counted and decoded.
-pub trait ReadTti {
+/// How a direction counts the votes for the coded bits of a channel's TTI in the radio frames that are kept of it.
+pub trait CountVotes {
     ghost dir: { Dir };
 
-    // What is read of a channel.
-    ghost reads: { Planned → RxFrames → ℕ → Held → Type 0 };
+    // The votes for the coded bits of a channel's TTI in a format.
+    ghost counts: { Planned → RxFrames → ℕ → ℕ → List Vote → Type 0 };
 
     // Blocks of a channel in a format were sent, and the radio frames of their TTI are kept as they were written.
     ghost sent: { Planned → RxFrames → ℕ → ℕ → List Bit → Type 0 };
@@ -33,26 +36,28 @@ pub trait ReadTti {
     fn dir() -> Dir
         ensures { result ≡ dir };
 
-    /// Takes all memory that reading wants.
+    /// Takes all memory that counting wants.
     fn open(alloc: Global) -> Result<Self, NoMemory>;
 
-    /// Reads the TTI of a channel in a format that all of its radio frames give it.
-    fn read(
+    /// Counts the votes for the coded bits of a channel's TTI in a format that all of its radio frames give it, at the front of
+    /// `out`.
+    fn count(
         &mut self,
         accepted: &Accepted,
         rx_frames: &ReceivedFrames,
         channel: u8,
         format: u8,
-        out: &mut TtiBlocks,
+        out: &mut [Vote],
     )
         requires opened { IsReaderOf accepted.now dir rx_frames.now }
-        requires blocks { HoldsTtis (side_of accepted.now.config dir) out.old.room }
         requires channel { channel < length (side_of accepted.now.config dir).channels }
         requires format { IsFormatOf (side_of accepted.now.config dir) rx_frames.now channel format }
-        ensures read { reads accepted.now rx_frames.now channel out.new }
-        ensures undamaged { (blocks : List Bit) → sent accepted.now rx_frames.now channel format blocks → ArrivesAs blocks out.new }
-        ensures number { out.new.format ≡ format }
-        ensures room { out.new.room ≡ out.old.room };
+        requires room { length out.old ≡ 131072 }
+        ensures counted { counts accepted.now rx_frames.now channel format (votes_in (side_of accepted.now.config dir) channel format out.new) }
+        ensures few { (j : ℕ) (v : Vote) → j < coded_in (side_of accepted.now.config dir) channel format →
+            (slice_index_or out.new j v).zeros + (slice_index_or out.new j v).ones ≤ 460800 }
+        ensures undamaged { (blocks : List Bit) → sent accepted.now rx_frames.now channel format blocks →
+            AreVotesOf (side_of accepted.now.config dir) channel format blocks (votes_in (side_of accepted.now.config dir) channel format out.new) };
 
     /// The radio frames of such a TTI give the channel the format in which its blocks were sent.
     ghost gives: { GivesItsFormat dir sent };
@@ -63,17 +68,22 @@ pub trait ReadTti {
 pub struct TtiReader<R> {
     rx_frames: ReceivedFrames,
     scratch: R,
+    votes: Vec<Vote>,
+    decoder: Decoder,
 }
 
 impl<R> Model for TtiReader<R> {
+    ghost use Rattle.std.specs.Prelude.{◌≡◌, length};
     ghost use Rattle.dch_rxframes.specs.RxFrames.{RxFrames};
 
     ghost Value = { RxFrames };
 
     ghost view = { λ r. r.rx_frames };
+
+    ghost invariant = { λ r. length r.votes.items ≡ 131072 };
 }
 
-impl<R: ReadTti + Drop> TtiReader<R> {
+impl<R: CountVotes + Drop> TtiReader<R> {
     /// Takes all memory that receiving wants. No frame is there.
     pub fn open(alloc: Global, accepted: &Accepted) -> Result<TtiReader<R>, NoMemory>
         ensures missing { IfOk result (λ reader. AreMissing (most_cells accepted.now.config R.dir) 8 reader.frames) }
@@ -82,6 +92,8 @@ impl<R: ReadTti + Drop> TtiReader<R> {
         Ok(TtiReader {
             rx_frames: ReceivedFrames::open(alloc, accepted.most_cells(R::dir()))?,
             scratch: R::open(alloc)?,
+            votes: vec![in alloc; Vote { zeros: 0, ones: 0 }; MAX_TTI_BITS]?,
+            decoder: Decoder::open(alloc)?,
         })
     }
 
@@ -103,18 +115,36 @@ impl<R: ReadTti + Drop> TtiReader<R> {
         requires opened { IsReaderOf accepted.now R.dir self.old }
         requires blocks { HoldsTtis (side_of accepted.now.config R.dir) out.old.room }
         requires channel { channel < length (side_of accepted.now.config R.dir).channels }
-        ensures outcome { IsOutcome (side_of accepted.now.config R.dir) (R.reads accepted.now) self.old channel out.old result out.new }
+        ensures outcome { IsOutcome (side_of accepted.now.config R.dir) (IsTtiRead accepted.now R.dir (R.counts accepted.now)) self.old channel out.old result out.new }
         ensures undamaged { (format : ℕ) (blocks : List Bit) → R.sent accepted.now self.old channel format blocks → IsSentBack format blocks result out.new }
         ensures room { out.new.room ≡ out.old.room }
         ensures kept { self.new ≡ self.old }
     {
         match self.rx_frames.format_of_tti(accepted, R::dir(), channel) {
             Ok(format) => {
-                self.scratch
-                    .read(accepted, &self.rx_frames, channel, format, out);
+                self.read_blocks(accepted, channel, format, out);
                 TtiOutcome::Blocks
             }
             Err(n) => TtiOutcome::BadFrame(n),
         }
+    }
+
+    /// Reads the blocks of a channel's TTI in a format that all of its radio frames give it.
+    fn read_blocks(&mut self, accepted: &Accepted, channel: u8, format: u8, out: &mut TtiBlocks)
+        requires opened { IsReaderOf accepted.now R.dir self.old }
+        requires blocks { HoldsTtis (side_of accepted.now.config R.dir) out.old.room }
+        requires channel { channel < length (side_of accepted.now.config R.dir).channels }
+        requires format { IsFormatOf (side_of accepted.now.config R.dir) self.old channel format }
+        ensures read { IsTtiRead accepted.now R.dir (R.counts accepted.now) self.old channel out.new }
+        ensures undamaged { (blocks : List Bit) → R.sent accepted.now self.old channel format blocks → ArrivesAs blocks out.new }
+        ensures number { out.new.format ≡ format }
+        ensures room { out.new.room ≡ out.old.room }
+        ensures kept { self.new ≡ self.old }
+    {
+        self.scratch.count(accepted, &self.rx_frames, channel, format, &mut self.votes);
+        let trch = accepted.channel(R::dir(), channel);
+        let kind = trch.format(format as usize);
+        let votes = &self.votes[..trch.tti_bits(kind) as usize];
+        self.decoder.read(trch, format, kind, votes, out);
     }
 }

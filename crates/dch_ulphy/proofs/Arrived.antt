@@ -11,8 +11,8 @@ use Rattle.dch_bits.specs.declared.bit.Bit.TheVariants.{Zero}
 use Rattle.dch_bits.specs.declared.bit.Trit.{Trit}
 use Rattle.dch_bits.specs.declared.bit.Trit.TheVariants.{Off}
 use Rattle.dch_bits.specs.declared.bit.Vote.{Vote}
-use Rattle.dch_types.specs.Limits.{IsSide, IsFrames}
-use Rattle.dch_types.specs.Parts.{channel_at, format_number}
+use Rattle.dch_types.specs.Limits.{IsFrames}
+use Rattle.dch_types.specs.Parts.{channel_at}
 use Rattle.dch_inter.specs.Places.{first_of, first_back_of, frame_of, place_of}
 use Rattle.dch_inter.proofs.FirstColumns.{first_of-back, frame_place}
 use Rattle.dch_match.specs.Uplinks.{IsPlan, before_of, uplink_pattern}
@@ -30,7 +30,7 @@ use Rattle.dch_frame.proofs.Codes.{code_back-inside, code_place-back}
 use Rattle.dch_frame.proofs.Kept.{origin_of-inside}
 use Rattle.dch_accept.specs.Plans.{Planned}
 use Rattle.dch_puncture.specs.Plans.{plan_at}
-use Rattle.dch_ulphy.specs.Frames.{pattern_of, sent_cell, bits_before, multiplexed_cell, frame_cell}
+use Rattle.dch_ulphy.specs.Frames.{pattern_of, sent_cell, bits_before, multiplexed_cell}
 use Rattle.dch_ttibuf.specs.Loaded.{frame_number, loaded_at, Loaded}
 use Rattle.dch_rxframes.specs.RxFrames.{RxFrame}
 use Rattle.dch_ulphy.specs.Loaded.{AreInterleaved}
@@ -66,16 +66,15 @@ multiplexed_at planned tti cfn c (suc count) i q inside early = elim (cases_lt i
 
 -- a multiplexed cell of a frame that is kept as it was written
 kept_cell : (planned : Planned) (i n c : ℕ) (loaded : Loaded) (kept : RxFrame) (sent : IsSentFrame planned i n c loaded kept) (p : ℕ) → IsFrameSize (plan_at planned.uplink c).ndata → p < (plan_at planned.uplink c).ndata → get_or kept.cells p Off ≡ multiplexed_cell planned sent.tti sent.cfn c (length planned.config.uplink.side.channels) p
-unfolding frame_cell
 kept_cell planned i n c loaded kept sent p size inside =
     let ndata : ℕ = (plan_at planned.uplink c).ndata in
     let v : ℕ = min ndata 9600 in
-    let long : length sent.frame.cells ≡ ndata = sent.written.shows.long in
+    let long : length sent.frame.cells ≡ ndata = sent.written.long in
     let some : 0 < v = omega arith in
     let there : code_back v p < ndata = code_back-inside ndata v p size.whole some inside in
     sent.back.shown p (omega (arith, sent.back.whole, long))
     ∙ ap (λ m. get_or sent.frame.cells (code_back (min m 9600) p) Off) long
-    ∙ sent.written.shows.cells (code_back v p) (omega (arith, there, long))
+    ∙ sent.written.cells (code_back v p) (omega (arith, there, long))
     ∙ ap (multiplexed_cell planned sent.tti sent.cfn c (length planned.config.uplink.side.channels)) (code_place-back v p some)
 
 -- the segment of frame n of a TTI of coded bits
@@ -127,30 +126,21 @@ segment_bit f rows len coded n j frames some whole inside of =
     ∙ ap (λ k. get_or coded (first_of f len k) Zero) place
     ∙ ap (λ i. get_or coded i Zero) (first_of-back f len j frames (whole_rows f rows len some whole) inside)
 
--- what was loaded for a frame that is kept has whole segments
-pub sent_long : (planned : Planned) (i n c : ℕ) (loaded : Loaded) (kept : RxFrame) (sent : IsSentFrame planned i n c loaded kept) → IsSide planned.config.uplink.side → i < length planned.config.uplink.side.channels → c < length planned.config.uplink.side.combinations → length loaded.cells ≡ before_of planned.config.uplink.side c i * (channel_at planned.config.uplink.side i).frames
-sent_long planned i n c loaded kept sent good channel listed =
-    let side = planned.config.uplink.side in
-    let f : ℕ = format_number side c i in
-    let there : f < length (channel_at side i).formats = (good.combinations c listed).formats i channel in
-    ap (λ (loaded : Loaded). length loaded.cells) (sym sent.holds) ∙ sent.written.opened.long i channel f there (sent.formats i channel)
-
 -- the votes of a frame that is kept as it was written are the copies of its coded bits
 pub frame_arrived : (planned : Planned) (i n c : ℕ) (loaded : Loaded) (kept : RxFrame) (sent : IsSentFrame planned i n c loaded kept) (coded : List Bit) (f rows : ℕ) (pattern : Pattern) (cells : List Trit) (votes : List Vote)
-    → IsSide planned.config.uplink.side → i < length planned.config.uplink.side.channels → c < length planned.config.uplink.side.combinations
+    → i < length planned.config.uplink.side.channels
     → IsPlan planned.config.uplink c (plan_at planned.uplink c)
     → f ≡ (channel_at planned.config.uplink.side i).frames → IsFrames f → n < f → rows ≡ before_of planned.config.uplink.side c i
-    → AreInterleaved f coded loaded.cells
+    → AreInterleaved f coded loaded.cells → length loaded.cells ≡ rows * f
     → pattern ≡ pattern_in planned i n c → cells ≡ channel_cells (plan_at planned.uplink c) i kept.cells
     → length cells ≡ copies_below pattern.kind pattern.len → length cells ≡ slice_index (plan_at planned.uplink c).sent i → length votes ≡ rows * f
     → ((bits : List Bit) → ((k : ℕ) → k < length cells → get_or cells k Off ≡ as_cell (get_or bits (origin_of pattern k) Zero)) → (j : ℕ) (v : Vote) → j < length votes → frame_of f (length votes) j ≡ n → get_or votes j v ≡ copies_as_votes (get_or bits (place_of f (length votes) j) Zero) (copies pattern.kind (place_of f (length votes) j)))
     → (j : ℕ) (v : Vote) → j < length votes → frame_of f (length votes) j ≡ n → get_or votes j v ≡ copies_as_votes (get_or coded j Zero) (frame_copies planned.config.uplink i n c (place_of f (length votes) j))
-frame_arrived planned i n c loaded kept sent coded f rows pattern cells votes good channel listed is_plan frames few frame is shown same_pattern same_cells kept_all sized whole undamaged j v inside of =
+frame_arrived planned i n c loaded kept sent coded f rows pattern cells votes channel is_plan frames few frame is shown long same_pattern same_cells kept_all sized whole undamaged j v inside of =
     let side = planned.config.uplink.side in
     let plan : UplinkPlan = plan_at planned.uplink c in
     let bits : List Bit = segment_bits f (rows * f) coded n rows in
     let some : 0 < f = omega arith in
-    let long : length loaded.cells ≡ rows * f = sent_long planned i n c loaded kept sent good channel listed ∙ ap (λ rows. rows * (channel_at side i).frames) (sym is) ∙ ap (λ f. rows * f) (sym frames) in
     let room : bits_before plan i + slice_index plan.sent i ≤ plan.ndata = omega (arith, part_le (slice_index plan.sent) i (length side.channels) channel, is_plan.all_sent) in
     let high : pattern.len ≡ rows = ap (λ (pattern : Pattern). pattern.len) same_pattern ∙ pattern_len planned i n c ∙ sym is in
     let cell : (k : ℕ) → k < length cells → get_or cells k Off ≡ as_cell (get_or bits (origin_of pattern k) Zero) =

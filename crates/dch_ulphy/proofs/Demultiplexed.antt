@@ -23,14 +23,14 @@ pub record AreHeard (planned : Planned) (reader : RxFrames) (i : ℕ) (heard : L
   pub few : (j : ℕ) (v : Vote) → j < length heard → frame_of (channel_at planned.config.uplink.side i).frames (length heard) j < n →
       (get_or heard j v).zeros + (get_or heard j v).ones ≤ 57600
   pub undamaged : (coded : List Bit) (sequence : List ℕ) (loaded : Loaded) → AreSentFrames planned reader i sequence loaded → AreInterleaved (channel_at planned.config.uplink.side i).frames coded loaded.cells
-      → (j : ℕ) (v : Vote) → j < length heard → frame_of (channel_at planned.config.uplink.side i).frames (length heard) j < n
+      → length loaded.cells ≡ length heard → (j : ℕ) (v : Vote) → j < length heard → frame_of (channel_at planned.config.uplink.side i).frames (length heard) j < n
       → get_or heard j v ≡ copies_as_votes (get_or coded j Zero) (tti_copies planned.config.uplink i sequence (length heard) j)
 
 pub heard_none : (planned : Planned) (reader : RxFrames) (i : ℕ) (heard : List Vote) → AreHeard planned reader i heard 0
 heard_none planned reader i heard = record {
   votes = λ j v inside early. absurd (omega arith);
   few = λ j v inside early. absurd (omega arith);
-  undamaged = λ coded sequence loaded sent shown j v inside early. absurd (omega arith);
+  undamaged = λ coded sequence loaded sent shown whole j v inside early. absurd (omega arith);
 }
 
 -- one frame more
@@ -39,7 +39,7 @@ pub heard_more : (planned : Planned) (reader : RxFrames) (i n : ℕ) (heard next
     → ((j : ℕ) (v : Vote) → j < length next → frame_of (channel_at planned.config.uplink.side i).frames (length next) j ≡ n → (get_or next j v).zeros + (get_or next j v).ones ≤ 57600)
     → ((j : ℕ) (v : Vote) → j < length next → frame_of (channel_at planned.config.uplink.side i).frames (length next) j ≢ n → get_or next j v ≡ get_or heard j v)
     → n < (channel_at planned.config.uplink.side i).frames
-    → ((coded : List Bit) (c : ℕ) (loaded : Loaded) → IsSentFrame planned i n c loaded kept → AreInterleaved (channel_at planned.config.uplink.side i).frames coded loaded.cells → (j : ℕ) (v : Vote) → j < length next → frame_of (channel_at planned.config.uplink.side i).frames (length next) j ≡ n → get_or next j v ≡ copies_as_votes (get_or coded j Zero) (frame_copies planned.config.uplink i n c (place_of (channel_at planned.config.uplink.side i).frames (length next) j)))
+    → ((coded : List Bit) (c : ℕ) (loaded : Loaded) → IsSentFrame planned i n c loaded kept → AreInterleaved (channel_at planned.config.uplink.side i).frames coded loaded.cells → length loaded.cells ≡ length next → (j : ℕ) (v : Vote) → j < length next → frame_of (channel_at planned.config.uplink.side i).frames (length next) j ≡ n → get_or next j v ≡ copies_as_votes (get_or coded j Zero) (frame_copies planned.config.uplink i n c (place_of (channel_at planned.config.uplink.side i).frames (length next) j)))
     → AreHeard planned reader i heard n → AreHeard planned reader i next (n + 1)
 heard_more planned reader i n heard next kept long is votes few same inside_tti undamaged done =
     let side = planned.config.uplink.side in
@@ -61,13 +61,13 @@ heard_more planned reader i n heard next kept long is votes few same inside_tti 
             subst (λ (vote : Vote). vote.zeros + vote.ones ≤ 57600) (sym (same j v inside other))
             (done.few j v (omega (arith, long)) (subst (λ len. frame_of f len j < n) long (omega arith)))
       ];
-      undamaged = λ coded sequence loaded sent shown j v inside early. elim (cases_eq (frame_of f (length next) j) n) [
+      undamaged = λ coded sequence loaded sent shown whole j v inside early. elim (cases_eq (frame_of f (length next) j) n) [
         | inl here ↦
-            undamaged coded (slice_index sequence n) loaded (subst (IsSentFrame planned i n (slice_index sequence n) loaded) (sym is) (sent n inside_tti)) shown j v inside here
+            undamaged coded (slice_index sequence n) loaded (subst (IsSentFrame planned i n (slice_index sequence n) loaded) (sym is) (sent n inside_tti)) shown whole j v inside here
             ∙ ap (λ n. copies_as_votes (get_or coded j Zero) (frame_copies planned.config.uplink i n (slice_index sequence n) (place_of f (length next) j))) (sym here)
         | inr other ↦
             same j v inside other
-            ∙ done.undamaged coded sequence loaded sent shown j v (omega (arith, long)) (subst (λ len. frame_of f len j < n) long (omega arith))
+            ∙ done.undamaged coded sequence loaded sent shown (whole ∙ long) j v (omega (arith, long)) (subst (λ len. frame_of f len j < n) long (omega arith))
             ∙ ap (λ len. copies_as_votes (get_or coded j Zero) (tti_copies planned.config.uplink i sequence len j)) (sym long)
       ];
     }

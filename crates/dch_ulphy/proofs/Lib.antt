@@ -1,5 +1,7 @@
+pub mod Alike
 pub mod Arrived
 pub mod Demultiplexed
+pub mod One
 pub mod Padded
 pub mod Sent
 pub mod SentBack

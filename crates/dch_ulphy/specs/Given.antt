@@ -2,8 +2,9 @@
 use Rattle.dch_types.specs.declared.channel.Dir.TheVariants.{Up}
 use Rattle.dch_rxframes.specs.Outcomes.{GivesItsFormat}
 use Rattle.dch_rxframes.proofs.Sent.{sent_formats}
-use Rattle.dch_ulphy.specs.Sent.{IsWritten, WasSent}
+use Rattle.dch_ulphy.specs.Frames.{multiplexed}
+use Rattle.dch_ulphy.specs.Sent.{WasSent}
 
 pub gives_its_format : GivesItsFormat Up WasSent
 gives_its_format planned reader i f blocks was channel =
-    sent_formats planned Up (IsWritten planned) reader i f was.sequence was.sent.loaded was.sent.frames was.sent.from.format channel
+    sent_formats planned Up (multiplexed planned) reader i f was.sequence was.sent.loaded was.sent.frames was.sent.from.format channel

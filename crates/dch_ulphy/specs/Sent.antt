@@ -8,27 +8,21 @@ use Rattle.dch_inter.specs.Places.{frame_of, place_of}
 use Rattle.dch_legal.specs.Sequences.{IsLegal}
 use Rattle.dch_puncture.specs.Copies.{frame_copies}
 use Rattle.dch_accept.specs.Blocks.{bits_of}
-use Rattle.dch_accept.specs.Frames.{Frame}
 use Rattle.dch_accept.specs.Plans.{Planned}
 use Rattle.dch_rxframes.specs.RxFrames.{RxFrame, RxFrames}
 use Rattle.dch_rxframes.specs.Sent.{AreSentFrames as AreSentFramesBy, IsSentFrame as IsSentFrameBy}
 use Rattle.dch_rxframes.specs.Pushed.{AreSentAndPushed as AreSentAndPushedBy}
-use Rattle.dch_ulphy.specs.Frames.{IsFrame}
-use Rattle.dch_ulphy.specs.Loaded.{IsLoaded, IsTtiOf}
+use Rattle.dch_ulphy.specs.Frames.{multiplexed}
+use Rattle.dch_ulphy.specs.Loaded.{IsLoaded}
 use Rattle.dch_ttibuf.specs.Loaded.{Loaded}
-
--- the frame of a CFN and a combination shows loaded TTIs that fit the configuration
-pub record IsWritten (planned : Planned) (tti : List Loaded) (cfn c : ℕ) (frame : Frame) : Type 0 where
-  pub opened : IsTtiOf planned tti
-  pub shows : IsFrame planned tti cfn c frame
 
 -- a frame is kept as it was written in combination c, as frame n of the TTI of channel i, of which this was loaded
 abbrev pub IsSentFrame : Planned → ℕ → ℕ → ℕ → Loaded → RxFrame → Type 0
-IsSentFrame planned i n c loaded kept = IsSentFrameBy planned Up (IsWritten planned) i n c loaded kept
+IsSentFrame planned i n c loaded kept = IsSentFrameBy planned Up (multiplexed planned) i n c loaded kept
 
 -- and so are all frames of the TTI, each in its combination of a sequence
 abbrev pub AreSentFrames : Planned → RxFrames → ℕ → List ℕ → Loaded → Type 0
-AreSentFrames planned reader i sequence loaded = AreSentFramesBy planned Up (IsWritten planned) reader i sequence loaded
+AreSentFrames planned reader i sequence loaded = AreSentFramesBy planned Up (multiplexed planned) reader i sequence loaded
 
 -- the copies of coded bit j of a TTI of so many bits that are sent in a sequence of combinations
 abbrev pub tti_copies : Uplink → ℕ → List ℕ → ℕ → ℕ → ℕ
@@ -53,4 +47,4 @@ pub record WasSent (planned : Planned) (reader : RxFrames) (i f : ℕ) (blocks :
 -- the frames of a TTI of channel i are taken one after another from its first CFN on, just as they were written in a sequence of
 -- combinations, while this stayed loaded of the channel; reader n is what is kept before frame n
 abbrev pub AreSentAndPushed : Planned → ℕ → ℕ → List ℕ → Loaded → (ℕ → RxFrames) → Type 0
-AreSentAndPushed planned i first sequence loaded readers = AreSentAndPushedBy planned Up (IsWritten planned) i first sequence loaded readers
+AreSentAndPushed planned i first sequence loaded readers = AreSentAndPushedBy planned Up (multiplexed planned) i first sequence loaded readers

@@ -41,7 +41,7 @@ pub fn demultiplex_tti(
     ensures votes { (j : ℕ) (v : Vote) → j < length votes.new →
         slice_index_or votes.new j v ≡ tti_votes accepted.now rx_frames.now channel (length votes.new) j }
     ensures undamaged { (coded : List Bit) (sequence : List ℕ) (loaded : Loaded) → AreSentFrames accepted.now rx_frames.now channel sequence loaded →
-        AreInterleaved (channel_at accepted.now.config.uplink.side channel).frames coded loaded.cells →
+        AreInterleaved (channel_at accepted.now.config.uplink.side channel).frames coded loaded.cells → length loaded.cells ≡ length votes.new →
         (j : ℕ) (v : Vote) → j < length votes.new →
         slice_index_or votes.new j v ≡ copies_as_votes (slice_index_or coded j Zero) (tti_copies accepted.now.config.uplink channel sequence (length votes.new) j) }
     ensures few { (j : ℕ) (v : Vote) → j < length votes.new →
@@ -83,7 +83,7 @@ fn demultiplex_frame(
         frame_of (channel_at accepted.now.config.uplink.side channel).frames (length votes.new) j ≡ n →
         (slice_index_or votes.new j v).zeros + (slice_index_or votes.new j v).ones ≤ 57600 }
     ensures undamaged { (coded : List Bit) (c : ℕ) (loaded : Loaded) → IsSentFrame accepted.now channel n c loaded kept.now →
-        AreInterleaved (channel_at accepted.now.config.uplink.side channel).frames coded loaded.cells →
+        AreInterleaved (channel_at accepted.now.config.uplink.side channel).frames coded loaded.cells → length loaded.cells ≡ length votes.new →
         (j : ℕ) (v : Vote) → j < length votes.new →
         frame_of (channel_at accepted.now.config.uplink.side channel).frames (length votes.new) j ≡ n →
         slice_index_or votes.new j v ≡ copies_as_votes (slice_index_or coded j Zero) (frame_copies accepted.now.config.uplink channel n c

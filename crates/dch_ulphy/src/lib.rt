@@ -10,7 +10,7 @@ mod tti;
 mod writer;
 
 pub use dch_rxframes::TtiOutcome;
-pub use laws::{pushed_tti_law, written_frame_law};
+pub use laws::{one_load_law, one_reading_law};
 pub use reader::UlReader;
 pub use tti::UlTti;
 pub use writer::write;

@@ -1,20 +1,18 @@
 ghost use Rattle.std.specs.Prelude.{◌≡◌, ◌<◌, ◌≤◌, ◌+◌, ◌*◌, ℕ, length, slice_index, slice_index_or};
 ghost use Rattle.dch_bits.specs.declared.bit.Trit.TheVariants.{Off};
 ghost use Rattle.dch_types.specs.declared.channel.Dir.TheVariants.{Up};
-ghost use Rattle.dch_accept.specs.Cells.{frame_cells};
 ghost use Rattle.dch_accept.specs.Frames.{IsOpenedFor};
 ghost use Rattle.dch_puncture.specs.Plans.{plan_at};
 ghost use Rattle.dch_ulphy.specs.Loaded.{IsTtiOf};
 ghost use Rattle.dch_ttibuf.specs.Loaded.{loaded_at, AreFormats};
-ghost use Rattle.dch_ulphy.specs.Frames.{IsFrame, frame_cell, multiplexed_cell, sent_cell};
+ghost use Rattle.dch_ulphy.specs.Frames.{IsFrame, sent_cell};
 
 use crate::tti::UlTti;
 use dch_accept::{Accepted, PhyFrame};
 use dch_bits::Trit;
 use dch_frame::rate_match;
 use dch_match::frame;
-use dch_tfci::send;
-use dch_ttibuf::TtiBuffer;
+use dch_ttibuf::{MultiplexFrame, TtiBuffer, write_frame};
 use dch_types::Dir;
 
 /// Writes the radio frame of a CFN in a combination: its TFCI, and of each channel the radio frame of its TTI that is on
@@ -27,67 +25,47 @@ pub fn write(accepted: &Accepted, tti: &UlTti, cfn: u8, combination: u16, out: &
     ensures written { IsFrame accepted.now tti.now cfn combination out.new }
     ensures frame { IsOpenedFor accepted.now.config Up out.new }
 {
-    // A good configuration has at most 128 combinations.
-    let _config = accepted.config();
-    let cells = accepted.frame_cells(Dir::Up, combination);
-    out.shape(cells);
-    send(combination, out.tfci_mut());
-    write_cells(accepted, tti, cfn, combination, cells, out.workspace_mut());
+    write_frame::<UlTti>(accepted, tti.tti_buffers(), cfn, combination, out);
 }
 
-/// Writes the cells of a radio frame, by way of the multiplexed cells behind them.
-fn write_cells(
-    accepted: &Accepted,
-    tti: &UlTti,
-    cfn: u8,
-    combination: u16,
-    count: usize,
-    out: &mut [Trit],
-)
-    requires opened { IsTtiOf accepted.now tti.now }
-    requires combination { combination < length accepted.now.config.uplink.side.combinations }
-    requires formats { AreFormats accepted.now.config.uplink.side combination tti.now }
-    requires count { count ≡ frame_cells accepted.now Up combination }
-    requires small { count ≤ 57600 }
-    requires room { length out.old ≡ 2 * count }
-    ensures { (k : ℕ) → k < count → slice_index_or out.new k Off ≡ frame_cell accepted.now tti.now cfn combination k }
-{
-    let (cells, stream) = out.split_at_mut(count);
-    multiplex(accepted, tti.tti_buffers(), cfn, combination, stream);
-    accepted
-        .interleaver(Dir::Up, combination)
-        .write(stream, cells);
-}
+/// The channels' cells follow one another.
+impl MultiplexFrame for UlTti {
+    ghost use Rattle.dch_types.specs.declared.channel.Dir.TheVariants.{Up};
+    ghost use Rattle.dch_ulphy.specs.Frames.{multiplexed};
+    ghost use Rattle.dch_ulphy.specs.Loaded.{IsTtiOf};
 
-/// Writes the channels' cells one after another.
-fn multiplex(
-    accepted: &Accepted,
-    tti_buffers: &[TtiBuffer],
-    cfn: u8,
-    combination: u16,
-    out: &mut [Trit],
-)
-    requires opened { IsTtiOf accepted.now tti_buffers.now }
-    requires combination { combination < length accepted.now.config.uplink.side.combinations }
-    requires formats { AreFormats accepted.now.config.uplink.side combination tti_buffers.now }
-    requires room { length out.old ≡ (plan_at accepted.now.uplink combination).ndata }
-    requires small { length out.old ≤ 57600 }
-    ensures { (p : ℕ) → p < length out.new → slice_index_or out.new p Off ≡ multiplexed_cell accepted.now tti_buffers.now cfn combination (length accepted.now.config.uplink.side.channels) p }
-{
-    let channels = accepted.config().uplink.side.channels.len();
-    let plan = accepted.uplink_plan(combination);
-    let mut at = 0;
-    for i in 0..channels {
-        let end = at + plan.sent[i] as usize;
-        write_channel(
-            accepted,
-            tti_buffers,
-            cfn,
-            combination,
-            i,
-            &mut out[at..end],
-        );
-        at = end;
+    ghost dir = { Up };
+
+    ghost fits = { IsTtiOf };
+
+    ghost cell = { multiplexed };
+
+    fn dir() -> Dir {
+        Dir::Up
+    }
+
+    fn multiplex(
+        accepted: &Accepted,
+        tti_buffers: &[TtiBuffer],
+        cfn: u8,
+        combination: u16,
+        out: &mut [Trit],
+    ) {
+        let channels = accepted.config().uplink.side.channels.len();
+        let plan = accepted.uplink_plan(combination);
+        let mut at = 0;
+        for i in 0..channels {
+            let end = at + plan.sent[i] as usize;
+            write_channel(
+                accepted,
+                tti_buffers,
+                cfn,
+                combination,
+                i,
+                &mut out[at..end],
+            );
+            at = end;
+        }
     }
 }
 

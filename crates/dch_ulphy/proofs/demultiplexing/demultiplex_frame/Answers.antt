@@ -42,7 +42,7 @@ returns-clause-few c j v inside frame =
     omega (arith, few, room, c.channel_cells-cells.ensures.long, c.uplink_plan-plan.ensures.plan.most, largest_most _ good.uplink.largest)
 
 pub returns-clause-undamaged : goal.returns-clause-undamaged
-returns-clause-undamaged c coded d loaded sent shown j v inside of =
+returns-clause-undamaged c coded d loaded sent shown all j v inside of =
     let planned = c.args.accepted.now in
     let i : ℕ = c.args.channel in
     let n : ℕ = c.args.n in
@@ -51,7 +51,6 @@ returns-clause-undamaged c coded d loaded sent shown j v inside of =
     let good : IsGood planned.config = subst IsGood value c.config.ensures.good in
     let found : c.args.kept.now.combination ≡ Some c.in-Some.combination = sym c.combination.ensures ∙ c.in-Some.is in
     let same : c.in-Some.combination ≡ d = let both = sym found ∙ sent.found in cc in
-    let listed : d < length side.combinations = c.requires.kept.listed d sent.found in
     let plan : c.uplink_plan-plan.result.now ≡ plan_at planned.uplink d = c.uplink_plan-plan.ensures.value ∙ ap (plan_at planned.uplink) same in
     let is_plan : IsPlan planned.config.uplink d (plan_at planned.uplink d) =
     subst (IsPlan planned.config.uplink d) plan (subst (λ c'. IsPlan planned.config.uplink c' c.uplink_plan-plan.result.now) same c.uplink_plan-plan.ensures.plan) in
@@ -69,6 +68,6 @@ returns-clause-undamaged c coded d loaded sent shown j v inside of =
     sized ∙ is_plan.sent i c.requires.channel ∙ ap (λ (plan : UplinkPlan). sent_of side d plan.ndata i) (sym plan) ∙ ap (λ c'. sent_of side c' c.uplink_plan-plan.result.now.ndata i) (sym same) ∙ ap (λ (config : Config). sent_of config.uplink.side c.in-Some.combination c.uplink_plan-plan.result.now.ndata i) (sym value) ∙ sym c.frame-pattern.ensures.kept in
     let whole : length c.rate_dematch.new.votes ≡ length c.args.counted.now * (channel_at side i).frames = c.rate_dematch.auto.votes ∙ c.requires.whole in
     frame_arrived planned i n d loaded c.args.kept.now sent coded (channel_at side i).frames (length c.args.counted.now) c.frame-pattern.result c.channel_cells-cells.result.now c.rate_dematch.new.votes
-    good.uplink.side c.requires.channel listed is_plan refl (good.uplink.side.channels i c.requires.channel).frames c.requires.frame rows shown pattern cells kept_all sized whole
+    c.requires.channel is_plan refl (good.uplink.side.channels i c.requires.channel).frames c.requires.frame rows shown (all ∙ whole) pattern cells kept_all sized whole
     (subst (λ f. (bits : List Bit) → ((k : ℕ) → k < length c.channel_cells-cells.result.now → get_or c.channel_cells-cells.result.now k Off ≡ as_cell (get_or bits (origin_of c.frame-pattern.result k) Zero)) → (j : ℕ) (v : Vote) → j < length c.rate_dematch.new.votes → frame_of f (length c.rate_dematch.new.votes) j ≡ n → get_or c.rate_dematch.new.votes j v ≡ copies_as_votes (get_or bits (place_of f (length c.rate_dematch.new.votes) j) Zero) (copies c.frame-pattern.result.kind (place_of f (length c.rate_dematch.new.votes) j))) frames c.rate_dematch.ensures.undamaged)
     j v inside of

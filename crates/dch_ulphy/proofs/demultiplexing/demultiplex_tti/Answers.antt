@@ -1,4 +1,6 @@
-use Rattle.std.proofs.Common.{◌≡◌, ◌*◌, ◌<◌, ℕ, length, arith, ap, sym, ◌∙◌}
+use Rattle.std.proofs.Common.{◌≡◌, ◌*◌, ◌<◌, ℕ, length, arith, ap, sym, ◌∙◌, subst}
+use Rattle.dch_types.specs.Limits.{IsFrames}
+use Rattle.dch_types.specs.Parts.{channel_at}
 use Rattle.dch_inter.specs.Places.{frame_of}
 use Rattle.dch_inter.proofs.FirstColumns.{frame_of-below}
 use Rattle.dch_frame.proofs.Carried.{whole_rows}
@@ -17,29 +19,31 @@ loop-n-preserved c =
     c.demultiplex_frame.ensures.votes c.demultiplex_frame.ensures.few c.demultiplex_frame.ensures.same
     (omega (arith, c.frames_of-frames.ensures.value, c.loop-n-test.true)) c.demultiplex_frame.ensures.undamaged c.loop-n.invariant
 
+-- each bit goes to a radio frame of the TTI
+in_frames : (f frames rows len j : ℕ) → f ≡ frames → IsFrames f → 0 < f → len ≡ rows * frames → j < len → frame_of frames len j < f
+in_frames f frames rows len j same is some whole inside =
+    subst (λ frames. frame_of frames len j < f) same (frame_of-below f len j is (whole_rows f rows len some (whole ∙ ap (λ f. rows * f) (sym same))) inside)
+
 pub returns-clause-votes : goal.returns-clause-votes
 returns-clause-votes c j v inside =
-    let f : ℕ = c.frames_of-frames.result in
-    let len : ℕ = length c.loop-n.votes in
-    let value = c.frames_of-frames.ensures.value in
-    let whole : len ≡ length c.args.counted.now * f = c.loop-n.auto.votes ∙ c.requires.whole ∙ ap (λ f. length c.args.counted.now * f) (sym value) in
-    let below : frame_of f len j < f = frame_of-below f len j c.frames_of-frames.ensures.frames (whole_rows f (length c.args.counted.now) len c.frames_of-frames.ensures.some whole) inside in
-    c.loop-n.invariant.votes j v inside (omega (arith, below, ap (λ f. frame_of f len j) value))
+    c.loop-n.invariant.votes j v inside (omega (
+      arith,
+      in_frames c.frames_of-frames.result (channel_at c.args.accepted.now.config.uplink.side c.args.channel).frames (length c.args.counted.now) (length c.loop-n.votes) j
+          c.frames_of-frames.ensures.value c.frames_of-frames.ensures.frames c.frames_of-frames.ensures.some (c.loop-n.auto.votes ∙ c.requires.whole) inside,
+    ))
 
 pub returns-clause-few : goal.returns-clause-few
 returns-clause-few c j v inside =
-    let f : ℕ = c.frames_of-frames.result in
-    let len : ℕ = length c.loop-n.votes in
-    let value = c.frames_of-frames.ensures.value in
-    let whole : len ≡ length c.args.counted.now * f = c.loop-n.auto.votes ∙ c.requires.whole ∙ ap (λ f. length c.args.counted.now * f) (sym value) in
-    let below : frame_of f len j < f = frame_of-below f len j c.frames_of-frames.ensures.frames (whole_rows f (length c.args.counted.now) len c.frames_of-frames.ensures.some whole) inside in
-    c.loop-n.invariant.few j v inside (omega (arith, below, ap (λ f. frame_of f len j) value))
+    c.loop-n.invariant.few j v inside (omega (
+      arith,
+      in_frames c.frames_of-frames.result (channel_at c.args.accepted.now.config.uplink.side c.args.channel).frames (length c.args.counted.now) (length c.loop-n.votes) j
+          c.frames_of-frames.ensures.value c.frames_of-frames.ensures.frames c.frames_of-frames.ensures.some (c.loop-n.auto.votes ∙ c.requires.whole) inside,
+    ))
 
 pub returns-clause-undamaged : goal.returns-clause-undamaged
-returns-clause-undamaged c coded sequence loaded sent shown j v inside =
-    let f : ℕ = c.frames_of-frames.result in
-    let len : ℕ = length c.loop-n.votes in
-    let value = c.frames_of-frames.ensures.value in
-    let whole : len ≡ length c.args.counted.now * f = c.loop-n.auto.votes ∙ c.requires.whole ∙ ap (λ f. length c.args.counted.now * f) (sym value) in
-    let below : frame_of f len j < f = frame_of-below f len j c.frames_of-frames.ensures.frames (whole_rows f (length c.args.counted.now) len c.frames_of-frames.ensures.some whole) inside in
-    c.loop-n.invariant.undamaged coded sequence loaded sent shown j v inside (omega (arith, below, ap (λ f. frame_of f len j) value))
+returns-clause-undamaged c coded sequence loaded sent shown whole j v inside =
+    c.loop-n.invariant.undamaged coded sequence loaded sent shown whole j v inside (omega (
+      arith,
+      in_frames c.frames_of-frames.result (channel_at c.args.accepted.now.config.uplink.side c.args.channel).frames (length c.args.counted.now) (length c.loop-n.votes) j
+          c.frames_of-frames.ensures.value c.frames_of-frames.ensures.frames c.frames_of-frames.ensures.some (c.loop-n.auto.votes ∙ c.requires.whole) inside,
+    ))

@@ -1,0 +1,64 @@
+use Rattle.std.proofs.Common.{◌≡◌, ◌+◌, ◌*◌, ◌<◌, ◌≤◌, ℕ, List, length, take, rules, arith, ap, sym, ◌∙◌, subst}
+use Rattle.std.specs.Prelude.{◌++◌}
+use Rattle.std.proofs.lemmas.List.{get_or_append_left}
+use Rattle.dch_bits.specs.declared.bit.Trit.{Trit}
+use Rattle.dch_bits.specs.declared.bit.Vote.{Vote}
+use Rattle.dch_types.specs.declared.channel.Side.{Side}
+use Rattle.dch_types.specs.Parts.{channel_at}
+use Rattle.dch_config.specs.Good.{IsGood}
+use Rattle.dch_match.specs.declared.pattern.Pattern.{Pattern}
+use Rattle.dch_match.specs.Downlinks.{IsDownlinkPlan}
+use Rattle.dch_match.specs.Patterns.{copies_below}
+use Rattle.dch_frame.specs.Votes.{votes_of}
+use Rattle.dch_frame.proofs.Kept.{copies_inside}
+use Rattle.dch_collision.specs.Clear.{IsClear}
+use Rattle.dch_rxframes.specs.Read.{coded_in, votes_in}
+use Rattle.dch_rxframes.proofs.Reading.{take_whole}
+use Rattle.dch_dlphy.specs.Loaded.{tti_cells}
+use Rattle.dch_dlphy.specs.Read.{AreVotes}
+use Rattle.dch_dlphy.proofs.Demultiplexed.{kept_cells, read_back}
+use Rattle.dch_dlphy.proofs.SentBack.{votes_arrive}
+use Rattle.dch_dlphy.proofs.reader.DlScratchCountVotes.count.Goals as goal
+
+-- as many votes as coded bits
+sized_front : (side : Side) (i f : ℕ) (votes rest : List Vote) → length votes ≡ coded_in side i f → length (votes_in side i f (votes ++ rest)) ≡ coded_in side i f
+sized_front side i f votes rest long = ap length (take_whole (coded_in side i f) votes rest long) ∙ long
+
+pub returns-clause-counted : goal.returns-clause-counted
+returns-clause-counted c =
+    let planned = c.args.accepted.now in
+    let i : ℕ = c.args.channel in
+    let f : ℕ = c.args.format in
+    let side : Side = planned.config.downlink.side in
+    let cells : List Trit = c.demultiplex_tti.new.out in
+    let votes : List Vote = c.count_votes.new.out in
+    let sized : length votes ≡ c.pattern_of-pattern.result.len = search rules in
+    let long : length cells ≡ tti_cells planned i f = search rules in
+    let fits : c.kept.result ≤ length cells = search rules in
+    let inside : c.kept.result ≤ length c.deref.result.now = search rules in
+    let read : take c.kept.result c.deref.result.now ≡ take c.kept.result cells = read_back c.kept.result _ c.deref.result.now cells _ _ c.deref.ensures.value fits inside in
+    subst (AreVotes planned c.args.rx_frames.now i f) (sym (take_whole (coded_in side i f) votes _ (sized ∙ c.pattern_of-pattern.ensures.len))) (record {
+      cells = take c.kept.result cells;
+      kept = kept_cells planned c.args.rx_frames.now i f c.kept.result c.pattern_of-pattern.result cells c.pattern_of-pattern.ensures.value c.kept.ensures.sum long fits c.demultiplex_tti.ensures;
+      are = λ j v inside. c.count_votes.ensures.votes j v inside ∙ ap (λ cells. votes_of c.pattern_of-pattern.result cells j) read ∙ ap (λ (pattern : Pattern). votes_of pattern (take c.kept.result cells) j) c.pattern_of-pattern.ensures.value;
+    })
+
+pub returns-clause-few : goal.returns-clause-few
+returns-clause-few c j v early =
+    let pattern : Pattern = c.pattern_of-pattern.result in
+    let votes : List Vote = c.count_votes.new.out in
+    let sized : length votes ≡ pattern.len = search rules in
+    let inside : j < length votes = omega (arith, early, sized, c.pattern_of-pattern.ensures.len) in
+    let all : copies_below pattern.kind pattern.len ≤ (channel_at c.args.accepted.now.config.downlink.side c.args.channel).frames * c.bits_per_frame-places.result =
+    subst (λ (pattern : Pattern). copies_below pattern.kind pattern.len ≤ (channel_at c.args.accepted.now.config.downlink.side c.args.channel).frames * c.bits_per_frame-places.result) (sym c.pattern_of-pattern.ensures.value) c.bits_per_frame-places.ensures.fits in
+    subst (λ (vote : Vote). vote.zeros + vote.ones ≤ 460800) (sym (get_or_append_left votes _ v j inside))
+    (omega (arith, c.count_votes.ensures.few j v inside, copies_inside pattern j (omega (arith, inside, sized)), all, c.bits_per_frame-places.ensures.room))
+
+pub returns-clause-undamaged : goal.returns-clause-undamaged
+returns-clause-undamaged c blocks was =
+    let planned = c.args.accepted.now in
+    let good : IsGood planned.config = subst IsGood c.config-config.ensures.value c.config-config.ensures.good in
+    let clear : IsClear planned.config = subst IsClear c.config-config.ensures.value c.config-config.ensures.clear in
+    let plan : IsDownlinkPlan planned.config.downlink planned.downlink = subst (IsDownlinkPlan planned.config.downlink) c.downlink_plan-plan.ensures.value c.downlink_plan-plan.ensures.plan in
+    votes_arrive planned c.args.rx_frames.now c.args.channel c.args.format was.sequence _ blocks good.downlink plan clear c.requires.opened c.requires.channel c.requires.format.inside
+    (sized_front planned.config.downlink.side c.args.channel c.args.format c.count_votes.new.out _ (search rules)) (returns-clause-counted c) was.sent

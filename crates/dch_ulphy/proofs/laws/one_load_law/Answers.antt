@@ -1,0 +1,5 @@
+use Rattle.dch_ulphy.proofs.One.{loaded_one}
+use Rattle.dch_ulphy.proofs.laws.one_load_law.Goals as goal
+
+pub returns : goal.returns
+returns c = loaded_one

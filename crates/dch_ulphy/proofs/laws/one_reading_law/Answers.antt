@@ -1,0 +1,5 @@
+use Rattle.dch_ulphy.proofs.One.{read_one}
+use Rattle.dch_ulphy.proofs.laws.one_reading_law.Goals as goal
+
+pub returns : goal.returns
+returns c = read_one
