@@ -7,6 +7,7 @@ use std::test::Fail;
 #[test]
 #[tactic(auto, unfolding(dch_types::specs::Lengths::tti_bits))]
 fn blocks_of_a_tti(rt: HostRuntime) -> Result<(), Fail> {
+    let mut coder = TtiCoder::open(rt.alloc())?;
     let channel = Trch {
         frames: 1,
         coding: Coding::Uncoded,
@@ -16,7 +17,6 @@ fn blocks_of_a_tti(rt: HostRuntime) -> Result<(), Fail> {
         formats: Sequence::new(rt.alloc()),
     };
     let format = Format { number: 2, size: 1 };
-    let mut coder = TtiCoder::open(rt.alloc())?;
     let mut out = [Bit::One; 18];
     coder.code(&channel, &format, &[Bit::One, Bit::Zero], &mut out);
     let mut letters = [0; 18];

@@ -1,12 +1,16 @@
 ghost use Rattle.std.specs.Prelude.{◌≡◌, ◌+◌, ◌<◌, ◌≤◌, ℕ, length, slice_index_or};
 ghost use Rattle.dch_bits.specs.declared.bit.Vote.{Vote};
+ghost use Rattle.dch_types.specs.declared.channel.Coding.TheVariants.{Uncoded};
+ghost use Rattle.dch_types.specs.declared.channel.Crc.TheVariants.{C8};
 
-use dch_accept::TtiBlocks;
-use dch_bits::{Bit, Vote};
+use dch_accept::{Accepted, TtiBlocks};
+use dch_bits::{Bit, NoMemory, Vote};
 use dch_coding::code;
 use dch_crc::attach;
 use dch_decode::*;
+use dch_samples::tiny;
 use dch_types::{Coding, Crc, Dir, Format, Sequence, Trch};
+use std::alloc::Global;
 use std::test::Fail;
 
 /// Three copies of each bit, of which one is damaged.
@@ -81,26 +85,46 @@ fn blocks_and_their_parity(rt: HostRuntime) {
     assert!(rt; second.bits == blocks[1].as_slice() && second.good);
 }
 
-#[test]
-fn blocks_of_a_tti(rt: HostRuntime) -> Result<(), Fail> {
-    let accepted = dch_samples::tiny(rt.alloc())?;
-    let mut blocks = TtiBlocks::open(rt.alloc(), &accepted, Dir::Up)?;
+/// Whether two blocks without bits are read of a channel without code, with eight bits of parity: the first is good, and the
+/// second, of whose parity a bit is 1, is not.
+#[tactic(auto, unfolding(dch_types::specs::Lengths::tti_bits))]
+fn reads_two(channel: &Trch, decoder: &mut Decoder, blocks: &mut TtiBlocks) -> bool
+    requires code { channel.now.coding ≡ Uncoded }
+    requires parity { channel.now.crc ≡ C8 }
+{
+    let mut bits = [Bit::Zero; 16];
+    bits[9] = Bit::One;
+    let mut votes = [Vote { zeros: 0, ones: 0 }; 16];
+    damaged_copies(&bits, &mut votes);
+    let format = Format { number: 2, size: 0 };
+    decoder.read(channel, 3, &format, &votes, blocks);
+    (blocks.format(), blocks.count()) == (3, 2) && blocks.good(0) && !blocks.good(1)
+}
+
+/// Whether they are read by a decoder into the blocks of a configuration.
+fn are_read(alloc: Global, accepted: &Accepted) -> Result<bool, NoMemory> {
+    let mut blocks = TtiBlocks::open(alloc, accepted, Dir::Up)?;
+    let mut decoder = Decoder::open(alloc)?;
     let channel = Trch {
         frames: 1,
         coding: Coding::Uncoded,
         crc: Crc::C8,
         rm: 256,
         set: 0,
-        formats: Sequence::new(rt.alloc()),
+        formats: Sequence::new(alloc),
     };
-    let format = Format { number: 2, size: 0 };
-    let mut bits = [Bit::Zero; 16];
-    bits[9] = Bit::One;
-    let mut votes = [Vote { zeros: 0, ones: 0 }; 16];
-    damaged_copies(&bits, &mut votes);
-    let mut decoder = Decoder::open(rt.alloc())?;
-    decoder.read(&channel, 3, &format, &votes, &mut blocks);
-    assert_eq!(rt; (blocks.format(), blocks.count()), (3, 2));
-    assert!(rt; blocks.good(0) && !blocks.good(1));
-    Ok(())
+    Ok(reads_two(&channel, &mut decoder, &mut blocks))
+}
+
+/// And into those of a configuration.
+fn are_read_of_tiny(alloc: Global) -> bool {
+    match tiny(alloc) {
+        Ok(accepted) => matches!(are_read(alloc, &accepted), Ok(true)),
+        Err(_) => false,
+    }
+}
+
+#[test]
+fn blocks_of_a_tti(rt: HostRuntime) {
+    assert!(rt; are_read_of_tiny(rt.alloc()));
 }

@@ -82,25 +82,40 @@ fn streams_after_rate_matching(rt: HostRuntime) {
     assert!(rt; repeated == [0, 0, 1, 1, 2]);
 }
 
+/// The bits 10110, of which the fourth is not received.
+fn four_cells() -> [Trit; 5] {
+    let mut cells = [Trit::One; 5];
+    cells[1] = Trit::Zero;
+    cells[3] = Trit::Off;
+    cells[4] = Trit::Zero;
+    cells
+}
+
+fn is_vote(vote: Vote, zeros: u32, ones: u32) -> bool {
+    vote.zeros == zeros && vote.ones == ones
+}
+
+#[test]
+fn cells_of_bits(rt: HostRuntime) {
+    let bits = [Bit::One, Bit::Zero, Bit::One, Bit::One, Bit::Zero];
+    let mut cells = [Trit::Off; 5];
+    show(&bits, &mut cells);
+    cells[3] = Trit::Off;
+    assert!(rt; cells == four_cells());
+}
+
 #[test]
 fn votes_of_received_cells(rt: HostRuntime) {
-    let mut cells = [Trit::Off; 5];
-    show(
-        &[Bit::One, Bit::Zero, Bit::One, Bit::One, Bit::Zero],
-        &mut cells,
-    );
-    assert!(rt; cells == [Trit::One, Trit::Zero, Trit::One, Trit::One, Trit::Zero]);
-    cells[3] = Trit::Off;
     let mut votes = [Vote { zeros: 9, ones: 9 }; 3];
-    count_votes(&two_repeated(), &cells, &mut votes);
-    let wanted = [(1, 1), (0, 1), (1, 0)];
-    for m in 0..3 {
-        assert_eq!(rt; (votes[m].zeros, votes[m].ones), wanted[m], "bit {m}");
-    }
+    count_votes(&two_repeated(), &four_cells(), &mut votes);
+    assert!(rt; is_vote(votes[0], 1, 1) && is_vote(votes[1], 0, 1) && is_vote(votes[2], 1, 0));
+}
+
+#[test]
+fn votes_of_the_second_radio_frame(rt: HostRuntime) {
+    let mut votes = [Vote { zeros: 9, ones: 9 }; 3];
     let mut tti = [Vote { zeros: 7, ones: 7 }; 6];
-    rate_dematch(2, 1, &two_repeated(), &cells, &mut votes, &mut tti);
-    for m in 0..3 {
-        assert_eq!(rt; (tti[2 * m].zeros, tti[2 * m].ones), (7, 7));
-        assert_eq!(rt; (tti[2 * m + 1].zeros, tti[2 * m + 1].ones), wanted[m]);
-    }
+    rate_dematch(2, 1, &two_repeated(), &four_cells(), &mut votes, &mut tti);
+    assert!(rt; is_vote(tti[1], 1, 1) && is_vote(tti[3], 0, 1) && is_vote(tti[5], 1, 0));
+    assert!(rt; is_vote(tti[0], 7, 7) && is_vote(tti[2], 7, 7) && is_vote(tti[4], 7, 7));
 }

@@ -8,8 +8,6 @@ mod coding;
 #[cfg(test)]
 mod collision;
 #[cfg(test)]
-mod conv;
-#[cfg(test)]
 mod crc;
 #[cfg(test)]
 mod decode;

@@ -2,12 +2,12 @@ ghost use Rattle.std.specs.Prelude.{IfOk, IfSome};
 ghost use Rattle.dch_types.specs.Limits.{IsUplink, IsDownlink};
 ghost use Rattle.dch_match.specs.Patterns.{IsWellFormed};
 
+use dch_accept::Accepted;
 use dch_bits::NoMemory;
 use dch_match::{Kind, Pattern, UplinkPlan, Walk, downlink, frame, keeps, kept, origin, uplink};
-use dch_samples::{flexible_speech, packets, reference, speech, tiny_codes};
+use dch_samples::{SampleError, flexible_speech, packets, reference, speech, tiny_codes};
 use dch_types::{Downlink, Uplink};
 use std::alloc::Global;
-use std::test::Fail;
 
 /// The start of the error counter.
 fn e_ini(kind: &Kind) -> u64 {
@@ -64,30 +64,37 @@ fn are_starts(config: &Uplink, combination: u16, channel: u8, starts: &[u64]) ->
     starts.len() == frames as usize
 }
 
+/// The amounts of at most five channels. An array of eight numbers, written out, would be dear to prove.
+fn amounts(a: u32, b: u32, c: u32, d: u32, e: u32) -> [u32; 8] {
+    let mut amounts = [0; 8];
+    amounts[0] = a;
+    amounts[1] = b;
+    amounts[2] = c;
+    amounts[3] = d;
+    amounts[4] = e;
+    amounts
+}
+
 fn reference_uplink(config: &Uplink) -> bool
     requires { IsUplink config.now }
 {
-    let (before, sent) = ([402, 90, 0, 0, 0, 0, 0, 0], [490, 110, 0, 0, 0, 0, 0, 0]);
+    let (before, sent) = (amounts(402, 90, 0, 0, 0), amounts(490, 110, 0, 0, 0));
     are_amounts(config, 2, 600, before, sent) && are_starts(config, 2, 0, &[1, 353])
 }
 
 fn speech_uplink(config: &Uplink) -> bool
     requires { IsUplink config.now }
 {
-    let (before, sent) = (
-        [152, 167, 68, 129, 0, 0, 0, 0],
-        [180, 187, 95, 138, 0, 0, 0, 0],
-    );
+    let before = amounts(152, 167, 68, 129, 0);
+    let sent = amounts(180, 187, 95, 138, 0);
     are_amounts(config, 5, 600, before, sent) && are_starts(config, 3, 3, &[1, 127, 211, 43])
 }
 
 fn packets_uplink(config: &Uplink) -> bool
     requires { IsUplink config.now }
 {
-    let (before, sent) = (
-        [152, 167, 68, 129, 8604, 0, 0, 0],
-        [238, 250, 126, 192, 8794, 0, 0, 0],
-    );
+    let before = amounts(152, 167, 68, 129, 8604);
+    let sent = amounts(238, 250, 126, 192, 8794);
     are_amounts(config, 35, 9600, before, sent)
 }
 
@@ -219,75 +226,122 @@ fn lowered_packets(alloc: Global, config: &Downlink) -> Result<bool, NoMemory>
 }
 
 /// Whether each of the 150 bits of the one channel has so many copies.
-fn are_repeated(alloc: Global, config: &Downlink, copies: u32) -> bool
+fn are_repeated(alloc: Global, config: &Downlink, copies: u32) -> Result<bool, NoMemory>
     requires { IsDownlink config.now }
 {
-    match first_pattern(alloc, config) {
-        Ok(Some(pattern)) => {
-            pattern.len == 150 && are_copies(&pattern, copies) && is_walked(&pattern)
-        }
-        _ => false,
+    let Some(pattern) = first_pattern(alloc, config)? else {
+        return Ok(false);
+    };
+    Ok(pattern.len == 150 && are_copies(&pattern, copies) && is_walked(&pattern))
+}
+
+/// A configuration.
+#[derive(Clone, Copy)]
+enum Sample {
+    Reference,
+    Speech,
+    FlexibleSpeech,
+    Packets,
+    FlexiblePackets,
+    ThreeCodes,
+    OneCode,
+}
+
+/// In the uplink of three codes nothing is to be sent. The uplink at flexible positions is that at fixed ones.
+fn uplink_is_right(sample: Sample, config: &Uplink) -> bool
+    requires { IsUplink config.now }
+{
+    match sample {
+        Sample::Reference => reference_uplink(config),
+        Sample::Speech => speech_uplink(config),
+        Sample::Packets => packets_uplink(config),
+        Sample::ThreeCodes => are_amounts(config, 0, 0, [0; 8], [0; 8]),
+        _ => true,
     }
 }
 
-// A configuration is held in each test by itself, and no error is answered while it is held: both would make its proof dear.
+fn downlink_is_right(alloc: Global, sample: Sample, config: &Downlink) -> Result<bool, NoMemory>
+    requires { IsDownlink config.now }
+{
+    match sample {
+        Sample::Reference => reference_downlink(alloc, config),
+        Sample::Speech => speech_downlink(alloc, config),
+        Sample::FlexibleSpeech => lowered_speech(alloc, config),
+        Sample::Packets => packets_downlink(alloc, config),
+        Sample::FlexiblePackets => lowered_packets(alloc, config),
+        Sample::ThreeCodes => are_repeated(alloc, config, 3),
+        Sample::OneCode => are_repeated(alloc, config, 1),
+    }
+}
 
-#[test]
-fn reference_channel(rt: HostRuntime) -> Result<(), Fail> {
-    let accepted = reference(rt.alloc())?;
-    let config = accepted.config();
-    assert!(rt; reference_uplink(&config.uplink));
-    assert!(rt; matches!(reference_downlink(rt.alloc(), &config.downlink), Ok(true)));
-    Ok(())
+/// Whether a configuration is accepted, and its amounts and patterns are those of its tables. It is held here alone, and no
+/// error is answered while it is held: both would make a test dear to prove.
+fn is_right(alloc: Global, sample: Sample, opened: Result<Accepted, SampleError>) -> bool {
+    match opened {
+        Ok(accepted) => {
+            let config = accepted.config();
+            uplink_is_right(sample, &config.uplink)
+                && matches!(downlink_is_right(alloc, sample, &config.downlink), Ok(true))
+        }
+        Err(_) => false,
+    }
 }
 
 #[test]
-fn speech_in_three_classes(rt: HostRuntime) -> Result<(), Fail> {
-    let accepted = speech(rt.alloc())?;
-    let config = accepted.config();
-    assert!(rt; speech_uplink(&config.uplink));
-    assert!(rt; matches!(speech_downlink(rt.alloc(), &config.downlink), Ok(true)));
-    Ok(())
+fn reference_channel(rt: HostRuntime) {
+    assert!(rt; is_right(rt.alloc(), Sample::Reference, reference(rt.alloc())));
 }
 
 #[test]
-fn speech_at_flexible_positions(rt: HostRuntime) -> Result<(), Fail> {
-    let accepted = flexible_speech(rt.alloc())?;
-    let config = accepted.config();
-    assert!(rt; matches!(lowered_speech(rt.alloc(), &config.downlink), Ok(true)));
-    Ok(())
+fn speech_in_three_classes(rt: HostRuntime) {
+    assert!(rt; is_right(rt.alloc(), Sample::Speech, speech(rt.alloc())));
 }
 
 #[test]
-fn speech_and_packets(rt: HostRuntime) -> Result<(), Fail> {
-    let accepted = packets(rt.alloc(), true)?;
-    let config = accepted.config();
-    assert!(rt; packets_uplink(&config.uplink));
-    assert!(rt; matches!(packets_downlink(rt.alloc(), &config.downlink), Ok(true)));
-    Ok(())
+fn speech_at_flexible_positions(rt: HostRuntime) {
+    assert!(rt;
+        is_right(
+            rt.alloc(),
+            Sample::FlexibleSpeech,
+            flexible_speech(rt.alloc())
+        )
+    );
 }
 
 #[test]
-fn packets_at_flexible_positions(rt: HostRuntime) -> Result<(), Fail> {
-    let accepted = packets(rt.alloc(), false)?;
-    let config = accepted.config();
-    assert!(rt; matches!(lowered_packets(rt.alloc(), &config.downlink), Ok(true)));
-    Ok(())
+fn speech_and_packets(rt: HostRuntime) {
+    assert!(rt; is_right(rt.alloc(), Sample::Packets, packets(rt.alloc(), true)));
 }
 
 #[test]
-fn nothing_to_send_and_three_copies(rt: HostRuntime) -> Result<(), Fail> {
-    let accepted = tiny_codes(rt.alloc(), 3, true)?;
-    let config = accepted.config();
-    assert!(rt; are_amounts(&config.uplink, 0, 0, [0; 8], [0; 8]));
-    assert!(rt; are_repeated(rt.alloc(), &config.downlink, 3));
-    Ok(())
+fn packets_at_flexible_positions(rt: HostRuntime) {
+    assert!(rt;
+        is_right(
+            rt.alloc(),
+            Sample::FlexiblePackets,
+            packets(rt.alloc(), false)
+        )
+    );
 }
 
 #[test]
-fn one_copy_at_flexible_positions(rt: HostRuntime) -> Result<(), Fail> {
-    let accepted = tiny_codes(rt.alloc(), 1, false)?;
-    let config = accepted.config();
-    assert!(rt; are_repeated(rt.alloc(), &config.downlink, 1));
-    Ok(())
+fn nothing_to_send_and_three_copies(rt: HostRuntime) {
+    assert!(rt;
+        is_right(
+            rt.alloc(),
+            Sample::ThreeCodes,
+            tiny_codes(rt.alloc(), 3, true)
+        )
+    );
+}
+
+#[test]
+fn one_copy_at_flexible_positions(rt: HostRuntime) {
+    assert!(rt;
+        is_right(
+            rt.alloc(),
+            Sample::OneCode,
+            tiny_codes(rt.alloc(), 1, false)
+        )
+    );
 }

@@ -10,7 +10,6 @@ use dch_samples::{alone, pair};
 use dch_script::Report;
 use dch_types::Dir;
 use std::alloc::{AllocError, Global};
-use std::test::Fail;
 
 /// What happens at a Node B: an Iub frame, the downlink's radio frame, one of the uplink as text, or none.
 #[derive(Clone, Copy)]
@@ -170,15 +169,6 @@ fn row(alloc: Global, letter: char, count: usize) -> Result<String, AllocError> 
     Ok(text)
 }
 
-// A configuration is held in each test by itself, and no error is answered while it is held: both would make its proof dear.
-
-#[test]
-fn one_frame_each_way(rt: HostRuntime) -> Result<(), Fail> {
-    let accepted = alone(rt.alloc())?;
-    assert!(rt; matches!(goes_each_way(rt.alloc(), &accepted), Ok(true)));
-    Ok(())
-}
-
 /// Whether no block goes down, and one of 150 bits up, of which only the sixth is 1.
 fn goes_each_way(alloc: Global, accepted: &Accepted) -> Result<bool, NoMemory> {
     let cells = sixth_of_150();
@@ -201,14 +191,7 @@ fn each_way(alloc: Global) -> Result<String, AllocError> {
     format!(in alloc; "phydown {tfci} {dashes}\niubup 0 8a0001000008{octets}\n")
 }
 
-// Two frames of which no combination has both, frames that are refused or come too early, and frames that are missing.
-#[test]
-fn two_sets_and_what_is_not_sent(rt: HostRuntime) -> Result<(), Fail> {
-    let accepted = pair(rt.alloc())?;
-    assert!(rt; matches!(goes_in_two_sets(rt.alloc(), &accepted), Ok(true)));
-    Ok(())
-}
-
+/// Two frames of which no combination has both, frames that are refused or come too early, and frames that are missing.
 fn goes_in_two_sets(alloc: Global, accepted: &Accepted) -> Result<bool, NoMemory> {
     let script = b"bdvvefc-v000";
     match of_two_sets(alloc) {
@@ -224,4 +207,28 @@ fn of_two_sets(alloc: Global) -> Result<String, AllocError> {
     let refused = "iubbad down 5 3\niubbad down 5 1\nbadtti up 0 0\n";
     let later = "iubup 1 60fa0009\niubup 1 b6fb0009\niubup 5 60fa0009\n";
     format!(in alloc; "phydown none\n{idle}{refused}{idle}iubup 1 90f90009\nbadtti up 1 0\n{later}")
+}
+
+fn goes_each_way_alone(alloc: Global) -> bool {
+    match alone(alloc) {
+        Ok(accepted) => matches!(goes_each_way(alloc, &accepted), Ok(true)),
+        Err(_) => false,
+    }
+}
+
+fn goes_in_a_pair(alloc: Global) -> bool {
+    match pair(alloc) {
+        Ok(accepted) => matches!(goes_in_two_sets(alloc, &accepted), Ok(true)),
+        Err(_) => false,
+    }
+}
+
+#[test]
+fn one_frame_each_way(rt: HostRuntime) {
+    assert!(rt; goes_each_way_alone(rt.alloc()));
+}
+
+#[test]
+fn two_sets_and_what_is_not_sent(rt: HostRuntime) {
+    assert!(rt; goes_in_a_pair(rt.alloc()));
 }

@@ -1,8 +1,7 @@
 use dch_accept::Accepted;
-use dch_samples::{greatest_choice, two_priorities};
+use dch_samples::{SampleError, greatest_choice, two_priorities};
 use dch_select::{Head, choose};
 use dch_types::Dir;
-use std::test::Fail;
 
 /// The combination for these offers, where there are as many of them as there should be.
 fn chosen(
@@ -31,13 +30,6 @@ fn head((size, count): (u16, u16)) -> Head {
 /// The second channel sends nothing, eight blocks or, beside one of the first channel, four.
 const COMBINATIONS: &str = "[[0,0],[1,0],[0,1],[1,2]]";
 
-#[test]
-fn bits_of_the_first_priority_count_first(rt: HostRuntime) -> Result<(), Fail> {
-    let accepted = two_priorities(rt.alloc(), 10, COMBINATIONS)?;
-    assert!(rt; first_priorities_count(&accepted));
-    Ok(())
-}
-
 fn first_priorities_count(accepted: &Accepted) -> bool {
     let none = [false; 4];
     for (offers, blocked, want) in [
@@ -56,18 +48,8 @@ fn first_priorities_count(accepted: &Accepted) -> bool {
     true
 }
 
-#[test]
-fn nothing_is_sent_of_nothing(rt: HostRuntime) -> Result<(), Fail> {
-    let accepted = two_priorities(rt.alloc(), 10, "[[0,0],[1,0]]")?;
-    assert!(rt; chosen(&accepted, (0, 1), ((0, 0), (0, 0)), &[false; 2]) == Some(0));
-    Ok(())
-}
-
-#[test]
-fn a_channel_whose_tti_goes_on(rt: HostRuntime) -> Result<(), Fail> {
-    let accepted = two_priorities(rt.alloc(), 20, COMBINATIONS)?;
-    assert!(rt; channels_go_on(&accepted));
-    Ok(())
+fn nothing_is_chosen(accepted: &Accepted) -> bool {
+    chosen(accepted, (0, 1), ((0, 0), (0, 0)), &[false; 2]) == Some(0)
 }
 
 fn channels_go_on(accepted: &Accepted) -> bool {
@@ -80,14 +62,73 @@ fn channels_go_on(accepted: &Accepted) -> bool {
     true
 }
 
-#[test]
-fn a_choice_of_128_for_sixteen_bearers(rt: HostRuntime) -> Result<(), Fail> {
-    let accepted = greatest_choice(rt.alloc())?;
+/// Whether the last of 128 combinations is chosen for sixteen bearers.
+fn is_last_of_128(accepted: &Accepted) -> bool {
     let config = accepted.config();
-    assert_eq!(rt; config.bearers.len(), 16);
-    assert_eq!(rt; config.uplink.side.combinations.len(), 128);
     let offers = [Head { size: 28, count: 2 }; 16];
-    let chosen = choose(&accepted, Dir::Up, 0, 0, &offers, &[false; 128]);
-    assert_eq!(rt; chosen, 127);
-    Ok(())
+    config.bearers.len() == 16
+        && config.uplink.side.combinations.len() == 128
+        && choose(accepted, Dir::Up, 0, 0, &offers, &[false; 128]) == 127
+}
+
+/// What is asked of a configuration.
+#[derive(Clone, Copy)]
+enum Question {
+    FirstPriority,
+    Nothing,
+    RunningTti,
+    Greatest,
+}
+
+fn is_chosen(question: Question, accepted: &Accepted) -> bool {
+    match question {
+        Question::FirstPriority => first_priorities_count(accepted),
+        Question::Nothing => nothing_is_chosen(accepted),
+        Question::RunningTti => channels_go_on(accepted),
+        Question::Greatest => is_last_of_128(accepted),
+    }
+}
+
+/// Whether a configuration is accepted, and its combinations are chosen as they should be. It is held here alone, and no error is
+/// answered while it is held: both would make a test dear to prove.
+fn is_right(question: Question, opened: Result<Accepted, SampleError>) -> bool {
+    match opened {
+        Ok(accepted) => is_chosen(question, &accepted),
+        Err(_) => false,
+    }
+}
+
+#[test]
+fn bits_of_the_first_priority_count_first(rt: HostRuntime) {
+    assert!(rt;
+        is_right(
+            Question::FirstPriority,
+            two_priorities(rt.alloc(), 10, COMBINATIONS)
+        )
+    );
+}
+
+#[test]
+fn nothing_is_sent_of_nothing(rt: HostRuntime) {
+    assert!(rt;
+        is_right(
+            Question::Nothing,
+            two_priorities(rt.alloc(), 10, "[[0,0],[1,0]]")
+        )
+    );
+}
+
+#[test]
+fn a_channel_whose_tti_goes_on(rt: HostRuntime) {
+    assert!(rt;
+        is_right(
+            Question::RunningTti,
+            two_priorities(rt.alloc(), 20, COMBINATIONS)
+        )
+    );
+}
+
+#[test]
+fn a_choice_of_128_for_sixteen_bearers(rt: HostRuntime) {
+    assert!(rt; is_right(Question::Greatest, greatest_choice(rt.alloc())));
 }

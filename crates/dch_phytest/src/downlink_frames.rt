@@ -6,10 +6,9 @@ use dch_accept::{Accepted, PhyFrame};
 use dch_bits::{Bit, NoMemory, Trit, read_bits_text, read_trits_text};
 use dch_dlphy::{DlTti, write};
 use dch_match::{keeps, kept};
-use dch_samples::{speech, tiny, tiny_codes, with_downlink};
+use dch_samples::{SampleError, speech, tiny, tiny_codes, with_downlink};
 use dch_types::Dir;
 use std::alloc::Global;
-use std::test::Fail;
 
 /// Loads a channel, if the bits are those of its format.
 fn load(tti: &mut DlTti, accepted: &Accepted, channel: usize, format: u8, bits: &[u8]) -> bool
@@ -126,21 +125,6 @@ fn sends_one(alloc: Global, accepted: &Accepted) -> Result<bool, NoMemory> {
     Ok(shows(sent.view().cells, &wanted) && repeats(sent.view().tfci, 30, tfci))
 }
 
-// A configuration is held in each test by itself, and no error is answered while it is held: both would make its proof dear.
-
-#[test]
-fn nothing_and_one_bit(rt: HostRuntime) -> Result<(), Fail> {
-    let tiny = tiny(rt.alloc())?;
-    assert!(rt;
-        matches!(
-            sends_nothing(rt.alloc(), &tiny, &no_blocks()[..1], 150),
-            Ok(true)
-        )
-    );
-    assert!(rt; matches!(sends_one(rt.alloc(), &tiny), Ok(true)));
-    Ok(())
-}
-
 /// The bits that rate matching leaves of a channel's format, the copies of its first and last bit, and its bits in a radio frame.
 fn amounts(accepted: &Accepted, channel: usize, format: u8) -> Option<(u32, u32, u32, u32)> {
     let side = &accepted.config().downlink.side;
@@ -154,20 +138,6 @@ fn amounts(accepted: &Accepted, channel: usize, format: u8) -> Option<(u32, u32,
     Some((kept(&pattern), keeps(&pattern, 0), last, bits))
 }
 
-#[test]
-fn three_copies_of_each_bit(rt: HostRuntime) -> Result<(), Fail> {
-    let accepted = tiny_codes(rt.alloc(), 3, true)?;
-    assert!(rt; amounts(&accepted, 0, 1) == Some((450, 3, 3, 450)));
-    Ok(())
-}
-
-#[test]
-fn one_copy_of_each_bit(rt: HostRuntime) -> Result<(), Fail> {
-    let accepted = tiny_codes(rt.alloc(), 1, false)?;
-    assert!(rt; amounts(&accepted, 0, 1) == Some((150, 1, 1, 150)));
-    Ok(())
-}
-
 /// Whether a format has so many bits in a radio frame.
 fn has_bits(accepted: &Accepted, channel: usize, format: u8, bits: u32) -> bool {
     match amounts(accepted, channel, format) {
@@ -176,18 +146,11 @@ fn has_bits(accepted: &Accepted, channel: usize, format: u8, bits: u32) -> bool 
     }
 }
 
-#[test]
-fn speech_in_three_classes(rt: HostRuntime) -> Result<(), Fail> {
-    let speech = speech(rt.alloc())?;
-    assert!(rt; has_bits(&speech, 0, 2, 152) && has_bits(&speech, 1, 1, 160));
-    assert!(rt; has_bits(&speech, 2, 1, 80) && has_bits(&speech, 3, 1, 118));
-    assert!(rt;
-        matches!(
-            sends_nothing(rt.alloc(), &speech, &no_blocks(), 510),
-            Ok(true)
-        )
-    );
-    Ok(())
+fn are_classes_of_speech(accepted: &Accepted) -> bool {
+    has_bits(accepted, 0, 2, 152)
+        && has_bits(accepted, 1, 1, 160)
+        && has_bits(accepted, 2, 1, 80)
+        && has_bits(accepted, 3, 1, 118)
 }
 
 /// Each bit of the short format is sent three times; 21 of the 30 cells of the TTI stay free.
@@ -212,13 +175,10 @@ fn frame_shows(
     }
 }
 
-#[test]
-fn a_short_format_at_fixed_positions(rt: HostRuntime) -> Result<(), Fail> {
-    let accepted = with_downlink(rt.alloc(), a_short_format())?;
+fn is_a_short_format(alloc: Global, accepted: &Accepted) -> bool {
     let loads: [(u8, &[u8]); 1] = [(1, b"101")];
-    assert!(rt; frame_shows(rt.alloc(), &accepted, &loads, 6, 1, b"1--1--1--1---0-"));
-    assert!(rt; frame_shows(rt.alloc(), &accepted, &loads, 7, 1, b"1--1--0------0-"));
-    Ok(())
+    frame_shows(alloc, accepted, &loads, 6, 1, b"1--1--1--1---0-")
+        && frame_shows(alloc, accepted, &loads, 7, 1, b"1--1--0------0-")
 }
 
 /// Each bit is sent twice, and the second channel begins where the first one ends.
@@ -247,30 +207,110 @@ fn sends_index_two(alloc: Global, accepted: &Accepted) -> bool {
     }
 }
 
-#[test]
-fn two_channels_on_two_codes(rt: HostRuntime) -> Result<(), Fail> {
-    let accepted = with_downlink(rt.alloc(), two_channels())?;
-    let (second, both) = (second_channel(), both_channels());
-    assert!(rt;
-        frame_shows(
-            rt.alloc(),
-            &accepted,
-            &second,
-            0,
-            2,
-            b"1011011011010110--0--0--0---0-"
-        )
-    );
-    assert!(rt; sends_index_two(rt.alloc(), &accepted));
-    assert!(rt;
-        frame_shows(
-            rt.alloc(),
-            &accepted,
-            &both,
+fn are_two_channels(alloc: Global, accepted: &Accepted) -> bool {
+    frame_shows(
+        alloc,
+        accepted,
+        &second_channel(),
+        0,
+        2,
+        b"1011011011010110--0--0--0---0-",
+    ) && sends_index_two(alloc, accepted)
+        && frame_shows(
+            alloc,
+            accepted,
+            &both_channels(),
             0,
             3,
-            b"010010010010100100100100100010"
+            b"010010010010100100100100100010",
+        )
+}
+
+/// A configuration of the downlink.
+#[derive(Clone, Copy)]
+enum Sample {
+    Tiny,
+    ThreeCodes,
+    OneCode,
+    Speech,
+    ShortFormat,
+    TwoChannels,
+}
+
+fn shows_its_frames(alloc: Global, sample: Sample, accepted: &Accepted) -> Result<bool, NoMemory> {
+    match sample {
+        Sample::Tiny => Ok(
+            sends_nothing(alloc, accepted, &no_blocks()[..1], 150)? && sends_one(alloc, accepted)?,
+        ),
+        Sample::ThreeCodes => Ok(amounts(accepted, 0, 1) == Some((450, 3, 3, 450))),
+        Sample::OneCode => Ok(amounts(accepted, 0, 1) == Some((150, 1, 1, 150))),
+        Sample::Speech => Ok(
+            are_classes_of_speech(accepted) && sends_nothing(alloc, accepted, &no_blocks(), 510)?,
+        ),
+        Sample::ShortFormat => Ok(is_a_short_format(alloc, accepted)),
+        Sample::TwoChannels => Ok(are_two_channels(alloc, accepted)),
+    }
+}
+
+/// Whether a configuration is accepted, and its amounts and frames are these. It is held here alone, and no error is answered
+/// while it is held: both would make a test dear to prove.
+fn is_right(alloc: Global, sample: Sample, opened: Result<Accepted, SampleError>) -> bool {
+    match opened {
+        Ok(accepted) => matches!(shows_its_frames(alloc, sample, &accepted), Ok(true)),
+        Err(_) => false,
+    }
+}
+
+#[test]
+fn nothing_and_one_bit(rt: HostRuntime) {
+    assert!(rt; is_right(rt.alloc(), Sample::Tiny, tiny(rt.alloc())));
+}
+
+#[test]
+fn three_copies_of_each_bit(rt: HostRuntime) {
+    assert!(rt;
+        is_right(
+            rt.alloc(),
+            Sample::ThreeCodes,
+            tiny_codes(rt.alloc(), 3, true)
         )
     );
-    Ok(())
+}
+
+#[test]
+fn one_copy_of_each_bit(rt: HostRuntime) {
+    assert!(rt;
+        is_right(
+            rt.alloc(),
+            Sample::OneCode,
+            tiny_codes(rt.alloc(), 1, false)
+        )
+    );
+}
+
+#[test]
+fn speech_in_three_classes(rt: HostRuntime) {
+    assert!(rt; is_right(rt.alloc(), Sample::Speech, speech(rt.alloc())));
+}
+
+#[test]
+fn a_short_format_at_fixed_positions(rt: HostRuntime) {
+    assert!(rt;
+        is_right(
+            rt.alloc(),
+            Sample::ShortFormat,
+            with_downlink(rt.alloc(), a_short_format())
+        )
+    );
+}
+
+#[test]
+fn two_channels_on_two_codes(rt: HostRuntime) {
+    assert!(rt;
+        is_right(
+            rt.alloc(),
+            Sample::TwoChannels,
+            with_downlink(rt.alloc(), two_channels())
+        )
+    );
 }

@@ -1,9 +1,8 @@
 use crate::{DownlinkEnds, RadioChannel, RoundTrip, UplinkEnds};
 use dch_accept::Accepted;
 use dch_bits::NoMemory;
-use dch_samples::{flexible_positions, packets, six_codes, speech, three_codes, tiny};
+use dch_samples::{SampleError, flexible_positions, packets, six_codes, speech, three_codes, tiny};
 use std::alloc::Global;
-use std::test::Fail;
 
 /// Whether frames in these combinations have so many cells, and bring back all blocks with one cell in so many inverted.
 fn goes_up(
@@ -109,44 +108,6 @@ fn codes_down() -> [(u16, usize); 8] {
     ]
 }
 
-// A configuration is held in each test by itself, and no error is answered while it is held: both would make its proof dear.
-
-#[test]
-fn damaged_speech(rt: HostRuntime) -> Result<(), Fail> {
-    let accepted = speech(rt.alloc())?;
-    assert!(rt; matches!(goes_up(rt.alloc(), &accepted, &speech_up(), 37), Ok(true)));
-    assert!(rt; matches!(goes_down(rt.alloc(), &accepted, &speech_down()), Ok(true)));
-    Ok(())
-}
-
-#[test]
-fn damaged_packets(rt: HostRuntime) -> Result<(), Fail> {
-    let accepted = packets(rt.alloc(), true)?;
-    assert!(rt; matches!(goes_up(rt.alloc(), &accepted, &packets_up(), 37), Ok(true)));
-    Ok(())
-}
-
-#[test]
-fn two_to_six_damaged_codes(rt: HostRuntime) -> Result<(), Fail> {
-    let accepted = six_codes(rt.alloc())?;
-    assert!(rt; matches!(goes_up(rt.alloc(), &accepted, &codes_up(), 37), Ok(true)));
-    Ok(())
-}
-
-#[test]
-fn damaged_cells_at_flexible_positions(rt: HostRuntime) -> Result<(), Fail> {
-    let accepted = flexible_positions(rt.alloc())?;
-    assert!(rt; matches!(goes_down(rt.alloc(), &accepted, &flexible_down()), Ok(true)));
-    Ok(())
-}
-
-#[test]
-fn three_damaged_codes(rt: HostRuntime) -> Result<(), Fail> {
-    let accepted = three_codes(rt.alloc())?;
-    assert!(rt; matches!(goes_down(rt.alloc(), &accepted, &codes_down()), Ok(true)));
-    Ok(())
-}
-
 /// What reading the TTI of a frame of `tiny` gives, by the combination and by what becomes of it on its way.
 fn outcome_up(
     alloc: Global,
@@ -202,17 +163,81 @@ fn are_outcomes_down(alloc: Global, accepted: &Accepted) -> bool {
     true
 }
 
-#[test]
-fn missing_frames_in_the_uplink(rt: HostRuntime) -> Result<(), Fail> {
-    let accepted = tiny(rt.alloc())?;
-    assert!(rt; matches!(goes_up(rt.alloc(), &accepted, &[(1, 150)], 0), Ok(true)));
-    assert!(rt; are_outcomes_up(rt.alloc(), &accepted));
-    Ok(())
+/// What is sent, damaged and read back.
+#[derive(Clone, Copy)]
+enum Trip {
+    Speech,
+    Packets,
+    SixCodes,
+    FlexiblePositions,
+    ThreeCodes,
+    MissingUp,
+    MissingDown,
+}
+
+fn comes_back(alloc: Global, trip: Trip, accepted: &Accepted) -> Result<bool, NoMemory> {
+    match trip {
+        Trip::Speech => Ok(
+            goes_up(alloc, accepted, &speech_up(), 37)?
+                && goes_down(alloc, accepted, &speech_down())?,
+        ),
+        Trip::Packets => goes_up(alloc, accepted, &packets_up(), 37),
+        Trip::SixCodes => goes_up(alloc, accepted, &codes_up(), 37),
+        Trip::FlexiblePositions => goes_down(alloc, accepted, &flexible_down()),
+        Trip::ThreeCodes => goes_down(alloc, accepted, &codes_down()),
+        Trip::MissingUp => Ok(
+            goes_up(alloc, accepted, &[(1, 150)], 0)? && are_outcomes_up(alloc, accepted),
+        ),
+        Trip::MissingDown => Ok(are_outcomes_down(alloc, accepted)),
+    }
+}
+
+/// Whether a configuration is accepted, and what is sent by it comes back. It is held here alone, and no error is answered while
+/// it is held: both would make a test dear to prove.
+fn is_right(alloc: Global, trip: Trip, opened: Result<Accepted, SampleError>) -> bool {
+    match opened {
+        Ok(accepted) => matches!(comes_back(alloc, trip, &accepted), Ok(true)),
+        Err(_) => false,
+    }
 }
 
 #[test]
-fn missing_frames_in_the_downlink(rt: HostRuntime) -> Result<(), Fail> {
-    let accepted = speech(rt.alloc())?;
-    assert!(rt; are_outcomes_down(rt.alloc(), &accepted));
-    Ok(())
+fn damaged_speech(rt: HostRuntime) {
+    assert!(rt; is_right(rt.alloc(), Trip::Speech, speech(rt.alloc())));
+}
+
+#[test]
+fn damaged_packets(rt: HostRuntime) {
+    assert!(rt; is_right(rt.alloc(), Trip::Packets, packets(rt.alloc(), true)));
+}
+
+#[test]
+fn two_to_six_damaged_codes(rt: HostRuntime) {
+    assert!(rt; is_right(rt.alloc(), Trip::SixCodes, six_codes(rt.alloc())));
+}
+
+#[test]
+fn damaged_cells_at_flexible_positions(rt: HostRuntime) {
+    assert!(rt;
+        is_right(
+            rt.alloc(),
+            Trip::FlexiblePositions,
+            flexible_positions(rt.alloc())
+        )
+    );
+}
+
+#[test]
+fn three_damaged_codes(rt: HostRuntime) {
+    assert!(rt; is_right(rt.alloc(), Trip::ThreeCodes, three_codes(rt.alloc())));
+}
+
+#[test]
+fn missing_frames_in_the_uplink(rt: HostRuntime) {
+    assert!(rt; is_right(rt.alloc(), Trip::MissingUp, tiny(rt.alloc())));
+}
+
+#[test]
+fn missing_frames_in_the_downlink(rt: HostRuntime) {
+    assert!(rt; is_right(rt.alloc(), Trip::MissingDown, speech(rt.alloc())));
 }
