@@ -1,9 +1,7 @@
 -- What the two ends of a run took and gave.
-use Rattle.std.specs.Prelude.{◌≡◌, ◌<◌, ◌≤◌, ℕ, List, ◌++◌, length, Option, Result, Ok, Err}
-use Rattle.std.specs.Borrow.{Bor}
-use Rattle.std.specs.Io.KnownBytes.{Appends, Consumes, IsAtEnd, Keeps}
+use Rattle.std.specs.Prelude.{◌≡◌, ◌<◌, ℕ, List, ◌++◌, length, Option}
+use Rattle.std.specs.Io.KnownBytes.{Appends}
 use Rattle.dch_io.specs.Causes.{Rose}
-use Rattle.dch_io.specs.declared.outside.Failed.{Failed}
 
 -- one end of a run: what it had left or taken, and its count of faults, before and now
 pub record End : Type 0 where
@@ -40,8 +38,3 @@ pub record Passes (sink : End) (text left : List ℕ) : Type 0 where
   pub written : List ℕ
   pub writes : Appends sink.before sink.now written
   pub whole : text ≡ written ++ left
-
--- the source gave a piece of at most so many bytes, and none only at its end, or it failed
-abbrev pub Reads : End → ℕ → Result (Bor (List ℕ)) Failed → Type 0
-Reads source most (Ok piece) = Consumes source.before source.now piece.now × (length piece.now ≤ most) × (length piece.now ≡ 0 → IsAtEnd source.now)
-Reads source most (Err failed) = Fails source × Keeps source.before source.now

@@ -1,8 +1,8 @@
-ghost use Rattle.std.specs.Prelude.{◌≡◌, ◌<◌, ◌≤◌, length, take, OnOk, OnErr, IfOk, IfErr};
+ghost use Rattle.std.specs.Prelude.{◌≡◌, ◌≤◌, length, OnOk, OnErr, IfOk};
 ghost use Rattle.std.specs.Io.KnownBytes.{Appends};
-ghost use Rattle.dch_io.specs.Causes.{Rose};
-ghost use Rattle.dch_io.specs.Ends.{Breaks, Reads, end_of};
-ghost use Rattle.dch_io.specs.declared.feed.TheConstants.{PIECE};
+ghost use Rattle.dch_io.specs.Ends.{Breaks, end_of};
+ghost use Rattle.dch_io.specs.Pieces.{ReadsOn};
+ghost use Rattle.dch_io.specs.declared.feed.TheConstants.{LIMIT, PIECE};
 
 use crate::{Failed, Sink, Source};
 use dch_bits::NoMemory;
@@ -18,6 +18,31 @@ pub const PIECE: usize = 65_536;
 #[derive(Clone, Copy, Debug, PartialEq, Eq)]
 pub struct WriteFailed;
 
+/// What a run took before the lines of a script.
+#[derive(Clone, Copy, Debug)]
+pub struct InputOffset {
+    pub bytes: usize,
+    pub lines: u64,
+}
+
+/// What was read of an input and not followed yet: the bytes of the piece from `from` to `to`.
+#[derive(Clone, Copy, Debug, PartialEq, Eq)]
+pub struct Pending {
+    pub from: usize,
+    pub to: usize,
+    /// Whether the input has ended with them.
+    pub at_end: bool,
+}
+
+/// Why the next piece of an input doesn't come.
+#[derive(Clone, Copy, Debug, PartialEq, Eq)]
+pub enum ReadStop {
+    /// The source failed.
+    Failed,
+    /// More than 67,108,864 bytes came in.
+    TooLong,
+}
+
 /// A buffer for a piece.
 pub fn new_piece(alloc: Global) -> Result<Vec<u8>, NoMemory>
     ensures { IfOk result (λ piece. length piece.items ≡ PIECE) }
@@ -28,15 +53,23 @@ pub fn new_piece(alloc: Global) -> Result<Vec<u8>, NoMemory>
     }
 }
 
-/// Reads into `room`, and lends what was read: nothing only at the end of the input.
-pub fn read_piece<'a, S: Source>(source: &mut S, room: &'a mut [u8]) -> Result<&'a [u8], Failed>
-    requires { 0 < length room.old }
-    ensures read { Reads (end_of S.left S.faults source.old source.new) (length room.old) result }
+/// Reads the next piece of an input of which so many bytes came to the front of `room`, and answers its length: 0 at the end of
+/// the input. Where as many bytes came as may come, one more is looked for.
+pub fn read_next<S: Source>(
+    source: &mut S,
+    room: &mut [u8],
+    count: usize,
+) -> Result<usize, ReadStop>
+    requires room { length room.old ≡ PIECE }
+    requires within { count ≤ LIMIT }
+    ensures reads { ReadsOn (end_of S.left S.faults source.old source.new) count room.new result }
     ensures later { S.faults source.old ≤ S.faults source.new }
 {
-    match source.read(room) {
-        Ok(count) => Ok(&room[..count]),
-        Err(Failed) => Err(Failed),
+    let most = PIECE.min((LIMIT - count).max(1));
+    match source.read(&mut room[..most]) {
+        Ok(read) if count + read > LIMIT => Err(ReadStop::TooLong),
+        Ok(read) => Ok(read),
+        Err(Failed) => Err(ReadStop::Failed),
     }
 }
 

@@ -8,7 +8,9 @@ mod outside;
 mod standard;
 
 pub use clean::{CleanSink, CleanSource};
-pub use feed::{LIMIT, PIECE, WriteFailed, new_piece, read_piece, write_all};
+pub use feed::{
+    InputOffset, LIMIT, PIECE, Pending, ReadStop, WriteFailed, new_piece, read_next, write_all,
+};
 pub use memory::{MemorySink, MemorySource};
 pub use outside::{Failed, Sink, Source};
 pub use standard::{StdSink, StdSource};

@@ -25,6 +25,10 @@ use Rattle.dch_lines.proofs.Steps.{overlong}
 abbrev pub TakesAll : {S : Type 0} → Semantics S → (List ℕ → Type 0) → Type 0
 TakesAll {S} semantics IsGood = (state : S) (line : List ℕ) (why : LineError) → IsGood line → semantics.refuses state line why → ⊥
 
+-- this state refuses no line that is good in this sense
+abbrev pub TakesIn : {S : Type 0} → Semantics S → S → (List ℕ → Type 0) → Type 0
+TakesIn semantics state IsGood = (line : List ℕ) (why : LineError) → IsGood line → semantics.refuses state line why → ⊥
+
 -- what was taken of an input that is known
 pub consumed : (input taken : List ℕ) (now : Option (List ℕ)) → Consumes (Some input) now taken → (rest : List ℕ) × (input ≡ taken ++ rest)
 consumed input taken None takes = absurd takes
@@ -34,17 +38,17 @@ pub all_consumed : (input taken : List ℕ) (now : Option (List ℕ)) → Consum
 all_consumed input taken None takes end = absurd takes
 all_consumed input taken (Some rest) takes end = takes ∙ ap (λ l. taken ++ l) end ∙ append-nil taken
 
--- a good list has no malformed line
-none_malformed : {S : Type 0} (semantics : Semantics S) (IsGood : List ℕ → Type 0) (state : S) (lines before later : List (List ℕ)) (line : List ℕ) (why : LineError) → TakesAll semantics IsGood → All (λ line. (is_empty line ≡ true) ⊎ IsGood line) lines → lines ≡ before ++ (line ∷ later)
+-- a good list has no line that this state refuses
+none_malformed : {S : Type 0} (semantics : Semantics S) (IsGood : List ℕ → Type 0) (state : S) (lines before later : List (List ℕ)) (line : List ℕ) (why : LineError) → TakesIn semantics state IsGood → All (λ line. (is_empty line ≡ true) ⊎ IsGood line) lines → lines ≡ before ++ (line ∷ later)
     → IsFaulty semantics state line (Malformed why) → ⊥
 none_malformed semantics IsGood state lines before later line why takes good same faulty =
     let there : All (λ line. (is_empty line ≡ true) ⊎ IsGood line) (before ++ (line ∷ later)) = rw same at good in
     let here = there (length before) [] (omega (arith, length-append before (line ∷ later))) in
     let at : get_or (before ++ (line ∷ later)) (length before) [] ≡ line = get_or-append_seam before line later [] in
     let this : (is_empty line ≡ true) ⊎ IsGood line = rw at at here in
-    ⊎_elim (λ empty. false≢true (sym faulty.words ∙ empty)) (λ ok. takes state line why ok faulty.cause) this
+    ⊎_elim (λ empty. false≢true (sym faulty.words ∙ empty)) (λ ok. takes line why ok faulty.cause) this
 
-refused_none : {S : Type 0} (semantics : Semantics S) (IsGood : List ℕ → Type 0) (source : End) (state : S) (begun input taken more : List ℕ) (good : List (List ℕ)) (why : LineError) → RefusesLong semantics → TakesAll semantics IsGood → input ≡ taken ++ more → (IsAtEnd source.now → input ≡ taken)
+pub refused_none : {S : Type 0} (semantics : Semantics S) (IsGood : List ℕ → Type 0) (source : End) (state : S) (begun input taken more : List ℕ) (good : List (List ℕ)) (why : LineError) → RefusesLong semantics → TakesIn semantics state IsGood → input ≡ taken ++ more → (IsAtEnd source.now → input ≡ taken)
     → All (λ line. (is_empty line ≡ true) ⊎ IsGood line) (lines_after begun input) → rest_after begun input ≡ [] → IsRefused semantics source state begun taken good why → ⊥
 refused_none semantics IsGood source state begun input taken more good why strict takes cut all lines_good ended refused =
     let held : List ℕ = rest_after begun taken in
@@ -78,7 +82,7 @@ completes semantics IsGood (Some input) now k l f g h i old state part Refused s
     let more = consumed input run.taken now run.takes in
     let cut : part ++ input ≡ part ++ run.taken ++ more.0 = ap (λ l. part ++ l) more.1 ∙ sym (append_assoc part run.taken more.0) in
     let all : IsAtEnd now → part ++ input ≡ part ++ run.taken = λ end. ap (λ l. part ++ l) (all_consumed input run.taken now run.takes end) in
-    absurd (refused_none semantics IsGood (span (Some input) now f g) run.answers.state old.line (part ++ input) (part ++ run.taken) more.0 run.answers.good run.answers.why strict takes cut all good rest run.answers.refused)
+    absurd (refused_none semantics IsGood (span (Some input) now f g) run.answers.state old.line (part ++ input) (part ++ run.taken) more.0 run.answers.good run.answers.why strict (takes run.answers.state) cut all good rest run.answers.refused)
 
 -- no line wants memory
 pub never_lacks : {S : Type 0} (semantics : Semantics S) (source sink : End) (old : Progress S) (state : S) (part : List ℕ) → ((state : S) (line : List ℕ) → semantics.wants_memory state line → ⊥) → FollowsInput semantics source sink old state part Lacking → ⊥

@@ -1,4 +1,5 @@
 ghost use Rattle.std.specs.Prelude.{◌≡◌, ◌<◌, ◌≤◌, ◌+◌, ◌++◌, ℕ, false, length, OnOk, IfErr};
+ghost use Rattle.dch_io.specs.declared.feed.TheConstants.{LIMIT};
 ghost use Rattle.dch_lines.specs.Semantics.{Adds, CanFinish, Counts, IsFault, Leads, RefusesLong, Semantics};
 ghost use Rattle.dch_lines.specs.LineTexts.{is_empty};
 
@@ -26,19 +27,24 @@ pub trait LineHandler {
     /// What a handler keeps at any time.
     ghost stands: { Self → Type 0 };
 
+    /// How many lines the handler has counted so far, at most one for each.
+    ghost handled: { Self → ℕ };
+
     /// Does what a line says that isn't empty, or the first step of it, and adds its text to the report. After a fault the
     /// handler stands for the states that it stood for.
     fn handle_line(&mut self, line: &[u8], report: &mut Report) -> Result<(), LineFault>
         requires stands { stands self.old }
         requires words { is_empty line.now ≡ false }
         requires room { length report.old.text + most self.old ≤ report.old.most }
+        requires few { handled self.old < LIMIT }
         ensures ok { OnOk result (Leads represents self.old self.new (λ old new. Adds (semantics.handles old line.now new) report.old report.new)) }
         ensures err { IfErr result (λ fault. (state : State) → represents state self.old → IsFault semantics state line.now fault × represents state self.new) }
         ensures same { IfErr result (λ _. report.new ≡ report.old) }
         ensures room { report.new.most ≡ report.old.most }
         ensures fits { OnOk result (length report.new.text ≤ report.new.most) }
         ensures stands { stands self.new }
-        ensures most { most self.new ≡ most self.old };
+        ensures most { most self.new ≡ most self.old }
+        ensures handled { handled self.new ≤ handled self.old + 1 };
 
     /// How many steps of the line are left.
     fn remaining(&self) -> u32
@@ -55,7 +61,8 @@ pub trait LineHandler {
         ensures room { report.new.most ≡ report.old.most }
         ensures fits { length report.new.text ≤ report.new.most }
         ensures stands { stands self.new }
-        ensures most { most self.new ≡ most self.old };
+        ensures most { most self.new ≡ most self.old }
+        ensures handled { handled self.new ≡ handled self.old };
 
     /// Adds the last line of the report, after so many lines that aren't empty.
     fn close(&self, nonempty_lines: u64, report: &mut Report)

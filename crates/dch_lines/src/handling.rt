@@ -1,5 +1,6 @@
-ghost use Rattle.std.specs.Prelude.{◌≡◌, ◌≤◌, ◌+◌, length, OnOk, IfOk};
+ghost use Rattle.std.specs.Prelude.{◌≡◌, ◌<◌, ◌≤◌, ◌+◌, length, IfOk};
 ghost use Rattle.dch_io.specs.Ends.{end_of};
+ghost use Rattle.dch_io.specs.declared.feed.TheConstants.{LIMIT};
 ghost use Rattle.dch_lines.specs.Processor.{EndsSteps, LineOutcome};
 ghost use Rattle.dch_lines.specs.Semantics.{Leads};
 
@@ -22,6 +23,7 @@ pub fn process_line<C: LineHandler, K: Sink>(
     requires wanted { C.most handler.old ≤ wanted }
     requires room { wanted ≤ report.old.most }
     requires fits { length report.old.text ≤ report.old.most }
+    requires count { C.handled handler.old < LIMIT }
     ensures handles { Leads C.represents handler.old handler.new (λ old new. LineOutcome C.semantics (end_of K.taken K.faults sink.old sink.new) old line.now new report.old.text report.new.text result) }
     ensures few { IfOk result (λ count. count ≤ 1) }
     ensures later { K.faults sink.old ≤ K.faults sink.new }
@@ -29,6 +31,7 @@ pub fn process_line<C: LineHandler, K: Sink>(
     ensures fits { length report.new.text ≤ report.new.most }
     ensures stands { C.stands handler.new }
     ensures most { C.most handler.new ≡ C.most handler.old }
+    ensures handled { C.handled handler.new ≤ C.handled handler.old + 1 }
 {
     if line == b"\n".as_slice() {
         return Ok(0);
@@ -63,6 +66,7 @@ fn finish_line<C: LineHandler, K: Sink>(
     ensures fits { length report.new.text ≤ report.new.most }
     ensures stands { C.stands handler.new }
     ensures most { C.most handler.new ≡ C.most handler.old }
+    ensures handled { C.handled handler.new ≡ C.handled handler.old }
 {
     'steps: while handler.remaining() > 0 {
         match make_room(report, wanted, sink) {

@@ -9,52 +9,41 @@ ghost use Rattle.dch_lines.specs.Processor.{LeadsOn};
 use crate::handler::LineHandler;
 use crate::processor::LineProcessor;
 use crate::stop::{LineFault, Outcome, Stop};
-use dch_io::{Failed, LIMIT, PIECE, Sink, Source, read_piece};
+use dch_io::{Pending, ReadStop, Sink, Source, read_next};
 use dch_script::LineError;
 
-/// Follows the lines of an input to its end: does what each says before it reads on. The bytes of `piece` from `from` to
-/// `to` were read before, and come first.
+/// Follows the lines of an input to its end: does what each says before it reads on. What is pending in the piece comes first.
 pub fn follow_input<C: LineHandler, S: Source, K: Sink>(
     source: &mut S,
     sink: &mut K,
     piece: &mut [u8],
-    from: usize,
-    to: usize,
+    pending: Pending,
     processor: &mut LineProcessor<C>,
 ) -> Outcome
     requires piece { length piece.old ≡ PIECE }
-    requires from { from ≤ to }
-    requires to { to ≤ PIECE }
-    requires within { processor.old.bytes + (to - from) ≤ LIMIT }
+    requires from { pending.from ≤ pending.to }
+    requires to { pending.to ≤ PIECE }
+    requires within { processor.old.bytes + (pending.to - pending.from) ≤ LIMIT }
     requires short { length processor.old.line ≤ longest }
-    ensures { LeadsOn C.represents processor.old processor.new (λ old new. FollowsInput C.semantics (end_of S.left S.faults source.old source.new) (end_of K.taken K.faults sink.old sink.new) old new.handler (slice_range piece.old from to) result) }
+    ensures { LeadsOn C.represents processor.old processor.new (λ old new. FollowsInput C.semantics (end_of S.left S.faults source.old source.new) (end_of K.taken K.faults sink.old sink.new) old new.handler (slice_range piece.old pending.from pending.to) result) }
 {
-    match take_piece(processor, &piece[from..to], sink) {
+    match take_piece(processor, &piece[pending.from..pending.to], sink) {
         Ok(()) => {}
         Err(outcome) => return outcome,
     }
-    while processor.bytes() < LIMIT {
-        let most = PIECE.min(LIMIT - processor.bytes());
-        let got = match read_piece(source, &mut piece[..most]) {
-            Ok(got) => got,
-            Err(Failed) => return Outcome::ReadFault,
+    'pieces: loop {
+        let read = match read_next(source, piece, processor.bytes()) {
+            Ok(read) => read,
+            Err(ReadStop::Failed) => return Outcome::ReadFault,
+            Err(ReadStop::TooLong) => return Outcome::TooLong,
         };
-        if got.is_empty() {
+        if read == 0 {
             return end_input(processor, sink);
         }
-        match take_piece(processor, got, sink) {
+        match take_piece(processor, &piece[..read], sink) {
             Ok(()) => {}
             Err(outcome) => return outcome,
         }
-    }
-    match read_piece(source, &mut piece[..1]) {
-        Ok(got) => {
-            if got.is_empty() {
-                return end_input(processor, sink);
-            }
-            Outcome::TooLong
-        }
-        Err(Failed) => Outcome::ReadFault,
     }
 }
 
@@ -103,7 +92,7 @@ fn answer_fault<C: LineHandler, K: Sink>(
     }
 }
 
-/// Ends the work at the end of the input.
+/// Ends the work at the end of the input: the report is closed, unless a line has begun.
 fn end_input<C: LineHandler, K: Sink>(processor: &mut LineProcessor<C>, sink: &mut K) -> Outcome
     ensures ended { LeadsOn C.represents processor.old processor.new (λ old new. EndsInput C.semantics (end_of K.taken K.faults sink.old sink.new) old new result) }
     ensures later { K.faults sink.old ≤ K.faults sink.new }

@@ -11,5 +11,5 @@ mod stop;
 
 pub use handler::LineHandler;
 pub use input::follow_input;
-pub use processor::{InputOffset, LineProcessor};
+pub use processor::LineProcessor;
 pub use stop::{LineFault, Outcome};

@@ -14,7 +14,7 @@ use crate::refusal::put_refusal;
 use crate::room::{flush, make_room};
 use crate::stop::{LineFault, Stop};
 use dch_bits::NoMemory;
-use dch_io::{Sink, WriteFailed};
+use dch_io::{InputOffset, Sink, WriteFailed};
 use dch_script::{LONGEST_LINE, LineError, Report};
 use memchr::memchr;
 use std::alloc::Global;
@@ -22,13 +22,6 @@ use std::marker::Model;
 
 /// The least room of a report, in bytes: that of a first text, or of the line that refuses a line.
 pub const LEAST_ROOM: usize = 64;
-
-/// What a run took before the lines of a processor.
-#[derive(Clone, Copy, Debug)]
-pub struct InputOffset {
-    pub bytes: usize,
-    pub lines: u64,
-}
 
 /// The work with the lines of an input: the line that has begun, and the text that waits to be written.
 #[derive(Drop)]
@@ -50,7 +43,7 @@ impl<C: LineHandler> Model for LineProcessor<C> {
 
     ghost view = { λ d. record { handler = d.handler; line = d.line.items; text = d.report.text; bytes = d.bytes; lines = d.lines; nonempty_lines = d.nonempty_lines } };
 
-    ghost invariant = { λ d. record { stands : C.stands d.handler; room : IsOpen (vec_capacity d.line) d.wanted (C.most d.handler) d.report.most (length d.line.items) (length d.report.text) d.bytes d.lines d.nonempty_lines } };
+    ghost invariant = { λ d. record { stands : C.stands d.handler; room : IsOpen (vec_capacity d.line) d.wanted (C.most d.handler) d.report.most (length d.line.items) (length d.report.text) d.bytes d.lines d.nonempty_lines; handled : C.handled d.handler ≤ d.bytes } };
 }
 
 impl<C: LineHandler + Drop> LineProcessor<C> {
@@ -63,6 +56,7 @@ impl<C: LineHandler + Drop> LineProcessor<C> {
         room: usize,
     ) -> Result<LineProcessor<C>, NoMemory>
         requires stands { C.stands handler }
+        requires handled { C.handled handler ≡ 0 }
         requires first { length first.now ≤ LEAST_ROOM }
         requires bytes { before.bytes ≤ LIMIT }
         requires lines { before.lines ≤ before.bytes }
@@ -175,7 +169,8 @@ impl<C: LineHandler> LineProcessor<C> {
 
     /// Ends the line that has begun: does what it says, adds its text, and counts it.
     fn end_line<K: Sink>(&mut self, sink: &mut K) -> Result<(), Stop>
-        requires { self.old.lines < self.old.bytes }
+        requires lines { self.old.lines < self.old.bytes }
+        requires handled { C.handled self.old.handler < self.old.bytes }
         ensures ended { LeadsOn C.represents self.old self.new (λ old new. EndsLine C.semantics (end_of K.taken K.faults sink.old sink.new) old new result) }
         ensures cleared { OnOk result ((self.new.line ≡ []) × (self.new.bytes ≡ self.old.bytes)) }
         ensures later { K.faults sink.old ≤ K.faults sink.new }
@@ -231,6 +226,7 @@ impl<C: LineHandler> LineProcessor<C> {
         requires feed { EndsIn self.old.line part.now }
         requires some { 0 < length part.now }
         requires count { self.old.lines ≤ self.old.bytes }
+        requires handled { C.handled self.old.handler ≤ self.old.bytes }
         requires line { length self.old.line + length part.now ≤ LONGEST_LINE + 1 }
         requires bytes { self.old.bytes + length part.now ≤ LIMIT }
         ensures follows { LeadsOn C.represents self.old self.new (λ old new. FollowsPart C.semantics (end_of K.taken K.faults sink.old sink.new) old new part.now result) }

@@ -11,6 +11,7 @@ steps-init g c = record {
   fits = c.requires.fits;
   stands = c.requires.stands;
   most = refl;
+  handled = refl;
 }
 
 pub steps-preserved : goal.steps-preserved
@@ -30,6 +31,7 @@ steps-preserved g c =
       fits = c.resume.ensures.fits;
       stands = c.resume.ensures.stands;
       most = c.resume.ensures.most ∙ before.most;
+      handled = c.resume.ensures.handled ∙ before.handled;
     }
 
 pub returns-clause-finishes : goal.returns-clause-finishes

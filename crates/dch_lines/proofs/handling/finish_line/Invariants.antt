@@ -11,6 +11,7 @@ invariant-steps g l = record {
   fits : length l.report.text ≤ l.report.most;
   stands : g.C.LineHandler.stands l.handler;
   most : g.C.LineHandler.most l.handler ≡ g.C.LineHandler.most l.initial.handler;
+  handled : g.C.LineHandler.handled l.handler ≡ g.C.LineHandler.handled l.initial.handler;
 }
 
 abbrev pub decreases-steps : goal.decreases-steps
