@@ -13,12 +13,13 @@ use Rattle.dch_bits.specs.declared.bit.Bit.{Bit}
 use Rattle.dch_types.specs.declared.channel.Dir.{Dir}
 use Rattle.dch_types.specs.declared.channel.Dir.TheVariants.{Up, Down}
 use Rattle.dch_collision.specs.Clear.{IsClear}
-use Rattle.dch_accept.specs.Answers.{HaveAllRates, count_of, IsCause, IsCollision}
+use Rattle.dch_accept.specs.Answers.{count_of, IsCause, IsCollision}
+use Rattle.dch_accept.specs.Plans.{Planned}
 use Rattle.dch_accept.specs.declared.refusal.Refusal.{Refusal}
 use Rattle.dch_accept.specs.declared.refusal.Refusal.TheVariants as why
-use Rattle.dch_check.specs.Acceptance.{acceptance_refusal}
+use Rattle.dch_check.specs.Acceptance.{acceptance_refusal, accepted_line}
 use Rattle.dch_check.specs.Refusals.{refusal}
-use Rattle.dch_check.specs.Verdicts.{IsAccepted, IsAcceptedBy, IsUnread, IsUnaccepted, Refuses}
+use Rattle.dch_check.specs.Verdicts.{IsAccepted, IsAcceptedAs, IsAcceptedBy, IsUnread, IsUnaccepted, Refuses}
 
 some_one : {T : Type 0} (x y : T) → Some x ≡ Some y → x ≡ y
 some_one x y same = cc
@@ -77,3 +78,16 @@ not_unaccepted text line other good refused =
 
 pub one_judgement : (text line other : List ℕ) → IsAccepted text line → Refuses text other → ⊥
 one_judgement text line other good refused = ⊎_elim (not_unread text line other good) (not_unaccepted text line other good) refused
+
+-- what is accepted with its plans is accepted by its line
+pub accepted_so : (text : List ℕ) (accepted : Planned) → IsAcceptedAs text accepted → IsAccepted text (accepted_line (count_of accepted.config))
+accepted_so text accepted is = record {
+  config = is.config;
+  reads = is.reads;
+  accepted = record { rates = is.is.rates; few = is.is.few; clear = is.is.clear; shown = ap (λ (c : Config). accepted_line (count_of c)) is.is.same };
+}
+
+-- a text has one configuration
+pub same_config : (text other : List ℕ) (one two : Planned) → text ≡ other → IsAcceptedAs text one → IsAcceptedAs other two → one.config ≡ two.config
+same_config text other one two same first second =
+    first.is.same ∙ one_config other first.config second.config (subst (λ t. Reads t (Ok first.config)) same first.reads) second.reads ∙ sym second.is.same

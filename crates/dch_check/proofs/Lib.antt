@@ -1,2 +1,3 @@
 pub mod ConfigSections
 pub mod Judgements
+pub mod Taking

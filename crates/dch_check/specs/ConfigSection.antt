@@ -57,3 +57,7 @@ behind old bytes = if old.complete then bytes else behind_separator old.line byt
 -- the text of the configuration, where the input ends here or the line `---` has come
 abbrev pub settled : Gathered → List ℕ
 settled section = section.text ++ section_of (section.line ∷ [])
+
+-- what follows the line `---` in the bytes of an input
+abbrev pub script_of : List ℕ → List ℕ
+script_of bytes = behind_separator [] bytes

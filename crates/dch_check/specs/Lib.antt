@@ -1,4 +1,5 @@
 pub mod Acceptance
 pub mod ConfigSection
 pub mod Refusals
+pub mod TakenConfigs
 pub mod Verdicts

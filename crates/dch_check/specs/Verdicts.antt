@@ -4,7 +4,8 @@ use Rattle.dch_types.specs.declared.config.Config.{Config}
 use Rattle.dch_config.specs.Reading.{Reads}
 use Rattle.dch_config.specs.declared.error.ConfigError.{ConfigError}
 use Rattle.dch_collision.specs.Clear.{IsClear}
-use Rattle.dch_accept.specs.Answers.{HaveAllRates, count_of, IsCause}
+use Rattle.dch_accept.specs.Answers.{HaveAllRates, IsAccepted as IsPlannedFrom, count_of, IsCause}
+use Rattle.dch_accept.specs.Plans.{Planned}
 use Rattle.dch_accept.specs.declared.refusal.Refusal.{Refusal}
 use Rattle.dch_check.specs.Acceptance.{acceptance_refusal, accepted_line}
 use Rattle.dch_check.specs.Refusals.{refusal}
@@ -27,7 +28,7 @@ pub record IsRefusedBy (config : Config) (line : List ℕ) : Type 0 where
 
 -- the judgement of a configuration
 abbrev pub JudgesConfig : Config → Verdict → Type 0
-JudgesConfig config (Accepted line) = IsAcceptedBy config (string_bytes line)
+JudgesConfig config (Accepted accepted) = IsPlannedFrom config accepted
 JudgesConfig config (Refused line) = IsRefusedBy config (string_bytes line)
 
 -- a text is read as a configuration that is accepted, and this is the line that says so
@@ -35,6 +36,12 @@ pub record IsAccepted (text line : List ℕ) : Type 0 where
   pub config : Config
   pub reads : Reads text (Ok config)
   pub accepted : IsAcceptedBy config line
+
+-- a text is read as a configuration that is accepted, and this is the configuration with its plans
+pub record IsAcceptedAs (text : List ℕ) (accepted : Planned) : Type 0 where
+  pub config : Config
+  pub reads : Reads text (Ok config)
+  pub is : IsPlannedFrom config accepted
 
 -- a text is not read as a configuration, and this line says why
 pub record IsUnread (text line : List ℕ) : Type 0 where
@@ -54,10 +61,5 @@ Refuses text line = IsUnread text line ⊎ IsUnaccepted text line
 
 -- the judgement of a text
 abbrev pub Judges : List ℕ → Verdict → Type 0
-Judges text (Accepted line) = IsAccepted text (string_bytes line)
+Judges text (Accepted accepted) = IsAcceptedAs text accepted
 Judges text (Refused line) = Refuses text (string_bytes line)
-
--- the line of a judgement
-abbrev pub verdict_line : Verdict → List ℕ
-verdict_line (Accepted line) = string_bytes line
-verdict_line (Refused line) = string_bytes line

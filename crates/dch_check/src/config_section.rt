@@ -56,16 +56,6 @@ impl ConfigSection {
         }
     }
 
-    /// Goes on by the next piece of the input. What follows the line `---` is left alone.
-    pub fn follow(mut self, piece: &[u8]) -> Result<ConfigSection, NoMemory>
-        ensures { IfOk result (λ section. section ≡ gathered self piece.now) }
-    {
-        match self.take_section(piece) {
-            Ok(_left) => Ok(self),
-            Err(NoMemory) => Err(NoMemory),
-        }
-    }
-
     /// Goes on by the next piece of the input. Answers what follows the line `---` in it: nothing where that line hasn't come.
     pub fn take_section<'a>(&mut self, piece: &'a [u8]) -> Result<&'a [u8], NoMemory>
         ensures section { OnOk result (self.new ≡ gathered self.old piece.entry.now) }

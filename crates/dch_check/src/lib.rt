@@ -4,7 +4,10 @@
 mod acceptance;
 mod config_section;
 mod refusal;
+mod taken_config;
 mod verdict;
 
+pub use acceptance::accepted_line;
 pub use config_section::ConfigSection;
+pub use taken_config::{ConfigFault, TakenConfig, take_config};
 pub use verdict::{Verdict, judge, one_judgement_law};

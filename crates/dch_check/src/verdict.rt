@@ -1,10 +1,10 @@
 ghost use Rattle.std.specs.Prelude.{◌≡◌, ℕ, List, IfOk};
 ghost use Rattle.dch_config.specs.Good.{IsGood};
-ghost use Rattle.dch_check.specs.Verdicts.{IsAccepted, Judges, JudgesConfig, Refuses, verdict_line};
+ghost use Rattle.dch_check.specs.Verdicts.{IsAccepted, Judges, JudgesConfig, Refuses};
 
-use crate::acceptance::{acceptance_line, accepted_line};
+use crate::acceptance::acceptance_line;
 use crate::refusal::refusal_line;
-use dch_accept::accept;
+use dch_accept::{Accepted, accept};
 use dch_bits::NoMemory;
 use dch_config::read;
 use dch_types::Config;
@@ -13,22 +13,10 @@ use std::alloc::Global;
 /// The judgement of a configuration.
 #[derive(Drop)]
 pub enum Verdict {
-    /// It is accepted, as this line says.
-    Accepted(String),
-    /// It is refused, by this line.
+    /// It is accepted.
+    Accepted(Accepted),
+    /// It is refused, by this line, which has its line feed.
     Refused(String),
-}
-
-impl Verdict {
-    /// The line that answers the configuration, with its line feed.
-    pub fn line(&self) -> &[u8]
-        ensures { result.now ≡ verdict_line self.now }
-    {
-        match self {
-            Verdict::Accepted(line) => line.as_bytes(),
-            Verdict::Refused(line) => line.as_bytes(),
-        }
-    }
 }
 
 /// Judges the text of a configuration: reads it, and accepts what it says.
@@ -50,10 +38,7 @@ fn judge_config(alloc: Global, config: Config) -> Result<Verdict, NoMemory>
     ensures { IfOk result (JudgesConfig config) }
 {
     match accept(alloc, config) {
-        Ok(accepted) => {
-            let line = accepted_line(alloc, accepted.count())?;
-            Ok(Verdict::Accepted(line))
-        }
+        Ok(accepted) => Ok(Verdict::Accepted(accepted)),
         Err(refusal) => {
             let line = acceptance_line(alloc, &refusal)?;
             Ok(Verdict::Refused(line))
