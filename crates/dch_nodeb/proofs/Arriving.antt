@@ -9,6 +9,7 @@ use Rattle.dch_nodeb.specs.Standing.{NothingSent, KeepsFrame, Represents, Steppe
 use Rattle.dch_node.specs.Lines.{Line, text_of}
 use Rattle.dch_node.specs.Values.{no_output, says}
 use Rattle.dch_nodeb.specs.State.{IubFrame, DownlinkIubFrame, State, keeping}
+use Rattle.dch_nodeb.specs.Steps.{IsArrival}
 use Rattle.dch_node.specs.IubFrames.{blocks_at}
 use Rattle.dch_nodeb.specs.Values.{Node, IubRxBuffer, rx_buffer_at}
 
@@ -32,8 +33,10 @@ taken_step planned state node new set octets lines before after stands quiet oth
     record {
       next = keeping state set frame;
       output = no_output;
-      step = inl (record { cfn = filled.cfn; held = (rx_buffer_at new set).held; read = filled.read; state = refl; quiet = refl });
+      step = subst (λ (p : Planned). IsArrival p state set octets (keeping state set frame) no_output) (sym stands.active)
+          (inl (record { cfn = filled.cfn; held = (rx_buffer_at new set).held; read = filled.read; state = refl; quiet = refl }));
       stands = record {
+        active = stands.active;
         cfn = stands.cfn;
         kept = λ s few. elim (eqb_tells s set) [
           | inl same ↦ keeps-own planned.config.downlink.side state set s frame (rx_buffer_at new s) same.1
@@ -58,8 +61,10 @@ refused_step planned state node new set octets lines before after stands quiet o
     record {
       next = state;
       output = says lines;
-      step = inr (record { error = refused.error; cause = refused.cause; state = refl; reported = ap says refused.reported });
+      step = subst (λ (p : Planned). IsArrival p state set octets state (says lines)) (sym stands.active)
+          (inr (record { error = refused.error; cause = refused.cause; state = refl; reported = ap says refused.reported }));
       stands = record {
+        active = stands.active;
         cfn = stands.cfn;
         kept = λ s few. subst (λ (p : IubRxBuffer). KeepsFrame planned.config.downlink.side s (state.kept s) p) (sym (same s)) (stands.kept s few);
         given = stands.given;

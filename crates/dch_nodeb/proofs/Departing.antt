@@ -19,10 +19,10 @@ use Rattle.dch_nodeb.specs.Moves.{AreGiven, AreReady, Transmits, IsReady, RunsIn
 use Rattle.dch_nodeb.specs.Opened.{AreNoted, AreRxBuffersOf}
 use Rattle.dch_types.specs.Timing.{set_frames, starts}
 use Rattle.dch_nodeb.specs.Standing.{NothingSent, KeepsFrame, Represents, Stepped}
-use Rattle.dch_node.specs.Values.{Blocks, Radio, idle_blocks}
+use Rattle.dch_node.specs.Values.{Blocks, Output, Radio, idle_blocks}
 use Rattle.dch_nodeb.specs.State.{DownlinkIubFrame, DownlinkDue, State, given_now, kept_still, leaving, taken}
 use Rattle.dch_node.specs.IubFrames.{blocks_at}
-use Rattle.dch_nodeb.specs.Steps.{AreAllLoaded, AreRunning, IsRadio, radio_line}
+use Rattle.dch_nodeb.specs.Steps.{AreAllLoaded, AreRunning, IsDeparture, IsRadio, radio_line}
 use Rattle.dch_nodeb.specs.Values.{Node, IubRxBuffer, DownlinkTransmitter, rx_buffer_at, radio_if}
 use Rattle.dch_nodeb.proofs.Steady.{set_frames-member, tells}
 
@@ -141,16 +141,18 @@ departed_at planned state node new sent before after good opened noted quiet dep
     let next : State = leaving side state in
     let shown : Option Radio = radio_if sent.sent sent.frame in
     let all : AreAllLoaded planned next.given loaded.running = all_given planned state node.rx_buffers new node.transmitter loaded good opened departs.ready departs.given stands.kept stands.given in
+    let output : Output = record { lines = radio_line shown ∷ []; sent = shown; iub = λ s. None } in
     record {
       next = next;
-      output = record { lines = radio_line shown ∷ []; sent = shown; iub = λ s. None };
-      step = record {
+      output = output;
+      step = subst (λ (p : Planned). IsDeparture p state next output) (sym stands.active) (record {
         state = refl;
         radio = written_radio planned next loaded shown (noted_on planned state.cfn new node.transmitter loaded departs.given noted) all departs.sends.writes;
         reported = refl;
         no_iub = λ s few. refl;
-      };
+      });
       stands = record {
+        active = stands.active;
         cfn = stands.cfn;
         kept = λ s few. still_kept side state s (rx_buffer_at node.rx_buffers s) (rx_buffer_at new s) (λ on. (departs.ready.on s few on).empty) (λ off. departs.ready.off s few off) (stands.kept s few);
         given = λ i inside. subst (λ (l : List Loaded). IsLoaded planned i (next.given i).format (next.given i).bits (loaded_at l i)) (sym departs.sends.running) (all i inside);

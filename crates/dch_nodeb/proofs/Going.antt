@@ -13,4 +13,4 @@ pub went_on : (planned : Planned) (old new : Node) (event : Event) (before after
     → RepresentsHistory planned first events lines old → ((state : State) → Represents planned state old → Stepped planned state event new before after)
     → ExtendsHistory planned first events lines event new before after
 went_on planned old new event before after first events lines was steps =
-    history_next (Steps planned) (Represents planned) Shows (opened_state planned.config first) old new event before after events lines was steps
+    history_next Steps (Represents planned) Shows (opened_state planned first) old new event before after events lines was steps

@@ -4,6 +4,9 @@ pub mod Giving
 pub mod Going
 pub mod Keeping
 pub mod Lengths
+pub mod OneOutput
+pub mod OneRadio
+pub mod OneTti
 pub mod Opening
 pub mod Reading
 pub mod Receiving

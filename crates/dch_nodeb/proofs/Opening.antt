@@ -65,10 +65,11 @@ pub opened_stands : (planned : Planned) (first : ℕ) (rx_buffers : List IubRxBu
 opened_stands planned first rx_buffers empty transmitter receiver tx_buffers good eighth new quiet given missing written =
     let none : transmitter.sent ≡ false = given.sent ∙ quiet in
     record {
-      state = opened_state planned.config first;
+      state = opened_state planned first;
       last = no_output;
       after = (refl, refl, refl);
       stands = record {
+        active = refl;
         cfn = refl;
         kept = new.empty;
         given = all_idle planned first rx_buffers empty transmitter good eighth new given;

@@ -8,10 +8,11 @@ use Rattle.dch_rxframes.specs.RxFrames.{RxFrame, RxFrames, rx_frame_at}
 use Rattle.dch_script.specs.Held.{Held as Text}
 use Rattle.dch_nodeb.specs.Moves.{Hears, Receives}
 use Rattle.dch_nodeb.specs.Standing.{NothingSent, Represents, Stepped}
-use Rattle.dch_node.specs.Values.{Radio}
+use Rattle.dch_node.specs.Values.{Output, Radio}
 use Rattle.dch_nodeb.specs.State.{UplinkFrame, State, coming}
 use Rattle.dch_node.specs.RxFrames.{KeepsRadio}
 use Rattle.dch_node.specs.Lines.{joined}
+use Rattle.dch_nodeb.specs.Steps.{IsReception}
 use Rattle.dch_nodeb.specs.Values.{IubTxBuffer, Node, UplinkReceiver, tx_buffer_at}
 
 -- the frames that are kept then
@@ -30,10 +31,11 @@ received_at planned state node radio tx_buffers receiver before after quiet rece
     let served = receives.served in
     let frames : (k : ℕ) → k < 8 → KeepsRadio planned Up (next.frames k) (rx_frame_at receiver.rx_frames.frames k) =
     frames_kept planned state radio node.receiver.rx_frames receiver.rx_frames receives.hears stands.frames in
+    let output : Output = record { lines = joined served.lines 8; sent = None; iub = λ s. (tx_buffer_at tx_buffers s).sent } in
     record {
       next = next;
-      output = record { lines = joined served.lines 8; sent = None; iub = λ s. (tx_buffer_at tx_buffers s).sent };
-      step = record {
+      output = output;
+      step = subst (λ (p : Planned). IsReception p state radio next output) (sym stands.active) (record {
         state = refl;
         rx_frames = receiver.rx_frames;
         kept = record { last = receives.hears.last; kept = frames };
@@ -41,8 +43,8 @@ received_at planned state node radio tx_buffers receiver before after quiet rece
         sets = served.sets;
         reported = refl;
         no_radio = refl;
-      };
-      stands = record { cfn = ap (λ n. (n + 1) % 256) stands.cfn; kept = stands.kept; given = stands.given; frames = frames };
+      });
+      stands = record { active = stands.active; cfn = ap (λ n. (n + 1) % 256) stands.cfn; kept = stands.kept; given = stands.given; frames = frames };
       shows = record { radio = rw quiet.radio refl; iub = λ s few. refl };
       reported = ap (λ (t : Text). t.text) served.reported;
     }

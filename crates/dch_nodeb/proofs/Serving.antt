@@ -50,7 +50,7 @@ pub served_next : (planned : Planned) (rx_frames : RxFrames) (set : ℕ) (tx_buf
     → AreDelivered planned rx_frames (set + 1) (slice_set tx_buffers set tx_buffer) next before after
 served_next planned rx_frames set tx_buffers tx_buffer receiver next before now after are inside served =
     let new : List IubTxBuffer = slice_set tx_buffers set tx_buffer in
-    let room : set < length tx_buffers = subst (λ n. set < n) (sym are.letters_opened.all) inside in
+    let room : set < length tx_buffers = subst (λ n. set < n) (sym are.tx_buffers_opened.all) inside in
     let all : ℕ → List Line = with_lines are.lines set served.lines in
     let own : tx_buffer_at new set ≡ tx_buffer = get_or-set_same tx_buffers set tx_buffer _ room in
     let others : (s : ℕ) → s ≢ set → tx_buffer_at new s ≡ tx_buffer_at tx_buffers s = (λ s other. get_or-set_other tx_buffers set s tx_buffer _ other) in
@@ -74,11 +74,11 @@ served_next planned rx_frames set tx_buffers tx_buffer receiver next before now 
       later = λ s late few. ap (λ (l : IubTxBuffer). l.sent) (others s (omega arith)) ∙ are.later s (omega arith) few;
       few = rw long (rw length-append (omega (arith, are.few, served.few)));
       reported = served.reported ∙ ap (λ (t : Text). record t { text = t.text ++ text_of served.lines }) are.reported ∙ ap (λ (t : List ℕ). record before { text = t }) (append_assoc before.text (text_of (joined are.lines set)) (text_of served.lines) ∙ ap (λ (t : List ℕ). before.text ++ t) (sym long));
-      letters_opened = record {
-        all = length-set tx_buffers set tx_buffer ∙ are.letters_opened.all;
+      tx_buffers_opened = record {
+        all = length-set tx_buffers set tx_buffer ∙ are.tx_buffers_opened.all;
         each = λ s few. elim (eqb_tells s set) [
-          | inl same ↦ subst (λ k. IsTxBufferOf planned k (tx_buffer_at new k)) (sym same.1) (subst (λ (l : IubTxBuffer). IsTxBufferOf planned set l) (sym own) served.letter_opened)
-          | inr other ↦ subst (λ (l : IubTxBuffer). IsTxBufferOf planned s l) (sym (others s other.1)) (are.letters_opened.each s few)
+          | inl same ↦ subst (λ k. IsTxBufferOf planned k (tx_buffer_at new k)) (sym same.1) (subst (λ (l : IubTxBuffer). IsTxBufferOf planned set l) (sym own) served.tx_buffer_opened)
+          | inr other ↦ subst (λ (l : IubTxBuffer). IsTxBufferOf planned s l) (sym (others s other.1)) (are.tx_buffers_opened.each s few)
         ];
       };
       receiver_opened = served.receiver_opened;
@@ -97,12 +97,13 @@ sent_up planned rx_frames set start old new receiver before after sends read ove
     held = new.held;
     read = subst (λ (h : HeldSet). AreRead planned rx_frames set h) (sym sends.held) read;
     octets = sends.octets;
+    whole = sends.whole;
     written = subst (λ n. IsWrittenForm planned.config Up set sends.octets n planned.config.qe new.held) begun sends.written;
     reported = refl;
     sent = sends.sent;
   }));
   reported = sends.reported;
-  letter_opened = sends.opened;
+  tx_buffer_opened = sends.opened;
   receiver_opened = opened;
   same = same;
 }
@@ -111,12 +112,12 @@ sent_up planned rx_frames set start old new receiver before after sends read ove
 pub lost_set : (planned : Planned) (rx_frames : RxFrames) (set channel frame : ℕ) (tx_buffer : IubTxBuffer) (receiver : UplinkReceiver) (before after : Text) → IsBadTti planned.config.uplink.side rx_frames set channel frame
     → ends (set_frames planned.config.uplink.side set) rx_frames.cfn ≡ true → tx_buffer.sent ≡ None → IsTxBufferOf planned set tx_buffer → IsReceiverOf planned receiver → receiver.rx_frames ≡ rx_frames
     → length (text_of (BadTti Up channel frame ∷ [])) ≤ 300 → after ≡ record before { text = before.text ++ text_of (BadTti Up channel frame ∷ []) } → Delivered planned rx_frames set tx_buffer receiver before after
-lost_set planned rx_frames set channel frame tx_buffer receiver before after is over none letter opened same few reported = record {
+lost_set planned rx_frames set channel frame tx_buffer receiver before after is over none kept opened same few reported = record {
   lines = BadTti Up channel frame ∷ [];
   few = omega (arith, few);
   serves = inr (inl (record { over = over; channel = channel; frame = frame; is = is; reported = refl; none = none }));
   reported = reported;
-  letter_opened = letter;
+  tx_buffer_opened = kept;
   receiver_opened = opened;
   same = same;
 }
@@ -130,19 +131,19 @@ none_served planned tx_buffers receiver before are opened quiet = record {
   later = λ s late few. quiet s few;
   few = omega arith;
   reported = ap (λ (t : List ℕ). record before { text = t }) (sym (append-nil before.text));
-  letters_opened = are;
+  tx_buffers_opened = are;
   receiver_opened = opened;
   same = refl;
 }
 
 -- a transmit buffer, whatever stands for one past the end
-pub letter_in : (planned : Planned) (tx_buffers : List IubTxBuffer) (set : ℕ) (other : IubTxBuffer) → AreTxBuffersOf planned tx_buffers → set < 8 → get_or tx_buffers set other ≡ tx_buffer_at tx_buffers set
-letter_in planned tx_buffers set other are few = get_or_default tx_buffers set other _ (omega (arith, are.all))
+pub tx_buffer_in : (planned : Planned) (tx_buffers : List IubTxBuffer) (set : ℕ) (other : IubTxBuffer) → AreTxBuffersOf planned tx_buffers → set < 8 → get_or tx_buffers set other ≡ tx_buffer_at tx_buffers set
+tx_buffer_in planned tx_buffers set other are few = get_or_default tx_buffers set other _ (omega (arith, are.all))
 
 -- a new transmit buffer at the end
-pub new_letter : (planned : Planned) (count : ℕ) (tx_buffers : List IubTxBuffer) (tx_buffer : IubTxBuffer) → AreNewTxBuffers planned count tx_buffers → IsTxBufferOf planned count tx_buffer → tx_buffer.sent ≡ None
+pub new_tx_buffer : (planned : Planned) (count : ℕ) (tx_buffers : List IubTxBuffer) (tx_buffer : IubTxBuffer) → AreNewTxBuffers planned count tx_buffers → IsTxBufferOf planned count tx_buffer → tx_buffer.sent ≡ None
     → AreNewTxBuffers planned (count + 1) (tx_buffers ++ tx_buffer ∷ [])
-new_letter planned count tx_buffers tx_buffer are is quiet =
+new_tx_buffer planned count tx_buffers tx_buffer are is quiet =
     let own : tx_buffer_at (tx_buffers ++ tx_buffer ∷ []) count ≡ tx_buffer = get_or_push tx_buffers tx_buffer _ count are.all in
     let others : (s : ℕ) → s < count → tx_buffer_at (tx_buffers ++ tx_buffer ∷ []) s ≡ tx_buffer_at tx_buffers s =
     (λ s early. get_or_append_left tx_buffers (tx_buffer ∷ []) _ s (omega (arith, are.all))) in

@@ -1,4 +1,5 @@
 pub mod Moves
+pub mod Octets
 pub mod Opened
 pub mod Rooms
 pub mod Same

@@ -157,7 +157,7 @@ pub record Delivered (planned : Planned) (rx_frames : RxFrames) (set : ℕ) (tx_
   pub few : length (text_of lines) ≤ 300000
   pub serves : DeliversSet planned rx_frames set lines tx_buffer.sent
   pub reported : after ≡ record before { text = before.text ++ text_of lines }
-  pub letter_opened : IsTxBufferOf planned set tx_buffer
+  pub tx_buffer_opened : IsTxBufferOf planned set tx_buffer
   pub receiver_opened : IsReceiverOf planned receiver
   pub same : receiver.rx_frames ≡ rx_frames
 
@@ -168,7 +168,7 @@ pub record AreDelivered (planned : Planned) (rx_frames : RxFrames) (count : ℕ)
   pub later : (s : ℕ) → count ≤ s → s < 8 → (tx_buffer_at tx_buffers s).sent ≡ None
   pub few : length (text_of (joined lines count)) ≤ count * 300000
   pub reported : after ≡ record before { text = before.text ++ text_of (joined lines count) }
-  pub letters_opened : AreTxBuffersOf planned tx_buffers
+  pub tx_buffers_opened : AreTxBuffersOf planned tx_buffers
   pub receiver_opened : IsReceiverOf planned receiver
   pub same : receiver.rx_frames ≡ rx_frames
 

@@ -6,6 +6,7 @@ use Rattle.dch_accept.specs.Plans.{Planned}
 use Rattle.dch_iub.specs.Forms.{IsWrittenForm}
 use Rattle.dch_script.specs.Held.{Held as Text}
 use Rattle.dch_node.specs.Lines.{Iub, text_of}
+use Rattle.dch_nodeb.specs.Octets.{AreOctets}
 use Rattle.dch_nodeb.specs.Opened.{IsTxBufferOf}
 use Rattle.dch_nodeb.specs.Values.{IubTxBuffer, tx_buffer_at}
 
@@ -29,6 +30,7 @@ pub record SendsUp (planned : Planned) (set start : ℕ) (old new : IubTxBuffer)
   pub held : new.held ≡ old.held
   pub octets : List ℕ
   pub sent : new.sent ≡ Some octets
+  pub whole : AreOctets octets
   pub written : IsWrittenForm planned.config Up set octets start planned.config.qe new.held
   pub few : length (text_of (Iub Up set octets ∷ [])) ≤ 300000
   pub reported : after ≡ record before { text = before.text ++ text_of (Iub Up set octets ∷ []) }

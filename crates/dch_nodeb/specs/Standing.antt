@@ -40,8 +40,9 @@ abbrev pub KeepsFrame : Side → ℕ → Option DownlinkIubFrame → IubRxBuffer
 KeepsFrame side set None rx_buffer = rx_buffer.cfn ≡ None
 KeepsFrame side set (Some frame) rx_buffer = (rx_buffer.cfn ≡ Some frame.cfn) × ForSet side set (λ i. blocks_at rx_buffer.held i ≡ frame.blocks i)
 
--- a Node B stands for a state
+-- a Node B that was opened for a configuration stands for a state in which that is active
 pub record Represents (planned : Planned) (state : State) (node : Node) : Type 0 where
+  pub active : state.planned ≡ planned
   pub cfn : node.cfn ≡ state.cfn
   pub kept : (s : ℕ) → s < 8 → KeepsFrame planned.config.downlink.side s (state.kept s) (rx_buffer_at node.rx_buffers s)
   pub given : AreAllLoaded planned state.given node.transmitter.running
@@ -59,13 +60,13 @@ pub record NothingSent (node : Node) : Type 0 where
 
 -- a step was taken from a state, and the report went on by the text of its lines
 abbrev pub Stepped : Planned → State → Event → Node → List ℕ → List ℕ → Type 0
-Stepped planned old event node before after = TakesStep (Steps planned) (Represents planned) Shows old event node before after
+Stepped planned old event node before after = TakesStep Steps (Represents planned) Shows old event node before after
 
 -- a Node B stands for what happened since opening, with the lines of all reports
 abbrev pub RepresentsHistory : Planned → ℕ → List Event → List Line → Node → Type 0
-RepresentsHistory planned first events lines node = HasHistory (Steps planned) (Represents planned) Shows (opened_state planned.config first) events lines node
+RepresentsHistory planned first events lines node = HasHistory Steps (Represents planned) Shows (opened_state planned first) events lines node
 
 -- one more event, with the lines by whose text the report went on
 abbrev pub ExtendsHistory : Planned → ℕ → List Event → List Line → Event → Node → List ℕ → List ℕ → Type 0
 ExtendsHistory planned first events lines event node before after =
-    HasLongerHistory (Steps planned) (Represents planned) Shows (opened_state planned.config first) events lines event node before after
+    HasLongerHistory Steps (Represents planned) Shows (opened_state planned first) events lines event node before after

@@ -6,6 +6,7 @@ ghost use Rattle.dch_iub.specs.Longest.{IsLongest};
 ghost use Rattle.dch_nodeb.specs.Moves.{AreNewTxBuffers, Delivered};
 ghost use Rattle.dch_nodeb.specs.Opened.{IsTxBufferOf, IsReceiverOf};
 ghost use Rattle.dch_nodeb.specs.Rooms.{HasRoomFor};
+ghost use Rattle.dch_nodeb.specs.Octets.{AreOctets};
 ghost use Rattle.dch_nodeb.specs.Sending.{AreCleared, SendsUp, octets_of};
 ghost use Rattle.dch_types.specs.Timing.{ends, set_frames, started};
 
@@ -114,6 +115,7 @@ fn write_frame(accepted: &Accepted, set: u8, start: u8, blocks: &SetBlocks, out:
     requires blocks { IsSetOf accepted.now.config Up set blocks.now }
     requires room { IsLongest accepted.now.config Up set (length out.old) }
     ensures written { IsWrittenForm accepted.now.config Up set (take result out.new) start accepted.now.config.qe blocks.now }
+    ensures octets { AreOctets (take result out.new) }
     ensures fits { result ≤ length out.old }
     ensures few { result ≤ 140000 }
 {

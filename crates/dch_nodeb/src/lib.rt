@@ -14,5 +14,5 @@ mod transmitter;
 mod uplink;
 
 pub use event::NodeBEvent;
-pub use laws::one_state_law;
+pub use laws::{one_output_law, one_state_law};
 pub use node::NodeB;

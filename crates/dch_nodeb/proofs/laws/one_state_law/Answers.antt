@@ -8,8 +8,7 @@ returns-clause-step c = step_same
 
 pub returns-clause-history : goal.returns-clause-history
 returns-clause-history c planned first events state other last more lines rest a b =
-    trace_same planned (opened_state planned.config first) (opened_state planned.config first) state other no_output no_output last more events lines rest
-    (same_state planned.config.downlink.side (opened_state planned.config first)) a b
+    trace_same (opened_state planned first) (opened_state planned first) state other no_output no_output last more events lines rest (same_state (opened_state planned first)) a b
 
 pub returns-clause-arrival : goal.returns-clause-arrival
 returns-clause-arrival c = arrival_answer

@@ -1,0 +1,80 @@
+-- A step has one output.
+use Rattle.std.proofs.Common.{◌≡◌, ◌<◌, ◌∙◌, ◌++◌, ℕ, zero, suc, List, [], ◌∷◌, length, arith, refl, ap, ap₂, sym, subst, inl, inr, Option}
+use Rattle.dch_types.specs.declared.channel.Dir.TheVariants.{Up}
+use Rattle.dch_types.specs.Limits.{IsSide}
+use Rattle.dch_accept.specs.Plans.{IsPlanned, Planned}
+use Rattle.dch_rxframes.proofs.Alike.{KeepTheSame}
+use Rattle.dch_node.specs.Lines.{Line, joined}
+use Rattle.dch_node.specs.Traces.{Trace}
+use Rattle.dch_node.specs.Values.{Output, Radio}
+use Rattle.dch_node.proofs.RxFrames.{heard_same}
+use Rattle.dch_nodeb.specs.Same.{IsSameOutput, IsSameState}
+use Rattle.dch_nodeb.specs.State.{DownlinkDue, Event, IubFrame, State, UplinkFrame}
+use Rattle.dch_nodeb.specs.Steps.{IsDeparture, IsReception, Steps, radio_line}
+use Rattle.dch_nodeb.proofs.OneRadio.{radio_one}
+use Rattle.dch_nodeb.proofs.OneTti.{delivers_alike, delivers_one}
+use Rattle.dch_nodeb.proofs.Same.{arrival_answer, step_same}
+
+pub same_output : (output : Output) → IsSameOutput output output
+same_output output = record { lines = refl; sent = refl; iub = λ s inside. refl }
+
+-- a downlink radio frame
+departure_same : (planned : Planned) (old new older newer : State) (output more : Output) → planned ≡ new.planned → IsSameState new newer → IsDeparture planned old new output → IsDeparture planned older newer more → IsSameOutput output more
+departure_same planned old new older newer output more same states a b =
+    let given : (i : ℕ) → i < length planned.config.downlink.side.channels → newer.given i ≡ new.given i = λ i inside.
+    states.given i (subst (λ (p : Planned). i < length p.config.downlink.side.channels) same inside) in
+    let sent : more.sent ≡ output.sent = radio_one planned new newer output.sent more.sent states.cfn given a.radio b.radio in record {
+      lines = b.reported ∙ ap (λ (r : Option Radio). radio_line r ∷ []) sent ∙ sym a.reported;
+      sent = sent;
+      iub = λ s inside. b.no_iub s inside ∙ sym (a.no_iub s inside);
+    }
+
+pub departure_output : (old new older newer : State) (output more : Output) → IsSameState old older → Steps old DownlinkDue new output → Steps older DownlinkDue newer more → IsSameOutput output more
+departure_output old new older newer output more same a b =
+    departure_same old.planned old new older newer output more (sym (ap (λ (s : State). s.planned) a.state)) (step_same old new older newer DownlinkDue output more same a b) a
+    (subst (λ (p : Planned). IsDeparture p older newer more) same.planned b)
+
+-- the lines of sets
+joined_same : (lines more : ℕ → List Line) (n : ℕ) → ((s : ℕ) → s < n → more s ≡ lines s) → joined more n ≡ joined lines n
+joined_same lines more zero same = refl
+joined_same lines more (suc n) same = ap₂ (λ (ls ms : List Line). ls ++ ms) (joined_same lines more n (λ s early. same s (omega arith))) (same n (omega arith))
+
+-- an uplink radio frame
+reception_same : (planned : Planned) (old new older newer : State) (frame : Option Radio) (output more : Output) → IsSide planned.config.uplink.side → older.cfn ≡ old.cfn → IsSameState new newer
+    → IsReception planned old frame new output → IsReception planned older frame newer more → IsSameOutput output more
+reception_same planned old new older newer frame output more good cfn states a b =
+    let keep : KeepTheSame b.rx_frames a.rx_frames = heard_same planned Up older.cfn old.cfn newer.frames new.frames b.rx_frames a.rx_frames (sym cfn) (λ k. sym (states.frames k)) b.kept a.kept in
+    let each : (s : ℕ) → s < 8 → (b.lines s ≡ a.lines s) × (more.iub s ≡ output.iub s) = λ s inside.
+    delivers_one planned a.rx_frames s (a.lines s) (b.lines s) (output.iub s) (more.iub s) good (a.sets s inside) (delivers_alike planned b.rx_frames a.rx_frames s (b.lines s) (more.iub s) keep (b.sets s inside)) in record {
+      lines = b.reported ∙ joined_same a.lines b.lines 8 (λ s inside. (each s inside).0) ∙ sym a.reported;
+      sent = b.no_radio ∙ sym a.no_radio;
+      iub = λ s inside. (each s inside).1;
+    }
+
+-- any event
+pub step_output : (old new older newer : State) (event : Event) (output more : Output) → IsPlanned old.planned → IsSameState old older
+    → Steps old event new output → Steps older event newer more → IsSameOutput output more
+step_output old new older newer (IubFrame set octets) output more planned same a b =
+    subst (λ (o : Output). IsSameOutput output o) (sym (arrival_answer old new older newer set octets output more same.planned a b)) (same_output output)
+step_output old new older newer DownlinkDue output more planned same a b = departure_output old new older newer output more same a b
+step_output old new older newer (UplinkFrame frame) output more planned same a b =
+    reception_same old.planned old new older newer frame output more planned.good.uplink.side same.cfn (step_same old new older newer (UplinkFrame frame) output more same a b) a
+    (subst (λ (p : Planned). IsReception p older frame newer more) same.planned b)
+
+-- no step changes the configuration
+step_planned : (old new : State) (event : Event) (output : Output) → Steps old event new output → new.planned ≡ old.planned
+step_planned old new (IubFrame set octets) output (inl kept) = ap (λ (s : State). s.planned) kept.state
+step_planned old new (IubFrame set octets) output (inr refused) = ap (λ (s : State). s.planned) refused.state
+step_planned old new DownlinkDue output step = ap (λ (s : State). s.planned) step.state
+step_planned old new (UplinkFrame frame) output step = ap (λ (s : State). s.planned) step.state
+
+-- all steps have the same lines, and the last one the same output
+pub trace_output : (old older new newer : State) (before earlier last more : Output) (events : List Event) (lines rest : List Line) → IsPlanned old.planned → IsSameState old older → IsSameOutput before earlier
+    → Trace Steps old before events new last lines → Trace Steps older earlier events newer more rest → (rest ≡ lines) × IsSameOutput last more
+trace_output old older new newer before earlier last more [] lines rest planned same outputs a b =
+    (b.2 ∙ sym a.2, subst (λ (o : Output). IsSameOutput o more) (sym a.1) (subst (λ (o : Output). IsSameOutput before o) (sym b.1) outputs))
+trace_output old older new newer before earlier last more (event ∷ events) lines rest planned same outputs a b =
+    let now : IsSameOutput a.output b.output = step_output old a.next older b.next event a.output b.output planned same a.step b.step in
+    let later = trace_output a.next b.next new newer a.output b.output last more events a.rest b.rest (subst IsPlanned (sym (step_planned old a.next event a.output a.step)) planned)
+    (step_same old a.next older b.next event a.output b.output same a.step b.step) now a.later b.later in
+    (b.reported ∙ ap₂ (λ (ls ms : List Line). ls ++ ms) now.lines later.0 ∙ sym a.reported, later.1)
