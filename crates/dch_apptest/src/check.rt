@@ -1,30 +1,46 @@
 use dch_check::*;
-use std::alloc::Global;
+use dch_io::{InputOffset, MemorySource, new_piece};
+use std::alloc::{AllocError, Global};
 use std::test::Fail;
 
-/// The section of an input that comes in pieces of so many bytes.
-fn section_of(alloc: Global, input: &[u8], step: usize) -> Result<ConfigSection, Fail> {
-    let mut section = ConfigSection::new(alloc);
-    for piece in input.chunks(step.max(1)) {
-        section = section.follow(piece)?;
+/// Whether an input that comes in pieces of so many bytes has this configuration at its front, so much before the bytes that are
+/// pending then, and those.
+fn is_front(
+    alloc: Global,
+    input: &[u8],
+    step: usize,
+    text: &[u8],
+    before: InputOffset,
+    rest: &[u8],
+) -> Result<bool, AllocError> {
+    let input = input.to_vec(alloc)?;
+    let mut source = MemorySource::new(input, step, Vec::new(alloc));
+    let Ok(mut piece) = new_piece(alloc) else {
+        return Err(AllocError);
+    };
+    match take_config(alloc, &mut source, &mut piece) {
+        Ok(front) => {
+            let offset = front.offset();
+            let pending = &piece[front.pending.from..front.pending.to];
+            Ok(
+                front.section.text() == text
+                    && (offset.bytes, offset.lines) == (before.bytes, before.lines)
+                    && pending == rest,
+            )
+        }
+        Err(_fault) => Ok(false),
     }
-    Ok(section)
 }
 
 #[test]
-fn sections_of_inputs(rt: HostRuntime) -> Result<(), Fail> {
-    for step in [1usize, 3, 100] {
-        let complete = section_of(rt.alloc(), b"a\n---\nb\n", step)?;
-        assert!(rt; complete.is_complete() && complete.text() == b"a\n".as_slice());
-        let open = section_of(rt.alloc(), b"a\n---", step)?;
-        assert!(rt; !open.is_complete() && open.text() == b"a\n".as_slice());
-    }
-    Ok(())
-}
-
-#[test]
-fn a_judgement(rt: HostRuntime) -> Result<(), Fail> {
-    let verdict = judge(rt.alloc(), b"a = ")?;
-    assert_eq!(rt; verdict.line(), b"refused 10\n".as_slice());
+fn configurations_at_the_front_of_inputs(rt: HostRuntime) -> Result<(), Fail> {
+    let alloc = rt.alloc();
+    let six = InputOffset { bytes: 6, lines: 2 };
+    let nothing = b"".as_slice();
+    assert!(rt; is_front(alloc, b"a\n---\nb\n", 1, b"a\n", six, nothing)?);
+    assert!(rt; is_front(alloc, b"a\n---\nb\n", 4, b"a\n", six, b"b\n")?);
+    assert!(rt; is_front(alloc, b"a\n---\nb\n", 100, b"a\n", six, b"b\n")?);
+    let five = InputOffset { bytes: 5, lines: 1 };
+    assert!(rt; is_front(alloc, b"a\n---", 3, b"a\n", five, nothing)?);
     Ok(())
 }

@@ -1,5 +1,6 @@
-use dch_config::{ConfigError, Dir, has_ct, read};
-use std::test::Fail;
+use dch_config::{Dir, has_ct, read};
+use dch_types::Config;
+use std::alloc::Global;
 
 fn speech() -> &'static str {
     "[iub]\npayload_check = true\nqe = 7
@@ -14,32 +15,23 @@ channel = [{ tti = 40, code = \"third\", crc = 16, rm = 180, set = 1, formats = 
 [[bearer]]\nmode = \"am\"\nup = 1\ndown = 0\npriority = 1\nbuffer = 64\npoll_timer = 20\n"
 }
 
-#[test]
-fn speech_is_read(rt: HostRuntime) -> Result<(), Fail> {
-    let text = speech();
-    let config = read(rt.alloc(), text.as_bytes())?;
-    assert_eq!(rt; config.uplink.side.channels.len(), 2);
-    assert_eq!(rt; config.uplink.side.combinations.len(), 4);
-    assert_eq!(rt; config.downlink.slot_bits, 34);
-    assert_eq!(rt; config.qe, 7);
-    assert_eq!(rt; config.bearers.len(), 2);
-    assert!(rt; !has_ct(&config, Dir::Up, 1));
-    Ok(())
+fn is_speech(config: &Config) -> bool {
+    config.uplink.side.channels.len() == 2
+        && config.uplink.side.combinations.len() == 4
+        && config.downlink.slot_bits == 34
+        && config.qe == 7
+        && config.bearers.len() == 2
+        && !has_ct(config, Dir::Up, 1)
 }
 
-fn is_key(error: &ConfigError, path: &str) -> bool {
-    match error {
-        ConfigError::Key(key) => key.as_str() == path,
-        _ => false,
+fn reads_speech(alloc: Global) -> bool {
+    match read(alloc, speech().as_bytes()) {
+        Ok(config) => is_speech(&config),
+        Err(_) => false,
     }
 }
 
 #[test]
-fn an_empty_text_is_refused(rt: HostRuntime) -> Result<(), Fail> {
-    let refused = match read(rt.alloc(), b"") {
-        Ok(_config) => false,
-        Err(error) => is_key(&error, "downlink"),
-    };
-    assert!(rt; refused);
-    Ok(())
+fn speech_is_read(rt: HostRuntime) {
+    assert!(rt; reads_speech(rt.alloc()));
 }

@@ -2,7 +2,7 @@ ghost use Rattle.std.specs.Prelude.{◌≡◌, ℕ};
 ghost use Rattle.std.proofs.Common.{refl, sym};
 ghost use Rattle.dch_apptest.specs.Echo.{echoing, echoing_finishes};
 
-use dch_io::{MemorySink, MemorySource, new_piece};
+use dch_io::{InputOffset, MemorySink, MemorySource, Pending, new_piece};
 use dch_lines::*;
 use dch_script::{LineError, Report};
 use std::alloc::Global;
@@ -26,6 +26,8 @@ impl LineHandler for Echo {
     ghost remaining = { λ echo. echo.remaining };
 
     ghost stands = { λ _. Unit {0} };
+
+    ghost handled = { λ _. 0 };
 
     fn handle_line(&mut self, line: &[u8], report: &mut Report) -> Result<(), LineFault> {
         if line == b"much\n".as_slice() {
@@ -84,7 +86,12 @@ fn followed(
     let mut processor = LineProcessor::open(alloc, Echo { remaining: 0 }, b"open\n", before, 64)?;
     let mut source = MemorySource::new(input.to_vec(alloc)?, 3, Vec::new(alloc));
     let mut sink = MemorySink::new(vec![in alloc; 0; 200]?, 4, failing.to_vec(alloc)?);
-    let outcome = follow_input(&mut source, &mut sink, &mut piece, 0, count, &mut processor);
+    let pending = Pending {
+        from: 0,
+        to: count,
+        at_end: false,
+    };
+    let outcome = follow_input(&mut source, &mut sink, &mut piece, pending, &mut processor);
     Ok((outcome, sink))
 }
 

@@ -3,11 +3,12 @@ use dch_top::{Bench, Status, run};
 use std::alloc::{AllocError, Global};
 use std::test::Fail;
 
-/// An input, the most bytes of a read or a write, and the numbers of those that fail.
+/// An input, the most bytes of a read and of a write, and the numbers of those that fail.
 #[derive(Clone, Copy)]
 struct Outside<'a> {
     input: &'a [u8],
     step: usize,
+    write_step: usize,
     reads: &'a [u64],
     writes: &'a [u64],
 }
@@ -22,7 +23,7 @@ fn answered(
     let input = outside.input.to_vec(alloc)?;
     let mut source = MemorySource::new(input, outside.step, outside.reads.to_vec(alloc)?);
     let room = vec![in alloc; 0; 200]?;
-    let mut sink = MemorySink::new(room, outside.step, outside.writes.to_vec(alloc)?);
+    let mut sink = MemorySink::new(room, outside.write_step, outside.writes.to_vec(alloc)?);
     let mut bench = Bench::new();
     let status = run(alloc, &words, &mut source, &mut sink, &mut bench);
     bench.close();
@@ -45,6 +46,7 @@ fn undisturbed(input: &[u8], step: usize) -> Outside<'_> {
     Outside {
         input,
         step,
+        write_step: step,
         reads: &[],
         writes: &[],
     }
@@ -55,6 +57,7 @@ fn failing_read(input: &[u8], step: usize) -> Outside<'_> {
     Outside {
         input,
         step,
+        write_step: step,
         reads: &[1],
         writes: &[],
     }
@@ -69,14 +72,14 @@ fn no_toml() -> &'static [u8] {
     b"a = \n---\nx"
 }
 
-/// A small configuration, and a script.
+/// A small configuration, and a script of a Node B.
 fn tiny() -> &'static str {
     "[iub]\npayload_check = false\nqe = 0
 [uplink]\nlargest = 150\npl = 100\ncombinations = [[0],[1]]
 channel = [{ tti = 10, code = \"none\", crc = 0, rm = 256, set = 0, formats = [[0,0],[1,150]] }]
 [downlink]\nslot_bits = 10\ncodes = 1\nsf = 256\npositions = \"fixed\"\ncombinations = [[0],[1]]
 channel = [{ tti = 10, code = \"none\", crc = 0, rm = 256, set = 0, formats = [[0,0],[1,150]] }]
----\nx"
+---\nphy none\n\nphy none\n"
 }
 
 #[test]
@@ -89,6 +92,18 @@ fn inputs_and_outputs_byte_by_byte(rt: HostRuntime) -> Result<(), Fail> {
     assert!(rt; ends(alloc, "check", &good, Status::Ok, b"accepted count=0\n")?);
     let bad = undisturbed(no_toml(), 1);
     assert!(rt; ends(alloc, "check", &bad, Status::Refused, b"refused 10\n")?);
+    Ok(())
+}
+
+#[test]
+fn a_node_b_over_pieces(rt: HostRuntime) -> Result<(), Fail> {
+    let alloc = rt.alloc();
+    let text = b"open\nbadtti up 0 0\nbadtti up 0 0\nend frames=2\n";
+    let whole = undisturbed(tiny().as_bytes(), 1_000);
+    assert!(rt; ends(alloc, "nodeb", &whole, Status::Ok, text)?);
+    let mut pieces = undisturbed(tiny().as_bytes(), 16);
+    pieces.write_step = 1;
+    assert!(rt; ends(alloc, "nodeb", &pieces, Status::Ok, text)?);
     Ok(())
 }
 
@@ -111,6 +126,7 @@ fn failing_write<'a>(input: &'a [u8], writes: &'a [u64]) -> Outside<'a> {
     Outside {
         input,
         step: 9,
+        write_step: 9,
         reads: &[],
         writes,
     }

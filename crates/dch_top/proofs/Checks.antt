@@ -8,18 +8,18 @@ use Rattle.dch_io.specs.Causes.{Rose}
 use Rattle.dch_io.specs.Ends.{End, span}
 use Rattle.dch_check.specs.ConfigSection.{configuration_of}
 use Rattle.dch_check.specs.Verdicts.{IsAccepted, Refuses}
-use Rattle.dch_check.specs.declared.verdict.Verdict.{Verdict}
-use Rattle.dch_check.specs.declared.verdict.Verdict.TheVariants.{Accepted as AcceptedBy, Refused as RefusedBy}
 use Rattle.dch_check.proofs.ConfigSections.{configuration_more}
 use Rattle.dch_check.proofs.Judgements.{one_judgement}
 use Rattle.dch_io.specs.declared.feed.TheConstants.{LIMIT}
 use Rattle.dch_top.specs.Checked.{Answers, Checks, HasEnded, Judged}
+use Rattle.dch_top.specs.declared.check.Answer.{Answer}
+use Rattle.dch_top.specs.declared.check.Answer.TheVariants.{Accepted as AcceptedBy, Refused as RefusedBy}
 use Rattle.dch_top.specs.declared.command.Status.{Status}
 use Rattle.dch_top.specs.declared.command.Status.TheVariants.{Ok as Done, Refused, Usage, ReadFault, WriteFault, NoMemory, TooLong}
 use Rattle.dch_lines.proofs.Complete.{consumed, all_consumed}
 
 -- the line of a judgement is written, or a front of it
-pub answered : (a b k l : Option (List ℕ)) (f g h i : ℕ) (verdict : Verdict) (status : Status) → Judged (span a b f g) (Ok verdict) → Answers (span k l h i) verdict status → Checks (span a b f g) (span k l h i) status
+pub answered : (a b k l : Option (List ℕ)) (f g h i : ℕ) (answer : Answer) (status : Status) → Judged (span a b f g) (Ok answer) → Answers (span k l h i) answer status → Checks (span a b f g) (span k l h i) status
 answered a b k l f g h i (AcceptedBy line) Done judged writes = record { taken = judged.taken; written = string_bytes line; takes = judged.takes; writes = writes; answers = judged.finds }
 answered a b k l f g h i (AcceptedBy line) WriteFault judged breaks = record {
   taken = judged.taken;
@@ -36,7 +36,7 @@ answered a b k l f g h i (RefusedBy line) WriteFault judged breaks = record {
   writes = breaks.writes;
   answers = record { fails = breaks.fails; line = string_bytes line; answers = inr judged.finds; cut = breaks.cut };
 }
-answered a b k l f g h i verdict status judged answers = absurd answers
+answered a b k l f g h i answer status judged answers = absurd answers
 
 -- there is no judgement, and nothing is written
 pub unanswered : (a b k : Option (List ℕ)) (f g h : ℕ) (status : Status) → Judged (span a b f g) (Err status) → Checks (span a b f g) (span k k h h) status
@@ -46,8 +46,8 @@ unanswered a b k f g h TooLong judged = record { taken = judged.taken; written =
 unanswered a b k f g h status judged = absurd judged.finds
 
 -- the configuration that was judged is the input's
-judged_whole : (source : End) (input taken more : List ℕ) → input ≡ taken ++ more → (IsAtEnd source.now → input ≡ taken) → HasEnded source taken → configuration_of taken ≡ configuration_of input
-judged_whole source input taken more cut all ended =
+pub same_configuration : (source : End) (input taken more : List ℕ) → input ≡ taken ++ more → (IsAtEnd source.now → input ≡ taken) → HasEnded source taken → configuration_of taken ≡ configuration_of input
+same_configuration source input taken more cut all ended =
     ⊎_elim (λ done. sym (configuration_more taken more done) ∙ sym (ap configuration_of cut)) (λ end. sym (ap configuration_of (all end))) ended
 
 -- an accepted configuration is answered without a fault
@@ -64,7 +64,7 @@ good_answered (Some input) now k l f g h i TooLong run = λ line good size s t.
     absurd (omega (arith, run.answers.0.long, ap length more.1, length-append run.taken more.0))
 good_answered (Some input) now k l f g h i Refused run = λ line good size s t.
     let more = consumed input run.taken now run.takes in
-    let same = judged_whole (span (Some input) now f g) input run.taken more.0 more.1 (all_consumed input run.taken now run.takes) run.answers.ended in
+    let same = same_configuration (span (Some input) now f g) input run.taken more.0 more.1 (all_consumed input run.taken now run.takes) run.answers.ended in
     absurd (one_judgement (configuration_of input) line run.written good (subst (λ text. Refuses text run.written) same run.answers.refuses))
 
 -- and so is a refused one

@@ -1,13 +1,14 @@
 -- What `check` answers, by the bytes that it took and wrote.
 use Rattle.std.specs.Prelude.{◌≡◌, ◌<◌, ◌≤◌, ◌⊎◌, ◌+◌, ℕ, List, [], ◌++◌, true, false, length, take, Result, Ok, Err, string_bytes}
-use Rattle.std.specs.Borrow.{Bor}
-use Rattle.std.specs.Io.KnownBytes.{Consumes, Appends, IsAtEnd, Keeps}
+use Rattle.std.specs.Io.KnownBytes.{Consumes, Appends, IsAtEnd}
 use Rattle.dch_io.specs.Ends.{End, Breaks, Fails, IsCutShort}
 use Rattle.dch_io.specs.declared.feed.TheConstants.{LIMIT, PIECE}
 use Rattle.dch_check.specs.ConfigSection.{configuration_of, is_complete}
-use Rattle.dch_check.specs.Verdicts.{IsAccepted, Judges, Refuses}
-use Rattle.dch_check.specs.declared.verdict.Verdict.{Verdict}
-use Rattle.dch_check.specs.declared.verdict.Verdict.TheVariants.{Accepted as AcceptedBy, Refused as RefusedBy}
+use Rattle.dch_check.specs.Verdicts.{IsAccepted, Refuses}
+use Rattle.dch_check.specs.declared.taken_config.ConfigFault.{ConfigFault}
+use Rattle.dch_check.specs.declared.taken_config.ConfigFault.TheVariants as fault
+use Rattle.dch_top.specs.declared.check.Answer.{Answer}
+use Rattle.dch_top.specs.declared.check.Answer.TheVariants.{Accepted as AcceptedBy, Refused as RefusedBy}
 use Rattle.dch_top.specs.declared.command.Status.{Status}
 use Rattle.dch_top.specs.declared.command.Status.TheVariants.{Ok as Done, Refused, Usage, ReadFault, WriteFault, NoMemory, TooLong}
 
@@ -72,8 +73,19 @@ pub record Checks (source sink : End) (status : Status) : Type 0 where
   pub writes : Appends sink.before sink.now written
   pub answers : ChecksTaken source sink taken written status
 
+-- the line of an answer
+abbrev pub answer_line : Answer → List ℕ
+answer_line (AcceptedBy line) = string_bytes line
+answer_line (RefusedBy line) = string_bytes line
+
+-- the status of a fault before a configuration was taken whole
+abbrev pub fault_status : ConfigFault → Status
+fault_status fault.ReadFault = ReadFault
+fault_status fault.NoMemory = NoMemory
+fault_status fault.TooLong = TooLong
+
 -- what judging the bytes taken finds
-abbrev pub Finds : End → List ℕ → Result Verdict Status → Type 0
+abbrev pub Finds : End → List ℕ → Result Answer Status → Type 0
 Finds source taken (Ok (AcceptedBy line)) = IsGoodInput source taken (string_bytes line)
 Finds source taken (Ok (RefusedBy line)) = IsRefusedInput source taken (string_bytes line)
 Finds source taken (Err ReadFault) = FailsJudging source taken
@@ -82,44 +94,24 @@ Finds source taken (Err TooLong) = IsBeyond taken
 Finds source taken (Err _) = ⊥
 
 -- the source gave some bytes, and they were judged
-pub record Judged (source : End) (found : Result Verdict Status) : Type 0 where
+pub record Judged (source : End) (found : Result Answer Status) : Type 0 where
   pub taken : List ℕ
   pub takes : Consumes source.before source.now taken
   pub finds : Finds source taken found
 
 -- what judging a text finds, if there is memory
-abbrev pub JudgesText : List ℕ → Result Verdict Status → Type 0
-JudgesText text (Ok verdict) = Judges text verdict
+abbrev pub JudgesText : List ℕ → Result Answer Status → Type 0
+JudgesText text (Ok (AcceptedBy line)) = IsAccepted text (string_bytes line)
+JudgesText text (Ok (RefusedBy line)) = Refuses text (string_bytes line)
 JudgesText text (Err status) = status ≡ NoMemory
 
 -- what writing the line of a judgement does
-abbrev pub Answers : End → Verdict → Status → Type 0
+abbrev pub Answers : End → Answer → Status → Type 0
 Answers sink (AcceptedBy line) Done = Appends sink.before sink.now (string_bytes line)
 Answers sink (AcceptedBy line) WriteFault = Breaks sink (string_bytes line)
 Answers sink (RefusedBy line) Refused = Appends sink.before sink.now (string_bytes line)
 Answers sink (RefusedBy line) WriteFault = Breaks sink (string_bytes line)
 Answers sink _ _ = ⊥
-
--- the next piece after so many bytes
-pub record IsPiece (source : End) (count : ℕ) (piece : List ℕ) : Type 0 where
-  pub takes : Consumes source.before source.now piece
-  pub small : length piece ≤ PIECE
-  pub within : count + length piece ≤ LIMIT
-  pub end : length piece ≡ 0 → IsAtEnd source.now
-
--- one byte more than may come
-pub record IsOneMore (source : End) (count : ℕ) : Type 0 where
-  pub full : count ≡ LIMIT
-  pub piece : List ℕ
-  pub takes : Consumes source.before source.now piece
-  pub some : 0 < length piece
-
--- what reading on after so many bytes does
-abbrev pub ReadsOn : End → ℕ → Result (Bor (List ℕ)) Status → Type 0
-ReadsOn source count (Ok piece) = IsPiece source count piece.now
-ReadsOn source count (Err ReadFault) = Fails source × Keeps source.before source.now
-ReadsOn source count (Err TooLong) = IsOneMore source count
-ReadsOn source count (Err _) = ⊥
 
 -- how the rest of an input ends, by the count of all its bytes
 abbrev pub EndsAfter : End → ℕ → Result (Unit {0}) Status → Type 0

@@ -1,29 +1,28 @@
 -- What a run answers, by the bytes that it took and wrote.
 use Rattle.std.specs.Prelude.{◌≡◌, ◌⊎◌, ℕ, List, [], All, IsOk, true, map, String, codes, string_bytes}
 use Rattle.std.specs.declared.alloc.Global.{Global}
-use Rattle.std.specs.Io.KnownBytes.{Consumes, Appends}
+use Rattle.std.specs.Io.KnownBytes.{Appends}
 use Rattle.dch_io.specs.Ends.{End, Fails, IsCutShort}
 use Rattle.dch_script.specs.Code.{meaning}
 use Rattle.dch_words.specs.Parses.{IsCommand, Parses}
 use Rattle.dch_words.specs.declared.arguments.Subcommand.{Subcommand}
-use Rattle.dch_words.specs.declared.arguments.Subcommand.TheVariants.{Check, Encode}
+use Rattle.dch_words.specs.declared.arguments.Subcommand.TheVariants.{Check, Encode, NodeB}
 use Rattle.dch_words.specs.declared.arguments.Arguments.{Arguments}
 use Rattle.dch_lines.specs.Processor.{Progress}
 use Rattle.dch_lines.specs.Followed.{FollowsInput}
 use Rattle.dch_lines.specs.LineTexts.{is_empty}
 use Rattle.dch_lines.specs.declared.stop.Outcome.TheVariants.{Ok as Done, Refused as MetMalformed, ReadFault as FailedReading, WriteFault as FailedWriting, TooLong as TookTooMuch}
+use Rattle.dch_top.specs.Benches.{Nodes, no_nodes}
 use Rattle.dch_top.specs.Checked.{Checks}
 use Rattle.dch_top.specs.EncodeText.{encoding}
+use Rattle.dch_top.specs.NodeBRuns.{RunsNodeB}
+use Rattle.dch_top.specs.Untouched.{IsUntouched}
 use Rattle.dch_top.specs.declared.command.Status.{Status}
 use Rattle.dch_top.specs.declared.command.Status.TheVariants.{Ok, Refused, Usage, ReadFault, WriteFault, NoMemory, TooLong}
 
 -- the work of `encode` before its first line
 abbrev pub beginning : Progress (Unit {0})
 beginning = record { handler = tt; line = []; text = []; bytes = 0; lines = 0; nonempty_lines = 0 }
-
--- the source gave nothing, and the sink took nothing
-abbrev pub IsUntouched : End → End → Type 0
-IsUntouched source sink = Consumes source.before source.now [] × Appends sink.before sink.now []
 
 -- what `encode` does: it follows the lines of its input
 abbrev pub Encodes : End → End → Status → Type 0
@@ -52,19 +51,24 @@ pub record Misuses (source sink : End) (status : Status) : Type 0 where
   pub answers : RefusesWords sink written status
   pub unread : source.now ≡ source.before
 
+-- the words are a command, and say this
+abbrev pub Says : List (String Global) → Arguments → Type 0
+Says words arguments = Parses (map string_bytes words) arguments
+
 -- the words are a command, and ask for this
 abbrev pub Asks : List (String Global) → Subcommand → Type 0
-Asks words subcommand = (arguments : Arguments) × (Parses (map string_bytes words) arguments × (arguments.subcommand ≡ subcommand))
+Asks words subcommand = (arguments : Arguments) × (Says words arguments × (arguments.subcommand ≡ subcommand))
 
 -- the words are no command
 abbrev pub IsNoCommand : List (String Global) → Type 0
 IsNoCommand words = ¬ IsCommand (map string_bytes words)
 
--- what a run of these words does
-pub record Ran (words : List (String Global)) (source sink : End) (status : Status) : Type 0 where
-  pub encodes : Asks words Encode → Encodes source sink status
-  pub checks : Asks words Check → Checks source sink status
-  pub misuses : IsNoCommand words → Misuses source sink status
+-- what a run of these words does, and what the bench holds then
+pub record Ran (words : List (String Global)) (source sink : End) (bench : Nodes) (status : Status) : Type 0 where
+  pub encodes : Asks words Encode → Encodes source sink status × (bench ≡ no_nodes)
+  pub checks : Asks words Check → Checks source sink status × (bench ≡ no_nodes)
+  pub runs_node_b : (arguments : Arguments) → Says words arguments → arguments.subcommand ≡ NodeB → RunsNodeB arguments.start arguments.quiet source sink bench status
+  pub misuses : IsNoCommand words → Misuses source sink status × (bench ≡ no_nodes)
 
 -- each of the lines is empty or well formed
 abbrev pub AreGood : List (List ℕ) → Type 0

@@ -1,15 +1,46 @@
-/// The nodes that a run opened. The commands that have come so far open none.
+ghost use Rattle.std.specs.Prelude.{◌≡◌, Some, None, option_map};
+ghost use Rattle.dch_top.specs.Benches.{Nodes, no_nodes};
+
+use dch_nodeb::NodeB;
+use std::marker::Model;
+
+/// The nodes that a run opened.
 #[derive(Drop)]
-pub struct Bench {}
+pub struct Bench {
+    node_b: Option<NodeB>,
+}
+
+impl Model for Bench {
+    ghost use Rattle.dch_top.specs.Benches.{Nodes};
+
+    ghost Value = { Nodes };
+
+    ghost view = { λ b. record { node_b = b.node_b } };
+}
 
 impl Bench {
     /// An empty bench.
-    pub fn new() -> Self {
-        Bench {}
+    pub fn new() -> Self
+        ensures { result ≡ no_nodes }
+    {
+        Bench { node_b: None }
+    }
+
+    /// The Node B, if the bench holds one. Its leg is 0.
+    pub fn node_b(&self, leg: u8) -> Option<&NodeB>
+        requires { leg ≡ 0 }
+        ensures { option_map (λ node. node.now) result ≡ self.now.node_b }
+    {
+        self.node_b.as_ref()
+    }
+
+    /// Takes a Node B, in place of the one before.
+    pub(crate) fn hold_node_b(&mut self, node: NodeB)
+        ensures { self.new ≡ record self.old { node_b = Some node } }
+    {
+        self.node_b = Some(node);
     }
 
     /// Closes all nodes held.
-    pub fn close(self) {
-        let Bench {} = self;
-    }
+    pub fn close(self) {}
 }

@@ -2,18 +2,23 @@ ghost use Rattle.std.specs.Prelude.{◌≡◌, ◌≤◌, ◌⊎◌, ℕ, List, 
 ghost use Rattle.dch_io.specs.Causes.{Rose};
 ghost use Rattle.dch_io.specs.Ends.{end_of};
 ghost use Rattle.dch_script.specs.Lines.{lines_of, rest_of};
-ghost use Rattle.dch_check.specs.ConfigSection.{configuration_of};
-ghost use Rattle.dch_check.specs.Verdicts.{IsAccepted, Refuses};
-ghost use Rattle.dch_words.specs.declared.arguments.Subcommand.TheVariants.{Check, Encode};
+ghost use Rattle.dch_accept.specs.Plans.{Planned};
+ghost use Rattle.dch_check.specs.ConfigSection.{configuration_of, script_of};
+ghost use Rattle.dch_check.specs.Verdicts.{IsAccepted, IsAcceptedAs, Refuses};
+ghost use Rattle.dch_words.specs.declared.arguments.Subcommand.TheVariants.{Check, Encode, NodeB};
+ghost use Rattle.dch_words.specs.declared.arguments.Arguments.{Arguments};
+ghost use Rattle.dch_top.specs.NodeBRuns.{AreEvents};
+ghost use Rattle.dch_top.specs.Benches.{no_nodes};
 ghost use Rattle.dch_io.specs.declared.feed.TheConstants.{LIMIT};
-ghost use Rattle.dch_top.specs.Ran.{Ran, Asks, IsNoCommand, Misuses, AreGood};
+ghost use Rattle.dch_top.specs.Ran.{Ran, Asks, Says, IsNoCommand, Misuses, AreGood};
 
 use crate::bench::Bench;
 use crate::check::check;
 use crate::encode::encode;
+use crate::node_b::node_b;
 use dch_bits::NoMemory;
 use dch_io::{Sink, Source, write_all};
-use dch_words::{Subcommand, parse_arguments};
+use dch_words::{Arguments, Subcommand, parse_arguments};
 use std::alloc::Global;
 
 /// How a run ended. The number of a status is its place in this list, from 0.
@@ -51,7 +56,7 @@ impl Status {
 }
 
 /// Runs the command that the words name: reads from the source and writes to the sink. The words don't hold the
-/// program's name. The bench is empty, and stays so for the commands that have come so far.
+/// program's name. The bench is empty; where the status is 0 it then holds just the nodes of the command.
 pub fn run<S: Source, K: Sink>(
     alloc: Global,
     words: &[String],
@@ -59,8 +64,10 @@ pub fn run<S: Source, K: Sink>(
     sink: &mut K,
     bench: &mut Bench,
 ) -> Status
-    // What was read and written, and what the status says of it.
-    ensures ran { Ran words.now (end_of S.left S.faults source.old source.new) (end_of K.taken K.faults sink.old sink.new) result }
+    requires bench { bench.old ≡ no_nodes }
+
+    // What was read and written, what the status says of it, and what the bench holds.
+    ensures ran { Ran words.now (end_of S.left S.faults source.old source.new) (end_of K.taken K.faults sink.old sink.new) bench.new result }
 
     // Faults are never made up.
     ensures read_fault { result ≡ Status.ReadFault → Rose (S.faults source.old) (S.faults source.new) }
@@ -72,6 +79,12 @@ pub fn run<S: Source, K: Sink>(
         → ¬ Rose (S.faults source.old) (S.faults source.new) → ¬ Rose (K.faults sink.old) (K.faults sink.new)
         → (result ≡ Status.Ok) ⊎ (result ≡ Status.NoMemory)) }
 
+    // So are the events of a Node B behind an accepted configuration.
+    ensures events { (arguments : Arguments) → Says words.now arguments → arguments.subcommand ≡ NodeB → IfSome (S.left source.old) (λ input. (accepted : Planned) → IsAcceptedAs (configuration_of input) accepted
+        → AreEvents accepted.config (lines_of (script_of input)) → rest_of (script_of input) ≡ [] → length input ≤ LIMIT
+        → ¬ Rose (S.faults source.old) (S.faults source.new) → ¬ Rose (K.faults sink.old) (K.faults sink.new)
+        → (result ≡ Status.Ok) ⊎ (result ≡ Status.NoMemory)) }
+
     // A configuration without a fault is judged.
     ensures good { Asks words.now Check → IfSome (S.left source.old) (λ input. (line : List ℕ) → IsAccepted (configuration_of input) line → length input ≤ LIMIT
         → ¬ Rose (S.faults source.old) (S.faults source.new) → ¬ Rose (K.faults sink.old) (K.faults sink.new)
@@ -80,8 +93,7 @@ pub fn run<S: Source, K: Sink>(
         → ¬ Rose (S.faults source.old) (S.faults source.new) → ¬ Rose (K.faults sink.old) (K.faults sink.new)
         → (result ≡ Status.Refused) ⊎ (result ≡ Status.NoMemory)) }
 {
-    let Bench {} = bench;
-    follow_words(alloc, words, source, sink)
+    follow_words(alloc, words, source, sink, bench)
 }
 
 fn follow_words<S: Source, K: Sink>(
@@ -89,13 +101,19 @@ fn follow_words<S: Source, K: Sink>(
     words: &[String],
     source: &mut S,
     sink: &mut K,
+    bench: &mut Bench,
 ) -> Status
-    ensures { Ran words.now (end_of S.left S.faults source.old source.new) (end_of K.taken K.faults sink.old sink.new) result }
+    requires { bench.old ≡ no_nodes }
+    ensures { Ran words.now (end_of S.left S.faults source.old source.new) (end_of K.taken K.faults sink.old sink.new) bench.new result }
 {
     match parse_arguments(alloc, words) {
         Ok(Some(arguments)) => match arguments.subcommand {
             Subcommand::Check => check(alloc, source, sink),
             Subcommand::Encode => encode(alloc, source, sink),
+            Subcommand::NodeB => {
+                let Arguments { start, quiet, .. } = arguments;
+                node_b(alloc, start, quiet, source, sink, bench)
+            }
         },
         Ok(None) => refuse_words(source, sink),
         Err(NoMemory) => Status::NoMemory,

@@ -3,8 +3,8 @@ ghost use Rattle.dch_top.specs.Ran.{Encodes};
 
 use crate::command::Status;
 use crate::encode_handler::EncodeHandler;
-use dch_io::{Sink, Source, new_piece};
-use dch_lines::{InputOffset, LineProcessor, Outcome, follow_input};
+use dch_io::{InputOffset, Pending, Sink, Source, new_piece};
+use dch_lines::{LineProcessor, Outcome, follow_input};
 use std::alloc::Global;
 
 /// The bytes of the text that is held before it is written.
@@ -24,7 +24,12 @@ pub fn encode<S: Source, K: Sink>(alloc: Global, source: &mut S, sink: &mut K) -
     let Ok(mut processor) = LineProcessor::open(alloc, handler, b"", before, ROOM) else {
         return Status::NoMemory;
     };
-    match follow_input(source, sink, &mut piece, 0, 0, &mut processor) {
+    let nothing = Pending {
+        from: 0,
+        to: 0,
+        at_end: false,
+    };
+    match follow_input(source, sink, &mut piece, nothing, &mut processor) {
         Outcome::Ok => Status::Ok,
         Outcome::Refused => Status::Refused,
         Outcome::ReadFault => Status::ReadFault,

@@ -59,6 +59,8 @@ impl LineHandler for EncodeHandler {
 
     ghost stands = { λ _. Unit {0} };
 
+    ghost handled = { λ _. 0 };
+
     fn handle_line(&mut self, line: &[u8], report: &mut Report) -> Result<(), LineFault> {
         match code_line(line, &mut self.block, &mut self.handler, report) {
             Ok(()) => Ok(()),

@@ -4,8 +4,10 @@
 mod bench;
 mod check;
 mod command;
+mod configured;
 mod encode;
 mod encode_handler;
+mod node_b;
 
 pub use bench::Bench;
 pub use command::{Status, run};

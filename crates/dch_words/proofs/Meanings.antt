@@ -1,10 +1,11 @@
 -- A text is one number at most, and words say one thing at most.
-use Rattle.std.proofs.Common.{◌≡◌, ◌<◌, ◌^◌, ◌∙◌, ℕ, List, Option, Some, None, Result, Ok, Bool, true, false, true≢false, is_some, ap, sym, subst, refl, IfSome, IfNone, arith, length}
+use Rattle.std.proofs.Common.{◌≡◌, ◌<◌, ◌^◌, ◌∙◌, ℕ, List, Option, Some, None, Result, Ok, Bool, true, false, true≢false, is_some, ap, sym, subst, refl, IfSome, IfNone, arith}
+use Rattle.std.specs.Prelude.{◌==◌, if◌then◌else◌, slice_index}
 use Rattle.std.specs.Str.Parse.{ParsesUnsigned}
 use Rattle.std.proofs.lemmas.Fmt.{decimal_injective, parse-decimal}
 use Rattle.clap.specs.Words.{Row, Text, matches_of}
 use Rattle.dch_words.specs.declared.arguments.Subcommand.{Subcommand}
-use Rattle.dch_words.specs.declared.arguments.Subcommand.TheVariants.{Check, Encode}
+use Rattle.dch_words.specs.declared.arguments.Subcommand.TheVariants.{Check, Encode, NodeB}
 use Rattle.dch_words.specs.declared.arguments.Arguments.{Arguments}
 use Rattle.dch_words.specs.Line.{IsTaken, line_app}
 use Rattle.dch_words.specs.Parses.{IsCommand, IsNumber, IsNumberOr, Means, Parses, subcommand_name}
@@ -21,16 +22,18 @@ one_number default least most None m n fits first second = first ∙ sym second
 one_number default least most (Some text) m n fits first second =
     decimal_injective m n (omega arith) (omega arith) (sym first.0 ∙ second.0)
 
+-- the commands differ in their first letters
+abbrev subcommand_of : Text → Subcommand
+subcommand_of name = let first : ℕ = slice_index name 0 in if first == 99 then Check else (if first == 101 then Encode else NodeB)
+
+back : (v : Subcommand) → subcommand_of (subcommand_name v) ≡ v
+back Check = refl
+back Encode = refl
+back NodeB = refl
+
 -- commands of one word are one
 one_subcommand : (v w : Subcommand) → subcommand_name v ≡ subcommand_name w → v ≡ w
-one_subcommand Check Check same = refl
-one_subcommand Check Encode same =
-    let lengths : 5 ≡ 6 = ap (λ (name : Text). length name) same in
-    absurd (omega (arith, lengths))
-one_subcommand Encode Check same =
-    let lengths : 6 ≡ 5 = ap (λ (name : Text). length name) same in
-    absurd (omega (arith, lengths))
-one_subcommand Encode Encode same = refl
+one_subcommand v w same = sym (back v) ∙ ap subcommand_of same ∙ back w
 
 -- an option is not both none and some
 pub none_some : {T : Type 0} (x : T) → None ≡ Some x → ⊥

@@ -1,4 +1,4 @@
-ghost use Rattle.std.specs.Prelude.{◌≡◌, List, IfOk, IfSome, IfNone, map, string_bytes};
+ghost use Rattle.std.specs.Prelude.{◌≡◌, ◌≤◌, List, IfOk, IfSome, IfNone, map, string_bytes};
 ghost use Rattle.clap.specs.Words.{Text, found_of, rows_of};
 ghost use Rattle.dch_words.specs.Line.{is_given};
 ghost use Rattle.dch_words.specs.Parses.{IsCommand, Means, Parses, subcommand_name};
@@ -18,6 +18,8 @@ pub enum Subcommand {
     Check,
     /// Code transport blocks.
     Encode,
+    /// Run a Node B.
+    NodeB,
 }
 
 /// What the words of the command line say.
@@ -36,6 +38,7 @@ pub struct Arguments {
 pub fn parse_arguments(alloc: Global, words: &[String]) -> Result<Option<Arguments>, NoMemory>
     ensures says { IfOk result (λ read. IfSome read (Parses (map string_bytes words.now))) }
     ensures none { IfOk result (λ read. IfNone read (¬ IsCommand (map string_bytes words.now))) }
+    ensures start { IfOk result (λ read. IfSome read (λ words. words.start ≤ 31)) }
 {
     let command = line_command(alloc)?;
     match command.try_get_matches_from(words) {
@@ -49,6 +52,7 @@ pub fn parse_arguments(alloc: Global, words: &[String]) -> Result<Option<Argumen
 fn meaning_of(matches: &ArgMatches<'_>) -> Option<Arguments>
     ensures some { IfSome result (Means (rows_of (found_of matches.now))) }
     ensures none { IfNone result ((words : Arguments) → ¬ Means (rows_of (found_of matches.now)) words) }
+    ensures few { IfSome result (λ words. words.start ≤ 31) }
 {
     let subcommand = parse_subcommand(matches.get_str("command")?)?;
     let count = read_number_or(matches.get_str("count"), 1000, 1, 100_000)?;
@@ -79,6 +83,7 @@ fn parse_subcommand(text: &str) -> Option<Subcommand>
     match text {
         "check" => Some(Subcommand::Check),
         "encode" => Some(Subcommand::Encode),
+        "nodeb" => Some(Subcommand::NodeB),
         _ => None,
     }
 }

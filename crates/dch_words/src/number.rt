@@ -1,4 +1,4 @@
-ghost use Rattle.std.specs.Prelude.{ℕ, IfSome, IfNone, option_map};
+ghost use Rattle.std.specs.Prelude.{◌≤◌, ℕ, IfSome, IfNone, option_map};
 ghost use Rattle.dch_words.specs.Parses.{IsNumber, IsNumberOr};
 
 use itoa::Buffer;
@@ -21,6 +21,7 @@ pub fn read_number_or(text: Option<&str>, default: u32, least: u32, most: u32) -
     ensures some { IfSome result (λ n. IsNumberOr default least most (option_map (λ s. s.now) text.entry) n) }
     ensures none { IfNone result ((n : ℕ) →
         ¬ IsNumberOr default least most (option_map (λ s. s.now) text.entry) n) }
+    ensures few { default ≤ most → IfSome result (λ n. n ≤ most) }
 {
     match text {
         Some(text) => read_number(text, least, most),

@@ -1,11 +1,12 @@
-use Rattle.std.proofs.Common.{◌≡◌, rules, Err}
-use Rattle.dch_top.proofs.Judging.{passes_fault, passes_piece}
+use Rattle.std.proofs.Common.{◌≡◌, length, take}
+use Rattle.std.proofs.lemmas.List.{length-take-le}
+use Rattle.dch_top.proofs.Judging.{passes_limit, passes_piece}
 use Rattle.dch_top.proofs.check.pass_over.Goals as goal
 
-pub returns-in_err-piece-clause-passes : goal.returns-in_err-piece-clause-passes
-returns-in_err-piece-clause-passes g c =
-    let same : c.from_residual.result ≡ Err c.in_err-piece.field-0.0 = search rules in
-    rw same (passes_fault _ _ _ _ _ _ c.args.count c.pieces.count c.in_err-piece.field-0.0 c.pieces.invariant c.in_err-piece.ensures.reads)
+pub returns-in-Err-TooLong-clause-passes : goal.returns-in-Err-TooLong-clause-passes
+returns-in-Err-TooLong-clause-passes g c = passes_limit _ _ _ _ _ _ c.args.count c.pieces.count c.read_next.new.room c.pieces.invariant (rw c.in-Err-TooLong.field-0-is at c.in-Err-TooLong.ensures.reads)
 
 pub pieces-preserved : goal.pieces-preserved
-pieces-preserved g c = passes_piece _ _ _ _ _ _ c.args.count c.pieces.count c.in_ok-piece.piece.now c.read_on.ensures.later c.pieces.invariant c.in_ok-piece.ensures.reads
+pieces-preserved g c =
+    let long : length (take c.in-Ok.read c.read_next.new.room) ≡ c.in-Ok.read = length-take-le c.in-Ok.read c.read_next.new.room c.in-Ok.ensures.reads.1 in
+    rw (← long) (passes_piece _ _ _ _ _ _ c.args.count c.pieces.count (take c.in-Ok.read c.read_next.new.room) c.read_next.ensures.later c.pieces.invariant c.in-Ok.ensures.reads.0)
