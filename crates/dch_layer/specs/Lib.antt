@@ -1,0 +1,7 @@
+pub mod Octets
+pub mod UnitLines
+pub mod Bearings
+pub mod Building
+pub mod Hearing
+pub mod Layers
+pub mod Starting

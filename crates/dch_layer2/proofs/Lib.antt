@@ -1,0 +1,4 @@
+pub mod Places
+pub mod Openings
+pub mod Coming
+pub mod InOrder

@@ -1,0 +1,12 @@
+use Rattle.std.proofs.Common.{◌<◌, arith, length}
+use Rattle.dch_layer2.proofs.InOrder.{one_room, one_taken}
+use Rattle.dch_layer2.proofs.layer.Layer2.take.Goals as goal
+
+pub take_one-requires-clause-room : goal.take_one-requires-clause-room
+take_one-requires-clause-room c =
+    let there : c.loop-k.k < length c.args.blocks.now.good = omega arith in
+    one_room c.args.accepted.now.config c.args.channel c.loop-k.k c.args.blocks.now c.args.self.now c.loop-k.self c.args.report.now c.loop-k.report there c.requires.room c.loop-k.invariant
+
+pub loop-k-preserved : goal.loop-k-preserved
+loop-k-preserved c =
+    one_taken c.args.accepted.now.config c.args.channel c.loop-k.k c.args.blocks.now c.args.self.now c.loop-k.self c.take_one.new.self c.args.report.now c.loop-k.report c.take_one.new.report c.loop-k.invariant c.take_one.ensures.same c.take_one.ensures.reported c.take_one.ensures.stands

@@ -1,0 +1,4 @@
+pub mod Values
+pub mod Opening
+pub mod Standing
+pub mod Coming

@@ -1,0 +1,94 @@
+ghost use Rattle.std.specs.Prelude.{◌≡◌, ◌<◌, ℕ, IfOk, length};
+ghost use Rattle.dch_types.specs.declared.config.Config.{Config};
+ghost use Rattle.dch_accept.specs.HeldSets.{held_at};
+ghost use Rattle.dch_layer.specs.Bearings.{answers};
+ghost use Rattle.dch_layer.specs.Layers.{Layer, blocks, offers, ticks};
+ghost use Rattle.dch_layer2.specs.Standing.{AreTicked, CanOffer, IsOpened, Represents};
+
+use crate::opening::{open_bearers, open_given, open_unit};
+use dch_accept::{Accepted, TtiBlocks};
+use dch_bearer::Bearer;
+use dch_bits::{Bit, NoMemory, Offer};
+use dch_types::Dir;
+use std::alloc::Global;
+use std::marker::Model;
+
+/// Layer 2 of an end that sends in one direction and receives in the other. All memory is taken when it is opened.
+#[derive(Drop)]
+pub struct Layer2 {
+    pub(crate) out: Dir,
+    pub(crate) into: Dir,
+    pub(crate) bearers: Vec<Bearer>,
+    blocked: Vec<bool>,
+    running: u16,
+    given: Vec<TtiBlocks>,
+    pub(crate) unit: Vec<u8>,
+}
+
+impl Model for Layer2 {
+    ghost use Rattle.dch_layer2.specs.Values.{LayerRunning};
+
+    ghost Value = { LayerRunning };
+
+    ghost view = { λ l. record { out = l.out; into = l.into; bearers = l.bearers.items; blocked = l.blocked.items; running = l.running; given = l.given.items; unit = l.unit.items } };
+}
+
+impl Layer2 {
+    /// Takes all memory for a configuration, at an end that sends in the direction `out` and receives in the direction `into`. No combination is
+    /// blocked, and every channel runs its idle format.
+    pub fn open(alloc: Global, accepted: &Accepted, out: Dir, into: Dir) -> Result<Layer2, NoMemory>
+        ensures { IfOk result (IsOpened accepted.now.config out into) }
+    {
+        let combinations = accepted.side(out).combinations.len();
+        Ok(Layer2 {
+            out,
+            into,
+            bearers: open_bearers(alloc, accepted, out, into)?,
+            blocked: vec![in alloc; false; combinations]?,
+            running: 0,
+            given: open_given(alloc, accepted, out)?,
+            unit: open_unit(alloc)?,
+        })
+    }
+
+    /// The blocks that a channel was given for its running TTI, with their format.
+    pub fn given(&self, channel: u8) -> &TtiBlocks
+        requires { channel < length self.now.given }
+        ensures { result.now ≡ held_at self.now.given channel }
+    {
+        &self.given[channel as usize]
+    }
+
+    /// Offers a unit to a bearer: bits to a transparent one, octets to the others. It has a channel to send on.
+    pub fn offer(&mut self, bearer: u8, octets: &[u8], bits: &[Bit]) -> Offer
+        requires { CanOffer self.old bearer }
+        ensures answer { (config : Config) (layer : Layer) → Represents config layer self.old → bearer < length config.bearers → result ≡ answers config self.old.out bearer octets.now bits.now (layer.bearings bearer) }
+        ensures stands { (config : Config) (layer : Layer) → Represents config layer self.old → Represents config (offers config self.old.out bearer octets.now bits.now layer).layer self.new }
+    {
+        self.bearers[bearer as usize].offer(octets, bits)
+    }
+
+    /// Blocks a combination, or frees it again.
+    pub fn block(&mut self, combination: u16, on: bool)
+        requires { combination < length self.old.blocked }
+        ensures { (config : Config) (layer : Layer) → Represents config layer self.old → Represents config (blocks combination on layer) self.new }
+    {
+        self.blocked[combination as usize] = on;
+    }
+
+    /// One tick of 10 ms of the timers of all bearers.
+    pub fn tick(&mut self)
+        ensures { (config : Config) (layer : Layer) → Represents config layer self.old → Represents config (ticks config layer) self.new }
+    {
+        tick(&mut self.bearers);
+    }
+}
+
+/// One tick of each bearer.
+fn tick(bearers: &mut [Bearer])
+    ensures { AreTicked bearers.old bearers.new }
+{
+    for b in 0..bearers.len() {
+        bearers[b].tick();
+    }
+}
