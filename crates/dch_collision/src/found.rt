@@ -38,7 +38,7 @@ pub(crate) fn format_collision(f: u8, r: usize, shape: &Shape) -> FormatCollisio
 }
 
 /// A collision with lists of its own.
-pub(crate) fn keep(
+pub(crate) fn found_collision(
     alloc: Global,
     channel: u8,
     hit: &FormatCollision,

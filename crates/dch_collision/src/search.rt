@@ -8,7 +8,7 @@ ghost use Rattle.dch_collision.specs.Shapes.{IsCollisionInChannel};
 
 use crate::collider::Collider;
 use crate::direction::Direction;
-use crate::found::{FormatCollision, Found, keep};
+use crate::found::{FormatCollision, Found, found_collision};
 use dch_bits::{Bit, NoMemory};
 use dch_types::MAX_TTI_BITS;
 use std::alloc::Global;
@@ -75,7 +75,7 @@ fn find(
         let sequence = &mut places[..usize::from(side.frames_of(i))];
         let i = i as u8;
         if let Some(hit) = first_in_channel(room, direction, i, sequence, block) {
-            return Ok(Some(keep(alloc, i, &hit, sequence, block)?));
+            return Ok(Some(found_collision(alloc, i, &hit, sequence, block)?));
         }
     }
     Ok(None)

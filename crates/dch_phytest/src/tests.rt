@@ -165,7 +165,7 @@ fn are_outcomes_down(alloc: Global, accepted: &Accepted) -> bool {
 
 /// What is sent, damaged and read back.
 #[derive(Clone, Copy)]
-enum Trip {
+enum RoundTripCase {
     Speech,
     Packets,
     SixCodes,
@@ -175,45 +175,59 @@ enum Trip {
     MissingDown,
 }
 
-fn comes_back(alloc: Global, trip: Trip, accepted: &Accepted) -> Result<bool, NoMemory> {
-    match trip {
-        Trip::Speech => Ok(
+fn comes_back(
+    alloc: Global,
+    round_trip: RoundTripCase,
+    accepted: &Accepted,
+) -> Result<bool, NoMemory> {
+    match round_trip {
+        RoundTripCase::Speech => Ok(
             goes_up(alloc, accepted, &speech_up(), 37)?
                 && goes_down(alloc, accepted, &speech_down())?,
         ),
-        Trip::Packets => goes_up(alloc, accepted, &packets_up(), 37),
-        Trip::SixCodes => goes_up(alloc, accepted, &codes_up(), 37),
-        Trip::FlexiblePositions => goes_down(alloc, accepted, &flexible_down()),
-        Trip::ThreeCodes => goes_down(alloc, accepted, &codes_down()),
-        Trip::MissingUp => Ok(
+        RoundTripCase::Packets => goes_up(alloc, accepted, &packets_up(), 37),
+        RoundTripCase::SixCodes => goes_up(alloc, accepted, &codes_up(), 37),
+        RoundTripCase::FlexiblePositions => goes_down(alloc, accepted, &flexible_down()),
+        RoundTripCase::ThreeCodes => goes_down(alloc, accepted, &codes_down()),
+        RoundTripCase::MissingUp => Ok(
             goes_up(alloc, accepted, &[(1, 150)], 0)? && are_outcomes_up(alloc, accepted),
         ),
-        Trip::MissingDown => Ok(are_outcomes_down(alloc, accepted)),
+        RoundTripCase::MissingDown => Ok(are_outcomes_down(alloc, accepted)),
     }
 }
 
 /// Whether a configuration is accepted, and what is sent by it comes back. It is held here alone, and no error is answered while
 /// it is held: both would make a test dear to prove.
-fn is_right(alloc: Global, trip: Trip, opened: Result<Accepted, SampleError>) -> bool {
+fn is_right(
+    alloc: Global,
+    round_trip: RoundTripCase,
+    opened: Result<Accepted, SampleError>,
+) -> bool {
     match opened {
-        Ok(accepted) => matches!(comes_back(alloc, trip, &accepted), Ok(true)),
+        Ok(accepted) => matches!(comes_back(alloc, round_trip, &accepted), Ok(true)),
         Err(_) => false,
     }
 }
 
 #[test]
 fn damaged_speech(rt: HostRuntime) {
-    assert!(rt; is_right(rt.alloc(), Trip::Speech, speech(rt.alloc())));
+    assert!(rt; is_right(rt.alloc(), RoundTripCase::Speech, speech(rt.alloc())));
 }
 
 #[test]
 fn damaged_packets(rt: HostRuntime) {
-    assert!(rt; is_right(rt.alloc(), Trip::Packets, packets(rt.alloc(), true)));
+    assert!(rt;
+        is_right(
+            rt.alloc(),
+            RoundTripCase::Packets,
+            packets(rt.alloc(), true)
+        )
+    );
 }
 
 #[test]
 fn two_to_six_damaged_codes(rt: HostRuntime) {
-    assert!(rt; is_right(rt.alloc(), Trip::SixCodes, six_codes(rt.alloc())));
+    assert!(rt; is_right(rt.alloc(), RoundTripCase::SixCodes, six_codes(rt.alloc())));
 }
 
 #[test]
@@ -221,7 +235,7 @@ fn damaged_cells_at_flexible_positions(rt: HostRuntime) {
     assert!(rt;
         is_right(
             rt.alloc(),
-            Trip::FlexiblePositions,
+            RoundTripCase::FlexiblePositions,
             flexible_positions(rt.alloc())
         )
     );
@@ -229,15 +243,21 @@ fn damaged_cells_at_flexible_positions(rt: HostRuntime) {
 
 #[test]
 fn three_damaged_codes(rt: HostRuntime) {
-    assert!(rt; is_right(rt.alloc(), Trip::ThreeCodes, three_codes(rt.alloc())));
+    assert!(rt;
+        is_right(
+            rt.alloc(),
+            RoundTripCase::ThreeCodes,
+            three_codes(rt.alloc())
+        )
+    );
 }
 
 #[test]
 fn missing_frames_in_the_uplink(rt: HostRuntime) {
-    assert!(rt; is_right(rt.alloc(), Trip::MissingUp, tiny(rt.alloc())));
+    assert!(rt; is_right(rt.alloc(), RoundTripCase::MissingUp, tiny(rt.alloc())));
 }
 
 #[test]
 fn missing_frames_in_the_downlink(rt: HostRuntime) {
-    assert!(rt; is_right(rt.alloc(), Trip::MissingDown, speech(rt.alloc())));
+    assert!(rt; is_right(rt.alloc(), RoundTripCase::MissingDown, speech(rt.alloc())));
 }

@@ -7,7 +7,7 @@ use Rattle.dch_collision.proofs.search.find.Goals as goal
 
 pub returns-in-Some : goal.returns-in-Some
 returns-in-Some c =
-    found_of (side_in c.args.direction) (copies_in c.args.direction) c.loop-i.i c.first_in_channel.new.sequence c.first_in_channel.new.block c.in-Some.hit c.in_ok-keep.field-0 c.in_ok-keep.ensures
+    found_of (side_in c.args.direction) (copies_in c.args.direction) c.loop-i.i c.first_in_channel.new.sequence c.first_in_channel.new.block c.in-Some.hit c.in_ok-found_collision.field-0 c.in_ok-found_collision.ensures
     (omega (arith, c.loop-i-test.true, c.len-i-end.ensures, ap (λ (side : Side). length side.channels) c.side-side.ensures.value)) c.in-Some.ensures.some c.loop-i.invariant
 
 pub loop-i-preserved : goal.loop-i-preserved
