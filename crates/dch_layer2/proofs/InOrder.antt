@@ -12,7 +12,7 @@ use Rattle.dch_node.specs.Lines.{Line}
 use Rattle.dch_bearer.specs.Reports.{HasRoomFor, added}
 use Rattle.dch_bearer.proofs.Lines.{added-added, room_first, room_next}
 use Rattle.dch_layer2.specs.Coming.{AreTaken, HasRoomForOne, HasRoomForTti, came_at, came_below}
-use Rattle.dch_layer2.specs.Standing.{Represents}
+use Rattle.dch_layer2.specs.Standing.{IsSameEnd, Represents}
 use Rattle.dch_layer2.specs.Values.{LayerRunning}
 
 -- one more block behind others
@@ -62,28 +62,28 @@ one_room config channel k held old now before after below room taken =
     record {
       layer = first.layer;
       stands = taken.stands layer room.stands;
-      room = subst (λ d. HasRoomFor after (takes_one config d channel k (block_at held k) (slice_index_or held.good k false) first.layer).lines) (sym taken.into)
+      room = subst (λ d. HasRoomFor after (takes_one config d channel k (block_at held k) (slice_index_or held.good k false) first.layer).lines) (sym taken.ends.receives)
           (subst (λ t. HasRoomFor t (takes_one config old.into channel k (block_at held k) (slice_index_or held.good k false) first.layer).lines) (sym (taken.reported layer room.stands))
           (room_next before first.lines (takes_one config old.into channel k (block_at held k) (slice_index_or held.good k false) first.layer).lines
           (subst (λ (o : Outcome). HasRoomFor before o.lines) (takes_step config old.into channel k held layer) (front_room config old.into channel k (length held.good) held layer before below room.room))));
     }
 
 pub none_taken : (config : Config) (channel : ℕ) (held : Held) (v : LayerRunning) (report : Text) → AreTaken config channel 0 held v v report report
-none_taken config channel held v report = record { into = refl; stands = λ layer is. is; reported = λ layer is. ap (λ (t : List ℕ). record report { text = t }) (sym (append-nil report.text)) }
+none_taken config channel held v report = record { ends = record { sends = refl; receives = refl }; stands = λ layer is. is; reported = λ layer is. ap (λ (t : List ℕ). record report { text = t }) (sym (append-nil report.text)) }
 
-pub one_taken : (config : Config) (channel k : ℕ) (held : Held) (old now next : LayerRunning) (before after later : Text) → AreTaken config channel k held old now before after → next.into ≡ now.into →
+pub one_taken : (config : Config) (channel k : ℕ) (held : Held) (old now next : LayerRunning) (before after later : Text) → AreTaken config channel k held old now before after → IsSameEnd now next →
     ((layer : Layer) → Represents config layer now → later ≡ added after (takes_one config now.into channel k (block_at held k) (slice_index_or held.good k false) layer).lines) →
     ((layer : Layer) → Represents config layer now → Represents config (takes_one config now.into channel k (block_at held k) (slice_index_or held.good k false) layer).layer next) →
     AreTaken config channel (k + 1) held old next before later
 one_taken config channel k held old now next before after later taken same reported stands = record {
-  into = same ∙ taken.into;
+  ends = record { sends = same.sends ∙ taken.ends.sends; receives = same.receives ∙ taken.ends.receives };
   stands = λ layer is.
       subst (λ (o : Outcome). Represents config o.layer next) (sym (takes_step config old.into channel k held layer))
-      (subst (λ d. Represents config (takes_one config d channel k (block_at held k) (slice_index_or held.good k false) (takes config old.into channel 0 (came_below held k) layer).layer).layer next) taken.into
+      (subst (λ d. Represents config (takes_one config d channel k (block_at held k) (slice_index_or held.good k false) (takes config old.into channel 0 (came_below held k) layer).layer).layer next) taken.ends.receives
       (stands (takes config old.into channel 0 (came_below held k) layer).layer (taken.stands layer is)));
   reported = λ layer is.
       reported (takes config old.into channel 0 (came_below held k) layer).layer (taken.stands layer is)
-      ∙ (ap₂ (λ t d. added t (takes_one config d channel k (block_at held k) (slice_index_or held.good k false) (takes config old.into channel 0 (came_below held k) layer).layer).lines) (taken.reported layer is) taken.into
+      ∙ (ap₂ (λ t d. added t (takes_one config d channel k (block_at held k) (slice_index_or held.good k false) (takes config old.into channel 0 (came_below held k) layer).layer).lines) (taken.reported layer is) taken.ends.receives
       ∙ (added-added before (takes config old.into channel 0 (came_below held k) layer).lines (takes_one config old.into channel k (block_at held k) (slice_index_or held.good k false) (takes config old.into channel 0 (came_below held k) layer).layer).lines
       ∙ ap (λ (o : Outcome). added before o.lines) (sym (takes_step config old.into channel k held layer))));
 }

@@ -2,3 +2,13 @@ pub mod Places
 pub mod Openings
 pub mod Coming
 pub mod InOrder
+pub mod Serving
+pub mod Offers
+pub mod Sums
+pub mod Bits
+pub mod Turns
+pub mod Sharing
+pub mod Channels
+pub mod Starts
+pub mod Frames
+pub mod Filling

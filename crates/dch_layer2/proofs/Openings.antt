@@ -46,7 +46,7 @@ place_by : (formats : List Format) (o : Option ℕ) (d : Format) → position is
 place_by formats None d e some = let h : false ≡ true = some in absurd (cc)
 place_by formats (Some k) d e some = (position-Some is_idle formats k d e).1
 
-idle_is_idle : (channel : Trch) → IsChannel channel → is_idle (format_at channel (idle_format channel)) ≡ true
+pub idle_is_idle : (channel : Trch) → IsChannel channel → is_idle (format_at channel (idle_format channel)) ≡ true
 idle_is_idle channel good = place_by channel.formats (position is_idle channel.formats) (record { number = 0; size = 0 }) refl good.idle
 
 no_number : (n size : ℕ) → 1 ≤ size → n * size ≡ 0 → n ≡ 0

@@ -9,7 +9,7 @@ use Rattle.dch_mac.specs.declared.answer.Demux.{Demux}
 use Rattle.dch_script.specs.Held.{Held as Text}
 use Rattle.dch_layer.specs.Layers.{Came, Layer, goes, takes, takes_good, takes_one}
 use Rattle.dch_bearer.specs.Reports.{HasRoomFor, added}
-use Rattle.dch_layer2.specs.Standing.{Represents}
+use Rattle.dch_layer2.specs.Standing.{IsSameEnd, Represents}
 use Rattle.dch_layer2.specs.Values.{LayerRunning}
 
 -- so many bits are a block of some format of a channel
@@ -56,6 +56,6 @@ pub record HasRoomForTti (config : Config) (channel : ℕ) (held : Held) (v : La
 
 -- the first blocks were taken
 pub record AreTaken (config : Config) (channel k : ℕ) (held : Held) (old now : LayerRunning) (before after : Text) : Type 0 where
-  pub into : now.into ≡ old.into
+  pub ends : IsSameEnd old now
   pub stands : (layer : Layer) → Represents config layer old → Represents config (takes config old.into channel 0 (came_below held k) layer).layer now
   pub reported : (layer : Layer) → Represents config layer old → after ≡ added before (takes config old.into channel 0 (came_below held k) layer).lines

@@ -6,20 +6,25 @@ use Rattle.dch_types.specs.Parts.{side_of}
 use Rattle.dch_accept.specs.HeldSets.{held_at}
 use Rattle.dch_layer.specs.Bearings.{Bearing, channel_of, ticked}
 use Rattle.dch_layer.specs.Layers.{Layer, opened_layer}
+use Rattle.dch_layer.specs.Starting.{IsStart}
 use Rattle.dch_bearer.specs.Standing.{Represents as StandsFor}
 use Rattle.dch_bearer.specs.declared.bearer.Bearer.{Bearer}
 use Rattle.dch_layer2.specs.Opening.{IsGiven}
+use Rattle.dch_layer2.specs.Sharing.{HasBits}
 use Rattle.dch_layer2.specs.Values.{LayerRunning, entity_at}
 
--- each bearer stands for its bearing, and the rest is as it is
+-- each bearer stands for its bearing, in which no unit is empty, and the rest is as it is
 pub record Represents (config : Config) (layer : Layer) (v : LayerRunning) : Type 0 where
   pub all : length v.bearers ≡ length config.bearers
   pub bearers : (b : ℕ) → b < length config.bearers → StandsFor config v.out v.into b (layer.bearings b) (entity_at v.bearers b)
+  pub bits : (b : ℕ) → b < length config.bearers → HasBits (layer.bearings b)
   pub blocked : v.blocked ≡ layer.blocked
   pub running : v.running ≡ layer.running
+  pub runs : v.running < length (side_of config v.out).combinations
   pub listed : length v.blocked ≡ length (side_of config v.out).combinations
   pub given_all : length v.given ≡ length (side_of config v.out).channels
   pub given : (i : ℕ) → i < length (side_of config v.out).channels → IsGiven config v.out i (layer.given i) (held_at v.given i)
+  pub heads : length v.heads ≡ length config.bearers
   pub room : length v.unit ≡ 1500
 
 -- a bearer that is there has a channel to send on
@@ -49,3 +54,19 @@ pub record IsOpened (config : Config) (out into : Dir) (v : LayerRunning) : Type
   pub sends : v.out ≡ out
   pub receives : v.into ≡ into
   pub stands : Represents config (opened_layer config out) v
+
+-- the directions in which it sends and receives stay
+pub record IsSameEnd (old new : LayerRunning) : Type 0 where
+  pub sends : new.out ≡ old.out
+  pub receives : new.into ≡ old.into
+
+-- it stands for layer 2 of this configuration
+pub record IsLayerOf (config : Config) (v : LayerRunning) : Type 0 where
+  pub layer : Layer
+  pub stands : Represents config layer v
+
+-- the TTIs that start at a CFN have started
+pub record HasStarted (config : Config) (cfn : ℕ) (old : Layer) (v : LayerRunning) : Type 0 where
+  pub next : Layer
+  pub start : IsStart config v.out cfn old next
+  pub stands : Represents config next v

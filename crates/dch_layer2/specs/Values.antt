@@ -3,11 +3,12 @@ use Rattle.std.specs.Prelude.{ℕ, List, [], Bool, None, slice_index_or}
 use Rattle.dch_types.specs.declared.channel.Dir.{Dir}
 use Rattle.dch_types.specs.declared.channel.Dir.TheVariants.{Up}
 use Rattle.dch_accept.specs.Blocks.{Held}
+use Rattle.dch_select.specs.declared.head.Head.{Head}
 use Rattle.dch_bearer.specs.declared.bearer.Bearer.{Bearer}
 use Rattle.dch_bearer.specs.declared.bearer.Bearer.TheVariants.{Tm}
 
 -- the directions in which it sends and receives, its bearers, which combinations are blocked, the one that runs, the blocks of the
--- running TTIs, and room for a unit
+-- running TTIs, and room for what each bearer offers and for a unit
 pub record LayerRunning : Type 0 where
   pub out : Dir
   pub into : Dir
@@ -15,6 +16,7 @@ pub record LayerRunning : Type 0 where
   pub blocked : List Bool
   pub running : ℕ
   pub given : List Held
+  pub heads : List Head
   pub unit : List ℕ
 
 -- bearer b

@@ -3,12 +3,14 @@ ghost use Rattle.dch_types.specs.declared.config.Config.{Config};
 ghost use Rattle.dch_accept.specs.HeldSets.{held_at};
 ghost use Rattle.dch_layer.specs.Bearings.{answers};
 ghost use Rattle.dch_layer.specs.Layers.{Layer, blocks, offers, ticks};
-ghost use Rattle.dch_layer2.specs.Standing.{AreTicked, CanOffer, IsOpened, Represents};
+ghost use Rattle.dch_layer2.specs.Standing.{AreTicked, CanOffer, HasStarted, IsLayerOf, IsOpened, IsSameEnd, Represents};
 
-use crate::opening::{open_bearers, open_given, open_unit};
+use crate::choosing::{Moment, take_heads};
+use crate::opening::{open_bearers, open_given, open_heads, open_unit};
 use dch_accept::{Accepted, TtiBlocks};
 use dch_bearer::Bearer;
 use dch_bits::{Bit, NoMemory, Offer};
+use dch_select::Head;
 use dch_types::Dir;
 use std::alloc::Global;
 use std::marker::Model;
@@ -22,6 +24,7 @@ pub struct Layer2 {
     blocked: Vec<bool>,
     running: u16,
     given: Vec<TtiBlocks>,
+    heads: Vec<Head>,
     pub(crate) unit: Vec<u8>,
 }
 
@@ -30,15 +33,17 @@ impl Model for Layer2 {
 
     ghost Value = { LayerRunning };
 
-    ghost view = { λ l. record { out = l.out; into = l.into; bearers = l.bearers.items; blocked = l.blocked.items; running = l.running; given = l.given.items; unit = l.unit.items } };
+    ghost view = { λ l. record { out = l.out; into = l.into; bearers = l.bearers.items; blocked = l.blocked.items; running = l.running; given = l.given.items; heads = l.heads.items; unit = l.unit.items } };
 }
 
 impl Layer2 {
     /// Takes all memory for a configuration, at an end that sends in the direction `out` and receives in the direction `into`. No combination is
     /// blocked, and every channel runs its idle format.
+    #[tactic(auto, using(crate::proofs::Bits::opened_bits))]
     pub fn open(alloc: Global, accepted: &Accepted, out: Dir, into: Dir) -> Result<Layer2, NoMemory>
         ensures { IfOk result (IsOpened accepted.now.config out into) }
     {
+        // There is at least one combination.
         let combinations = accepted.side(out).combinations.len();
         Ok(Layer2 {
             out,
@@ -47,6 +52,7 @@ impl Layer2 {
             blocked: vec![in alloc; false; combinations]?,
             running: 0,
             given: open_given(alloc, accepted, out)?,
+            heads: open_heads(alloc, accepted)?,
             unit: open_unit(alloc)?,
         })
     }
@@ -64,6 +70,7 @@ impl Layer2 {
         requires { CanOffer self.old bearer }
         ensures answer { (config : Config) (layer : Layer) → Represents config layer self.old → bearer < length config.bearers → result ≡ answers config self.old.out bearer octets.now bits.now (layer.bearings bearer) }
         ensures stands { (config : Config) (layer : Layer) → Represents config layer self.old → Represents config (offers config self.old.out bearer octets.now bits.now layer).layer self.new }
+        ensures ends { IsSameEnd self.old self.new }
     {
         self.bearers[bearer as usize].offer(octets, bits)
     }
@@ -71,16 +78,42 @@ impl Layer2 {
     /// Blocks a combination, or frees it again.
     pub fn block(&mut self, combination: u16, on: bool)
         requires { combination < length self.old.blocked }
-        ensures { (config : Config) (layer : Layer) → Represents config layer self.old → Represents config (blocks combination on layer) self.new }
+        ensures stands { (config : Config) (layer : Layer) → Represents config layer self.old → Represents config (blocks combination on layer) self.new }
+        ensures ends { IsSameEnd self.old self.new }
     {
         self.blocked[combination as usize] = on;
     }
 
     /// One tick of 10 ms of the timers of all bearers.
+    #[tactic(auto, using(crate::proofs::Bits::ticked_bits))]
     pub fn tick(&mut self)
-        ensures { (config : Config) (layer : Layer) → Represents config layer self.old → Represents config (ticks config layer) self.new }
+        ensures stands { (config : Config) (layer : Layer) → Represents config layer self.old → Represents config (ticks config layer) self.new }
+        ensures ends { IsSameEnd self.old self.new }
     {
         tick(&mut self.bearers);
+    }
+
+    /// The TTIs that start at a CFN: a combination is chosen (TS 25.321 11.4), and the blocks of the starting channels are built, by priority
+    /// and then by bearer, with the C/T field where the channel has one.
+    pub fn start(&mut self, accepted: &Accepted, cfn: u8)
+        requires { IsLayerOf accepted.now.config self.old }
+        ensures started { (layer : Layer) → Represents accepted.now.config layer self.old → HasStarted accepted.now.config cfn layer self.new }
+        ensures ends { IsSameEnd self.old self.new }
+    {
+        // Each bearer's channels are there.
+        let _config = accepted.config();
+        take_heads(&self.bearers, &mut self.heads);
+        let moment = Moment {
+            accepted,
+            out: self.out,
+            cfn,
+            running: self.running,
+            heads: &self.heads,
+            blocked: &self.blocked,
+        };
+        let combination = moment.choose();
+        moment.start_all(combination, &mut self.bearers, &mut self.given);
+        self.running = combination;
     }
 }
 

@@ -6,6 +6,7 @@ ghost use Rattle.dch_layer2.specs.Opening.{AreIdle, AreOpened, IsIdle};
 use dch_accept::{Accepted, TtiBlocks};
 use dch_bearer::Bearer;
 use dch_bits::NoMemory;
+use dch_select::Head;
 use dch_types::{Dir, Format, Trch};
 use std::alloc::Global;
 
@@ -38,6 +39,14 @@ pub fn open_given(alloc: Global, accepted: &Accepted, out: Dir) -> Result<Vec<Tt
         given.push(idle_blocks(alloc, accepted, out, i as u8)?)?;
     }
     Ok(given)
+}
+
+/// Takes the memory for what each bearer offers.
+pub fn open_heads(alloc: Global, accepted: &Accepted) -> Result<Vec<Head>, NoMemory>
+    ensures { IfOk result (λ heads. length heads.items ≡ length accepted.now.config.bearers) }
+{
+    let none = Head { size: 0, count: 0 };
+    Ok(vec![in alloc; none; accepted.config().bearers.len()]?)
 }
 
 /// Takes the memory for a unit of at most 1,500 octets.

@@ -9,7 +9,7 @@ ghost use Rattle.dch_mac.specs.Receivers.{receiver};
 ghost use Rattle.dch_bearer.specs.Reports.{added};
 ghost use Rattle.dch_bearer.specs.Standing.{CanTake};
 ghost use Rattle.dch_layer2.specs.Coming.{HasRoomForBlock, HasRoomForOne, HasRoomForTti, HasRoomToPass, IsBlockSize, came_of};
-ghost use Rattle.dch_layer2.specs.Standing.{Represents};
+ghost use Rattle.dch_layer2.specs.Standing.{IsSameEnd, Represents};
 ghost use Rattle.dch_layer2.specs.Values.{entity_at};
 
 use crate::layer::Layer2;
@@ -35,7 +35,7 @@ impl Layer2 {
             report.new ≡ added report.old (takes accepted.now.config self.old.into channel 0 (came_of blocks.now) layer).lines }
         ensures stands { (layer : Layer) → Represents accepted.now.config layer self.old →
             Represents accepted.now.config (takes accepted.now.config self.old.into channel 0 (came_of blocks.now) layer).layer self.new }
-        ensures same { self.new.into ≡ self.old.into }
+        ensures ends { IsSameEnd self.old self.new }
     {
         for k in 0..blocks.count() {
             self.take_one(accepted, channel, blocks, k, report);
@@ -59,7 +59,7 @@ impl Layer2 {
             report.new ≡ added report.old (takes_one accepted.now.config self.old.into channel k (block_at blocks.now k) (slice_index_or blocks.now.good k false) layer).lines }
         ensures stands { (layer : Layer) → Represents accepted.now.config layer self.old →
             Represents accepted.now.config (takes_one accepted.now.config self.old.into channel k (block_at blocks.now k) (slice_index_or blocks.now.good k false) layer).layer self.new }
-        ensures same { self.new.into ≡ self.old.into }
+        ensures ends { IsSameEnd self.old self.new }
     {
         // A format has at most 64 blocks.
         let _channel = accepted.channel(self.into, channel);
@@ -78,7 +78,7 @@ impl Layer2 {
             report.new ≡ added report.old (takes_good accepted.now.config self.old.into channel bits.now layer).lines }
         ensures stands { (layer : Layer) → Represents accepted.now.config layer self.old →
             Represents accepted.now.config (takes_good accepted.now.config self.old.into channel bits.now layer).layer self.new }
-        ensures same { self.new.into ≡ self.old.into }
+        ensures ends { IsSameEnd self.old self.new }
     {
         if bits.is_empty() {
             return;
@@ -104,7 +104,7 @@ impl Layer2 {
             report.new ≡ added report.old (goes accepted.now.config self.old.into channel bits.now to layer).lines }
         ensures stands { (layer : Layer) → Represents accepted.now.config layer self.old →
             Represents accepted.now.config (goes accepted.now.config self.old.into channel bits.now to layer).layer self.new }
-        ensures same { self.new.into ≡ self.old.into }
+        ensures ends { IsSameEnd self.old self.new }
     {
         match to {
             Demux::To { bearer, skip } => {
@@ -119,6 +119,7 @@ impl Layer2 {
     }
 
     /// A bearer gets the PDU behind so many bits of a block.
+    #[tactic(auto, using(crate::proofs::Bits::heard_bits))]
     fn hear(&mut self, bearer: u8, skip: u8, bits: &[Bit], report: &mut Report)
         requires there { bearer < length self.old.bearers }
         requires unit { length self.old.unit ≡ 1500 }
@@ -128,7 +129,7 @@ impl Layer2 {
             report.new ≡ added report.old (hears config self.old.into bearer (drop skip bits.now) (layer.bearings bearer)).lines }
         ensures stands { (config : Config) (layer : Layer) → Represents config layer self.old →
             Represents config (with_bearing layer bearer (hears config self.old.into bearer (drop skip bits.now) (layer.bearings bearer)).bearing) self.new }
-        ensures same { self.new.into ≡ self.old.into }
+        ensures ends { IsSameEnd self.old self.new }
     {
         self.bearers[bearer as usize].take(&bits[skip as usize..], &mut self.unit, report);
     }
