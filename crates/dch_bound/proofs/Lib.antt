@@ -1,0 +1,9 @@
+pub mod Texts
+pub mod Readings
+pub mod Places
+pub mod Receivers
+pub mod Views
+pub mod UmReceivers
+pub mod Bearings
+pub mod Blocks
+pub mod Layers

@@ -1,0 +1,110 @@
+-- What is told of the units that PDUs end comes out of the bytes of their octets and marks.
+use Rattle.std.proofs.Common.{◌≡◌, ◌<◌, ◌≤◌, ◌+◌, ◌*◌, ◌++◌, ◌∙◌, ℕ, zero, suc, List, [], ◌∷◌, Bool, true, false, Option, Some, None, length, drop, arith, refl, ap, sym, append_assoc, length-append}
+use Rattle.std.specs.Prelude.{◌==◌}
+use Rattle.std.proofs.lemmas.Bool.{cond_both}
+use Rattle.std.proofs.lemmas.List.{append-nil}
+use Rattle.dch_types.specs.declared.channel.Dir.{Dir}
+use Rattle.dch_types.specs.Sums.{total}
+use Rattle.dch_am.specs.Bodies.{Body, Reading, ended, read_body, read_full, read_pieces, read_rest}
+use Rattle.dch_am.specs.Receiver.{body_of, dead_pieces, read_one, read_run, read_trimmed}
+use Rattle.dch_bound.specs.Bytes.{body_bytes, full_bytes, part_bytes, pieces_bytes, run_bytes}
+use Rattle.dch_bound.proofs.Texts.{told, told_more, unit_told}
+
+-- octets are added
+pub part_more : (part octets : List ℕ) → part_bytes (part ++ octets) ≤ part_bytes part + 9 * length octets
+part_more [] [] = omega arith
+part_more [] (x ∷ xs) = omega arith
+part_more (x ∷ part) octets = omega (arith, length-append part octets)
+
+-- a reading went on: units that ended follow, and what is told of them and what is left comes out of so many bytes
+pub record GoesOn (dir : Dir) (b : ℕ) (old new : Reading) (bytes : ℕ) : Type 0 where
+  pub more : List (List ℕ)
+  pub units : new.units ≡ old.units ++ more
+  pub paid : told dir b more + part_bytes new.part ≤ part_bytes old.part + bytes
+
+-- nothing is read
+pub stays : (dir : Dir) (b : ℕ) (r : Reading) → GoesOn dir b r r 0
+stays dir b r = record { more = []; units = sym (append-nil r.units); paid = omega arith }
+
+-- a reading goes on twice
+pub then_on : (dir : Dir) (b : ℕ) (old mid new : Reading) (m n : ℕ) → GoesOn dir b old mid m → GoesOn dir b mid new n → GoesOn dir b old new (m + n)
+then_on dir b old mid new m n first second = record {
+  more = first.more ++ second.more;
+  units = second.units ∙ ap (λ us. us ++ second.more) first.units ∙ append_assoc old.units first.more second.more;
+  paid = omega (arith, first.paid, second.paid, told_more dir b first.more second.more);
+}
+
+-- the unit in progress ends
+pub ended_on : (dir : Dir) (b : ℕ) (units : List (List ℕ)) (part : List ℕ) → b < 100 → GoesOn dir b (record { units = units; part = part }) (ended units part) 6
+ended_on dir b units [] small = record { more = []; units = sym (append-nil units); paid = omega arith }
+ended_on dir b units (x ∷ xs) small = record { more = (x ∷ xs) ∷ []; units = refl; paid = omega (arith, unit_told dir b x xs small) }
+
+rest_on : (dir : Dir) (b : ℕ) (r : Reading) (rest : List ℕ) → GoesOn dir b r (read_rest r rest) (9 * length rest)
+rest_on dir b r rest = record { more = []; units = sym (append-nil r.units); paid = omega (arith, part_more r.part rest) }
+
+full_on : (dir : Dir) (b : ℕ) (r : Reading) (full : Bool) → b < 100 → GoesOn dir b r (read_full r full) (full_bytes full)
+full_on dir b r true small = ended_on dir b r.units r.part small
+full_on dir b r false small = stays dir b r
+
+pieces_on : (dir : Dir) (b : ℕ) (r : Reading) (ps : List (List ℕ)) → b < 100 → GoesOn dir b r (read_pieces r ps) (pieces_bytes ps)
+pieces_on dir b r [] small = stays dir b r
+pieces_on dir b r (p ∷ ps) small =
+    let added : GoesOn dir b r (read_rest r p) (9 * length p) = rest_on dir b r p in
+    let end : GoesOn dir b (read_rest r p) (ended r.units (r.part ++ p)) 6 = ended_on dir b r.units (r.part ++ p) small in
+    then_on dir b r (ended r.units (r.part ++ p)) (read_pieces r (p ∷ ps)) (9 * length p + 6) (pieces_bytes ps) (then_on dir b r (read_rest r p) (ended r.units (r.part ++ p)) (9 * length p) 6 added end) (pieces_on dir b (ended r.units (r.part ++ p)) ps small)
+
+-- a PDU is read
+body_on : (dir : Dir) (b : ℕ) (r : Reading) (body : Body) → b < 100 → GoesOn dir b r (read_body r body) (body_bytes body)
+body_on dir b r body small =
+    let first : Reading = read_full r body.full in
+    let pieces : Reading = read_pieces first body.pieces in
+    then_on dir b r pieces (read_rest pieces body.rest) (full_bytes body.full + pieces_bytes body.pieces) (9 * length body.rest)
+    (then_on dir b r first pieces (full_bytes body.full) (pieces_bytes body.pieces) (full_on dir b r body.full small) (pieces_on dir b first body.pieces small))
+    (rest_on dir b pieces body.rest)
+
+-- with fewer bytes it goes on with more
+pub loosely : (dir : Dir) (b : ℕ) (old new : Reading) (m n : ℕ) → m ≤ n → GoesOn dir b old new m → GoesOn dir b old new n
+loosely dir b old new m n less on = record { more = on.more; units = on.units; paid = omega (arith, on.paid) }
+
+-- a PDU is read without its first pieces and without the unit in progress
+fewer_pieces : (n : ℕ) (ps : List (List ℕ)) → pieces_bytes (drop n ps) ≤ pieces_bytes ps
+fewer_pieces zero ps = omega arith
+fewer_pieces (suc n) [] = omega arith
+fewer_pieces (suc n) (p ∷ ps) = omega (arith, fewer_pieces n ps)
+
+dropped_on : (dir : Dir) (b : ℕ) (r : Reading) → GoesOn dir b r (record { units = r.units; part = [] }) 0
+dropped_on dir b r = record { more = []; units = sym (append-nil r.units); paid = omega arith }
+
+trimmed_on : (dir : Dir) (b : ℕ) (r : Reading) (n : ℕ) (body : Body) → b < 100 → GoesOn dir b r (read_trimmed r n body) (body_bytes body)
+trimmed_on dir b r n body small =
+    let first : Reading = record { units = r.units; part = [] } in
+    let left : List (List ℕ) = drop (dead_pieces n body) body.pieces in
+    let pieces : Reading = read_pieces first left in
+    loosely dir b r (read_rest pieces body.rest) (0 + pieces_bytes left + 9 * length body.rest) (body_bytes body) (omega (arith, fewer_pieces (dead_pieces n body) body.pieces))
+    (then_on dir b r pieces (read_rest pieces body.rest) (0 + pieces_bytes left) (9 * length body.rest)
+    (then_on dir b r first pieces 0 (pieces_bytes left) (dropped_on dir b r) (pieces_on dir b first left small))
+    (rest_on dir b pieces body.rest))
+
+one_on : (dir : Dir) (b : ℕ) (trim : Option (ℕ × ℕ)) (r : Reading) (k : ℕ) (body : Body) → b < 100 → GoesOn dir b r (read_one trim r k body) (body_bytes body)
+one_on dir b None r k body small = body_on dir b r body small
+one_on dir b (Some t) r k body small = cond_both {A = Reading} (k == t.0) (read_trimmed r t.1 body) (read_body r body) (λ new. GoesOn dir b r new (body_bytes body)) (λ _. trimmed_on dir b r t.1 body small) (λ _. body_on dir b r body small)
+
+-- a sum over the first numbers, and over the others
+pub total_first : (w v : ℕ → ℕ) (n : ℕ) → ((i : ℕ) → v i ≡ w (suc i)) → total w (suc n) ≡ w 0 + total v n
+unfolding total
+total_first w v zero each = omega arith
+total_first w v (suc n) each = omega (arith, total_first w v n each, each n)
+
+run_first : (arrived : List (ℕ × Body)) (from n : ℕ) → run_bytes arrived from (suc n) ≡ body_bytes (body_of arrived from) + run_bytes arrived (from + 1) n
+run_first arrived from n =
+    let here : from + 0 ≡ from = omega arith in
+    total_first (λ i. body_bytes (body_of arrived (from + i))) (λ i. body_bytes (body_of arrived (from + 1 + i))) n (λ i. let k : from + 1 + i ≡ from + suc i = omega arith in ap (λ j. body_bytes (body_of arrived j)) k)
+    ∙ ap (λ j. body_bytes (body_of arrived j) + run_bytes arrived (from + 1) n) here
+
+-- PDUs in order are read
+pub run_on : (dir : Dir) (b : ℕ) (trim : Option (ℕ × ℕ)) (arrived : List (ℕ × Body)) (r : Reading) (from n : ℕ) → b < 100 → GoesOn dir b r (read_run trim arrived r from n) (run_bytes arrived from n)
+run_on dir b trim arrived r from zero small = loosely dir b r r 0 (run_bytes arrived from 0) (omega arith) (stays dir b r)
+run_on dir b trim arrived r from (suc n) small =
+    let next : Reading = read_one trim r from (body_of arrived from) in
+    loosely dir b r (read_run trim arrived r from (suc n)) (body_bytes (body_of arrived from) + run_bytes arrived (from + 1) n) (run_bytes arrived from (suc n)) (omega (arith, run_first arrived from n))
+    (then_on dir b r next (read_run trim arrived r from (suc n)) (body_bytes (body_of arrived from)) (run_bytes arrived (from + 1) n) (one_on dir b trim r from (body_of arrived from) small) (run_on dir b trim arrived next (from + 1) n small))

@@ -1,0 +1,4 @@
+pub mod Bytes
+pub mod Coming
+pub mod Bounded
+pub mod Few
