@@ -1,0 +1,109 @@
+-- The sets whose Iub frames are sent one after another.
+use Rattle.std.proofs.Common.{◌≡◌, ◌≢◌, ◌+◌, ◌<◌, ◌≤◌, ◌∙◌, ◌++◌, ℕ, zero, suc, List, [], ◌∷◌, length, get_or, arith, refl, ap, ap₂, sym, subst, inl, inr, true, false, Option, None, add-one, append-nil, length-append, get_or-set_same, get_or-set_other}
+use Rattle.std.specs.Prelude.{slice_set}
+use Rattle.std.proofs.lemmas.Bool.Decides.{eqb_tells}
+use Rattle.std.proofs.lemmas.List.{get_or_append_left, get_or_default, get_or_push, length-set}
+use Rattle.dch_types.specs.Timing.{set_frames, starts}
+use Rattle.dch_accept.specs.Plans.{Planned}
+use Rattle.dch_script.specs.Held.{Held as Text}
+use Rattle.dch_node.specs.Lines.{Line, text_of}
+use Rattle.dch_node.proofs.Texts.{text_of-append}
+use Rattle.dch_bearer.specs.Reports.{added}
+use Rattle.dch_bearer.proofs.Lines.{added-added}
+use Rattle.dch_layer2.specs.Values.{LayerRunning}
+use Rattle.dch_rnc.specs.Moves.{AreNewTxBuffers, AreServed, Gives, SendsFrame, Serves, sent_of}
+use Rattle.dch_rnc.specs.Opened.{AreTxBuffersOf, IsTxBufferOf}
+use Rattle.dch_rnc.specs.Steps.{sent_line, sent_lines}
+use Rattle.dch_rnc.specs.Values.{IubTxBuffer, tx_buffer_at}
+
+-- the frame of a set was sent
+pub set_sent : (planned : Planned) (cfn : ℕ) (v : LayerRunning) (set : ℕ) (new : IubTxBuffer) (before after : Text) → SendsFrame planned cfn v set new before after
+    → starts (set_frames planned.config.downlink.side set) cfn ≡ true → Serves planned cfn v set new before after
+set_sent planned cfn v set new before after sends on = record {
+  opened = sends.opened;
+  gives = subst (λ (o : Option (List ℕ)). Gives planned.config cfn v set o) (sym sends.sent) (on, sends.frame);
+  few = subst (λ (o : Option (List ℕ)). length (text_of (sent_line set o)) ≤ 300000) (sym sends.sent) sends.few;
+  reported = sends.reported ∙ ap (λ (o : Option (List ℕ)). added before (sent_line set o)) (sym sends.sent);
+}
+
+-- or its TTI is on
+pub set_waits : (planned : Planned) (cfn : ℕ) (v : LayerRunning) (set : ℕ) (tx_buffer : IubTxBuffer) (before : Text) → IsTxBufferOf planned set tx_buffer → tx_buffer.sent ≡ None
+    → starts (set_frames planned.config.downlink.side set) cfn ≡ false → Serves planned cfn v set tx_buffer before before
+set_waits planned cfn v set tx_buffer before opened none off = record {
+  opened = opened;
+  gives = subst (λ (o : Option (List ℕ)). Gives planned.config cfn v set o) (sym none) off;
+  few = subst (λ (o : Option (List ℕ)). length (text_of (sent_line set o)) ≤ 300000) (sym none) (omega arith);
+  reported = ap (λ (t : List ℕ). record before { text = t }) (sym (append-nil before.text)) ∙ ap (λ (o : Option (List ℕ)). added before (sent_line set o)) (sym none);
+}
+
+-- lines on the same frames
+pub sent_lines-same : (f g : ℕ → Option (List ℕ)) (n : ℕ) → ((s : ℕ) → s < n → f s ≡ g s) → sent_lines f n ≡ sent_lines g n
+sent_lines-same f g zero same = refl
+sent_lines-same f g (suc n) same =
+    ap₂ (λ (a b : List Line). a ++ b) (sent_lines-same f g n (λ s early. same s (omega arith))) (ap (λ (o : Option (List ℕ)). sent_line n o) (same n (omega arith)))
+
+-- one more set was served
+pub served_next : (planned : Planned) (cfn : ℕ) (v : LayerRunning) (set : ℕ) (tx_buffers : List IubTxBuffer) (tx_buffer : IubTxBuffer) (before now after : Text) → AreServed planned cfn v set tx_buffers before now → set < 8
+    → Serves planned cfn v set tx_buffer now after → AreServed planned cfn v (set + 1) (slice_set tx_buffers set tx_buffer) before after
+served_next planned cfn v set tx_buffers tx_buffer before now after are inside served =
+    let new : List IubTxBuffer = slice_set tx_buffers set tx_buffer in
+    let room : set < length tx_buffers = subst (λ n. set < n) (sym are.opened.all) inside in
+    let own : tx_buffer_at new set ≡ tx_buffer = get_or-set_same tx_buffers set tx_buffer _ room in
+    let others : (s : ℕ) → s ≢ set → tx_buffer_at new s ≡ tx_buffer_at tx_buffers s = (λ s other. get_or-set_other tx_buffers set s tx_buffer _ other) in
+    let before_lines : sent_lines (sent_of new) set ≡ sent_lines (sent_of tx_buffers) set =
+    sent_lines-same (sent_of new) (sent_of tx_buffers) set (λ s early. ap (λ (l : IubTxBuffer). l.sent) (others s (omega arith))) in
+    let lines : sent_lines (sent_of new) (set + 1) ≡ sent_lines (sent_of tx_buffers) set ++ sent_line set tx_buffer.sent =
+    rw add-one (ap₂ (λ (a b : List Line). a ++ b) before_lines (ap (λ (l : IubTxBuffer). sent_line set l.sent) own)) in
+    let long : text_of (sent_lines (sent_of new) (set + 1)) ≡ text_of (sent_lines (sent_of tx_buffers) set) ++ text_of (sent_line set tx_buffer.sent) =
+    ap text_of lines ∙ text_of-append (sent_lines (sent_of tx_buffers) set) (sent_line set tx_buffer.sent) in
+    record {
+      opened = record {
+        all = length-set tx_buffers set tx_buffer ∙ are.opened.all;
+        each = λ s few. elim (eqb_tells s set) [
+          | inl same ↦ subst (λ k. IsTxBufferOf planned k (tx_buffer_at new k)) (sym same.1) (subst (λ (l : IubTxBuffer). IsTxBufferOf planned set l) (sym own) served.opened)
+          | inr other ↦ subst (λ (l : IubTxBuffer). IsTxBufferOf planned s l) (sym (others s other.1)) (are.opened.each s few)
+        ];
+      };
+      sets = λ s early. elim (eqb_tells s set) [
+        | inl same ↦ subst (λ k. Gives planned.config cfn v k (sent_of new k)) (sym same.1) (subst (λ (l : IubTxBuffer). Gives planned.config cfn v set l.sent) (sym own) served.gives)
+        | inr other ↦ (let apart : s ≢ set = other.1 in subst (λ (l : IubTxBuffer). Gives planned.config cfn v s l.sent) (sym (others s apart)) (are.sets s (omega arith)))
+      ];
+      later = λ s late few. ap (λ (l : IubTxBuffer). l.sent) (others s (omega arith)) ∙ are.later s (omega arith) few;
+      few = rw long (rw length-append (omega (arith, are.few, served.few)));
+      reported = served.reported ∙ ap (λ (t : Text). added t (sent_line set tx_buffer.sent)) are.reported
+          ∙ added-added before (sent_lines (sent_of tx_buffers) set) (sent_line set tx_buffer.sent) ∙ ap (λ (ls : List Line). added before ls) (sym lines);
+    }
+
+-- no set was served yet
+pub none_served : (planned : Planned) (cfn : ℕ) (v : LayerRunning) (tx_buffers : List IubTxBuffer) (before : Text) → AreTxBuffersOf planned tx_buffers → ((s : ℕ) → s < 8 → sent_of tx_buffers s ≡ None)
+    → AreServed planned cfn v 0 tx_buffers before before
+none_served planned cfn v tx_buffers before are quiet = record {
+  opened = are;
+  sets = λ s early. absurd (omega arith);
+  later = λ s late few. quiet s few;
+  few = omega arith;
+  reported = ap (λ (t : List ℕ). record before { text = t }) (sym (append-nil before.text));
+}
+
+-- a transmit buffer, whatever stands for one past the end
+pub tx_buffer_in : (planned : Planned) (tx_buffers : List IubTxBuffer) (set : ℕ) (other : IubTxBuffer) → AreTxBuffersOf planned tx_buffers → set < 8 → get_or tx_buffers set other ≡ tx_buffer_at tx_buffers set
+tx_buffer_in planned tx_buffers set other are few = get_or_default tx_buffers set other _ (omega (arith, are.all))
+
+-- a new transmit buffer at the end
+pub new_tx_buffer : (planned : Planned) (count : ℕ) (tx_buffers : List IubTxBuffer) (tx_buffer : IubTxBuffer) → AreNewTxBuffers planned count tx_buffers → IsTxBufferOf planned count tx_buffer → tx_buffer.sent ≡ None
+    → AreNewTxBuffers planned (count + 1) (tx_buffers ++ tx_buffer ∷ [])
+new_tx_buffer planned count tx_buffers tx_buffer are is quiet =
+    let own : tx_buffer_at (tx_buffers ++ tx_buffer ∷ []) count ≡ tx_buffer = get_or_push tx_buffers tx_buffer _ count are.all in
+    let others : (s : ℕ) → s < count → tx_buffer_at (tx_buffers ++ tx_buffer ∷ []) s ≡ tx_buffer_at tx_buffers s =
+    (λ s early. get_or_append_left tx_buffers (tx_buffer ∷ []) _ s (omega (arith, are.all))) in
+    record {
+      all = omega (arith, length-append tx_buffers (tx_buffer ∷ []), are.all);
+      each = λ s early. elim (eqb_tells s count) [
+        | inl same ↦ subst (λ n. IsTxBufferOf planned n (tx_buffer_at (tx_buffers ++ tx_buffer ∷ []) n)) (sym same.1) (subst (λ (l : IubTxBuffer). IsTxBufferOf planned count l) (sym own) is)
+        | inr other ↦ (let apart : s ≢ count = other.1 in let less : s < count = omega arith in subst (λ (l : IubTxBuffer). IsTxBufferOf planned s l) (sym (others s less)) (are.each s less))
+      ];
+      quiet = λ s early. elim (eqb_tells s count) [
+        | inl same ↦ ap (λ n. (tx_buffer_at (tx_buffers ++ tx_buffer ∷ []) n).sent) same.1 ∙ ap (λ (l : IubTxBuffer). l.sent) own ∙ quiet
+        | inr other ↦ (let apart : s ≢ count = other.1 in let less : s < count = omega arith in ap (λ (l : IubTxBuffer). l.sent) (others s less) ∙ are.quiet s less)
+      ];
+    }

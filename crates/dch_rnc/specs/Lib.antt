@@ -1,0 +1,9 @@
+pub mod Lending
+pub mod Moves
+pub mod Octets
+pub mod Opened
+pub mod Rooms
+pub mod Standing
+pub mod State
+pub mod Steps
+pub mod Values

@@ -1,0 +1,139 @@
+-- What the parts of a network controller do in a step, each by itself.
+use Rattle.std.specs.Prelude.{◌≡◌, ◌<◌, ◌≤◌, ◌*◌, ℕ, List, [], ◌∷◌, Bool, true, false, Option, Some, None, length}
+use Rattle.dch_types.specs.declared.channel.Dir.TheVariants.{Up, Down}
+use Rattle.dch_types.specs.declared.config.Config.{Config}
+use Rattle.dch_types.specs.Parts.{channel_at}
+use Rattle.dch_types.specs.Timing.{set_frames, starts}
+use Rattle.dch_accept.specs.Blocks.{Held}
+use Rattle.dch_accept.specs.HeldSets.{HeldSet, IsSetOf, held_at}
+use Rattle.dch_accept.specs.Plans.{Planned}
+use Rattle.dch_iub.specs.Answers.{IsCause}
+use Rattle.dch_iub.specs.Forms.{IsReadForm, IsWrittenForm}
+use Rattle.dch_iub.specs.declared.error.IubError.{IubError}
+use Rattle.dch_script.specs.Held.{Held as Text}
+use Rattle.dch_node.specs.IubFrames.{refusal_number}
+use Rattle.dch_node.specs.Lines.{IubBad, text_of}
+use Rattle.dch_bearer.specs.Reports.{added}
+use Rattle.dch_layer.specs.Layers.{Layer}
+use Rattle.dch_rnc.specs.Octets.{AreOctets}
+use Rattle.dch_layer2.specs.Reading.{Reading, reads_below}
+use Rattle.dch_layer2.specs.Standing.{IsSameEnd, Represents as StandsFor}
+use Rattle.dch_layer2.specs.Values.{LayerRunning}
+use Rattle.dch_rnc.specs.Opened.{AreRxSetsOf, AreTxBuffersOf, IsTxBufferOf}
+use Rattle.dch_rnc.specs.State.{set_readings}
+use Rattle.dch_rnc.specs.Steps.{sent_line, sent_lines}
+use Rattle.dch_rnc.specs.Values.{IubTxBuffer, rx_set_at, tx_buffer_at}
+
+-- layer 2 took the readings of the first channels
+pub record HasRead (config : Config) (readings : ℕ → Reading) (count : ℕ) (old new : LayerRunning) (before after : Text) : Type 0 where
+  pub ends : IsSameEnd old new
+  pub stands : (layer : Layer) → StandsFor config layer old → StandsFor config (reads_below config Up readings count layer).layer new
+  pub reported : (layer : Layer) → StandsFor config layer old → after ≡ added before (reads_below config Up readings count layer).lines
+
+-- and so those of all channels of a set
+abbrev pub TakesSet : Planned → ℕ → HeldSet → LayerRunning → LayerRunning → Text → Text → Type 0
+TakesSet planned set held old new before after =
+    HasRead planned.config (set_readings planned.config.uplink.side set held) (length planned.config.uplink.side.channels) old new before after
+
+-- blocks that were read of a frame
+pub record IsFilled (planned : Planned) (set : ℕ) (octets : List ℕ) (held : HeldSet) : Type 0 where
+  pub cfn : ℕ
+  pub qe : ℕ
+  pub read : IsReadForm planned.config Up set octets cfn qe held
+
+-- a frame was read, and layer 2 took its blocks
+pub record IsTaken (planned : Planned) (set : ℕ) (octets : List ℕ) (held : HeldSet) (old new : LayerRunning) (before after : Text) : Type 0 where
+  pub filled : IsFilled planned set octets held
+  pub takes : TakesSet planned set held old new before after
+
+-- or refused, which is reported
+pub record IsRefused (planned : Planned) (set : ℕ) (octets : List ℕ) (old new : LayerRunning) (before after : Text) : Type 0 where
+  pub error : IubError
+  pub cause : IsCause planned.config Up set octets error
+  pub same : new ≡ old
+  pub few : length (text_of (IubBad Up set (refusal_number error) ∷ [])) ≤ 300
+  pub reported : after ≡ added before (IubBad Up set (refusal_number error) ∷ [])
+
+abbrev pub Answers : Planned → ℕ → List ℕ → Bool → HeldSet → LayerRunning → LayerRunning → Text → Text → Type 0
+Answers planned set octets true held old new before after = IsTaken planned set octets held old new before after
+Answers planned set octets false held old new before after = IsRefused planned set octets old new before after
+
+-- an Iub frame came for a set, which was read or not
+pub record Receives (planned : Planned) (set : ℕ) (octets : List ℕ) (read : Bool) (rx_sets : List HeldSet) (old new : LayerRunning) (before after : Text) : Type 0 where
+  pub few : set < 8
+  pub opened : AreRxSetsOf planned rx_sets
+  pub answers : Answers planned set octets read (rx_set_at rx_sets set) old new before after
+
+-- memory for the uplink blocks of the first sets
+pub record AreNewRxSets (planned : Planned) (count : ℕ) (rx_sets : List HeldSet) : Type 0 where
+  pub all : length rx_sets ≡ count
+  pub each : (s : ℕ) → s < count → IsSetOf planned.config Up s (rx_set_at rx_sets s)
+
+-- the same format and bits
+pub record IsSameBlocks (given held : Held) : Type 0 where
+  pub format : held.format ≡ given.format
+  pub bits : held.bits ≡ given.bits
+
+-- of the first channels those of a set have the blocks that layer 2 gave to them
+abbrev pub AreFilledTo : Config → ℕ → ℕ → LayerRunning → HeldSet → Type 0
+AreFilledTo config count set v held =
+    (i : ℕ) → i < count → (channel_at config.downlink.side i).set ≡ set → IsSameBlocks (held_at v.given i) (held_at held.blocks i)
+
+-- all channels of a set
+abbrev pub AreFilled : Config → ℕ → LayerRunning → HeldSet → Type 0
+AreFilled config set v held = AreFilledTo config (length config.downlink.side.channels) set v held
+
+-- the Iub frame of what layer 2 gave to the channels of a set
+pub record IsFrameOf (config : Config) (cfn : ℕ) (v : LayerRunning) (set : ℕ) (octets : List ℕ) : Type 0 where
+  pub held : HeldSet
+  pub filled : AreFilled config set v held
+  pub whole : AreOctets octets
+  pub written : IsWrittenForm config Down set octets cfn 0 held
+
+-- a set whose TTI starts gives its frame, and no other one does
+abbrev pub Gives : Config → ℕ → LayerRunning → ℕ → Option (List ℕ) → Type 0
+Gives config cfn v set None = starts (set_frames config.downlink.side set) cfn ≡ false
+Gives config cfn v set (Some octets) = (starts (set_frames config.downlink.side set) cfn ≡ true) × IsFrameOf config cfn v set octets
+
+-- the frame of a set is sent and reported
+pub record SendsFrame (planned : Planned) (cfn : ℕ) (v : LayerRunning) (set : ℕ) (new : IubTxBuffer) (before after : Text) : Type 0 where
+  pub opened : IsTxBufferOf planned set new
+  pub octets : List ℕ
+  pub sent : new.sent ≡ Some octets
+  pub frame : IsFrameOf planned.config cfn v set octets
+  pub few : length (text_of (sent_line set (Some octets))) ≤ 300000
+  pub reported : after ≡ added before (sent_line set (Some octets))
+
+-- a set was served
+pub record Serves (planned : Planned) (cfn : ℕ) (v : LayerRunning) (set : ℕ) (tx_buffer : IubTxBuffer) (before after : Text) : Type 0 where
+  pub opened : IsTxBufferOf planned set tx_buffer
+  pub gives : Gives planned.config cfn v set tx_buffer.sent
+  pub few : length (text_of (sent_line set tx_buffer.sent)) ≤ 300000
+  pub reported : after ≡ added before (sent_line set tx_buffer.sent)
+
+-- what each set sends
+abbrev pub sent_of : List IubTxBuffer → ℕ → Option (List ℕ)
+sent_of tx_buffers s = (tx_buffer_at tx_buffers s).sent
+
+-- the first sets were served, and the others send nothing
+pub record AreServed (planned : Planned) (cfn : ℕ) (v : LayerRunning) (count : ℕ) (tx_buffers : List IubTxBuffer) (before after : Text) : Type 0 where
+  pub opened : AreTxBuffersOf planned tx_buffers
+  pub sets : (s : ℕ) → s < count → Gives planned.config cfn v s (sent_of tx_buffers s)
+  pub later : (s : ℕ) → count ≤ s → s < 8 → sent_of tx_buffers s ≡ None
+  pub few : length (text_of (sent_lines (sent_of tx_buffers) count)) ≤ count * 300000
+  pub reported : after ≡ added before (sent_lines (sent_of tx_buffers) count)
+
+-- the transmit buffers of the first sets are new
+pub record AreNewTxBuffers (planned : Planned) (count : ℕ) (tx_buffers : List IubTxBuffer) : Type 0 where
+  pub all : length tx_buffers ≡ count
+  pub each : (s : ℕ) → s < count → IsTxBufferOf planned s (tx_buffer_at tx_buffers s)
+  pub quiet : (s : ℕ) → s < count → sent_of tx_buffers s ≡ None
+
+-- the first transmit buffers show nothing any more
+pub record AreClearedTo (count : ℕ) (old new : List IubTxBuffer) : Type 0 where
+  pub all : length new ≡ length old
+  pub each : (s : ℕ) → s < count → tx_buffer_at new s ≡ record (tx_buffer_at old s) { sent = None }
+  pub later : (s : ℕ) → count ≤ s → tx_buffer_at new s ≡ tx_buffer_at old s
+
+abbrev pub AreCleared : List IubTxBuffer → List IubTxBuffer → Type 0
+AreCleared old new = AreClearedTo 8 old new

@@ -1,0 +1,76 @@
+-- A network controller and what it stands for: the state of the definition, and the list of what happened at it.
+use Rattle.std.specs.Prelude.{◌≡◌, ◌<◌, ℕ, List, Option, Some, None, IsSome, true, length}
+use Rattle.dch_types.specs.declared.channel.Dir.TheVariants.{Down}
+use Rattle.dch_types.specs.declared.config.Config.{Config}
+use Rattle.dch_types.specs.Timing.{has_set}
+use Rattle.dch_accept.specs.Blocks.{Held}
+use Rattle.dch_accept.specs.Plans.{Planned}
+use Rattle.dch_layer.specs.Bearings.{channel_of}
+use Rattle.dch_layer2.specs.Reading.{Bad, Nothing, Read, Reading}
+use Rattle.dch_layer2.specs.Standing.{Represents as StandsFor}
+use Rattle.dch_node.specs.Lines.{Line}
+use Rattle.dch_node.specs.Standing.{HasHistory, HasLongerHistory, TakesStep}
+use Rattle.dch_node.specs.Values.{Output}
+use Rattle.dch_rnc.specs.declared.event.RncEvent.{RncEvent}
+use Rattle.dch_rnc.specs.declared.event.RncEvent.TheVariants.{Unit as Offered, Block, Iub, Tick as Ticks}
+use Rattle.dch_rnc.specs.State.{Event, OfferedUnit, BlockedCombination, IubFrame, Tick, State, opened_state}
+use Rattle.dch_rnc.specs.Steps.{Steps}
+use Rattle.dch_rnc.specs.Values.{Node, iub_shown, taken_shown}
+
+-- what happens, as plain lists
+abbrev pub event_of : RncEvent → Event
+event_of (Offered b octets bits) = OfferedUnit b octets.now bits.now
+event_of (Block c on) = BlockedCombination c on
+event_of (Iub set frame) = IubFrame set frame.now
+event_of Ticks = Tick
+
+-- bearer b is there, and has a downlink channel
+pub record SendsDown (config : Config) (b : ℕ) : Type 0 where
+  pub there : b < length config.bearers
+  pub sends : IsSome (channel_of config Down b)
+
+-- an event that may come: its bearer sends in the downlink, its combination is one of the downlink, its set exists in the uplink
+abbrev pub MayCome : Planned → RncEvent → Type 0
+MayCome planned (Offered b octets bits) = SendsDown planned.config b
+MayCome planned (Block c on) = c < length planned.config.downlink.side.combinations
+MayCome planned (Iub set frame) = has_set planned.config.uplink.side set ≡ true
+MayCome planned Ticks = Unit {0}
+
+-- the blocks of a reading
+abbrev pub blocks_read : Reading → Option Held
+blocks_read Nothing = None
+blocks_read (Read held) = Some held
+blocks_read (Bad frame) = None
+
+-- a network controller that was opened for a configuration stands for a state in which that is active, but for what the last step
+-- read; and for that too
+pub record IsAt (planned : Planned) (state : State) (node : Node) : Type 0 where
+  pub active : state.planned ≡ planned
+  pub cfn : node.cfn ≡ state.cfn
+  pub layer : StandsFor planned.config state.layer node.layer
+
+pub record Represents (planned : Planned) (state : State) (node : Node) : Type 0 where
+  pub at : IsAt planned state node
+  pub readings : (i : ℕ) → i < length planned.config.uplink.side.channels → taken_shown node i ≡ blocks_read (state.readings i)
+
+-- it shows the Iub frames that the last step sent
+pub record Shows (output : Output) (node : Node) : Type 0 where
+  pub iub : (s : ℕ) → s < 8 → iub_shown node s ≡ output.iub s
+
+-- nothing is shown as sent or read
+pub record NothingShown (node : Node) : Type 0 where
+  pub iub : (s : ℕ) → s < 8 → iub_shown node s ≡ None
+  pub read : node.read ≡ None
+
+-- a step was taken from a state, and the report went on by the text of its lines
+abbrev pub Stepped : Planned → State → Event → Node → List ℕ → List ℕ → Type 0
+Stepped planned old event node before after = TakesStep Steps (Represents planned) Shows old event node before after
+
+-- a network controller stands for what happened since opening, with the lines of all reports
+abbrev pub RepresentsHistory : Planned → ℕ → List Event → List Line → Node → Type 0
+RepresentsHistory planned first events lines node = HasHistory Steps (Represents planned) Shows (opened_state planned first) events lines node
+
+-- one more event, with the lines by whose text the report went on
+abbrev pub ExtendsHistory : Planned → ℕ → List Event → List Line → Event → Node → List ℕ → List ℕ → Type 0
+ExtendsHistory planned first events lines event node before after =
+    HasLongerHistory Steps (Represents planned) Shows (opened_state planned first) events lines event node before after

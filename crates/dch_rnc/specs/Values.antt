@@ -1,0 +1,46 @@
+-- The parts of a network controller as contracts see them.
+use Rattle.std.specs.Prelude.{◌==◌, ℕ, List, [], Bool, true, false, Option, Some, None, if◌then◌else◌, slice_index, slice_index_or}
+use Rattle.dch_accept.specs.Blocks.{Held}
+use Rattle.dch_accept.specs.HeldSets.{HeldSet, held_at}
+use Rattle.dch_layer2.specs.Values.{LayerRunning}
+
+-- the blocks that came for set s
+abbrev pub rx_set_at : List HeldSet → ℕ → HeldSet
+rx_set_at rx_sets s = slice_index_or rx_sets s (record { set = 0; idle = []; blocks = [] })
+
+-- a downlink Iub frame: its blocks, its octets where the last step sent it, and how many there is room for
+pub record IubTxBuffer : Type 0 where
+  pub held : HeldSet
+  pub sent : Option (List ℕ)
+  pub room : ℕ
+
+-- that of set s
+abbrev pub tx_buffer_at : List IubTxBuffer → ℕ → IubTxBuffer
+tx_buffer_at tx_buffers s = slice_index_or tx_buffers s (record { held = record { set = 0; idle = []; blocks = [] }; sent = None; room = 0 })
+
+-- the CFN, layer 2, the set of each uplink channel, the blocks that came for each set, the set whose frame the last step read, if
+-- any, and the downlink Iub frames
+pub record Node : Type 0 where
+  pub cfn : ℕ
+  pub layer : LayerRunning
+  pub channel_sets : List ℕ
+  pub rx_sets : List HeldSet
+  pub read : Option ℕ
+  pub tx_buffers : List IubTxBuffer
+
+-- the octets of an Iub frame that the last step sent
+abbrev pub octets_if : Bool → List ℕ → Option (List ℕ)
+octets_if true octets = Some octets
+octets_if false octets = None
+
+abbrev pub iub_shown : Node → ℕ → Option (List ℕ)
+iub_shown node s = (tx_buffer_at node.tx_buffers s).sent
+
+-- the blocks of channel i, where it belongs to the set that was read
+abbrev pub blocks_if_read : Option ℕ → List ℕ → List HeldSet → ℕ → Option Held
+blocks_if_read None channel_sets rx_sets i = None
+blocks_if_read (Some set) channel_sets rx_sets i = if slice_index channel_sets i == set then Some (held_at (rx_set_at rx_sets set).blocks i) else None
+
+-- the blocks of channel i that the last step read
+abbrev pub taken_shown : Node → ℕ → Option Held
+taken_shown node i = blocks_if_read node.read node.channel_sets node.rx_sets i

@@ -1,0 +1,228 @@
+ghost use Rattle.std.specs.Prelude.{◌≡◌, ◌<◌, ◌≤◌, ◌+◌, ◌%◌, ℕ, List, [], length, IfOk, true};
+ghost use Rattle.dch_types.specs.declared.channel.Dir.TheVariants.{Up, Down};
+ghost use Rattle.dch_types.specs.Timing.{has_set};
+ghost use Rattle.dch_accept.specs.HeldSets.{held_at};
+ghost use Rattle.dch_accept.specs.Reports.{step_bytes};
+ghost use Rattle.dch_node.specs.Lines.{Line};
+ghost use Rattle.dch_rnc.specs.Lending.{held_of, octets_of};
+ghost use Rattle.dch_rnc.specs.Opened.{HasChannel, IsNodeOf};
+ghost use Rattle.dch_rnc.specs.Rooms.{HasRoomFor};
+ghost use Rattle.dch_rnc.specs.Standing.{ExtendsHistory, IsAt, MayCome, NothingShown, Represents, RepresentsHistory, SendsDown, Stepped, event_of};
+ghost use Rattle.dch_rnc.specs.State.{BlockedCombination, Event, IubFrame, OfferedUnit, State, Tick};
+ghost use Rattle.dch_rnc.specs.Values.{iub_shown, taken_shown};
+
+use crate::downlink::send_sets;
+use crate::event::RncEvent;
+use crate::iub_tx_buffer::{IubTxBuffer, clear_sent, tx_buffers};
+use crate::report::put_answer;
+use crate::sets::channel_sets;
+use crate::uplink::{receive, rx_sets};
+use dch_accept::{Accepted, SetBlocks, TtiBlocks};
+use dch_bits::{Bit, NoMemory};
+use dch_layer2::Layer2;
+use dch_script::Report;
+use dch_types::Dir;
+use std::alloc::Global;
+use std::marker::Model;
+
+/// A network controller with one terminal. All its memory is taken at opening.
+#[derive(Drop)]
+pub struct Rnc {
+    cfn: u8,
+    layer: Layer2,
+    channel_sets: Vec<u8>,
+    rx_sets: Vec<SetBlocks>,
+    read: Option<u8>,
+    tx_buffers: Vec<IubTxBuffer>,
+}
+
+impl Model for Rnc {
+    ghost use Rattle.std.specs.Prelude.{◌≡◌, length};
+    ghost use Rattle.dch_rnc.specs.Values.{Node};
+
+    ghost Value = { Node };
+
+    ghost view = { λ n. record { cfn = n.cfn; layer = n.layer; channel_sets = n.channel_sets.items; rx_sets = n.rx_sets.items; read = n.read; tx_buffers = n.tx_buffers.items } };
+
+    ghost invariant = { λ n. length n.tx_buffers.items ≡ 8 };
+}
+
+impl Rnc {
+    /// Takes all memory for a configuration. The TTIs that start with the first tick have this CFN, every channel runs its idle
+    /// format, no combination is blocked, and no unit waits.
+    pub fn open(alloc: Global, accepted: &Accepted, first_cfn: u8) -> Result<Rnc, NoMemory>
+        requires { first_cfn % 8 ≡ 0 }
+        ensures opened { IfOk result (IsNodeOf accepted.now) }
+        ensures stands { IfOk result (RepresentsHistory accepted.now first_cfn [] []) }
+    {
+        Ok(Rnc {
+            cfn: first_cfn,
+            layer: Layer2::open(alloc, accepted, Dir::Down, Dir::Up)?,
+            channel_sets: channel_sets(alloc, accepted.side(Dir::Up))?,
+            rx_sets: rx_sets(alloc, accepted)?,
+            read: None,
+            tx_buffers: tx_buffers(alloc, accepted)?,
+        })
+    }
+
+    /// Takes one event, and reports what it does. The report has room for what one step may write.
+    pub fn step(&mut self, accepted: &Accepted, event: RncEvent<'_>, report: &mut Report)
+        requires opened { IsNodeOf accepted.now self.old }
+        requires event { MayCome accepted.now event }
+        requires room { HasRoomFor report.old (step_bytes accepted.now.config) }
+        ensures opened { IsNodeOf accepted.now self.new }
+        ensures step { (state : State) → Represents accepted.now state self.old → Stepped accepted.now state (event_of event.entry) self.new report.old.text report.new.text }
+        ensures history { (first : ℕ) (events : List Event) (lines : List Line) → RepresentsHistory accepted.now first events lines self.old →
+            ExtendsHistory accepted.now first events lines (event_of event.entry) self.new report.old.text report.new.text }
+        ensures few { length report.new.text ≤ length report.old.text + step_bytes accepted.now.config }
+        ensures most { report.new.most ≡ report.old.most }
+    {
+        self.happen(accepted, event, report);
+    }
+
+    /// Gives all memory back.
+    pub fn close(self) {}
+
+    /// The downlink Iub frame of a set that the last step sent, if it sent one.
+    pub fn iub(&self, set: u8) -> Option<&[u8]>
+        requires { set < 8 }
+        ensures { octets_of result ≡ iub_shown self.now set }
+    {
+        self.tx_buffers[set as usize].octets()
+    }
+
+    /// The blocks that a downlink channel was given for its running TTI, with their format.
+    pub fn given(&self, channel: u8) -> &TtiBlocks
+        requires { HasChannel Down self.now channel }
+        ensures { result.now ≡ held_at self.now.layer.given channel }
+    {
+        self.layer.given(channel)
+    }
+
+    /// The blocks of an uplink channel that the last step read, if it read that channel.
+    pub fn taken(&self, channel: u8) -> Option<&TtiBlocks>
+        requires { HasChannel Up self.now channel }
+        ensures { held_of result ≡ taken_shown self.now channel }
+    {
+        let set = self.read?;
+        if self.channel_sets[channel as usize] == set {
+            Some(self.rx_sets[set as usize].channel(channel))
+        } else {
+            None
+        }
+    }
+
+    /// Hides what the last step sent and read, and takes one event.
+    fn happen(&mut self, accepted: &Accepted, event: RncEvent<'_>, report: &mut Report)
+        requires opened { IsNodeOf accepted.now self.old }
+        requires event { MayCome accepted.now event }
+        requires room { HasRoomFor report.old (step_bytes accepted.now.config) }
+        ensures opened { IsNodeOf accepted.now self.new }
+        ensures step { (state : State) → Represents accepted.now state self.old → Stepped accepted.now state (event_of event.entry) self.new report.old.text report.new.text }
+        ensures few { length report.new.text ≤ length report.old.text + step_bytes accepted.now.config }
+        ensures most { report.new.most ≡ report.old.most }
+    {
+        self.clear_shown(accepted);
+        match event {
+            RncEvent::Unit {
+                bearer,
+                octets,
+                bits,
+            } => self.offer(accepted, bearer, octets, bits, report),
+            RncEvent::Block { combination, on } => self.block(accepted, combination, on),
+            RncEvent::Iub { set, frame } => self.receive_iub(accepted, set, frame, report),
+            RncEvent::Tick => self.tick(accepted, report),
+        }
+    }
+
+    /// Nothing is shown as sent or read.
+    fn clear_shown(&mut self, accepted: &Accepted)
+        requires { IsNodeOf accepted.now self.old }
+        ensures opened { IsNodeOf accepted.now self.new }
+        ensures quiet { NothingShown self.new }
+        ensures stands { (state : State) → Represents accepted.now state self.old → IsAt accepted.now state self.new }
+    {
+        self.read = None;
+        clear_sent(&mut self.tx_buffers);
+    }
+
+    /// A unit is offered to a bearer.
+    fn offer(
+        &mut self,
+        accepted: &Accepted,
+        bearer: u8,
+        octets: &[u8],
+        bits: &[Bit],
+        report: &mut Report,
+    )
+        requires opened { IsNodeOf accepted.now self.old }
+        requires quiet { NothingShown self.old }
+        requires bearer { SendsDown accepted.now.config bearer }
+        requires room { HasRoomFor report.old (step_bytes accepted.now.config) }
+        ensures opened { IsNodeOf accepted.now self.new }
+        ensures step { (state : State) → IsAt accepted.now state self.old → Stepped accepted.now state (OfferedUnit bearer octets.now bits.now) self.new report.old.text report.new.text }
+        ensures few { length report.new.text ≤ length report.old.text + step_bytes accepted.now.config }
+        ensures most { report.new.most ≡ report.old.most }
+    {
+        let answer = self.layer.offer(bearer, octets, bits);
+        put_answer(report, bearer, answer);
+    }
+
+    /// A combination is blocked, or free again.
+    fn block(&mut self, accepted: &Accepted, combination: u16, on: bool)
+        requires opened { IsNodeOf accepted.now self.old }
+        requires quiet { NothingShown self.old }
+        requires combination { combination < length accepted.now.config.downlink.side.combinations }
+        ensures opened { IsNodeOf accepted.now self.new }
+        ensures step { (state : State) (text : List ℕ) → IsAt accepted.now state self.old → Stepped accepted.now state (BlockedCombination combination on) self.new text text }
+    {
+        self.layer.block(combination, on);
+    }
+
+    /// An Iub frame arrives for a set.
+    fn receive_iub(&mut self, accepted: &Accepted, set: u8, frame: &[u8], report: &mut Report)
+        requires opened { IsNodeOf accepted.now self.old }
+        requires quiet { NothingShown self.old }
+        requires set { has_set accepted.now.config.uplink.side set ≡ true }
+        requires room { HasRoomFor report.old (step_bytes accepted.now.config) }
+        ensures opened { IsNodeOf accepted.now self.new }
+        ensures step { (state : State) → IsAt accepted.now state self.old → Stepped accepted.now state (IubFrame set frame.now) self.new report.old.text report.new.text }
+        ensures few { length report.new.text ≤ length report.old.text + step_bytes accepted.now.config }
+        ensures most { report.new.most ≡ report.old.most }
+    {
+        // What is reported of an Iub frame is limited in a good configuration.
+        let _config = accepted.config();
+        if receive(
+            accepted,
+            set,
+            frame,
+            &mut self.rx_sets,
+            &mut self.layer,
+            report,
+        ) {
+            self.read = Some(set);
+        }
+    }
+
+    /// 10 ms have passed: the timers tick, TTIs start, and the Iub frames of the sets that start are sent. The CFN goes on.
+    fn tick(&mut self, accepted: &Accepted, report: &mut Report)
+        requires opened { IsNodeOf accepted.now self.old }
+        requires quiet { NothingShown self.old }
+        requires room { HasRoomFor report.old (step_bytes accepted.now.config) }
+        ensures opened { IsNodeOf accepted.now self.new }
+        ensures step { (state : State) → IsAt accepted.now state self.old → Stepped accepted.now state Tick self.new report.old.text report.new.text }
+        ensures few { length report.new.text ≤ length report.old.text + step_bytes accepted.now.config }
+        ensures most { report.new.most ≡ report.old.most }
+    {
+        self.layer.tick();
+        self.layer.start(accepted, self.cfn);
+        send_sets(
+            accepted,
+            self.cfn,
+            &self.layer,
+            &mut self.tx_buffers,
+            report,
+        );
+        self.cfn = self.cfn.wrapping_add(1);
+    }
+}
