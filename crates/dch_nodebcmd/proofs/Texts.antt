@@ -1,9 +1,19 @@
--- The length of the last line of `nodeb`.
-use Rattle.std.proofs.Common.{◌<◌, ◌≤◌, ◌^◌, ◌++◌, ℕ, length, arith, length-append}
-use Rattle.std.specs.Prelude.{decimal, codes}
-use Rattle.dch_lines.proofs.Texts.{decimal_short}
-use Rattle.dch_script.specs.Report.{line_text}
-use Rattle.dch_script.specs.declared.report.Line.TheVariants.{EndFrames}
+-- The texts of an uplink radio frame that a line has are good.
+use Rattle.std.proofs.Common.{◌≡◌, List, ℕ, true}
+use Rattle.std.specs.Borrow.{Bor}
+use Rattle.dch_types.specs.declared.config.Config.{Config}
+use Rattle.dch_script.specs.Good.{IsOfNodeB}
+use Rattle.dch_script.specs.ParsedLine.{parsed_of, phy}
+use Rattle.dch_script.specs.Parts.{tfci_letters}
+use Rattle.dch_script.specs.Texts.{are_cells, is_cells, is_word_of_bits}
+use Rattle.dch_script.specs.declared.event.Event.{Event}
+use Rattle.dch_script.specs.declared.event.Event.TheVariants.{Phy}
+use Rattle.dch_nodecmd.proofs.Letters.{bits_are_cells}
 
-pub closing_short : (n : ℕ) → n < 2 ^ 64 → length (line_text (EndFrames n)) ≤ 32
-closing_short n small = omega (arith, length-append (codes "end frames=" ++ decimal n) (codes "\n"), length-append (codes "end frames=") (decimal n), decimal_short n small)
+pub tfci_good : (config : Config) (event : Event) (bits letters : Bor (List ℕ)) → event ≡ Phy bits letters → IsOfNodeB config (parsed_of event) → is_word_of_bits 30 bits.now ≡ true
+unfolding tfci_letters
+tfci_good config event bits letters is good = let own : IsOfNodeB config (phy bits.now letters.now) = rw is at good in own.0
+
+pub cells_good : (config : Config) (event : Event) (bits letters : Bor (List ℕ)) → event ≡ Phy bits letters → IsOfNodeB config (parsed_of event) → is_cells 57600 letters.now ≡ true
+unfolding are_cells
+cells_good config event bits letters is good = let own : IsOfNodeB config (phy bits.now letters.now) = rw is at good in bits_are_cells letters.now 57600 own.1

@@ -1,7 +1,4 @@
+pub mod Lasting
 pub mod LineEvents
 pub mod NoTrace
-pub mod Overlong
 pub mod Rules
-pub mod Run
-pub mod Shown
-pub mod Standing

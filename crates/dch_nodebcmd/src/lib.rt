@@ -1,10 +1,9 @@
-//! The lines of the command nodeb: what each says to the Node B, and the text that it adds to the report.
+//! The command nodeb: what each of its lines says to the Node B.
 #![tactic(auto)]
 
-mod handler;
 mod laws;
+mod node;
 mod reading;
-mod shown;
 
-pub use handler::{MOST_TEXT, NodeBHandler};
 pub use laws::no_trace_law;
+pub use node::NodeBLines;

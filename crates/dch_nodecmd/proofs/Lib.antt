@@ -1,0 +1,6 @@
+pub mod Closing
+pub mod Letters
+pub mod NoTrace
+pub mod OtherLines
+pub mod Running
+pub mod Units

@@ -1,0 +1,8 @@
+pub mod NoTrace
+pub mod NodeRules
+pub mod Overlong
+pub mod Rules
+pub mod Run
+pub mod Shown
+pub mod Standing
+pub mod Texts

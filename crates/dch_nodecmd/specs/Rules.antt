@@ -1,0 +1,39 @@
+-- The rules of a command with one node: each line is one event of the node.
+use Rattle.std.specs.Prelude.{◌≡◌, ◌++◌, ℕ, List, [], ◌∷◌, codes, decimal}
+use Rattle.dch_types.specs.declared.config.Config.{Config}
+use Rattle.dch_script.specs.declared.event.LineError.{LineError}
+use Rattle.dch_lines.specs.Semantics.{Semantics, one_step}
+use Rattle.dch_node.specs.Lines.{text_of}
+use Rattle.dch_node.specs.Values.{Output}
+use Rattle.dch_nodecmd.specs.NodeRules.{IsMalformed, NodeRules, SaysEvent}
+use Rattle.dch_nodecmd.specs.Run.{Run, frames_in}
+use Rattle.dch_nodecmd.specs.Shown.{shown}
+
+-- the configuration that is active
+abbrev pub config_of : {S E : Type 0} → NodeRules S E → Run S E → Config
+config_of rules run = (rules.planned run.node).config
+
+-- a step of the node for an event, and what is shown of its lines
+pub record TakesEvent {S E : Type 0} (rules : NodeRules S E) (old : Run S E) (event : E) (new : Run S E) (text : List ℕ) : Type 0 where
+  pub node : S
+  pub output : Output
+  pub step : rules.steps old.node event node output
+  pub goes_on : new ≡ record old { node = node; events = old.events ++ event ∷ []; lines = old.lines ++ output.lines; last = output }
+  pub shows : text ≡ shown old.quiet (text_of output.lines)
+
+-- a good line is one event
+pub record TakesLine {S E : Type 0} (rules : NodeRules S E) (old : Run S E) (line : List ℕ) (new : Run S E) (text : List ℕ) : Type 0 where
+  pub event : E
+  pub says : SaysEvent rules (config_of rules old) line event
+  pub takes : TakesEvent rules old event new text
+
+-- another line is malformed
+abbrev pub RefusesLine : {S E : Type 0} → NodeRules S E → Run S E → List ℕ → LineError → Type 0
+RefusesLine rules run line why = IsMalformed rules (config_of rules run) line why
+
+-- the last line of a run whose lines were all good, in which so many radio frames have passed
+unfoldable pub closing : ℕ → List ℕ
+closing count = codes "end frames=" ++ decimal count ++ codes "\n"
+
+abbrev pub node_lines : {S E : Type 0} → NodeRules S E → Semantics (Run S E)
+node_lines rules = one_step (TakesLine rules) (RefusesLine rules) (λ run count. closing (frames_in rules run.events))

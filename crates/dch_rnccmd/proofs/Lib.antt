@@ -1,0 +1,2 @@
+pub mod NoTrace
+pub mod Senders

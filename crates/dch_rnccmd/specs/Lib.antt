@@ -1,0 +1,4 @@
+pub mod Lasting
+pub mod LineEvents
+pub mod NoTrace
+pub mod Rules

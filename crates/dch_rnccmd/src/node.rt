@@ -1,0 +1,140 @@
+ghost use Rattle.std.specs.Prelude.{◌≡◌, ◌≤◌, ◌+◌, length, IfErr, IfOk};
+ghost use Rattle.dch_accept.specs.Reports.{step_bytes};
+ghost use Rattle.dch_rnc.specs.Opened.{IsNodeOf};
+ghost use Rattle.dch_rnc.specs.Standing.{Represents, Shows, event_of};
+ghost use Rattle.dch_rnccmd.specs.Lasting.{rnc_lasting};
+ghost use Rattle.dch_rnccmd.specs.Rules.{frame_count, rnc_rules};
+ghost use Rattle.dch_nodecmd.specs.NodeRules.{IsMalformed};
+ghost use Rattle.dch_nodecmd.specs.Standing.{StepsBy};
+ghost use Rattle.dch_nodecmd.specs.declared.texts.TheConstants.{OCTETS, UNIT_BITS};
+
+use crate::reading::read_line;
+use dch_accept::Accepted;
+use dch_bits::{Bit, NoMemory};
+use dch_nodecmd::{CommandNode, OCTETS, UNIT_BITS};
+use dch_rnc::{Rnc, RncEvent};
+use dch_script::{LineError, Report};
+use std::alloc::Global;
+use std::marker::Model;
+
+/// The network controller of the command `rnc`, which takes each line as an event, with room for the octets and bits of a line.
+#[derive(Drop)]
+pub struct RncLines {
+    node: Rnc,
+    octets: Vec<u8>,
+    bits: Vec<Bit>,
+}
+
+impl Model for RncLines {
+    ghost use Rattle.std.specs.Prelude.{◌≡◌, length};
+    ghost use Rattle.dch_rnc.specs.Values.{Node};
+    ghost use Rattle.dch_nodecmd.specs.declared.texts.TheConstants.{OCTETS, UNIT_BITS};
+
+    ghost Value = { Node };
+
+    ghost view = { λ l. l.node };
+
+    ghost invariant = { λ l. record { octets : length l.octets.items ≡ OCTETS; bits : length l.bits.items ≡ UNIT_BITS } };
+}
+
+impl RncLines {
+    /// The network controller, after the work.
+    pub fn into_node(self) -> Rnc
+        ensures { result ≡ self }
+    {
+        self.node
+    }
+}
+
+impl CommandNode for RncLines {
+    ghost use Rattle.dch_rnc.specs.State.{Event, State};
+
+    ghost State = { State };
+
+    ghost Event = { Event };
+
+    ghost rules = { rnc_rules };
+
+    ghost is_opened = { IsNodeOf };
+
+    ghost represents = { Represents };
+
+    ghost shows = { Shows };
+
+    fn open(alloc: Global, accepted: &Accepted, first_cfn: u8) -> Result<RncLines, NoMemory> {
+        let (octets, bits) = open_rooms(alloc)?;
+        let node = Rnc::open(alloc, accepted, first_cfn)?;
+        Ok(RncLines { node, octets, bits })
+    }
+
+    fn take_line(
+        &mut self,
+        accepted: &Accepted,
+        line: &[u8],
+        report: &mut Report,
+    ) -> Result<u64, LineError> {
+        take(
+            accepted,
+            line,
+            &mut self.octets,
+            &mut self.bits,
+            &mut self.node,
+            report,
+        )
+    }
+
+    ghost active = { λ planned state node stands. stands.at.active };
+
+    ghost lasting = { rnc_lasting };
+}
+
+/// Room for the octets of the longest line, and for the bits of the longest unit.
+fn open_rooms(alloc: Global) -> Result<(Vec<u8>, Vec<Bit>), NoMemory>
+    ensures octets { IfOk result (λ rooms. length rooms.0.items ≡ OCTETS) }
+    ensures bits { IfOk result (λ rooms. length rooms.1.items ≡ UNIT_BITS) }
+{
+    let octets = vec![in alloc; 0; OCTETS]?;
+    let bits = vec![in alloc; Bit::Zero; UNIT_BITS]?;
+    Ok((octets, bits))
+}
+
+/// Takes a line as an event. `octets` and `bits` are room for its texts.
+fn take(
+    accepted: &Accepted,
+    line: &[u8],
+    octets: &mut [u8],
+    bits: &mut [Bit],
+    node: &mut Rnc,
+    report: &mut Report,
+) -> Result<u64, LineError>
+    requires octets { length octets.old ≡ OCTETS }
+    requires bits { length bits.old ≡ UNIT_BITS }
+    requires opened { IsNodeOf accepted.now node.old }
+    requires room { length report.old.text + step_bytes accepted.now.config ≤ report.old.most }
+    ensures ok { IfOk result (λ count. StepsBy rnc_rules Represents Shows accepted.now line.now count node.old node.new report.old.text report.new.text) }
+    ensures at_most { IfOk result (λ count. count ≤ 1) }
+    ensures err { IfErr result (IsMalformed rnc_rules accepted.now.config line.now) }
+    ensures same { IfErr result (λ _. (node.new ≡ node.old) × (report.new ≡ report.old)) }
+    ensures opened { IsNodeOf accepted.now node.new }
+    ensures most { report.new.most ≡ report.old.most }
+    ensures few { IfOk result (λ _. length report.new.text ≤ length report.old.text + step_bytes accepted.now.config) }
+{
+    match read_line(accepted, line, octets, bits) {
+        Ok(event) => {
+            node.step(accepted, event, report);
+            Ok(frames_of(event))
+        }
+        Err(why) => Err(why),
+    }
+}
+
+/// How many radio frames of 10 ms an event stands for.
+fn frames_of(event: RncEvent<'_>) -> u64
+    ensures value { result ≡ frame_count (event_of event.entry) }
+    ensures few { result ≤ 1 }
+{
+    match event {
+        RncEvent::Unit { .. } | RncEvent::Block { .. } | RncEvent::Iub { .. } => 0,
+        RncEvent::Tick => 1,
+    }
+}
