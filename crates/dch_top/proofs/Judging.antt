@@ -1,7 +1,7 @@
 -- How the configuration of an input is judged, and the rest of the input passed over.
-use Rattle.std.proofs.Common.{◌≡◌, ◌<◌, ◌≤◌, ◌+◌, ◌-◌, ◌⊎◌, ℕ, List, [], ◌++◌, Option, true, false, length, take, arith, refl, ap, sym, ◌∙◌, subst, append-nil, inl, inr, length-append, ⊎_elim}
+use Rattle.std.proofs.Common.{◌≡◌, ◌≤◌, ◌+◌, ◌-◌, ℕ, List, [], ◌++◌, Option, true, false, length, take, arith, ap, sym, ◌∙◌, subst, inl, inr, length-append, ⊎_elim}
 use Rattle.std.specs.Prelude.{Result, Ok, Err, String, string_bytes}
-use Rattle.std.specs.Io.KnownBytes.{Consumes, IsAtEnd}
+use Rattle.std.specs.Io.KnownBytes.{Consumes}
 use Rattle.std.proofs.KnownBytes.{Consumes-trans, Consumes-nil, Consumes-kept}
 use Rattle.std.proofs.lemmas.Bool.{false≢true}
 use Rattle.std.proofs.Math.Seq.{take-append-add}
@@ -9,9 +9,9 @@ use Rattle.std.specs.declared.alloc.Global.{Global}
 use Rattle.dch_io.specs.Ends.{End, span}
 use Rattle.dch_io.specs.Pieces.{IsPiece, ReadsOn}
 use Rattle.dch_io.specs.declared.feed.ReadStop.TheVariants as stop
-use Rattle.dch_io.specs.declared.feed.TheConstants.{LIMIT, PIECE}
+use Rattle.dch_io.specs.declared.feed.TheConstants.{LIMIT}
 use Rattle.dch_check.specs.ConfigSection.{configuration_of, is_complete, settled}
-use Rattle.dch_check.specs.TakenConfigs.{IsComplete, IsEnded, IsTakenConfig, TakesConfig}
+use Rattle.dch_check.specs.TakenConfigs.{IsTakenConfig, TakesConfig}
 use Rattle.dch_check.specs.Verdicts.{IsAccepted, Refuses}
 use Rattle.dch_check.specs.declared.taken_config.TakenConfig.{TakenConfig}
 use Rattle.dch_check.specs.declared.taken_config.ConfigFault.{ConfigFault}
@@ -21,7 +21,7 @@ use Rattle.dch_top.specs.Checked.{HasEnded, Judged, JudgesText, PassesOver, faul
 use Rattle.dch_top.specs.declared.check.Answer.{Answer}
 use Rattle.dch_top.specs.declared.check.Answer.TheVariants.{Accepted as AcceptedBy, Refused as RefusedBy}
 use Rattle.dch_top.specs.declared.command.Status.{Status}
-use Rattle.dch_top.specs.declared.command.Status.TheVariants.{ReadFault, NoMemory, TooLong}
+use Rattle.dch_top.specs.declared.command.Status.TheVariants.{ReadFault, TooLong}
 
 -- the rest of an input is taken, and has not ended
 pub record Passing (source : End) (first count : ℕ) : Type 0 where

@@ -3,6 +3,7 @@ pub mod Checks
 pub mod Commands
 pub mod Complete
 pub mod Judging
-pub mod NodeBComplete
+pub mod NodeComplete
+pub mod NodeRuns
 pub mod Scripts
 pub mod Texts

@@ -1,5 +1,5 @@
 -- How the lines behind a configuration are followed, and what a run with one answers.
-use Rattle.std.proofs.Common.{◌≡◌, ◌≢◌, ◌⊎◌, ◌<◌, ◌≤◌, ◌+◌, ◌-◌, ℕ, List, [], ◌++◌, Option, Some, None, Bool, true, false, length, take, arith, refl, ap, sym, ◌∙◌, subst, append-nil, append_assoc, inl, inr, ⊎_elim, length-append}
+use Rattle.std.proofs.Common.{◌≡◌, ◌≢◌, ◌⊎◌, ◌≤◌, ◌+◌, ◌-◌, ℕ, List, [], ◌++◌, Option, Some, None, Bool, true, false, length, arith, refl, ap, sym, ◌∙◌, subst, append-nil, inl, inr, ⊎_elim, length-append}
 use Rattle.std.specs.Prelude.{Err, MatchBool, codes, drop, if◌then◌else◌, slice_range}
 use Rattle.std.specs.Io.KnownBytes.{Consumes, IsAtEnd}
 use Rattle.std.proofs.KnownBytes.{Appends-nil, Consumes-trans}

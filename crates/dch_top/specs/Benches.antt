@@ -1,9 +1,11 @@
 -- The nodes that a bench holds.
 use Rattle.std.specs.Prelude.{Option, None}
-use Rattle.dch_nodeb.specs.Values.{Node}
+use Rattle.dch_nodeb.specs.Values.{Node as NodeB}
+use Rattle.dch_rnc.specs.Values.{Node as Rnc}
 
 pub record Nodes : Type 0 where
-  pub node_b : Option Node
+  pub node_b : Option NodeB
+  pub rnc : Option Rnc
 
 abbrev pub no_nodes : Nodes
-no_nodes = record { node_b = None }
+no_nodes = record { node_b = None; rnc = None }

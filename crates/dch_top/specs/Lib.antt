@@ -3,6 +3,8 @@ pub mod Checked
 pub mod Configured
 pub mod EncodeText
 pub mod NodeBRuns
+pub mod RncRuns
+pub mod NodeRuns
 pub mod Overlong
 pub mod Ran
 pub mod Untouched

@@ -6,7 +6,7 @@ use Rattle.dch_io.specs.Ends.{End, Fails, IsCutShort}
 use Rattle.dch_script.specs.Code.{meaning}
 use Rattle.dch_words.specs.Parses.{IsCommand, Parses}
 use Rattle.dch_words.specs.declared.arguments.Subcommand.{Subcommand}
-use Rattle.dch_words.specs.declared.arguments.Subcommand.TheVariants.{Check, Encode, NodeB}
+use Rattle.dch_words.specs.declared.arguments.Subcommand.TheVariants.{Check, Encode, NodeB, Rnc}
 use Rattle.dch_words.specs.declared.arguments.Arguments.{Arguments}
 use Rattle.dch_lines.specs.Processor.{Progress}
 use Rattle.dch_lines.specs.Followed.{FollowsInput}
@@ -16,6 +16,7 @@ use Rattle.dch_top.specs.Benches.{Nodes, no_nodes}
 use Rattle.dch_top.specs.Checked.{Checks}
 use Rattle.dch_top.specs.EncodeText.{encoding}
 use Rattle.dch_top.specs.NodeBRuns.{RunsNodeB}
+use Rattle.dch_top.specs.RncRuns.{RunsRnc}
 use Rattle.dch_top.specs.Untouched.{IsUntouched}
 use Rattle.dch_top.specs.declared.command.Status.{Status}
 use Rattle.dch_top.specs.declared.command.Status.TheVariants.{Ok, Refused, Usage, ReadFault, WriteFault, NoMemory, TooLong}
@@ -68,6 +69,7 @@ pub record Ran (words : List (String Global)) (source sink : End) (bench : Nodes
   pub encodes : Asks words Encode → Encodes source sink status × (bench ≡ no_nodes)
   pub checks : Asks words Check → Checks source sink status × (bench ≡ no_nodes)
   pub runs_node_b : (arguments : Arguments) → Says words arguments → arguments.subcommand ≡ NodeB → RunsNodeB arguments.start arguments.quiet source sink bench status
+  pub runs_rnc : (arguments : Arguments) → Says words arguments → arguments.subcommand ≡ Rnc → RunsRnc arguments.start arguments.quiet source sink bench status
   pub misuses : IsNoCommand words → Misuses source sink status × (bench ≡ no_nodes)
 
 -- each of the lines is empty or well formed

@@ -2,12 +2,14 @@ ghost use Rattle.std.specs.Prelude.{◌≡◌, Some, None, option_map};
 ghost use Rattle.dch_top.specs.Benches.{Nodes, no_nodes};
 
 use dch_nodeb::NodeB;
+use dch_rnc::Rnc;
 use std::marker::Model;
 
 /// The nodes that a run opened.
 #[derive(Drop)]
 pub struct Bench {
     node_b: Option<NodeB>,
+    rnc: Option<Rnc>,
 }
 
 impl Model for Bench {
@@ -15,7 +17,7 @@ impl Model for Bench {
 
     ghost Value = { Nodes };
 
-    ghost view = { λ b. record { node_b = b.node_b } };
+    ghost view = { λ b. record { node_b = b.node_b; rnc = b.rnc } };
 }
 
 impl Bench {
@@ -23,7 +25,10 @@ impl Bench {
     pub fn new() -> Self
         ensures { result ≡ no_nodes }
     {
-        Bench { node_b: None }
+        Bench {
+            node_b: None,
+            rnc: None,
+        }
     }
 
     /// The Node B, if the bench holds one. Its leg is 0.
@@ -34,11 +39,25 @@ impl Bench {
         self.node_b.as_ref()
     }
 
+    /// The network controller, if the bench holds one.
+    pub fn rnc(&self) -> Option<&Rnc>
+        ensures { option_map (λ node. node.now) result ≡ self.now.rnc }
+    {
+        self.rnc.as_ref()
+    }
+
     /// Takes a Node B, in place of the one before.
     pub(crate) fn hold_node_b(&mut self, node: NodeB)
         ensures { self.new ≡ record self.old { node_b = Some node } }
     {
         self.node_b = Some(node);
+    }
+
+    /// Takes a network controller, in place of the one before.
+    pub(crate) fn hold_rnc(&mut self, node: Rnc)
+        ensures { self.new ≡ record self.old { rnc = Some node } }
+    {
+        self.rnc = Some(node);
     }
 
     /// Closes all nodes held.

@@ -5,9 +5,11 @@ ghost use Rattle.dch_script.specs.Lines.{lines_of, rest_of};
 ghost use Rattle.dch_accept.specs.Plans.{Planned};
 ghost use Rattle.dch_check.specs.ConfigSection.{configuration_of, script_of};
 ghost use Rattle.dch_check.specs.Verdicts.{IsAccepted, IsAcceptedAs, Refuses};
-ghost use Rattle.dch_words.specs.declared.arguments.Subcommand.TheVariants.{Check, Encode, NodeB};
+ghost use Rattle.dch_words.specs.declared.arguments.Subcommand.TheVariants.{Check, Encode, NodeB, Rnc};
 ghost use Rattle.dch_words.specs.declared.arguments.Arguments.{Arguments};
-ghost use Rattle.dch_top.specs.NodeBRuns.{AreEvents};
+ghost use Rattle.dch_nodebcmd.specs.Rules.{node_b_rules};
+ghost use Rattle.dch_rnccmd.specs.Rules.{rnc_rules};
+ghost use Rattle.dch_top.specs.NodeRuns.{AreEvents};
 ghost use Rattle.dch_top.specs.Benches.{no_nodes};
 ghost use Rattle.dch_io.specs.declared.feed.TheConstants.{LIMIT};
 ghost use Rattle.dch_top.specs.Ran.{Ran, Asks, Says, IsNoCommand, Misuses, AreGood};
@@ -16,6 +18,7 @@ use crate::bench::Bench;
 use crate::check::check;
 use crate::encode::encode;
 use crate::node_b::node_b;
+use crate::rnc::rnc;
 use dch_bits::NoMemory;
 use dch_io::{Sink, Source, write_all};
 use dch_words::{Arguments, Subcommand, parse_arguments};
@@ -80,8 +83,14 @@ pub fn run<S: Source, K: Sink>(
         → (result ≡ Status.Ok) ⊎ (result ≡ Status.NoMemory)) }
 
     // So are the events of a Node B behind an accepted configuration.
-    ensures events { (arguments : Arguments) → Says words.now arguments → arguments.subcommand ≡ NodeB → IfSome (S.left source.old) (λ input. (accepted : Planned) → IsAcceptedAs (configuration_of input) accepted
-        → AreEvents accepted.config (lines_of (script_of input)) → rest_of (script_of input) ≡ [] → length input ≤ LIMIT
+    ensures node_b_events { (arguments : Arguments) → Says words.now arguments → arguments.subcommand ≡ NodeB → IfSome (S.left source.old) (λ input. (accepted : Planned) → IsAcceptedAs (configuration_of input) accepted
+        → AreEvents node_b_rules accepted.config (lines_of (script_of input)) → rest_of (script_of input) ≡ [] → length input ≤ LIMIT
+        → ¬ Rose (S.faults source.old) (S.faults source.new) → ¬ Rose (K.faults sink.old) (K.faults sink.new)
+        → (result ≡ Status.Ok) ⊎ (result ≡ Status.NoMemory)) }
+
+    // And those of a network controller.
+    ensures rnc_events { (arguments : Arguments) → Says words.now arguments → arguments.subcommand ≡ Rnc → IfSome (S.left source.old) (λ input. (accepted : Planned) → IsAcceptedAs (configuration_of input) accepted
+        → AreEvents rnc_rules accepted.config (lines_of (script_of input)) → rest_of (script_of input) ≡ [] → length input ≤ LIMIT
         → ¬ Rose (S.faults source.old) (S.faults source.new) → ¬ Rose (K.faults sink.old) (K.faults sink.new)
         → (result ≡ Status.Ok) ⊎ (result ≡ Status.NoMemory)) }
 
@@ -113,6 +122,10 @@ fn follow_words<S: Source, K: Sink>(
             Subcommand::NodeB => {
                 let Arguments { start, quiet, .. } = arguments;
                 node_b(alloc, start, quiet, source, sink, bench)
+            }
+            Subcommand::Rnc => {
+                let Arguments { start, quiet, .. } = arguments;
+                rnc(alloc, start, quiet, source, sink, bench)
             }
         },
         Ok(None) => refuse_words(source, sink),

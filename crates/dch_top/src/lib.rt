@@ -8,6 +8,8 @@ mod configured;
 mod encode;
 mod encode_handler;
 mod node_b;
+mod node_run;
+mod rnc;
 
 pub use bench::Bench;
 pub use command::{Status, run};

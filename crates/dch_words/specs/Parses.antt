@@ -2,7 +2,7 @@
 use Rattle.std.specs.Prelude.{◌≡◌, ◌≤◌, ℕ, List, Option, Some, None, codes, decimal}
 use Rattle.clap.specs.Words.{Row, Text, first_of, matches_of}
 use Rattle.dch_words.specs.declared.arguments.Subcommand.{Subcommand}
-use Rattle.dch_words.specs.declared.arguments.Subcommand.TheVariants.{Check, Encode, NodeB}
+use Rattle.dch_words.specs.declared.arguments.Subcommand.TheVariants.{Check, Encode, NodeB, Rnc}
 use Rattle.dch_words.specs.declared.arguments.Arguments.{Arguments}
 use Rattle.dch_words.specs.Line.{IsTaken, is_given, line_app}
 
@@ -11,6 +11,7 @@ abbrev pub subcommand_name : Subcommand → Text
 subcommand_name Check = codes "check"
 subcommand_name Encode = codes "encode"
 subcommand_name NodeB = codes "nodeb"
+subcommand_name Rnc = codes "rnc"
 
 -- the text is the number `n` in decimal digits, without sign or leading zero, and `n` is from `least` to `most`
 abbrev pub IsNumber : ℕ → ℕ → Text → ℕ → Type 0

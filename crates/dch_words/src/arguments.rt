@@ -20,6 +20,8 @@ pub enum Subcommand {
     Encode,
     /// Run a Node B.
     NodeB,
+    /// Run a network controller.
+    Rnc,
 }
 
 /// What the words of the command line say.
@@ -84,6 +86,7 @@ fn parse_subcommand(text: &str) -> Option<Subcommand>
         "check" => Some(Subcommand::Check),
         "encode" => Some(Subcommand::Encode),
         "nodeb" => Some(Subcommand::NodeB),
+        "rnc" => Some(Subcommand::Rnc),
         _ => None,
     }
 }

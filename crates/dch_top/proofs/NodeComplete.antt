@@ -1,5 +1,5 @@
--- A run of `nodeb` without faults on an accepted configuration and good lines ends well.
-use Rattle.std.proofs.Common.{◌≡◌, ◌⊎◌, ◌≤◌, ◌+◌, ◌-◌, ◌*◌, ◌++◌, ℕ, List, [], Bool, Option, None, Some, length, refl, ap, sym, ◌∙◌, subst, arith, inl, inr, ⊎_elim, IfSome, length-append, append_assoc}
+-- A run of a command with one node without faults on an accepted configuration and good lines ends well.
+use Rattle.std.proofs.Common.{◌≡◌, ◌⊎◌, ◌≤◌, ◌*◌, ◌++◌, ℕ, List, [], Bool, Option, None, Some, length, refl, ap, sym, ◌∙◌, subst, arith, inl, inr, ⊎_elim, IfSome, length-append}
 use Rattle.std.specs.Prelude.{Result, Ok, Err}
 use Rattle.std.specs.Io.KnownBytes.{Consumes, IsAtEnd}
 use Rattle.std.proofs.Common.{◌≢◌, append-nil}
@@ -9,29 +9,25 @@ use Rattle.dch_io.specs.Ends.{End, span}
 use Rattle.dch_io.specs.declared.feed.TheConstants.{LIMIT}
 use Rattle.dch_accept.specs.Plans.{Planned}
 use Rattle.dch_script.specs.Lines.{lines_of, rest_of}
-use Rattle.dch_script.specs.Meaning.{meaning_in}
 use Rattle.dch_script.specs.ParsedLine.{ParsedLine, change}
-use Rattle.dch_script.specs.declared.event.Command.TheVariants.{NodeB}
 use Rattle.dch_script.specs.declared.event.LineError.{LineError}
 use Rattle.dch_check.specs.ConfigSection.{configuration_of, nothing, script_of}
 use Rattle.dch_check.specs.Verdicts.{IsAcceptedAs, Refuses}
 use Rattle.dch_check.specs.Acceptance.{accepted_line}
-use Rattle.dch_check.proofs.ConfigSections.{configuration_more}
 use Rattle.dch_check.proofs.Taking.{behind_at_end, script_more}
 use Rattle.dch_check.proofs.Judgements.{accepted_so, one_judgement, same_config}
 use Rattle.dch_accept.specs.Answers.{count_of}
 use Rattle.dch_lines.specs.declared.stop.Outcome.{Outcome}
 use Rattle.dch_lines.specs.declared.stop.Outcome.TheVariants.{Ok as Done, Refused as MetMalformed, ReadFault as FailedReading, WriteFault as FailedWriting, NoMemory as Lacking, TooLong as TookTooMuch}
 use Rattle.dch_lines.proofs.Complete.{TakesIn, all_consumed, consumed, refused_none}
-use Rattle.dch_nodeb.specs.State.{Event}
-use Rattle.dch_nodebcmd.specs.LineEvents.{event_of}
-use Rattle.dch_nodebcmd.specs.Overlong.{refuses_long}
-use Rattle.dch_nodebcmd.specs.Rules.{node_b_lines}
-use Rattle.dch_nodebcmd.specs.Run.{Run, opened_run}
-use Rattle.dch_nodebcmd.proofs.NoTrace.{lines_stay}
+use Rattle.dch_nodecmd.specs.NodeRules.{AreLasting, NodeRules, SaysEvent}
+use Rattle.dch_nodecmd.specs.Overlong.{refuses_long}
+use Rattle.dch_nodecmd.specs.Rules.{config_of, node_lines}
+use Rattle.dch_nodecmd.specs.Run.{Run, opened_run}
+use Rattle.dch_nodecmd.proofs.NoTrace.{lines_stay}
 use Rattle.dch_top.specs.Checked.{HasEnded}
 use Rattle.dch_top.specs.Configured.{EndsEarly, EndsLate, FollowsScript, outcome_status}
-use Rattle.dch_top.specs.NodeBRuns.{AreEvents, SaysEvent, RunsLines}
+use Rattle.dch_top.specs.NodeRuns.{AreEvents, RunsLines}
 use Rattle.dch_top.specs.declared.command.Status.{Status}
 use Rattle.dch_top.specs.declared.command.Status.TheVariants.{Ok as Well, Refused, Usage, ReadFault, WriteFault, NoMemory, TooLong}
 use Rattle.dch_top.proofs.Checks.{same_configuration}
@@ -40,20 +36,25 @@ use Rattle.dch_top.proofs.Checks.{same_configuration}
 ok_err : {A : Type 0} (parsed : A) (r : Result A LineError) (why : LineError) → r ≡ Ok parsed → r ≡ Err why → ⊥
 ok_err parsed r why ok err = cc
 
-no_change : (r : Result ParsedLine LineError) (parsed : ParsedLine) (event : Event) → r ≡ Ok parsed → r ≡ Ok change → event_of parsed ≡ Some event → ⊥
-no_change r parsed event one two is =
+no_change : {E : Type 0} (event_of : ParsedLine → Option E) (r : Result ParsedLine LineError) (parsed : ParsedLine) (event : E) → event_of change ≡ None → r ≡ Ok parsed → r ≡ Ok change → event_of parsed ≡ Some event → ⊥
+no_change event_of r parsed event changeless one two is =
     let same : parsed ≡ change = cc in
     let none : event_of change ≡ Some event = subst (λ (p : ParsedLine). event_of p ≡ Some event) same is in
-    absurd (none_some none)
+    absurd (none_some (sym changeless ∙ none))
   where
     none_some : None ≡ Some event → ⊥
     none_some same = cc
 
+-- a line says an event under a configuration
+abbrev Says : {S E : Type 0} → NodeRules S E → Config → List ℕ → Type 0
+Says {S} {E} rules config line = (event : E) × SaysEvent rules config line event
+
 -- a line that says an event is not refused
-says_well : (config : Config) (run : Run) → run.node.planned.config ≡ config → TakesIn node_b_lines run (SaysEvent config)
-says_well config run same line why says refuses =
-    let here : meaning_in NodeB run.node.planned.config line ≡ Ok says.parsed = subst (λ c. meaning_in NodeB c line ≡ Ok says.parsed) (sym same) says.says in
-    ⊎_elim (λ wrong. ok_err says.parsed (meaning_in NodeB run.node.planned.config line) why here wrong) (λ changes. no_change (meaning_in NodeB run.node.planned.config line) says.parsed says.event here changes.0 says.is) refuses
+says_well : {S E : Type 0} (rules : NodeRules S E) → AreLasting rules → (config : Config) (run : Run S E) → config_of rules run ≡ config → TakesIn (node_lines rules) run (Says rules config)
+says_well rules lasting config run same line why (event, says) refuses =
+    let here : SaysEvent rules (config_of rules run) line event = subst (λ c. SaysEvent rules c line event) (sym same) says in
+    ⊎_elim (λ wrong. ok_err here.parsed _ why here.says wrong)
+    (λ changes. no_change (rules.event_of (config_of rules run)) _ here.parsed event (lasting.changeless (config_of rules run)) here.says changes.0 here.is) refuses
 
 -- the script of a whole input goes on with what was not taken
 script_whole : (source : End) (input taken more : List ℕ) → input ≡ taken ++ more → (IsAtEnd source.now → input ≡ taken) → HasEnded source taken → (rest : List ℕ) × ((script_of input ≡ script_of taken ++ rest) × (IsAtEnd source.now → script_of input ≡ script_of taken))
@@ -62,27 +63,27 @@ script_whole source input taken more cut all ended = ⊎_elim
     (λ end. ([], (ap script_of (all end) ∙ sym (append-nil (script_of taken)), λ at. ap script_of (all at)))) ended
 
 -- the lines of the script are not refused
-not_refused : (input : List ℕ) (now : Option (List ℕ)) (f g start : ℕ) (quiet : Bool) (accepted : Planned) (taken written : List ℕ) (after : Run) (sink : End) → Consumes (Some input) now taken → IsAcceptedAs (configuration_of input) accepted
-    → AreEvents accepted.config (lines_of (script_of input)) → rest_of (script_of input) ≡ [] → FollowsScript node_b_lines (λ accepted. opened_run accepted (8 * start) quiet) (span (Some input) now f g) sink taken written after MetMalformed → ⊥
-not_refused input now f g start quiet accepted taken written after sink takes good events rest follows =
+not_refused : {S E : Type 0} (rules : NodeRules S E) → AreLasting rules → (input : List ℕ) (now : Option (List ℕ)) (f g start : ℕ) (quiet : Bool) (accepted : Planned) (taken written : List ℕ) (after : Run S E) (sink : End) → Consumes (Some input) now taken → IsAcceptedAs (configuration_of input) accepted
+    → AreEvents rules accepted.config (lines_of (script_of input)) → rest_of (script_of input) ≡ [] → FollowsScript (node_lines rules) (λ accepted. opened_run rules accepted (8 * start) quiet) (span (Some input) now f g) sink taken written after MetMalformed → ⊥
+not_refused rules lasting input now f g start quiet accepted taken written after sink takes good events rest follows =
     let source : End = span (Some input) now f g in
     let more = consumed input taken now takes in
     let all = all_consumed input taken now takes in
     let script = script_whole source input taken more.0 more.1 all follows.ended in
     let lines = follows.answers in
     let same : follows.accepted.config ≡ accepted.config = same_config (configuration_of taken) (configuration_of input) follows.accepted accepted (same_configuration source input taken more.0 more.1 all follows.ended) follows.is good in
-    let stays : lines.state.node.planned.config ≡ accepted.config = ap (λ (p : Planned). p.config) (lines_stay (opened_run follows.accepted (8 * start) quiet) lines.state lines.good lines.text lines.handles) ∙ same in
-    refused_none node_b_lines (SaysEvent accepted.config) source lines.state [] (script_of input) (follows.part ++ follows.later) script.0 lines.good lines.why refuses_long (says_well accepted.config lines.state stays)
+    let stays : config_of rules lines.state ≡ accepted.config = ap (λ (p : Planned). p.config) (lines_stay rules lasting (opened_run rules follows.accepted (8 * start) quiet) lines.state lines.good lines.text lines.handles ∙ lasting.opens follows.accepted (8 * start)) ∙ same in
+    refused_none (node_lines rules) (Says rules accepted.config) source lines.state [] (script_of input) (follows.part ++ follows.later) script.0 lines.good lines.why (refuses_long rules) (says_well rules lasting accepted.config lines.state stays)
     (script.1.0 ∙ ap (λ s. s ++ script.0) follows.script) (λ end. script.1.1 end ∙ follows.script) events rest lines.refused
 
 -- the lines of a script end within the limit
 script_within : (taken : List ℕ) → length (script_of taken) ≤ length taken
 script_within taken = (behind_at_end nothing taken).0
 
-pub node_b_completes : (before now k l : Option (List ℕ)) (f g h i start : ℕ) (quiet : Bool) (Holds : Run → Type 0) (status : Status) → RunsLines start quiet Holds (span before now f g) (span k l h i) status
-    → IfSome before (λ input. (accepted : Planned) → IsAcceptedAs (configuration_of input) accepted → AreEvents accepted.config (lines_of (script_of input)) → rest_of (script_of input) ≡ [] → length input ≤ LIMIT → ¬ Rose f g → ¬ Rose h i → (status ≡ Well) ⊎ (status ≡ NoMemory))
-node_b_completes None now k l f g h i start quiet Holds status run = tt
-node_b_completes (Some input) now k l f g h i start quiet Holds status run = λ accepted good events rest size s t. ⊎_elim (early accepted good size s t status) (late accepted good events rest size s t) run.answers
+pub node_completes : {S E : Type 0} (rules : NodeRules S E) → AreLasting rules → (before now k l : Option (List ℕ)) (f g h i start : ℕ) (quiet : Bool) (Holds : Run S E → Type 0) (status : Status) → RunsLines rules start quiet Holds (span before now f g) (span k l h i) status
+    → IfSome before (λ input. (accepted : Planned) → IsAcceptedAs (configuration_of input) accepted → AreEvents rules accepted.config (lines_of (script_of input)) → rest_of (script_of input) ≡ [] → length input ≤ LIMIT → ¬ Rose f g → ¬ Rose h i → (status ≡ Well) ⊎ (status ≡ NoMemory))
+node_completes rules lasting None now k l f g h i start quiet Holds status run = tt
+node_completes {S} {E} rules lasting (Some input) now k l f g h i start quiet Holds status run = λ accepted good events rest size s t. ⊎_elim (early accepted good size s t status) (late accepted good events rest size s t) run.answers
   where
     source : End
     source = span (Some input) now f g
@@ -102,14 +103,14 @@ node_b_completes (Some input) now k l f g h i start quiet Holds status run = λ 
         let same = same_configuration (span (Some input) now f g) input run.taken more.0 more.1 (all_consumed input run.taken now run.takes) ends.ended in
         absurd (one_judgement (configuration_of input) (accepted_line (count_of accepted.config)) run.written (accepted_so (configuration_of input) accepted good) (subst (λ text. Refuses text run.written) same ends.refuses))
 
-    late : (accepted : Planned) → IsAcceptedAs (configuration_of input) accepted → AreEvents accepted.config (lines_of (script_of input)) → rest_of (script_of input) ≡ [] → length input ≤ LIMIT → ¬ Rose f g → ¬ Rose h i
-        → (after : Run) × (EndsLate node_b_lines (λ accepted. opened_run accepted (8 * start) quiet) (span (Some input) now f g) (span k l h i) run.taken run.written after status × Holds after) → (status ≡ Well) ⊎ (status ≡ NoMemory)
+    late : (accepted : Planned) → IsAcceptedAs (configuration_of input) accepted → AreEvents rules accepted.config (lines_of (script_of input)) → rest_of (script_of input) ≡ [] → length input ≤ LIMIT → ¬ Rose f g → ¬ Rose h i
+        → (after : Run S E) × (EndsLate (node_lines rules) (λ accepted. opened_run rules accepted (8 * start) quiet) (span (Some input) now f g) (span k l h i) run.taken run.written after status × Holds after) → (status ≡ Well) ⊎ (status ≡ NoMemory)
     late accepted good events rest size s t (after, (ends, holds)) = by ends.outcome ends.follows ends.same ends.enough
       where
-        by : (outcome : Outcome) → FollowsScript node_b_lines (λ accepted. opened_run accepted (8 * start) quiet) (span (Some input) now f g) (span k l h i) run.taken run.written after outcome → status ≡ outcome_status outcome → outcome ≢ Lacking → (status ≡ Well) ⊎ (status ≡ NoMemory)
+        by : (outcome : Outcome) → FollowsScript (node_lines rules) (λ accepted. opened_run rules accepted (8 * start) quiet) (span (Some input) now f g) (span k l h i) run.taken run.written after outcome → status ≡ outcome_status outcome → outcome ≢ Lacking → (status ≡ Well) ⊎ (status ≡ NoMemory)
         by Done follows same enough = inl same
         by Lacking follows same enough = inr same
         by FailedReading follows same enough = absurd (s follows.answers.fails)
         by FailedWriting follows same enough = absurd (t follows.answers.fails)
         by TookTooMuch follows same enough = absurd (omega (arith, follows.answers.long, ap length follows.script, script_within run.taken, few, size))
-        by MetMalformed follows same enough = absurd (not_refused input now f g start quiet accepted run.taken run.written after (span k l h i) run.takes good events rest follows)
+        by MetMalformed follows same enough = absurd (not_refused rules lasting input now f g start quiet accepted run.taken run.written after (span k l h i) run.takes good events rest follows)
