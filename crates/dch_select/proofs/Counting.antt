@@ -1,12 +1,14 @@
 -- Counts of blocks and bits, written priority by priority.
-use Rattle.std.proofs.Common.{◌≡◌, ◌<◌, ◌≤◌, ◌≢◌, ◌+◌, ◌-◌, ◌*◌, ℕ, List, get_or, set, length, true, false, cond, refl, ap, ap₂, sym, ◌∙◌, subst, arith, inl, inr, get_or-set_other, get_or-set_same}
+use Rattle.std.proofs.Common.{◌≡◌, ◌<◌, ◌≤◌, ◌≢◌, ◌+◌, ◌-◌, ◌*◌, ℕ, List, get_or, set, length, refl, ap₂, sym, ◌∙◌, subst, arith, inl, inr, get_or-set_other, get_or-set_same}
 use Rattle.std.specs.Prelude.{min}
 use Rattle.std.proofs.lemmas.Bool.{cases_eq}
 use Rattle.dch_types.proofs.Sums.{total-more}
 use Rattle.dch_types.specs.declared.channel.Format.{Format}
-use Rattle.dch_select.specs.Asked.{Asked, IsAsked, priority_of, starts, format_in}
+use Rattle.dch_types.specs.Parts.{format_number}
+use Rattle.dch_select.specs.Asked.{Asked, IsAsked, priority_of}
 use Rattle.dch_select.specs.Offered.{offered, waiting_below, waiting_at, waiting_above, given_by}
 use Rattle.dch_select.specs.Best.{carried_on, carried_below}
+use Rattle.dch_select.specs.Table.{carried_in, format_of}
 use Rattle.dch_select.proofs.Sharing.{waiting_more, waiting_same, given_by_is, left_is}
 
 -- the counts with one more bearer
@@ -53,14 +55,8 @@ pub left_next : (asked : Asked) (i : ℕ) (format : Format) (q left count blocks
 left_next asked i format q left count blocks rest waits least = omega (arith, rest, waits, least, left_is asked i format.size q)
 
 -- one more channel
-pub carried_more : (asked : Asked) (c p i x y : ℕ) (format : Format) → starts asked i ≡ true → format ≡ format_in asked c i → x ≡ carried_below asked c p i
-    → y ≡ x + given_by asked i format p * format.size → y ≡ carried_below asked c p (i + 1)
-carried_more asked c p i x y format starting same before more =
-    let here : given_by asked i format p * format.size ≡ carried_on asked c p i
-    = ap (λ f. given_by asked i f p * f.size) same ∙ sym (ap (λ b. cond b (given_by asked i (format_in asked c i) p * (format_in asked c i).size) 0) starting) in
-    omega (arith, before, more, here, total-more (carried_on asked c p) i)
-
-pub carried_same : (asked : Asked) (c p i x : ℕ) → starts asked i ≡ false → x ≡ carried_below asked c p i → x ≡ carried_below asked c p (i + 1)
-carried_same asked c p i x going before =
-    let here : carried_on asked c p i ≡ 0 = ap (λ b. cond b (given_by asked i (format_in asked c i) p * (format_in asked c i).size) 0) going in
-    omega (arith, before, here, total-more (carried_on asked c p) i)
+pub carried_next : (asked : Asked) (c p i x y more : ℕ) → x ≡ carried_below asked c p i → y ≡ x + more
+    → more ≡ carried_in asked i (format_of asked i (format_number asked.side c i)) p → y ≡ carried_below asked c p (i + 1)
+carried_next asked c p i x y more before next here =
+    let is_carried : more ≡ carried_on asked c p i = here in
+    omega (arith, before, next, is_carried, total-more (carried_on asked c p) i)

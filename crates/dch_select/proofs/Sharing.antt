@@ -7,7 +7,7 @@ use Rattle.dch_types.specs.declared.channel.Format.{Format}
 use Rattle.dch_types.specs.Sums.{total}
 use Rattle.dch_types.proofs.Sums.{total-zero, total-more, total_same}
 use Rattle.dch_select.specs.Asked.{Asked, IsAsked, priority_of}
-use Rattle.dch_select.specs.Offered.{offered, given_by, waiting_at, waiting_below, waiting_above}
+use Rattle.dch_select.specs.Offered.{offered, given_by, waiting, waiting_at, waiting_below, waiting_above}
 
 -- sums of sums
 total_add : (f g : ℕ → ℕ) (n : ℕ) → total (λ a. f a + g a) n ≡ total f n + total g n
@@ -108,6 +108,14 @@ left_is asked i size q = total-more (λ r. waiting_at asked i size (r + 1)) q
 pub left_all : (asked : Asked) (i size : ℕ) → waiting_above asked i size 0 ≡ 0
 unfolding waiting_above
 left_all asked i size = total-zero (λ r. waiting_at asked i size (r + 1))
+
+-- the blocks of all priorities are all blocks
+pub waiting_all : (asked : Asked) (i size : ℕ) → IsAsked asked → waiting_above asked i size 8 ≡ waiting asked i size
+unfolding waiting_above waiting_below
+waiting_all asked i size good =
+    sym (lesser_is (priority_of asked) (offered asked i size) (length asked.bearers) 8 good.least)
+    ∙ total_same (λ a. if nat_lt (priority_of asked a) (8 + 1) then offered asked i size a else 0) (offered asked i size) (length asked.bearers)
+    (λ a less. inside_is (offered asked i size a) (priority_of asked a) (8 + 1) (omega (arith, good.most a less)))
 
 -- one more bearer
 pub waiting_more : (asked : Asked) (i size priority b : ℕ) → priority_of asked b ≡ priority

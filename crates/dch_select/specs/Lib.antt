@@ -3,3 +3,4 @@ pub mod Best
 pub mod Candidates
 pub mod Choices
 pub mod Offered
+pub mod Table

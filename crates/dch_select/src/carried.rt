@@ -1,43 +1,29 @@
-ghost use Rattle.std.specs.Prelude.{◌≡◌, ◌+◌, ◌*◌, ◌<◌, ◌≤◌, ℕ, length, slice_index};
+ghost use Rattle.std.specs.Prelude.{◌≡◌, ◌+◌, ◌*◌, ◌<◌, ◌≤◌, ◌-◌, ℕ, length, slice_index};
 ghost use Rattle.dch_tree.specs.Bearers.{bearer_at};
 ghost use Rattle.dch_select.specs.Asked.{IsAsked, priority_of};
-ghost use Rattle.dch_select.specs.Offered.{given_by, waiting_at};
-ghost use Rattle.dch_select.specs.Best.{carried, bits_of};
+ghost use Rattle.dch_select.specs.Offered.{given_by, waiting, waiting_at};
 
 use crate::moment::Moment;
 use dch_types::{Bearer, Format};
 
 impl Moment<'_> {
-    /// The bits that a combination carries for each priority.
-    pub(crate) fn carried(&self, combination: usize) -> [u32; 8]
-        requires { combination < length self.now.side.combinations }
-        ensures { result ≡ carried self.now combination }
-    {
-        let mut carried = [0; 8];
-        for i in 0..self.channels().len() {
-            if self.starts(i) {
-                self.carry(i, self.format(combination, i), &mut carried);
-            }
-        }
-        carried
-    }
-
-    /// Adds the bits that channel `i` carries in a format.
-    fn carry(&self, i: usize, format: Format, carried: &mut [u32])
+    /// Writes the bits that channel `i` carries in a format for each priority. The result is how many blocks it doesn't find.
+    pub(crate) fn carry(&self, i: usize, format: Format, carried: &mut [u32]) -> u32
         requires few { format.number ≤ 64 }
         requires short { format.size ≤ 5000 }
         requires eight { length carried.old ≡ 8 }
-        requires room { (q : ℕ) → q < 8 → slice_index carried.old q ≤ 3000000 }
-        ensures sum { (q : ℕ) → q < 8 → slice_index carried.new q ≡ slice_index carried.old q + given_by self.now i format (q + 1) * format.size }
-        ensures more { (q : ℕ) → q < 8 → slice_index carried.new q ≤ slice_index carried.old q + 320000 }
+        ensures missing { result ≡ format.number - waiting self.now i format.size }
+        ensures bits { (q : ℕ) → q < 8 → slice_index carried.new q ≡ given_by self.now i format (q + 1) * format.size }
+        ensures small { (q : ℕ) → q < 8 → slice_index carried.new q ≤ 320000 }
     {
         let counts = self.counts(i, format.size);
         let mut left = u32::from(format.number);
         for q in 0..8usize {
             let blocks = left.min(counts[q]);
-            carried[q] += bits(blocks, format.size);
+            carried[q] = bits(blocks, format.size);
             left -= blocks;
         }
+        left
     }
 
     /// The blocks of this size that wait for channel `i` at each priority.
@@ -61,23 +47,10 @@ impl Moment<'_> {
     {
         priority(self.bearers, bearer) as usize - 1
     }
-
-    /// The bits of a combination's formats.
-    pub(crate) fn bits(&self, combination: usize) -> u32
-        requires { combination < length self.now.side.combinations }
-        ensures { result ≡ bits_of self.now combination }
-    {
-        let mut sum = 0;
-        for i in 0..self.channels().len() {
-            let format = self.format(combination, i);
-            sum += bits(u32::from(format.number), format.size);
-        }
-        sum
-    }
 }
 
 /// The bits of some blocks of this size.
-fn bits(blocks: u32, size: u16) -> u32
+pub(crate) fn bits(blocks: u32, size: u16) -> u32
     requires few { blocks ≤ 64 }
     requires short { size ≤ 5000 }
     ensures value { result ≡ blocks * size }

@@ -7,6 +7,8 @@ mod carried;
 mod choosing;
 mod head;
 mod moment;
+mod row;
+mod table;
 
 pub use choosing::choose;
 pub use head::Head;

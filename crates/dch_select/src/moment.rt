@@ -1,8 +1,9 @@
 ghost use Rattle.std.specs.Prelude.{◌≡◌, ◌<◌, ◌≤◌, ◌==◌, length, position, unwrap_or};
 ghost use Rattle.dch_types.specs.Limits.{IsChannel, is_idle, idle_format};
-ghost use Rattle.dch_types.specs.Parts.{channel_at, format_at, format_number};
-ghost use Rattle.dch_select.specs.Asked.{starts, format_in};
+ghost use Rattle.dch_types.specs.Parts.{channel_at, format_at};
+ghost use Rattle.dch_select.specs.Asked.{IsAsked, starts};
 ghost use Rattle.dch_select.specs.Offered.{offered, fits};
+ghost use Rattle.dch_select.specs.Table.{format_of};
 
 use crate::head::Head;
 use dch_types::{Bearer, Dir, Format, Side, Trch, starts};
@@ -35,6 +36,7 @@ impl Moment<'_> {
     pub(crate) fn channels(&self) -> &[Trch]
         ensures value { result.now ≡ self.now.side.channels }
         ensures few { length result.now ≤ 8 }
+        ensures asked { IsAsked self.now }
     {
         self.side.channels.as_slice()
     }
@@ -47,16 +49,24 @@ impl Moment<'_> {
         starts(self.side.channel(i).frames, self.cfn)
     }
 
-    /// The format of channel `i` in a combination.
-    pub(crate) fn format(&self, combination: usize, i: usize) -> Format
-        requires combination { combination < length self.now.side.combinations }
+    /// The number of formats of channel `i`.
+    pub(crate) fn formats(&self, i: usize) -> usize
+        requires { i < length self.now.side.channels }
+        ensures value { result ≡ length (channel_at self.now.side i).formats }
+        ensures few { result ≤ 32 }
+    {
+        self.side.channel(i).formats.len()
+    }
+
+    /// Format `f` of channel `i`.
+    pub(crate) fn format(&self, i: usize, f: usize) -> Format
         requires channel { i < length self.now.side.channels }
-        ensures value { result ≡ format_in self.now combination i }
+        requires format { f < length (channel_at self.now.side i).formats }
+        ensures value { result ≡ format_of self.now i f }
         ensures few { result.number ≤ 64 }
         ensures short { result.size ≤ 5000 }
     {
-        let tfi = self.side.tfi(combination, i);
-        *self.side.channel(i).format(usize::from(tfi))
+        *self.side.channel(i).format(f)
     }
 
     /// The number of the idle format of channel `i`.

@@ -5,7 +5,6 @@ use Rattle.dch_select.proofs.moment.Moment.carry.Given as goal
 abbrev pub invariant-loop-q : goal.invariant-loop-q
 invariant-loop-q l = record {
   left : l.left ≡ l.format.number - waiting_above l.self l.i l.format.size l.q;
-  sums : (q : ℕ) → q < l.q → get_or l.carried q 0 ≡ get_or l.initial.carried q 0 + given_by l.self l.i l.format (q + 1) * l.format.size;
-  more : (q : ℕ) → q < l.q → get_or l.carried q 0 ≤ get_or l.initial.carried q 0 + 320000;
-  rest : (q : ℕ) → l.q ≤ q → get_or l.carried q 0 ≡ get_or l.initial.carried q 0;
+  sums : (q : ℕ) → q < l.q → get_or l.carried q 0 ≡ given_by l.self l.i l.format (q + 1) * l.format.size;
+  small : (q : ℕ) → q < l.q → get_or l.carried q 0 ≤ 320000;
 }

@@ -2,7 +2,7 @@ use Rattle.std.proofs.Common.{length, subst, arith, ap}
 use Rattle.dch_select.specs.Asked.{IsAsked}
 use Rattle.dch_select.specs.Choices.{IsBestOf}
 use Rattle.dch_select.proofs.Idle.{some_candidate}
-use Rattle.dch_select.proofs.moment.Moment.best.Goals as goal
+use Rattle.dch_select.proofs.moment.Moment.best_by.Goals as goal
 
 pub returns-in-None : goal.returns-in-None
 returns-in-None c =
