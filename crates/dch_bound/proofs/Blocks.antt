@@ -107,7 +107,7 @@ logical_small config into channel bits ct e = go (has_ct config into channel) (f
     go false reserved f = absurd (alone_never (position (λ (x : Bearer). names (channel_number into x) channel) config.bearers) ct f)
 
 -- a block that has bits is as long as all of the channel's
-sent_size : (format : Format) (n : ℕ) → 1 ≤ format.number → 1 ≤ format.size → (is_idle format || (format.size == n)) ≡ true → format.size ≡ n
+pub sent_size : (format : Format) (n : ℕ) → 1 ≤ format.number → 1 ≤ format.size → (is_idle format || (format.size == n)) ≡ true → format.size ≡ n
 sent_size format n some bits is = go (is_idle format) refl is
   where
     go : (c : Bool) → is_idle format ≡ c → (c || (format.size == n)) ≡ true → format.size ≡ n
@@ -120,7 +120,7 @@ sent_size format n some bits is = go (is_idle format) refl is
         positive (suc a) b l m z = let product : suc a * b ≡ a * b + b = omega arith in omega (arith, m, z, product)
     go false idle e = eqb-true format.size n e
 
-one_long : (formats : List Format) (n f : ℕ) (d : Format) → have_one_size formats n ≡ true → f < length formats → (is_idle (get_or formats f d) || ((get_or formats f d).size == n)) ≡ true
+pub one_long : (formats : List Format) (n f : ℕ) (d : Format) → have_one_size formats n ≡ true → f < length formats → (is_idle (get_or formats f d) || ((get_or formats f d).size == n)) ≡ true
 one_long formats n f d one there = go (is_idle (get_or formats f d) || ((get_or formats f d).size == n)) refl
   where
     go : (c : Bool) → (is_idle (get_or formats f d) || ((get_or formats f d).size == n)) ≡ c → (is_idle (get_or formats f d) || ((get_or formats f d).size == n)) ≡ true
@@ -138,7 +138,7 @@ octets_come config into channel b skip low high bits reach block some fits =
     let long : length (drop skip bits) ≡ 8 * pdu_octets config into b = omega (arith, length-drop skip bits, block.size, same, fits.whole, reach.behind) in
     omega (arith, long, fits.most)
 
-side_good : (config : Config) (dir : Dir) → IsGood config → IsSide (side_of config dir)
+pub side_good : (config : Config) (dir : Dir) → IsGood config → IsSide (side_of config dir)
 side_good config Up good = good.uplink.side
 side_good config Down good = good.downlink.side
 

@@ -9,10 +9,9 @@ use Rattle.std.proofs.lemmas.List.FromFn.{map-range_with_len_more}
 use Rattle.dch_bits.specs.declared.bit.Bit.{Bit}
 use Rattle.dch_bits.specs.declared.bit.Bit.TheVariants.{Zero}
 use Rattle.dch_types.specs.declared.channel.Dir.{Dir}
-use Rattle.dch_types.specs.declared.channel.Dir.TheVariants.{Up, Down}
 use Rattle.dch_types.specs.declared.channel.Format.{Format}
 use Rattle.dch_types.specs.declared.config.Config.{Config}
-use Rattle.dch_types.specs.Limits.{IsSide, is_idle}
+use Rattle.dch_types.specs.Limits.{is_idle}
 use Rattle.dch_types.specs.Parts.{channel_at, format_at, format_number, side_of}
 use Rattle.dch_config.specs.Bearers.{names}
 use Rattle.dch_config.specs.Good.{IsGood}
@@ -26,6 +25,7 @@ use Rattle.dch_layer.specs.Bearings.{Acknowledged, Bearing, Transparent, Unackno
 use Rattle.dch_layer.specs.Building.{Gives}
 use Rattle.dch_layer.specs.Starting.{blocks_for, in_turn, is_on, joined}
 use Rattle.dch_layer.proofs.Good.{am_fits, um_fits}
+use Rattle.dch_bound.proofs.Blocks.{side_good}
 use Rattle.dch_bearer.specs.Standing.{Represents as StandsFor}
 use Rattle.dch_bearer.specs.declared.bearer.Bearer.{Bearer}
 use Rattle.dch_bearer.specs.declared.bearer.Bearer.TheVariants.{Tm, Um, Am}
@@ -105,10 +105,6 @@ found_all : (format : Format) (w : ℕ) → format.size ≢ 0 → (is_idle forma
 found_all format w some e = either (is_idle format)
     (λ h. idle_none format w some h)
     (λ h. min_all format.number w (ap (λ c. c || nat_le format.number w) (sym h) ∙ e))
-
-side_good : (config : Config) (out : Dir) → IsGood config → IsSide (side_of config out)
-side_good config Up good = good.uplink.side
-side_good config Down good = good.downlink.side
 
 chosen_all : (m : Moment) (c i : ℕ) → IsGood m.config → i < length (side_of m.config m.out).channels → starts (asked_by m) i ≡ true → IsCandidate (asked_by m) c → (format_in (asked_by m) c i).size ≢ 0 →
     min (format_in (asked_by m) c i).number (waiting (asked_by m) i (format_in (asked_by m) c i).size) ≡ (format_in (asked_by m) c i).number

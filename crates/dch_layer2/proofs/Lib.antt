@@ -12,3 +12,5 @@ pub mod Channels
 pub mod Starts
 pub mod Frames
 pub mod Filling
+pub mod Joined
+pub mod Paying

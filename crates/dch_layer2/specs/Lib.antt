@@ -5,3 +5,5 @@ pub mod Coming
 pub mod Reading
 pub mod Sharing
 pub mod Started
+pub mod Joined
+pub mod Bounded

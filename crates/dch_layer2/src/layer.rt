@@ -65,6 +65,13 @@ impl Layer2 {
         &self.given[channel as usize]
     }
 
+    /// The combination that runs.
+    pub fn running(&self) -> u16
+        ensures { result ≡ self.now.running }
+    {
+        self.running
+    }
+
     /// Offers a unit to a bearer: bits to a transparent one, octets to the others. It has a channel to send on.
     pub fn offer(&mut self, bearer: u8, octets: &[u8], bits: &[Bit]) -> Offer
         requires { CanOffer self.old bearer }

@@ -4,7 +4,8 @@ use Rattle.dch_mac.specs.declared.answer.Demux.{Demux}
 use Rattle.dch_layer.specs.Layers.{goes}
 use Rattle.dch_layer2.specs.Coming.{HasRoomToPass}
 use Rattle.dch_layer2.specs.Standing.{Represents}
-use Rattle.dch_layer2.proofs.Coming.{passes, reached}
+use Rattle.dch_bound.proofs.Blocks.{reached}
+use Rattle.dch_layer2.proofs.Coming.{passes}
 use Rattle.dch_layer2.proofs.layer.Layer2.pass_on.Goals as goal
 
 pub hear-requires-clause-behind : goal.hear-requires-clause-behind

@@ -1,0 +1,209 @@
+-- Layer 2 takes what a node reads, channel by channel, and its lines fit in the report of a step.
+use Rattle.std.proofs.Common.{◌≡◌, ◌≢◌, ◌<◌, ◌≤◌, ◌+◌, ◌-◌, ◌*◌, ◌∙◌, ◌++◌, ℕ, zero, suc, List, [], ◌∷◌, length, drop, get_or, arith, refl, ap, ap₂, sym, subst, inl, inr, add-one, append-nil, length-append, length-drop}
+use Rattle.std.proofs.Math.Nat.{mul-le-mul_right}
+use Rattle.std.proofs.lemmas.Bool.Decides.{eqb_tells}
+use Rattle.std.proofs.lemmas.List.{get_or_append_left, get_or_push, length-take-le}
+use Rattle.dch_types.specs.declared.channel.Dir.{Dir}
+use Rattle.dch_types.specs.declared.channel.Format.{Format}
+use Rattle.dch_types.specs.declared.config.Config.{Config}
+use Rattle.dch_types.specs.Parts.{channel_at, format_at, side_of}
+use Rattle.dch_config.specs.Good.{IsGood}
+use Rattle.dch_accept.specs.Blocks.{Held, block_at}
+use Rattle.dch_accept.specs.HeldSets.{HasFormat}
+use Rattle.dch_accept.specs.Reports.{step_bytes}
+use Rattle.dch_script.specs.Held.{Held as Text}
+use Rattle.dch_node.specs.Lines.{BadTti, Line, text_of}
+use Rattle.dch_layer.specs.Layers.{Came, Layer, Outcome, takes}
+use Rattle.dch_bearer.specs.Reports.{added}
+use Rattle.dch_bearer.proofs.Lines.{added-added}
+use Rattle.dch_bound.specs.Bounded.{AreBounded}
+use Rattle.dch_bound.specs.Coming.{AreBlocks, IsBlock}
+use Rattle.dch_bound.proofs.Blocks.{side_good}
+use Rattle.dch_bound.proofs.Layers.{IsTaken, all_taken, layer_few, none_told, of_both, of_more, short_told}
+use Rattle.dch_bound.proofs.Texts.{text_long}
+use Rattle.dch_layer2.specs.Bounded.{HasLayer, HasRead, IsTti}
+use Rattle.dch_layer2.specs.Coming.{HasRoomForTti, came_at, came_below, came_of}
+use Rattle.dch_layer2.specs.Reading.{Bad, Nothing, Read, Reading, reads, reads_below}
+use Rattle.dch_layer2.specs.Standing.{IsSameEnd, Represents}
+use Rattle.dch_layer2.specs.Values.{LayerRunning}
+
+length-came : (held : Held) (k : ℕ) → length (came_below held k) ≡ k
+length-came held zero = refl
+length-came held (suc k) = omega (arith, length-append (came_below held k) (came_at held k ∷ []), length-came held k)
+
+-- a block of a TTI
+block_is : (config : Config) (into : Dir) (i k : ℕ) (held : Held) → HasFormat (channel_at (side_of config into) i) held → k < length held.good → IsBlock config into i (block_at held k)
+block_is config into i k held has inside =
+    let format : Format = format_at (channel_at (side_of config into) i) held.format in
+    let behind : suc k * held.size ≤ length held.good * held.size = mul-le-mul_right held.size inside in
+    let product : format.number * format.size ≡ length held.good * held.size = ap₂ (λ n m. n * m) (sym has.count) (sym has.size) in
+    let long : length (drop (k * held.size) held.bits) ≡ length held.bits - k * held.size = length-drop (k * held.size) held.bits in
+    let room : held.size ≤ length (drop (k * held.size) held.bits) = omega (arith, behind, product, long, has.long) in
+    record {
+      format = held.format;
+      there = has.there;
+      some = omega (arith, inside, has.count);
+      size = length-take-le held.size (drop (k * held.size) held.bits) room ∙ has.size;
+    }
+
+-- the blocks of a TTI as they come
+came_below-at : (held : Held) (n k : ℕ) (d : Came) → k < n → get_or (came_below held n) k d ≡ came_at held k
+came_below-at held zero k d inside = absurd (omega arith)
+came_below-at held (suc n) k d inside = elim (eqb_tells k n) [
+  | inl same ↦ ap (λ m. get_or (came_below held n ++ came_at held n ∷ []) m d) same.1 ∙ get_or_push (came_below held n) (came_at held n) d n (length-came held n) ∙ ap (came_at held) (sym same.1)
+  | inr other ↦ (
+      let apart : k ≢ n = other.1 in
+      get_or_append_left (came_below held n) (came_at held n ∷ []) d k (omega (arith, length-came held n)) ∙ came_below-at held n k d (omega arith))
+]
+
+blocks_are : (config : Config) (into : Dir) (i : ℕ) (held : Held) → HasFormat (channel_at (side_of config into) i) held → AreBlocks config into i (came_of held)
+blocks_are config into i held has k d inside =
+    let within : k < length held.good = omega (arith, inside, length-came held (length held.good)) in
+    subst (λ (c : Came). IsBlock config into i c.bits) (sym (came_below-at held (length held.good) k d within)) (block_is config into i k held has within)
+
+-- a channel has at most 64 blocks, each of which brings at most 5,200 bytes
+one_paid : (config : Config) (into : Dir) (i : ℕ) (r : Reading) (layer : Layer) → IsGood config → i < length (side_of config into).channels → IsTti config into i r → AreBounded config layer → IsTaken config layer (reads config into i r layer) 332800
+one_paid config into i Nothing layer good inside is bounded = of_more config layer (record { layer = layer; lines = [] }) 0 332800 (omega arith) (none_told config layer bounded)
+one_paid config into i (Read held) layer good inside is bounded =
+    let number : (format_at (channel_at (side_of config into) i) held.format).number ≤ 64 = (((side_good config into good).channels i inside).formats held.format is.there).number in
+    let few : length held.good ≤ 64 = subst (λ n. n ≤ 64) (sym is.count) number in
+    let paid = all_taken config into i 0 (came_of held) layer good inside (omega (arith, length-came held (length held.good), few)) (blocks_are config into i held is) bounded in
+    record { paid = omega (arith, paid.paid, length-came held (length held.good), few); bounded = paid.bounded }
+one_paid config into i (Bad frame) layer good inside is bounded =
+    let channel : i < 1000 = omega (arith, inside, (side_good config into good).few) in
+    let place : frame < 1000 = omega (arith, is) in
+    of_more config layer (record { layer = layer; lines = BadTti into i frame ∷ [] }) 40 332800 (omega arith) (short_told config (BadTti into i frame) layer (channel, place) bounded)
+
+-- the first channels
+reads_paid : (config : Config) (into : Dir) (readings : ℕ → Reading) (n : ℕ) (layer : Layer) → IsGood config → n ≤ length (side_of config into).channels → ((i : ℕ) → i < n → IsTti config into i (readings i)) → AreBounded config layer
+    → IsTaken config layer (reads_below config into readings n layer) (n * 332800)
+reads_paid config into readings zero layer good few are bounded = none_told config layer bounded
+reads_paid config into readings (suc n) layer good few are bounded =
+    let first : IsTaken config layer (reads_below config into readings n layer) (n * 332800) = reads_paid config into readings n layer good (omega (arith, few)) (λ i early. are i (omega (arith, early))) bounded in
+    let mid : Layer = (reads_below config into readings n layer).layer in
+    let last : IsTaken config mid (reads config into n (readings n) mid) 332800 = one_paid config into n (readings n) mid good (omega (arith, few)) (are n (omega arith)) first.bounded in
+    of_more config layer (reads_below config into readings (suc n) layer) (n * 332800 + 332800) (suc n * 332800) (omega arith)
+    (of_both config layer (reads_below config into readings n layer) (reads config into n (readings n) mid) (n * 332800) 332800 first last)
+
+-- all lines on what is read fit in the report of a step, and leave room for 1,300,000 bytes
+pub readings_room : (config : Config) (into : Dir) (readings : ℕ → Reading) (n : ℕ) (layer : Layer) → IsGood config → n ≤ length (side_of config into).channels → ((i : ℕ) → i < n → IsTti config into i (readings i)) → AreBounded config layer
+    → length (text_of (reads_below config into readings n layer).lines) + 1300000 ≤ step_bytes config
+readings_room config into readings n layer good few are bounded =
+    omega (arith, (reads_paid config into readings n layer good few are bounded).paid, layer_few config layer good bounded, few, (side_good config into good).few)
+
+-- and layer 2 stays limited
+pub readings_bounded : (config : Config) (into : Dir) (readings : ℕ → Reading) (n : ℕ) (layer : Layer) → IsGood config → n ≤ length (side_of config into).channels → ((i : ℕ) → i < n → IsTti config into i (readings i)) → AreBounded config layer
+    → AreBounded config (reads_below config into readings n layer).layer
+readings_bounded config into readings n layer good few are bounded = (reads_paid config into readings n layer good few are bounded).bounded
+
+-- nothing was read yet
+pub none_read : (config : Config) (into : Dir) (readings : ℕ → Reading) (v : LayerRunning) (report : Text) → HasRead config into readings 0 v v report report
+none_read config into readings v report = record {
+  ends = record { sends = refl; receives = refl };
+  stands = λ layer is. is;
+  reported = λ layer is. ap (λ (t : List ℕ). record report { text = t }) (sym (append-nil report.text));
+}
+
+-- one more channel
+reads_next : (config : Config) (into : Dir) (readings : ℕ → Reading) (i : ℕ) (reading : Reading) (layer : Layer) → readings i ≡ reading →
+    reads_below config into readings (i + 1) layer ≡ record {
+      layer = (reads config into i reading (reads_below config into readings i layer).layer).layer;
+      lines = (reads_below config into readings i layer).lines ++ (reads config into i reading (reads_below config into readings i layer).layer).lines;
+    }
+reads_next config into readings i reading layer is =
+    rw add-one (ap (λ (r : Reading). record {
+      layer = (reads config into i r (reads_below config into readings i layer).layer).layer;
+      lines = (reads_below config into readings i layer).lines ++ (reads config into i r (reads_below config into readings i layer).layer).lines;
+    }) is)
+
+-- of which nothing is read
+pub skipped : (config : Config) (into : Dir) (readings : ℕ → Reading) (i : ℕ) (old now : LayerRunning) (before after : Text) → HasRead config into readings i old now before after → readings i ≡ Nothing
+    → HasRead config into readings (i + 1) old now before after
+skipped config into readings i old now before after has none = record {
+  ends = has.ends;
+  stands = λ layer is. subst (λ (o : Outcome). Represents config o.layer now) (sym (reads_next config into readings i Nothing layer none)) (has.stands layer is);
+  reported = λ layer is.
+      has.reported layer is
+      ∙ ap (λ (ls : List Line). added before ls) (sym (append-nil (reads_below config into readings i layer).lines))
+      ∙ ap (λ (o : Outcome). added before o.lines) (sym (reads_next config into readings i Nothing layer none));
+}
+
+-- whose blocks layer 2 took
+pub taken_on : (config : Config) (into : Dir) (readings : ℕ → Reading) (i : ℕ) (held : Held) (old now next : LayerRunning) (before after later : Text) → HasRead config into readings i old now before after → readings i ≡ Read held → now.into ≡ into
+    → IsSameEnd now next
+    → ((layer : Layer) → Represents config layer now → later ≡ added after (takes config now.into i 0 (came_of held) layer).lines)
+    → ((layer : Layer) → Represents config layer now → Represents config (takes config now.into i 0 (came_of held) layer).layer next)
+    → HasRead config into readings (i + 1) old next before later
+taken_on config into readings i held old now next before after later has reading receives same reported stands = record {
+  ends = record { sends = same.sends ∙ has.ends.sends; receives = same.receives ∙ has.ends.receives };
+  stands = λ layer is.
+      subst (λ (o : Outcome). Represents config o.layer next) (sym (reads_next config into readings i (Read held) layer reading))
+      (subst (λ (d : Dir). Represents config (takes config d i 0 (came_of held) (reads_below config into readings i layer).layer).layer next) receives (stands (reads_below config into readings i layer).layer (has.stands layer is)));
+  reported = λ layer is.
+      reported (reads_below config into readings i layer).layer (has.stands layer is)
+      ∙ ap (λ (d : Dir). added after (takes config d i 0 (came_of held) (reads_below config into readings i layer).layer).lines) receives
+      ∙ ap (λ (t : Text). added t (takes config into i 0 (came_of held) (reads_below config into readings i layer).layer).lines) (has.reported layer is)
+      ∙ added-added before (reads_below config into readings i layer).lines (takes config into i 0 (came_of held) (reads_below config into readings i layer).layer).lines
+      ∙ ap (λ (o : Outcome). added before o.lines) (sym (reads_next config into readings i (Read held) layer reading));
+}
+
+-- one of whose radio frames is bad, which was reported
+pub bad_on : (config : Config) (into : Dir) (readings : ℕ → Reading) (i frame : ℕ) (old now : LayerRunning) (before after later : Text) → HasRead config into readings i old now before after → readings i ≡ Bad frame
+    → later ≡ added after (BadTti into i frame ∷ []) → HasRead config into readings (i + 1) old now before later
+bad_on config into readings i frame old now before after later has bad reported = record {
+  ends = has.ends;
+  stands = λ layer is. subst (λ (o : Outcome). Represents config o.layer now) (sym (reads_next config into readings i (Bad frame) layer bad)) (has.stands layer is);
+  reported = λ layer is.
+      reported
+      ∙ ap (λ (t : Text). added t (BadTti into i frame ∷ [])) (has.reported layer is)
+      ∙ added-added before (reads_below config into readings i layer).lines (BadTti into i frame ∷ [])
+      ∙ ap (λ (o : Outcome). added before o.lines) (sym (reads_next config into readings i (Bad frame) layer bad));
+}
+
+-- there is room for the blocks of the next channel, in a step that wrote no more than 1,300,000 bytes before
+pub next_room : (config : Config) (into : Dir) (readings : ℕ → Reading) (i : ℕ) (held : Held) (old now : LayerRunning) (before after : Text) → IsGood config → i < length (side_of config into).channels → readings i ≡ Read held
+    → ((k : ℕ) → k < suc i → IsTti config into k (readings k)) → HasRead config into readings i old now before after → HasLayer config old → now.into ≡ into → length before.text + step_bytes config ≤ before.most + 1300000
+    → HasRoomForTti config i held now after
+next_room config into readings i held old now before after good inside is are read has receives room =
+    let first : Outcome = reads_below config into readings i has.layer in
+    let next : Outcome = reads config into i (readings i) first.layer in
+    let all : length (text_of (first.lines ++ next.lines)) + 1300000 ≤ step_bytes config = readings_room config into readings (suc i) has.layer good (omega (arith, inside)) are has.bounded in
+    let long : length (text_of (first.lines ++ next.lines)) ≡ length (text_of first.lines) + length (text_of next.lines) = text_long first.lines next.lines in
+    let said : length after.text ≡ length before.text + length (text_of first.lines) = ap (λ (t : Text). length t.text) (read.reported has.layer has.stands) ∙ length-append before.text (text_of first.lines) in
+    let most : after.most ≡ before.most = ap (λ (t : Text). t.most) (read.reported has.layer has.stands) in
+    let fits : length after.text + length (text_of (takes config into i 0 (came_of held) first.layer).lines) ≤ after.most =
+    subst (λ (r : Reading). length after.text + length (text_of (reads config into i r first.layer).lines) ≤ after.most) is (omega (arith, all, long, said, most, room)) in
+    record {
+      layer = first.layer;
+      stands = read.stands has.layer has.stands;
+      room = subst (λ (d : Dir). length after.text + length (text_of (takes config d i 0 (came_of held) first.layer).lines) ≤ after.most) (sym receives) fits;
+    }
+
+-- and for 332,800 bytes, as for the line on a bad radio frame
+pub next_bytes : (config : Config) (into : Dir) (readings : ℕ → Reading) (i : ℕ) (old now : LayerRunning) (before after : Text) → IsGood config → i < length (side_of config into).channels → ((k : ℕ) → k < i → IsTti config into k (readings k))
+    → HasRead config into readings i old now before after → HasLayer config old → length before.text + step_bytes config ≤ before.most + 1300000 → length after.text + 332800 ≤ after.most
+next_bytes config into readings i old now before after good inside are read has room =
+    let lines : List Line = (reads_below config into readings i has.layer).lines in
+    let paid : IsTaken config has.layer (reads_below config into readings i has.layer) (i * 332800) = reads_paid config into readings i has.layer good (omega (arith, inside)) are has.bounded in
+    let said : length after.text ≡ length before.text + length (text_of lines) = ap (λ (t : Text). length t.text) (read.reported has.layer has.stands) ∙ length-append before.text (text_of lines) in
+    let most : after.most ≡ before.most = ap (λ (t : Text). t.most) (read.reported has.layer has.stands) in
+    omega (arith, paid.paid, layer_few config has.layer good has.bounded, inside, (side_good config into good).few, said, most, room)
+
+-- layer 2 stays limited, and no more is reported than a step may, less 1,300,000 bytes
+pub read_layer : (config : Config) (into : Dir) (readings : ℕ → Reading) (n : ℕ) (old new : LayerRunning) (before after : Text) → IsGood config → n ≤ length (side_of config into).channels
+    → ((i : ℕ) → i < n → IsTti config into i (readings i)) → HasLayer config old → HasRead config into readings n old new before after → HasLayer config new
+read_layer config into readings n old new before after good few are has read = record {
+  layer = (reads_below config into readings n has.layer).layer;
+  stands = read.stands has.layer has.stands;
+  bounded = readings_bounded config into readings n has.layer good few are has.bounded;
+}
+
+pub read_few : (config : Config) (into : Dir) (readings : ℕ → Reading) (n : ℕ) (old new : LayerRunning) (before after : Text) → IsGood config → n ≤ length (side_of config into).channels
+    → ((i : ℕ) → i < n → IsTti config into i (readings i)) → HasLayer config old → HasRead config into readings n old new before after → length after.text + 1300000 ≤ length before.text + step_bytes config
+read_few config into readings n old new before after good few are has read =
+    let lines : List Line = (reads_below config into readings n has.layer).lines in
+    let said : length after.text ≡ length before.text + length (text_of lines) = ap (λ (t : Text). length t.text) (read.reported has.layer has.stands) ∙ length-append before.text (text_of lines) in
+    omega (arith, said, readings_room config into readings n has.layer good few are has.bounded)
+
+pub read_most : (config : Config) (into : Dir) (readings : ℕ → Reading) (n : ℕ) (old new : LayerRunning) (before after : Text) → HasLayer config old → HasRead config into readings n old new before after → after.most ≡ before.most
+read_most config into readings n old new before after has read = ap (λ (t : Text). t.most) (read.reported has.layer has.stands)
