@@ -23,7 +23,8 @@ use Rattle.dch_node.specs.Values.{Blocks, Output, Radio, idle_blocks}
 use Rattle.dch_nodeb.specs.State.{DownlinkIubFrame, DownlinkDue, State, given_now, kept_still, leaving, taken}
 use Rattle.dch_node.specs.IubFrames.{blocks_at}
 use Rattle.dch_nodeb.specs.Steps.{AreAllLoaded, AreRunning, IsDeparture, IsRadio, radio_line}
-use Rattle.dch_nodeb.specs.Values.{Node, IubRxBuffer, DownlinkTransmitter, rx_buffer_at, radio_if}
+use Rattle.dch_nodeb.specs.Values.{Node, IubRxBuffer, DownlinkTransmitter, rx_buffer_at}
+use Rattle.dch_txframes.specs.Values.{radio_sent}
 use Rattle.dch_nodeb.proofs.Steady.{set_frames-member, tells}
 
 none_of : (count : ℕ) → count ≡ 0 → replicate count Zero ≡ []
@@ -139,7 +140,7 @@ departed_at planned state node new sent before after good opened noted quiet dep
     let side = planned.config.downlink.side in
     let loaded : DownlinkTransmitter = departs.loaded in
     let next : State = leaving side state in
-    let shown : Option Radio = radio_if sent.sent sent.frame in
+    let shown : Option Radio = radio_sent sent.radio in
     let all : AreAllLoaded planned next.given loaded.running = all_given planned state node.rx_buffers new node.transmitter loaded good opened departs.ready departs.given stands.kept stands.given in
     let output : Output = record { lines = radio_line shown ∷ []; sent = shown; iub = λ s. None } in
     record {

@@ -3,7 +3,6 @@ pub mod Departing
 pub mod Giving
 pub mod Going
 pub mod Keeping
-pub mod Lengths
 pub mod OneOutput
 pub mod OneRadio
 pub mod OneTti
@@ -13,4 +12,3 @@ pub mod Receiving
 pub mod Same
 pub mod Serving
 pub mod Steady
-pub mod Texts

@@ -9,14 +9,16 @@ use Rattle.dch_accept.specs.Plans.{Planned}
 use Rattle.dch_ttibuf.specs.Loaded.{loaded_at}
 use Rattle.dch_rxframes.specs.RxFrames.{AreMissing}
 use Rattle.dch_dlphy.specs.Loaded.{IsLoaded}
-use Rattle.dch_nodeb.specs.Moves.{AreGiven, AreNewTxBuffers, AreNewRxBuffers}
+use Rattle.dch_nodeb.specs.Moves.{AreGiven, AreNewRxBuffers}
+use Rattle.dch_txframes.specs.Sending.{AreNewTxBuffers}
 use Rattle.dch_nodeb.specs.Opened.{AreNoted, AreRxBuffersOf, IsNodeOf, IsReceiverOf}
 use Rattle.dch_types.specs.Timing.{starts}
 use Rattle.dch_nodeb.specs.Standing.{RepresentsHistory}
 use Rattle.dch_node.specs.Values.{Blocks, idle_blocks, no_output}
 use Rattle.dch_nodeb.specs.State.{opened_state}
 use Rattle.dch_nodeb.specs.Steps.{AreAllLoaded}
-use Rattle.dch_nodeb.specs.Values.{IubTxBuffer, IubRxBuffer, UplinkReceiver, DownlinkTransmitter, rx_buffer_at}
+use Rattle.dch_nodeb.specs.Values.{IubRxBuffer, UplinkReceiver, DownlinkTransmitter, rx_buffer_at}
+use Rattle.dch_txframes.specs.Values.{IubTxBuffer}
 use Rattle.dch_nodeb.proofs.Departing.{idle_set}
 use Rattle.dch_nodeb.proofs.Steady.{starts-eighth}
 
@@ -47,7 +49,7 @@ all_idle planned first rx_buffers empty transmitter good eighth new given i insi
 
 -- its parts fit the configuration
 pub opened_node : (planned : Planned) (first : ℕ) (rx_buffers : List IubRxBuffer) (empty transmitter : DownlinkTransmitter) (receiver : UplinkReceiver) (tx_buffers : List IubTxBuffer) → IsSide planned.config.downlink.side → first % 8 ≡ 0
-    → AreNewRxBuffers planned 8 rx_buffers → AreGiven planned first (length planned.config.downlink.side.channels) rx_buffers empty transmitter → IsReceiverOf planned receiver → AreNewTxBuffers planned 8 tx_buffers
+    → AreNewRxBuffers planned 8 rx_buffers → AreGiven planned first (length planned.config.downlink.side.channels) rx_buffers empty transmitter → IsReceiverOf planned receiver → AreNewTxBuffers planned Up 8 tx_buffers
     → IsNodeOf planned (record { cfn = first; rx_buffers = rx_buffers; transmitter = transmitter; receiver = receiver; tx_buffers = tx_buffers })
 opened_node planned first rx_buffers empty transmitter receiver tx_buffers good eighth new given opened written = record {
   rx_buffers = new_places planned rx_buffers new;
@@ -59,11 +61,11 @@ opened_node planned first rx_buffers empty transmitter receiver tx_buffers good 
 
 -- and it stands for what has not happened
 pub opened_stands : (planned : Planned) (first : ℕ) (rx_buffers : List IubRxBuffer) (empty transmitter : DownlinkTransmitter) (receiver : UplinkReceiver) (tx_buffers : List IubTxBuffer) → IsSide planned.config.downlink.side → first % 8 ≡ 0
-    → AreNewRxBuffers planned 8 rx_buffers → empty.sent ≡ false → AreGiven planned first (length planned.config.downlink.side.channels) rx_buffers empty transmitter
-    → AreMissing (most_cells planned.config Up) 8 receiver.rx_frames.frames → AreNewTxBuffers planned 8 tx_buffers
+    → AreNewRxBuffers planned 8 rx_buffers → empty.radio.sent ≡ false → AreGiven planned first (length planned.config.downlink.side.channels) rx_buffers empty transmitter
+    → AreMissing (most_cells planned.config Up) 8 receiver.rx_frames.frames → AreNewTxBuffers planned Up 8 tx_buffers
     → RepresentsHistory planned first [] [] (record { cfn = first; rx_buffers = rx_buffers; transmitter = transmitter; receiver = receiver; tx_buffers = tx_buffers })
 opened_stands planned first rx_buffers empty transmitter receiver tx_buffers good eighth new quiet given missing written =
-    let none : transmitter.sent ≡ false = given.sent ∙ quiet in
+    let none : transmitter.radio.sent ≡ false = given.sent ∙ quiet in
     record {
       state = opened_state planned first;
       last = no_output;

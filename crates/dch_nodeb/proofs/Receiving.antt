@@ -13,7 +13,8 @@ use Rattle.dch_nodeb.specs.State.{UplinkFrame, State, coming}
 use Rattle.dch_node.specs.RxFrames.{KeepsRadio}
 use Rattle.dch_node.specs.Lines.{joined}
 use Rattle.dch_nodeb.specs.Steps.{IsReception}
-use Rattle.dch_nodeb.specs.Values.{IubTxBuffer, Node, UplinkReceiver, tx_buffer_at}
+use Rattle.dch_nodeb.specs.Values.{Node, UplinkReceiver}
+use Rattle.dch_txframes.specs.Values.{IubTxBuffer, tx_buffer_at}
 
 -- the frames that are kept then
 frames_kept : (planned : Planned) (state : State) (radio : Option Radio) (old new : RxFrames) → Hears planned state.cfn radio old new

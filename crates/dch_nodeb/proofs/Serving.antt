@@ -1,22 +1,25 @@
 -- The sets that are served one after another.
-use Rattle.std.proofs.Common.{◌≡◌, ◌≢◌, ◌+◌, ◌<◌, ◌≤◌, ◌∙◌, ◌++◌, ℕ, zero, suc, List, [], length, get_or, arith, refl, ap, ap₂, sym, subst, inl, inr, true, eq-eqb, add-one, append_assoc, length-append, get_or-set_same, get_or-set_other, None, ◌∷◌, append-nil}
-use Rattle.std.proofs.lemmas.List.{get_or_append_left, get_or_default, get_or_push, length-set}
+use Rattle.std.proofs.Common.{◌≡◌, ◌≢◌, ◌+◌, ◌<◌, ◌≤◌, ◌∙◌, ◌++◌, ℕ, zero, suc, List, [], length, arith, refl, ap, ap₂, sym, subst, inl, inr, true, eq-eqb, add-one, append_assoc, length-append, get_or-set_same, get_or-set_other, None, ◌∷◌, append-nil}
+use Rattle.std.proofs.lemmas.List.{length-set}
 use Rattle.dch_types.specs.declared.channel.Dir.TheVariants.{Up}
 use Rattle.dch_accept.specs.HeldSets.{HeldSet}
 use Rattle.dch_iub.specs.Forms.{IsWrittenForm}
 use Rattle.dch_node.proofs.Texts.{text_of-append}
-use Rattle.dch_nodeb.specs.Sending.{SendsUp}
 use Rattle.dch_types.specs.Timing.{ends, set_frames, started}
 use Rattle.std.specs.Prelude.{◌==◌, if◌then◌else◌, slice_set}
 use Rattle.std.proofs.lemmas.Bool.Decides.{eqb_tells}
 use Rattle.dch_accept.specs.Plans.{Planned}
 use Rattle.dch_rxframes.specs.RxFrames.{RxFrames}
 use Rattle.dch_script.specs.Held.{Held as Text}
-use Rattle.dch_nodeb.specs.Moves.{AreNewTxBuffers, AreDelivered, Delivered}
-use Rattle.dch_nodeb.specs.Opened.{AreTxBuffersOf, IsTxBufferOf, IsReceiverOf}
+use Rattle.dch_nodeb.specs.Moves.{AreDelivered, Delivered}
+use Rattle.dch_txframes.specs.Opened.{AreTxBuffersOf, IsTxBufferOf}
+use Rattle.dch_txframes.specs.Reports.{added}
+use Rattle.dch_txframes.specs.Sending.{SendsFrame}
+use Rattle.dch_txframes.specs.Values.{IubTxBuffer, tx_buffer_at}
+use Rattle.dch_nodeb.specs.Opened.{IsReceiverOf}
 use Rattle.dch_node.specs.Lines.{BadTti, Iub, Line, joined, text_of}
 use Rattle.dch_nodeb.specs.Steps.{AreRead, DeliversSet, IsBadTti}
-use Rattle.dch_nodeb.specs.Values.{IubTxBuffer, UplinkReceiver, tx_buffer_at}
+use Rattle.dch_nodeb.specs.Values.{UplinkReceiver}
 
 -- the lines with other ones for a set
 with_lines : (ℕ → List Line) → ℕ → List Line → ℕ → List Line
@@ -77,8 +80,8 @@ served_next planned rx_frames set tx_buffers tx_buffer receiver next before now 
       tx_buffers_opened = record {
         all = length-set tx_buffers set tx_buffer ∙ are.tx_buffers_opened.all;
         each = λ s few. elim (eqb_tells s set) [
-          | inl same ↦ subst (λ k. IsTxBufferOf planned k (tx_buffer_at new k)) (sym same.1) (subst (λ (l : IubTxBuffer). IsTxBufferOf planned set l) (sym own) served.tx_buffer_opened)
-          | inr other ↦ subst (λ (l : IubTxBuffer). IsTxBufferOf planned s l) (sym (others s other.1)) (are.tx_buffers_opened.each s few)
+          | inl same ↦ subst (λ k. IsTxBufferOf planned Up k (tx_buffer_at new k)) (sym same.1) (subst (λ (l : IubTxBuffer). IsTxBufferOf planned Up set l) (sym own) served.tx_buffer_opened)
+          | inr other ↦ subst (λ (l : IubTxBuffer). IsTxBufferOf planned Up s l) (sym (others s other.1)) (are.tx_buffers_opened.each s few)
         ];
       };
       receiver_opened = served.receiver_opened;
@@ -86,7 +89,7 @@ served_next planned rx_frames set tx_buffers tx_buffer receiver next before now 
     }
 
 -- the frame of a set was sent
-pub sent_up : (planned : Planned) (rx_frames : RxFrames) (set start : ℕ) (old new : IubTxBuffer) (receiver : UplinkReceiver) (before after : Text) → SendsUp planned set start old new before after → AreRead planned rx_frames set old.held
+pub sent_up : (planned : Planned) (rx_frames : RxFrames) (set start : ℕ) (old new : IubTxBuffer) (receiver : UplinkReceiver) (before after : Text) → SendsFrame planned Up set start old new before after → AreRead planned rx_frames set old.held
     → ends (set_frames planned.config.uplink.side set) rx_frames.cfn ≡ true → start ≡ started (set_frames planned.config.uplink.side set) rx_frames.cfn → IsReceiverOf planned receiver → receiver.rx_frames ≡ rx_frames
     → Delivered planned rx_frames set new receiver before after
 sent_up planned rx_frames set start old new receiver before after sends read over begun opened same = record {
@@ -110,8 +113,8 @@ sent_up planned rx_frames set start old new receiver before after sends read ove
 
 -- the TTI of a set could not be read
 pub lost_set : (planned : Planned) (rx_frames : RxFrames) (set channel frame : ℕ) (tx_buffer : IubTxBuffer) (receiver : UplinkReceiver) (before after : Text) → IsBadTti planned.config.uplink.side rx_frames set channel frame
-    → ends (set_frames planned.config.uplink.side set) rx_frames.cfn ≡ true → tx_buffer.sent ≡ None → IsTxBufferOf planned set tx_buffer → IsReceiverOf planned receiver → receiver.rx_frames ≡ rx_frames
-    → length (text_of (BadTti Up channel frame ∷ [])) ≤ 300 → after ≡ record before { text = before.text ++ text_of (BadTti Up channel frame ∷ []) } → Delivered planned rx_frames set tx_buffer receiver before after
+    → ends (set_frames planned.config.uplink.side set) rx_frames.cfn ≡ true → tx_buffer.sent ≡ None → IsTxBufferOf planned Up set tx_buffer → IsReceiverOf planned receiver → receiver.rx_frames ≡ rx_frames
+    → length (text_of (BadTti Up channel frame ∷ [])) ≤ 300 → after ≡ added before (BadTti Up channel frame ∷ []) → Delivered planned rx_frames set tx_buffer receiver before after
 lost_set planned rx_frames set channel frame tx_buffer receiver before after is over none kept opened same few reported = record {
   lines = BadTti Up channel frame ∷ [];
   few = omega (arith, few);
@@ -123,7 +126,7 @@ lost_set planned rx_frames set channel frame tx_buffer receiver before after is 
 }
 
 -- no set was served yet
-pub none_served : (planned : Planned) (tx_buffers : List IubTxBuffer) (receiver : UplinkReceiver) (before : Text) → AreTxBuffersOf planned tx_buffers → IsReceiverOf planned receiver
+pub none_served : (planned : Planned) (tx_buffers : List IubTxBuffer) (receiver : UplinkReceiver) (before : Text) → AreTxBuffersOf planned Up tx_buffers → IsReceiverOf planned receiver
     → ((s : ℕ) → s < 8 → (tx_buffer_at tx_buffers s).sent ≡ None) → AreDelivered planned receiver.rx_frames 0 tx_buffers receiver before before
 none_served planned tx_buffers receiver before are opened quiet = record {
   lines = λ s. [];
@@ -135,26 +138,3 @@ none_served planned tx_buffers receiver before are opened quiet = record {
   receiver_opened = opened;
   same = refl;
 }
-
--- a transmit buffer, whatever stands for one past the end
-pub tx_buffer_in : (planned : Planned) (tx_buffers : List IubTxBuffer) (set : ℕ) (other : IubTxBuffer) → AreTxBuffersOf planned tx_buffers → set < 8 → get_or tx_buffers set other ≡ tx_buffer_at tx_buffers set
-tx_buffer_in planned tx_buffers set other are few = get_or_default tx_buffers set other _ (omega (arith, are.all))
-
--- a new transmit buffer at the end
-pub new_tx_buffer : (planned : Planned) (count : ℕ) (tx_buffers : List IubTxBuffer) (tx_buffer : IubTxBuffer) → AreNewTxBuffers planned count tx_buffers → IsTxBufferOf planned count tx_buffer → tx_buffer.sent ≡ None
-    → AreNewTxBuffers planned (count + 1) (tx_buffers ++ tx_buffer ∷ [])
-new_tx_buffer planned count tx_buffers tx_buffer are is quiet =
-    let own : tx_buffer_at (tx_buffers ++ tx_buffer ∷ []) count ≡ tx_buffer = get_or_push tx_buffers tx_buffer _ count are.all in
-    let others : (s : ℕ) → s < count → tx_buffer_at (tx_buffers ++ tx_buffer ∷ []) s ≡ tx_buffer_at tx_buffers s =
-    (λ s early. get_or_append_left tx_buffers (tx_buffer ∷ []) _ s (omega (arith, are.all))) in
-    record {
-      all = omega (arith, length-append tx_buffers (tx_buffer ∷ []), are.all);
-      each = λ s early. elim (eqb_tells s count) [
-        | inl same ↦ subst (λ n. IsTxBufferOf planned n (tx_buffer_at (tx_buffers ++ tx_buffer ∷ []) n)) (sym same.1) (subst (λ (l : IubTxBuffer). IsTxBufferOf planned count l) (sym own) is)
-        | inr other ↦ (let apart : s ≢ count = other.1 in let less : s < count = omega arith in subst (λ (l : IubTxBuffer). IsTxBufferOf planned s l) (sym (others s less)) (are.each s less))
-      ];
-      quiet = λ s early. elim (eqb_tells s count) [
-        | inl same ↦ ap (λ n. (tx_buffer_at (tx_buffers ++ tx_buffer ∷ []) n).sent) same.1 ∙ ap (λ (l : IubTxBuffer). l.sent) own ∙ quiet
-        | inr other ↦ (let apart : s ≢ count = other.1 in let less : s < count = omega arith in ap (λ (l : IubTxBuffer). l.sent) (others s less) ∙ are.quiet s less)
-      ];
-    }

@@ -1,9 +1,6 @@
 pub mod Moves
-pub mod Octets
 pub mod Opened
-pub mod Rooms
 pub mod Same
-pub mod Sending
 pub mod Standing
 pub mod State
 pub mod Steps

@@ -1,5 +1,5 @@
 -- What the parts of a Node B do in a step, each by itself.
-use Rattle.std.specs.Prelude.{◌≡◌, ◌≢◌, ◌<◌, ◌≤◌, ◌*◌, ◌%◌, ◌⊎◌, ◌++◌, ℕ, List, [], ◌∷◌, Option, Some, None, true, false, length, slice_index}
+use Rattle.std.specs.Prelude.{◌≡◌, ◌≢◌, ◌<◌, ◌≤◌, ◌*◌, ◌%◌, ◌⊎◌, ℕ, List, [], ◌∷◌, Option, Some, None, true, false, length, slice_index}
 use Rattle.dch_types.specs.declared.channel.Dir.TheVariants.{Down, Up}
 use Rattle.dch_types.specs.declared.channel.Side.{Side}
 use Rattle.dch_types.specs.declared.config.Config.{Config}
@@ -16,14 +16,17 @@ use Rattle.dch_iub.specs.Answers.{IsCause}
 use Rattle.dch_iub.specs.Forms.{IsReadForm}
 use Rattle.dch_iub.specs.declared.error.IubError.{IubError}
 use Rattle.dch_script.specs.Held.{Held as Text}
-use Rattle.dch_nodeb.specs.Opened.{AreTxBuffersOf, AreRxBuffersOf, IsTxBufferOf, IsReceiverOf, IsTransmitterOf}
+use Rattle.dch_txframes.specs.Opened.{AreTxBuffersOf, IsTxBufferOf}
+use Rattle.dch_txframes.specs.Reports.{added}
+use Rattle.dch_txframes.specs.Values.{IubTxBuffer, radio_sent, tx_buffer_at}
+use Rattle.dch_nodeb.specs.Opened.{AreRxBuffersOf, IsReceiverOf, IsTransmitterOf}
 use Rattle.dch_types.specs.Timing.{set_frames, starts}
 use Rattle.dch_node.specs.Values.{Radio}
 use Rattle.dch_node.specs.RxFrames.{KeepsRadio}
 use Rattle.dch_node.specs.Lines.{IubBad, Line, joined, text_of}
 use Rattle.dch_node.specs.IubFrames.{refusal_number}
 use Rattle.dch_nodeb.specs.Steps.{DeliversSet, radio_line}
-use Rattle.dch_nodeb.specs.Values.{IubTxBuffer, IubRxBuffer, UplinkReceiver, DownlinkTransmitter, tx_buffer_at, rx_buffer_at, radio_if}
+use Rattle.dch_nodeb.specs.Values.{IubRxBuffer, UplinkReceiver, DownlinkTransmitter, rx_buffer_at}
 
 -- receive buffers for the first sets, with idle formats and no frame
 pub record AreNewRxBuffers (planned : Planned) (count : ℕ) (rx_buffers : List IubRxBuffer) : Type 0 where
@@ -56,7 +59,7 @@ pub record Keeps (planned : Planned) (set : ℕ) (octets : List ℕ) (old new : 
   pub lines : List Line
   pub few : length (text_of lines) ≤ 300
   pub took : IsTaken planned set octets (rx_buffer_at new set) lines ⊎ IsRefused planned set octets (rx_buffer_at old set) (rx_buffer_at new set) lines
-  pub reported : after ≡ record before { text = before.text ++ text_of lines }
+  pub reported : after ≡ added before lines
 
 -- a receive buffer is ready for a TTI that starts at a CFN: it has the blocks of its frame where that is the one of this CFN, and else of the
 -- idle formats; and it is empty
@@ -87,7 +90,7 @@ pub record Loads (planned : Planned) (channel : ℕ) (held : Held) (old new : Do
   pub opened : IsTransmitterOf planned new
   pub given : IsGiven planned channel held new
   pub others : (i : ℕ) → i ≢ channel → IsUntouched i old new
-  pub sent : new.sent ≡ old.sent
+  pub sent : new.radio.sent ≡ old.radio.sent
 
 -- the first channels whose TTI starts were loaded with the blocks of the receive buffers, and no other ones
 pub record AreGiven (planned : Planned) (cfn count : ℕ) (rx_buffers : List IubRxBuffer) (old new : DownlinkTransmitter) : Type 0 where
@@ -96,7 +99,7 @@ pub record AreGiven (planned : Planned) (cfn count : ℕ) (rx_buffers : List Iub
       → IsGiven planned i (held_at (rx_buffer_at rx_buffers (channel_at planned.config.downlink.side i).set).held.blocks i) new
   pub off : (i : ℕ) → i < count → starts (channel_at planned.config.downlink.side i).frames cfn ≡ false → IsUntouched i old new
   pub later : (i : ℕ) → count ≤ i → IsUntouched i old new
-  pub sent : new.sent ≡ old.sent
+  pub sent : new.radio.sent ≡ old.radio.sent
 
 -- the channels are noted in the formats of combination c
 abbrev pub RunsIn : Side → ℕ → List ℕ → Type 0
@@ -134,9 +137,9 @@ pub record Sends (planned : Planned) (cfn : ℕ) (old new : DownlinkTransmitter)
   pub opened : IsTransmitterOf planned new
   pub running : new.running ≡ old.running
   pub formats : new.formats ≡ old.formats
-  pub writes : Writes planned cfn old (radio_if new.sent new.frame)
-  pub few : length (text_of (radio_line (radio_if new.sent new.frame) ∷ [])) ≤ 60000
-  pub reported : after ≡ record before { text = before.text ++ text_of (radio_line (radio_if new.sent new.frame) ∷ []) }
+  pub writes : Writes planned cfn old (radio_sent new.radio)
+  pub few : length (text_of (radio_line (radio_sent new.radio) ∷ [])) ≤ 60000
+  pub reported : after ≡ added before (radio_line (radio_sent new.radio) ∷ [])
 
 -- the radio frame of the CFN is due: receive buffers are made ready, the channels that start are loaded, and the frame is sent
 pub record Transmits (planned : Planned) (cfn : ℕ) (old new : List IubRxBuffer) (transmitter sent : DownlinkTransmitter) (before after : Text) : Type 0 where
@@ -156,8 +159,8 @@ pub record Delivered (planned : Planned) (rx_frames : RxFrames) (set : ℕ) (tx_
   pub lines : List Line
   pub few : length (text_of lines) ≤ 300000
   pub serves : DeliversSet planned rx_frames set lines tx_buffer.sent
-  pub reported : after ≡ record before { text = before.text ++ text_of lines }
-  pub tx_buffer_opened : IsTxBufferOf planned set tx_buffer
+  pub reported : after ≡ added before lines
+  pub tx_buffer_opened : IsTxBufferOf planned Up set tx_buffer
   pub receiver_opened : IsReceiverOf planned receiver
   pub same : receiver.rx_frames ≡ rx_frames
 
@@ -167,8 +170,8 @@ pub record AreDelivered (planned : Planned) (rx_frames : RxFrames) (count : ℕ)
   pub sets : (s : ℕ) → s < count → DeliversSet planned rx_frames s (lines s) (tx_buffer_at tx_buffers s).sent
   pub later : (s : ℕ) → count ≤ s → s < 8 → (tx_buffer_at tx_buffers s).sent ≡ None
   pub few : length (text_of (joined lines count)) ≤ count * 300000
-  pub reported : after ≡ record before { text = before.text ++ text_of (joined lines count) }
-  pub tx_buffers_opened : AreTxBuffersOf planned tx_buffers
+  pub reported : after ≡ added before (joined lines count)
+  pub tx_buffers_opened : AreTxBuffersOf planned Up tx_buffers
   pub receiver_opened : IsReceiverOf planned receiver
   pub same : receiver.rx_frames ≡ rx_frames
 
@@ -176,9 +179,3 @@ pub record AreDelivered (planned : Planned) (rx_frames : RxFrames) (count : ℕ)
 pub record Receives (planned : Planned) (cfn : ℕ) (radio : Option Radio) (old : RxFrames) (tx_buffers : List IubTxBuffer) (receiver : UplinkReceiver) (before after : Text) : Type 0 where
   pub hears : Hears planned cfn radio old receiver.rx_frames
   pub served : AreDelivered planned receiver.rx_frames 8 tx_buffers receiver before after
-
--- the transmit buffers of the first sets are new
-pub record AreNewTxBuffers (planned : Planned) (count : ℕ) (tx_buffers : List IubTxBuffer) : Type 0 where
-  pub all : length tx_buffers ≡ count
-  pub each : (s : ℕ) → s < count → IsTxBufferOf planned s (tx_buffer_at tx_buffers s)
-  pub quiet : (s : ℕ) → s < count → (tx_buffer_at tx_buffers s).sent ≡ None

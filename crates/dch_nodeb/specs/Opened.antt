@@ -2,14 +2,13 @@
 use Rattle.std.specs.Prelude.{◌≡◌, ◌<◌, ℕ, List, Some, length, slice_index}
 use Rattle.dch_types.specs.declared.channel.Dir.TheVariants.{Up, Down}
 use Rattle.dch_accept.specs.Blocks.{HoldsTtis}
-use Rattle.dch_accept.specs.Frames.{IsOpenedFor}
 use Rattle.dch_accept.specs.HeldSets.{IsSetOf}
 use Rattle.dch_accept.specs.Plans.{Planned}
 use Rattle.dch_rxframes.specs.RxFrames.{IsReaderOf}
 use Rattle.dch_ttibuf.specs.Loaded.{Loaded, loaded_at}
 use Rattle.dch_dlphy.specs.Loaded.{IsTtiOf}
-use Rattle.dch_iub.specs.Longest.{IsLongest}
-use Rattle.dch_nodeb.specs.Values.{IubTxBuffer, Node, IubRxBuffer, UplinkReceiver, DownlinkTransmitter, tx_buffer_at, rx_buffer_at}
+use Rattle.dch_txframes.specs.Opened.{AreTxBuffersOf, IsRadioTxOf}
+use Rattle.dch_nodeb.specs.Values.{Node, IubRxBuffer, UplinkReceiver, DownlinkTransmitter, rx_buffer_at}
 
 -- a receive buffer for each set, which is one of that set
 pub record AreRxBuffersOf (planned : Planned) (rx_buffers : List IubRxBuffer) : Type 0 where
@@ -19,7 +18,7 @@ pub record AreRxBuffersOf (planned : Planned) (rx_buffers : List IubRxBuffer) : 
 -- what sends radio frames fits the downlink
 pub record IsTransmitterOf (planned : Planned) (transmitter : DownlinkTransmitter) : Type 0 where
   pub running : IsTtiOf planned transmitter.running
-  pub frame : IsOpenedFor planned.config Down transmitter.frame
+  pub radio : IsRadioTxOf planned Down transmitter.radio
   pub eight : length transmitter.formats ≡ 8
 
 -- the noted formats are those that are loaded
@@ -32,20 +31,10 @@ pub record IsReceiverOf (planned : Planned) (receiver : UplinkReceiver) : Type 0
   pub rx_frames : IsReaderOf planned Up receiver.rx_frames
   pub tti : HoldsTtis planned.config.uplink.side receiver.tti.room
 
--- an Iub frame of a set, with room for the longest one
-pub record IsTxBufferOf (planned : Planned) (set : ℕ) (tx_buffer : IubTxBuffer) : Type 0 where
-  pub held : IsSetOf planned.config Up set tx_buffer.held
-  pub room : IsLongest planned.config Up set tx_buffer.room
-
--- one for each set
-pub record AreTxBuffersOf (planned : Planned) (tx_buffers : List IubTxBuffer) : Type 0 where
-  pub all : length tx_buffers ≡ 8
-  pub each : (s : ℕ) → s < 8 → IsTxBufferOf planned s (tx_buffer_at tx_buffers s)
-
 -- all parts were opened for the configuration
 pub record IsNodeOf (planned : Planned) (node : Node) : Type 0 where
   pub rx_buffers : AreRxBuffersOf planned node.rx_buffers
   pub transmitter : IsTransmitterOf planned node.transmitter
   pub noted : AreNoted planned node.transmitter.formats node.transmitter.running
   pub receiver : IsReceiverOf planned node.receiver
-  pub tx_buffers : AreTxBuffersOf planned node.tx_buffers
+  pub tx_buffers : AreTxBuffersOf planned Up node.tx_buffers

@@ -3,7 +3,6 @@ use Rattle.std.specs.Prelude.{◌≡◌, ◌<◌, ℕ, List, Option, Some, None,
 use Rattle.dch_types.specs.declared.channel.Dir.TheVariants.{Up}
 use Rattle.dch_types.specs.declared.channel.Side.{Side}
 use Rattle.dch_types.specs.Timing.{has_set}
-use Rattle.dch_accept.specs.declared.frame.FrameView.{FrameView}
 use Rattle.dch_accept.specs.Plans.{Planned}
 use Rattle.dch_rxframes.specs.RxFrames.{HasTfci, rx_frame_at}
 use Rattle.dch_iub.specs.Shape.{ForSet}
@@ -11,17 +10,13 @@ use Rattle.dch_nodeb.specs.declared.event.NodeBEvent.{NodeBEvent}
 use Rattle.dch_nodeb.specs.declared.event.NodeBEvent.TheVariants.{Iub, Down as Due, Phy}
 use Rattle.dch_node.specs.Lines.{Line}
 use Rattle.dch_node.specs.Standing.{HasHistory, HasLongerHistory, TakesStep}
-use Rattle.dch_node.specs.Values.{Output, Radio}
+use Rattle.dch_node.specs.Values.{Output}
+use Rattle.dch_txframes.specs.Lending.{radio_of}
 use Rattle.dch_nodeb.specs.State.{Event, IubFrame, DownlinkDue, UplinkFrame, DownlinkIubFrame, State, opened_state}
 use Rattle.dch_node.specs.RxFrames.{KeepsRadio}
 use Rattle.dch_node.specs.IubFrames.{blocks_at}
 use Rattle.dch_nodeb.specs.Steps.{AreAllLoaded, Steps}
 use Rattle.dch_nodeb.specs.Values.{Node, IubRxBuffer, iub_shown, rx_buffer_at, radio_shown}
-
--- a radio frame that is lent, as plain lists
-abbrev pub radio_of : Option FrameView → Option Radio
-radio_of None = None
-radio_of (Some frame) = Some (record { tfci = frame.tfci.now; cells = frame.cells.now })
 
 -- what happens, as plain lists
 abbrev pub event_of : NodeBEvent → Event
@@ -55,7 +50,7 @@ pub record Shows (output : Output) (node : Node) : Type 0 where
 
 -- nothing is shown as sent
 pub record NothingSent (node : Node) : Type 0 where
-  pub radio : node.transmitter.sent ≡ false
+  pub radio : node.transmitter.radio.sent ≡ false
   pub iub : (s : ℕ) → s < 8 → iub_shown node s ≡ None
 
 -- a step was taken from a state, and the report went on by the text of its lines

@@ -1,7 +1,7 @@
 ghost use Rattle.std.specs.Prelude.{length};
 ghost use Rattle.dch_nodeb.specs.Moves.{AreGiven, Transmits};
 ghost use Rattle.dch_nodeb.specs.Opened.{AreNoted, AreRxBuffersOf, IsTransmitterOf};
-ghost use Rattle.dch_nodeb.specs.Rooms.{HasRoomFor};
+ghost use Rattle.dch_txframes.specs.Rooms.{HasRoomFor};
 
 use crate::iub_rx_buffer::{IubRxBuffer, blocks_of, ready};
 use crate::transmitter::DownlinkTransmitter;

@@ -5,15 +5,15 @@ ghost use Rattle.dch_accept.specs.HeldSets.{IsIdleSet, IsSetOf, held_at};
 ghost use Rattle.dch_iub.specs.Answers.{IsCause};
 ghost use Rattle.dch_nodeb.specs.Moves.{AreNewRxBuffers, AreReady, IsFilled, IsReady, Keeps};
 ghost use Rattle.dch_nodeb.specs.Opened.{AreRxBuffersOf};
-ghost use Rattle.dch_nodeb.specs.Rooms.{HasRoomFor};
+ghost use Rattle.dch_txframes.specs.Rooms.{HasRoomFor};
 ghost use Rattle.dch_nodeb.specs.Values.{rx_buffer_at};
 
-use crate::report::put_refusal;
-use crate::sets::{SETS, rx_buffer_of};
+use crate::sets::rx_buffer_of;
 use dch_accept::{Accepted, SetBlocks, TtiBlocks};
 use dch_bits::NoMemory;
 use dch_iub::{IubError, read_dl};
 use dch_script::Report;
+use dch_txframes::{SETS, put_refusal};
 use dch_types::{Dir, starts};
 use std::alloc::Global;
 use std::marker::Model;
@@ -113,7 +113,7 @@ pub fn keep(
 {
     match rx_buffers[rx_buffer_of(accepted, set)].keep(accepted, set, frame) {
         Ok(()) => {}
-        Err(error) => put_refusal(report, set, error),
+        Err(error) => put_refusal(report, Dir::Down, set, error),
     }
 }
 

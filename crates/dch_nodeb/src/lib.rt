@@ -4,11 +4,9 @@
 mod downlink;
 mod event;
 mod iub_rx_buffer;
-mod iub_tx_buffer;
 mod laws;
 mod node;
 mod receiver;
-mod report;
 mod sets;
 mod transmitter;
 mod uplink;

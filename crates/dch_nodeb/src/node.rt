@@ -5,22 +5,22 @@ ghost use Rattle.dch_accept.specs.Reports.{step_bytes};
 ghost use Rattle.dch_rxframes.specs.RxFrames.{HasTfci};
 ghost use Rattle.dch_node.specs.Lines.{Line};
 ghost use Rattle.dch_nodeb.specs.Opened.{IsNodeOf};
-ghost use Rattle.dch_nodeb.specs.Rooms.{HasRoomFor};
-ghost use Rattle.dch_nodeb.specs.Sending.{octets_of};
-ghost use Rattle.dch_nodeb.specs.Standing.{NothingSent, MayCome, Represents, RepresentsHistory, Stepped, ExtendsHistory, event_of, radio_of};
+ghost use Rattle.dch_txframes.specs.Rooms.{HasRoomFor};
+ghost use Rattle.dch_txframes.specs.Lending.{octets_of, radio_of};
+ghost use Rattle.dch_nodeb.specs.Standing.{NothingSent, MayCome, Represents, RepresentsHistory, Stepped, ExtendsHistory, event_of};
 ghost use Rattle.dch_nodeb.specs.State.{IubFrame, UplinkFrame, Event, DownlinkDue, State};
 ghost use Rattle.dch_nodeb.specs.Values.{iub_shown, radio_shown};
 
 use crate::downlink::{load, transmit};
 use crate::event::NodeBEvent;
 use crate::iub_rx_buffer::{IubRxBuffer, keep, rx_buffers};
-use crate::iub_tx_buffer::{IubTxBuffer, clear_sent, tx_buffers};
 use crate::receiver::UplinkReceiver;
 use crate::transmitter::DownlinkTransmitter;
 use crate::uplink::receive;
 use dch_accept::{Accepted, FrameView};
 use dch_bits::NoMemory;
 use dch_script::Report;
+use dch_txframes::{IubTxBuffer, clear_sent, tx_buffers};
 use dch_types::Dir;
 use std::alloc::Global;
 use std::marker::Model;
@@ -64,7 +64,7 @@ impl NodeB {
             rx_buffers,
             transmitter,
             receiver: UplinkReceiver::open(alloc, accepted)?,
-            tx_buffers: tx_buffers(alloc, accepted)?,
+            tx_buffers: tx_buffers(alloc, accepted, Dir::Up)?,
         })
     }
 

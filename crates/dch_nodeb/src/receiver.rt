@@ -8,7 +8,7 @@ ghost use Rattle.dch_ulphy.specs.Read.{IsTtiRead};
 ghost use Rattle.dch_rxframes.specs.RxFrames.{AreMissing, HasTfci};
 ghost use Rattle.dch_nodeb.specs.Moves.{Hears};
 ghost use Rattle.dch_nodeb.specs.Opened.{IsReceiverOf};
-ghost use Rattle.dch_nodeb.specs.Standing.{radio_of};
+ghost use Rattle.dch_txframes.specs.Lending.{radio_of};
 ghost use Rattle.dch_nodeb.specs.Steps.{AreRead, IsBadTti};
 
 use dch_accept::{Accepted, FrameView, SetBlocks, TtiBlocks};

@@ -4,9 +4,6 @@ ghost use Rattle.dch_types.specs.Timing.{has_set};
 use dch_accept::Accepted;
 use dch_types::Dir;
 
-/// How many sets there may be in a direction.
-pub const SETS: u8 = 8;
-
 /// The receive buffer of a set that the downlink has.
 pub fn rx_buffer_of(accepted: &Accepted, set: u8) -> usize
     requires { has_set accepted.now.config.downlink.side set ≡ true }

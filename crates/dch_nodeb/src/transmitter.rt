@@ -4,15 +4,15 @@ ghost use Rattle.dch_types.specs.Parts.{channel_at};
 ghost use Rattle.dch_accept.specs.HeldSets.{HasFormat};
 ghost use Rattle.dch_nodeb.specs.Moves.{FindsFirst, IsFirst, Loads, RunsIn, Sends};
 ghost use Rattle.dch_nodeb.specs.Opened.{AreNoted, IsTransmitterOf};
-ghost use Rattle.dch_nodeb.specs.Rooms.{HasRoomFor};
-ghost use Rattle.dch_nodeb.specs.Standing.{radio_of};
-ghost use Rattle.dch_nodeb.specs.Values.{radio_if};
+ghost use Rattle.dch_txframes.specs.Rooms.{HasRoomFor};
+ghost use Rattle.dch_txframes.specs.Lending.{radio_of};
+ghost use Rattle.dch_txframes.specs.Values.{radio_sent};
 
-use crate::report::{put_no_radio, put_radio};
-use dch_accept::{Accepted, FrameView, PhyFrame, TtiBlocks};
+use dch_accept::{Accepted, FrameView, TtiBlocks};
 use dch_bits::NoMemory;
 use dch_dlphy::{DlTti, write};
 use dch_script::Report;
+use dch_txframes::{RadioTxBuffer, put_no_radio, put_radio};
 use dch_types::{Dir, Side};
 use std::alloc::Global;
 use std::marker::Model;
@@ -23,8 +23,7 @@ use std::marker::Model;
 pub struct DownlinkTransmitter {
     tti: DlTti,
     formats: [u8; 8],
-    frame: PhyFrame,
-    sent: bool,
+    radio: RadioTxBuffer,
 }
 
 impl Model for DownlinkTransmitter {
@@ -32,39 +31,34 @@ impl Model for DownlinkTransmitter {
 
     ghost Value = { DownlinkTransmitter };
 
-    ghost view = { λ s. record { running = s.tti; formats = s.formats; frame = s.frame; sent = s.sent } };
+    ghost view = { λ s. record { running = s.tti; formats = s.formats; radio = s.radio } };
 }
 
 impl DownlinkTransmitter {
     /// Takes all memory that sending wants. Nothing is loaded or sent.
     pub fn open(alloc: Global, accepted: &Accepted) -> Result<DownlinkTransmitter, NoMemory>
         ensures opened { IfOk result (IsTransmitterOf accepted.now) }
-        ensures quiet { IfOk result (λ transmitter. transmitter.sent ≡ false) }
+        ensures quiet { IfOk result (λ transmitter. transmitter.radio.sent ≡ false) }
     {
         Ok(DownlinkTransmitter {
             tti: DlTti::open(alloc, accepted)?,
             formats: [0; 8],
-            frame: PhyFrame::open(alloc, accepted, Dir::Down)?,
-            sent: false,
+            radio: RadioTxBuffer::open(alloc, accepted, Dir::Down)?,
         })
     }
 
     /// The radio frame that was sent last, unless it is hidden.
     pub fn view(&self) -> Option<FrameView<'_>>
-        ensures { radio_of result ≡ radio_if self.now.sent self.now.frame }
+        ensures { radio_of result ≡ radio_sent self.now.radio }
     {
-        if self.sent {
-            Some(self.frame.view())
-        } else {
-            None
-        }
+        self.radio.view()
     }
 
     /// Hides the last radio frame.
     pub fn clear_sent(&mut self)
-        ensures { self.new ≡ record self.old { sent = false } }
+        ensures { self.new ≡ record self.old { radio = record self.old.radio { sent = false } } }
     {
-        self.sent = false;
+        self.radio.clear_sent();
     }
 
     /// Loads the blocks of a channel for the TTI that starts.
@@ -91,7 +85,7 @@ impl DownlinkTransmitter {
         match first_combination(accepted.side(Dir::Down), &self.formats) {
             Some(combination) => self.write(accepted, cfn, combination, report),
             None => {
-                self.sent = false;
+                self.radio.clear_sent();
                 put_no_radio(report);
             }
         }
@@ -107,9 +101,9 @@ impl DownlinkTransmitter {
     {
         // A frame has at most 57,240 cells in a good configuration.
         let _config = accepted.config();
-        write(accepted, &self.tti, cfn, combination, &mut self.frame);
-        self.sent = true;
-        put_radio(report, self.frame.view());
+        write(accepted, &self.tti, cfn, combination, &mut self.radio.frame);
+        self.radio.sent = true;
+        put_radio(report, Dir::Down, self.radio.frame.view());
     }
 }
 

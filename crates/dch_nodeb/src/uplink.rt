@@ -1,18 +1,43 @@
-ghost use Rattle.std.specs.Prelude.{◌≡◌, ◌<◌, ℕ, None};
+ghost use Rattle.std.specs.Prelude.{◌≡◌, ◌<◌, ℕ, None, true};
 ghost use Rattle.dch_types.specs.declared.channel.Dir.TheVariants.{Up};
+ghost use Rattle.dch_types.specs.Timing.{ends, set_frames, started};
 ghost use Rattle.dch_rxframes.specs.RxFrames.{HasTfci};
 ghost use Rattle.dch_nodeb.specs.Moves.{Receives, Delivered};
-ghost use Rattle.dch_nodeb.specs.Opened.{AreTxBuffersOf, IsTxBufferOf, IsReceiverOf};
-ghost use Rattle.dch_nodeb.specs.Rooms.{HasRoomFor};
-ghost use Rattle.dch_nodeb.specs.Standing.{radio_of};
-ghost use Rattle.dch_nodeb.specs.Values.{tx_buffer_at};
+ghost use Rattle.dch_nodeb.specs.Opened.{IsReceiverOf};
+ghost use Rattle.dch_txframes.specs.Opened.{AreTxBuffersOf, IsTxBufferOf};
+ghost use Rattle.dch_txframes.specs.Rooms.{HasRoomFor};
+ghost use Rattle.dch_txframes.specs.Lending.{radio_of};
+ghost use Rattle.dch_txframes.specs.Values.{tx_buffer_at};
 
-use crate::iub_tx_buffer::IubTxBuffer;
 use crate::receiver::UplinkReceiver;
-use crate::sets::SETS;
 use dch_accept::{Accepted, FrameView};
 use dch_script::Report;
+use dch_txframes::{IubTxBuffer, SETS, put_bad_tti};
 use dch_types::{Dir, ends, started};
+
+/// Reads the TTIs of a set, which the last radio frame ends, and sends their blocks in an Iub frame with the CFN at which the
+/// TTI started (TS 25.427 6.2). Where a channel can't be read, that is reported, and no frame is sent.
+fn send_set(
+    accepted: &Accepted,
+    set: u8,
+    start: u8,
+    receiver: &mut UplinkReceiver,
+    tx_buffer: &mut IubTxBuffer,
+    report: &mut Report,
+)
+    requires receiver { IsReceiverOf accepted.now receiver.old }
+    requires tx_buffer { IsTxBufferOf accepted.now Up set tx_buffer.old }
+    requires quiet { tx_buffer.old.sent ≡ None }
+    requires over { ends (set_frames accepted.now.config.uplink.side set) receiver.old.rx_frames.cfn ≡ true }
+    requires start { start ≡ started (set_frames accepted.now.config.uplink.side set) receiver.old.rx_frames.cfn }
+    requires room { HasRoomFor report.old 300000 }
+    ensures { Delivered accepted.now receiver.old.rx_frames set tx_buffer.new receiver.new report.old report.new }
+{
+    match receiver.read_set(accepted, set, tx_buffer.blocks_mut()) {
+        Ok(()) => tx_buffer.send(accepted, Dir::Up, set, start, report),
+        Err(bad) => put_bad_tti(report, Dir::Up, bad.channel, bad.frame),
+    }
+}
 
 /// Serves a set: where its TTI ends with the radio frame of the CFN, its Iub frame is sent.
 fn deliver_set(
@@ -25,14 +50,21 @@ fn deliver_set(
 )
     requires last { receiver.old.rx_frames.cfn ≡ cfn }
     requires receiver { IsReceiverOf accepted.now receiver.old }
-    requires tx_buffer { IsTxBufferOf accepted.now set tx_buffer.old }
+    requires tx_buffer { IsTxBufferOf accepted.now Up set tx_buffer.old }
     requires quiet { tx_buffer.old.sent ≡ None }
     requires room { HasRoomFor report.old 300000 }
     ensures { Delivered accepted.now receiver.old.rx_frames set tx_buffer.new receiver.new report.old report.new }
 {
     let frames = accepted.side(Dir::Up).set_frames(set);
     if ends(frames, cfn) {
-        tx_buffer.deliver_set(accepted, set, started(frames, cfn), receiver, report);
+        send_set(
+            accepted,
+            set,
+            started(frames, cfn),
+            receiver,
+            tx_buffer,
+            report,
+        );
     }
 }
 
@@ -46,7 +78,7 @@ pub fn receive(
     report: &mut Report,
 )
     requires receiver { IsReceiverOf accepted.now receiver.old }
-    requires tx_buffers { AreTxBuffersOf accepted.now tx_buffers.old }
+    requires tx_buffers { AreTxBuffersOf accepted.now Up tx_buffers.old }
     requires quiet { (s : ℕ) → s < 8 → (tx_buffer_at tx_buffers.old s).sent ≡ None }
     requires tfci { HasTfci accepted.now Up frame }
     requires room { HasRoomFor report.old 2400000 }

@@ -1,9 +1,11 @@
 use Rattle.std.proofs.Common.{sym, subst}
+use Rattle.dch_types.specs.declared.channel.Dir.TheVariants.{Up}
 use Rattle.dch_rxframes.specs.RxFrames.{RxFrames}
 use Rattle.dch_nodeb.specs.Moves.{Delivered}
-use Rattle.dch_nodeb.specs.Opened.{IsTxBufferOf}
-use Rattle.dch_nodeb.specs.Values.{IubTxBuffer}
-use Rattle.dch_nodeb.proofs.Serving.{tx_buffer_in, none_served, served_next}
+use Rattle.dch_txframes.specs.Opened.{IsTxBufferOf}
+use Rattle.dch_txframes.specs.Values.{IubTxBuffer}
+use Rattle.dch_txframes.proofs.Sending.{tx_buffer_in}
+use Rattle.dch_nodeb.proofs.Serving.{none_served, served_next}
 use Rattle.dch_nodeb.proofs.uplink.receive.Goals as goal
 
 pub loop-set-init : goal.loop-set-init
@@ -11,8 +13,8 @@ loop-set-init c = none_served c.args.accepted.now c.args.tx_buffers.now c.push.n
 
 pub deliver_set-requires-clause-tx_buffer : goal.deliver_set-requires-clause-tx_buffer
 deliver_set-requires-clause-tx_buffer c =
-    subst (λ (l : IubTxBuffer). IsTxBufferOf c.args.accepted.now c.loop-set.set l)
-    (sym (tx_buffer_in c.args.accepted.now c.loop-set.tx_buffers c.loop-set.set c.index-tx_buffers-set.result c.loop-set.invariant.tx_buffers_opened c.loop-set-test.true))
+    subst (λ (l : IubTxBuffer). IsTxBufferOf c.args.accepted.now Up c.loop-set.set l)
+    (sym (tx_buffer_in c.args.accepted.now Up c.loop-set.tx_buffers c.loop-set.set c.index-tx_buffers-set.result c.loop-set.invariant.tx_buffers_opened c.loop-set-test.true))
     (c.loop-set.invariant.tx_buffers_opened.each c.loop-set.set c.loop-set-test.true)
 
 pub loop-set-preserved : goal.loop-set-preserved

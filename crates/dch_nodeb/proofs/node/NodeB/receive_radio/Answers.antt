@@ -1,9 +1,11 @@
 use Rattle.std.proofs.Common.{◌+◌, ◌∙◌, List, sym, subst}
 use Rattle.std.specs.Prelude.{◌%◌}
 use Rattle.std.proofs.lemmas.List.{with_items_is}
-use Rattle.dch_nodeb.specs.Standing.{NothingSent, Represents, Stepped, radio_of}
+use Rattle.dch_nodeb.specs.Standing.{NothingSent, Represents, Stepped}
+use Rattle.dch_txframes.specs.Lending.{radio_of}
 use Rattle.dch_nodeb.specs.State.{UplinkFrame}
-use Rattle.dch_nodeb.specs.Values.{IubTxBuffer, Node}
+use Rattle.dch_nodeb.specs.Values.{Node}
+use Rattle.dch_txframes.specs.Values.{IubTxBuffer}
 use Rattle.dch_nodeb.specs.contracts.node.NodeB.{the_view}
 use Rattle.dch_nodeb.proofs.Receiving.{received}
 use Rattle.dch_nodeb.proofs.node.NodeB.receive_radio.Goals as goal

@@ -1,10 +1,11 @@
-use Rattle.std.proofs.Common.{◌∙◌, length, ap}
+use Rattle.std.proofs.Common.{◌≤◌, ◌∙◌, List, length, arith, ap}
 use Rattle.dch_bits.specs.declared.bit.Trit.{Trit}
-use Rattle.std.proofs.Common.{List}
-use Rattle.dch_nodeb.proofs.Lengths.{cells-le}
+use Rattle.dch_txframes.proofs.Lengths.{cells-le}
 use Rattle.dch_nodeb.proofs.transmitter.DownlinkTransmitter.write.Goals as goal
 
 pub put_radio-requires-clause-cells : goal.put_radio-requires-clause-cells
 put_radio-requires-clause-cells c =
+    let few : length c.view.result.cells.now ≤ 57240 =
     cells-le c.config-config.result.now c.args.accepted.now.config c.view.result.cells.now c.config-config.ensures.good.downlink c.config-config.ensures.value
-    (ap (λ (cells : List Trit). length cells) c.view.ensures.cells ∙ c.write.ensures.written.long)
+    (ap (λ (cells : List Trit). length cells) c.view.ensures.cells ∙ c.write.ensures.written.long) in
+    omega (arith, few)
