@@ -16,8 +16,9 @@ use Rattle.dch_iub.specs.Forms.{ArePadded, IsWrittenForm, StandAt}
 use Rattle.dch_iub.specs.Shape.{ForSet, blocks_place}
 use Rattle.dch_iub.proofs.OneWriting.{written_one}
 use Rattle.dch_layer.specs.Layers.{Given, Layer}
+use Rattle.dch_layer2.specs.Joined.{joined_bits}
 use Rattle.dch_rnc.specs.Moves.{IsSameBlocks}
-use Rattle.dch_rnc.specs.Steps.{IsDownlinkFrame, IsSent, joined_bits}
+use Rattle.dch_rnc.specs.Steps.{IsDownlinkFrame, IsSent}
 
 -- blocks of one format with the same bits have as many blocks of one size
 same_count : (channel : Trch) (held again : Held) → HasFormat channel held → HasFormat channel again → IsSameBlocks held again → length again.good ≡ length held.good

@@ -1,10 +1,7 @@
 pub mod Given
-pub mod Lengths
-pub mod Texts
 pub mod Filling
 pub mod Sending
 pub mod Taking
-pub mod Bounding
 pub mod Staying
 pub mod Going
 pub mod Moving

@@ -1,9 +1,11 @@
 -- The sets whose Iub frames are sent one after another.
-use Rattle.std.proofs.Common.{◌≡◌, ◌≢◌, ◌+◌, ◌<◌, ◌≤◌, ◌∙◌, ◌++◌, ℕ, zero, suc, List, [], ◌∷◌, length, get_or, arith, refl, ap, ap₂, sym, subst, inl, inr, true, false, Option, None, add-one, append-nil, length-append, get_or-set_same, get_or-set_other}
+use Rattle.std.proofs.Common.{◌≡◌, ◌≢◌, ◌+◌, ◌<◌, ◌≤◌, ◌∙◌, ◌++◌, ℕ, zero, suc, List, length, arith, refl, ap, ap₂, sym, subst, inl, inr, true, false, Option, None, add-one, append-nil, length-append, get_or-set_same, get_or-set_other}
 use Rattle.std.specs.Prelude.{slice_set}
 use Rattle.std.proofs.lemmas.Bool.Decides.{eqb_tells}
-use Rattle.std.proofs.lemmas.List.{get_or_append_left, get_or_default, get_or_push, length-set}
+use Rattle.std.proofs.lemmas.List.{length-set}
+use Rattle.dch_types.specs.declared.channel.Dir.TheVariants.{Down}
 use Rattle.dch_types.specs.Timing.{set_frames, starts}
+use Rattle.dch_accept.specs.HeldSets.{HeldSet}
 use Rattle.dch_accept.specs.Plans.{Planned}
 use Rattle.dch_script.specs.Held.{Held as Text}
 use Rattle.dch_node.specs.Lines.{Line, text_of}
@@ -11,23 +13,25 @@ use Rattle.dch_node.proofs.Texts.{text_of-append}
 use Rattle.dch_bearer.specs.Reports.{added}
 use Rattle.dch_bearer.proofs.Lines.{added-added}
 use Rattle.dch_layer2.specs.Values.{LayerRunning}
-use Rattle.dch_rnc.specs.Moves.{AreNewTxBuffers, AreServed, Gives, SendsFrame, Serves, sent_of}
-use Rattle.dch_rnc.specs.Opened.{AreTxBuffersOf, IsTxBufferOf}
+use Rattle.dch_rnc.specs.Moves.{AreFilled, AreServed, Gives, Serves}
 use Rattle.dch_rnc.specs.Steps.{sent_line, sent_lines}
-use Rattle.dch_rnc.specs.Values.{IubTxBuffer, tx_buffer_at}
+use Rattle.dch_txframes.specs.Opened.{AreTxBuffersOf, IsTxBufferOf}
+use Rattle.dch_txframes.specs.Sending.{SendsFrame, sent_of}
+use Rattle.dch_txframes.specs.Values.{IubTxBuffer, tx_buffer_at}
 
 -- the frame of a set was sent
-pub set_sent : (planned : Planned) (cfn : ℕ) (v : LayerRunning) (set : ℕ) (new : IubTxBuffer) (before after : Text) → SendsFrame planned cfn v set new before after
+pub set_sent : (planned : Planned) (cfn : ℕ) (v : LayerRunning) (set : ℕ) (old new : IubTxBuffer) (before after : Text) → SendsFrame planned Down set cfn old new before after → AreFilled planned.config set v old.held
     → starts (set_frames planned.config.downlink.side set) cfn ≡ true → Serves planned cfn v set new before after
-set_sent planned cfn v set new before after sends on = record {
+set_sent planned cfn v set old new before after sends filled on = record {
   opened = sends.opened;
-  gives = subst (λ (o : Option (List ℕ)). Gives planned.config cfn v set o) (sym sends.sent) (on, sends.frame);
+  gives = subst (λ (o : Option (List ℕ)). Gives planned.config cfn v set o) (sym sends.sent)
+      (on, record { held = new.held; filled = subst (λ (h : HeldSet). AreFilled planned.config set v h) (sym sends.held) filled; whole = sends.whole; written = sends.written });
   few = subst (λ (o : Option (List ℕ)). length (text_of (sent_line set o)) ≤ 300000) (sym sends.sent) sends.few;
   reported = sends.reported ∙ ap (λ (o : Option (List ℕ)). added before (sent_line set o)) (sym sends.sent);
 }
 
 -- or its TTI is on
-pub set_waits : (planned : Planned) (cfn : ℕ) (v : LayerRunning) (set : ℕ) (tx_buffer : IubTxBuffer) (before : Text) → IsTxBufferOf planned set tx_buffer → tx_buffer.sent ≡ None
+pub set_waits : (planned : Planned) (cfn : ℕ) (v : LayerRunning) (set : ℕ) (tx_buffer : IubTxBuffer) (before : Text) → IsTxBufferOf planned Down set tx_buffer → tx_buffer.sent ≡ None
     → starts (set_frames planned.config.downlink.side set) cfn ≡ false → Serves planned cfn v set tx_buffer before before
 set_waits planned cfn v set tx_buffer before opened none off = record {
   opened = opened;
@@ -60,8 +64,8 @@ served_next planned cfn v set tx_buffers tx_buffer before now after are inside s
       opened = record {
         all = length-set tx_buffers set tx_buffer ∙ are.opened.all;
         each = λ s few. elim (eqb_tells s set) [
-          | inl same ↦ subst (λ k. IsTxBufferOf planned k (tx_buffer_at new k)) (sym same.1) (subst (λ (l : IubTxBuffer). IsTxBufferOf planned set l) (sym own) served.opened)
-          | inr other ↦ subst (λ (l : IubTxBuffer). IsTxBufferOf planned s l) (sym (others s other.1)) (are.opened.each s few)
+          | inl same ↦ subst (λ k. IsTxBufferOf planned Down k (tx_buffer_at new k)) (sym same.1) (subst (λ (l : IubTxBuffer). IsTxBufferOf planned Down set l) (sym own) served.opened)
+          | inr other ↦ subst (λ (l : IubTxBuffer). IsTxBufferOf planned Down s l) (sym (others s other.1)) (are.opened.each s few)
         ];
       };
       sets = λ s early. elim (eqb_tells s set) [
@@ -75,7 +79,7 @@ served_next planned cfn v set tx_buffers tx_buffer before now after are inside s
     }
 
 -- no set was served yet
-pub none_served : (planned : Planned) (cfn : ℕ) (v : LayerRunning) (tx_buffers : List IubTxBuffer) (before : Text) → AreTxBuffersOf planned tx_buffers → ((s : ℕ) → s < 8 → sent_of tx_buffers s ≡ None)
+pub none_served : (planned : Planned) (cfn : ℕ) (v : LayerRunning) (tx_buffers : List IubTxBuffer) (before : Text) → AreTxBuffersOf planned Down tx_buffers → ((s : ℕ) → s < 8 → sent_of tx_buffers s ≡ None)
     → AreServed planned cfn v 0 tx_buffers before before
 none_served planned cfn v tx_buffers before are quiet = record {
   opened = are;
@@ -84,26 +88,3 @@ none_served planned cfn v tx_buffers before are quiet = record {
   few = omega arith;
   reported = ap (λ (t : List ℕ). record before { text = t }) (sym (append-nil before.text));
 }
-
--- a transmit buffer, whatever stands for one past the end
-pub tx_buffer_in : (planned : Planned) (tx_buffers : List IubTxBuffer) (set : ℕ) (other : IubTxBuffer) → AreTxBuffersOf planned tx_buffers → set < 8 → get_or tx_buffers set other ≡ tx_buffer_at tx_buffers set
-tx_buffer_in planned tx_buffers set other are few = get_or_default tx_buffers set other _ (omega (arith, are.all))
-
--- a new transmit buffer at the end
-pub new_tx_buffer : (planned : Planned) (count : ℕ) (tx_buffers : List IubTxBuffer) (tx_buffer : IubTxBuffer) → AreNewTxBuffers planned count tx_buffers → IsTxBufferOf planned count tx_buffer → tx_buffer.sent ≡ None
-    → AreNewTxBuffers planned (count + 1) (tx_buffers ++ tx_buffer ∷ [])
-new_tx_buffer planned count tx_buffers tx_buffer are is quiet =
-    let own : tx_buffer_at (tx_buffers ++ tx_buffer ∷ []) count ≡ tx_buffer = get_or_push tx_buffers tx_buffer _ count are.all in
-    let others : (s : ℕ) → s < count → tx_buffer_at (tx_buffers ++ tx_buffer ∷ []) s ≡ tx_buffer_at tx_buffers s =
-    (λ s early. get_or_append_left tx_buffers (tx_buffer ∷ []) _ s (omega (arith, are.all))) in
-    record {
-      all = omega (arith, length-append tx_buffers (tx_buffer ∷ []), are.all);
-      each = λ s early. elim (eqb_tells s count) [
-        | inl same ↦ subst (λ n. IsTxBufferOf planned n (tx_buffer_at (tx_buffers ++ tx_buffer ∷ []) n)) (sym same.1) (subst (λ (l : IubTxBuffer). IsTxBufferOf planned count l) (sym own) is)
-        | inr other ↦ (let apart : s ≢ count = other.1 in let less : s < count = omega arith in subst (λ (l : IubTxBuffer). IsTxBufferOf planned s l) (sym (others s less)) (are.each s less))
-      ];
-      quiet = λ s early. elim (eqb_tells s count) [
-        | inl same ↦ ap (λ n. (tx_buffer_at (tx_buffers ++ tx_buffer ∷ []) n).sent) same.1 ∙ ap (λ (l : IubTxBuffer). l.sent) own ∙ quiet
-        | inr other ↦ (let apart : s ≢ count = other.1 in let less : s < count = omega arith in ap (λ (l : IubTxBuffer). l.sent) (others s less) ∙ are.quiet s less)
-      ];
-    }

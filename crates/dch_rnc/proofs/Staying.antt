@@ -1,28 +1,26 @@
 -- A network controller still fits its configuration after a step, and its layer 2 stays limited.
-use Rattle.std.proofs.Common.{◌≡◌, ◌≤◌, ◌+◌, ◌∙◌, ℕ, List, length, arith, ap, Bool, Option, length-append}
+use Rattle.std.proofs.Common.{◌≡◌, ◌≤◌, ◌+◌, ◌∙◌, ℕ, List, length, arith, Bool, Option}
 use Rattle.dch_bits.specs.declared.bit.Bit.{Bit}
-use Rattle.dch_types.specs.declared.channel.Dir.TheVariants.{Up}
+use Rattle.dch_types.specs.declared.channel.Dir.TheVariants.{Up, Down}
 use Rattle.dch_types.specs.declared.config.Config.{Config}
 use Rattle.dch_config.specs.Good.{IsGood}
 use Rattle.dch_accept.specs.HeldSets.{HeldSet, IsSetOf}
 use Rattle.dch_accept.specs.Plans.{Planned}
 use Rattle.dch_accept.specs.Reports.{step_bytes}
 use Rattle.dch_script.specs.Held.{Held as Text}
-use Rattle.dch_node.specs.Lines.{text_of}
-use Rattle.dch_layer.specs.Layers.{Layer, Outcome, blocks, offers, ticks}
+use Rattle.dch_layer.specs.Layers.{Layer, blocks, offers, ticks}
 use Rattle.dch_bound.proofs.Layers.{blocks_hold, offers_hold, start_holds, ticks_hold}
-use Rattle.dch_layer2.specs.Reading.{reads_below}
+use Rattle.dch_layer2.specs.Bounded.{HasLayer}
 use Rattle.dch_layer2.specs.Standing.{HasStarted, IsLayerOf, IsSameEnd, Represents as StandsFor}
 use Rattle.dch_layer2.specs.Values.{LayerRunning}
+use Rattle.dch_layer2.proofs.Paying.{read_few, read_layer, read_most}
 use Rattle.dch_rnc.specs.Moves.{TakesSet}
-use Rattle.dch_rnc.specs.Opened.{AreRxSetsOf, AreTxBuffersOf, HasLayer, IsNodeOf}
+use Rattle.dch_rnc.specs.Opened.{AreRxSetsOf, IsNodeOf}
 use Rattle.dch_rnc.specs.State.{set_readings}
-use Rattle.dch_rnc.specs.Values.{IubTxBuffer, Node}
-use Rattle.dch_rnc.proofs.Bounding.{frame_bounded, frame_room, tti_in}
-
--- what layer 2 does with the blocks of a set
-abbrev reads_up : Planned → ℕ → HeldSet → Layer → Outcome
-reads_up planned set held layer = reads_below planned.config Up (set_readings planned.config.uplink.side set held) (length planned.config.uplink.side.channels) layer
+use Rattle.dch_rnc.specs.Values.{Node}
+use Rattle.dch_txframes.specs.Opened.{AreTxBuffersOf}
+use Rattle.dch_txframes.specs.Values.{IubTxBuffer}
+use Rattle.dch_rnc.proofs.Taking.{tti_in}
 
 -- it still fits the configuration where its parts do
 pub still_layer : (planned : Planned) (node : Node) (new : LayerRunning) → IsNodeOf planned node → IsSameEnd node.layer new → HasLayer planned.config new → IsNodeOf planned (record node { layer = new })
@@ -65,22 +63,21 @@ ticked_layer planned node mid new cfn opened stands starts =
 
 pub taken_layer : (planned : Planned) (set : ℕ) (held : HeldSet) (old new : LayerRunning) (before after : Text) → IsGood planned.config → IsSetOf planned.config Up set held → HasLayer planned.config old → TakesSet planned set held old new before after
     → HasLayer planned.config new
-taken_layer planned set held old new before after good is has takes = record {
-  layer = (reads_up planned set held has.layer).layer;
-  stands = takes.stands has.layer has.stands;
-  bounded = frame_bounded planned.config (set_readings planned.config.uplink.side set held) (length planned.config.uplink.side.channels) has.layer good (omega arith) (λ i inside. tti_in planned.config set held i is inside) has.bounded;
-}
+taken_layer planned set held old new before after good is has takes =
+    read_layer planned.config Up (set_readings planned.config.uplink.side set held) (length planned.config.uplink.side.channels) old new before after good (omega arith) (λ i inside. tti_in planned.config set held i is inside) has takes
 
 -- the lines on an Iub frame are no more than a step may write
 pub taken_few : (planned : Planned) (set : ℕ) (held : HeldSet) (old new : LayerRunning) (before after : Text) → IsGood planned.config → IsSetOf planned.config Up set held → HasLayer planned.config old → TakesSet planned set held old new before after
     → length after.text ≤ length before.text + step_bytes planned.config
 taken_few planned set held old new before after good is has takes =
-    let said : length after.text ≡ length before.text + length (text_of (reads_up planned set held has.layer).lines) =
-    ap (λ (t : Text). length t.text) (takes.reported has.layer has.stands) ∙ length-append before.text (text_of (reads_up planned set held has.layer).lines) in
-    omega (arith, said, frame_room planned.config (set_readings planned.config.uplink.side set held) (length planned.config.uplink.side.channels) has.layer good (omega arith) (λ i inside. tti_in planned.config set held i is inside) has.bounded)
+    omega (
+      arith,
+      read_few planned.config Up (set_readings planned.config.uplink.side set held) (length planned.config.uplink.side.channels) old new before after good (omega arith) (λ i inside. tti_in planned.config set held i is inside) has takes,
+    )
 
 pub taken_most : (planned : Planned) (set : ℕ) (held : HeldSet) (old new : LayerRunning) (before after : Text) → HasLayer planned.config old → TakesSet planned set held old new before after → after.most ≡ before.most
-taken_most planned set held old new before after has takes = ap (λ (t : Text). t.most) (takes.reported has.layer has.stands)
+taken_most planned set held old new before after has takes =
+    read_most planned.config Up (set_readings planned.config.uplink.side set held) (length planned.config.uplink.side.channels) old new before after has takes
 
 -- an Iub frame was read or refused
 pub still_received : (planned : Planned) (node : Node) (new : LayerRunning) (rx_sets : List HeldSet) (read : Option ℕ) → IsNodeOf planned node → IsSameEnd node.layer new → HasLayer planned.config new → AreRxSetsOf planned rx_sets
@@ -95,7 +92,7 @@ still_received planned node new rx_sets read opened same has are = record {
 }
 
 -- 10 ms have passed
-pub still_ticked : (planned : Planned) (node : Node) (cfn : ℕ) (new : LayerRunning) (tx_buffers : List IubTxBuffer) → IsNodeOf planned node → IsSameEnd node.layer new → HasLayer planned.config new → AreTxBuffersOf planned tx_buffers
+pub still_ticked : (planned : Planned) (node : Node) (cfn : ℕ) (new : LayerRunning) (tx_buffers : List IubTxBuffer) → IsNodeOf planned node → IsSameEnd node.layer new → HasLayer planned.config new → AreTxBuffersOf planned Down tx_buffers
     → IsNodeOf planned (record node { cfn = cfn; layer = new; tx_buffers = tx_buffers })
 still_ticked planned node cfn new tx_buffers opened same has are = record {
   sends = same.sends ∙ opened.sends;

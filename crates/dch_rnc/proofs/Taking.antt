@@ -1,32 +1,35 @@
 -- The blocks of an Iub frame that layer 2 takes, channel by channel.
-use Rattle.std.proofs.Common.{◌≡◌, ◌≢◌, ◌<◌, ◌≤◌, ◌+◌, ◌∙◌, ◌++◌, ◌&&◌, ℕ, List, [], length, get_or, arith, refl, ap, sym, subst, inl, inr, true, false, cond, Bool, add-one, append-nil, get_or-set_same, get_or-set_other, ◌∷◌, length-append, eq-eqb}
+use Rattle.std.proofs.Common.{◌≡◌, ◌≢◌, ◌<◌, ◌≤◌, ◌+◌, ◌∙◌, ◌++◌, ◌&&◌, ℕ, List, [], length, get_or, arith, refl, ap, sym, subst, inl, inr, true, false, cond, Bool, get_or-set_same, get_or-set_other, ◌∷◌, length-append, eq-eqb}
 use Rattle.std.specs.Prelude.{◌==◌, nat_lt, slice_set}
 use Rattle.std.proofs.lemmas.Bool.{lt-ltb}
 use Rattle.std.proofs.lemmas.Bool.Decides.{eqb_tells}
 use Rattle.std.proofs.lemmas.List.{get_or_append_left, get_or_default, get_or_push, length-set}
-use Rattle.dch_types.specs.declared.channel.Dir.{Dir}
 use Rattle.dch_types.specs.declared.channel.Dir.TheVariants.{Up}
 use Rattle.dch_types.specs.declared.channel.Side.{Side}
 use Rattle.dch_types.specs.declared.config.Config.{Config}
 use Rattle.dch_types.specs.Parts.{channel_at}
+use Rattle.dch_config.specs.Good.{IsGood}
 use Rattle.dch_accept.specs.HeldSets.{HeldSet, IsSetOf, held_at}
 use Rattle.dch_accept.specs.Blocks.{Held}
 use Rattle.dch_accept.specs.Plans.{Planned}
+use Rattle.dch_accept.specs.Reports.{step_bytes}
 use Rattle.dch_script.specs.Held.{Held as Text}
 use Rattle.dch_iub.specs.Answers.{IsCause}
 use Rattle.dch_iub.specs.Forms.{IsReadForm}
 use Rattle.dch_iub.specs.declared.error.IubError.{IubError}
 use Rattle.dch_node.specs.IubFrames.{refusal_number}
-use Rattle.dch_node.specs.Lines.{IubBad, Line, text_of}
+use Rattle.dch_node.specs.Lines.{IubBad, text_of}
 use Rattle.dch_bearer.specs.Reports.{added}
-use Rattle.dch_bearer.proofs.Lines.{added-added}
-use Rattle.dch_layer.specs.Layers.{Layer, Outcome, takes}
-use Rattle.dch_layer2.specs.Coming.{came_of}
-use Rattle.dch_layer2.specs.Reading.{Nothing, Read, Reading, reads, reads_below}
+use Rattle.dch_layer.specs.Layers.{Layer, takes}
+use Rattle.dch_layer2.specs.Bounded.{HasLayer, HasRead, IsTti}
+use Rattle.dch_layer2.specs.Coming.{HasRoomForTti, came_of}
+use Rattle.dch_layer2.specs.Reading.{Nothing, Read, Reading}
 use Rattle.dch_layer2.specs.Standing.{IsSameEnd, Represents as StandsFor}
 use Rattle.dch_layer2.specs.Values.{LayerRunning}
-use Rattle.dch_rnc.specs.Moves.{AreNewRxSets, HasRead, IsTaken, Receives, TakesSet}
+use Rattle.dch_layer2.proofs.Paying.{next_room, taken_on}
+use Rattle.dch_rnc.specs.Moves.{AreNewRxSets, IsTaken, Receives, TakesSet}
 use Rattle.dch_rnc.specs.Opened.{AreRxSetsOf}
+use Rattle.dch_txframes.specs.Rooms.{HasRoomFor}
 use Rattle.dch_rnc.specs.State.{set_readings}
 use Rattle.dch_rnc.specs.Values.{rx_set_at}
 
@@ -47,54 +50,6 @@ reading_off side set held i other = elim (eqb_tells (channel_at side i).set set)
     go true true e = absurd cc
     go true false e = refl
     go false b e = refl
-
--- nothing was read yet
-pub none_read : (config : Config) (readings : ℕ → Reading) (v : LayerRunning) (report : Text) → HasRead config readings 0 v v report report
-none_read config readings v report = record {
-  ends = record { sends = refl; receives = refl };
-  stands = λ layer is. is;
-  reported = λ layer is. ap (λ (t : List ℕ). record report { text = t }) (sym (append-nil report.text));
-}
-
--- one more channel
-reads_next : (config : Config) (readings : ℕ → Reading) (i : ℕ) (reading : Reading) (layer : Layer) → readings i ≡ reading →
-    reads_below config Up readings (i + 1) layer ≡ record {
-      layer = (reads config Up i reading (reads_below config Up readings i layer).layer).layer;
-      lines = (reads_below config Up readings i layer).lines ++ (reads config Up i reading (reads_below config Up readings i layer).layer).lines;
-    }
-reads_next config readings i reading layer is =
-    rw add-one (ap (λ (r : Reading). record {
-      layer = (reads config Up i r (reads_below config Up readings i layer).layer).layer;
-      lines = (reads_below config Up readings i layer).lines ++ (reads config Up i r (reads_below config Up readings i layer).layer).lines;
-    }) is)
-
--- of which nothing is read
-pub skipped : (config : Config) (readings : ℕ → Reading) (i : ℕ) (old now : LayerRunning) (before after : Text) → HasRead config readings i old now before after → readings i ≡ Nothing
-    → HasRead config readings (i + 1) old now before after
-skipped config readings i old now before after has none = record {
-  ends = has.ends;
-  stands = λ layer is. subst (λ (o : Outcome). StandsFor config o.layer now) (sym (reads_next config readings i Nothing layer none)) (has.stands layer is);
-  reported = λ layer is.
-      has.reported layer is
-      ∙ ap (λ (ls : List Line). added before ls) (sym (append-nil (reads_below config Up readings i layer).lines))
-      ∙ ap (λ (o : Outcome). added before o.lines) (sym (reads_next config readings i Nothing layer none));
-}
-
--- whose blocks layer 2 took
-pub taken_on : (config : Config) (readings : ℕ → Reading) (i : ℕ) (held : Held) (old now next : LayerRunning) (before after later : Text) → HasRead config readings i old now before after → readings i ≡ Read held → IsSameEnd now next
-    → ((layer : Layer) → StandsFor config layer now → later ≡ added after (takes config Up i 0 (came_of held) layer).lines)
-    → ((layer : Layer) → StandsFor config layer now → StandsFor config (takes config Up i 0 (came_of held) layer).layer next)
-    → HasRead config readings (i + 1) old next before later
-taken_on config readings i held old now next before after later has reading same reported stands = record {
-  ends = record { sends = same.sends ∙ has.ends.sends; receives = same.receives ∙ has.ends.receives };
-  stands = λ layer is.
-      subst (λ (o : Outcome). StandsFor config o.layer next) (sym (reads_next config readings i (Read held) layer reading)) (stands (reads_below config Up readings i layer).layer (has.stands layer is));
-  reported = λ layer is.
-      reported (reads_below config Up readings i layer).layer (has.stands layer is)
-      ∙ ap (λ (t : Text). added t (takes config Up i 0 (came_of held) (reads_below config Up readings i layer).layer).lines) (has.reported layer is)
-      ∙ added-added before (reads_below config Up readings i layer).lines (takes config Up i 0 (came_of held) (reads_below config Up readings i layer).layer).lines
-      ∙ ap (λ (o : Outcome). added before o.lines) (sym (reads_next config readings i (Read held) layer reading));
-}
 
 -- memory for the blocks of one more set
 pub new_rx_set : (planned : Planned) (count : ℕ) (rx_sets : List HeldSet) (held : HeldSet) → AreNewRxSets planned count rx_sets → IsSetOf planned.config Up count held → AreNewRxSets planned (count + 1) (rx_sets ++ held ∷ [])
@@ -154,13 +109,25 @@ got_refusal planned set at octets rx_sets last new error v before after are plac
 }
 
 -- the blocks of one more channel of a set were taken
-pub taken_next : (planned : Planned) (set i : ℕ) (blocks : HeldSet) (held : Held) (old now next : LayerRunning) (before after later : Text) → HasRead planned.config (set_readings planned.config.uplink.side set blocks) i old now before after
+pub taken_next : (planned : Planned) (set i : ℕ) (blocks : HeldSet) (held : Held) (old now next : LayerRunning) (before after later : Text) → HasRead planned.config Up (set_readings planned.config.uplink.side set blocks) i old now before after
     → now.into ≡ Up → held ≡ held_at blocks.blocks i → i < length planned.config.uplink.side.channels → (channel_at planned.config.uplink.side i).set ≡ set → IsSameEnd now next
     → ((layer : Layer) → StandsFor planned.config layer now → later ≡ added after (takes planned.config now.into i 0 (came_of held) layer).lines)
     → ((layer : Layer) → StandsFor planned.config layer now → StandsFor planned.config (takes planned.config now.into i 0 (came_of held) layer).layer next)
-    → HasRead planned.config (set_readings planned.config.uplink.side set blocks) (i + 1) old next before later
+    → HasRead planned.config Up (set_readings planned.config.uplink.side set blocks) (i + 1) old next before later
 taken_next planned set i blocks held old now next before after later has up own inside member same reported stands =
-    taken_on planned.config (set_readings planned.config.uplink.side set blocks) i held old now next before after later has
-    (reading_on planned.config.uplink.side set blocks i inside member ∙ ap Read (sym own)) same
-    (λ layer is. reported layer is ∙ ap (λ (d : Dir). added after (takes planned.config d i 0 (came_of held) layer).lines) up)
-    (λ layer is. subst (λ (d : Dir). StandsFor planned.config (takes planned.config d i 0 (came_of held) layer).layer next) up (stands layer is))
+    taken_on planned.config Up (set_readings planned.config.uplink.side set blocks) i held old now next before after later has
+    (reading_on planned.config.uplink.side set blocks i inside member ∙ ap Read (sym own)) up same reported stands
+
+-- what was read of a channel is a TTI of it, or nothing
+pub tti_in : (config : Config) (set : ℕ) (held : HeldSet) (i : ℕ) → IsSetOf config Up set held → i < length config.uplink.side.channels → IsTti config Up i (set_readings config.uplink.side set held i)
+tti_in config set held i is inside = elim (eqb_tells (channel_at config.uplink.side i).set set) [
+  | inl same ↦ subst (λ (r : Reading). IsTti config Up i r) (sym (reading_on config.uplink.side set held i inside same.1)) (is.formats i inside same.1)
+  | inr other ↦ subst (λ (r : Reading). IsTti config Up i r) (sym (reading_off config.uplink.side set held i other.1)) tt
+]
+
+-- there is room for the blocks of the next channel of the set
+pub set_room : (config : Config) (set : ℕ) (blocks : HeldSet) (i : ℕ) (old now : LayerRunning) (before after : Text) → IsGood config → IsSetOf config Up set blocks → i < length config.uplink.side.channels → (channel_at config.uplink.side i).set ≡ set
+    → HasRead config Up (set_readings config.uplink.side set blocks) i old now before after → HasLayer config old → now.into ≡ Up → HasRoomFor before (step_bytes config) → HasRoomForTti config i (held_at blocks.blocks i) now after
+set_room config set blocks i old now before after good is inside member read has up room =
+    next_room config Up (set_readings config.uplink.side set blocks) i (held_at blocks.blocks i) old now before after good inside (reading_on config.uplink.side set blocks i inside member)
+    (λ k early. tti_in config set blocks k is (omega (arith, early, inside))) read has up (omega (arith, room))

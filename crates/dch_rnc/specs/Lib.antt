@@ -1,8 +1,6 @@
 pub mod Lending
 pub mod Moves
-pub mod Octets
 pub mod Opened
-pub mod Rooms
 pub mod Standing
 pub mod State
 pub mod Steps

@@ -14,26 +14,21 @@ use Rattle.dch_script.specs.Held.{Held as Text}
 use Rattle.dch_node.specs.IubFrames.{refusal_number}
 use Rattle.dch_node.specs.Lines.{IubBad, text_of}
 use Rattle.dch_bearer.specs.Reports.{added}
-use Rattle.dch_layer.specs.Layers.{Layer}
-use Rattle.dch_rnc.specs.Octets.{AreOctets}
-use Rattle.dch_layer2.specs.Reading.{Reading, reads_below}
-use Rattle.dch_layer2.specs.Standing.{IsSameEnd, Represents as StandsFor}
+use Rattle.dch_txframes.specs.Octets.{AreOctets}
+use Rattle.dch_txframes.specs.Opened.{AreTxBuffersOf, IsTxBufferOf}
+use Rattle.dch_txframes.specs.Sending.{sent_of}
+use Rattle.dch_txframes.specs.Values.{IubTxBuffer}
+use Rattle.dch_layer2.specs.Bounded.{HasRead}
 use Rattle.dch_layer2.specs.Values.{LayerRunning}
-use Rattle.dch_rnc.specs.Opened.{AreRxSetsOf, AreTxBuffersOf, IsTxBufferOf}
+use Rattle.dch_rnc.specs.Opened.{AreRxSetsOf}
 use Rattle.dch_rnc.specs.State.{set_readings}
 use Rattle.dch_rnc.specs.Steps.{sent_line, sent_lines}
-use Rattle.dch_rnc.specs.Values.{IubTxBuffer, rx_set_at, tx_buffer_at}
+use Rattle.dch_rnc.specs.Values.{rx_set_at}
 
--- layer 2 took the readings of the first channels
-pub record HasRead (config : Config) (readings : ℕ → Reading) (count : ℕ) (old new : LayerRunning) (before after : Text) : Type 0 where
-  pub ends : IsSameEnd old new
-  pub stands : (layer : Layer) → StandsFor config layer old → StandsFor config (reads_below config Up readings count layer).layer new
-  pub reported : (layer : Layer) → StandsFor config layer old → after ≡ added before (reads_below config Up readings count layer).lines
-
--- and so those of all channels of a set
+-- layer 2 took the readings of all channels of a set
 abbrev pub TakesSet : Planned → ℕ → HeldSet → LayerRunning → LayerRunning → Text → Text → Type 0
 TakesSet planned set held old new before after =
-    HasRead planned.config (set_readings planned.config.uplink.side set held) (length planned.config.uplink.side.channels) old new before after
+    HasRead planned.config Up (set_readings planned.config.uplink.side set held) (length planned.config.uplink.side.channels) old new before after
 
 -- blocks that were read of a frame
 pub record IsFilled (planned : Planned) (set : ℕ) (octets : List ℕ) (held : HeldSet) : Type 0 where
@@ -95,45 +90,17 @@ abbrev pub Gives : Config → ℕ → LayerRunning → ℕ → Option (List ℕ)
 Gives config cfn v set None = starts (set_frames config.downlink.side set) cfn ≡ false
 Gives config cfn v set (Some octets) = (starts (set_frames config.downlink.side set) cfn ≡ true) × IsFrameOf config cfn v set octets
 
--- the frame of a set is sent and reported
-pub record SendsFrame (planned : Planned) (cfn : ℕ) (v : LayerRunning) (set : ℕ) (new : IubTxBuffer) (before after : Text) : Type 0 where
-  pub opened : IsTxBufferOf planned set new
-  pub octets : List ℕ
-  pub sent : new.sent ≡ Some octets
-  pub frame : IsFrameOf planned.config cfn v set octets
-  pub few : length (text_of (sent_line set (Some octets))) ≤ 300000
-  pub reported : after ≡ added before (sent_line set (Some octets))
-
 -- a set was served
 pub record Serves (planned : Planned) (cfn : ℕ) (v : LayerRunning) (set : ℕ) (tx_buffer : IubTxBuffer) (before after : Text) : Type 0 where
-  pub opened : IsTxBufferOf planned set tx_buffer
+  pub opened : IsTxBufferOf planned Down set tx_buffer
   pub gives : Gives planned.config cfn v set tx_buffer.sent
   pub few : length (text_of (sent_line set tx_buffer.sent)) ≤ 300000
   pub reported : after ≡ added before (sent_line set tx_buffer.sent)
 
--- what each set sends
-abbrev pub sent_of : List IubTxBuffer → ℕ → Option (List ℕ)
-sent_of tx_buffers s = (tx_buffer_at tx_buffers s).sent
-
 -- the first sets were served, and the others send nothing
 pub record AreServed (planned : Planned) (cfn : ℕ) (v : LayerRunning) (count : ℕ) (tx_buffers : List IubTxBuffer) (before after : Text) : Type 0 where
-  pub opened : AreTxBuffersOf planned tx_buffers
+  pub opened : AreTxBuffersOf planned Down tx_buffers
   pub sets : (s : ℕ) → s < count → Gives planned.config cfn v s (sent_of tx_buffers s)
   pub later : (s : ℕ) → count ≤ s → s < 8 → sent_of tx_buffers s ≡ None
   pub few : length (text_of (sent_lines (sent_of tx_buffers) count)) ≤ count * 300000
   pub reported : after ≡ added before (sent_lines (sent_of tx_buffers) count)
-
--- the transmit buffers of the first sets are new
-pub record AreNewTxBuffers (planned : Planned) (count : ℕ) (tx_buffers : List IubTxBuffer) : Type 0 where
-  pub all : length tx_buffers ≡ count
-  pub each : (s : ℕ) → s < count → IsTxBufferOf planned s (tx_buffer_at tx_buffers s)
-  pub quiet : (s : ℕ) → s < count → sent_of tx_buffers s ≡ None
-
--- the first transmit buffers show nothing any more
-pub record AreClearedTo (count : ℕ) (old new : List IubTxBuffer) : Type 0 where
-  pub all : length new ≡ length old
-  pub each : (s : ℕ) → s < count → tx_buffer_at new s ≡ record (tx_buffer_at old s) { sent = None }
-  pub later : (s : ℕ) → count ≤ s → tx_buffer_at new s ≡ tx_buffer_at old s
-
-abbrev pub AreCleared : List IubTxBuffer → List IubTxBuffer → Type 0
-AreCleared old new = AreClearedTo 8 old new

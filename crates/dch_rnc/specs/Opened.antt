@@ -3,22 +3,12 @@ use Rattle.std.specs.Prelude.{◌≡◌, ◌<◌, ℕ, List, length, slice_index
 use Rattle.dch_types.specs.declared.channel.Dir.{Dir}
 use Rattle.dch_types.specs.declared.channel.Dir.TheVariants.{Up, Down}
 use Rattle.dch_types.specs.declared.channel.Side.{Side}
-use Rattle.dch_types.specs.declared.config.Config.{Config}
 use Rattle.dch_types.specs.Parts.{channel_at, side_of}
 use Rattle.dch_accept.specs.HeldSets.{HeldSet, IsSetOf}
 use Rattle.dch_accept.specs.Plans.{Planned}
-use Rattle.dch_iub.specs.Longest.{IsLongest}
-use Rattle.dch_layer.specs.Layers.{Layer}
-use Rattle.dch_bound.specs.Bounded.{AreBounded}
-use Rattle.dch_layer2.specs.Standing.{Represents as StandsFor}
-use Rattle.dch_layer2.specs.Values.{LayerRunning}
-use Rattle.dch_rnc.specs.Values.{IubTxBuffer, Node, rx_set_at, tx_buffer_at}
-
--- layer 2 stands for one whose bearers hold no more than may be reported in a step
-pub record HasLayer (config : Config) (v : LayerRunning) : Type 0 where
-  pub layer : Layer
-  pub stands : StandsFor config layer v
-  pub bounded : AreBounded config layer
+use Rattle.dch_txframes.specs.Opened.{AreTxBuffersOf}
+use Rattle.dch_layer2.specs.Bounded.{HasLayer}
+use Rattle.dch_rnc.specs.Values.{Node, rx_set_at}
 
 -- the set of each channel of a direction
 pub record AreChannelSets (side : Side) (channel_sets : List ℕ) : Type 0 where
@@ -31,16 +21,6 @@ pub record AreRxSetsOf (planned : Planned) (rx_sets : List HeldSet) : Type 0 whe
   pub all : length rx_sets ≡ 8
   pub each : (s : ℕ) → s < 8 → IsSetOf planned.config Up s (rx_set_at rx_sets s)
 
--- a downlink Iub frame of a set, with room for the longest one
-pub record IsTxBufferOf (planned : Planned) (set : ℕ) (tx_buffer : IubTxBuffer) : Type 0 where
-  pub held : IsSetOf planned.config Down set tx_buffer.held
-  pub room : IsLongest planned.config Down set tx_buffer.room
-
--- one for each set
-pub record AreTxBuffersOf (planned : Planned) (tx_buffers : List IubTxBuffer) : Type 0 where
-  pub all : length tx_buffers ≡ 8
-  pub each : (s : ℕ) → s < 8 → IsTxBufferOf planned s (tx_buffer_at tx_buffers s)
-
 -- layer 2 sends in the downlink and receives in the uplink, and all parts were opened for the configuration
 pub record IsNodeOf (planned : Planned) (node : Node) : Type 0 where
   pub sends : node.layer.out ≡ Down
@@ -48,7 +28,7 @@ pub record IsNodeOf (planned : Planned) (node : Node) : Type 0 where
   pub layer : HasLayer planned.config node.layer
   pub channel_sets : AreChannelSets planned.config.uplink.side node.channel_sets
   pub rx_sets : AreRxSetsOf planned node.rx_sets
-  pub tx_buffers : AreTxBuffersOf planned node.tx_buffers
+  pub tx_buffers : AreTxBuffersOf planned Down node.tx_buffers
 
 -- it was opened for a configuration that has a channel in a direction
 pub record HasChannel (dir : Dir) (node : Node) (channel : ℕ) : Type 0 where

@@ -4,7 +4,6 @@ use Rattle.dch_bits.specs.declared.bit.Bit.{Bit}
 use Rattle.dch_types.specs.declared.channel.Dir.TheVariants.{Up, Down}
 use Rattle.dch_types.specs.declared.config.Config.{Config}
 use Rattle.dch_types.specs.Timing.{set_frames, starts}
-use Rattle.dch_accept.specs.Blocks.{Held}
 use Rattle.dch_accept.specs.HeldSets.{HeldSet, held_at}
 use Rattle.dch_accept.specs.Plans.{Planned}
 use Rattle.dch_iub.specs.Answers.{IsCause}
@@ -14,9 +13,10 @@ use Rattle.dch_iub.specs.declared.error.IubError.{IubError}
 use Rattle.dch_node.specs.IubFrames.{refusal_number}
 use Rattle.dch_node.specs.Lines.{Iub, IubBad, Line}
 use Rattle.dch_node.specs.Values.{Output, says}
-use Rattle.dch_layer.specs.Layers.{Given, Layer, blocks, offers, ticks}
-use Rattle.dch_rnc.specs.Octets.{AreOctets}
+use Rattle.dch_layer.specs.Layers.{Layer, blocks, offers, ticks}
+use Rattle.dch_txframes.specs.Octets.{AreOctets}
 use Rattle.dch_layer.specs.Starting.{IsStart}
+use Rattle.dch_layer2.specs.Joined.{CarriesGiven}
 use Rattle.dch_layer2.specs.Reading.{reads_below}
 use Rattle.dch_rnc.specs.State.{Event, OfferedUnit, BlockedCombination, IubFrame, Tick, State, no_readings, set_readings, ticking, with_layer}
 
@@ -41,16 +41,6 @@ pub record IsRefusedFrame (planned : Planned) (old : State) (set : ℕ) (octets 
 
 abbrev pub IsArrival : Planned → State → ℕ → List ℕ → State → Output → Type 0
 IsArrival planned old set octets new output = IsReadFrame planned old set octets new output ⊎ IsRefusedFrame planned old set octets new output
-
--- the bits of blocks, one after another
-abbrev pub joined_bits : List (List Bit) → List Bit
-joined_bits [] = []
-joined_bits (block ∷ later) = block ++ joined_bits later
-
--- these blocks are those that layer 2 gave to a channel
-pub record CarriesGiven (given : Given) (held : Held) : Type 0 where
-  pub format : held.format ≡ given.format
-  pub bits : held.bits ≡ joined_bits given.blocks
 
 -- a downlink Iub frame of a set: the blocks that its channels were given, and the CFN at which their TTI starts (TS 25.427 6.2)
 pub record IsDownlinkFrame (config : Config) (cfn : ℕ) (layer : Layer) (set : ℕ) (octets : List ℕ) : Type 0 where

@@ -1,22 +1,13 @@
 -- The parts of a network controller as contracts see them.
-use Rattle.std.specs.Prelude.{◌==◌, ℕ, List, [], Bool, true, false, Option, Some, None, if◌then◌else◌, slice_index, slice_index_or}
+use Rattle.std.specs.Prelude.{◌==◌, ℕ, List, [], Option, Some, None, if◌then◌else◌, slice_index, slice_index_or}
 use Rattle.dch_accept.specs.Blocks.{Held}
 use Rattle.dch_accept.specs.HeldSets.{HeldSet, held_at}
+use Rattle.dch_txframes.specs.Values.{IubTxBuffer, tx_buffer_at}
 use Rattle.dch_layer2.specs.Values.{LayerRunning}
 
 -- the blocks that came for set s
 abbrev pub rx_set_at : List HeldSet → ℕ → HeldSet
 rx_set_at rx_sets s = slice_index_or rx_sets s (record { set = 0; idle = []; blocks = [] })
-
--- a downlink Iub frame: its blocks, its octets where the last step sent it, and how many there is room for
-pub record IubTxBuffer : Type 0 where
-  pub held : HeldSet
-  pub sent : Option (List ℕ)
-  pub room : ℕ
-
--- that of set s
-abbrev pub tx_buffer_at : List IubTxBuffer → ℕ → IubTxBuffer
-tx_buffer_at tx_buffers s = slice_index_or tx_buffers s (record { held = record { set = 0; idle = []; blocks = [] }; sent = None; room = 0 })
 
 -- the CFN, layer 2, the set of each uplink channel, the blocks that came for each set, the set whose frame the last step read, if
 -- any, and the downlink Iub frames
@@ -29,10 +20,6 @@ pub record Node : Type 0 where
   pub tx_buffers : List IubTxBuffer
 
 -- the octets of an Iub frame that the last step sent
-abbrev pub octets_if : Bool → List ℕ → Option (List ℕ)
-octets_if true octets = Some octets
-octets_if false octets = None
-
 abbrev pub iub_shown : Node → ℕ → Option (List ℕ)
 iub_shown node s = (tx_buffer_at node.tx_buffers s).sent
 

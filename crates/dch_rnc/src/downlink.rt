@@ -1,18 +1,35 @@
 ghost use Rattle.std.specs.Prelude.{◌≡◌, ◌<◌, ℕ, None};
 ghost use Rattle.dch_types.specs.declared.channel.Dir.TheVariants.{Down};
+ghost use Rattle.dch_accept.specs.HeldSets.{IsSetOf};
 ghost use Rattle.dch_layer2.specs.Standing.{IsLayerOf};
-ghost use Rattle.dch_rnc.specs.Moves.{AreServed, Serves, sent_of};
-ghost use Rattle.dch_rnc.specs.Opened.{AreTxBuffersOf, IsTxBufferOf};
-ghost use Rattle.dch_rnc.specs.Rooms.{HasRoomFor};
+ghost use Rattle.dch_rnc.specs.Moves.{AreFilled, AreServed, Serves};
+ghost use Rattle.dch_txframes.specs.Opened.{AreTxBuffersOf, IsTxBufferOf};
+ghost use Rattle.dch_txframes.specs.Rooms.{HasRoomFor};
+ghost use Rattle.dch_txframes.specs.Sending.{sent_of};
 
-use crate::iub_tx_buffer::IubTxBuffer;
-use crate::sets::SETS;
-use dch_accept::Accepted;
+use dch_accept::{Accepted, SetBlocks};
 use dch_layer2::Layer2;
 use dch_script::Report;
+use dch_txframes::{IubTxBuffer, SETS};
 use dch_types::{Dir, starts};
 
-/// Serves a set: where its TTI starts at the CFN, its Iub frame is sent.
+/// Takes what layer 2 gave to the channels of a set.
+fn fill(accepted: &Accepted, set: u8, layer: &Layer2, blocks: &mut SetBlocks)
+    requires blocks { IsSetOf accepted.now.config Down set blocks.old }
+    requires layer { IsLayerOf accepted.now.config layer.now }
+    requires sends { layer.now.out ≡ Down }
+    ensures blocks { IsSetOf accepted.now.config Down set blocks.new }
+    ensures filled { AreFilled accepted.now.config set layer.now blocks.new }
+{
+    let side = accepted.side(Dir::Down);
+    for i in 0..side.channels.len() {
+        if side.channel(i).set == set {
+            blocks.add(i as u8, layer.given(i as u8));
+        }
+    }
+}
+
+/// Serves a set: where its TTI starts at the CFN, what layer 2 gave to its channels is sent in an Iub frame (TS 25.427 6.2).
 fn send_set(
     accepted: &Accepted,
     set: u8,
@@ -21,7 +38,7 @@ fn send_set(
     tx_buffer: &mut IubTxBuffer,
     report: &mut Report,
 )
-    requires tx_buffer { IsTxBufferOf accepted.now set tx_buffer.old }
+    requires tx_buffer { IsTxBufferOf accepted.now Down set tx_buffer.old }
     requires quiet { tx_buffer.old.sent ≡ None }
     requires layer { IsLayerOf accepted.now.config layer.now }
     requires sends { layer.now.out ≡ Down }
@@ -30,7 +47,8 @@ fn send_set(
 {
     let frames = accepted.side(Dir::Down).set_frames(set);
     if starts(frames, cfn) {
-        tx_buffer.send(accepted, set, cfn, layer, report);
+        fill(accepted, set, layer, tx_buffer.blocks_mut());
+        tx_buffer.send(accepted, Dir::Down, set, cfn, report);
     }
 }
 
@@ -42,7 +60,7 @@ pub fn send_sets(
     tx_buffers: &mut [IubTxBuffer],
     report: &mut Report,
 )
-    requires tx_buffers { AreTxBuffersOf accepted.now tx_buffers.old }
+    requires tx_buffers { AreTxBuffersOf accepted.now Down tx_buffers.old }
     requires quiet { (s : ℕ) → s < 8 → sent_of tx_buffers.old s ≡ None }
     requires layer { IsLayerOf accepted.now.config layer.now }
     requires sends { layer.now.out ≡ Down }

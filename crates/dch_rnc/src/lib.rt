@@ -3,10 +3,8 @@
 
 mod downlink;
 mod event;
-mod iub_tx_buffer;
 mod laws;
 mod node;
-mod report;
 mod sets;
 mod uplink;
 

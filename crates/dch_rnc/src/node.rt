@@ -4,23 +4,23 @@ ghost use Rattle.dch_types.specs.Timing.{has_set};
 ghost use Rattle.dch_accept.specs.HeldSets.{held_at};
 ghost use Rattle.dch_accept.specs.Reports.{step_bytes};
 ghost use Rattle.dch_node.specs.Lines.{Line};
-ghost use Rattle.dch_rnc.specs.Lending.{held_of, octets_of};
+ghost use Rattle.dch_rnc.specs.Lending.{held_of};
 ghost use Rattle.dch_rnc.specs.Opened.{HasChannel, IsNodeOf};
-ghost use Rattle.dch_rnc.specs.Rooms.{HasRoomFor};
 ghost use Rattle.dch_rnc.specs.Standing.{ExtendsHistory, IsAt, MayCome, NothingShown, Represents, RepresentsHistory, SendsDown, Stepped, event_of};
 ghost use Rattle.dch_rnc.specs.State.{BlockedCombination, Event, IubFrame, OfferedUnit, State, Tick};
 ghost use Rattle.dch_rnc.specs.Values.{iub_shown, taken_shown};
+ghost use Rattle.dch_txframes.specs.Lending.{octets_of};
+ghost use Rattle.dch_txframes.specs.Rooms.{HasRoomFor};
 
 use crate::downlink::send_sets;
 use crate::event::RncEvent;
-use crate::iub_tx_buffer::{IubTxBuffer, clear_sent, tx_buffers};
-use crate::report::put_answer;
 use crate::sets::channel_sets;
 use crate::uplink::{receive, rx_sets};
 use dch_accept::{Accepted, SetBlocks, TtiBlocks};
 use dch_bits::{Bit, NoMemory};
 use dch_layer2::Layer2;
 use dch_script::Report;
+use dch_txframes::{IubTxBuffer, clear_sent, put_answer, tx_buffers};
 use dch_types::Dir;
 use std::alloc::Global;
 use std::marker::Model;
@@ -61,7 +61,7 @@ impl Rnc {
             channel_sets: channel_sets(alloc, accepted.side(Dir::Up))?,
             rx_sets: rx_sets(alloc, accepted)?,
             read: None,
-            tx_buffers: tx_buffers(alloc, accepted)?,
+            tx_buffers: tx_buffers(alloc, accepted, Dir::Down)?,
         })
     }
 
@@ -165,7 +165,7 @@ impl Rnc {
         ensures most { report.new.most ≡ report.old.most }
     {
         let answer = self.layer.offer(bearer, octets, bits);
-        put_answer(report, bearer, answer);
+        put_answer(report, Dir::Down, bearer, answer);
     }
 
     /// A combination is blocked, or free again.

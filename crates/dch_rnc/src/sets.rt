@@ -8,9 +8,6 @@ use dch_bits::NoMemory;
 use dch_types::{Dir, Side};
 use std::alloc::Global;
 
-/// How many sets there may be in a direction.
-pub const SETS: u8 = 8;
-
 /// The place of a set that the uplink has.
 pub fn place_of(accepted: &Accepted, set: u8) -> usize
     requires { has_set accepted.now.config.uplink.side set ≡ true }

@@ -3,17 +3,18 @@ ghost use Rattle.dch_types.specs.declared.channel.Dir.TheVariants.{Up};
 ghost use Rattle.dch_types.specs.Timing.{has_set};
 ghost use Rattle.dch_accept.specs.HeldSets.{IsSetOf};
 ghost use Rattle.dch_accept.specs.Reports.{step_bytes};
+ghost use Rattle.dch_layer2.specs.Bounded.{HasLayer};
 ghost use Rattle.dch_rnc.specs.Moves.{AreNewRxSets, Receives, TakesSet};
-ghost use Rattle.dch_rnc.specs.Opened.{AreRxSetsOf, HasLayer};
-ghost use Rattle.dch_rnc.specs.Rooms.{HasRoomFor};
+ghost use Rattle.dch_rnc.specs.Opened.{AreRxSetsOf};
+ghost use Rattle.dch_txframes.specs.Rooms.{HasRoomFor};
 
-use crate::report::put_refusal;
-use crate::sets::{SETS, place_of};
+use crate::sets::place_of;
 use dch_accept::{Accepted, SetBlocks};
 use dch_bits::NoMemory;
 use dch_iub::read_ul;
 use dch_layer2::Layer2;
 use dch_script::Report;
+use dch_txframes::{SETS, put_refusal};
 use dch_types::Dir;
 use std::alloc::Global;
 
@@ -51,7 +52,7 @@ pub fn receive(
             true
         }
         Err(error) => {
-            put_refusal(report, set, error);
+            put_refusal(report, Dir::Up, set, error);
             false
         }
     }

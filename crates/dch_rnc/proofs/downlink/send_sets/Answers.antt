@@ -1,7 +1,9 @@
 use Rattle.std.proofs.Common.{sym, subst}
-use Rattle.dch_rnc.specs.Opened.{IsTxBufferOf}
-use Rattle.dch_rnc.specs.Values.{IubTxBuffer}
-use Rattle.dch_rnc.proofs.Sending.{none_served, served_next, tx_buffer_in}
+use Rattle.dch_types.specs.declared.channel.Dir.TheVariants.{Down}
+use Rattle.dch_txframes.specs.Opened.{IsTxBufferOf}
+use Rattle.dch_txframes.specs.Values.{IubTxBuffer}
+use Rattle.dch_txframes.proofs.Sending.{tx_buffer_in}
+use Rattle.dch_rnc.proofs.Sending.{none_served, served_next}
 use Rattle.dch_rnc.proofs.downlink.send_sets.Goals as goal
 
 pub loop-set-init : goal.loop-set-init
@@ -9,8 +11,8 @@ loop-set-init c = none_served c.args.accepted.now c.args.cfn c.args.layer.now c.
 
 pub send_set-requires-clause-tx_buffer : goal.send_set-requires-clause-tx_buffer
 send_set-requires-clause-tx_buffer c =
-    subst (λ (l : IubTxBuffer). IsTxBufferOf c.args.accepted.now c.loop-set.set l)
-    (sym (tx_buffer_in c.args.accepted.now c.loop-set.tx_buffers c.loop-set.set c.index-tx_buffers-set.result c.loop-set.invariant.opened c.loop-set-test.true))
+    subst (λ (l : IubTxBuffer). IsTxBufferOf c.args.accepted.now Down c.loop-set.set l)
+    (sym (tx_buffer_in c.args.accepted.now Down c.loop-set.tx_buffers c.loop-set.set c.index-tx_buffers-set.result c.loop-set.invariant.opened c.loop-set-test.true))
     (c.loop-set.invariant.opened.each c.loop-set.set c.loop-set-test.true)
 
 pub loop-set-preserved : goal.loop-set-preserved

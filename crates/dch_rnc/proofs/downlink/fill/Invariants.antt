@@ -1,7 +1,7 @@
 use Rattle.dch_types.specs.declared.channel.Dir.TheVariants.{Down}
 use Rattle.dch_accept.specs.HeldSets.{IsSetOf}
 use Rattle.dch_rnc.specs.Moves.{AreFilledTo}
-use Rattle.dch_rnc.proofs.iub_tx_buffer.fill.Given as goal
+use Rattle.dch_rnc.proofs.downlink.fill.Given as goal
 
 abbrev pub invariant-loop-i : goal.invariant-loop-i
 invariant-loop-i l = record {
