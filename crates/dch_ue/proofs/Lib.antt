@@ -1,0 +1,14 @@
+pub mod Receiving
+pub mod ReceivingBlocks
+pub mod ReceivingFrames
+pub mod OneReading
+pub mod Loading
+pub mod Lasting
+pub mod Starting
+pub mod Staying
+pub mod Going
+pub mod Hiding
+pub mod Moving
+pub mod Ticking
+pub mod OneFrame
+pub mod Opening

@@ -1,0 +1,5 @@
+use Rattle.dch_ue.specs.Moves.{AreNewTtis}
+use Rattle.dch_ue.proofs.receiver.rx_ttis.Given as goal
+
+abbrev pub invariant-loop : goal.invariant-loop
+invariant-loop l = AreNewTtis l.accepted l.counter l.ttis.items

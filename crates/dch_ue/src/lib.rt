@@ -1,0 +1,12 @@
+//! The terminal: downlink radio frames become units, and units become uplink radio frames, one step for each event.
+#![tactic(auto)]
+
+mod event;
+mod laws;
+mod node;
+mod receiver;
+mod transmitter;
+
+pub use event::UeEvent;
+pub use laws::{one_frame_law, one_reading_law};
+pub use node::Ue;

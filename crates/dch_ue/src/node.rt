@@ -1,0 +1,202 @@
+ghost use Rattle.std.specs.Prelude.{◌≡◌, ◌<◌, ◌≤◌, ◌+◌, ◌%◌, ℕ, List, [], length, IfOk};
+ghost use Rattle.dch_types.specs.declared.channel.Dir.TheVariants.{Up, Down};
+ghost use Rattle.dch_accept.specs.HeldSets.{held_at};
+ghost use Rattle.dch_accept.specs.Reports.{step_bytes};
+ghost use Rattle.dch_rxframes.specs.RxFrames.{HasTfci};
+ghost use Rattle.dch_node.specs.Lines.{Line};
+ghost use Rattle.dch_txframes.specs.Lending.{radio_of};
+ghost use Rattle.dch_txframes.specs.Rooms.{HasRoomFor};
+ghost use Rattle.dch_ue.specs.Lending.{held_of};
+ghost use Rattle.dch_ue.specs.Opened.{HasChannel, IsNodeOf};
+ghost use Rattle.dch_ue.specs.Standing.{ExtendsHistory, IsAt, MayCome, NothingShown, Represents, RepresentsHistory, SendsUp, Stepped, event_of};
+ghost use Rattle.dch_ue.specs.State.{BlockedCombination, DownlinkFrame, Event, OfferedUnit, State, Tick};
+ghost use Rattle.dch_ue.specs.Values.{radio_shown, taken_shown};
+
+use crate::event::UeEvent;
+use crate::receiver::DownlinkReceiver;
+use crate::transmitter::UplinkTransmitter;
+use dch_accept::{Accepted, FrameView, TtiBlocks};
+use dch_bits::{Bit, NoMemory};
+use dch_layer2::Layer2;
+use dch_script::Report;
+use dch_txframes::put_answer;
+use dch_types::Dir;
+use std::alloc::Global;
+use std::marker::Model;
+
+/// A terminal. All its memory is taken at opening.
+#[derive(Drop)]
+pub struct Ue {
+    cfn: u8,
+    layer: Layer2,
+    receiver: DownlinkReceiver,
+    transmitter: UplinkTransmitter,
+}
+
+impl Model for Ue {
+    ghost use Rattle.dch_ue.specs.Values.{Node};
+
+    ghost Value = { Node };
+
+    ghost view = { λ n. record { cfn = n.cfn; layer = n.layer; receiver = n.receiver; transmitter = n.transmitter } };
+}
+
+impl Ue {
+    /// Takes all memory for a configuration. The radio frames of the first tick have this CFN, every channel runs its idle format, no
+    /// combination is blocked, no unit waits, and no radio frame came.
+    pub fn open(alloc: Global, accepted: &Accepted, first_cfn: u8) -> Result<Ue, NoMemory>
+        requires { first_cfn % 8 ≡ 0 }
+        ensures opened { IfOk result (IsNodeOf accepted.now) }
+        ensures stands { IfOk result (RepresentsHistory accepted.now first_cfn [] []) }
+    {
+        // The TTIs of a good configuration have 1, 2, 4 or 8 radio frames.
+        let _side = accepted.side(Dir::Up);
+        Ok(Ue {
+            cfn: first_cfn,
+            layer: Layer2::open(alloc, accepted, Dir::Up, Dir::Down)?,
+            receiver: DownlinkReceiver::open(alloc, accepted)?,
+            transmitter: UplinkTransmitter::open(alloc, accepted)?,
+        })
+    }
+
+    /// Takes one event, and reports what it does. The report has room for what one step may write.
+    pub fn step(&mut self, accepted: &Accepted, event: UeEvent<'_>, report: &mut Report)
+        requires opened { IsNodeOf accepted.now self.old }
+        requires event { MayCome accepted.now event }
+        requires room { HasRoomFor report.old (step_bytes accepted.now.config) }
+        ensures opened { IsNodeOf accepted.now self.new }
+        ensures step { (state : State) → Represents accepted.now state self.old → Stepped accepted.now state (event_of event.entry) self.new report.old.text report.new.text }
+        ensures history { (first : ℕ) (events : List Event) (lines : List Line) → RepresentsHistory accepted.now first events lines self.old →
+            ExtendsHistory accepted.now first events lines (event_of event.entry) self.new report.old.text report.new.text }
+        ensures few { length report.new.text ≤ length report.old.text + step_bytes accepted.now.config }
+        ensures most { report.new.most ≡ report.old.most }
+    {
+        self.happen(accepted, event, report);
+    }
+
+    /// Gives all memory back.
+    pub fn close(self) {}
+
+    /// The uplink radio frame that the last step sent, if it sent one.
+    pub fn sent(&self) -> Option<FrameView<'_>>
+        ensures { radio_of result ≡ radio_shown self.now }
+    {
+        self.transmitter.view()
+    }
+
+    /// The blocks that an uplink channel was given for its running TTI, with their format.
+    pub fn given(&self, channel: u8) -> &TtiBlocks
+        requires { HasChannel Up self.now channel }
+        ensures { result.now ≡ held_at self.now.layer.given channel }
+    {
+        self.layer.given(channel)
+    }
+
+    /// The blocks of a downlink channel that the last step read, if it read that channel.
+    pub fn taken(&self, channel: u8) -> Option<&TtiBlocks>
+        requires { HasChannel Down self.now channel }
+        ensures { held_of result ≡ taken_shown self.now channel }
+    {
+        self.receiver.taken(channel)
+    }
+
+    /// Hides what the last step sent and read, and takes one event.
+    fn happen(&mut self, accepted: &Accepted, event: UeEvent<'_>, report: &mut Report)
+        requires opened { IsNodeOf accepted.now self.old }
+        requires event { MayCome accepted.now event }
+        requires room { HasRoomFor report.old (step_bytes accepted.now.config) }
+        ensures opened { IsNodeOf accepted.now self.new }
+        ensures step { (state : State) → Represents accepted.now state self.old → Stepped accepted.now state (event_of event.entry) self.new report.old.text report.new.text }
+        ensures few { length report.new.text ≤ length report.old.text + step_bytes accepted.now.config }
+        ensures most { report.new.most ≡ report.old.most }
+    {
+        self.clear_shown(accepted);
+        match event {
+            UeEvent::Unit {
+                bearer,
+                octets,
+                bits,
+            } => self.offer(accepted, bearer, octets, bits, report),
+            UeEvent::Block { combination, on } => self.block(accepted, combination, on),
+            UeEvent::Phy { frame } => self.receive_radio(accepted, frame),
+            UeEvent::Tick => self.tick(accepted, report),
+        }
+    }
+
+    /// Nothing is shown as sent or read.
+    fn clear_shown(&mut self, accepted: &Accepted)
+        requires { IsNodeOf accepted.now self.old }
+        ensures opened { IsNodeOf accepted.now self.new }
+        ensures quiet { NothingShown self.new }
+        ensures stands { (state : State) → Represents accepted.now state self.old → IsAt accepted.now state self.new }
+    {
+        self.transmitter.clear_sent();
+        self.receiver.clear_read();
+    }
+
+    /// A unit is offered to a bearer.
+    fn offer(
+        &mut self,
+        accepted: &Accepted,
+        bearer: u8,
+        octets: &[u8],
+        bits: &[Bit],
+        report: &mut Report,
+    )
+        requires opened { IsNodeOf accepted.now self.old }
+        requires quiet { NothingShown self.old }
+        requires bearer { SendsUp accepted.now.config bearer }
+        requires room { HasRoomFor report.old (step_bytes accepted.now.config) }
+        ensures opened { IsNodeOf accepted.now self.new }
+        ensures step { (state : State) → IsAt accepted.now state self.old → Stepped accepted.now state (OfferedUnit bearer octets.now bits.now) self.new report.old.text report.new.text }
+        ensures few { length report.new.text ≤ length report.old.text + step_bytes accepted.now.config }
+        ensures most { report.new.most ≡ report.old.most }
+    {
+        let answer = self.layer.offer(bearer, octets, bits);
+        put_answer(report, Dir::Up, bearer, answer);
+    }
+
+    /// A combination is blocked, or free again.
+    fn block(&mut self, accepted: &Accepted, combination: u16, on: bool)
+        requires opened { IsNodeOf accepted.now self.old }
+        requires quiet { NothingShown self.old }
+        requires combination { combination < length accepted.now.config.uplink.side.combinations }
+        ensures opened { IsNodeOf accepted.now self.new }
+        ensures step { (state : State) (text : List ℕ) → IsAt accepted.now state self.old → Stepped accepted.now state (BlockedCombination combination on) self.new text text }
+    {
+        self.layer.block(combination, on);
+    }
+
+    /// The downlink radio frame of the CFN comes, or is missing.
+    fn receive_radio(&mut self, accepted: &Accepted, frame: Option<FrameView<'_>>)
+        requires opened { IsNodeOf accepted.now self.old }
+        requires quiet { NothingShown self.old }
+        requires frame { HasTfci accepted.now Down frame }
+        ensures opened { IsNodeOf accepted.now self.new }
+        ensures step { (state : State) (text : List ℕ) → IsAt accepted.now state self.old → Stepped accepted.now state (DownlinkFrame (radio_of frame.entry)) self.new text text }
+    {
+        self.receiver.push(accepted, self.cfn, frame);
+    }
+
+    /// 10 ms have passed: the timers tick, the downlink radio frame is taken and the channels whose TTI ends are read, TTIs start, and
+    /// the uplink radio frame is sent. The CFN goes on.
+    fn tick(&mut self, accepted: &Accepted, report: &mut Report)
+        requires opened { IsNodeOf accepted.now self.old }
+        requires quiet { NothingShown self.old }
+        requires room { HasRoomFor report.old (step_bytes accepted.now.config) }
+        ensures opened { IsNodeOf accepted.now self.new }
+        ensures step { (state : State) → IsAt accepted.now state self.old → Stepped accepted.now state Tick self.new report.old.text report.new.text }
+        ensures few { length report.new.text ≤ length report.old.text + step_bytes accepted.now.config }
+        ensures most { report.new.most ≡ report.old.most }
+    {
+        // What a step reports is limited in a good configuration.
+        let _config = accepted.config();
+        self.layer.tick();
+        self.receiver
+            .receive(accepted, self.cfn, &mut self.layer, report);
+        self.layer.start(accepted, self.cfn);
+        self.transmitter
+            .transmit(accepted, self.cfn, &self.layer, report);
+        self.cfn = self.cfn.wrapping_add(1);
+    }
+}
