@@ -25,9 +25,20 @@ use Rattle.dch_nodecmd.specs.Overlong.{refuses_long}
 use Rattle.dch_nodecmd.specs.Rules.{config_of, node_lines}
 use Rattle.dch_nodecmd.specs.Run.{Run, opened_run}
 use Rattle.dch_nodecmd.proofs.NoTrace.{lines_stay}
+use Rattle.dch_words.specs.declared.arguments.Subcommand.{Subcommand}
+use Rattle.dch_words.specs.declared.arguments.Subcommand.TheVariants.{Check, Encode, NodeB, Rnc, Ue}
+use Rattle.dch_words.specs.declared.arguments.Arguments.{Arguments}
+use Rattle.dch_nodebcmd.specs.Lasting.{node_b_lasting}
+use Rattle.dch_nodebcmd.specs.Rules.{node_b_rules}
+use Rattle.dch_rnccmd.specs.Lasting.{rnc_lasting}
+use Rattle.dch_rnccmd.specs.Rules.{rnc_rules}
+use Rattle.dch_uecmd.specs.Lasting.{ue_lasting}
+use Rattle.dch_uecmd.specs.Rules.{ue_rules}
+use Rattle.dch_top.specs.Benches.{Nodes}
 use Rattle.dch_top.specs.Checked.{HasEnded}
 use Rattle.dch_top.specs.Configured.{EndsEarly, EndsLate, FollowsScript, outcome_status}
 use Rattle.dch_top.specs.NodeRuns.{AreEvents, RunsLines}
+use Rattle.dch_top.specs.Ran.{AreEventsFor, Runs}
 use Rattle.dch_top.specs.declared.command.Status.{Status}
 use Rattle.dch_top.specs.declared.command.Status.TheVariants.{Ok as Well, Refused, Usage, ReadFault, WriteFault, NoMemory, TooLong}
 use Rattle.dch_top.proofs.Checks.{same_configuration}
@@ -114,3 +125,14 @@ node_completes {S} {E} rules lasting (Some input) now k l f g h i start quiet Ho
         by FailedWriting follows same enough = absurd (t follows.answers.fails)
         by TookTooMuch follows same enough = absurd (omega (arith, follows.answers.long, ap length follows.script, script_within run.taken, few, size))
         by MetMalformed follows same enough = absurd (not_refused rules lasting input now f g start quiet accepted run.taken run.written after (span k l h i) run.takes good events rest follows)
+
+-- and so for the node of each command
+pub events_answered : (before now k l : Option (List ℕ)) (f g h i : ℕ) (subcommand : Subcommand) (arguments : Arguments) (nodes : Nodes) (status : Status) → Runs subcommand arguments (span before now f g) (span k l h i) nodes status
+    → IfSome before (λ input. (accepted : Planned) → IsAcceptedAs (configuration_of input) accepted → AreEventsFor subcommand accepted.config (lines_of (script_of input)) → rest_of (script_of input) ≡ [] → length input ≤ LIMIT → ¬ Rose f g → ¬ Rose h i
+    → (status ≡ Well) ⊎ (status ≡ NoMemory))
+events_answered None now k l f g h i subcommand arguments nodes status runs = tt
+events_answered (Some input) now k l f g h i Check arguments nodes status runs = λ accepted good events. absurd events
+events_answered (Some input) now k l f g h i Encode arguments nodes status runs = λ accepted good events. absurd events
+events_answered (Some input) now k l f g h i NodeB arguments nodes status runs = node_completes node_b_rules node_b_lasting (Some input) now k l f g h i arguments.start arguments.quiet _ status runs.runs
+events_answered (Some input) now k l f g h i Rnc arguments nodes status runs = node_completes rnc_rules rnc_lasting (Some input) now k l f g h i arguments.start arguments.quiet _ status runs.runs
+events_answered (Some input) now k l f g h i Ue arguments nodes status runs = node_completes ue_rules ue_lasting (Some input) now k l f g h i arguments.start arguments.quiet _ status runs.runs

@@ -3,8 +3,9 @@ pub mod Checked
 pub mod Configured
 pub mod EncodeText
 pub mod NodeBRuns
-pub mod RncRuns
 pub mod NodeRuns
 pub mod Overlong
 pub mod Ran
+pub mod RncRuns
+pub mod UeRuns
 pub mod Untouched

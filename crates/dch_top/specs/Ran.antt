@@ -3,20 +3,26 @@ use Rattle.std.specs.Prelude.{◌≡◌, ◌⊎◌, ℕ, List, [], All, IsOk, tr
 use Rattle.std.specs.declared.alloc.Global.{Global}
 use Rattle.std.specs.Io.KnownBytes.{Appends}
 use Rattle.dch_io.specs.Ends.{End, Fails, IsCutShort}
+use Rattle.dch_types.specs.declared.config.Config.{Config}
 use Rattle.dch_script.specs.Code.{meaning}
 use Rattle.dch_words.specs.Parses.{IsCommand, Parses}
 use Rattle.dch_words.specs.declared.arguments.Subcommand.{Subcommand}
-use Rattle.dch_words.specs.declared.arguments.Subcommand.TheVariants.{Check, Encode, NodeB, Rnc}
+use Rattle.dch_words.specs.declared.arguments.Subcommand.TheVariants.{Check, Encode, NodeB, Rnc, Ue}
 use Rattle.dch_words.specs.declared.arguments.Arguments.{Arguments}
 use Rattle.dch_lines.specs.Processor.{Progress}
 use Rattle.dch_lines.specs.Followed.{FollowsInput}
 use Rattle.dch_lines.specs.LineTexts.{is_empty}
 use Rattle.dch_lines.specs.declared.stop.Outcome.TheVariants.{Ok as Done, Refused as MetMalformed, ReadFault as FailedReading, WriteFault as FailedWriting, TooLong as TookTooMuch}
+use Rattle.dch_nodebcmd.specs.Rules.{node_b_rules}
+use Rattle.dch_rnccmd.specs.Rules.{rnc_rules}
+use Rattle.dch_uecmd.specs.Rules.{ue_rules}
 use Rattle.dch_top.specs.Benches.{Nodes, no_nodes}
 use Rattle.dch_top.specs.Checked.{Checks}
 use Rattle.dch_top.specs.EncodeText.{encoding}
 use Rattle.dch_top.specs.NodeBRuns.{RunsNodeB}
+use Rattle.dch_top.specs.NodeRuns.{AreEvents}
 use Rattle.dch_top.specs.RncRuns.{RunsRnc}
+use Rattle.dch_top.specs.UeRuns.{RunsUe}
 use Rattle.dch_top.specs.Untouched.{IsUntouched}
 use Rattle.dch_top.specs.declared.command.Status.{Status}
 use Rattle.dch_top.specs.declared.command.Status.TheVariants.{Ok, Refused, Usage, ReadFault, WriteFault, NoMemory, TooLong}
@@ -64,14 +70,27 @@ Asks words subcommand = (arguments : Arguments) × (Says words arguments × (arg
 abbrev pub IsNoCommand : List (String Global) → Type 0
 IsNoCommand words = ¬ IsCommand (map string_bytes words)
 
--- what a run of these words does, and what the bench holds then
+-- what a run of a command does, and what the bench holds then
+abbrev pub Runs : Subcommand → Arguments → End → End → Nodes → Status → Type 0
+Runs Check arguments source sink bench status = Checks source sink status × (bench ≡ no_nodes)
+Runs Encode arguments source sink bench status = Encodes source sink status × (bench ≡ no_nodes)
+Runs NodeB arguments source sink bench status = RunsNodeB arguments.start arguments.quiet source sink bench status
+Runs Rnc arguments source sink bench status = RunsRnc arguments.start arguments.quiet source sink bench status
+Runs Ue arguments source sink bench status = RunsUe arguments.start arguments.quiet source sink bench status
+
+-- what a run of these words does
 pub record Ran (words : List (String Global)) (source sink : End) (bench : Nodes) (status : Status) : Type 0 where
-  pub encodes : Asks words Encode → Encodes source sink status × (bench ≡ no_nodes)
-  pub checks : Asks words Check → Checks source sink status × (bench ≡ no_nodes)
-  pub runs_node_b : (arguments : Arguments) → Says words arguments → arguments.subcommand ≡ NodeB → RunsNodeB arguments.start arguments.quiet source sink bench status
-  pub runs_rnc : (arguments : Arguments) → Says words arguments → arguments.subcommand ≡ Rnc → RunsRnc arguments.start arguments.quiet source sink bench status
+  pub runs : (arguments : Arguments) → Says words arguments → Runs arguments.subcommand arguments source sink bench status
   pub misuses : IsNoCommand words → Misuses source sink status × (bench ≡ no_nodes)
 
 -- each of the lines is empty or well formed
 abbrev pub AreGood : List (List ℕ) → Type 0
 AreGood lines = All (λ line. (is_empty line ≡ true) ⊎ IsOk (meaning line)) lines
+
+-- each of the lines is empty or says an event of the node of a command
+abbrev pub AreEventsFor : Subcommand → Config → List (List ℕ) → Type 0
+AreEventsFor Check config lines = ⊥
+AreEventsFor Encode config lines = ⊥
+AreEventsFor NodeB config lines = AreEvents node_b_rules config lines
+AreEventsFor Rnc config lines = AreEvents rnc_rules config lines
+AreEventsFor Ue config lines = AreEvents ue_rules config lines

@@ -3,11 +3,13 @@ ghost use Rattle.dch_top.specs.Benches.{Nodes, no_nodes};
 
 use dch_nodeb::NodeB;
 use dch_rnc::Rnc;
+use dch_ue::Ue;
 use std::marker::Model;
 
 /// The nodes that a run opened.
 #[derive(Drop)]
 pub struct Bench {
+    ue: Option<Ue>,
     node_b: Option<NodeB>,
     rnc: Option<Rnc>,
 }
@@ -17,7 +19,7 @@ impl Model for Bench {
 
     ghost Value = { Nodes };
 
-    ghost view = { λ b. record { node_b = b.node_b; rnc = b.rnc } };
+    ghost view = { λ b. record { ue = b.ue; node_b = b.node_b; rnc = b.rnc } };
 }
 
 impl Bench {
@@ -26,9 +28,17 @@ impl Bench {
         ensures { result ≡ no_nodes }
     {
         Bench {
+            ue: None,
             node_b: None,
             rnc: None,
         }
+    }
+
+    /// The terminal, if the bench holds one.
+    pub fn ue(&self) -> Option<&Ue>
+        ensures { option_map (λ node. node.now) result ≡ self.now.ue }
+    {
+        self.ue.as_ref()
     }
 
     /// The Node B, if the bench holds one. Its leg is 0.
@@ -44,6 +54,13 @@ impl Bench {
         ensures { option_map (λ node. node.now) result ≡ self.now.rnc }
     {
         self.rnc.as_ref()
+    }
+
+    /// Takes a terminal, in place of the one before.
+    pub(crate) fn hold_ue(&mut self, node: Ue)
+        ensures { self.new ≡ record self.old { ue = Some node } }
+    {
+        self.ue = Some(node);
     }
 
     /// Takes a Node B, in place of the one before.

@@ -5,20 +5,18 @@ ghost use Rattle.dch_script.specs.Lines.{lines_of, rest_of};
 ghost use Rattle.dch_accept.specs.Plans.{Planned};
 ghost use Rattle.dch_check.specs.ConfigSection.{configuration_of, script_of};
 ghost use Rattle.dch_check.specs.Verdicts.{IsAccepted, IsAcceptedAs, Refuses};
-ghost use Rattle.dch_words.specs.declared.arguments.Subcommand.TheVariants.{Check, Encode, NodeB, Rnc};
+ghost use Rattle.dch_words.specs.declared.arguments.Subcommand.TheVariants.{Check, Encode};
 ghost use Rattle.dch_words.specs.declared.arguments.Arguments.{Arguments};
-ghost use Rattle.dch_nodebcmd.specs.Rules.{node_b_rules};
-ghost use Rattle.dch_rnccmd.specs.Rules.{rnc_rules};
-ghost use Rattle.dch_top.specs.NodeRuns.{AreEvents};
 ghost use Rattle.dch_top.specs.Benches.{no_nodes};
 ghost use Rattle.dch_io.specs.declared.feed.TheConstants.{LIMIT};
-ghost use Rattle.dch_top.specs.Ran.{Ran, Asks, Says, IsNoCommand, Misuses, AreGood};
+ghost use Rattle.dch_top.specs.Ran.{AreEventsFor, AreGood, Asks, IsNoCommand, Misuses, Ran, Runs, Says};
 
 use crate::bench::Bench;
 use crate::check::check;
 use crate::encode::encode;
 use crate::node_b::node_b;
 use crate::rnc::rnc;
+use crate::ue::ue;
 use dch_bits::NoMemory;
 use dch_io::{Sink, Source, write_all};
 use dch_words::{Arguments, Subcommand, parse_arguments};
@@ -82,15 +80,9 @@ pub fn run<S: Source, K: Sink>(
         → ¬ Rose (S.faults source.old) (S.faults source.new) → ¬ Rose (K.faults sink.old) (K.faults sink.new)
         → (result ≡ Status.Ok) ⊎ (result ≡ Status.NoMemory)) }
 
-    // So are the events of a Node B behind an accepted configuration.
-    ensures node_b_events { (arguments : Arguments) → Says words.now arguments → arguments.subcommand ≡ NodeB → IfSome (S.left source.old) (λ input. (accepted : Planned) → IsAcceptedAs (configuration_of input) accepted
-        → AreEvents node_b_rules accepted.config (lines_of (script_of input)) → rest_of (script_of input) ≡ [] → length input ≤ LIMIT
-        → ¬ Rose (S.faults source.old) (S.faults source.new) → ¬ Rose (K.faults sink.old) (K.faults sink.new)
-        → (result ≡ Status.Ok) ⊎ (result ≡ Status.NoMemory)) }
-
-    // And those of a network controller.
-    ensures rnc_events { (arguments : Arguments) → Says words.now arguments → arguments.subcommand ≡ Rnc → IfSome (S.left source.old) (λ input. (accepted : Planned) → IsAcceptedAs (configuration_of input) accepted
-        → AreEvents rnc_rules accepted.config (lines_of (script_of input)) → rest_of (script_of input) ≡ [] → length input ≤ LIMIT
+    // So are the events of a node behind an accepted configuration.
+    ensures events { (arguments : Arguments) → Says words.now arguments → IfSome (S.left source.old) (λ input. (accepted : Planned) → IsAcceptedAs (configuration_of input) accepted
+        → AreEventsFor arguments.subcommand accepted.config (lines_of (script_of input)) → rest_of (script_of input) ≡ [] → length input ≤ LIMIT
         → ¬ Rose (S.faults source.old) (S.faults source.new) → ¬ Rose (K.faults sink.old) (K.faults sink.new)
         → (result ≡ Status.Ok) ⊎ (result ≡ Status.NoMemory)) }
 
@@ -116,20 +108,30 @@ fn follow_words<S: Source, K: Sink>(
     ensures { Ran words.now (end_of S.left S.faults source.old source.new) (end_of K.taken K.faults sink.old sink.new) bench.new result }
 {
     match parse_arguments(alloc, words) {
-        Ok(Some(arguments)) => match arguments.subcommand {
-            Subcommand::Check => check(alloc, source, sink),
-            Subcommand::Encode => encode(alloc, source, sink),
-            Subcommand::NodeB => {
-                let Arguments { start, quiet, .. } = arguments;
-                node_b(alloc, start, quiet, source, sink, bench)
-            }
-            Subcommand::Rnc => {
-                let Arguments { start, quiet, .. } = arguments;
-                rnc(alloc, start, quiet, source, sink, bench)
-            }
-        },
+        Ok(Some(arguments)) => run_command(alloc, arguments, source, sink, bench),
         Ok(None) => refuse_words(source, sink),
         Err(NoMemory) => Status::NoMemory,
+    }
+}
+
+fn run_command<S: Source, K: Sink>(
+    alloc: Global,
+    arguments: Arguments,
+    source: &mut S,
+    sink: &mut K,
+    bench: &mut Bench,
+) -> Status
+    requires start { arguments.start ≤ 31 }
+    requires bench { bench.old ≡ no_nodes }
+    ensures { Runs arguments.subcommand arguments (end_of S.left S.faults source.old source.new) (end_of K.taken K.faults sink.old sink.new) bench.new result }
+{
+    let Arguments { start, quiet, .. } = arguments;
+    match arguments.subcommand {
+        Subcommand::Check => check(alloc, source, sink),
+        Subcommand::Encode => encode(alloc, source, sink),
+        Subcommand::NodeB => node_b(alloc, start, quiet, source, sink, bench),
+        Subcommand::Rnc => rnc(alloc, start, quiet, source, sink, bench),
+        Subcommand::Ue => ue(alloc, start, quiet, source, sink, bench),
     }
 }
 

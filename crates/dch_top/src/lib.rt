@@ -10,6 +10,7 @@ mod encode_handler;
 mod node_b;
 mod node_run;
 mod rnc;
+mod ue;
 
 pub use bench::Bench;
 pub use command::{Status, run};

@@ -22,6 +22,8 @@ pub enum Subcommand {
     NodeB,
     /// Run a network controller.
     Rnc,
+    /// Run a terminal.
+    Ue,
 }
 
 /// What the words of the command line say.
@@ -87,6 +89,7 @@ fn parse_subcommand(text: &str) -> Option<Subcommand>
         "encode" => Some(Subcommand::Encode),
         "nodeb" => Some(Subcommand::NodeB),
         "rnc" => Some(Subcommand::Rnc),
+        "ue" => Some(Subcommand::Ue),
         _ => None,
     }
 }

@@ -1,15 +1,10 @@
-use Rattle.dch_top.proofs.Commands.{ran_node_b, ran_nothing, ran_rnc}
+use Rattle.dch_top.proofs.Commands.{ran_command, ran_nothing}
 use Rattle.dch_top.proofs.command.follow_words.Goals as goal
 
-pub returns-in-NodeB : goal.returns-in-NodeB
-returns-in-NodeB g c =
+pub returns-in-Ok-Some : goal.returns-in-Ok-Some
+returns-in-Ok-Some g c =
     let says = rw c.in-Ok-Some.field-0-is at c.in-Ok-Some.ensures.says in
-    ran_node_b c.args.words.now c.in-Ok-Some.arguments _ _ c.node_b.new.bench c.node_b.result says c.in-NodeB.is c.node_b.ensures
-
-pub returns-in-Rnc : goal.returns-in-Rnc
-returns-in-Rnc g c =
-    let says = rw c.in-Ok-Some.field-0-is at c.in-Ok-Some.ensures.says in
-    ran_rnc c.args.words.now c.in-Ok-Some.arguments _ _ c.rnc.new.bench c.rnc.result says c.in-Rnc.is c.rnc.ensures
+    ran_command c.args.words.now c.in-Ok-Some.arguments _ _ c.run_command.new.bench c.run_command.result says c.run_command.ensures
 
 pub returns-in-Err : goal.returns-in-Err
 returns-in-Err g c = ran_nothing c.args.words.now _ _ _ _ c.args.bench.now c.requires
