@@ -1,4 +1,4 @@
-//! Tests of MAC, of the choice of combinations, of Iub frames, of the Node B and of the network controller: their public calls over values from outside. A crate with tests is proved twice, so they stand here together.
+//! Tests of MAC, of the choice of combinations, of Iub frames and of the three nodes: their public calls over values from outside. A crate with tests is proved twice, so they stand here together.
 #![tactic(auto)]
 
 #[cfg(test)]
@@ -11,3 +11,5 @@ mod nodeb;
 mod rnc;
 #[cfg(test)]
 mod select;
+#[cfg(test)]
+mod ue;
