@@ -1,6 +1,6 @@
 ghost use Rattle.std.specs.Prelude.{◌≡◌, ℕ};
 ghost use Rattle.std.proofs.Common.{refl, sym};
-ghost use Rattle.dch_apptest.specs.Echo.{echoing, echoing_finishes};
+ghost use Rattle.dch_apptest.specs.Echo.{echoing};
 
 use dch_io::{InputOffset, MemorySink, MemorySource, Pending, new_piece};
 use dch_lines::*;
@@ -63,10 +63,6 @@ impl LineHandler for Echo {
     ghost overlong = { λ _ _ _. refl };
 
     ghost counts = { λ state echo is. sym is };
-
-    ghost use Rattle.dch_apptest.specs.declared.lines.Echo.{Echo};
-
-    ghost finishes = { λ state echo is. echoing_finishes (λ (state : ℕ) (echo : Echo). echo.remaining ≡ state) state echo is };
 }
 
 /// How an input is followed after a first part, and what is written.

@@ -1,17 +1,16 @@
 -- The steps of a line, one after another.
-use Rattle.std.proofs.Common.{◌≡◌, ◌+◌, ◌≤◌, ℕ, suc, List, [], ◌++◌, Option, true, false, arith, refl, ap, subst, ◌∙◌, append_assoc, append-nil, inr}
+use Rattle.std.proofs.Common.{◌≡◌, ◌+◌, ◌<◌, ◌≤◌, ℕ, suc, List, [], ◌++◌, Option, true, false, arith, refl, ap, subst, ◌∙◌, append_assoc, append-nil, inr}
 use Rattle.std.specs.Prelude.{Ok, Err}
 use Rattle.std.proofs.KnownBytes.{Appends-nil}
 use Rattle.dch_io.specs.Ends.{End, Passes, Breaks, span}
 use Rattle.dch_script.specs.Held.{Held}
-use Rattle.dch_lines.specs.Finishing.{resumes_on}
-use Rattle.dch_lines.specs.Semantics.{Adds, Finishes, IsFault, Resumes, Semantics}
+use Rattle.dch_lines.specs.Semantics.{Adds, IsFault, Semantics}
 use Rattle.dch_lines.specs.Processor.{AddsLine, BreaksAt, EndsLine, FailsWithin, GoesThrough, LineOutcome, Progress}
 use Rattle.dch_lines.specs.LineTexts.{is_empty}
 use Rattle.dch_lines.specs.declared.stop.LineFault.{LineFault}
 use Rattle.dch_lines.specs.declared.stop.Stop.{Stop}
 use Rattle.dch_lines.specs.declared.stop.Stop.TheVariants.{Fault, Failed}
-use Rattle.dch_lines.proofs.Parts.{breaks_more, breaks_on, passes_on}
+use Rattle.dch_lines.proofs.Parts.{breaks_on, passes_on}
 
 -- some steps are done
 pub record Done {S : Type 0} (semantics : Semantics S) (old new : S) (before now : List ℕ) (a b : Option (List ℕ)) (f g : ℕ) : Type 0 where
@@ -51,16 +50,17 @@ all_done semantics old new before now a b f g done none =
     let same : semantics.remaining old ≡ done.count = omega (arith, done.counted, none) in
     rw same done.through
 
--- the sink fails before the next, and those that are left can be done
-pub fails_within : {S : Type 0} (semantics : Semantics S) (old mid : S) (before now : List ℕ) (a b c : Option (List ℕ)) (f g h : ℕ) → f ≤ g → Done semantics old mid before now a b f g → Finishes semantics mid → Breaks (span b c g h) now → FailsWithin semantics (span a c f h) old before
-fails_within semantics old mid before now a b c f g h later done finishes breaks =
+-- the sink fails before the next
+pub fails_within : {S : Type 0} (semantics : Semantics S) (old mid : S) (before now : List ℕ) (a b c : Option (List ℕ)) (f g h : ℕ) → f ≤ g → Done semantics old mid before now a b f g → 0 < semantics.remaining mid → Breaks (span b c g h) now → FailsWithin semantics (span a c f h) old before
+fails_within semantics old mid before now a b c f g h later done some breaks =
     let through = done.through in
-    let last : List ℕ = finishes.1.0 in
     record {
-      new = finishes.0;
-      rest = through.rest ++ last;
-      resumes = subst (λ n. Resumes semantics n old finishes.0 (through.rest ++ last)) done.counted (resumes_on semantics done.count (semantics.remaining mid) old mid finishes.0 through.rest last through.resumes finishes.1.1);
-      breaks = rw (← append_assoc before through.rest last) (breaks_on a b c f g h (before ++ through.rest) now last later through.passes (breaks_more (span b c g h) now last breaks));
+      count = done.count;
+      few = omega (arith, done.counted, some);
+      new = mid;
+      rest = through.rest;
+      resumes = through.resumes;
+      breaks = rw append-nil at (breaks_on a b c f g h (before ++ through.rest) now [] later through.passes (rw append-nil breaks));
     }
 
 -- a line is empty
@@ -94,16 +94,16 @@ some_said semantics old mid line before room parsed a b c f g h later words pass
     let first : List ℕ = adds.more in
     let rest : List ℕ = fails.rest in
     let text : parsed.text ++ rest ≡ room.text ++ (first ++ rest) = ap (λ (r : Held). r.text ++ rest) adds.added ∙ append_assoc room.text first rest in
-    rw words (inr (
+    inr (
       fails.new,
       (
         first ++ rest,
         (
-          record { mid = mid; first = first; handles = adds.handles; rest = rest; resumes = fails.resumes; whole = refl },
+          record { words = words; mid = mid; first = first; handles = adds.handles; count = fails.count; few = fails.few; rest = rest; resumes = fails.resumes; front = refl },
           breaks_on a b c f g h before room.text (first ++ rest) later passes (rw text at fails.breaks),
         ),
       ),
-    ))
+    )
 
 -- a line is counted
 pub line_added : {S : Type 0} (semantics : Semantics S) (sink : End) (old new : S) (line before now : List ℕ) (bytes lines nonempty_lines count : ℕ) → LineOutcome semantics sink old line new before now (Ok count)

@@ -8,7 +8,7 @@ use Rattle.dch_script.proofs.Lines.{lines_after-append, rest_after-append}
 use Rattle.dch_lines.specs.Semantics.{Semantics}
 use Rattle.dch_lines.specs.Processor.{Progress, MeetsFault, Takes, StopsAt, FailsIn}
 use Rattle.dch_lines.specs.declared.stop.LineFault.{LineFault}
-use Rattle.dch_lines.proofs.Cuts.{says_append, nonempty_lines-append}
+use Rattle.dch_lines.proofs.Cuts.{front_append, says_append, nonempty_lines-append}
 
 pub passes_on : (a b c : Option (List ℕ)) (f g h : ℕ) (text mid more remaining : List ℕ) → Passes (span a b f g) text mid → Passes (span b c g h) (mid ++ more) remaining → Passes (span a c f h) (text ++ more) remaining
 passes_on a b c f g h text mid more remaining first then = record {
@@ -87,7 +87,7 @@ fails_on semantics a b c f g h old mid xs ys later first then =
       lines = lines ∙ ap (λ l. here ++ l) then.lines ∙ sym (append_assoc here then.good then.later);
       state = then.state;
       more = first.more ++ then.more;
-      handles = says_append semantics old.handler mid.handler then.state here then.good first.more then.more first.handles then.handles;
+      handles = front_append semantics old.handler mid.handler then.state here then.good first.more then.more first.handles then.handles;
       breaks = rw (← append_assoc old.text first.more then.more) (breaks_on a b c f g h (old.text ++ first.more) mid.text then.more later first.passes then.breaks);
     }
 

@@ -18,7 +18,7 @@ use Rattle.dch_lines.specs.declared.stop.LineFault.TheVariants.{Malformed, NoMem
 use Rattle.dch_lines.specs.declared.stop.Outcome.{Outcome}
 use Rattle.dch_lines.specs.declared.stop.Outcome.TheVariants.{Ok, Refused, ReadFault, WriteFault, NoMemory as Lacking, TooLong}
 use Rattle.dch_lines.proofs.Parts.{lines_on, meets_on, takes_on}
-use Rattle.dch_lines.proofs.Cuts.{says_append}
+use Rattle.dch_lines.proofs.Cuts.{front_append, says_append}
 
 -- what is written and waits, with more text at its end
 joined : (w t x y last new : List ℕ) → x ++ y ≡ w ++ t → last ≡ new → w ++ (t ++ last) ≡ x ++ y ++ new
@@ -138,11 +138,14 @@ breaks_off semantics a c k l m f e h i j first old state part taken done piece c
         lines = rw cut (lines_on first.line old.line done piece at.line ∙ ap (λ l. before ++ l) breaks.lines ∙ sym (append_assoc before breaks.good breaks.later));
         state = breaks.state;
         text = at.more ++ breaks.more;
-        handles = says_append semantics first.handler old.handler breaks.state before breaks.good at.more breaks.more at.handles breaks.handles;
+        handles = front_append semantics first.handler old.handler breaks.state before breaks.good at.more breaks.more at.handles breaks.handles;
         last = breaks.last;
         follows = ⊎_elim
             (λ none. inl none)
-            (λ m. inr (inr (m.0, (rw cut (inl (meets_on semantics breaks.state first.line old.line done piece breaks.good (Malformed m.0) at.line m.1.0)), m.1.1 ∙ ap (λ n. refusal n m.0) count))))
+            (λ m. inr (
+              says_append semantics first.handler old.handler breaks.state before breaks.good at.more breaks.more at.handles m.0,
+              inr (m.1.0, (rw cut (inl (meets_on semantics breaks.state first.line old.line done piece breaks.good (Malformed m.1.0) at.line m.1.1.0)), m.1.1.1 ∙ ap (λ n. refusal n m.1.0) count)),
+            ))
             breaks.follows;
         cut = record {
           rest = breaks.breaks.cut.rest;
@@ -221,7 +224,7 @@ taken_all a b c taken first none = subst (Consumes a c) (append-nil taken) (Cons
 
 -- the sink fails at the end of the input
 breaks_at_end : {S : Type 0} (semantics : Semantics S) (a b c k l m : Option (List ℕ)) (f g e h i j : ℕ) (first old : Progress S) (state : S) (part last new : List ℕ) → (going : Going semantics (span a b f g) (span k l h i) first old part) → Consumes b c []
-    → last ≡ new → MayFollow semantics (span a c f e) first old.handler (part ++ going.taken) (lines_after first.line (part ++ going.taken)) new → old.bytes ≤ LIMIT → Breaks (span l m i j) (old.text ++ last) → FollowsInput semantics (span a c f e) (span k m h j) first state part WriteFault
+    → last ≡ new → MayFollow semantics (span a c f e) first old.handler going.at.more (part ++ going.taken) (lines_after first.line (part ++ going.taken)) new → old.bytes ≤ LIMIT → Breaks (span l m i j) (old.text ++ last) → FollowsInput semantics (span a c f e) (span k m h j) first state part WriteFault
 breaks_at_end semantics a b c k l m f g e h i j first old state part last new going none same follows within breaks =
     let done : List ℕ = part ++ going.taken in
     let written : List ℕ = going.at.passes.written in
@@ -238,7 +241,7 @@ breaks_at_end semantics a b c k l m f g e h i j first old state part last new go
         lines = sym (append-nil (lines_after first.line done));
         state = old.handler;
         text = going.at.more;
-        handles = going.at.handles;
+        handles = inl going.at.handles;
         last = new;
         follows = follows;
         cut = record {
@@ -296,9 +299,9 @@ ends semantics a b c k l m f g e h i j first old new part WriteFault going none 
     let lines : List (List ℕ) = lines_after first.line (part ++ going.taken) in
     ⊎_elim
     (λ done. breaks_at_end semantics a b c k l m f g e h i j first old new.handler part (semantics.closing old.handler old.nonempty_lines) (semantics.closing old.handler (first.nonempty_lines + nonempty_lines lines)) going none
-    (ap (λ n. semantics.closing old.handler n) going.at.nonempty_lines) (inr (inl ((end, refl, sym going.at.line ∙ done.0), refl))) within done.1)
+    (ap (λ n. semantics.closing old.handler n) going.at.nonempty_lines) (inr (going.at.handles, inl ((end, refl, sym going.at.line ∙ done.0), refl))) within done.1)
     (λ cut. breaks_at_end semantics a b c k l m f g e h i j first old new.handler part (refusal old.lines Cut) (refusal (first.lines + length lines) Cut) going none
-    (ap (λ n. refusal n Cut) going.at.lines) (inr (inr (Cut, (inr (refl, cut_off semantics (span a c f e) (span k l h i) first old (part ++ going.taken) end going.at cut.0), refl)))) within cut.1)
+    (ap (λ n. refusal n Cut) going.at.lines) (inr (going.at.handles, inr (Cut, (inr (refl, cut_off semantics (span a c f e) (span k l h i) first old (part ++ going.taken) end going.at cut.0), refl)))) within cut.1)
     ended
 ends semantics a b c k l m f g e h i j first old new part ReadFault going none end within ended = absurd ended
 ends semantics a b c k l m f g e h i j first old new part Lacking going none end within ended = absurd ended

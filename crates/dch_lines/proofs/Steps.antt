@@ -55,14 +55,14 @@ pub line_fails : {S : Type 0} (semantics : Semantics S) (s : End) (old : Progres
 line_fails semantics s old part remaining ends breaks =
     let lines : lines_after old.line (part ++ remaining) ≡ (old.line ++ part) ∷ lines_after [] remaining = lines_on old.line [] part remaining (sym ends.1) ∙ ap (λ l. l ++ lines_after [] remaining) ends.0 in
     ⊎_elim
-    (λ here. record { good = []; later = (old.line ++ part) ∷ lines_after [] remaining; lines = lines; state = old.handler; more = []; handles = (refl, refl); breaks = rw append-nil here })
+    (λ here. record { good = []; later = (old.line ++ part) ∷ lines_after [] remaining; lines = lines; state = old.handler; more = []; handles = inl (refl, refl); breaks = rw append-nil here })
     (λ within. record {
       good = (old.line ++ part) ∷ [];
       later = lines_after [] remaining;
       lines = lines;
       state = within.0;
       more = within.1.0;
-      handles = (within.0, (within.1.0, ([], (within.1.1.0, (refl, refl), sym (append-nil within.1.0)))));
+      handles = inr (record { before = []; line = old.line ++ part; ends = refl; state = old.handler; done = []; handles = (refl, refl); more = within.1.0; begins = within.1.1.0; whole = refl });
       breaks = within.1.1.1;
     })
     breaks

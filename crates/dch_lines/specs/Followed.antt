@@ -9,7 +9,7 @@ use Rattle.dch_script.specs.declared.event.LineError.TheVariants.{Cut}
 use Rattle.dch_io.specs.declared.feed.TheConstants.{LIMIT, PIECE}
 use Rattle.dch_lines.specs.Semantics.{Semantics}
 use Rattle.dch_lines.specs.Processor.{Progress, HasFaulty, MeetsFault}
-use Rattle.dch_lines.specs.LineTexts.{HandlesLines, nonempty_lines, refusal}
+use Rattle.dch_lines.specs.LineTexts.{HandlesFront, HandlesLines, nonempty_lines, refusal}
 use Rattle.dch_lines.specs.declared.stop.LineFault.TheVariants.{Malformed, NoMemory}
 use Rattle.dch_lines.specs.declared.stop.Outcome.{Outcome}
 use Rattle.dch_lines.specs.declared.stop.Outcome.TheVariants.{Ok, Refused, ReadFault, WriteFault, TooLong, NoMemory as Lacking}
@@ -65,12 +65,13 @@ pub record LacksMemory {S : Type 0} (semantics : Semantics S) (old : Progress S)
   pub handles : HandlesLines semantics old.handler good state text
   pub all : written ≡ old.text ++ text
 
--- what may follow the text of good lines: nothing, or the closing or refusal line
-abbrev pub MayFollow : {S : Type 0} → Semantics S → End → Progress S → S → List ℕ → List (List ℕ) → List ℕ → Type 0
-MayFollow semantics source old state bytes good last =
+-- what may follow the text of good lines: nothing, or behind whole lines the closing or refusal line
+abbrev pub MayFollow : {S : Type 0} → Semantics S → End → Progress S → S → List ℕ → List ℕ → List (List ℕ) → List ℕ → Type 0
+MayFollow semantics source old state text bytes good last =
     (last ≡ [])
-    ⊎ (((IsAtEnd source.now × (lines_after old.line bytes ≡ good) × (rest_after old.line bytes ≡ [])) × (last ≡ semantics.closing state (old.nonempty_lines + nonempty_lines good)))
-    ⊎ ((why : LineError) × (IsRefused semantics source state old.line bytes good why × (last ≡ refusal (old.lines + length good) why))))
+    ⊎ (HandlesLines semantics old.handler good state text
+    × (((IsAtEnd source.now × (lines_after old.line bytes ≡ good) × (rest_after old.line bytes ≡ [])) × (last ≡ semantics.closing state (old.nonempty_lines + nonempty_lines good)))
+    ⊎ ((why : LineError) × (IsRefused semantics source state old.line bytes good why × (last ≡ refusal (old.lines + length good) why)))))
 
 -- the text of all lines that came before the last piece is written
 pub record CoversAll {S : Type 0} (semantics : Semantics S) (old : Progress S) (bytes written : List ℕ) : Type 0 where
@@ -84,8 +85,8 @@ pub record CoversAll {S : Type 0} (semantics : Semantics S) (old : Progress S) (
   pub since : List ℕ
   pub begins : written ≡ old.text ++ text ++ since
 
--- a write failed; a front is written of the whole text of some good lines, up to and with the one in whose text it failed, and of
--- what may follow them. Where the source gave bytes, it covers all lines that came before the last piece
+-- a write failed; a front is written of the text of some good lines, the last of them maybe done in part, and of what may follow
+-- them. Where the source gave bytes, it covers all lines that came before the last piece
 pub record FailsWriting {S : Type 0} (semantics : Semantics S) (source sink : End) (old : Progress S) (part taken written : List ℕ) : Type 0 where
   pub fails : Fails sink
   pub within : old.bytes + length (part ++ taken) ≤ LIMIT
@@ -94,9 +95,9 @@ pub record FailsWriting {S : Type 0} (semantics : Semantics S) (source sink : En
   pub lines : lines_after old.line (part ++ taken) ≡ good ++ later
   pub state : S
   pub text : List ℕ
-  pub handles : HandlesLines semantics old.handler good state text
+  pub handles : HandlesFront semantics old.handler good state text
   pub last : List ℕ
-  pub follows : MayFollow semantics source old state (part ++ taken) good last
+  pub follows : MayFollow semantics source old state text (part ++ taken) good last
   pub cut : IsCutShort written (old.text ++ text ++ last)
   pub covers : (taken ≡ []) ⊎ CoversAll semantics old (part ++ taken) written
 

@@ -3,4 +3,3 @@ pub mod Processor
 pub mod Followed
 pub mod Pieces
 pub mod LineTexts
-pub mod Finishing

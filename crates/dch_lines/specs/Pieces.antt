@@ -7,7 +7,7 @@ use Rattle.dch_script.specs.declared.event.LineError.{LineError}
 use Rattle.dch_script.specs.declared.event.LineError.TheVariants.{Cut}
 use Rattle.dch_lines.specs.Semantics.{Semantics}
 use Rattle.dch_lines.specs.Processor.{Progress, Takes, MeetsFault}
-use Rattle.dch_lines.specs.LineTexts.{HandlesLines, refusal}
+use Rattle.dch_lines.specs.LineTexts.{HandlesFront, HandlesLines, refusal}
 use Rattle.dch_lines.specs.declared.stop.LineFault.{LineFault}
 use Rattle.dch_lines.specs.declared.stop.LineFault.TheVariants.{Malformed, NoMemory}
 use Rattle.dch_lines.specs.declared.stop.Outcome.{Outcome}
@@ -32,16 +32,17 @@ pub record LacksIn {S : Type 0} (semantics : Semantics S) (sink : End) (old : Pr
   pub handles : HandlesLines semantics old.handler good state more
   pub writes : Appends sink.before sink.now (old.text ++ more)
 
--- the sink failed within the text of some good lines, or within the line that refuses the next one
+-- the sink failed within the text of some good lines, the last of them maybe done in part, or behind whole lines within the line that
+-- refuses the next one
 pub record BreaksIn {S : Type 0} (semantics : Semantics S) (sink : End) (old : Progress S) (piece : List ℕ) : Type 0 where
   pub good : List (List ℕ)
   pub later : List (List ℕ)
   pub lines : lines_after old.line piece ≡ good ++ later
   pub state : S
   pub more : List ℕ
-  pub handles : HandlesLines semantics old.handler good state more
+  pub handles : HandlesFront semantics old.handler good state more
   pub last : List ℕ
-  pub follows : (last ≡ []) ⊎ ((why : LineError) × (MeetsFault semantics state old.line piece good (Malformed why) × (last ≡ refusal (old.lines + length good) why)))
+  pub follows : (last ≡ []) ⊎ (HandlesLines semantics old.handler good state more × ((why : LineError) × (MeetsFault semantics state old.line piece good (Malformed why) × (last ≡ refusal (old.lines + length good) why))))
   pub breaks : Breaks sink (old.text ++ more ++ last)
 
 -- what is written after the text that waits where a line is not handled, after so many others

@@ -9,7 +9,7 @@ use Rattle.dch_script.specs.Lines.{lines_after, rest_after}
 use Rattle.dch_script.specs.declared.code.TheConstants.{LONGEST_LINE}
 use Rattle.dch_script.specs.declared.event.LineError.TheVariants.{Long}
 use Rattle.dch_lines.specs.Semantics.{Leads, Semantics, Resumes}
-use Rattle.dch_lines.specs.LineTexts.{IsFaulty, is_empty, HandlesLine, HandlesLines, nonempty_lines}
+use Rattle.dch_lines.specs.LineTexts.{BeginsLine, IsFaulty, is_empty, HandlesFront, HandlesLine, HandlesLines, nonempty_lines}
 use Rattle.dch_lines.specs.declared.processor.TheConstants.{LEAST_ROOM}
 use Rattle.dch_lines.specs.declared.stop.LineFault.{LineFault}
 use Rattle.dch_lines.specs.declared.stop.LineFault.TheVariants.{Malformed}
@@ -52,11 +52,13 @@ pub record GoesThrough {S : Type 0} (semantics : Semantics S) (sink : End) (coun
   pub resumes : Resumes semantics count old new rest
   pub passes : Passes sink (before ++ rest) now
 
--- the sink failed within the text of the steps that were left
+-- the sink failed within the text of some of the steps that were left, but not all
 pub record FailsWithin {S : Type 0} (semantics : Semantics S) (sink : End) (old : S) (before : List ℕ) : Type 0 where
+  pub count : ℕ
+  pub few : count < semantics.remaining old
   pub new : S
   pub rest : List ℕ
-  pub resumes : Resumes semantics (semantics.remaining old) old new rest
+  pub resumes : Resumes semantics count old new rest
   pub breaks : Breaks sink (before ++ rest)
 
 -- what doing the steps that are left does
@@ -64,9 +66,9 @@ abbrev pub EndsSteps : {S : Type 0} → Semantics S → End → S → S → List
 EndsSteps semantics sink old new before now (Ok done) = GoesThrough semantics sink (semantics.remaining old) old new before now
 EndsSteps semantics sink old new before now (Err failed) = FailsWithin semantics sink old before
 
--- the sink failed within the text that waits, or within that and the whole text of this good line
+-- the sink failed within the text that waits, or within that and the text of this good line, which is done in part
 abbrev pub BreaksAt : {S : Type 0} → Semantics S → End → S → List ℕ → List ℕ → Type 0
-BreaksAt {S} semantics sink old line before = Breaks sink before ⊎ ((next : S) × ((more : List ℕ) × (HandlesLine semantics old line next more × Breaks sink (before ++ more))))
+BreaksAt {S} semantics sink old line before = Breaks sink before ⊎ ((next : S) × ((more : List ℕ) × (BeginsLine semantics old line next more × Breaks sink (before ++ more))))
 
 -- what doing what a line says, and adding its text to the text that waits, does: that may be written first
 abbrev pub LineOutcome : {S : Type 0} → Semantics S → End → S → List ℕ → S → List ℕ → List ℕ → Result ℕ Stop → Type 0
@@ -126,14 +128,14 @@ pub record StopsAt {S : Type 0} (semantics : Semantics S) (sink : End) (old new 
   pub passes : Passes sink (old.text ++ more) new.text
   pub lines : new.lines ≡ old.lines + length good
 
--- the sink failed within the text of some good lines
+-- the sink failed within the text of some good lines, the last of them maybe done in part
 pub record FailsIn {S : Type 0} (semantics : Semantics S) (sink : End) (old : Progress S) (bytes : List ℕ) : Type 0 where
   pub good : List (List ℕ)
   pub later : List (List ℕ)
   pub lines : lines_after old.line bytes ≡ good ++ later
   pub state : S
   pub more : List ℕ
-  pub handles : HandlesLines semantics old.handler good state more
+  pub handles : HandlesFront semantics old.handler good state more
   pub breaks : Breaks sink (old.text ++ more)
 
 -- what following some bytes does

@@ -40,14 +40,6 @@ pub record LineSteps {S : Type 0} (semantics : Semantics S) (old : S) (line : Li
   pub resumes : Resumes semantics (semantics.remaining mid) mid new rest
   pub whole : text ≡ first ++ rest
 
--- the steps that are left can be done, and add some text
-abbrev pub Finishes : {S : Type 0} → Semantics S → S → Type 0
-Finishes {S} semantics state = (new : S) × ((text : List ℕ) × Resumes semantics (semantics.remaining state) state new text)
-
--- they can be done from each state that a handler stands for
-abbrev pub CanFinish : {S C : Type 0} → Semantics S → (S → C → Type 0) → Type 0
-CanFinish {S} {C} semantics represents = (state : S) (handler : C) → represents state handler → Finishes semantics state
-
 -- a handler has as many steps left as the states that it stands for
 abbrev pub Counts : {S C : Type 0} → Semantics S → (S → C → Type 0) → (C → ℕ) → Type 0
 Counts {S} {C} semantics represents remaining = (state : S) (handler : C) → represents state handler → semantics.remaining state ≡ remaining handler

@@ -1,6 +1,6 @@
 ghost use Rattle.std.specs.Prelude.{◌≡◌, ◌<◌, ◌≤◌, ◌+◌, ◌++◌, ℕ, false, length, OnOk, IfErr};
 ghost use Rattle.dch_io.specs.declared.feed.TheConstants.{LIMIT};
-ghost use Rattle.dch_lines.specs.Semantics.{Adds, CanFinish, Counts, IsFault, Leads, RefusesLong, Semantics};
+ghost use Rattle.dch_lines.specs.Semantics.{Adds, Counts, IsFault, Leads, RefusesLong, Semantics};
 ghost use Rattle.dch_lines.specs.LineTexts.{is_empty};
 
 use crate::stop::LineFault;
@@ -82,7 +82,4 @@ pub trait LineHandler {
 
     /// A handler has as many steps left as the states that it stands for.
     ghost counts: { Counts semantics represents remaining };
-
-    /// The steps that are left can all be done.
-    ghost finishes: { CanFinish semantics represents };
 }

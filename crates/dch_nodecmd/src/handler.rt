@@ -1,4 +1,4 @@
-ghost use Rattle.std.specs.Prelude.{◌≡◌, ◌<◌, ◌≤◌, ◌+◌, ◌%◌, [], length, refl, IfErr, IfOk};
+ghost use Rattle.std.specs.Prelude.{◌≡◌, ◌<◌, ◌≤◌, ◌+◌, ◌%◌, length, refl, IfErr, IfOk};
 ghost use Rattle.dch_accept.specs.Reports.{step_bytes};
 ghost use Rattle.dch_nodecmd.specs.NodeRules.{IsMalformed};
 ghost use Rattle.dch_nodecmd.specs.Overlong.{refuses_long};
@@ -137,8 +137,6 @@ impl<N: CommandNode> LineHandler for NodeHandler<N> {
     ghost overlong = { refuses_long N.rules };
 
     ghost counts = { λ _ _ _. refl };
-
-    ghost finishes = { λ state _ _. (state, ([], (refl, refl))) };
 }
 
 /// Takes a line as an event, and adds to the report what is shown of the lines of the step, for which `step` has room where

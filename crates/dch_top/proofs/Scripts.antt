@@ -100,8 +100,11 @@ answers_from semantics s t sink old after part later written FailedWriting end f
   handles = is.handles;
   last = is.last;
   follows = ⊎_elim (λ none. inl none)
-      (λ some. ⊎_elim (λ done. inr (inl ((end done.0.0, done.0.1, done.0.2), done.1)))
-      (λ refused. inr (inr (refused.0, (refused_from semantics s t is.state old.line (part ++ later) is.good refused.0 end refused.1.0, refused.1.1)))) some) is.follows;
+      (λ some. inr (
+        some.0,
+        ⊎_elim (λ done. inl ((end done.0.0, done.0.1, done.0.2), done.1))
+            (λ refused. inr (refused.0, (refused_from semantics s t is.state old.line (part ++ later) is.good refused.0 end refused.1.0, refused.1.1))) some.1,
+      )) is.follows;
   cut = is.cut;
   covers = is.covers;
 }

@@ -1,4 +1,4 @@
-ghost use Rattle.std.specs.Prelude.{◌≡◌, ◌≤◌, ◌+◌, ◌++◌, [], true, false, length, refl, OnOk, IfErr};
+ghost use Rattle.std.specs.Prelude.{◌≡◌, ◌≤◌, ◌+◌, ◌++◌, true, false, length, refl, OnOk, IfErr};
 ghost use Rattle.dch_script.specs.Code.{meaning, is_bits};
 ghost use Rattle.dch_lines.specs.Semantics.{Adds};
 ghost use Rattle.dch_top.specs.Overlong.{encoding_refuses_long};
@@ -86,8 +86,6 @@ impl LineHandler for EncodeHandler {
     ghost overlong = { encoding_refuses_long };
 
     ghost counts = { λ _ _ _. refl };
-
-    ghost finishes = { λ state _ _. (state, ([], (refl, refl))) };
 }
 
 /// Adds the coded bits of a line's transport block to the report.

@@ -44,4 +44,5 @@ pub returns-in-Err-clause-finishes : goal.returns-in-Err-clause-finishes
 returns-in-Err-clause-finishes g c = λ state is.
     let before = c.steps.invariant in
     let so = before.done state is in
-    (so.0, so.1, fails_within g.C.LineHandler.semantics state so.0 _ c.steps.report.text _ _ _ _ _ _ before.later so.2 (g.met.C.LineHandler.finishes so.0 c.steps.handler so.1) c.in-Err.ensures.err)
+    let some : 0 < g.C.LineHandler.semantics.remaining so.0 = omega (arith, g.met.C.LineHandler.counts so.0 c.steps.handler so.1, c.remaining.ensures, c.steps-test.true) in
+    (so.0, so.1, fails_within g.C.LineHandler.semantics state so.0 _ c.steps.report.text _ _ _ _ _ _ before.later so.2 some c.in-Err.ensures.err)
