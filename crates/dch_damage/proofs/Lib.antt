@@ -1,0 +1,5 @@
+pub mod Arriving
+pub mod Changed
+pub mod New
+pub mod Sizes
+pub mod WaitingLemmas

@@ -1,0 +1,225 @@
+ghost use Rattle.std.specs.Prelude.{◌≡◌, ◌≤◌, ◌<◌, ℕ, None, true, length, take, slice_index, IfOk, bit_xor};
+ghost use Rattle.dch_damage.specs.Damage.{each_changed};
+ghost use Rattle.dch_damage.specs.Lending.{octets_of};
+ghost use Rattle.dch_damage.specs.Opened.{AreClearedTo, AreNewSets, IsIubDamageOf, IsIubWithin, IsQuietSet};
+ghost use Rattle.dch_damage.specs.Tables.{iub_cleared, iub_through, masked, set_in, with_set};
+
+use crate::fronts::{clear, copy};
+use dch_accept::Accepted;
+use dch_bits::NoMemory;
+use dch_iub::longest;
+use dch_types::Dir;
+use std::alloc::Global;
+use std::marker::Model;
+
+/// How many sets there may be in a direction.
+const SETS: u8 = 8;
+
+/// The damage that waits for the Iub frame of a set.
+#[derive(Drop)]
+pub struct IubDamage {
+    lost: bool,
+    masks: Vec<u8>,
+    touched: bool,
+}
+
+impl Model for IubDamage {
+    ghost use Rattle.dch_damage.specs.Tables.{IubTables};
+    ghost use Rattle.dch_damage.specs.Waiting.{AreNoMasks};
+
+    ghost Value = { IubTables };
+
+    ghost view = { λ d. record { lost = d.lost; masks = d.masks.items } };
+
+    ghost invariant = { λ d. AreNoMasks d.touched d.masks.items };
+}
+
+impl IubDamage {
+    /// Takes the memory for the octets of the frames of a set of a direction. Nothing waits.
+    fn open(alloc: Global, accepted: &Accepted, dir: Dir, set: u8) -> Result<IubDamage, NoMemory>
+        ensures opened { IfOk result (IsIubDamageOf accepted.now dir set) }
+        ensures quiet { IfOk result IsQuietSet }
+    {
+        Ok(IubDamage {
+            lost: false,
+            masks: vec![in alloc; 0; longest(accepted, dir, set)]?,
+            touched: false,
+        })
+    }
+
+    /// The octets of the longest Iub frame.
+    fn most_octets(&self) -> usize
+        ensures { result ≡ length self.now.masks }
+    {
+        self.masks.len()
+    }
+
+    /// The next Iub frame is lost.
+    fn lose(&mut self)
+        ensures { self.new ≡ record self.old { lost = true } }
+    {
+        self.lost = true;
+    }
+
+    /// Joins a mask to that of an octet. An octet past the end has no effect.
+    fn spoil(&mut self, octet: u16, mask: u8)
+        ensures { self.new ≡ record self.old { masks = masked self.old.masks octet mask } }
+    {
+        join_mask(&mut self.masks, octet as usize, mask);
+        self.touched = true;
+    }
+
+    /// Nothing waits any more.
+    fn clear(&mut self)
+        ensures { self.new ≡ iub_cleared self.old }
+    {
+        self.lost = false;
+        if self.touched {
+            clear(&mut self.masks, 0);
+            self.touched = false;
+        }
+    }
+
+    /// Writes octets to the front of `out` as they arrive.
+    fn mask(&self, octets: &[u8], out: &mut [u8])
+        requires table { length octets.now ≤ length self.now.masks }
+        requires room { length octets.now ≤ length out.old }
+        ensures { take (length octets.now) out.new ≡ each_changed (λ k octet. bit_xor octet (slice_index self.now.masks k)) octets.now }
+    {
+        if self.touched {
+            mask_octets(&self.masks, octets, out);
+        } else {
+            copy(octets, out);
+        }
+    }
+}
+
+/// Joins a mask to that of an octet by exclusive or.
+fn join_mask(masks: &mut [u8], octet: usize, mask: u8)
+    ensures { masks.new ≡ masked masks.old octet mask }
+{
+    if octet < masks.len() {
+        masks[octet] ^= mask;
+    }
+}
+
+/// Writes octets to the front of `out`, each exclusive or its mask.
+fn mask_octets(masks: &[u8], octets: &[u8], out: &mut [u8])
+    requires table { length octets.now ≤ length masks.now }
+    requires room { length octets.now ≤ length out.old }
+    ensures { take (length octets.now) out.new ≡ each_changed (λ k octet. bit_xor octet (slice_index masks.now k)) octets.now }
+{
+    for i in 0..octets.len() {
+        out[i] = octets[i] ^ masks[i];
+    }
+}
+
+/// Takes the memory for the damage to the Iub frames of all sets of a direction. Nothing waits.
+pub fn open_sets(alloc: Global, accepted: &Accepted, dir: Dir) -> Result<Vec<IubDamage>, NoMemory>
+    ensures { IfOk result (λ sets. AreNewSets accepted.now dir 8 sets.items) }
+{
+    let mut sets = Vec::new(alloc);
+    for set in 0..SETS {
+        sets.push(IubDamage::open(alloc, accepted, dir, set)?)?;
+    }
+    Ok(sets)
+}
+
+/// The octets of the longest Iub frame of all sets.
+pub fn longest_of_sets(sets: &[IubDamage]) -> usize
+    requires { length sets.now ≡ 8 }
+    ensures { (s : ℕ) → s < 8 → length (set_in sets.now s).masks ≤ result }
+{
+    let mut longest = 0;
+    for set in 0..SETS {
+        longest = longest.max(sets[set as usize].most_octets());
+    }
+    longest
+}
+
+/// The next Iub frame of a set is lost.
+pub fn lose_set(sets: &mut [IubDamage], set: u8)
+    requires { set < length sets.old }
+    ensures { sets.new ≡ with_set sets.old set (λ tables. record tables { lost = true }) }
+{
+    sets[set as usize].lose();
+}
+
+/// Joins a mask to that of an octet of a set.
+pub fn spoil_set(sets: &mut [IubDamage], set: u8, octet: u16, mask: u8)
+    requires { set < length sets.old }
+    ensures { sets.new ≡ with_set sets.old set (λ tables. record tables { masks = masked tables.masks octet mask }) }
+{
+    sets[set as usize].spoil(octet, mask);
+}
+
+/// Nothing waits for any set any more.
+pub fn clear_sets(sets: &mut [IubDamage])
+    requires { length sets.old ≡ 8 }
+    ensures { AreClearedTo 8 sets.old sets.new }
+{
+    for set in 0..SETS {
+        sets[set as usize].clear();
+    }
+}
+
+/// What arrived of the Iub frame that was hit last, in memory for the longest one.
+#[derive(Drop)]
+pub struct IubBuffer {
+    octets: Vec<u8>,
+    len: usize,
+    came: bool,
+}
+
+impl Model for IubBuffer {
+    ghost use Rattle.std.specs.Prelude.{◌≤◌, length, take};
+    ghost use Rattle.dch_damage.specs.Buffers.{IubArrival};
+    ghost use Rattle.dch_damage.specs.Tables.{came_if};
+
+    ghost Value = { IubArrival };
+
+    ghost view = { λ b. record { arrived = came_if b.came (take b.len b.octets.items); room = length b.octets.items } };
+
+    ghost invariant = { λ b. b.len ≤ length b.octets.items };
+}
+
+impl IubBuffer {
+    /// Takes the memory for so many octets. Nothing has arrived.
+    pub fn open(alloc: Global, octets: usize) -> Result<IubBuffer, NoMemory>
+        ensures { IfOk result (λ buffer. buffer ≡ record { arrived = None; room = octets }) }
+    {
+        Ok(IubBuffer {
+            octets: vec![in alloc; 0; octets]?,
+            len: 0,
+            came: false,
+        })
+    }
+
+    /// What arrived, if anything did.
+    pub fn view(&self) -> Option<&[u8]>
+        ensures { octets_of result ≡ self.now.arrived }
+    {
+        if self.came {
+            Some(&self.octets[..self.len])
+        } else {
+            None
+        }
+    }
+
+    /// Takes what arrives of an Iub frame that is hit by the damage.
+    pub fn receive(&mut self, damage: &IubDamage, octets: Option<&[u8]>)
+        requires table { IsIubWithin damage.now (octets_of octets) }
+        requires room { length damage.now.masks ≤ self.old.room }
+        ensures { self.new ≡ record self.old { arrived = iub_through damage.now (octets_of octets.entry) } }
+    {
+        self.came = false;
+        if damage.lost {
+            return;
+        }
+        if let Some(octets) = octets {
+            damage.mask(octets, &mut self.octets);
+            self.len = octets.len();
+            self.came = true;
+        }
+    }
+}
