@@ -1,0 +1,44 @@
+use Rattle.std.proofs.Common.{◌≡◌, ◌∙◌, ℕ, List, Option, Some, ap, sym, subst}
+use Rattle.dch_types.specs.declared.channel.Dir.TheVariants.{Down}
+use Rattle.dch_link.specs.Standing.{IsLinkOf, LeadsTo, Represents}
+use Rattle.dch_link.specs.Values.{Nodes}
+use Rattle.dch_link.specs.contracts.link.Link.{the_view}
+use Rattle.dch_nodeb.specs.State.{IubFrame}
+use Rattle.dch_damage.specs.Damage.{iub_after}
+use Rattle.dch_damage.specs.Lending.{octets_of as octets_hit}
+use Rattle.dch_damage.specs.Opened.{HasIubRoom}
+use Rattle.dch_link.specs.Stages.{MayGoDown}
+use Rattle.dch_link.proofs.Arriving.{iub_room, octets_same, set_there}
+use Rattle.dch_link.proofs.Nexts.{node_b_next, with_damage}
+use Rattle.dch_link.proofs.link.Link.iub_down.Goals as goal
+
+pub hit_iub-requires-clause-room : goal.hit_iub-requires-clause-room
+hit_iub-requires-clause-room c =
+    let planned = c.args.accepted.now in
+    let nodes : Nodes = the_view c.self.inside in
+    let opened : IsLinkOf planned nodes = subst (λ (n : Nodes). IsLinkOf planned n) (sym c.self.view_is) c.requires.opened in
+    subst (λ (o : Option (List ℕ)). HasIubRoom nodes.damage Down c.args.set o) (sym (octets_same c.iub.result ∙ c.iub.ensures ∙ opened.stands.rnc.shows.iub c.args.set c.requires.set))
+    (iub_room planned nodes.damage Down c.args.set (opened.link.rnc.last.iub c.args.set) opened.opened.damage c.requires.set (opened.stands.rnc_sends.iub_is c.args.set c.requires.set))
+
+pub step-requires-clause-event : goal.step-requires-clause-event
+step-requires-clause-event c =
+    let planned = c.args.accepted.now in
+    let nodes : Nodes = the_view c.self.inside in
+    let opened : IsLinkOf planned nodes = subst (λ (n : Nodes). IsLinkOf planned n) (sym c.self.view_is) c.requires.opened in
+    set_there planned Down c.args.set opened.link.damage (opened.link.rnc.last.iub c.args.set) c.in-Some.frame.now (opened.stands.rnc_sends.iub_is c.args.set c.requires.set)
+    (ap octets_hit (sym c.in-Some.is) ∙ c.iub-2.ensures ∙ (c.hit_iub.ensures.arrives opened.link.damage opened.stands.damage).1
+    ∙ ap (iub_after opened.link.damage Down c.args.set) (octets_same c.iub.result ∙ c.iub.ensures ∙ opened.stands.rnc.shows.iub c.args.set c.requires.set))
+
+pub returns-in-Some-clause-passes : goal.returns-in-Some-clause-passes
+returns-in-Some-clause-passes c = λ first link was.
+    let planned = c.args.accepted.now in
+    let set = c.args.set in
+    let nodes : Nodes = the_view c.self.inside in
+    let is : Represents planned first link nodes = subst (λ (n : Nodes). Represents planned first link n) (sym c.self.view_is) was in
+    let waits = c.hit_iub.ensures.arrives link.damage is.damage in
+    let arrives : Some c.in-Some.frame.now ≡ iub_after link.damage Down set (link.rnc.last.iub set) =
+    ap octets_hit (sym c.in-Some.is) ∙ c.iub-2.ensures ∙ waits.1 ∙ ap (iub_after link.damage Down set) (octets_same c.iub.result ∙ c.iub.ensures ∙ is.rnc.shows.iub set c.requires.set) in
+    let hit : Nodes = record nodes { damage = c.hit_iub.new.self } in
+    let stood : Represents planned first link hit = with_damage planned first link nodes link.damage c.hit_iub.new.self is waits.0 in
+    subst (λ (o : Option (List ℕ)). LeadsTo planned first (λ next lines. MayGoDown set o link next lines) (record hit { node_b = c.step.new.self }) c.args.report.now c.step.new.report) arrives
+    (node_b_next planned first link hit (IubFrame set c.in-Some.frame.now) c.step.new.self c.args.report.now c.step.new.report stood (c.step.ensures.step link.node_b.state is.node_b.stands) c.step.ensures.most)

@@ -1,0 +1,66 @@
+use Rattle.std.proofs.Common.{◌≡◌, ◌∙◌, ◌++◌, ℕ, List, length, Option, Some, ap, sym, subst}
+use Rattle.dch_types.specs.declared.channel.Dir.TheVariants.{Up}
+use Rattle.dch_accept.specs.Plans.{Planned}
+use Rattle.dch_script.specs.Held.{Held as Text}
+use Rattle.dch_node.specs.Lines.{Line}
+use Rattle.dch_txframes.specs.Reports.{added}
+use Rattle.dch_link.specs.Checks.{AreChecked, good_in}
+use Rattle.dch_link.specs.Standing.{AreNodesOf, IsLinkOf, LeadsTo, Represents}
+use Rattle.dch_link.specs.Values.{Nodes}
+use Rattle.dch_link.specs.contracts.link.Link.{the_view}
+use Rattle.dch_rnc.specs.State.{IubFrame}
+use Rattle.dch_damage.specs.Damage.{iub_after}
+use Rattle.dch_damage.specs.Lending.{octets_of as octets_hit}
+use Rattle.dch_damage.specs.Opened.{HasIubRoom}
+use Rattle.dch_link.specs.Stages.{MayGoUp}
+use Rattle.dch_link.proofs.Arriving.{iub_room, octets_same, set_there}
+use Rattle.dch_link.proofs.Compared.{compared_up}
+use Rattle.dch_link.proofs.Nexts.{rnc_next, with_damage}
+use Rattle.dch_link.proofs.Reporting.{added-added}
+use Rattle.dch_link.proofs.link.Link.iub_up.Goals as goal
+
+pub hit_iub-requires-clause-room : goal.hit_iub-requires-clause-room
+hit_iub-requires-clause-room c =
+    let planned = c.args.accepted.now in
+    let nodes : Nodes = the_view c.self.inside in
+    let opened : IsLinkOf planned nodes = subst (λ (n : Nodes). IsLinkOf planned n) (sym c.self.view_is) c.requires.opened in
+    subst (λ (o : Option (List ℕ)). HasIubRoom nodes.damage Up c.args.set o) (sym (octets_same c.iub.result ∙ c.iub.ensures ∙ opened.stands.node_b.shows.iub c.args.set c.requires.set))
+    (iub_room planned nodes.damage Up c.args.set (opened.link.node_b.last.iub c.args.set) opened.opened.damage c.requires.set (opened.stands.node_b_sends.iub_is c.args.set c.requires.set))
+
+pub step-requires-clause-event : goal.step-requires-clause-event
+step-requires-clause-event c =
+    let planned = c.args.accepted.now in
+    let nodes : Nodes = the_view c.self.inside in
+    let opened : IsLinkOf planned nodes = subst (λ (n : Nodes). IsLinkOf planned n) (sym c.self.view_is) c.requires.opened in
+    set_there planned Up c.args.set opened.link.damage (opened.link.node_b.last.iub c.args.set) c.in-Some.frame.now (opened.stands.node_b_sends.iub_is c.args.set c.requires.set)
+    (ap octets_hit (sym c.in-Some.is) ∙ c.iub-2.ensures ∙ (c.hit_iub.ensures.arrives opened.link.damage opened.stands.damage).1
+    ∙ ap (iub_after opened.link.damage Up c.args.set) (octets_same c.iub.result ∙ c.iub.ensures ∙ opened.stands.node_b.shows.iub c.args.set c.requires.set))
+
+pub returns-in-Some-clause-passes : goal.returns-in-Some-clause-passes
+returns-in-Some-clause-passes c = λ first link was.
+    let set = c.args.set in
+    let planned = c.args.accepted.now in
+    let nodes : Nodes = the_view c.self.inside in
+    let opened : IsLinkOf planned nodes = subst (λ (n : Nodes). IsLinkOf planned n) (sym c.self.view_is) c.requires.opened in
+    let is : Represents planned first link nodes = subst (λ (n : Nodes). Represents planned first link n) (sym c.self.view_is) was in
+    let waits = c.hit_iub.ensures.arrives link.damage is.damage in
+    let arrives : Some c.in-Some.frame.now ≡ iub_after link.damage Up set (link.node_b.last.iub set) =
+    ap octets_hit (sym c.in-Some.is) ∙ c.iub-2.ensures ∙ waits.1 ∙ ap (iub_after link.damage Up set) (octets_same c.iub.result ∙ c.iub.ensures ∙ is.node_b.shows.iub set c.requires.set) in
+    let hit : Nodes = record nodes { damage = c.hit_iub.new.self } in
+    let stood : Represents planned first link hit = with_damage planned first link nodes link.damage c.hit_iub.new.self is waits.0 in
+    let led = rnc_next planned first link hit (IubFrame set c.in-Some.frame.now) c.step.new.self c.args.report.now c.step.new.report stood (c.step.ensures.step link.rnc.state is.rnc.stands) c.step.ensures.most in
+    let now : Nodes = record hit { rnc = c.step.new.self } in
+    let all : AreNodesOf planned now = record { ue = opened.opened.ue; node_b = opened.opened.node_b; rnc = c.step.ensures.opened; damage = c.hit_iub.ensures.opened planned opened.opened.damage } in
+    let compared = compared_up planned first led.next now c.step.new.report c.compare_up.new.report all led.stands c.compare_up.ensures.compared in
+    subst (λ (o : Option (List ℕ)). LeadsTo planned first (λ next lines. MayGoUp set o link next lines) now c.args.report.now c.compare_up.new.report) arrives (record {
+      next = led.next;
+      lines = led.lines ++ compared.lines;
+      does = record {
+        comes = led.does.0;
+        checks = compared.lines;
+        compared = subst (λ (p : Planned). AreChecked Up (λ i. good_in (led.next.rnc.state.readings i)) (λ i. (led.next.ue.state.layer.given i).blocks) (length p.config.uplink.side.channels) compared.lines) (sym was.rnc.stands.at.active) compared.checked;
+        all = ap (λ (l : List Line). l ++ compared.lines) led.does.1;
+      };
+      stands = led.stands;
+      reported = compared.reported ∙ ap (λ (t : Text). added t compared.lines) led.reported ∙ added-added c.args.report.now led.lines compared.lines;
+    })

@@ -1,0 +1,57 @@
+use Rattle.std.proofs.Common.{◌≡◌, ◌∙◌, [], Option, ap, sym, subst}
+use Rattle.dch_types.specs.declared.channel.Dir.TheVariants.{Down}
+use Rattle.dch_link.specs.Standing.{IsLinkOf, Represents}
+use Rattle.dch_link.specs.Values.{Nodes}
+use Rattle.dch_link.specs.contracts.link.Link.{the_view}
+use Rattle.std.proofs.Common.{◌++◌}
+use Rattle.dch_ue.specs.State.{DownlinkFrame}
+use Rattle.dch_node.specs.Lines.{text_of}
+use Rattle.dch_node.specs.Values.{Output, Radio}
+use Rattle.dch_txframes.specs.Lending.{radio_of}
+use Rattle.dch_damage.specs.Damage.{radio_after}
+use Rattle.dch_damage.specs.Opened.{HasRadioRoom}
+use Rattle.dch_link.specs.Stages.{UeGoes}
+use Rattle.dch_link.proofs.Arriving.{radio_room, radio_same, tfci_kept}
+use Rattle.dch_link.proofs.Nexts.{ue_next, with_damage}
+use Rattle.dch_link.proofs.Reporting.{added-none, went_on}
+use Rattle.dch_link.proofs.link.Link.radio_down.Goals as goal
+
+pub hit_radio-requires : goal.hit_radio-requires
+hit_radio-requires c =
+    let planned = c.args.accepted.now in
+    let nodes : Nodes = the_view c.self.inside in
+    let opened : IsLinkOf planned nodes = subst (λ (n : Nodes). IsLinkOf planned n) (sym c.self.view_is) c.requires.opened in
+    record {
+      room = subst (λ (r : Option Radio). HasRadioRoom nodes.damage Down r) (sym (radio_same c.sent.result ∙ c.sent.ensures ∙ opened.stands.node_b.shows.radio))
+          (radio_room planned nodes.damage Down opened.link.node_b.last.sent opened.opened.damage opened.stands.node_b_sends.radio_is);
+    }
+
+pub step-requires-clause-event : goal.step-requires-clause-event
+step-requires-clause-event c =
+    let planned = c.args.accepted.now in
+    let nodes : Nodes = the_view c.self.inside in
+    let opened : IsLinkOf planned nodes = subst (λ (n : Nodes). IsLinkOf planned n) (sym c.self.view_is) c.requires.opened in
+    tfci_kept planned Down opened.link.damage opened.link.node_b.last.sent c.radio-frame.result opened.stands.node_b_sends.radio_is
+    (sym (radio_same c.radio-frame.result) ∙ c.radio-frame.ensures ∙ (c.hit_radio.ensures.arrives opened.link.damage opened.stands.damage).1
+    ∙ ap (radio_after opened.link.damage Down) (radio_same c.sent.result ∙ c.sent.ensures ∙ opened.stands.node_b.shows.radio))
+
+pub returns-clause-comes : goal.returns-clause-comes
+returns-clause-comes c = λ first link was.
+    let planned = c.args.accepted.now in
+    let nodes : Nodes = the_view c.self.inside in
+    let is : Represents planned first link nodes = subst (λ (n : Nodes). Represents planned first link n) (sym c.self.view_is) was in
+    let waits = c.hit_radio.ensures.arrives link.damage is.damage in
+    let arrives : radio_of c.radio-frame.result ≡ radio_after link.damage Down link.node_b.last.sent =
+    sym (radio_same c.radio-frame.result) ∙ c.radio-frame.ensures ∙ waits.1 ∙ ap (radio_after link.damage Down) (radio_same c.sent.result ∙ c.sent.ensures ∙ is.node_b.shows.radio) in
+    let hit : Nodes = record nodes { damage = c.hit_radio.new.self } in
+    let stood : Represents planned first link hit = with_damage planned first link nodes link.damage c.hit_radio.new.self is waits.0 in
+    let led = ue_next planned first link hit (DownlinkFrame (radio_of c.radio-frame.result)) c.step.new.self c.args.report.now c.step.new.report stood c.step.ensures.opened (c.step.ensures.step link.ue.state is.ue.stands) c.step.ensures.most in
+    (led.next, (subst (λ (r : Option Radio). UeGoes link (DownlinkFrame r) led.next) arrives led.does.0, led.stands))
+
+pub returns-clause-same : goal.returns-clause-same
+returns-clause-same c =
+    let planned = c.args.accepted.now in
+    let nodes : Nodes = the_view c.self.inside in
+    let opened : IsLinkOf planned nodes = subst (λ (n : Nodes). IsLinkOf planned n) (sym c.self.view_is) c.requires.opened in
+    let stepped = c.step.ensures.step opened.link.ue.state opened.stands.ue.stands in
+    went_on c.args.report.now c.step.new.report [] (subst (λ (o : Output). c.step.new.report.text ≡ c.args.report.now.text ++ text_of o.lines) stepped.step.1 stepped.reported) c.step.ensures.most ∙ sym (added-none c.args.report.now)

@@ -1,0 +1,46 @@
+use Rattle.std.proofs.Common.{◌≡◌, ◌∙◌, Option, ap, sym, subst}
+use Rattle.dch_types.specs.declared.channel.Dir.TheVariants.{Up}
+use Rattle.dch_link.specs.Standing.{IsLinkOf, LeadsTo, Represents}
+use Rattle.dch_link.specs.Values.{Nodes}
+use Rattle.dch_link.specs.contracts.link.Link.{the_view}
+use Rattle.dch_nodeb.specs.State.{UplinkFrame}
+use Rattle.dch_node.specs.Values.{Radio}
+use Rattle.dch_txframes.specs.Lending.{radio_of}
+use Rattle.dch_damage.specs.Damage.{radio_after}
+use Rattle.dch_damage.specs.Opened.{HasRadioRoom}
+use Rattle.dch_link.specs.Stages.{NodeBReports}
+use Rattle.dch_link.proofs.Arriving.{radio_room, radio_same, tfci_kept}
+use Rattle.dch_link.proofs.Nexts.{node_b_next, with_damage}
+use Rattle.dch_link.proofs.link.Link.radio_up.Goals as goal
+
+pub hit_radio-requires : goal.hit_radio-requires
+hit_radio-requires c =
+    let planned = c.args.accepted.now in
+    let nodes : Nodes = the_view c.self.inside in
+    let opened : IsLinkOf planned nodes = subst (λ (n : Nodes). IsLinkOf planned n) (sym c.self.view_is) c.requires.opened in
+    record {
+      room = subst (λ (r : Option Radio). HasRadioRoom nodes.damage Up r) (sym (radio_same c.sent.result ∙ c.sent.ensures ∙ opened.stands.ue.shows.radio))
+          (radio_room planned nodes.damage Up opened.link.ue.last.sent opened.opened.damage opened.stands.ue_sends.radio_is);
+    }
+
+pub step-requires-clause-event : goal.step-requires-clause-event
+step-requires-clause-event c =
+    let planned = c.args.accepted.now in
+    let nodes : Nodes = the_view c.self.inside in
+    let opened : IsLinkOf planned nodes = subst (λ (n : Nodes). IsLinkOf planned n) (sym c.self.view_is) c.requires.opened in
+    tfci_kept planned Up opened.link.damage opened.link.ue.last.sent c.radio-frame.result opened.stands.ue_sends.radio_is
+    (sym (radio_same c.radio-frame.result) ∙ c.radio-frame.ensures ∙ (c.hit_radio.ensures.arrives opened.link.damage opened.stands.damage).1
+    ∙ ap (radio_after opened.link.damage Up) (radio_same c.sent.result ∙ c.sent.ensures ∙ opened.stands.ue.shows.radio))
+
+pub returns-clause-passes : goal.returns-clause-passes
+returns-clause-passes c = λ first link was.
+    let planned = c.args.accepted.now in
+    let nodes : Nodes = the_view c.self.inside in
+    let is : Represents planned first link nodes = subst (λ (n : Nodes). Represents planned first link n) (sym c.self.view_is) was in
+    let waits = c.hit_radio.ensures.arrives link.damage is.damage in
+    let arrives : radio_of c.radio-frame.result ≡ radio_after link.damage Up link.ue.last.sent =
+    sym (radio_same c.radio-frame.result) ∙ c.radio-frame.ensures ∙ waits.1 ∙ ap (radio_after link.damage Up) (radio_same c.sent.result ∙ c.sent.ensures ∙ is.ue.shows.radio) in
+    let hit : Nodes = record nodes { damage = c.hit_radio.new.self } in
+    let stood : Represents planned first link hit = with_damage planned first link nodes link.damage c.hit_radio.new.self is waits.0 in
+    subst (λ (r : Option Radio). LeadsTo planned first (NodeBReports link (UplinkFrame r)) (record hit { node_b = c.step.new.self }) c.args.report.now c.step.new.report) arrives
+    (node_b_next planned first link hit (UplinkFrame (radio_of c.radio-frame.result)) c.step.new.self c.args.report.now c.step.new.report stood (c.step.ensures.step link.node_b.state is.node_b.stands) c.step.ensures.most)

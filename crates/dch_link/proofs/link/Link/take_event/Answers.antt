@@ -1,0 +1,93 @@
+use Rattle.std.proofs.Common.{◌∙◌, arith, ap, sym, subst}
+use Rattle.dch_types.specs.declared.channel.Dir.{Dir}
+use Rattle.dch_types.specs.declared.channel.Side.{Side}
+use Rattle.dch_types.specs.Limits.{IsSide}
+use Rattle.dch_types.specs.Parts.{side_of}
+use Rattle.dch_types.proofs.Sets.{set_small}
+use Rattle.dch_damage.specs.Damage.{Flip as Flips, Lose as Loses, LoseIub as LosesIub, Spoil as Spoils}
+use Rattle.dch_ue.specs.State.{BlockedCombination as UeBlocked, OfferedUnit as UeOffered}
+use Rattle.dch_rnc.specs.State.{BlockedCombination as RncBlocked, OfferedUnit as RncOffered}
+use Rattle.dch_link.specs.Events.{Happens}
+use Rattle.dch_link.specs.Standing.{LeadsTo, MayCome, Represents, event_of}
+use Rattle.dch_link.specs.Values.{Nodes}
+use Rattle.dch_link.specs.contracts.link.Link.{the_view}
+use Rattle.dch_link.specs.declared.event.LinkEvent.{LinkEvent}
+use Rattle.dch_link.specs.declared.event.LinkEvent.TheVariants.{Unit as Offered, Block}
+use Rattle.dch_link.proofs.Nexts.{damage_next, rnc_next, ue_next}
+use Rattle.dch_link.proofs.link.Link.take_event.Goals as goal
+
+pub lose_iub-requires : goal.lose_iub-requires
+lose_iub-requires c =
+    let config = c.args.accepted.now.config in
+    let good : IsSide (side_of config c.in-LoseIub.dir) = subst (λ (s : Side). IsSide s) c.side-side.ensures.value c.side-side.ensures.good in
+    omega (arith, set_small (side_of config c.in-LoseIub.dir) c.in-LoseIub.set good (subst (λ (e : LinkEvent). MayCome c.args.accepted.now e) c.in-LoseIub.is c.requires.event))
+
+pub spoil-requires : goal.spoil-requires
+spoil-requires c =
+    let config = c.args.accepted.now.config in
+    let good : IsSide (side_of config c.in-Spoil.dir) = subst (λ (s : Side). IsSide s) c.side-side-in-Spoil.ensures.value c.side-side-in-Spoil.ensures.good in
+    omega (arith, set_small (side_of config c.in-Spoil.dir) c.in-Spoil.set good (subst (λ (e : LinkEvent). MayCome c.args.accepted.now e) c.in-Spoil.is c.requires.event))
+
+pub returns-in-Up-clause-happens : goal.returns-in-Up-clause-happens
+returns-in-Up-clause-happens c = λ first link was.
+    let planned = c.args.accepted.now in
+    let nodes : Nodes = the_view c.self.inside in
+    let is : Represents planned first link nodes = subst (λ (n : Nodes). Represents planned first link n) (sym c.self.view_is) was in
+    subst (λ (e : LinkEvent). LeadsTo planned first (Happens link (event_of e)) (record nodes { ue = c.step.new.self }) c.args.report.now c.step.new.report) (sym (c.in-Unit.is ∙ ap (λ (d : Dir). Offered d c.in-Unit.bearer c.in-Unit.octets c.in-Unit.bits) c.in-Up.is))
+    (ue_next planned first link nodes (UeOffered c.in-Unit.bearer c.in-Unit.octets.now c.in-Unit.bits.now) c.step.new.self c.args.report.now c.step.new.report is c.step.ensures.opened (c.step.ensures.step link.ue.state is.ue.stands) c.step.ensures.most)
+
+pub returns-in-Down-clause-happens : goal.returns-in-Down-clause-happens
+returns-in-Down-clause-happens c = λ first link was.
+    let planned = c.args.accepted.now in
+    let nodes : Nodes = the_view c.self.inside in
+    let is : Represents planned first link nodes = subst (λ (n : Nodes). Represents planned first link n) (sym c.self.view_is) was in
+    subst (λ (e : LinkEvent). LeadsTo planned first (Happens link (event_of e)) (record nodes { rnc = c.step-in-Down.new.self }) c.args.report.now c.step-in-Down.new.report) (sym (c.in-Unit.is ∙ ap (λ (d : Dir). Offered d c.in-Unit.bearer c.in-Unit.octets c.in-Unit.bits) c.in-Down.is))
+    (rnc_next planned first link nodes (RncOffered c.in-Unit.bearer c.in-Unit.octets.now c.in-Unit.bits.now) c.step-in-Down.new.self c.args.report.now c.step-in-Down.new.report is (c.step-in-Down.ensures.step link.rnc.state is.rnc.stands) c.step-in-Down.ensures.most)
+
+pub returns-in-Up-dir-clause-happens : goal.returns-in-Up-dir-clause-happens
+returns-in-Up-dir-clause-happens c = λ first link was.
+    let planned = c.args.accepted.now in
+    let nodes : Nodes = the_view c.self.inside in
+    let is : Represents planned first link nodes = subst (λ (n : Nodes). Represents planned first link n) (sym c.self.view_is) was in
+    subst (λ (e : LinkEvent). LeadsTo planned first (Happens link (event_of e)) (record nodes { ue = c.step-in-Up-dir.new.self }) c.args.report.now c.step-in-Up-dir.new.report) (sym (c.in-Block.is ∙ ap (λ (d : Dir). Block d c.in-Block.combination c.in-Block.on) c.in-Up-dir.is))
+    (ue_next planned first link nodes (UeBlocked c.in-Block.combination c.in-Block.on) c.step-in-Up-dir.new.self c.args.report.now c.step-in-Up-dir.new.report is c.step-in-Up-dir.ensures.opened (c.step-in-Up-dir.ensures.step link.ue.state is.ue.stands) c.step-in-Up-dir.ensures.most)
+
+pub returns-in-Down-dir-clause-happens : goal.returns-in-Down-dir-clause-happens
+returns-in-Down-dir-clause-happens c = λ first link was.
+    let planned = c.args.accepted.now in
+    let nodes : Nodes = the_view c.self.inside in
+    let is : Represents planned first link nodes = subst (λ (n : Nodes). Represents planned first link n) (sym c.self.view_is) was in
+    subst (λ (e : LinkEvent). LeadsTo planned first (Happens link (event_of e)) (record nodes { rnc = c.step-in-Down-dir.new.self }) c.args.report.now c.step-in-Down-dir.new.report) (sym (c.in-Block.is ∙ ap (λ (d : Dir). Block d c.in-Block.combination c.in-Block.on) c.in-Down-dir.is))
+    (rnc_next planned first link nodes (RncBlocked c.in-Block.combination c.in-Block.on) c.step-in-Down-dir.new.self c.args.report.now c.step-in-Down-dir.new.report is (c.step-in-Down-dir.ensures.step link.rnc.state is.rnc.stands) c.step-in-Down-dir.ensures.most)
+
+pub returns-in-Flip-clause-happens : goal.returns-in-Flip-clause-happens
+returns-in-Flip-clause-happens c = λ first link was.
+    let planned = c.args.accepted.now in
+    let nodes : Nodes = the_view c.self.inside in
+    let is : Represents planned first link nodes = subst (λ (n : Nodes). Represents planned first link n) (sym c.self.view_is) was in
+    subst (λ (e : LinkEvent). LeadsTo planned first (Happens link (event_of e)) (record nodes { damage = c.flip.new.self }) c.args.report.now c.args.report.now) (sym (c.in-Flip.is))
+    (damage_next planned first link nodes (Flips c.in-Flip.dir c.in-Flip.tfci c.in-Flip.place) c.flip.new.self c.args.report.now is (c.flip.ensures.waits link.damage is.damage))
+
+pub returns-in-Lose-clause-happens : goal.returns-in-Lose-clause-happens
+returns-in-Lose-clause-happens c = λ first link was.
+    let planned = c.args.accepted.now in
+    let nodes : Nodes = the_view c.self.inside in
+    let is : Represents planned first link nodes = subst (λ (n : Nodes). Represents planned first link n) (sym c.self.view_is) was in
+    subst (λ (e : LinkEvent). LeadsTo planned first (Happens link (event_of e)) (record nodes { damage = c.lose.new.self }) c.args.report.now c.args.report.now) (sym (c.in-Lose.is))
+    (damage_next planned first link nodes (Loses c.in-Lose.dir) c.lose.new.self c.args.report.now is (c.lose.ensures.waits link.damage is.damage))
+
+pub returns-in-LoseIub-clause-happens : goal.returns-in-LoseIub-clause-happens
+returns-in-LoseIub-clause-happens c = λ first link was.
+    let planned = c.args.accepted.now in
+    let nodes : Nodes = the_view c.self.inside in
+    let is : Represents planned first link nodes = subst (λ (n : Nodes). Represents planned first link n) (sym c.self.view_is) was in
+    subst (λ (e : LinkEvent). LeadsTo planned first (Happens link (event_of e)) (record nodes { damage = c.lose_iub.new.self }) c.args.report.now c.args.report.now) (sym (c.in-LoseIub.is))
+    (damage_next planned first link nodes (LosesIub c.in-LoseIub.dir c.in-LoseIub.set) c.lose_iub.new.self c.args.report.now is (c.lose_iub.ensures.waits link.damage is.damage))
+
+pub returns-in-Spoil-clause-happens : goal.returns-in-Spoil-clause-happens
+returns-in-Spoil-clause-happens c = λ first link was.
+    let planned = c.args.accepted.now in
+    let nodes : Nodes = the_view c.self.inside in
+    let is : Represents planned first link nodes = subst (λ (n : Nodes). Represents planned first link n) (sym c.self.view_is) was in
+    subst (λ (e : LinkEvent). LeadsTo planned first (Happens link (event_of e)) (record nodes { damage = c.spoil.new.self }) c.args.report.now c.args.report.now) (sym (c.in-Spoil.is))
+    (damage_next planned first link nodes (Spoils c.in-Spoil.dir c.in-Spoil.set c.in-Spoil.octet c.in-Spoil.mask) c.spoil.new.self c.args.report.now is (c.spoil.ensures.waits link.damage is.damage))

@@ -1,0 +1,44 @@
+use Rattle.std.proofs.Common.{◌∙◌, ◌++◌, List, length, ap, sym, subst}
+use Rattle.dch_types.specs.declared.channel.Dir.TheVariants.{Down}
+use Rattle.dch_accept.specs.Plans.{Planned}
+use Rattle.dch_script.specs.Held.{Held as Text}
+use Rattle.dch_node.specs.Lines.{Line}
+use Rattle.dch_txframes.specs.Reports.{added}
+use Rattle.dch_link.specs.Checks.{AreChecked, good_in}
+use Rattle.dch_link.specs.Link.{LinkState}
+use Rattle.dch_link.specs.Standing.{AreNodesOf, Represents}
+use Rattle.dch_link.specs.Values.{Nodes}
+use Rattle.dch_link.specs.contracts.link.Link.{the_view}
+use Rattle.dch_ue.specs.State.{Tick}
+use Rattle.dch_link.proofs.Compared.{compared_down}
+use Rattle.dch_link.proofs.Nexts.{ue_next}
+use Rattle.dch_link.proofs.Reporting.{added-added}
+use Rattle.dch_link.proofs.link.Link.tick_ue.Goals as goal
+
+pub returns-clause-passes : goal.returns-clause-passes
+returns-clause-passes c = λ first link was.
+    let planned = c.args.accepted.now in
+    let came = c.radio_down.ensures.comes first link was in
+    let mid : LinkState = came.0 in
+    let nodes : Nodes = the_view c.self.inside in
+    let opened : AreNodesOf planned nodes = subst (λ (n : Nodes). AreNodesOf planned n) (sym c.self.view_is) c.radio_down.ensures.opened in
+    let is : Represents planned first mid nodes = subst (λ (n : Nodes). Represents planned first mid n) (sym c.self.view_is) came.1.1 in
+    let led = ue_next planned first mid nodes Tick c.step.new.self c.radio_down.new.report c.step.new.report is c.step.ensures.opened (c.step.ensures.step mid.ue.state is.ue.stands) c.step.ensures.most in
+    let now : Nodes = record nodes { ue = c.step.new.self } in
+    let all : AreNodesOf planned now = record { ue = c.step.ensures.opened; node_b = opened.node_b; rnc = opened.rnc; damage = opened.damage } in
+    let compared = compared_down planned first led.next now c.step.new.report c.compare_down.new.report all led.stands c.compare_down.ensures.compared in
+    record {
+      next = led.next;
+      lines = led.lines ++ compared.lines;
+      does = record {
+        mid = mid;
+        comes = came.1.0;
+        ticks = led.does.0;
+        checks = compared.lines;
+        compared = subst (λ (p : Planned). AreChecked Down (λ i. good_in (led.next.ue.state.readings i)) (λ i. (led.next.rnc.state.layer.given i).blocks) (length p.config.downlink.side.channels) compared.lines) (sym was.rnc.stands.at.active) compared.checked;
+        all = ap (λ (l : List Line). l ++ compared.lines) led.does.1;
+      };
+      stands = led.stands;
+      reported = compared.reported ∙ ap (λ (t : Text). added t compared.lines) led.reported ∙ added-added c.radio_down.new.report led.lines compared.lines
+          ∙ ap (λ (t : Text). added t (led.lines ++ compared.lines)) c.radio_down.ensures.same;
+    }

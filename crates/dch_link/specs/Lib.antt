@@ -1,0 +1,10 @@
+pub mod Checks
+pub mod Comparing
+pub mod Courses
+pub mod Events
+pub mod Fitting
+pub mod Link
+pub mod Passing
+pub mod Stages
+pub mod Standing
+pub mod Values

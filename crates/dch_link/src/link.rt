@@ -1,0 +1,307 @@
+ghost use Rattle.std.specs.Prelude.{◌≡◌, ◌<◌, ◌≤◌, ◌+◌, ◌%◌, ℕ, [], length, IfOk};
+ghost use Rattle.dch_types.specs.declared.channel.Dir.TheVariants.{Down, Up};
+ghost use Rattle.dch_accept.specs.HeldSets.{held_at};
+ghost use Rattle.dch_accept.specs.Plans.{Planned};
+ghost use Rattle.dch_accept.specs.Reports.{step_bytes};
+ghost use Rattle.dch_layer2.specs.Opening.{blocks_in};
+ghost use Rattle.dch_txframes.specs.Rooms.{HasRoomFor};
+ghost use Rattle.dch_damage.specs.Damage.{radio_after};
+ghost use Rattle.dch_ue.specs.State.{DownlinkFrame};
+ghost use Rattle.dch_ue.specs.Values.{taken_shown as ue_taken};
+ghost use Rattle.dch_rnc.specs.Values.{taken_shown as rnc_taken};
+ghost use Rattle.dch_link.specs.Comparing.{ComparesAll, good_of};
+ghost use Rattle.dch_link.specs.Events.{Happens};
+ghost use Rattle.dch_link.specs.Link.{LinkState, opened_link};
+ghost use Rattle.dch_link.specs.Passing.{IsStage};
+ghost use Rattle.dch_link.specs.Stages.{AtStage, UeGoes};
+ghost use Rattle.dch_link.specs.Standing.{AreNodesOf, HaveHistories, IsLinkOf, LeadsTo, MayCome, Represents, event_of};
+ghost use Rattle.dch_link.specs.Values.{Nodes};
+
+use crate::check::compare;
+use crate::event::LinkEvent;
+use crate::stage::Stage;
+use dch_accept::Accepted;
+use dch_bits::NoMemory;
+use dch_damage::Damage;
+use dch_nodeb::{NodeB, NodeBEvent};
+use dch_rnc::{Rnc, RncEvent};
+use dch_script::Report;
+use dch_types::Dir;
+use dch_ue::{Ue, UeEvent};
+use std::alloc::Global;
+use std::marker::Model;
+
+/// The most bytes of the lines that compare the blocks of all channels of a direction.
+pub const CHECKS: usize = 2400;
+
+/// A terminal, a Node B and a network controller that hand their frames on to each other, and the damage that waits for the next radio
+/// frame. All memory is taken at opening.
+#[derive(Drop)]
+pub struct Link {
+    ue: Ue,
+    node_b: NodeB,
+    rnc: Rnc,
+    damage: Damage,
+}
+
+impl Model for Link {
+    ghost use Rattle.dch_link.specs.Values.{Nodes};
+
+    ghost Value = { Nodes };
+
+    ghost view = { λ l. record { ue = l.ue; node_b = l.node_b; rnc = l.rnc; damage = l.damage } };
+}
+
+impl Link {
+    /// Opens the three nodes for a configuration. The first radio frame has this CFN, and no damage waits.
+    pub fn open(alloc: Global, accepted: &Accepted, first_cfn: u8) -> Result<Link, NoMemory>
+        requires { first_cfn % 8 ≡ 0 }
+        ensures opened { IfOk result (IsLinkOf accepted.now) }
+        ensures stands { IfOk result (Represents accepted.now first_cfn (opened_link accepted.now first_cfn)) }
+    {
+        Ok(Link {
+            ue: Ue::open(alloc, accepted, first_cfn)?,
+            node_b: NodeB::open(alloc, accepted, first_cfn)?,
+            rnc: Rnc::open(alloc, accepted, first_cfn)?,
+            damage: Damage::open(alloc, accepted)?,
+        })
+    }
+
+    /// The nodes, after the work.
+    pub fn into_nodes(self) -> (Ue, NodeB, Rnc)
+        ensures nodes { (result.0 ≡ self.ue) × (result.1 ≡ self.node_b) × (result.2 ≡ self.rnc) }
+        ensures histories { (planned : Planned) (first : ℕ) (link : LinkState) → Represents planned first link self → HaveHistories planned first link result.0 result.1 result.2 }
+    {
+        (self.ue, self.node_b, self.rnc)
+    }
+
+    /// Takes what a script does between two radio frames, and reports what the node says that takes it.
+    pub fn happen(&mut self, accepted: &Accepted, event: LinkEvent<'_>, report: &mut Report)
+        requires opened { IsLinkOf accepted.now self.old }
+        requires event { MayCome accepted.now event }
+        requires room { HasRoomFor report.old (step_bytes accepted.now.config) }
+        ensures opened { IsLinkOf accepted.now self.new }
+        ensures happens { (first : ℕ) (link : LinkState) → Represents accepted.now first link self.old → LeadsTo accepted.now first (Happens link (event_of event.entry)) self.new report.old report.new }
+        ensures few { length report.new.text ≤ length report.old.text + step_bytes accepted.now.config }
+        ensures most { report.new.most ≡ report.old.most }
+    {
+        self.take_event(accepted, event, report);
+    }
+
+    /// Passes a stage of a radio frame, and reports what the nodes say, and where blocks that were taken aren't those that were given.
+    pub fn pass(&mut self, accepted: &Accepted, stage: Stage, report: &mut Report)
+        requires opened { IsLinkOf accepted.now self.old }
+        requires stage { IsStage stage }
+        requires room { HasRoomFor report.old (step_bytes accepted.now.config + 2400) }
+        ensures opened { IsLinkOf accepted.now self.new }
+        ensures passes { (first : ℕ) (link : LinkState) → Represents accepted.now first link self.old → LeadsTo accepted.now first (AtStage stage link) self.new report.old report.new }
+        ensures few { length report.new.text ≤ length report.old.text + (step_bytes accepted.now.config + 2400) }
+        ensures most { report.new.most ≡ report.old.most }
+    {
+        self.run_stage(accepted, stage, report);
+    }
+
+    /// A radio frame is over: no damage waits any more.
+    pub fn end_frame(&mut self, accepted: &Accepted)
+        requires { IsLinkOf accepted.now self.old }
+        ensures opened { IsLinkOf accepted.now self.new }
+        ensures clear { (first : ℕ) (link : LinkState) → Represents accepted.now first link self.old → Represents accepted.now first (record link { damage = [] }) self.new }
+    {
+        self.damage.clear();
+    }
+
+    /// Takes an event at the node where it happens, or as damage that waits.
+    fn take_event(&mut self, accepted: &Accepted, event: LinkEvent<'_>, report: &mut Report)
+        requires opened { IsLinkOf accepted.now self.old }
+        requires event { MayCome accepted.now event }
+        requires room { HasRoomFor report.old (step_bytes accepted.now.config) }
+        ensures opened { AreNodesOf accepted.now self.new }
+        ensures happens { (first : ℕ) (link : LinkState) → Represents accepted.now first link self.old → LeadsTo accepted.now first (Happens link (event_of event.entry)) self.new report.old report.new }
+        ensures few { length report.new.text ≤ length report.old.text + step_bytes accepted.now.config }
+        ensures most { report.new.most ≡ report.old.most }
+    {
+        match event {
+            LinkEvent::Unit {
+                dir,
+                bearer,
+                octets,
+                bits,
+            } => match dir {
+                Dir::Up => self.ue.step(
+                    accepted,
+                    UeEvent::Unit {
+                        bearer,
+                        octets,
+                        bits,
+                    },
+                    report,
+                ),
+                Dir::Down => self.rnc.step(
+                    accepted,
+                    RncEvent::Unit {
+                        bearer,
+                        octets,
+                        bits,
+                    },
+                    report,
+                ),
+            },
+            LinkEvent::Block {
+                dir,
+                combination,
+                on,
+            } => match dir {
+                Dir::Up => self
+                    .ue
+                    .step(accepted, UeEvent::Block { combination, on }, report),
+                Dir::Down => self
+                    .rnc
+                    .step(accepted, RncEvent::Block { combination, on }, report),
+            },
+            LinkEvent::Flip { dir, tfci, place } => self.damage.flip(dir, tfci, place),
+            LinkEvent::Lose { dir } => self.damage.lose(dir),
+            LinkEvent::LoseIub { dir, set } => {
+                // There are eight sets at most.
+                let _side = accepted.side(dir);
+                self.damage.lose_iub(dir, set);
+            }
+            LinkEvent::Spoil {
+                dir,
+                set,
+                octet,
+                mask,
+            } => {
+                // There are eight sets at most.
+                let _side = accepted.side(dir);
+                self.damage.spoil(dir, set, octet, mask);
+            }
+        }
+    }
+
+    /// Does what a stage says, at the nodes where it is done.
+    fn run_stage(&mut self, accepted: &Accepted, stage: Stage, report: &mut Report)
+        requires opened { IsLinkOf accepted.now self.old }
+        requires stage { IsStage stage }
+        requires room { HasRoomFor report.old (step_bytes accepted.now.config + 2400) }
+        ensures opened { AreNodesOf accepted.now self.new }
+        ensures passes { (first : ℕ) (link : LinkState) → Represents accepted.now first link self.old → LeadsTo accepted.now first (AtStage stage link) self.new report.old report.new }
+        ensures few { length report.new.text ≤ length report.old.text + (step_bytes accepted.now.config + 2400) }
+        ensures most { report.new.most ≡ report.old.most }
+    {
+        match stage {
+            Stage::RncTick => self.rnc.step(accepted, RncEvent::Tick, report),
+            Stage::IubDown(set) => self.iub_down(accepted, set, report),
+            Stage::RadioDown => self.node_b.step(accepted, NodeBEvent::Down, report),
+            Stage::UeTick => self.tick_ue(accepted, report),
+            Stage::RadioUp => self.radio_up(accepted, report),
+            Stage::IubUp(set) => self.iub_up(accepted, set, report),
+        }
+    }
+
+    /// The downlink Iub frame of a set arrives at the Node B, if one was sent and isn't lost.
+    fn iub_down(&mut self, accepted: &Accepted, set: u8, report: &mut Report)
+        requires opened { IsLinkOf accepted.now self.old }
+        requires set { set < 8 }
+        requires room { HasRoomFor report.old (step_bytes accepted.now.config) }
+        ensures opened { AreNodesOf accepted.now self.new }
+        ensures passes { (first : ℕ) (link : LinkState) → Represents accepted.now first link self.old → LeadsTo accepted.now first (AtStage (Stage.IubDown set) link) self.new report.old report.new }
+        ensures few { length report.new.text ≤ length report.old.text + step_bytes accepted.now.config }
+        ensures most { report.new.most ≡ report.old.most }
+    {
+        self.damage.hit_iub(Dir::Down, set, self.rnc.iub(set));
+        if let Some(frame) = self.damage.iub() {
+            self.node_b
+                .step(accepted, NodeBEvent::Iub { set, frame }, report);
+        }
+    }
+
+    /// The downlink radio frame arrives at the terminal, if one was sent and isn't lost, and 10 ms pass there.
+    fn tick_ue(&mut self, accepted: &Accepted, report: &mut Report)
+        requires opened { IsLinkOf accepted.now self.old }
+        requires room { HasRoomFor report.old (step_bytes accepted.now.config + 2400) }
+        ensures opened { AreNodesOf accepted.now self.new }
+        ensures passes { (first : ℕ) (link : LinkState) → Represents accepted.now first link self.old → LeadsTo accepted.now first (AtStage Stage.UeTick link) self.new report.old report.new }
+        ensures few { length report.new.text ≤ length report.old.text + (step_bytes accepted.now.config + 2400) }
+        ensures most { report.new.most ≡ report.old.most }
+    {
+        self.radio_down(accepted, report);
+        self.ue.step(accepted, UeEvent::Tick, report);
+        self.compare_down(accepted, report);
+    }
+
+    /// The downlink radio frame arrives at the terminal, if one was sent and isn't lost. Nothing is reported of it.
+    fn radio_down(&mut self, accepted: &Accepted, report: &mut Report)
+        requires opened { IsLinkOf accepted.now self.old }
+        requires room { HasRoomFor report.old (step_bytes accepted.now.config) }
+        ensures opened { AreNodesOf accepted.now self.new }
+        ensures comes { (first : ℕ) (link : LinkState) → Represents accepted.now first link self.old → (mid : LinkState) × (UeGoes link (DownlinkFrame (radio_after link.damage Down link.node_b.last.sent)) mid × Represents accepted.now first mid self.new) }
+        ensures same { report.new ≡ report.old }
+    {
+        self.damage.hit_radio(Dir::Down, self.node_b.sent());
+        let frame = self.damage.radio();
+        self.ue.step(accepted, UeEvent::Phy { frame }, report);
+    }
+
+    /// The uplink radio frame arrives at the Node B, if one was sent and isn't lost.
+    fn radio_up(&mut self, accepted: &Accepted, report: &mut Report)
+        requires opened { IsLinkOf accepted.now self.old }
+        requires room { HasRoomFor report.old (step_bytes accepted.now.config) }
+        ensures opened { AreNodesOf accepted.now self.new }
+        ensures passes { (first : ℕ) (link : LinkState) → Represents accepted.now first link self.old → LeadsTo accepted.now first (AtStage Stage.RadioUp link) self.new report.old report.new }
+        ensures few { length report.new.text ≤ length report.old.text + step_bytes accepted.now.config }
+        ensures most { report.new.most ≡ report.old.most }
+    {
+        self.damage.hit_radio(Dir::Up, self.ue.sent());
+        let frame = self.damage.radio();
+        self.node_b
+            .step(accepted, NodeBEvent::Phy { frame }, report);
+    }
+
+    /// The uplink Iub frame of a set arrives at the network controller, if one was sent and isn't lost.
+    fn iub_up(&mut self, accepted: &Accepted, set: u8, report: &mut Report)
+        requires opened { IsLinkOf accepted.now self.old }
+        requires set { set < 8 }
+        requires room { HasRoomFor report.old (step_bytes accepted.now.config + 2400) }
+        ensures opened { AreNodesOf accepted.now self.new }
+        ensures passes { (first : ℕ) (link : LinkState) → Represents accepted.now first link self.old → LeadsTo accepted.now first (AtStage (Stage.IubUp set) link) self.new report.old report.new }
+        ensures few { length report.new.text ≤ length report.old.text + (step_bytes accepted.now.config + 2400) }
+        ensures most { report.new.most ≡ report.old.most }
+    {
+        self.damage.hit_iub(Dir::Up, set, self.node_b.iub(set));
+        if let Some(frame) = self.damage.iub() {
+            self.rnc
+                .step(accepted, RncEvent::Iub { set, frame }, report);
+            self.compare_up(accepted, report);
+        }
+    }
+
+    /// Reports the downlink channels whose blocks, as the terminal took them, aren't some of those that the network controller gave.
+    fn compare_down(&self, accepted: &Accepted, report: &mut Report)
+        requires opened { AreNodesOf accepted.now self.now }
+        requires room { HasRoomFor report.old 2400 }
+        ensures compared { ComparesAll Down (λ i. good_of (ue_taken self.now.ue i)) (λ i. blocks_in (held_at self.now.rnc.layer.given i)) (length accepted.now.config.downlink.side.channels) report.old report.new }
+        ensures few { length report.new.text ≤ length report.old.text + 2400 }
+        ensures most { report.new.most ≡ report.old.most }
+    {
+        let channels = accepted.side(Dir::Down).channels.len() as u8;
+        'channels: for channel in 0..channels {
+            let taken = self.ue.taken(channel);
+            compare(report, Dir::Down, channel, taken, self.rnc.given(channel));
+        }
+    }
+
+    /// Reports the uplink channels whose blocks, as the network controller took them, aren't some of those that the terminal gave.
+    fn compare_up(&self, accepted: &Accepted, report: &mut Report)
+        requires opened { AreNodesOf accepted.now self.now }
+        requires room { HasRoomFor report.old 2400 }
+        ensures compared { ComparesAll Up (λ i. good_of (rnc_taken self.now.rnc i)) (λ i. blocks_in (held_at self.now.ue.layer.given i)) (length accepted.now.config.uplink.side.channels) report.old report.new }
+        ensures few { length report.new.text ≤ length report.old.text + 2400 }
+        ensures most { report.new.most ≡ report.old.most }
+    {
+        let channels = accepted.side(Dir::Up).channels.len() as u8;
+        'channels: for channel in 0..channels {
+            let taken = self.rnc.taken(channel);
+            compare(report, Dir::Up, channel, taken, self.ue.given(channel));
+        }
+    }
+}
