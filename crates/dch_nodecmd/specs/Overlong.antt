@@ -11,7 +11,8 @@ use Rattle.dch_lines.specs.Semantics.{RefusesLong}
 use Rattle.dch_nodecmd.specs.NodeRules.{NodeRules}
 use Rattle.dch_nodecmd.specs.Rules.{config_of, node_lines}
 
-meaning_long : (command : Command) (config : Config) (line : List ℕ) → longest < length (content line) → meaning_in command config line ≡ Err Long
+-- what such a line says
+pub meaning_long : (command : Command) (config : Config) (line : List ℕ) → longest < length (content line) → meaning_in command config line ≡ Err Long
 unfolding meaning_in
 meaning_long command config line long = let over : nat_lt longest (length (content line)) ≡ true = lt-ltb longest (length (content line)) long in rw over refl
 

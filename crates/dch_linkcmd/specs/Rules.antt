@@ -1,0 +1,55 @@
+-- The rules of the command `link`: a line is something that happens between two radio frames, or so many radio frames, stage by stage.
+use Rattle.std.specs.Prelude.{◌≡◌, ℕ, List, Err}
+use Rattle.dch_script.specs.Meaning.{meaning_in}
+use Rattle.dch_script.specs.declared.event.Command.TheVariants.{Link as LinkLines}
+use Rattle.dch_script.specs.declared.event.LineError.{LineError}
+use Rattle.dch_lines.specs.Semantics.{Semantics}
+use Rattle.dch_node.specs.Lines.{Line, text_of}
+use Rattle.dch_link.specs.Events.{Event, Happens}
+use Rattle.dch_link.specs.Link.{LinkState}
+use Rattle.dch_link.specs.Stages.{AtStage}
+use Rattle.dch_linkcmd.specs.LineEvents.{Frames, Happening, Said, Says}
+use Rattle.dch_linkcmd.specs.Run.{Run, config_of, passed, steps_left}
+use Rattle.dch_nodecmd.specs.Rules.{closing}
+use Rattle.dch_nodecmd.specs.Shown.{shown}
+
+-- something happens between two radio frames, and what is shown of its lines
+pub record TakesEvent (old : Run) (event : Event) (new : Run) (text : List ℕ) : Type 0 where
+  pub link : LinkState
+  pub lines : List Line
+  pub happens : Happens old.link event link lines
+  pub goes_on : new ≡ record old { link = link }
+  pub shows : text ≡ shown old.quiet (text_of lines)
+
+-- the next stage of a radio frame passes
+pub record PassesStage (old new : Run) (text : List ℕ) : Type 0 where
+  pub link : LinkState
+  pub lines : List Line
+  pub passes : AtStage old.stage old.link link lines
+  pub goes_on : new ≡ passed old link
+  pub shows : text ≡ shown old.quiet (text_of lines)
+
+-- what a line does first
+abbrev pub Takes : Said → Run → Run → List ℕ → Type 0
+Takes (Happening event) old new text = TakesEvent old event new text
+Takes (Frames count) old new text = PassesStage (record old { left = count }) new text
+
+pub record TakesLine (old : Run) (line : List ℕ) (new : Run) (text : List ℕ) : Type 0 where
+  pub said : Said
+  pub says : Says (config_of old) line said
+  pub takes : Takes said old new text
+
+-- a line is malformed for the reason that its words tell
+abbrev pub RefusesLine : Run → List ℕ → LineError → Type 0
+RefusesLine run line why = meaning_in LinkLines (config_of run) line ≡ Err why
+
+-- the stages that are left of a line pass one after another
+abbrev pub link_lines : Semantics Run
+link_lines = record {
+  handles = TakesLine;
+  remaining = λ run. steps_left run.stage run.left;
+  resumes = PassesStage;
+  refuses = RefusesLine;
+  wants_memory = λ run line. ⊥;
+  closing = λ run count. closing run.frames;
+}
