@@ -1,0 +1,3 @@
+pub mod Eight
+pub mod Frames
+pub mod Keeping
