@@ -152,3 +152,32 @@ fn numbers_of_statuses(rt: HostRuntime) -> Result<(), Fail> {
     assert_eq!(rt; Status::TooLong.number(), 6);
     Ok(())
 }
+/// The three nodes of a small configuration, and one radio frame that carries a unit of 150 bits up.
+fn a_unit_goes_up() -> &'static str {
+    "[iub]\npayload_check = false\nqe = 0
+[uplink]\nlargest = 150\npl = 100\ncombinations = [[0],[1]]
+channel = [{ tti = 10, code = \"none\", crc = 0, rm = 256, set = 0, formats = [[0,0],[1,150]] }]
+[downlink]\nslot_bits = 10\ncodes = 1\nsf = 256\npositions = \"fixed\"\ncombinations = [[0],[1]]
+channel = [{ tti = 10, code = \"none\", crc = 0, rm = 256, set = 0, formats = [[0,0],[1,150]] }]
+[[bearer]]\nmode = \"tm\"\nup = 0\ndown = 0\npriority = 1\nbuffer = 4
+---\nunit up 0 000000000000000000001000000000000000000000000000000000000000000000000000000000000000000000000000000000000000000000000000000000000000000000000000000000\nframe\n"
+}
+
+#[test]
+fn nodes_together_and_a_write_that_fails(rt: HostRuntime) -> Result<(), Fail> {
+    let alloc = rt.alloc();
+    let mut together = undisturbed(a_unit_goes_up().as_bytes(), 1_000);
+    together.write_step = 16;
+    together.writes = &[1];
+    assert!(rt; ends(alloc, "link", &together, Status::WriteFault, b"open\n")?);
+    Ok(())
+}
+
+#[test]
+fn nodes_together_and_a_read_that_fails(rt: HostRuntime) -> Result<(), Fail> {
+    let alloc = rt.alloc();
+    let mut together = undisturbed(a_unit_goes_up().as_bytes(), 16);
+    together.reads = &[2];
+    assert!(rt; ends(alloc, "link", &together, Status::ReadFault, b"")?);
+    Ok(())
+}

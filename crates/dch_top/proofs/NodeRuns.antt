@@ -1,19 +1,20 @@
--- A run of a command with one node that didn't end well.
-use Rattle.std.proofs.Common.{◌≡◌, ◌≢◌, ℕ, Bool, refl}
+-- A run of a command with nodes that didn't end well.
+use Rattle.std.proofs.Common.{◌≡◌, ◌≢◌, refl}
 use Rattle.dch_io.specs.Ends.{End}
-use Rattle.dch_nodecmd.specs.NodeRules.{NodeRules}
-use Rattle.dch_nodecmd.specs.Run.{Run}
+use Rattle.dch_accept.specs.Plans.{Planned}
+use Rattle.dch_lines.specs.Semantics.{Semantics}
 use Rattle.dch_top.specs.Benches.{Nodes, no_nodes}
-use Rattle.dch_top.specs.NodeRuns.{RunsLines, RunsNode}
+use Rattle.dch_top.specs.Configured.{RunsConfigured}
+use Rattle.dch_top.specs.NodeRuns.{RunsWith}
 use Rattle.dch_top.specs.declared.command.Status.{Status}
 use Rattle.dch_top.specs.declared.command.Status.TheVariants.{Ok, Refused, Usage, ReadFault, WriteFault, NoMemory, TooLong}
 
-pub runs_ill : {S E : Type 0} (rules : NodeRules S E) (Holds : Nodes → Run S E → Type 0) (start : ℕ) (quiet : Bool) (source sink : End) (nodes : Nodes) (status : Status) → nodes ≡ no_nodes → RunsLines rules start quiet (λ run. Unit {0}) source sink status × (status ≢ Ok)
-    → RunsNode rules Holds start quiet source sink nodes status
-runs_ill rules Holds start quiet source sink nodes Ok none runs = absurd (runs.1 refl)
-runs_ill rules Holds start quiet source sink nodes Refused none runs = record { runs = runs.0; idle = λ ill. none }
-runs_ill rules Holds start quiet source sink nodes Usage none runs = record { runs = runs.0; idle = λ ill. none }
-runs_ill rules Holds start quiet source sink nodes ReadFault none runs = record { runs = runs.0; idle = λ ill. none }
-runs_ill rules Holds start quiet source sink nodes WriteFault none runs = record { runs = runs.0; idle = λ ill. none }
-runs_ill rules Holds start quiet source sink nodes NoMemory none runs = record { runs = runs.0; idle = λ ill. none }
-runs_ill rules Holds start quiet source sink nodes TooLong none runs = record { runs = runs.0; idle = λ ill. none }
+pub runs_ill : {S : Type 0} (semantics : Semantics S) (opened : Planned → S) (Holds : Nodes → S → Type 0) (source sink : End) (nodes : Nodes) (status : Status) → nodes ≡ no_nodes → RunsConfigured semantics opened (λ run. Unit {0}) source sink status × (status ≢ Ok)
+    → RunsWith semantics opened Holds source sink nodes status
+runs_ill semantics opened Holds source sink nodes Ok none runs = absurd (runs.1 refl)
+runs_ill semantics opened Holds source sink nodes Refused none runs = record { runs = runs.0; idle = λ ill. none }
+runs_ill semantics opened Holds source sink nodes Usage none runs = record { runs = runs.0; idle = λ ill. none }
+runs_ill semantics opened Holds source sink nodes ReadFault none runs = record { runs = runs.0; idle = λ ill. none }
+runs_ill semantics opened Holds source sink nodes WriteFault none runs = record { runs = runs.0; idle = λ ill. none }
+runs_ill semantics opened Holds source sink nodes NoMemory none runs = record { runs = runs.0; idle = λ ill. none }
+runs_ill semantics opened Holds source sink nodes TooLong none runs = record { runs = runs.0; idle = λ ill. none }

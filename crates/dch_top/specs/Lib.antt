@@ -2,6 +2,7 @@ pub mod Benches
 pub mod Checked
 pub mod Configured
 pub mod EncodeText
+pub mod LinkRuns
 pub mod NodeBRuns
 pub mod NodeRuns
 pub mod Overlong

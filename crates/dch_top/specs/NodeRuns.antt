@@ -4,6 +4,7 @@ use Rattle.dch_io.specs.Ends.{End}
 use Rattle.dch_types.specs.declared.config.Config.{Config}
 use Rattle.dch_accept.specs.Plans.{Planned}
 use Rattle.dch_lines.specs.LineTexts.{is_empty}
+use Rattle.dch_lines.specs.Semantics.{Semantics}
 use Rattle.dch_node.specs.Values.{Output}
 use Rattle.dch_nodecmd.specs.NodeRules.{NodeRules, SaysEvent}
 use Rattle.dch_nodecmd.specs.Rules.{node_lines}
@@ -27,15 +28,19 @@ abbrev pub GivesNode : {S E V : Type 0} → NodeRules S E → (Planned → S →
 GivesNode rules Represents Shows start quiet source sink (Ok node) = RunsLines rules start quiet (HasRunHistory rules Represents Shows node) source sink Well
 GivesNode rules Represents Shows start quiet source sink (Err status) = RunsLines rules start quiet (λ run. Unit {0}) source sink status × (status ≢ Well)
 
--- what the bench holds after a run that went well
-abbrev pub IfWell : {S E : Type 0} → (Nodes → Run S E → Type 0) → Nodes → Status → Run S E → Type 0
+-- what the bench holds after a run that went well, in this state
+abbrev pub IfWell : {S : Type 0} → (Nodes → S → Type 0) → Nodes → Status → S → Type 0
 IfWell Holds nodes Well run = Holds nodes run
 IfWell Holds nodes status run = Unit {0}
 
--- a run of the command: the text that is written, the status, and what the bench holds
-pub record RunsNode {S E : Type 0} (rules : NodeRules S E) (Holds : Nodes → Run S E → Type 0) (start : ℕ) (quiet : Bool) (source sink : End) (nodes : Nodes) (status : Status) : Type 0 where
-  pub runs : RunsLines rules start quiet (IfWell Holds nodes status) source sink status
+-- a run of a command with nodes: the text that is written, the status, and what the bench holds
+pub record RunsWith {S : Type 0} (semantics : Semantics S) (opened : Planned → S) (Holds : Nodes → S → Type 0) (source sink : End) (nodes : Nodes) (status : Status) : Type 0 where
+  pub runs : RunsConfigured semantics opened (IfWell Holds nodes status) source sink status
   pub idle : status ≢ Well → nodes ≡ no_nodes
+
+-- that of a command with one node
+abbrev pub RunsNode : {S E : Type 0} → NodeRules S E → (Nodes → Run S E → Type 0) → ℕ → Bool → End → End → Nodes → Status → Type 0
+RunsNode rules Holds start quiet source sink nodes status = RunsWith (node_lines rules) (λ accepted. opened_run rules accepted (8 * start) quiet) Holds source sink nodes status
 
 -- each of the lines is empty or says an event
 abbrev pub AreEvents : {S E : Type 0} → NodeRules S E → Config → List (List ℕ) → Type 0

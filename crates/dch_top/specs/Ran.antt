@@ -7,7 +7,7 @@ use Rattle.dch_types.specs.declared.config.Config.{Config}
 use Rattle.dch_script.specs.Code.{meaning}
 use Rattle.dch_words.specs.Parses.{IsCommand, Parses}
 use Rattle.dch_words.specs.declared.arguments.Subcommand.{Subcommand}
-use Rattle.dch_words.specs.declared.arguments.Subcommand.TheVariants.{Check, Encode, NodeB, Rnc, Ue}
+use Rattle.dch_words.specs.declared.arguments.Subcommand.TheVariants.{Check, Encode, NodeB, Rnc, Ue, Link}
 use Rattle.dch_words.specs.declared.arguments.Arguments.{Arguments}
 use Rattle.dch_lines.specs.Processor.{Progress}
 use Rattle.dch_lines.specs.Followed.{FollowsInput}
@@ -19,6 +19,7 @@ use Rattle.dch_uecmd.specs.Rules.{ue_rules}
 use Rattle.dch_top.specs.Benches.{Nodes, no_nodes}
 use Rattle.dch_top.specs.Checked.{Checks}
 use Rattle.dch_top.specs.EncodeText.{encoding}
+use Rattle.dch_top.specs.LinkRuns.{AreLinkLines, RunsLink}
 use Rattle.dch_top.specs.NodeBRuns.{RunsNodeB}
 use Rattle.dch_top.specs.NodeRuns.{AreEvents}
 use Rattle.dch_top.specs.RncRuns.{RunsRnc}
@@ -77,6 +78,7 @@ Runs Encode arguments source sink bench status = Encodes source sink status × (
 Runs NodeB arguments source sink bench status = RunsNodeB arguments.start arguments.quiet source sink bench status
 Runs Rnc arguments source sink bench status = RunsRnc arguments.start arguments.quiet source sink bench status
 Runs Ue arguments source sink bench status = RunsUe arguments.start arguments.quiet source sink bench status
+Runs Link arguments source sink bench status = RunsLink arguments.start arguments.quiet source sink bench status
 
 -- what a run of these words does
 pub record Ran (words : List (String Global)) (source sink : End) (bench : Nodes) (status : Status) : Type 0 where
@@ -87,10 +89,11 @@ pub record Ran (words : List (String Global)) (source sink : End) (bench : Nodes
 abbrev pub AreGood : List (List ℕ) → Type 0
 AreGood lines = All (λ line. (is_empty line ≡ true) ⊎ IsOk (meaning line)) lines
 
--- each of the lines is empty or says an event of the node of a command
+-- each of the lines is empty or says something to the nodes of a command
 abbrev pub AreEventsFor : Subcommand → Config → List (List ℕ) → Type 0
 AreEventsFor Check config lines = ⊥
 AreEventsFor Encode config lines = ⊥
 AreEventsFor NodeB config lines = AreEvents node_b_rules config lines
 AreEventsFor Rnc config lines = AreEvents rnc_rules config lines
 AreEventsFor Ue config lines = AreEvents ue_rules config lines
+AreEventsFor Link config lines = AreLinkLines config lines

@@ -14,6 +14,7 @@ ghost use Rattle.dch_top.specs.Ran.{AreEventsFor, AreGood, Asks, IsNoCommand, Mi
 use crate::bench::Bench;
 use crate::check::check;
 use crate::encode::encode;
+use crate::link::link;
 use crate::node_b::node_b;
 use crate::rnc::rnc;
 use crate::ue::ue;
@@ -80,7 +81,7 @@ pub fn run<S: Source, K: Sink>(
         → ¬ Rose (S.faults source.old) (S.faults source.new) → ¬ Rose (K.faults sink.old) (K.faults sink.new)
         → (result ≡ Status.Ok) ⊎ (result ≡ Status.NoMemory)) }
 
-    // So are the events of a node behind an accepted configuration.
+    // So are the lines of a command with nodes behind an accepted configuration.
     ensures events { (arguments : Arguments) → Says words.now arguments → IfSome (S.left source.old) (λ input. (accepted : Planned) → IsAcceptedAs (configuration_of input) accepted
         → AreEventsFor arguments.subcommand accepted.config (lines_of (script_of input)) → rest_of (script_of input) ≡ [] → length input ≤ LIMIT
         → ¬ Rose (S.faults source.old) (S.faults source.new) → ¬ Rose (K.faults sink.old) (K.faults sink.new)
@@ -132,6 +133,7 @@ fn run_command<S: Source, K: Sink>(
         Subcommand::NodeB => node_b(alloc, start, quiet, source, sink, bench),
         Subcommand::Rnc => rnc(alloc, start, quiet, source, sink, bench),
         Subcommand::Ue => ue(alloc, start, quiet, source, sink, bench),
+        Subcommand::Link => link(alloc, start, quiet, source, sink, bench),
     }
 }
 

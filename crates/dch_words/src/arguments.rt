@@ -24,6 +24,8 @@ pub enum Subcommand {
     Rnc,
     /// Run a terminal.
     Ue,
+    /// Run a network controller, a Node B and a terminal together.
+    Link,
 }
 
 /// What the words of the command line say.
@@ -90,6 +92,7 @@ fn parse_subcommand(text: &str) -> Option<Subcommand>
         "nodeb" => Some(Subcommand::NodeB),
         "rnc" => Some(Subcommand::Rnc),
         "ue" => Some(Subcommand::Ue),
+        "link" => Some(Subcommand::Link),
         _ => None,
     }
 }

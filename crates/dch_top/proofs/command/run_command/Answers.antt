@@ -1,0 +1,13 @@
+use Rattle.dch_top.proofs.command.run_command.Goals as goal
+
+pub returns-in-NodeB : goal.returns-in-NodeB
+returns-in-NodeB g c = rw c.in-NodeB.is c.node_b.ensures
+
+pub returns-in-Rnc : goal.returns-in-Rnc
+returns-in-Rnc g c = rw c.in-Rnc.is c.rnc.ensures
+
+pub returns-in-Ue : goal.returns-in-Ue
+returns-in-Ue g c = rw c.in-Ue.is c.ue.ensures
+
+pub returns-in-Link : goal.returns-in-Link
+returns-in-Link g c = rw c.in-Link.is c.link.ensures

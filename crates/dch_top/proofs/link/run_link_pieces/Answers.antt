@@ -1,0 +1,24 @@
+use Rattle.std.proofs.Common.{◌*◌, sym, subst}
+use Rattle.dch_accept.specs.Plans.{Planned}
+use Rattle.dch_lines.specs.declared.stop.Outcome.TheVariants.{Ok as Done}
+use Rattle.dch_link.specs.Standing.{HaveHistories}
+use Rattle.dch_linkcmd.specs.Rules.{link_lines}
+use Rattle.dch_linkcmd.specs.Run.{Run, opened_run}
+use Rattle.dch_top.specs.LinkRuns.{HaveRunHistories}
+use Rattle.dch_top.proofs.Scripts.{runs_configured, stops_configured}
+use Rattle.dch_top.proofs.link.run_link_pieces.Goals as goal
+
+pub returns-in-Ok-follow_script : goal.returns-in-Ok-follow_script
+returns-in-Ok-follow_script g c =
+    let opened : Planned → Run = λ accepted. opened_run accepted (8 * c.args.start) c.args.quiet in
+    let nodes = c.into_nodes.result in
+    let followed = c.in-Ok-follow_script.ensures (opened c.in-Ok.taken.1) c.in-Ok-open.ensures.stands in
+    let holds : HaveRunHistories nodes.0 nodes.1 nodes.2 followed.0 =
+    subst (λ (p : Planned). HaveHistories p followed.0.first followed.0.link nodes.0 nodes.1 nodes.2) (sym followed.1.0.stands.rnc.stands.at.active) (c.into_nodes.ensures followed.0 followed.1.0) in
+    runs_configured link_lines opened (HaveRunHistories nodes.0 nodes.1 nodes.2) _ _ _ _ _ _ _ _ _ _ _ _ c.take_configuration.new.piece c.in-Ok.taken.0 c.in-Ok.taken.1 followed.0 Done c.in-Ok.ensures followed.1.1 (λ same. cc) holds
+
+pub returns : goal.returns
+returns g c =
+    let opened : Planned → Run = λ accepted. opened_run accepted (8 * c.args.start) c.args.quiet in
+    let stops = c.in-Err-follow_script.ensures (opened c.in-Ok.taken.1) c.in-Ok-open.ensures.stands in
+    stops_configured link_lines opened _ _ _ _ _ _ _ _ _ _ _ _ c.take_configuration.new.piece c.in-Ok.taken.0 c.in-Ok.taken.1 c.in-Err-follow_script.status c.in-Ok.ensures stops

@@ -1,0 +1,46 @@
+-- What a run of the command `link` does.
+use Rattle.std.specs.Prelude.{◌≡◌, ◌≢◌, ◌⊎◌, ◌*◌, ℕ, List, Bool, true, All, Result, Ok, Err, Some}
+use Rattle.dch_io.specs.Ends.{End}
+use Rattle.dch_types.specs.declared.config.Config.{Config}
+use Rattle.dch_lines.specs.LineTexts.{is_empty}
+use Rattle.dch_link.specs.Link.{active}
+use Rattle.dch_link.specs.Standing.{HaveHistories}
+use Rattle.dch_linkcmd.specs.LineEvents.{Said, Says}
+use Rattle.dch_linkcmd.specs.Rules.{link_lines}
+use Rattle.dch_linkcmd.specs.Run.{Run, opened_run}
+use Rattle.dch_nodeb.specs.Values.{Node as NodeB}
+use Rattle.dch_rnc.specs.Values.{Node as Rnc}
+use Rattle.dch_ue.specs.Values.{Node as Ue}
+use Rattle.dch_top.specs.Benches.{Nodes}
+use Rattle.dch_top.specs.Configured.{RunsConfigured}
+use Rattle.dch_top.specs.NodeRuns.{RunsWith}
+use Rattle.dch_top.specs.declared.command.Status.{Status}
+use Rattle.dch_top.specs.declared.command.Status.TheVariants.{Ok as Well}
+
+-- the lines behind the configuration are those of three nodes that were opened for it
+abbrev pub RunsLines : ℕ → Bool → (Run → Type 0) → End → End → Status → Type 0
+RunsLines start quiet Holds source sink status = RunsConfigured link_lines (λ accepted. opened_run accepted (8 * start) quiet) Holds source sink status
+
+-- each of three nodes stands for just what happened at it in a run
+abbrev pub HaveRunHistories : Ue → NodeB → Rnc → Run → Type 0
+HaveRunHistories ue node_b rnc run = HaveHistories (active run.link) run.first run.link ue node_b rnc
+
+-- where all went well there are three nodes, which stand for just what happened in this run
+abbrev pub GivesNodes : ℕ → Bool → End → End → Result (Ue × NodeB × Rnc) Status → Type 0
+GivesNodes start quiet source sink (Ok nodes) = RunsLines start quiet (HaveRunHistories nodes.0 nodes.1 nodes.2) source sink Well
+GivesNodes start quiet source sink (Err status) = RunsLines start quiet (λ run. Unit {0}) source sink status × (status ≢ Well)
+
+-- the bench holds all three nodes, each of which stands for just what happened at it in a run
+pub record HoldsLink (nodes : Nodes) (run : Run) : Type 0 where
+  pub ue : Ue
+  pub node_b : NodeB
+  pub rnc : Rnc
+  pub all : nodes ≡ record { ue = Some ue; node_b = Some node_b; rnc = Some rnc }
+  pub histories : HaveRunHistories ue node_b rnc run
+
+abbrev pub RunsLink : ℕ → Bool → End → End → Nodes → Status → Type 0
+RunsLink start quiet source sink nodes status = RunsWith link_lines (λ accepted. opened_run accepted (8 * start) quiet) HoldsLink source sink nodes status
+
+-- each of the lines is empty or says something to the nodes
+abbrev pub AreLinkLines : Config → List (List ℕ) → Type 0
+AreLinkLines config lines = All (λ line. (is_empty line ≡ true) ⊎ ((said : Said) × Says config line said)) lines
