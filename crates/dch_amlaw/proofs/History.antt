@@ -180,7 +180,7 @@ lost_at bearer p line e b = subst (λ l. Lost p.far.entity.sender l p.near.moved
 abbrev heard : Pair → List Block → Sender → Receiver → Pair
 heard p line s r = record { near = with_entity p.near (all_handed (with_sides p.near.entity s r)); far = p.far; out = p.out; back = line }
 
-both_arrives : (bearer : Rules) (p : Pair) (line : List Block) → bearer.window ≤ 2048 → p.back ≡ line → Both bearer p → Both bearer (arrives bearer p line)
+pub both_arrives : (bearer : Rules) (p : Pair) (line : List Block) → bearer.window ≤ 2048 → p.back ≡ line → Both bearer p → Both bearer (arrives bearer p line)
 both_arrives bearer p [] small e b = b
 both_arrives bearer p (Payload k poll body ∷ line) small e b = record {
   out = out_at bearer p (Payload k poll body ∷ line) e b;

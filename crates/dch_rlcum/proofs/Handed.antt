@@ -98,6 +98,10 @@ chain_read : (pdu : ℕ) (units : List (List ℕ)) (s f k : ℕ) (ps : List Pdu)
 chain_read pdu units s f k [] are = tt
 chain_read pdu units s f k (p ∷ ps) are = (are.0.text k, chain_read pdu units (last_of s (ends_in p)) p.to (k + 1) ps are.1)
 
+-- the PDUs of a list of units carry them one after another
+pub pdus_chained : (pdu : ℕ) (starts : Bool) (units : List (List ℕ)) (cuts : List ℕ) → 3 ≤ pdu → pdu ≤ 125 → AreUnits units → AreCuts (pdu - 1) starts (sizes units) 0 first_front cuts → AreChained pdu (joined units) 0 0 (pdus (pdu - 1) starts (sizes units) cuts)
+pdus_chained pdu starts units cuts from most are cut = (chained pdu (pdu - 1) starts (joined units) (sizes units) 0 first_front [] cuts refl (omega arith) (omega arith) (some_units units are) (short_units units are) (omega (arith, total-sizes units)) cut (reached_first []) refl).pdus
+
 pub pdus_read : (pdu : ℕ) (starts : Bool) (units : List (List ℕ)) (cuts : List ℕ) → 3 ≤ pdu → pdu ≤ 125 → AreUnits units → AreCuts (pdu - 1) starts (sizes units) 0 first_front cuts → AreRead pdu units 0 (pdus (pdu - 1) starts (sizes units) cuts)
 pdus_read pdu starts units cuts from most are cut =
-    chain_read pdu units 0 0 0 (pdus (pdu - 1) starts (sizes units) cuts) (chained pdu (pdu - 1) starts (joined units) (sizes units) 0 first_front [] cuts refl (omega arith) (omega arith) (some_units units are) (short_units units are) (omega (arith, total-sizes units)) cut (reached_first []) refl).pdus
+    chain_read pdu units 0 0 0 (pdus (pdu - 1) starts (sizes units) cuts) (pdus_chained pdu starts units cuts from most are cut)
