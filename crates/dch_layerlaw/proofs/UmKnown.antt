@@ -1,0 +1,110 @@
+-- Which of the PDUs that were sent arrived, and the units that are known then.
+use Rattle.std.proofs.Common.{◌≡◌, ◌≤◌, ◌⊎◌, ◌+◌, ◌-◌, ℕ, List, [], ◌∷◌, ◌++◌, Bool, true, false, cond, Ok, map, arith, refl, sym, ap, ap₂, ◌∙◌, subst, inl, inr, ⊎_elim}
+use Rattle.std.specs.Prelude.{◌==◌, filter}
+use Rattle.dch_bits.specs.declared.bit.Bit.{Bit}
+use Rattle.dch_types.specs.declared.channel.Dir.{Dir}
+use Rattle.dch_types.specs.declared.config.Config.{Config}
+use Rattle.dch_filling.specs.Pdus.{Pdu, pdus}
+use Rattle.dch_rlcpdu.specs.Um.{um_reading}
+use Rattle.dch_rlcpdu.proofs.Splits.{reading_back}
+use Rattle.dch_rlcum.specs.Handing.{AreRead, all_handed, handed_up, sent_from, view_of}
+use Rattle.dch_rlcum.specs.History.{joined, sizes, text_of, texts_from}
+use Rattle.dch_rlcum.specs.Receiving.{Receiving, after_pdu, opened as opened_receiving}
+use Rattle.dch_rlcum.proofs.Handed.{known_handed, pdus_read}
+use Rattle.dch_layerlaw.specs.History.{is_mine}
+use Rattle.dch_layer.specs.UnitLines.{unit_lines}
+use Rattle.dch_layerlaw.specs.UmHistory.{IsKnownHistory, IsUmHistory, arriving, lines_all, lines_one, pdu_in, pdus_in, receives_one}
+use Rattle.dch_layerlaw.specs.Worlds.{IsFaithful, IsSublist, World}
+use Rattle.dch_layerlaw.proofs.Names.{other_number, same_number}
+use Rattle.dch_layerlaw.proofs.Sublists.{sub_filter}
+use Rattle.dch_layerlaw.proofs.Taking.{units-append}
+
+-- some of these PDUs, in order
+abbrev SomeOf : List (List ℕ) → List (List ℕ) → Type 0
+SomeOf [] ys = Unit {0}
+SomeOf (x ∷ xs) [] = ⊥
+SomeOf (x ∷ xs) (y ∷ ys) = ((x ≡ y) × SomeOf xs ys) ⊎ SomeOf (x ∷ xs) ys
+
+some_map : (f : List Bit → List ℕ) (xs ys : List (List Bit)) → IsSublist xs ys → SomeOf (map f xs) (map f ys)
+some_map f [] ys h = tt
+some_map f (x ∷ xs) [] h = absurd h
+some_map f (x ∷ xs) (y ∷ ys) h = ⊎_elim (λ (p : (x ≡ y) × IsSublist xs ys). inl (ap f p.0, some_map f xs ys p.1)) (λ (p : IsSublist (x ∷ xs) ys). inr (some_map f (x ∷ xs) ys p)) h
+
+-- places below k don't matter
+later_same : (a c : ℕ → Bool) (k : ℕ) (ps : List (List ℕ)) → ((j : ℕ) → k ≤ j → a j ≡ c j) → arriving a k ps ≡ arriving c k ps
+later_same a c k [] same = refl
+later_same a c k (p ∷ ps) same = ap₂ (λ t l. cond t (p ∷ l) l) (same k (omega arith)) (later_same a c (k + 1) ps (λ j l. same j (omega (arith, l))))
+
+sent_same : (a c : ℕ → Bool) (k : ℕ) (before : Bool) (ps : List Pdu) → ((j : ℕ) → k ≤ j → a j ≡ c j) → sent_from a k before ps ≡ sent_from c k before ps
+sent_same a c k before [] same = refl
+sent_same a c k before (p ∷ ps) same = ap₂ (λ t l. record { pdu = p; arrived = t; before = before } ∷ l) (same k (omega arith)) (ap (λ t. sent_from a (k + 1) t ps) (same k (omega arith)) ∙ sent_same a c (k + 1) (c k) ps (λ j l. same j (omega (arith, l))))
+
+-- a test of places from k on
+abbrev put : ℕ → Bool → (ℕ → Bool) → ℕ → Bool
+put k t a j = cond (j == k) t (a j)
+
+put_later : (k : ℕ) (t : Bool) (a : ℕ → Bool) (j : ℕ) → k + 1 ≤ j → put k t a j ≡ a j
+put_later k t a j l =
+    let differ : (j == k) ≡ false = other_number j k (λ e. absurd (omega (arith, l, e))) in
+    rw differ refl
+
+put_here : (k : ℕ) (t : Bool) (a : ℕ → Bool) → put k t a k ≡ t
+put_here k t a = rw (same_number k k refl) refl
+
+-- the PDUs that came, as some of those that were sent
+record Found (dir : Dir) (b pdu : ℕ) (units : List (List ℕ)) (k : ℕ) (before : Bool) (ps : List Pdu) (came : List (List ℕ)) (r : Receiving) : Type 0 where
+  arrives : ℕ → Bool
+  came_is : arriving arrives k (texts_from pdu units k ps) ≡ came
+  lines : lines_all dir b came r ≡ unit_lines dir b (handed_up pdu (joined units) k r (sent_from arrives k before ps))
+
+found : (dir : Dir) (b pdu : ℕ) (units : List (List ℕ)) (k : ℕ) (before : Bool) (ps : List Pdu) (came : List (List ℕ)) (r : Receiving) → AreRead pdu units k ps → SomeOf came (texts_from pdu units k ps) → Found dir b pdu units k before ps came r
+found dir b pdu units k before [] [] r read h = record { arrives = λ j. false; came_is = refl; lines = refl }
+found dir b pdu units k before [] (x ∷ came) r read h = absurd h
+found dir b pdu units k before (p ∷ ps) [] r read h =
+    let f = found dir b pdu units (k + 1) false ps [] r read.1 tt in
+    missed f
+  where
+    missed : Found dir b pdu units (k + 1) false ps [] r → Found dir b pdu units k before (p ∷ ps) [] r
+    missed f = record {
+      arrives = put k false f.arrives;
+      came_is = rw (put_here k false f.arrives) (later_same (put k false f.arrives) f.arrives (k + 1) (texts_from pdu units (k + 1) ps) (λ j l. put_later k false f.arrives j l) ∙ f.came_is);
+      lines = f.lines ∙ ap (λ xs. unit_lines dir b (handed_up pdu (joined units) (k + 1) r xs)) (sym (sent_same (put k false f.arrives) f.arrives (k + 1) false ps (λ j l. put_later k false f.arrives j l)))
+          ∙ sym (ap (λ t. unit_lines dir b (handed_up pdu (joined units) k r (record { pdu = p; arrived = t; before = before } ∷ sent_from (put k false f.arrives) (k + 1) t ps))) (put_here k false f.arrives));
+    }
+found dir b pdu units k before (p ∷ ps) (x ∷ came) r read h = ⊎_elim
+    (λ (q : (x ≡ text_of pdu units k p) × SomeOf came (texts_from pdu units (k + 1) ps)).
+    let view : um_reading x ≡ Ok (view_of pdu (joined units) k p) = ap um_reading q.0 ∙ reading_back (text_of pdu units k p) (view_of pdu (joined units) k p) read.0 in
+    here q.0 view (found dir b pdu units (k + 1) true ps came (all_handed (after_pdu (view_of pdu (joined units) k p) r)) read.1 q.1))
+    (λ (q : SomeOf (x ∷ came) (texts_from pdu units (k + 1) ps)). missed (found dir b pdu units (k + 1) false ps (x ∷ came) r read.1 q))
+    h
+  where
+    missed : Found dir b pdu units (k + 1) false ps (x ∷ came) r → Found dir b pdu units k before (p ∷ ps) (x ∷ came) r
+    missed f = record {
+      arrives = put k false f.arrives;
+      came_is = rw (put_here k false f.arrives) (later_same (put k false f.arrives) f.arrives (k + 1) (texts_from pdu units (k + 1) ps) (λ j l. put_later k false f.arrives j l) ∙ f.came_is);
+      lines = f.lines ∙ ap (λ xs. unit_lines dir b (handed_up pdu (joined units) (k + 1) r xs)) (sym (sent_same (put k false f.arrives) f.arrives (k + 1) false ps (λ j l. put_later k false f.arrives j l)))
+          ∙ sym (ap (λ t. unit_lines dir b (handed_up pdu (joined units) k r (record { pdu = p; arrived = t; before = before } ∷ sent_from (put k false f.arrives) (k + 1) t ps))) (put_here k false f.arrives));
+    }
+
+    here : x ≡ text_of pdu units k p → um_reading x ≡ Ok (view_of pdu (joined units) k p) → Found dir b pdu units (k + 1) true ps came (all_handed (after_pdu (view_of pdu (joined units) k p) r)) → Found dir b pdu units k before (p ∷ ps) (x ∷ came) r
+    here is view f = record {
+      arrives = put k true f.arrives;
+      came_is = rw (put_here k true f.arrives) (ap₂ (λ y l. y ∷ l) (sym is) (later_same (put k true f.arrives) f.arrives (k + 1) (texts_from pdu units (k + 1) ps) (λ j l. put_later k true f.arrives j l) ∙ f.came_is));
+      lines = ap (λ v. lines_one dir b v r ++ lines_all dir b came (receives_one v r)) view
+          ∙ ap (λ l. unit_lines dir b (after_pdu (view_of pdu (joined units) k p) r).waiting ++ l) (f.lines ∙ ap (λ xs. unit_lines dir b (handed_up pdu (joined units) (k + 1) (all_handed (after_pdu (view_of pdu (joined units) k p) r)) xs)) (sym (sent_same (put k true f.arrives) f.arrives (k + 1) true ps (λ j l. put_later k true f.arrives j l))))
+          ∙ sym (units-append dir b (after_pdu (view_of pdu (joined units) k p) r).waiting (handed_up pdu (joined units) (k + 1) (all_handed (after_pdu (view_of pdu (joined units) k p) r)) (sent_from (put k true f.arrives) (k + 1) true ps)))
+          ∙ sym (ap (λ t. unit_lines dir b (handed_up pdu (joined units) k r (record { pdu = p; arrived = t; before = before } ∷ sent_from (put k true f.arrives) (k + 1) t ps))) (put_here k true f.arrives));
+    }
+
+pub known_history : (config : Config) (out : Dir) (b i : ℕ) (w : World) → IsUmHistory config out b i w → IsFaithful (w.out i) → IsKnownHistory config out b i w
+known_history config out b i w h faithful =
+    let s = h.near.sends in
+    let read = pdus_read s.sending.pdu s.sending.mark_start s.accepted s.cuts h.near.sender.from h.near.sender.most h.near.units h.near.sender.rising in
+    let some : SomeOf (pdus_in config out b i (w.out i).taken) (pdus_in config out b i (w.out i).given) = some_map (pdu_in config out b) (filter (is_mine config out b i) (w.out i).taken) (filter (is_mine config out b i) (w.out i).given) (sub_filter (is_mine config out b i) (w.out i).taken (w.out i).given faithful) in
+    let f = found out b s.sending.pdu s.accepted 0 true (pdus (s.sending.pdu - 1) s.sending.mark_start (sizes s.accepted) s.cuts) (pdus_in config out b i (w.out i).taken) opened_receiving read (subst (SomeOf (pdus_in config out b i (w.out i).taken)) h.near.given some) in
+    record {
+      near = h.near;
+      arrives = f.arrives;
+      came = f.came_is;
+      lines = λ few. h.far.lines ∙ f.lines ∙ ap (unit_lines out b) (known_handed s.sending.pdu s.sending.mark_start s.accepted s.cuts f.arrives h.near.sender.from h.near.sender.most h.near.units h.near.sender.rising few);
+    }
