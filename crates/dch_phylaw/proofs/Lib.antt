@@ -1,0 +1,4 @@
+pub mod DownlinkSent
+pub mod Readers
+pub mod UplinkCopies
+pub mod UplinkSent
