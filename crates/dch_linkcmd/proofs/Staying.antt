@@ -18,7 +18,7 @@ use Rattle.dch_link.specs.Stages.{AtStage, MayGoDown, MayGoUp, NodeBGoes, RncGoe
 use Rattle.dch_link.specs.Passing.{next_stage}
 use Rattle.dch_link.specs.declared.stage.Stage.{Stage}
 use Rattle.dch_link.specs.declared.stage.Stage.TheVariants.{RncTick, IubDown, RadioDown, UeTick, RadioUp, IubUp}
-use Rattle.dch_linkcmd.specs.LineEvents.{Frames, Happening, Said}
+use Rattle.dch_linkcmd.specs.LineEvents.{Frames, OneEvent, Said}
 use Rattle.dch_linkcmd.specs.Rules.{PassesStage, Takes, link_lines}
 use Rattle.dch_linkcmd.specs.Run.{Run, config_of, passed_by}
 
@@ -71,7 +71,7 @@ pass_stays old new text passes =
     ap config_of passes.goes_on ∙ ap (λ (p : Planned). p.config) (passed_stays old passes.link (next_stage old.stage) ∙ stage_stays old.stage old.link passes.link passes.lines passes.passes)
 
 takes_stays : (said : Said) (old new : Run) (text : List ℕ) → Takes said old new text → config_of new ≡ config_of old
-takes_stays (Happening event) old new text takes = ap config_of takes.goes_on ∙ ap (λ (p : Planned). p.config) (event_stays old.link takes.link event takes.lines takes.happens)
+takes_stays (OneEvent event) old new text takes = ap config_of takes.goes_on ∙ ap (λ (p : Planned). p.config) (event_stays old.link takes.link event takes.lines takes.happens)
 takes_stays (Frames count) old new text takes = pass_stays (record old { left = count }) new text takes
 
 resumes_stay : (count : ℕ) (old new : Run) (text : List ℕ) → Resumes link_lines count old new text → config_of new ≡ config_of old

@@ -6,7 +6,7 @@ use Rattle.dch_lines.specs.Semantics.{Adds}
 use Rattle.dch_node.specs.Lines.{text_of}
 use Rattle.dch_nodecmd.specs.Shown.{shown}
 use Rattle.dch_link.specs.Standing.{Represents}
-use Rattle.dch_linkcmd.specs.LineEvents.{Frames, Happening, Said, Says}
+use Rattle.dch_linkcmd.specs.LineEvents.{Frames, OneEvent, Said, Says}
 use Rattle.dch_linkcmd.specs.Rules.{PassesStage, TakesLine}
 use Rattle.dch_linkcmd.specs.Run.{Run, config_of}
 use Rattle.dch_linkcmd.specs.Standing.{Handler, RepresentsRun}
@@ -33,8 +33,8 @@ took_event run old new line before after is takes accepted quiet stage left fram
       record {
         more = shown run.quiet (text_of shows.lines);
         handles = record {
-          said = Happening takes.event;
-          says = says_here run old line (Happening takes.event) is takes.says;
+          said = OneEvent takes.event;
+          says = says_here run old line (OneEvent takes.event) is takes.says;
           takes = record { link = shows.next; lines = shows.lines; happens = shows.does; goes_on = refl; shows = refl };
         };
         added = shows.reported ∙ ap (λ q. record { text = before.text ++ shown q (text_of shows.lines); most = before.most }) (sym is.quiet);

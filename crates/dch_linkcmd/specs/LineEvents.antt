@@ -12,7 +12,7 @@ use Rattle.dch_nodecmd.specs.Texts.{unit_bits, unit_octets}
 
 -- something happens between two radio frames, or so many radio frames pass
 pub data Said : Type 0 where
-  Happening : (event : Event) → Said
+  OneEvent : (event : Event) → Said
   Frames : (count : ℕ) → Said
 
 -- a unit with this text is offered to a bearer
@@ -21,13 +21,13 @@ unit_event config dir bearer text = OfferedUnit dir bearer (unit_octets (mode_at
 
 -- what a line says, if it says anything
 abbrev pub said_by : Config → ParsedLine → Option Said
-said_by config (unit dir bearer text) = Some (Happening (unit_event config dir bearer text))
-said_by config (block dir combination) = Some (Happening (BlockedCombination dir combination true))
-said_by config (free dir combination) = Some (Happening (BlockedCombination dir combination false))
-said_by config (flip dir tfci place) = Some (Happening (Damages (Flip dir tfci place)))
-said_by config (lose dir) = Some (Happening (Damages (Lose dir)))
-said_by config (lose_iub dir set) = Some (Happening (Damages (LoseIub dir set)))
-said_by config (spoil dir set octet mask) = Some (Happening (Damages (Spoil dir set octet mask)))
+said_by config (unit dir bearer text) = Some (OneEvent (unit_event config dir bearer text))
+said_by config (block dir combination) = Some (OneEvent (BlockedCombination dir combination true))
+said_by config (free dir combination) = Some (OneEvent (BlockedCombination dir combination false))
+said_by config (flip dir tfci place) = Some (OneEvent (Damages (Flip dir tfci place)))
+said_by config (lose dir) = Some (OneEvent (Damages (Lose dir)))
+said_by config (lose_iub dir set) = Some (OneEvent (Damages (LoseIub dir set)))
+said_by config (spoil dir set octet mask) = Some (OneEvent (Damages (Spoil dir set octet mask)))
 said_by config (frame count) = Some (Frames count)
 said_by config parsed = None
 

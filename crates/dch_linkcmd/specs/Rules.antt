@@ -8,7 +8,7 @@ use Rattle.dch_node.specs.Lines.{Line, text_of}
 use Rattle.dch_link.specs.Events.{Event, Happens}
 use Rattle.dch_link.specs.Link.{LinkState}
 use Rattle.dch_link.specs.Stages.{AtStage}
-use Rattle.dch_linkcmd.specs.LineEvents.{Frames, Happening, Said, Says}
+use Rattle.dch_linkcmd.specs.LineEvents.{Frames, OneEvent, Said, Says}
 use Rattle.dch_linkcmd.specs.Run.{Run, config_of, passed, steps_left}
 use Rattle.dch_nodecmd.specs.Rules.{closing}
 use Rattle.dch_nodecmd.specs.Shown.{shown}
@@ -31,7 +31,7 @@ pub record PassesStage (old new : Run) (text : List ℕ) : Type 0 where
 
 -- what a line does first
 abbrev pub Takes : Said → Run → Run → List ℕ → Type 0
-Takes (Happening event) old new text = TakesEvent old event new text
+Takes (OneEvent event) old new text = TakesEvent old event new text
 Takes (Frames count) old new text = PassesStage (record old { left = count }) new text
 
 pub record TakesLine (old : Run) (line : List ℕ) (new : Run) (text : List ℕ) : Type 0 where

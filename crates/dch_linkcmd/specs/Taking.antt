@@ -6,13 +6,13 @@ use Rattle.dch_link.specs.Events.{Event, Happens}
 use Rattle.dch_link.specs.Link.{LinkState}
 use Rattle.dch_link.specs.Standing.{Represents}
 use Rattle.dch_link.specs.Values.{Nodes}
-use Rattle.dch_linkcmd.specs.LineEvents.{Frames, Happening, Says}
+use Rattle.dch_linkcmd.specs.LineEvents.{Frames, OneEvent, Says}
 use Rattle.dch_linkcmd.specs.Standing.{Shows}
 
 -- a line says that something happens, and it has happened
 pub record TakesEvent (planned : Planned) (line : List ℕ) (quiet : Bool) (old new : Nodes) (before after : Held) : Type 0 where
   pub event : Event
-  pub says : Says planned.config line (Happening event)
+  pub says : Says planned.config line (OneEvent event)
   pub happens : (first : ℕ) (link : LinkState) → Represents planned first link old → Shows planned first quiet (Happens link event) new before after
 
 -- a line asks for radio frames, and nothing has happened yet
