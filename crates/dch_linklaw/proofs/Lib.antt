@@ -1,3 +1,0 @@
-pub mod Eight
-pub mod Frames
-pub mod Keeping

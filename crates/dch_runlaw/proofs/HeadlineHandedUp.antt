@@ -1,0 +1,68 @@
+-- What the rows of a run's text hand up of a bearer, whatever damage came between.
+use Rattle.std.proofs.Common.{◌≡◌, ◌<◌, ◌≤◌, ◌^◌, ◌∙◌, ℕ, List, [], ◌∷◌, cond, length, arith, refl, ap, ap₂, sym}
+use Rattle.std.proofs.lemmas.Bool.{le-ltb}
+use Rattle.dch_types.specs.declared.channel.Dir.{Dir}
+use Rattle.dch_types.specs.declared.channel.Dir.TheVariants.{Up, Down}
+use Rattle.dch_accept.specs.Plans.{Planned}
+use Rattle.dch_node.specs.Lines.{Got, Line, Overlong}
+use Rattle.dch_amlaw.specs.Pair.{Pair}
+use Rattle.dch_amlaw.proofs.Short.{AreShort, BothRead, always_short}
+use Rattle.dch_layer.specs.Bearings.{pdu_octets, rules_in}
+use Rattle.dch_layer.specs.UnitLines.{unit_lines}
+use Rattle.dch_layerlaw.specs.History.{IsAmBearer, pair_after}
+use Rattle.dch_layerlaw.specs.Lines.{lines_of}
+use Rattle.dch_layerlaw.specs.Rows.{gots, rows_of}
+use Rattle.dch_layerlaw.specs.UmHistory.{got_lines}
+use Rattle.dch_layerlaw.proofs.Bearers.{is_am_bearer}
+use Rattle.dch_layerlaw.proofs.Small.{gots_bits, gots_units}
+use Rattle.dch_link.specs.Link.{LinkState}
+use Rattle.dch_runlaw.specs.HonestBearers.{HasHistory, HasKnownDown, HasKnownUp, HasTmSomeDown, HasTmSomeUp, IsAcknowledged, IsTransparent, IsUnacknowledged}
+use Rattle.dch_runlaw.specs.TextTold.{IsRead}
+use Rattle.dch_runlaw.specs.HeadlineHandedUp.{HandsUp, HandsUpKnownDown, HandsUpKnownUp, HandsUpSome}
+
+pub low : (n b : ℕ) → b < n → n ≤ 16 → b < 2 ^ 64
+low n b there few = omega (arith, there, few)
+
+-- units that are not too long
+pub got_short : (dir : Dir) (b : ℕ) (us : List (List ℕ)) → AreShort us → unit_lines dir b us ≡ got_lines dir b us
+got_short dir b [] h = refl
+got_short dir b (u ∷ us) h = ap₂ (λ x l. x ∷ l) (ap (λ t. cond t (Overlong dir b) (Got dir b u)) (le-ltb 1500 (length u) h.0)) (got_short dir b us h.1)
+
+-- the rows of an acknowledged bearer's units
+pub am_rows : (planned : Planned) (b up down : ℕ) (link : LinkState) (text : List ℕ) → IsAcknowledged planned b up down → HasHistory planned b link → IsRead link text → HandsUp planned b link text
+am_rows planned b up down link text is has read =
+    let p : Pair = pair_after planned.config Up Down b has.history.events in
+    let bearer : IsAmBearer planned.config Up Down b up down = is_am_bearer planned.config b up down is.good is.there is.mode is.up_is is.down_is in
+    let short : BothRead p = always_short (rules_in planned.config b) (pdu_octets planned.config Up b) (pdu_octets planned.config Down b) has.history.events bearer.window in
+    let few : b < 2 ^ 64 = low (length planned.config.bearers) b is.there is.good.few in
+    record {
+      units = has;
+      up = read.up b few ∙ ap (λ (l : List Line). rows_of (gots Up b l)) (ap (lines_of b) (sym has.are.rnc_lines) ∙ has.history.pair.far.lines ∙ got_short Up b p.far.entity.receiver.reading.units short.far) ∙ ap rows_of (gots_units Up b p.far.entity.receiver.reading.units);
+      down = read.down b few ∙ ap (λ (l : List Line). rows_of (gots Down b l)) (ap (lines_of b) (sym has.are.ue_lines) ∙ has.history.pair.near.lines ∙ got_short Down b p.near.entity.receiver.reading.units short.near) ∙ ap rows_of (gots_units Down b p.near.entity.receiver.reading.units);
+    }
+
+-- those of an unacknowledged one
+pub um_rows_up : (planned : Planned) (b i : ℕ) (link : LinkState) (text : List ℕ) → IsUnacknowledged planned Up b i → HasKnownUp planned b i link → IsRead link text → HandsUpKnownUp planned b i link text
+um_rows_up planned b i link text is has read = record {
+  units = has;
+  rows_are = λ few. read.up b (low (length planned.config.bearers) b is.there is.good.few) ∙ ap (λ (l : List Line). rows_of (gots Up b l)) (ap (lines_of b) (sym has.are.rnc_lines) ∙ has.known.lines few);
+}
+
+pub um_rows_down : (planned : Planned) (b i : ℕ) (link : LinkState) (text : List ℕ) → IsUnacknowledged planned Down b i → HasKnownDown planned b i link → IsRead link text → HandsUpKnownDown planned b i link text
+um_rows_down planned b i link text is has read = record {
+  units = has;
+  rows_are = λ few. read.down b (low (length planned.config.bearers) b is.there is.good.few) ∙ ap (λ (l : List Line). rows_of (gots Down b l)) (ap (lines_of b) (sym has.are.ue_lines) ∙ has.known.lines few);
+}
+
+-- and those of a transparent one
+pub tm_rows_up : (planned : Planned) (b i : ℕ) (link : LinkState) (text : List ℕ) → IsTransparent planned Up b i → HasTmSomeUp planned b link → IsRead link text → HandsUpSome planned Up b link.ue.state.layer link.rnc.lines text
+tm_rows_up planned b i link text is some read = record {
+  units = some;
+  rows_are = read.up b (low (length planned.config.bearers) b is.there is.good.few) ∙ ap rows_of (ap (gots Up b) some.lines ∙ gots_bits Up b some.handed);
+}
+
+pub tm_rows_down : (planned : Planned) (b i : ℕ) (link : LinkState) (text : List ℕ) → IsTransparent planned Down b i → HasTmSomeDown planned b link → IsRead link text → HandsUpSome planned Down b link.rnc.state.layer link.ue.lines text
+tm_rows_down planned b i link text is some read = record {
+  units = some;
+  rows_are = read.down b (low (length planned.config.bearers) b is.there is.good.few) ∙ ap rows_of (ap (gots Down b) some.lines ∙ gots_bits Down b some.handed);
+}

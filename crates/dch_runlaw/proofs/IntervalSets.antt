@@ -1,0 +1,188 @@
+-- What the Node B sends of a set whose TTI ends with radio frames that all arrived as they were sent.
+use Rattle.std.proofs.Common.{◌≡◌, ◌<◌, ◌+◌, ◌%◌, ◌∙◌, ◌++◌, ℕ, zero, suc, List, [], ◌∷◌, length, true, false, Option, Some, append_assoc, arith, refl, sym, ap, subst, inl, inr}
+use Rattle.std.specs.Prelude.{◌==◌, ◌⊎◌}
+use Rattle.dch_types.specs.declared.channel.Dir.TheVariants.{Up}
+use Rattle.dch_types.specs.declared.channel.Side.{Side}
+use Rattle.dch_types.specs.Limits.{IsFrames, IsSide}
+use Rattle.dch_types.specs.Parts.{channel_at}
+use Rattle.dch_types.specs.Timing.{ends, frames_among, set_frames, started, starts}
+use Rattle.dch_accept.specs.HeldSets.{HeldSet, held_at}
+use Rattle.dch_accept.specs.Plans.{IsPlanned, Planned}
+use Rattle.dch_rxframes.specs.RxFrames.{RxFrames}
+use Rattle.dch_ulphy.specs.Sent.{WasSent}
+use Rattle.dch_iub.specs.Forms.{IsWrittenForm}
+use Rattle.dch_iub.specs.Shape.{ForSet}
+use Rattle.dch_node.specs.Lines.{Line}
+use Rattle.dch_node.specs.RxFrames.{AreHeard}
+use Rattle.dch_node.specs.Values.{Radio}
+use Rattle.dch_phylaw.proofs.UplinkSent.{uplink_sent}
+use Rattle.dch_layer.specs.Layers.{Given, Layer}
+use Rattle.dch_layer2.specs.Joined.{CarriesGiven, joined_bits}
+use Rattle.dch_nodeb.specs.Steps.{DeliversSet}
+use Rattle.dch_nodeb.proofs.Steady.{set_frames-member, starts-eighth, tells}
+use Rattle.dch_link.specs.Link.{LinkState, opened_link}
+use Rattle.dch_runlaw.specs.Frames.{IsFrame}
+use Rattle.dch_runlaw.specs.Runs.{Event, Frame, Runs, Steps}
+use Rattle.dch_runlaw.specs.SizedLinks.{IsSized}
+use Rattle.dch_runlaw.specs.Sized.{AreAllWhole}
+use Rattle.dch_runlaw.proofs.SizedRuns.{is_sized}
+use Rattle.dch_runlaw.proofs.ClearSent.{heard_as}
+use Rattle.dch_runlaw.proofs.ClearTtis.{over_or_on}
+use Rattle.dch_runlaw.specs.Intervals.{AllArrive, AreGood, Tti, UpAsGiven}
+use Rattle.dch_runlaw.proofs.IntervalAgree.{Agree, Parts, opened_agree, parts, runs_agree}
+use Rattle.dch_runlaw.proofs.IntervalCounting.{Watch, stayed, starts_zero}
+use Rattle.dch_runlaw.proofs.IntervalUp.{InRunning, UpOn, frames_of, last_sent, run_formats, run_on, up_side, up_watch}
+
+-- one run after another
+join : (a b : List Event) (old mid new : LinkState) (xs ys : List Line) → Runs old a mid xs → Runs mid b new ys → Runs old (a ++ b) new (xs ++ ys)
+join [] b old mid new xs ys first second = subst (λ (l : List Line). Runs old b new (l ++ ys)) (sym first.1) (subst (λ (m : LinkState). Runs m b new ys) first.0 second)
+join (event ∷ a) b old mid new xs ys first second = record {
+  next = first.next;
+  own = first.own;
+  rest = first.rest ++ ys;
+  step = first.step;
+  later = join a b first.next mid new first.rest ys first.later second;
+  reported = ap (λ (l : List Line). l ++ ys) first.reported ∙ append_assoc first.own first.rest ys;
+}
+
+-- so after the last radio frame of a run each uplink channel has as many bits as its format
+whole_last : (planned : Planned) (events : List Event) (old last new : LinkState) (lines own : List Line) → Runs old events last lines → Steps last Frame new own
+    → ((all : List Line) (run : Runs old (events ++ (Frame ∷ [])) new all) → IsSized planned (events ++ (Frame ∷ [])) old new all run) → AreAllWhole (up_side planned) new.ue.state.layer
+whole_last planned [] old last new lines own run step sized =
+    let there : Steps old Frame new own = subst (λ (l : LinkState). Steps l Frame new own) run.0 step in
+    (sized (own ++ []) (record { next = new; own = own; rest = []; step = there; later = (refl, refl); reported = refl })).0.2
+whole_last planned (event ∷ events) old last new lines own run step sized =
+    whole_last planned events run.next last new run.rest own run.later step (λ all later. (sized (run.own ++ all) (record { next = run.next; own = run.own; rest = all; step = run.step; later = later; reported = refl })).1)
+
+-- the radio frames of a set's TTI are those of a channel's, if there is one
+among_frames : (side : Side) (set n : ℕ) → ((i : ℕ) → i < n → IsFrames (channel_at side i).frames) → (frames_among side set n ≡ 0) ⊎ IsFrames (frames_among side set n)
+among_frames side set zero each = inl refl
+among_frames side set (suc i) each = elim (tells ((channel_at side i).set == set)) [
+  | inl own ↦ (
+      let is : frames_among side set (suc i) ≡ (channel_at side i).frames = rw own.0 refl in
+      inr (subst IsFrames (sym is) (each i (omega arith))))
+  | inr other ↦ (
+      let is : frames_among side set (suc i) ≡ frames_among side set i = rw other.0 refl in
+      subst (λ n. (n ≡ 0) ⊎ IsFrames n) (sym is) (among_frames side set i (λ j early. each j (omega (arith, early)))))
+]
+
+set_is : (side : Side) (set cfn : ℕ) → IsSide side → starts (set_frames side set) cfn ≡ true → IsFrames (set_frames side set)
+set_is side set cfn good on = elim (among_frames side set (length side.channels) (λ i inside. (good.channels i inside).frames)) [
+  | inl none ↦ (
+      let off : starts (set_frames side set) cfn ≡ false = ap (λ n. starts n cfn) none in
+      absurd (let both : false ≡ true = sym off ∙ on in cc))
+  | inr is ↦ is
+]
+
+set_same : (side : Side) (set i : ℕ) → IsSide side → i < length side.channels → (channel_at side i).set ≡ set → set_frames side set ≡ (channel_at side i).frames
+set_same side set i good inside member = ap (set_frames side) (sym member) ∙ set_frames-member side i good inside
+
+-- the Iub frame of a set
+record SetUp (planned : Planned) (layer : Layer) (set cfn : ℕ) (iub : Option (List ℕ)) : Type 0 where
+  octets : List ℕ
+  sent : iub ≡ Some octets
+  held : HeldSet
+  written : IsWrittenForm planned.config Up set octets (started (set_frames (up_side planned) set) cfn) planned.config.qe held
+  carries : ForSet (up_side planned) set (λ i. CarriesGiven (layer.given i) (held_at held.blocks i))
+  good : ForSet (up_side planned) set (λ i. AreGood (held_at held.blocks i))
+
+set_up : (planned : Planned) (cfn : ℕ) (frames : ℕ → Option Radio) (reader : RxFrames) (layer : Layer) (set : ℕ) (lines : List Line) (iub : Option (List ℕ)) → IsPlanned planned → AreHeard planned Up cfn frames reader → ends (set_frames (up_side planned) set) reader.cfn ≡ true
+    → ForSet (up_side planned) set (λ i. WasSent planned reader i (layer.given i).format (joined_bits (layer.given i).blocks)) → DeliversSet planned reader set lines iub → SetUp planned layer set reader.cfn iub
+set_up planned cfn frames reader layer set lines iub good heard over were (inl waits) = absurd (let both : false ≡ true = sym waits.on ∙ over in cc)
+set_up planned cfn frames reader layer set lines iub good heard over were (inr (inl lost)) =
+    let i : ℕ = lost.channel in
+    absurd ((uplink_sent planned cfn frames reader i (layer.given i).format (joined_bits (layer.given i).blocks) good heard lost.is.inside (were i lost.is.inside lost.is.member)).good lost.frame lost.is.bad)
+set_up planned cfn frames reader layer set lines iub good heard over were (inr (inr up)) = record {
+  octets = up.octets;
+  sent = up.sent;
+  held = up.held;
+  written = up.written;
+  carries = λ i inside member.
+      let sent = uplink_sent planned cfn frames reader i (layer.given i).format (joined_bits (layer.given i).blocks) good heard inside (were i inside member) in
+      record { format = sent.number (held_at up.held.blocks i) (up.read i inside member); bits = (sent.arrives (held_at up.held.blocks i) (up.read i inside member)).same };
+  good = λ i inside member. ((uplink_sent planned cfn frames reader i (layer.given i).format (joined_bits (layer.given i).blocks) good heard inside (were i inside member)).arrives (held_at up.held.blocks i) (up.read i inside member)).good;
+}
+
+-- a value that never changes
+abbrev no_watch : (planned : Planned) (frames : ℕ) → Watch planned frames ℕ
+no_watch planned frames = record { value = λ link. 0; frame_value = λ old new lines f. 0; same = λ old new r. refl; after = λ old new lines f a. refl; before = λ old new lines f a off. refl }
+
+opened_formats : (planned : Planned) (first : ℕ) → IsPlanned planned → first % 8 ≡ 0 → InRunning planned (opened_link planned first)
+opened_formats planned first good eighth = λ j inside off.
+    absurd (let both : false ≡ true = sym off ∙ starts-eighth (frames_of planned j) first (good.good.uplink.side.channels j inside).frames eighth in cc)
+
+pub up_interval : (planned : Planned) (first set : ℕ) (events : List Event) (mid new : LinkState) (lines : List Line) → Runs (opened_link planned first) events mid lines → IsPlanned planned → first % 8 ≡ 0 → set < 8
+    → (t : Tti (set_frames planned.config.uplink.side set) mid new) → AllArrive Up (set_frames planned.config.uplink.side set) mid new t → UpAsGiven planned set (set_frames planned.config.uplink.side set) mid new t
+up_interval planned first set events mid new lines run good eighth small t arrive = record {
+  given = λ i. new.ue.state.layer.given i;
+  stays = λ i inside member. (stayed planned frames Given (up_watch planned i frames good (same i inside member)) mid new t good is a).inside;
+  octets = done.octets;
+  sent = done.sent;
+  held = done.held;
+  written = subst (λ c. IsWrittenForm planned.config Up set done.octets (started frames c) planned.config.qe done.held) rx_cfn done.written;
+  carries = done.carries;
+  good = done.good;
+}
+  where
+    side : Side
+    side = up_side planned
+
+    frames : ℕ
+    frames = set_frames planned.config.uplink.side set
+
+    is : IsFrames frames
+    is = set_is side set mid.rnc.state.cfn good.good.uplink.side t.at_start
+
+    same : (i : ℕ) → i < length side.channels → (channel_at side i).set ≡ set → frames ≡ frames_of planned i
+    same i inside member = set_same side set i good.good.uplink.side inside member
+
+    a : Agree planned mid
+    a = runs_agree planned events (opened_link planned first) mid lines run good (opened_agree planned first good)
+
+    b : Agree planned t.last
+    b = runs_agree planned t.events mid t.last t.lines t.run good a
+
+    f : IsFrame t.last new t.last_lines
+    f = t.step.frame
+
+    p : Parts planned t.last new t.last_lines f
+    p = parts planned t.last new t.last_lines f good b
+
+    c : ℕ
+    c = t.last.rnc.state.cfn
+
+    rx_cfn : p.receives.rx_frames.cfn ≡ c
+    rx_cfn = p.receives.kept.last ∙ p.node_b_cfn
+
+    formats : InRunning planned mid
+    formats = run_formats planned events (opened_link planned first) mid lines run good (opened_agree planned first good) (opened_formats planned first good eighth)
+
+    last_formats : InRunning planned t.last
+    last_formats = run_formats planned t.events mid t.last t.lines t.run good a formats
+
+    at_end : c % frames + 1 ≡ frames
+    at_end = (stayed planned frames ℕ (no_watch planned frames) mid new t good is a).at_end
+
+    over : ends frames c ≡ true
+    over = elim (over_or_on frames c is) [
+      | inl done ↦ done.2
+      | inr more ↦ absurd (omega (arith, more.0, at_end))
+    ]
+
+    wholes : AreAllWhole side new.ue.state.layer
+    wholes =
+        whole_last planned (events ++ t.events) (opened_link planned first) t.last new (lines ++ t.lines) t.last_lines (join events t.events (opened_link planned first) mid t.last lines t.lines run t.run) t.step
+        (λ all whole. is_sized planned first ((events ++ t.events) ++ (Frame ∷ [])) new all whole good)
+
+    on : (i : ℕ) → i < length side.channels → (channel_at side i).set ≡ set → UpOn planned i t.last
+    on i inside member = run_on planned t.events mid t.last t.lines t.run i good inside a formats arrive.0
+        (λ some. absurd (omega (arith, some, subst (λ n. mid.rnc.state.cfn % n ≡ 0) (same i inside member) (starts_zero frames mid.rnc.state.cfn is t.at_start))))
+
+    were : ForSet side set (λ i. WasSent planned p.receives.rx_frames i (new.ue.state.layer.given i).format (joined_bits (new.ue.state.layer.given i).blocks))
+    were = λ i inside member. last_sent planned t.last new t.last_lines f good b i inside last_formats arrive.1 (on i inside member) (subst (λ n. c % n + 1 ≡ n) (same i inside member) at_end) (wholes i inside)
+
+    heard : AreHeard planned Up c new.node_b.state.frames p.receives.rx_frames
+    heard = heard_as planned Up f.node_b.cfn c new.node_b.state.frames new.node_b.state.frames p.receives.rx_frames p.node_b_cfn (λ k. refl) p.receives.kept
+
+    done : SetUp planned new.ue.state.layer set p.receives.rx_frames.cfn (f.up_output.iub set)
+    done = set_up planned c new.node_b.state.frames p.receives.rx_frames new.ue.state.layer set (p.receives.lines set) (f.up_output.iub set) good heard (ap (ends frames) rx_cfn ∙ over) were (p.receives.sets set small)

@@ -1,0 +1,8 @@
+use Rattle.dch_runlaw.proofs.NodesEvents.{tm_down, tm_up}
+use Rattle.dch_runlaw.proofs.nodes_laws.tm_nodes_law.Goals as goal
+
+pub returns-clause-up : goal.returns-clause-up
+returns-clause-up c = tm_up
+
+pub returns-clause-down : goal.returns-clause-down
+returns-clause-down c = tm_down

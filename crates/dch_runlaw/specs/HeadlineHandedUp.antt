@@ -1,0 +1,40 @@
+-- The rows of a run's text that hand up units of a bearer, whatever damage came between its nodes.
+use Rattle.std.specs.Prelude.{◌≡◌, ℕ, List}
+use Rattle.dch_types.specs.declared.channel.Dir.TheVariants.{Up, Down}
+use Rattle.dch_types.specs.declared.channel.Dir.{Dir}
+use Rattle.dch_accept.specs.Plans.{Planned}
+use Rattle.dch_script.specs.Lines.{lines_of as rows}
+use Rattle.dch_node.specs.Lines.{Line}
+use Rattle.dch_layer.specs.Layers.{Layer}
+use Rattle.dch_layer.specs.UnitLines.{unit_lines}
+use Rattle.dch_link.specs.Link.{LinkState}
+use Rattle.dch_rlcum.specs.Handing.{AreFewLost, known_units}
+use Rattle.dch_layerlaw.specs.History.{pair_after}
+use Rattle.dch_layerlaw.specs.Rows.{got_rows, gots, rows_of}
+use Rattle.dch_layerlaw.specs.TmHistory.{IsTmSome, bits_lines}
+use Rattle.dch_layerlaw.specs.UmHistory.{got_lines, sent_by}
+use Rattle.dch_runlaw.specs.HonestBearers.{HasHistory, HasKnownDown, HasKnownUp}
+
+-- those of an acknowledged bearer: its two ends stand in a history of two ends with blocks in flight, in order, some of which are lost, and
+-- the rows are those of the units that the history hands up. They are the accepted units, in order, each once and whole, but for those that
+-- were discarded
+pub record HandsUp (planned : Planned) (b : ℕ) (link : LinkState) (text : List ℕ) : Type 0 where
+  pub units : HasHistory planned b link
+  pub up : got_rows Up b (rows text) ≡ rows_of (got_lines Up b (pair_after planned.config Up Down b units.history.events).far.entity.receiver.reading.units)
+  pub down : got_rows Down b (rows text) ≡ rows_of (got_lines Down b (pair_after planned.config Up Down b units.history.events).near.entity.receiver.reading.units)
+
+-- those of an unacknowledged bearer, where fewer than 128 successive PDUs were lost before each that came: the units of which all came, in order
+pub record HandsUpKnownUp (planned : Planned) (b i : ℕ) (link : LinkState) (text : List ℕ) : Type 0 where
+  pub units : HasKnownUp planned b i link
+  pub rows_are : AreFewLost 0 (sent_by units.known.near.sends units.known.arrives)
+      → got_rows Up b (rows text) ≡ rows_of (gots Up b (unit_lines Up b (known_units (sent_by units.known.near.sends units.known.arrives) 0 units.known.near.sends.accepted)))
+
+pub record HandsUpKnownDown (planned : Planned) (b i : ℕ) (link : LinkState) (text : List ℕ) : Type 0 where
+  pub units : HasKnownDown planned b i link
+  pub rows_are : AreFewLost 0 (sent_by units.known.near.sends units.known.arrives)
+      → got_rows Down b (rows text) ≡ rows_of (gots Down b (unit_lines Down b (known_units (sent_by units.known.near.sends units.known.arrives) 0 units.known.near.sends.accepted)))
+
+-- those of a transparent bearer: some of the accepted units, in order, each at most once
+pub record HandsUpSome (planned : Planned) (dir : Dir) (b : ℕ) (from : Layer) (said : List Line) (text : List ℕ) : Type 0 where
+  pub units : IsTmSome planned.config dir b from said
+  pub rows_are : got_rows dir b (rows text) ≡ rows_of (bits_lines dir b units.handed)

@@ -1,0 +1,103 @@
+-- What the terminal and the network controller of a run hand up of a bearer.
+use Rattle.std.specs.Prelude.{◌≡◌, ◌<◌, ◌++◌, ℕ, List, [], Some, if◌then◌else◌, length}
+use Rattle.dch_bits.specs.declared.bit.Bit.{Bit}
+use Rattle.dch_types.specs.declared.bearer.Mode.TheVariants.{Am, Tm, Um}
+use Rattle.dch_types.specs.declared.channel.Dir.{Dir}
+use Rattle.dch_types.specs.declared.channel.Dir.TheVariants.{Up, Down}
+use Rattle.dch_types.specs.declared.channel.Side.{Side}
+use Rattle.dch_types.specs.Parts.{channel_at}
+use Rattle.dch_types.specs.Timing.{starts}
+use Rattle.dch_config.specs.Good.{IsGood}
+use Rattle.dch_accept.specs.Plans.{Planned}
+use Rattle.dch_layer.specs.Bearings.{bearer_in, channel_of}
+use Rattle.dch_layer.specs.Layers.{Layer}
+use Rattle.dch_link.specs.Link.{LinkState}
+use Rattle.dch_layerlaw.specs.TmHistory.{IsTmCarried, IsTmSome}
+use Rattle.dch_layerlaw.specs.UmHistory.{IsUmCarried}
+use Rattle.dch_runlaw.specs.Nodes.{IsAmHistory, IsDownKnown, IsUpKnown, IsWholeAmHistory, Nodes}
+
+-- an acknowledged bearer of a good configuration, with its two channels
+pub record IsAcknowledged (planned : Planned) (b up down : ℕ) : Type 0 where
+  pub good : IsGood planned.config
+  pub there : b < length planned.config.bearers
+  pub mode : (bearer_in planned.config b).mode ≡ Am
+  pub up_is : channel_of planned.config Up b ≡ Some up
+  pub down_is : channel_of planned.config Down b ≡ Some down
+
+-- an unacknowledged bearer of a good configuration, with its channel of a direction
+pub record IsUnacknowledged (planned : Planned) (dir : Dir) (b i : ℕ) : Type 0 where
+  pub good : IsGood planned.config
+  pub there : b < length planned.config.bearers
+  pub mode : (bearer_in planned.config b).mode ≡ Um
+  pub channel : channel_of planned.config dir b ≡ Some i
+
+-- a transparent bearer
+pub record IsTransparent (planned : Planned) (dir : Dir) (b i : ℕ) : Type 0 where
+  pub good : IsGood planned.config
+  pub there : b < length planned.config.bearers
+  pub mode : (bearer_in planned.config b).mode ≡ Tm
+  pub channel : channel_of planned.config dir b ≡ Some i
+
+-- two nodes are the terminal and the network controller of a run, with all lines that each has reported
+pub record AreOf (link : LinkState) (nodes : Nodes) : Type 0 where
+  pub ue : nodes.ue ≡ link.ue.state
+  pub rnc : nodes.rnc ≡ link.rnc.state
+  pub ue_lines : nodes.ue_lines ≡ link.ue.lines
+  pub rnc_lines : nodes.rnc_lines ≡ link.rnc.lines
+
+-- with what went over their channels they stand in a history of an acknowledged bearer's pair
+pub record HasHistory (planned : Planned) (b : ℕ) (link : LinkState) : Type 0 where
+  pub nodes : Nodes
+  pub are : AreOf link nodes
+  pub history : IsAmHistory planned b nodes
+
+-- the blocks that a channel was given for a TTI that has not ended, before the radio frame of a CFN
+abbrev pub on_way : Side → ℕ → Layer → ℕ → List (List Bit)
+on_way side cfn layer i = if starts (channel_at side i).frames cfn then [] else (layer.given i).blocks
+
+-- those of an uplink channel, and of a downlink channel
+abbrev pub up_way : Planned → ℕ → LinkState → List (List Bit)
+up_way planned up link = on_way planned.config.uplink.side link.rnc.state.cfn link.ue.state.layer up
+
+abbrev pub down_way : Planned → ℕ → LinkState → List (List Bit)
+down_way planned down link = on_way planned.config.downlink.side link.rnc.state.cfn link.rnc.state.layer down
+
+-- in a history in which nothing is lost: of what was given all was taken but the blocks of TTIs that have not ended
+pub record HasWholeHistory (planned : Planned) (b up down : ℕ) (link : LinkState) : Type 0 where
+  pub nodes : Nodes
+  pub are : AreOf link nodes
+  pub up_taken : (nodes.up up).given ≡ (nodes.up up).taken ++ up_way planned up link
+  pub down_taken : (nodes.down down).given ≡ (nodes.down down).taken ++ down_way planned down link
+  pub history : IsWholeAmHistory planned b up down nodes
+
+-- what is known of an unacknowledged bearer's uplink, and of its downlink
+pub record HasKnownUp (planned : Planned) (b up : ℕ) (link : LinkState) : Type 0 where
+  pub nodes : Nodes
+  pub are : AreOf link nodes
+  pub known : IsUpKnown planned b up nodes
+
+pub record HasKnownDown (planned : Planned) (b down : ℕ) (link : LinkState) : Type 0 where
+  pub nodes : Nodes
+  pub are : AreOf link nodes
+  pub known : IsDownKnown planned b down nodes
+
+-- handed up of an unacknowledged bearer are the accepted units, in order, whose end mark was sent in TTIs that have ended
+abbrev pub HasUmUp : Planned → ℕ → ℕ → LinkState → Type 0
+HasUmUp planned b up link = IsUmCarried planned.config Up b up link.ue.state.layer link.rnc.lines (up_way planned up link)
+
+abbrev pub HasUmDown : Planned → ℕ → ℕ → LinkState → Type 0
+HasUmDown planned b down link = IsUmCarried planned.config Down b down link.rnc.state.layer link.ue.lines (down_way planned down link)
+
+-- and of a transparent one those whose block was
+abbrev pub HasTmUp : Planned → ℕ → ℕ → LinkState → Type 0
+HasTmUp planned b up link = IsTmCarried planned.config Up b up link.ue.state.layer link.rnc.lines (up_way planned up link)
+
+abbrev pub HasTmDown : Planned → ℕ → ℕ → LinkState → Type 0
+HasTmDown planned b down link = IsTmCarried planned.config Down b down link.rnc.state.layer link.ue.lines (down_way planned down link)
+
+-- or some of the accepted units, in order, each at most once
+abbrev pub HasTmSomeUp : Planned → ℕ → LinkState → Type 0
+HasTmSomeUp planned b link = IsTmSome planned.config Up b link.ue.state.layer link.rnc.lines
+
+abbrev pub HasTmSomeDown : Planned → ℕ → LinkState → Type 0
+HasTmSomeDown planned b link = IsTmSome planned.config Down b link.rnc.state.layer link.ue.lines

@@ -1,0 +1,91 @@
+-- TTIs in runs of three nodes whose radio frames all arrive as they were sent, and what is read of them.
+use Rattle.std.specs.Prelude.{◌≡◌, ◌<◌, ◌+◌, ℕ, List, [], ◌∷◌, Option, Some, false, true, length, IsTrue, slice_index_or}
+use Rattle.dch_types.specs.declared.channel.Dir.{Dir}
+use Rattle.dch_types.specs.declared.channel.Dir.TheVariants.{Up, Down}
+use Rattle.dch_types.specs.Parts.{channel_at}
+use Rattle.dch_types.specs.Timing.{set_frames, started, starts}
+use Rattle.dch_accept.specs.Blocks.{Held}
+use Rattle.dch_accept.specs.HeldSets.{HasFormat, HeldSet, held_at}
+use Rattle.dch_accept.specs.Plans.{Planned}
+use Rattle.dch_iub.specs.Forms.{IsWrittenForm}
+use Rattle.dch_iub.specs.Shape.{ForSet}
+use Rattle.dch_node.specs.Lines.{Line}
+use Rattle.dch_node.specs.Values.{Blocks, Radio}
+use Rattle.dch_damage.specs.Damage.{radio_after}
+use Rattle.dch_layer.specs.Layers.{Given}
+use Rattle.dch_layer2.specs.Joined.{CarriesGiven}
+use Rattle.dch_layer2.specs.Reading.{Read}
+use Rattle.dch_link.specs.Link.{LinkState}
+use Rattle.dch_runlaw.specs.Frames.{IsFrame}
+use Rattle.dch_runlaw.specs.Runs.{Between, Event, Frame, Runs, Steps}
+
+-- how many of these events are radio frames
+abbrev pub frames_in : List Event → ℕ
+frames_in [] = 0
+frames_in (Between event ∷ events) = frames_in events
+frames_in (Frame ∷ events) = frames_in events + 1
+
+-- what holds in each radio frame of a run
+abbrev pub InFrames : ((old new : LinkState) → (lines : List Line) → IsFrame old new lines → Type 0) → (events : List Event) → (old new : LinkState) → (lines : List Line) → Runs old events new lines → Type 0
+InFrames P [] old new lines run = Unit {0}
+InFrames P (Between event ∷ events) old new lines run = InFrames P events run.next new run.rest run.later
+InFrames P (Frame ∷ events) old new lines run = P old run.next run.own run.step.frame × InFrames P events run.next new run.rest run.later
+
+-- a TTI of so many radio frames, from the state before the first one to the state after the last one: the events before the last radio
+-- frame, and that one
+pub record Tti (frames : ℕ) (old new : LinkState) : Type 0 where
+  pub at_start : starts frames old.rnc.state.cfn ≡ true
+  pub events : List Event
+  pub last : LinkState
+  pub lines : List Line
+  pub run : Runs old events last lines
+  pub last_lines : List Line
+  pub step : Steps last Frame new last_lines
+  pub count : frames_in events + 1 ≡ frames
+
+-- what holds in each of its radio frames
+abbrev pub InTti : ((old new : LinkState) → (lines : List Line) → IsFrame old new lines → Type 0) → (frames : ℕ) → (old new : LinkState) → Tti frames old new → Type 0
+InTti P frames old new t = InFrames P t.events old t.last t.lines t.run × P t.last new t.last_lines t.step.frame
+
+-- the radio frame that is sent in a direction
+abbrev pub radio_sent : Dir → (old new : LinkState) → (lines : List Line) → IsFrame old new lines → Option Radio
+radio_sent Up old new lines f = f.ue_output.sent
+radio_sent Down old new lines f = f.down_output.sent
+
+-- it is sent, and arrives as it was sent
+pub record ArrivesAsSent (dir : Dir) (old new : LinkState) (lines : List Line) (f : IsFrame old new lines) : Type 0 where
+  pub radio : Radio
+  pub sent : radio_sent dir old new lines f ≡ Some radio
+  pub came : radio_after old.damage dir (Some radio) ≡ Some radio
+
+-- and so in each radio frame of a TTI
+abbrev pub AllArrive : Dir → (frames : ℕ) → (old new : LinkState) → Tti frames old new → Type 0
+AllArrive dir frames old new t = InTti (ArrivesAsSent dir) frames old new t
+
+-- all blocks are good
+abbrev pub AreGood : Held → Type 0
+AreGood held = (k : ℕ) → k < length held.good → IsTrue (slice_index_or held.good k false)
+
+-- the Node B has the same blocks for downlink channel i in each radio frame of the TTI; and in the last one the terminal reads just these
+-- blocks, in their format, all good
+pub record DownAsGiven (planned : Planned) (i : ℕ) (frames : ℕ) (old new : LinkState) (t : Tti frames old new) : Type 0 where
+  pub given : Blocks
+  pub stays : InTti (λ old new lines f. f.node_b.given i ≡ given) frames old new t
+  pub held : Held
+  pub read : new.ue.state.readings i ≡ Read held
+  pub whole : HasFormat (channel_at planned.config.downlink.side i) held
+  pub format : held.format ≡ given.format
+  pub bits : held.bits ≡ given.bits
+  pub good : AreGood held
+
+-- layer 2 of the terminal has the same blocks for each uplink channel of a set in each radio frame of the TTI; and in the last one the
+-- Node B sends the Iub frame of the set with the CFN at which the TTI started and just these blocks, in their formats, all good
+pub record UpAsGiven (planned : Planned) (set : ℕ) (frames : ℕ) (old new : LinkState) (t : Tti frames old new) : Type 0 where
+  pub given : ℕ → Given
+  pub stays : ForSet planned.config.uplink.side set (λ i. InTti (λ old new lines f. new.ue.state.layer.given i ≡ given i) frames old new t)
+  pub octets : List ℕ
+  pub sent : t.step.frame.up_output.iub set ≡ Some octets
+  pub held : HeldSet
+  pub written : IsWrittenForm planned.config Up set octets (started (set_frames planned.config.uplink.side set) t.last.rnc.state.cfn) planned.config.qe held
+  pub carries : ForSet planned.config.uplink.side set (λ i. CarriesGiven (given i) (held_at held.blocks i))
+  pub good : ForSet planned.config.uplink.side set (λ i. AreGood (held_at held.blocks i))

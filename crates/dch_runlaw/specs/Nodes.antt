@@ -1,0 +1,131 @@
+-- The terminal and the network controller, in any interleaving, and what went over the channels between them.
+use Rattle.std.specs.Prelude.{◌≡◌, ◌++◌, ℕ, List, [], ◌∷◌, if◌then◌else◌}
+use Rattle.dch_bits.specs.declared.bit.Bit.{Bit}
+use Rattle.dch_types.specs.declared.channel.Dir.TheVariants.{Up, Down}
+use Rattle.dch_types.specs.declared.channel.Side.{Side}
+use Rattle.dch_types.specs.Parts.{channel_at}
+use Rattle.dch_types.specs.Timing.{starts}
+use Rattle.dch_accept.specs.Plans.{Planned}
+use Rattle.dch_node.specs.Lines.{Line}
+use Rattle.dch_node.specs.Values.{Output}
+use Rattle.dch_layer.specs.Layers.{Layer}
+use Rattle.dch_ue.specs.State.{Event as UeEvent, OfferedUnit as UeOffered, BlockedCombination as UeBlocked, DownlinkFrame, Tick as UeTicks, State as UeState, opened_state as opened_ue}
+use Rattle.dch_ue.specs.Steps.{Steps as UeSteps}
+use Rattle.dch_rnc.specs.State.{Event as RncEvent, OfferedUnit as RncOffered, BlockedCombination as RncBlocked, IubFrame, Tick as RncTicks, State as RncState, opened_state as opened_rnc}
+use Rattle.dch_rnc.specs.Steps.{Steps as RncSteps}
+use Rattle.dch_link.specs.Checks.{good_in}
+use Rattle.dch_layerlaw.specs.Worlds.{IsFaithful, IsFront, Log, World, no_log, turned}
+use Rattle.dch_layerlaw.specs.History.{IsHistory, IsWholeHistory}
+use Rattle.dch_layerlaw.specs.UmHistory.{IsKnownHistory}
+use Rattle.dch_layerlaw.specs.TmHistory.{IsTmSome}
+
+-- the two nodes, all lines that each has reported, and for each channel the blocks that were given to it and those that were taken of it
+pub record Nodes : Type 0 where
+  pub ue : UeState
+  pub rnc : RncState
+  pub ue_lines : List Line
+  pub rnc_lines : List Line
+  pub up : ℕ → Log
+  pub down : ℕ → Log
+
+-- at opening. Each node has a first CFN of its own
+abbrev pub opened_nodes : Planned → ℕ → ℕ → Nodes
+opened_nodes planned ue_first rnc_first = record { ue = opened_ue planned ue_first; rnc = opened_rnc planned rnc_first; ue_lines = []; rnc_lines = []; up = λ i. no_log; down = λ i. no_log }
+
+-- an event at one of the two
+pub data Event : Type 0 where
+  AtUe : (event : UeEvent) → Event
+  AtRnc : (event : RncEvent) → Event
+
+-- the blocks that a channel is given for a TTI that starts at a CFN
+abbrev pub given_at : Side → ℕ → Layer → ℕ → List (List Bit)
+given_at side cfn layer i = if starts (channel_at side i).frames cfn then (layer.given i).blocks else []
+
+-- and in a step of a node
+abbrev pub given_by_ue : UeState → UeEvent → UeState → ℕ → List (List Bit)
+given_by_ue old UeTicks new i = given_at old.planned.config.uplink.side old.cfn new.layer i
+given_by_ue old (UeOffered b octets bits) new i = []
+given_by_ue old (UeBlocked c on) new i = []
+given_by_ue old (DownlinkFrame frame) new i = []
+
+abbrev pub given_by_rnc : RncState → RncEvent → RncState → ℕ → List (List Bit)
+given_by_rnc old RncTicks new i = given_at old.planned.config.downlink.side old.cfn new.layer i
+given_by_rnc old (RncOffered b octets bits) new i = []
+given_by_rnc old (RncBlocked c on) new i = []
+given_by_rnc old (IubFrame set octets) new i = []
+
+-- a step of the terminal: the network controller stays, uplink channels are given blocks, and blocks are taken of downlink channels
+pub record StepsUe (old : Nodes) (event : UeEvent) (new : Nodes) : Type 0 where
+  pub output : Output
+  pub step : UeSteps old.ue event new.ue output
+  pub reported : new.ue_lines ≡ old.ue_lines ++ output.lines
+  pub rnc : new.rnc ≡ old.rnc
+  pub rnc_lines : new.rnc_lines ≡ old.rnc_lines
+  pub up : (i : ℕ) → new.up i ≡ record { given = (old.up i).given ++ given_by_ue old.ue event new.ue i; taken = (old.up i).taken }
+  pub down : (i : ℕ) → new.down i ≡ record { given = (old.down i).given; taken = (old.down i).taken ++ good_in (new.ue.readings i) }
+
+-- a step of the network controller: the terminal stays, downlink channels are given blocks, and blocks are taken of uplink channels
+pub record StepsRnc (old : Nodes) (event : RncEvent) (new : Nodes) : Type 0 where
+  pub output : Output
+  pub step : RncSteps old.rnc event new.rnc output
+  pub reported : new.rnc_lines ≡ old.rnc_lines ++ output.lines
+  pub ue : new.ue ≡ old.ue
+  pub ue_lines : new.ue_lines ≡ old.ue_lines
+  pub down : (i : ℕ) → new.down i ≡ record { given = (old.down i).given ++ given_by_rnc old.rnc event new.rnc i; taken = (old.down i).taken }
+  pub up : (i : ℕ) → new.up i ≡ record { given = (old.up i).given; taken = (old.up i).taken ++ good_in (new.rnc.readings i) }
+
+abbrev pub Happens : Nodes → Event → Nodes → Type 0
+Happens old (AtUe event) new = StepsUe old event new
+Happens old (AtRnc event) new = StepsRnc old event new
+
+-- an event after which something holds, and more behind it
+pub record HappensFirst (Holds Rest : Nodes → Type 0) (old : Nodes) (event : Event) : Type 0 where
+  pub next : Nodes
+  pub first : Happens old event next
+  pub holds : Holds next
+  pub later : Rest next
+
+-- a list of events, after each of which it holds
+abbrev pub Runs : (Nodes → Type 0) → Nodes → List Event → Nodes → Type 0
+Runs Holds old [] new = new ≡ old
+Runs Holds old (event ∷ events) new = HappensFirst Holds (λ next. Runs Holds next events new) old event
+
+-- any two nodes
+abbrev pub Any : Nodes → Type 0
+Any nodes = Unit {0}
+
+-- the good blocks that were taken of an uplink channel and of a downlink channel are some of those that were given, in order
+pub record AreFaithful (up down : ℕ) (nodes : Nodes) : Type 0 where
+  pub up_is : IsFaithful (nodes.up up)
+  pub down_is : IsFaithful (nodes.down down)
+
+-- nothing was lost on them so far: what was taken begins what was given
+pub record AreWhole (up down : ℕ) (nodes : Nodes) : Type 0 where
+  pub up_is : IsFront (nodes.up up).taken (nodes.up up).given
+  pub down_is : IsFront (nodes.down down).taken (nodes.down down).given
+
+-- the two layers 2
+abbrev pub world_of : Nodes → World
+world_of nodes = record { near = record { layer = nodes.ue.layer; said = nodes.ue_lines }; far = record { layer = nodes.rnc.layer; said = nodes.rnc_lines }; out = nodes.up; back = nodes.down }
+
+-- there is a history of the pair of an acknowledged bearer of which the two nodes have the ends, and it is safe
+abbrev pub IsAmHistory : Planned → ℕ → Nodes → Type 0
+IsAmHistory planned b nodes = IsHistory planned.config Up Down b (world_of nodes)
+
+-- and nothing is lost in it
+abbrev pub IsWholeAmHistory : Planned → ℕ → ℕ → ℕ → Nodes → Type 0
+IsWholeAmHistory planned b up down nodes = IsWholeHistory planned.config Up Down b up down (world_of nodes)
+
+-- what is known of an unacknowledged bearer's uplink, and of its downlink
+abbrev pub IsUpKnown : Planned → ℕ → ℕ → Nodes → Type 0
+IsUpKnown planned b up nodes = IsKnownHistory planned.config Up b up (world_of nodes)
+
+abbrev pub IsDownKnown : Planned → ℕ → ℕ → Nodes → Type 0
+IsDownKnown planned b down nodes = IsKnownHistory planned.config Down b down (turned (world_of nodes))
+
+-- what is handed up of a transparent bearer's uplink, or of its downlink, is some of the units that were accepted, in order
+abbrev pub IsUpSome : Planned → ℕ → Nodes → Type 0
+IsUpSome planned b nodes = IsTmSome planned.config Up b nodes.ue.layer nodes.rnc_lines
+
+abbrev pub IsDownSome : Planned → ℕ → Nodes → Type 0
+IsDownSome planned b nodes = IsTmSome planned.config Down b nodes.rnc.layer nodes.ue_lines

@@ -1,0 +1,41 @@
+-- The rows of a run's text that hand up units of a bearer, where just what was given is taken of its channels.
+use Rattle.std.specs.Prelude.{◌≡◌, ℕ, List, take}
+use Rattle.dch_bits.specs.declared.bit.Bit.{Bit}
+use Rattle.dch_types.specs.declared.channel.Dir.{Dir}
+use Rattle.dch_types.specs.declared.channel.Dir.TheVariants.{Up, Down}
+use Rattle.dch_types.specs.declared.config.Config.{Config}
+use Rattle.dch_accept.specs.Plans.{Planned}
+use Rattle.dch_script.specs.Lines.{lines_of as rows}
+use Rattle.dch_node.specs.Lines.{Line}
+use Rattle.dch_am.specs.Bodies.{ends}
+use Rattle.dch_amlaw.specs.Pair.{End, gap_free}
+use Rattle.dch_layer.specs.Layers.{Layer}
+use Rattle.dch_layerlaw.specs.Ended.{marked_units}
+use Rattle.dch_layerlaw.specs.History.{pair_after}
+use Rattle.dch_layerlaw.specs.Rows.{got_rows, rows_of}
+use Rattle.dch_layerlaw.specs.TmHistory.{IsTmCarried, bits_lines}
+use Rattle.dch_layerlaw.specs.UmHistory.{IsUmCarried, got_lines, pdus_of}
+use Rattle.dch_link.specs.Link.{LinkState}
+use Rattle.dch_runlaw.specs.HonestBearers.{HasWholeHistory}
+
+-- the accepted units of one end of an acknowledged bearer, in order, whose end mark lies in the PDUs that arrived at the other end
+abbrev pub ended_units : End → End → List (List ℕ)
+ended_units from to = take (ends (take (gap_free to) from.entity.sender.bodies)) from.entity.sender.accepted
+
+-- those of an acknowledged bearer: its two ends stand in a history in which nothing is lost and just the blocks of TTIs that have not ended
+-- are in flight, and the rows are those of the accepted units, in order, whose end mark was sent in TTIs that have ended
+pub record HandsUpWhole (planned : Planned) (b up down : ℕ) (link : LinkState) (text : List ℕ) : Type 0 where
+  pub units : HasWholeHistory planned b up down link
+  pub up_rows : got_rows Up b (rows text) ≡ rows_of (got_lines Up b (ended_units (pair_after planned.config Up Down b units.history.events).near (pair_after planned.config Up Down b units.history.events).far))
+  pub down_rows : got_rows Down b (rows text) ≡ rows_of (got_lines Down b (ended_units (pair_after planned.config Up Down b units.history.events).far (pair_after planned.config Up Down b units.history.events).near))
+
+-- those of an unacknowledged bearer, where all blocks of its channel came but some that are on their way: the accepted units, in order, whose
+-- end mark lies in the PDUs that came
+pub record HandsUpMarked (config : Config) (dir : Dir) (b i : ℕ) (from : Layer) (said : List Line) (running : List (List Bit)) (text : List ℕ) : Type 0 where
+  pub units : IsUmCarried config dir b i from said running
+  pub rows_are : got_rows dir b (rows text) ≡ rows_of (got_lines dir b (marked_units (take units.came (pdus_of units.sends)) 0 units.sends.accepted))
+
+-- those of a transparent bearer: all accepted units, in order, but those in the blocks that are on their way and those that wait
+pub record HandsUpSent (config : Config) (dir : Dir) (b i : ℕ) (from : Layer) (said : List Line) (running : List (List Bit)) (text : List ℕ) : Type 0 where
+  pub units : IsTmCarried config dir b i from said running
+  pub rows_are : got_rows dir b (rows text) ≡ rows_of (bits_lines dir b units.handed)

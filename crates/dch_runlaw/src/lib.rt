@@ -1,0 +1,27 @@
+//! Laws of whole runs of `link`: radio frames, what is read of TTIs, the bearers at both ends, and the rows of the text. Definitions and laws, no code.
+#![tactic(auto)]
+
+mod clear_laws;
+mod frame_laws;
+mod headline_laws;
+mod honest_laws;
+mod interval_laws;
+mod nodes_laws;
+mod plain_laws;
+mod sized_laws;
+mod text_laws;
+mod undamaged_laws;
+
+pub use clear_laws::{clear_law, harmless_law};
+pub use frame_laws::{frame_law, run_law};
+pub use headline_laws::headline_law;
+pub use honest_laws::{
+    honest_law, link_law, tm_link_law, tm_undamaged_law, um_link_law, um_undamaged_law,
+    undamaged_law,
+};
+pub use interval_laws::interval_law;
+pub use nodes_laws::{nodes_law, tm_nodes_law, um_nodes_law, whole_nodes_law};
+pub use plain_laws::plain_law;
+pub use sized_laws::{end_law, sized_law};
+pub use text_laws::{false_law, read_law, shown_read_law, told_law};
+pub use undamaged_laws::{harmless_run_law, undamaged_run_law};
