@@ -3,6 +3,7 @@ pub mod Checks
 pub mod Commands
 pub mod Complete
 pub mod Judging
+pub mod LinkUnits
 pub mod NodeComplete
 pub mod NodeRuns
 pub mod Scripts

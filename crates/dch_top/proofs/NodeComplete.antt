@@ -106,7 +106,7 @@ not_refused command input now f g accepted taken written after sink takes good e
     let all = all_consumed input taken now takes in
     let script = script_whole source input taken more.0 more.1 all follows.ended in
     let lines = follows.answers in
-    let same : follows.accepted.config ≡ accepted.config = same_config (configuration_of taken) (configuration_of input) follows.accepted accepted (same_configuration source input taken more.0 more.1 all follows.ended) follows.is good in
+    let same : follows.accepted.config ≡ accepted.config = same_config (configuration_of taken) (configuration_of input) follows.accepted accepted (same_configuration source input taken more.0 more.1 all follows.ended) follows.is.judged good in
     let stays : command.config lines.state ≡ accepted.config = command.stays (command.opened follows.accepted) lines.state lines.good lines.text lines.handles ∙ command.opens follows.accepted ∙ same in
     refused_none command.semantics (command.says accepted.config) source lines.state [] (script_of input) (follows.part ++ follows.later) script.0 lines.good lines.why command.long (command.well accepted.config lines.state stays)
     (script.1.0 ∙ ap (λ s. s ++ script.0) follows.script) (λ end. script.1.1 end ∙ follows.script) events rest lines.refused

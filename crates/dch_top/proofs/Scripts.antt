@@ -11,7 +11,6 @@ use Rattle.dch_script.specs.Lines.{lines_of}
 use Rattle.dch_script.specs.declared.event.LineError.{LineError}
 use Rattle.dch_check.specs.ConfigSection.{configuration_of, is_complete, script_of, settled}
 use Rattle.dch_check.specs.TakenConfigs.{IsComplete, IsEnded, IsTakenConfig, TakesConfig, lines_before}
-use Rattle.dch_check.specs.Verdicts.{IsAcceptedAs}
 use Rattle.dch_check.specs.declared.taken_config.ConfigFault.{ConfigFault}
 use Rattle.dch_check.specs.declared.taken_config.ConfigFault.TheVariants as fault
 use Rattle.dch_check.proofs.ConfigSections.{complete_more, configuration_more}
@@ -23,7 +22,7 @@ use Rattle.dch_lines.specs.Semantics.{Semantics}
 use Rattle.dch_lines.specs.declared.stop.Outcome.{Outcome}
 use Rattle.dch_lines.specs.declared.stop.Outcome.TheVariants.{Ok as Done, Refused as MetMalformed, ReadFault as FailedReading, WriteFault as FailedWriting, NoMemory as Lacking, TooLong as TookTooMuch}
 use Rattle.dch_top.specs.Checked.{fault_status}
-use Rattle.dch_top.specs.Configured.{FollowsBehind, FollowsRest, FollowsScript, IsConfigured, RunsConfigured, EndsUnopened, StopsBehind, opened_begin, outcome_status, script_begin}
+use Rattle.dch_top.specs.Configured.{FollowsBehind, FollowsRest, FollowsScript, IsConfigured, IsPlannedAs, RunsConfigured, EndsUnopened, StopsBehind, opened_begin, outcome_status, script_begin}
 use Rattle.dch_top.specs.Untouched.{IsUntouched}
 use Rattle.dch_top.specs.declared.command.Status.{Status}
 use Rattle.dch_top.specs.declared.command.Status.TheVariants.{Ok as Well, NoMemory}
@@ -121,7 +120,7 @@ pending_length : (room : List ℕ) (from to : ℕ) → from ≤ to → to ≤ le
 pending_length room from to ordered inside = length-take-le (to - from) (drop from room) (omega (arith, length-drop from room, ordered, inside))
 
 -- the line `---` came, and the lines behind it were followed
-follows_whole : {S : Type 0} (semantics : Semantics S) (opened : Planned → S) (a b c k l : Option (List ℕ)) (f g h i j : ℕ) (room : List ℕ) (front : TakenConfig) (accepted : Planned) (after : S) (outcome : Outcome) → (is : IsTakenConfig (span a b f g) room front) → IsAcceptedAs (settled front.section) accepted
+follows_whole : {S : Type 0} (semantics : Semantics S) (opened : Planned → S) (a b c k l : Option (List ℕ)) (f g h i j : ℕ) (room : List ℕ) (front : TakenConfig) (accepted : Planned) (after : S) (outcome : Outcome) → (is : IsTakenConfig (span a b f g) room front) → IsPlannedAs (settled front.section) accepted
     → (whole : IsComplete front room is.taken) → (run : FollowsInput semantics (span b c g h) (span k l i j) (opened_begin front (opened accepted)) after (slice_range room front.pending.from front.pending.to) outcome)
     → FollowsScript semantics opened (span a c f h) (span k l i j) (is.taken ++ run.taken) run.written after outcome
 follows_whole semantics opened a b c k l f g h i j room front accepted after outcome is good whole run =
@@ -136,7 +135,7 @@ follows_whole semantics opened a b c k l f g h i j room front accepted after out
     record {
       ended = inl (complete_more is.taken run.taken whole.done);
       accepted = accepted;
-      is = subst (λ t. IsAcceptedAs t accepted) (is.text ∙ sym more) good;
+      is = subst (λ t. IsPlannedAs t accepted) (is.text ∙ sym more) good;
       part = part;
       later = run.taken;
       script = script ∙ ap (λ p. p ++ run.taken) (sym whole.behind);
@@ -150,7 +149,7 @@ none_taken None taken takes = absurd takes
 none_taken (Some rest) taken takes = nil_from_length taken (omega (arith, ap length takes, length-append taken rest))
 
 -- the input ended with the configuration, and no line follows
-follows_last : {S : Type 0} (semantics : Semantics S) (opened : Planned → S) (a b k l now : Option (List ℕ)) (f g i j : ℕ) (room : List ℕ) (front : TakenConfig) (accepted : Planned) (after : S) (outcome : Outcome) → (is : IsTakenConfig (span a b f g) room front) → IsAcceptedAs (settled front.section) accepted
+follows_last : {S : Type 0} (semantics : Semantics S) (opened : Planned → S) (a b k l now : Option (List ℕ)) (f g i j : ℕ) (room : List ℕ) (front : TakenConfig) (accepted : Planned) (after : S) (outcome : Outcome) → (is : IsTakenConfig (span a b f g) room front) → IsPlannedAs (settled front.section) accepted
     → IsEnded front (span a b f g) is.taken → (run : FollowsInput semantics (span (Some []) now 0 0) (span k l i j) (opened_begin front (opened accepted)) after (slice_range room front.pending.from front.pending.to) outcome)
     → FollowsScript semantics opened (span a b f g) (span k l i j) is.taken run.written after outcome
 follows_last semantics opened a b k l now f g i j room front accepted after outcome is good ended run =
@@ -163,7 +162,7 @@ follows_last semantics opened a b k l now f g i j room front accepted after outc
     record {
       ended = inr ended.end;
       accepted = accepted;
-      is = subst (λ t. IsAcceptedAs t accepted) is.text good;
+      is = subst (λ t. IsPlannedAs t accepted) is.text good;
       part = part;
       later = run.taken;
       script = none ∙ sym (ap (λ p. p ++ run.taken) empty ∙ none_taken now run.taken run.takes);
@@ -181,7 +180,7 @@ of_true A B true is x = x
 of_true A B false is x = absurd (false≢true is)
 
 -- a run with an accepted configuration
-pub runs_opened : {S : Type 0} (semantics : Semantics S) (opened : Planned → S) (Holds : S → Type 0) (a b c k l : Option (List ℕ)) (f g h i j : ℕ) (room : List ℕ) (front : TakenConfig) (accepted : Planned) (after : S) (outcome : Outcome) → IsTakenConfig (span a b f g) room front → IsAcceptedAs (settled front.section) accepted
+pub runs_opened : {S : Type 0} (semantics : Semantics S) (opened : Planned → S) (Holds : S → Type 0) (a b c k l : Option (List ℕ)) (f g h i j : ℕ) (room : List ℕ) (front : TakenConfig) (accepted : Planned) (after : S) (outcome : Outcome) → IsTakenConfig (span a b f g) room front → IsPlannedAs (settled front.section) accepted
     → FollowsBehind semantics (span b c g h) (span k l i j) front (opened accepted) after (slice_range room front.pending.from front.pending.to) outcome → outcome ≢ Lacking → Holds after → RunsConfigured semantics opened Holds (span a c f h) (span k l i j) (outcome_status outcome)
 runs_opened semantics opened Holds a b c k l f g h i j room front accepted after outcome is good follows enough holds = by front.pending.at_end refl
   where
@@ -244,7 +243,7 @@ ill_status Lacking ill well = cc
 ill_status TookTooMuch ill well = cc
 
 -- the lines behind an accepted configuration ended the run, and not well
-pub runs_ill : {S : Type 0} (semantics : Semantics S) (opened : Planned → S) (a b c k l : Option (List ℕ)) (f g h i j : ℕ) (room : List ℕ) (front : TakenConfig) (accepted : Planned) (status : Status) → IsTakenConfig (span a b f g) room front → IsAcceptedAs (settled front.section) accepted
+pub runs_ill : {S : Type 0} (semantics : Semantics S) (opened : Planned → S) (a b c k l : Option (List ℕ)) (f g h i j : ℕ) (room : List ℕ) (front : TakenConfig) (accepted : Planned) (status : Status) → IsTakenConfig (span a b f g) room front → IsPlannedAs (settled front.section) accepted
     → ((status ≡ NoMemory) × IsUntouched (span b c g h) (span k l i j)) ⊎ StopsBehind semantics (span b c g h) (span k l i j) front (opened accepted) (slice_range room front.pending.from front.pending.to) status
     → RunsConfigured semantics opened (λ after. Unit {0}) (span a c f h) (span k l i j) status × (status ≢ Well)
 runs_ill semantics opened a b c k l f g h i j room front accepted status is good stops = ⊎_elim none some stops

@@ -3,7 +3,7 @@ use Rattle.std.specs.Prelude.{◌≡◌, ◌≢◌, ◌<◌, ◌≤◌, ◌⊎�
 use Rattle.std.specs.Io.KnownBytes.{Consumes, Appends}
 use Rattle.dch_io.specs.Ends.{End, Fails, IsCutShort, span}
 use Rattle.dch_io.specs.declared.feed.TheConstants.{LIMIT}
-use Rattle.dch_accept.specs.Plans.{Planned}
+use Rattle.dch_accept.specs.Plans.{IsPlanned, Planned}
 use Rattle.dch_script.specs.Lines.{lines_of}
 use Rattle.dch_check.specs.ConfigSection.{configuration_of, is_complete, script_of, settled}
 use Rattle.dch_check.specs.TakenConfigs.{IsTakenConfig, lines_before}
@@ -58,11 +58,16 @@ script_begin taken state = record {
   nonempty_lines = 0;
 }
 
+-- a text is read as a configuration that is accepted, and this is the configuration with the plans of its rate matching
+pub record IsPlannedAs (text : List ℕ) (accepted : Planned) : Type 0 where
+  pub judged : IsAcceptedAs text accepted
+  pub plans : IsPlanned accepted
+
 -- the configuration is complete and accepted, and the lines behind it are followed from the state in which the command is opened for it
 pub record FollowsScript {S : Type 0} (semantics : Semantics S) (opened : Planned → S) (source sink : End) (taken written : List ℕ) (after : S) (outcome : Outcome) : Type 0 where
   pub ended : HasEnded source taken
   pub accepted : Planned
-  pub is : IsAcceptedAs (configuration_of taken) accepted
+  pub is : IsPlannedAs (configuration_of taken) accepted
   pub part : List ℕ
   pub later : List ℕ
   pub script : script_of taken ≡ part ++ later
@@ -103,7 +108,7 @@ pub record EndsUnopened (source sink : End) (status : Status) : Type 0 where
 -- the configuration was taken and accepted, and nothing is written
 pub record IsConfigured (source sink : End) (room : List ℕ) (front : TakenConfig) (accepted : Planned) : Type 0 where
   pub whole : IsTakenConfig source room front
-  pub is : IsAcceptedAs (settled front.section) accepted
+  pub is : IsPlannedAs (settled front.section) accepted
   pub unwritten : sink.now ≡ sink.before
   pub faultless : sink.faults_now ≡ sink.faults_before
 

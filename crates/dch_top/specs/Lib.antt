@@ -3,6 +3,7 @@ pub mod Checked
 pub mod Configured
 pub mod EncodeText
 pub mod LinkRuns
+pub mod LinkUnits
 pub mod NodeBRuns
 pub mod NodeRuns
 pub mod Overlong

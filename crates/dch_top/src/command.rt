@@ -5,10 +5,11 @@ ghost use Rattle.dch_script.specs.Lines.{lines_of, rest_of};
 ghost use Rattle.dch_accept.specs.Plans.{Planned};
 ghost use Rattle.dch_check.specs.ConfigSection.{configuration_of, script_of};
 ghost use Rattle.dch_check.specs.Verdicts.{IsAccepted, IsAcceptedAs, Refuses};
-ghost use Rattle.dch_words.specs.declared.arguments.Subcommand.TheVariants.{Check, Encode};
+ghost use Rattle.dch_words.specs.declared.arguments.Subcommand.TheVariants.{Check, Encode, Link};
 ghost use Rattle.dch_words.specs.declared.arguments.Arguments.{Arguments};
 ghost use Rattle.dch_top.specs.Benches.{no_nodes};
 ghost use Rattle.dch_io.specs.declared.feed.TheConstants.{LIMIT};
+ghost use Rattle.dch_top.specs.LinkUnits.{CarriesUnits};
 ghost use Rattle.dch_top.specs.Ran.{AreEventsFor, AreGood, Asks, IsNoCommand, Misuses, Ran, Runs, Says};
 
 use crate::bench::Bench;
@@ -75,6 +76,10 @@ pub fn run<S: Source, K: Sink>(
     ensures read_fault { result ≡ Status.ReadFault → Rose (S.faults source.old) (S.faults source.new) }
     ensures write_fault { result ≡ Status.WriteFault → Rose (K.faults sink.old) (K.faults sink.new) }
     ensures usage { result ≡ Status.Usage → IsNoCommand words.now }
+
+    // A run of the three nodes that went well hands up the units of the bearers, whatever damage came between the nodes.
+    ensures headline { (arguments : Arguments) → Says words.now arguments → arguments.subcommand ≡ Link → result ≡ Status.Ok
+        → CarriesUnits arguments.start arguments.quiet (end_of S.left S.faults source.old source.new) (end_of K.taken K.faults sink.old sink.new) }
 
     // Good lines without a fault are all answered.
     ensures complete { Asks words.now Encode → IfSome (S.left source.old) (λ input. AreGood (lines_of input) → rest_of input ≡ [] → length input ≤ LIMIT

@@ -2,6 +2,7 @@ use Rattle.dch_words.specs.declared.arguments.Subcommand.TheVariants.{Check, Enc
 use Rattle.dch_top.proofs.Checks.{good_answered, refused_answered}
 use Rattle.dch_top.proofs.Commands.{runs_as}
 use Rattle.dch_top.proofs.Complete.{completes}
+use Rattle.dch_top.proofs.LinkUnits.{units_carried}
 use Rattle.dch_top.proofs.NodeComplete.{events_answered}
 use Rattle.dch_top.proofs.command.run.Goals as goal
 
@@ -16,3 +17,6 @@ returns-clause-good g c asks = good_answered _ _ _ _ _ _ _ _ c.follow_words.resu
 
 pub returns-clause-refused : goal.returns-clause-refused
 returns-clause-refused g c asks = refused_answered _ _ _ _ _ _ _ _ c.follow_words.result ((runs_as _ _ _ _ _ Check c.follow_words.ensures asks).0)
+
+pub returns-clause-headline : goal.returns-clause-headline
+returns-clause-headline g c arguments says is well = units_carried arguments.subcommand arguments _ _ _ c.follow_words.result (c.follow_words.ensures.runs arguments says) is well

@@ -1,10 +1,12 @@
-use Rattle.std.proofs.Common.{◌*◌, sym, subst}
+use Rattle.std.proofs.Common.{◌*◌, inl, refl, sym, subst}
+use Rattle.std.proofs.KnownBytes.{Appends-nil, Consumes-nil}
 use Rattle.dch_accept.specs.Plans.{Planned}
 use Rattle.dch_lines.specs.declared.stop.Outcome.TheVariants.{Ok as Done}
 use Rattle.dch_link.specs.Standing.{HaveHistories}
 use Rattle.dch_linkcmd.specs.Rules.{link_lines}
 use Rattle.dch_linkcmd.specs.Run.{Run, opened_run}
 use Rattle.dch_top.specs.LinkRuns.{HaveRunHistories}
+use Rattle.dch_top.specs.declared.command.Status.TheVariants.{NoMemory}
 use Rattle.dch_top.proofs.Scripts.{runs_configured, stops_configured}
 use Rattle.dch_top.proofs.link.run_link_pieces.Goals as goal
 
@@ -22,3 +24,8 @@ returns g c =
     let opened : Planned → Run = λ accepted. opened_run accepted (8 * c.args.start) c.args.quiet in
     let stops = c.in-Err-follow_script.ensures (opened c.in-Ok.taken.1) c.in-Ok-open.ensures.stands in
     stops_configured link_lines opened _ _ _ _ _ _ _ _ _ _ _ _ c.take_configuration.new.piece c.in-Ok.taken.0 c.in-Ok.taken.1 c.in-Err-follow_script.status c.in-Ok.ensures stops
+
+pub returns-in_default : goal.returns-in_default
+returns-in_default g c =
+    let opened : Planned → Run = λ accepted. opened_run accepted (8 * c.args.start) c.args.quiet in
+    stops_configured link_lines opened _ _ _ _ _ _ _ _ _ _ _ _ c.take_configuration.new.piece c.in-Ok.taken.0 c.in-Ok.taken.1 NoMemory c.in-Ok.ensures (inl (refl, (Consumes-nil _, Appends-nil _)))

@@ -1,0 +1,62 @@
+-- A run of `link` that went well carries the units of the bearers.
+use Rattle.std.proofs.Common.{◌≡◌, ◌%◌, ◌*◌, ℕ, List, Bool, arith, refl, sym, subst, ⊎_elim}
+use Rattle.dch_io.specs.Ends.{End}
+use Rattle.dch_accept.specs.Plans.{Planned}
+use Rattle.dch_script.specs.Lines.{lines_of}
+use Rattle.dch_check.specs.ConfigSection.{script_of}
+use Rattle.dch_lines.specs.LineTexts.{HandlesLines}
+use Rattle.dch_lines.specs.declared.stop.Outcome.{Outcome}
+use Rattle.dch_lines.specs.declared.stop.Outcome.TheVariants.{Ok as Done, Refused as MetMalformed, ReadFault as FailedReading, WriteFault as FailedWriting, NoMemory as Lacking, TooLong as TookTooMuch}
+use Rattle.dch_linkcmd.specs.Rules.{link_lines}
+use Rattle.dch_linkcmd.specs.Run.{Run, opened_run}
+use Rattle.dch_words.specs.declared.arguments.Arguments.{Arguments}
+use Rattle.dch_words.specs.declared.arguments.Subcommand.{Subcommand}
+use Rattle.dch_words.specs.declared.arguments.Subcommand.TheVariants.{Link}
+use Rattle.dch_runlaw.proofs.Headline.{carried}
+use Rattle.dch_top.specs.Benches.{Nodes}
+use Rattle.dch_top.specs.Configured.{EndsLate, FollowsScript, outcome_status}
+use Rattle.dch_top.specs.LinkRuns.{RunsLink}
+use Rattle.dch_top.specs.LinkUnits.{CarriesUnits}
+use Rattle.dch_top.specs.Ran.{Runs}
+use Rattle.dch_top.specs.declared.command.Status.{Status}
+use Rattle.dch_top.specs.declared.command.Status.TheVariants.{Ok as Well}
+
+only_well : (outcome : Outcome) → Well ≡ outcome_status outcome → outcome ≡ Done
+only_well Done same = refl
+only_well MetMalformed same = cc
+only_well FailedReading same = cc
+only_well FailedWriting same = cc
+only_well Lacking same = cc
+only_well TookTooMuch same = cc
+
+link_carries : (start : ℕ) (quiet : Bool) (source sink : End) (nodes : Nodes) → RunsLink start quiet source sink nodes Well → CarriesUnits start quiet source sink
+link_carries start quiet source sink nodes runs = ⊎_elim (λ early. absurd early) (λ late. well late.0 late.1.0) runs.runs.answers
+  where
+    opened : Planned → Run
+    opened accepted = opened_run accepted (8 * start) quiet
+
+    well : (after : Run) → EndsLate link_lines opened source sink runs.runs.taken runs.runs.written after Well → CarriesUnits start quiet source sink
+    well after late =
+        let done : late.outcome ≡ Done = only_well late.outcome late.same in
+        let follows : FollowsScript link_lines opened source sink runs.runs.taken runs.runs.written after Done = subst (FollowsScript link_lines opened source sink runs.runs.taken runs.runs.written after) done late.follows in
+        let handles : HandlesLines link_lines (opened follows.accepted) (lines_of (script_of runs.runs.taken)) after follows.answers.text =
+        subst (λ (bytes : List ℕ). HandlesLines link_lines (opened follows.accepted) (lines_of bytes) after follows.answers.text) (sym follows.script) follows.answers.handles in
+        let begins : (8 * start) % 8 ≡ 0 = omega arith in
+        record {
+          taken = runs.runs.taken;
+          written = runs.runs.written;
+          takes = runs.runs.takes;
+          writes = runs.runs.writes;
+          accepted = follows.accepted;
+          is = follows.is;
+          text = follows.answers.text;
+          frames = after.frames;
+          all = follows.answers.all;
+          carries = carried follows.accepted (8 * start) quiet (lines_of (script_of runs.runs.taken)) after follows.answers.text follows.is.plans begins handles;
+        }
+
+-- what a run of the words for it does
+pub units_carried : (subcommand : Subcommand) (arguments : Arguments) (source sink : End) (nodes : Nodes) (status : Status) → Runs subcommand arguments source sink nodes status → subcommand ≡ Link → status ≡ Well → CarriesUnits arguments.start arguments.quiet source sink
+units_carried subcommand arguments source sink nodes status runs is well =
+    link_carries arguments.start arguments.quiet source sink nodes
+    (subst (λ s. RunsLink arguments.start arguments.quiet source sink nodes s) well (subst (λ c. Runs c arguments source sink nodes status) is runs))

@@ -1,0 +1,24 @@
+-- What a run of the command `link` that went well carries.
+use Rattle.std.specs.Prelude.{◌≡◌, ◌*◌, ◌++◌, ℕ, List, Bool, codes}
+use Rattle.std.specs.Io.KnownBytes.{Consumes, Appends}
+use Rattle.dch_io.specs.Ends.{End}
+use Rattle.dch_accept.specs.Plans.{Planned}
+use Rattle.dch_script.specs.Lines.{lines_of}
+use Rattle.dch_check.specs.ConfigSection.{configuration_of, script_of}
+use Rattle.dch_nodecmd.specs.Rules.{closing}
+use Rattle.dch_runlaw.specs.Headline.{Carries}
+use Rattle.dch_top.specs.Configured.{IsPlannedAs}
+
+-- the source gave a configuration that is accepted, and lines behind it that lead three nodes through a run; the sink took the line `open`,
+-- the text that is shown of the run, and the closing line; and the rows of the text hand up the units of the bearers
+pub record CarriesUnits (start : ℕ) (quiet : Bool) (source sink : End) : Type 0 where
+  pub taken : List ℕ
+  pub written : List ℕ
+  pub takes : Consumes source.before source.now taken
+  pub writes : Appends sink.before sink.now written
+  pub accepted : Planned
+  pub is : IsPlannedAs (configuration_of taken) accepted
+  pub text : List ℕ
+  pub frames : ℕ
+  pub all : written ≡ codes "open\n" ++ text ++ closing frames
+  pub carries : Carries accepted (8 * start) quiet (lines_of (script_of taken)) text
