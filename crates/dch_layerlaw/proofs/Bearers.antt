@@ -49,7 +49,7 @@ shared : (config : Config) (dir : Dir) (i b c : ℕ) → IsGood config → chann
 shared config dir i b c good e f differs = good.sharing b c (there config dir b i e) (there config dir c i f) differs (share_at dir i (bearer_in config b) (bearer_in config c) e f)
 
 -- the bearers of a channel
-is_apart : (config : Config) (dir : Dir) (i : ℕ) → IsGood config → AreApart config dir i
+pub is_apart : (config : Config) (dir : Dir) (i : ℕ) → IsGood config → AreApart config dir i
 is_apart config dir i good = record {
   least = λ b h e. (field_named config dir b i good e h).0;
   most = λ b h e. (field_named config dir b i good e h).1;

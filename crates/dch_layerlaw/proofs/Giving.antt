@@ -105,7 +105,7 @@ pub record HasField (config : Config) (dir : Dir) (c : ℕ) (block : List Bit) :
   pub payload : List Bit
   pub is : block ≡ field_for (ct_of config dir c) ++ payload
 
-has_field : (config : Config) (dir : Dir) (c : ℕ) (old next : Bearing) (block : List Bit) → Builds config dir c old next block → HasField config dir c block
+pub has_field : (config : Config) (dir : Dir) (c : ℕ) (old next : Bearing) (block : List Bit) → Builds config dir c old next block → HasField config dir c block
 has_field config dir c (Transparent w us) next block g = record { payload = g.unit; is = g.block_is }
 has_field config dir c (Unacknowledged s r) next block g = record { payload = bits_of (pdu_of s.sending); is = g.block_is }
 has_field config dir c (Acknowledged s r) next block g = record { payload = bits_of g.octets; is = g.block_is }

@@ -21,7 +21,7 @@ use Rattle.dch_layerlaw.proofs.Names.{number_same, other_number, same_number}
 use Rattle.dch_layerlaw.proofs.Sublists.{either}
 
 -- a text lacks a letter
-abbrev Lacks : ℕ → List ℕ → Type 0
+abbrev pub Lacks : ℕ → List ℕ → Type 0
 Lacks k [] = Unit {0}
 Lacks k (c ∷ cs) = ((c == k) ≡ false) × Lacks k cs
 
@@ -49,7 +49,7 @@ onto_lacks : (k m n : ℕ) (acc : List ℕ) → k < 48 → Lacks k acc → Lacks
 onto_lacks k zero n acc small h = h
 onto_lacks k (suc m) n acc small h = cond_both {A = List ℕ} (n / 10 == 0) (digit_glyph false (n % 10) ∷ acc) (digits_onto m 10 false (n / 10) (digit_glyph false (n % 10) ∷ acc)) (Lacks k) (λ _. (glyph_lacks k (n % 10) small, h)) (λ _. onto_lacks k m (n / 10) (digit_glyph false (n % 10) ∷ acc) small (glyph_lacks k (n % 10) small, h))
 
-decimal_lacks : (k n : ℕ) → k < 48 → Lacks k (decimal n)
+pub decimal_lacks : (k n : ℕ) → k < 48 → Lacks k (decimal n)
 unfolding digits
 decimal_lacks k n small = onto_lacks k 64 n [] small tt
 
@@ -159,8 +159,8 @@ text_rows (x ∷ lines) =
     let split : text_of (x ∷ lines) ≡ words_of x ++ (10 ∷ text_of lines) = refl in
     (ap rows split ∙ here.0 ∙ ap (λ l. row_of x ∷ l) later.0, ap rest_of split ∙ here.1 ∙ later.1)
 
--- numbers between spaces
-abbrev same_list : List ℕ → List ℕ → Bool
+-- numbers up to a letter
+abbrev pub same_list : List ℕ → List ℕ → Bool
 same_list [] [] = true
 same_list [] (y ∷ ys) = false
 same_list (x ∷ xs) [] = false
@@ -180,13 +180,13 @@ same_is (x ∷ xs) (y ∷ ys) e = let both = split (x == y) (same_list xs ys) e 
     split true b e = (refl, e)
     split false b e = absurd (cc)
 
-to_space : (xs ys zs : List ℕ) → Lacks 32 xs → Lacks 32 ys → starts_with (xs ++ 32 ∷ []) (ys ++ (32 ∷ zs)) ≡ same_list xs ys
-to_space [] [] zs h g = refl
-to_space [] (y ∷ ys) zs h g = rw (other_number 32 y (λ e. let t : (y == 32) ≡ true = same_number y 32 (sym e) in let f : (y == 32) ≡ false = g.0 in absurd (cc))) refl
-to_space (x ∷ xs) [] zs h g = rw h.0 refl
-to_space (x ∷ xs) (y ∷ ys) zs h g = ap (λ b. (x == y) && b) (to_space xs ys zs h.1 g.1)
+pub to_letter : (k : ℕ) (xs ys zs : List ℕ) → Lacks k xs → Lacks k ys → starts_with (xs ++ k ∷ []) (ys ++ (k ∷ zs)) ≡ same_list xs ys
+to_letter k [] [] zs h g = rw (same_number k k refl) refl
+to_letter k [] (y ∷ ys) zs h g = rw (other_number k y (λ e. let t : (y == k) ≡ true = same_number y k (sym e) in let f : (y == k) ≡ false = g.0 in absurd (cc))) refl
+to_letter k (x ∷ xs) [] zs h g = rw h.0 refl
+to_letter k (x ∷ xs) (y ∷ ys) zs h g = ap (λ b. (x == y) && b) (to_letter k xs ys zs h.1 g.1)
 
-same_decimal : (b c : ℕ) → b < 2 ^ 64 → c < 2 ^ 64 → same_list (decimal b) (decimal c) ≡ (c == b)
+pub same_decimal : (b c : ℕ) → b < 2 ^ 64 → c < 2 ^ 64 → same_list (decimal b) (decimal c) ≡ (c == b)
 same_decimal b c low high = either (c == b)
     (λ q. rw (q, number_same c b q) (same_self (decimal b)))
     (λ q. rw q (either (same_list (decimal b) (decimal c))
@@ -197,7 +197,7 @@ same_decimal b c low high = either (c == b)
 number_starts : (b c : ℕ) (u : List ℕ) → b < 2 ^ 64 → c < 2 ^ 64 → starts_with (decimal b ++ 32 ∷ []) (decimal c ++ 32 ∷ [] ++ u ++ 10 ∷ []) ≡ (c == b)
 number_starts b c u low high =
     ap (starts_with (decimal b ++ 32 ∷ [])) (append_assoc (decimal c ++ 32 ∷ []) u (10 ∷ []) ∙ append_assoc (decimal c) (32 ∷ []) (u ++ 10 ∷ []))
-    ∙ to_space (decimal b) (decimal c) (u ++ 10 ∷ []) (decimal_lacks 32 b (omega arith)) (decimal_lacks 32 c (omega arith))
+    ∙ to_letter 32 (decimal b) (decimal c) (u ++ 10 ∷ []) (decimal_lacks 32 b (omega arith)) (decimal_lacks 32 c (omega arith))
     ∙ same_decimal b c low high
 
 unit_starts : (dir d : Dir) (b c : ℕ) (u : List ℕ) → b < 2 ^ 64 → c < 2 ^ 64 → starts_with (got_words dir b) (unit_text d c u ++ codes "\n") ≡ (same_dir d dir && (c == b))

@@ -14,6 +14,7 @@ use Rattle.dch_runlaw.proofs.TextTold.{run_false, run_shown}
 use Rattle.dch_runlaw.proofs.HonestHanded.{silent_history, tm_silent_down, tm_silent_up, um_silent_down, um_silent_up}
 use Rattle.dch_runlaw.proofs.IntervalDown.{down_interval}
 use Rattle.dch_runlaw.proofs.IntervalSets.{up_interval}
+use Rattle.dch_runlaw.proofs.Undamaged.{clear_carries}
 use Rattle.dch_runlaw.specs.Headline.{Carries}
 use Rattle.dch_runlaw.proofs.HeadlineHandedUp.{am_rows, tm_rows_down, tm_rows_up, um_rows_down, um_rows_up}
 use Rattle.dch_runlaw.proofs.HeadlineSilence.{silent, silent_on}
@@ -36,6 +37,7 @@ carried planned first quiet script new text good begins handles =
       shows = is.shows;
       received_down = λ i events mid last lines before inside t arrives. down_interval planned first i events mid last lines before good inside t arrives;
       received_up = λ set events mid last lines before few t arrives. up_interval planned first set events mid last lines before good begins few t arrives;
+      undamaged = λ clear. clear_carries planned first is.events new.link is.reported run good begins clear;
       acknowledged = λ b up down bearer no_up no_down.
           let here = (bearer.good.bearers b bearer.there).up.there up bearer.up_is in
           let there = (bearer.good.bearers b bearer.there).down.there down bearer.down_is in

@@ -63,7 +63,7 @@ goes_on planned rx_frames i (Read held) e is = let t : ends (channel_at planned.
 goes_on planned rx_frames i (Bad frame) e is = refl
 
 -- an Iub frame of another set reads nothing of the channel
-set_none : (side : Side) (s i : ℕ) (held : HeldSet) → ((channel_at side i).set == s) ≡ false → set_readings side s held i ≡ Nothing
+pub set_none : (side : Side) (s i : ℕ) (held : HeldSet) → ((channel_at side i).set == s) ≡ false → set_readings side s held i ≡ Nothing
 set_none side s i held e = either (nat_lt i (length side.channels)) (λ l. rw (l, e) refl) (λ l. rw l refl)
 
 pub other_set : (planned : Planned) (old new : RncState) (s i : ℕ) (octets : List ℕ) (output : Output) → old.planned ≡ planned → ((channel_at planned.config.uplink.side i).set == s) ≡ false → RncSteps old (IubFrame s octets) new output → new.readings i ≡ Nothing

@@ -1,8 +1,7 @@
 -- Over a run in which just what channels were given is taken of them, all lines of the terminal and the network controller are known.
-use Rattle.std.proofs.Common.{◌≡◌, ◌<◌, ◌≤◌, ◌+◌, ◌∙◌, ℕ, zero, suc, List, [], ◌∷◌, ◌++◌, true, false, Option, Some, None, length, arith, ap, refl, sym, subst, ⊎_elim}
-use Rattle.std.specs.Prelude.{◌==◌, ◌%◌, nat_lt}
+use Rattle.std.proofs.Common.{◌≡◌, ◌<◌, ◌≤◌, ◌+◌, ◌∙◌, ℕ, zero, suc, List, [], ◌∷◌, ◌++◌, true, Option, Some, None, length, arith, ap, refl, sym, subst, ⊎_elim}
+use Rattle.std.specs.Prelude.{◌==◌, ◌%◌}
 use Rattle.dch_types.specs.declared.channel.Dir.TheVariants.{Up, Down}
-use Rattle.dch_types.specs.declared.channel.Side.{Side}
 use Rattle.dch_types.specs.Parts.{channel_at}
 use Rattle.dch_types.specs.Timing.{ends, set_frames}
 use Rattle.dch_config.specs.Good.{IsGood}
@@ -12,7 +11,7 @@ use Rattle.dch_damage.specs.Damage.{iub_after, radio_after}
 use Rattle.dch_node.specs.Lines.{Line, Phy}
 use Rattle.dch_node.specs.Values.{Output}
 use Rattle.dch_layer.specs.Layers.{Layer, ticks}
-use Rattle.dch_layer2.specs.Reading.{Nothing, reads_below}
+use Rattle.dch_layer2.specs.Reading.{reads_below}
 use Rattle.dch_ue.specs.State.{State as UeState}
 use Rattle.dch_ue.specs.Steps.{IsTick as IsUeTick, has_read}
 use Rattle.dch_nodeb.specs.State.{State as NodeBState}
@@ -21,6 +20,7 @@ use Rattle.dch_rnc.specs.State.{State as RncState, set_readings}
 use Rattle.dch_rnc.specs.Steps.{IsReadFrame, IsRefusedFrame, IsTick as IsRncTick, sent_line, sent_lines}
 use Rattle.dch_link.specs.Checks.{good_in}
 use Rattle.dch_link.specs.Link.{LinkState, opened_link}
+use Rattle.dch_runlaw.proofs.HonestSteps.{set_none}
 use Rattle.dch_runlaw.specs.Frames.{IsFrame, MayBeTaken, Taken, lines_below}
 use Rattle.dch_layerlaw.proofs.Names.{number_same}
 use Rattle.dch_layerlaw.proofs.Sublists.{either}
@@ -66,10 +66,6 @@ line_known planned s (Some octets) = (tt, tt)
 sent_known : (planned : Planned) (iub : ℕ → Option (List ℕ)) (n : ℕ) → AreKnown planned.config Up (sent_lines iub n)
 sent_known planned iub zero = tt
 sent_known planned iub (suc s) = known-append planned.config Up (sent_lines iub s) (sent_line s (iub s)) (sent_known planned iub s) (line_known planned s (iub s))
-
--- an Iub frame of another set reads nothing of a channel
-set_none : (side : Side) (s i : ℕ) (held : HeldSet) → ((channel_at side i).set == s) ≡ false → set_readings side s held i ≡ Nothing
-set_none side s i held e = either (nat_lt i (length side.channels)) (λ l. rw (l, e) refl) (λ l. rw l refl)
 
 -- and one of its set what is just what was given
 set_reaches : (planned : Planned) (layer : Layer) (s i : ℕ) (held : HeldSet) → GivenReach planned.config Up layer → ((channel_at planned.config.uplink.side i).set ≡ s → good_in (set_readings planned.config.uplink.side s held i) ≡ (layer.given i).blocks)

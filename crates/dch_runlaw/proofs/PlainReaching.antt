@@ -9,18 +9,16 @@ use Rattle.dch_config.specs.Good.{IsGood}
 use Rattle.dch_mac.specs.declared.answer.Demux.TheVariants.{To}
 use Rattle.dch_mac.specs.Field.{field_bits}
 use Rattle.dch_mac.specs.Receivers.{receiver}
-use Rattle.dch_rlcum.specs.Sending.{pdu_of}
 use Rattle.dch_select.specs.Asked.{Asked, priority_of, starts}
-use Rattle.dch_layer.specs.Bearings.{Acknowledged, Bearing, Transparent, Unacknowledged, channel_of, ct_of}
-use Rattle.dch_layer.specs.Building.{Builds, Gives}
+use Rattle.dch_layer.specs.Bearings.{Bearing, channel_of, ct_of}
+use Rattle.dch_layer.specs.Building.{Gives}
 use Rattle.dch_layer.specs.Layers.{Given, Layer}
-use Rattle.dch_layer.specs.Octets.{bits_of}
 use Rattle.dch_layer.specs.Starting.{IsStart, asked_in, count_on, in_turn, is_on, joined, of_priority}
 use Rattle.dch_layerlaw.specs.History.{AreApart}
-use Rattle.dch_layerlaw.proofs.Giving.{HasField, joined-append}
+use Rattle.dch_layerlaw.proofs.Bearers.{is_apart}
+use Rattle.dch_layerlaw.proofs.Giving.{HasField, has_field, joined-append}
 use Rattle.dch_layerlaw.proofs.Names.{both_true, comes_to, named_is}
 use Rattle.dch_layerlaw.proofs.Sublists.{either}
-use Rattle.dch_runlaw.proofs.PlainModes.{are_apart}
 
 -- a block of a channel is for a bearer
 pub record Reaches (config : Config) (dir : Dir) (i : ℕ) (block : List Bit) : Type 0 where
@@ -41,12 +39,7 @@ reach-append : (config : Config) (dir : Dir) (i : ℕ) (xs ys : List (List Bit))
 reach-append config dir i [] ys first second = second
 reach-append config dir i (x ∷ xs) ys first second = (first.0, reach-append config dir i xs ys first.1 second)
 
--- a block begins with the field of the bearer that built it
-built_field : (config : Config) (dir : Dir) (c : ℕ) (old next : Bearing) (block : List Bit) → Builds config dir c old next block → HasField config dir c block
-built_field config dir c (Transparent w us) next block g = record { payload = g.unit; is = g.block_is }
-built_field config dir c (Unacknowledged s r) next block g = record { payload = bits_of (pdu_of s.sending); is = g.block_is }
-built_field config dir c (Acknowledged s r) next block g = record { payload = bits_of g.octets; is = g.block_is }
-
+-- a block that a bearer of the channel built
 built_reaches : (config : Config) (dir : Dir) (c i : ℕ) (block : List Bit) → AreApart config dir i → channel_of config dir c ≡ Some i → HasField config dir c block → Reaches config dir i block
 built_reaches config dir c i block apart on h = record {
   bearer = c;
@@ -58,7 +51,7 @@ built_reaches config dir c i block apart on h = record {
 all_built : (config : Config) (dir : Dir) (c i n : ℕ) (old new : Bearing) (blocks : List (List Bit)) → AreApart config dir i → channel_of config dir c ≡ Some i → Gives config dir c n old new blocks → AllReach config dir i blocks
 all_built config dir c i zero old new blocks apart on g = subst (AllReach config dir i) (sym g.1) tt
 all_built config dir c i (suc n) old new blocks apart on g =
-    subst (AllReach config dir i) (sym g.all) (built_reaches config dir c i g.block apart on (built_field config dir c old g.next g.block g.first), all_built config dir c i n g.next new g.rest apart on g.later)
+    subst (AllReach config dir i) (sym g.all) (built_reaches config dir c i g.block apart on (has_field config dir c old g.next g.block g.first), all_built config dir c i n g.next new g.rest apart on g.later)
 
 -- those of all bearers of a channel, in turn
 one_more : (config : Config) (dir : Dir) (i : ℕ) (built : ℕ → List (List Bit)) (bs : List ℕ) (b : ℕ) (on : Bool) → AllReach config dir i (joined built bs) → (on ≡ true → AllReach config dir i (built b)) → AllReach config dir i (joined built (bs ++ cond on (b ∷ []) []))
@@ -80,7 +73,7 @@ turns_reach config dir asked i (suc q) built all =
 -- after the start of TTIs
 pub start_reaches : (config : Config) (out : Dir) (cfn : ℕ) (old new : Layer) → IsGood config → IsStart config out cfn old new → GivenReach config out old → GivenReach config out new
 start_reaches config out cfn old new good st before = λ i. subst (λ (g : Given). AllReach config out i g.blocks) (sym (st.given i)) (either (starts asked i)
-    (λ e. rw e (turns_reach config out asked i 8 st.built (λ b t. all_built config out b i (count_on asked new.running b (channel_of config out b)) (old.bearings b) (new.bearings b) (st.built b) (are_apart config out b i good (named_is (channel_of config out b) i t)) (named_is (channel_of config out b) i t) (st.gives b))))
+    (λ e. rw e (turns_reach config out asked i 8 st.built (λ b t. all_built config out b i (count_on asked new.running b (channel_of config out b)) (old.bearings b) (new.bearings b) (st.built b) (is_apart config out i good) (named_is (channel_of config out b) i t) (st.gives b))))
     (λ e. rw e (before i)))
   where
     asked : Asked

@@ -6,12 +6,14 @@ ghost use Rattle.dch_linkcmd.specs.Run.{Run, opened_run};
 ghost use Rattle.dch_runlaw.specs.Headline.{Carries};
 
 /// A law: lines of `link` behind a configuration that keeps its limits lead three nodes through a run, radio frame by radio frame, and the text
-/// that they add is that of its lines. Whatever damage comes between the nodes: a TTI whose radio frames all arrive as they were sent is read just
-/// as it was given, all blocks good; and where no row of the text says of an acknowledged bearer's two
-/// channels that a block was taken as good that was not given, the rows that hand up its units are those of the accepted units, in order, each
-/// once and whole, but for those that were discarded. Where none says so of the channel of another bearer, whatever comes of all other channels,
-/// they are, for an unacknowledged bearer, those of the units of which all came, where fewer than 128 successive PDUs were lost; and for a
-/// transparent one some of the accepted units, in order, each at most once.
+/// that they add is that of its lines. Where no damage has an effect, no line tells of trouble, and all is handed up that was sent whole in TTIs
+/// that have ended.
+///
+/// Whatever damage comes between the nodes: a TTI whose radio frames all arrive as they were sent is read just as it was given, all blocks good.
+/// Where no row of the text says of an acknowledged bearer's two channels that a block was taken as good that was not given, the rows that hand
+/// up its units are those of the accepted units, in order, each once and whole, but for those that were discarded. Where none says so of the
+/// channel of another bearer, they are, for an unacknowledged one, those of the units whose octets and end mark all came and whose start is
+/// known, where fewer than 128 successive PDUs were lost; and for a transparent one some of the accepted units, in order, each at most once.
 pub fn headline_law()
     ensures { (planned : Planned) (first : ℕ) (quiet : Bool) (script : List (List ℕ)) (new : Run) (text : List ℕ) → IsPlanned planned → first % 8 ≡ 0 →
         HandlesLines link_lines (opened_run planned first quiet) script new text → Carries planned first quiet script text }
