@@ -4,7 +4,9 @@ pub mod Found
 pub mod Held
 pub mod Least
 pub mod Link
+pub mod Lowered
 pub mod Pairs
 pub mod Read
 pub mod Room
 pub mod Rows
+pub mod Spread

@@ -5,6 +5,7 @@
 mod narrow;
 mod steps;
 mod table;
+mod tiny;
 mod trellis;
 mod wide;
 

@@ -2,9 +2,9 @@ ghost use Rattle.std.specs.Prelude.{◌≡◌, ℕ, ◌+◌, ◌^◌, ◌<◌, �
 ghost use Rattle.dch_conv.specs.Conv.{coded_length, encoded};
 ghost use Rattle.dch_trellis.specs.Nearest.{all_copies, disagreement, IsNearest};
 
-use crate::steps::copies_of;
+use crate::steps::{copies_of, is_light};
 use crate::table::Tables;
-use crate::{narrow, wide};
+use crate::{narrow, tiny, wide};
 use dch_bits::{Bit, NoMemory, Vote};
 use dch_conv::Rate;
 use std::alloc::{AllocError, Global};
@@ -15,6 +15,7 @@ use std::marker::Model;
 pub struct Trellis {
     most: usize,
     tables: Tables,
+    tiny: Vec<tiny::PathMetrics>,
     narrow: Vec<narrow::PathMetrics>,
     wide: Vec<wide::PathMetrics>,
 }
@@ -37,11 +38,13 @@ impl Trellis {
         requires { most ≤ 504 }
         ensures { IfOk result (λ trellis. trellis ≡ most) }
     {
+        let tiny = tiny::rows(alloc, most + 9)?;
         let narrow = narrow::rows(alloc, most + 9)?;
         let wide = wide::rows(alloc, most + 9)?;
         Ok(Trellis {
             most,
             tables: Tables::new(),
+            tiny,
             narrow,
             wide,
         })
@@ -61,7 +64,9 @@ impl Trellis {
         ensures kept { self.new ≡ self.old }
     {
         let table = self.tables.of(rate);
-        if copies_of(votes) < 65_536 {
+        if is_light(rate, votes) {
+            tiny::nearest(rate, table, votes, filler, &mut self.tiny, out)
+        } else if copies_of(votes) < 65_536 {
             narrow::nearest(rate, table, votes, filler, &mut self.narrow, out)
         } else {
             wide::nearest(rate, table, votes, filler, &mut self.wide, out)
