@@ -1,4 +1,5 @@
 pub mod PathMetrics
+pub mod Classes
 pub mod Ends
 pub mod Found
 pub mod Held

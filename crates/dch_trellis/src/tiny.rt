@@ -1,16 +1,15 @@
 ghost use Rattle.std.specs.Prelude.{◌≡◌, ◌≢◌, ℕ, [], ◌+◌, ◌-◌, ◌*◌, ◌/◌, ◌^◌, ◌<◌, ◌≤◌, ◌&&◌, length, min, vec_len, IfOk, nat_lt, slice_index, slice_index_or};
 ghost use Rattle.dch_bits.specs.declared.bit.Bit.TheVariants.{Zero};
-ghost use Rattle.dch_conv.specs.Conv.{outputs, coded_length};
-ghost use Rattle.dch_trellis.specs.Nearest.{all_copies};
+ghost use Rattle.dch_conv.specs.Conv.{coded_length};
 ghost use Rattle.dch_trellis.specs.Windows.{IsOutputs};
 ghost use Rattle.dch_trellis.specs.Search.{branch_metric, is_free, best, found, choice};
-ghost use Rattle.dch_trellis.specs.Steps.{vote_at, total, by_zero, by_one, IsStep};
-ghost use Rattle.dch_trellis.specs.Tiny.{votes_of, class_at, class_metric, IsLight, IsLowered, IsLoweredFrom, by_zero_near, lesser_near, row_near};
+ghost use Rattle.dch_trellis.specs.Steps.{total, by_zero, by_one};
+ghost use Rattle.dch_trellis.specs.Classes.{class_metric, by_zero_near, lesser_near, row_near};
+ghost use Rattle.dch_trellis.specs.Tiny.{IsLight, IsLowered, IsLoweredFrom};
 
-use crate::steps;
-use crate::steps::{after_input, is_free, near_of, step_votes};
-use crate::table::Table;
-use dch_bits::{Bit, NoMemory, Vote, number};
+use crate::steps::{after_input, class_metrics, is_free, near_of, step_votes, total_of};
+use crate::table::{Table, classes_of};
+use dch_bits::{Bit, NoMemory, Vote};
 use dch_conv::Rate;
 use std::alloc::Global;
 use std::simd::prelude::*;
@@ -74,9 +73,15 @@ fn fill(
     rows[size + 8] = no_metrics();
     for done in 0..size + 8 {
         let k = size + 7 - done;
-        let step = tiny_step(rate, votes, k);
+        let step = step_votes(rate, votes, k);
         pair_metrics(&classes, &step, &mut near);
-        fill_row(rows, k, &near, total_of(&step), is_free(size, filler, k));
+        fill_row(
+            rows,
+            k,
+            &near,
+            total_of(&step) as u8,
+            is_free(size, filler, k),
+        );
         if done % 8 == 7 {
             taken += u32::from(lower_row(rows, k));
         }
@@ -90,93 +95,27 @@ fn no_metrics() -> PathMetrics
     [0; 256]
 }
 
-/// What each pair of states puts out, as a number.
-fn classes_of(table: &Table) -> [u8; 128]
-    ensures { (i : ℕ) → i < 128 → slice_index result i ≡ class_at table.now i }
-{
-    let mut classes = [0u8; 128];
-    for i in 0..128usize {
-        classes[i] = number(table[0][i]) + 2 * number(table[1][i]) + 4 * number(table[2][i]);
-    }
-    classes
-}
-
-/// The votes of a step in 8 bits: the copies that are Zero, and those that are One, for each output.
-#[derive(Clone, Copy)]
-struct Step {
-    zeros: [u8; 3],
-    ones: [u8; 3],
-}
-
-fn tiny_step(rate: Rate, votes: &[Vote], k: usize) -> Step
-    requires inside { outputs rate * (k + 1) ≤ length votes.now }
-    requires light { IsLight rate votes.now }
-    ensures { IsStep rate votes.now k (votes_of result) }
-{
-    let step = step_votes(rate, votes, k);
-    narrowed(&step)
-}
-
-fn narrowed(step: &[Vote; 3]) -> Step
-    requires { total step.now < 2 ^ 8 }
-    ensures first { vote_at (votes_of result) 0 ≡ vote_at step.now 0 }
-    ensures second { vote_at (votes_of result) 1 ≡ vote_at step.now 1 }
-    ensures third { vote_at (votes_of result) 2 ≡ vote_at step.now 2 }
-{
-    let [a, b, c] = *step;
-    Step {
-        zeros: [a.zeros as u8, b.zeros as u8, c.zeros as u8],
-        ones: [a.ones as u8, b.ones as u8, c.ones as u8],
-    }
-}
-
-fn total_of(step: &Step) -> u8
-    requires { total (votes_of step.now) < 2 ^ 8 }
-    ensures { result ≡ total (votes_of step.now) }
-{
-    let [a, b, c] = step.zeros;
-    let [d, e, f] = step.ones;
-    (a + d) + (b + e) + (c + f)
-}
-
 /// What input Zero costs in the even state of each pair.
-fn pair_metrics(classes: &[u8; 128], step: &Step, near: &mut [u8; 128])
-    requires few { total (votes_of step.now) < 2 ^ 8 }
+fn pair_metrics(classes: &[u8; 128], step: &[Vote; 3], near: &mut [u8; 128])
+    requires few { total step.now < 2 ^ 8 }
     requires classes { (i : ℕ) → i < 128 → slice_index classes.now i < 8 }
-    ensures { (i : ℕ) → i < 128 → slice_index near.new i ≡ class_metric (votes_of step.now) (slice_index classes.now i) }
+    ensures { (i : ℕ) → i < 128 → slice_index near.new i ≡ class_metric step.now (slice_index classes.now i) }
 {
-    let metrics = u8x16::from_array(class_metrics(step));
+    let metrics = metric_lanes(step);
     for block in 0..8usize {
         look_up(metrics, classes, near, 16 * block);
     }
 }
 
 /// What input Zero costs by class. There are eight classes.
-fn class_metrics(step: &Step) -> [u8; 16]
-    requires { total (votes_of step.now) < 2 ^ 8 }
-    ensures { (c : ℕ) → c < 8 → slice_index result c ≡ class_metric (votes_of step.now) c }
+fn metric_lanes(step: &[Vote; 3]) -> u8x16
+    requires { total step.now < 2 ^ 8 }
+    ensures { (c : ℕ) → c < 8 → slice_index result c ≡ class_metric step.now c }
 {
-    let [a, b, c] = step.ones;
-    let [d, e, f] = step.zeros;
-    let (p, q, r, s) = (a + b, d + b, a + e, d + e);
-    [
-        p + c,
-        q + c,
-        r + c,
-        s + c,
-        p + f,
-        q + f,
-        r + f,
-        s + f,
-        0,
-        0,
-        0,
-        0,
-        0,
-        0,
-        0,
-        0,
-    ]
+    let [a, b, c, d, e, f, g, h] = class_metrics(step);
+    let (p, q, r, s) = (a as u8, b as u8, c as u8, d as u8);
+    let (t, u, v, w) = (e as u8, f as u8, g as u8, h as u8);
+    u8x16::from_array([p, q, r, s, t, u, v, w, 0, 0, 0, 0, 0, 0, 0, 0])
 }
 
 /// Looks sixteen branch metrics up.
@@ -365,7 +304,7 @@ fn choose(later: &PathMetrics, table: &Table, step: &[Vote; 3], state: u8, free:
 {
     let i = usize::from(state / 2);
     let near = near_of(table, step, i);
-    let far = steps::total_of(step) - near;
+    let far = total_of(step) - near;
     let (zero, one) = if state % 2 == 0 {
         (near, far)
     } else {

@@ -1,6 +1,6 @@
 use Rattle.std.proofs.Common.{◌≡◌, ◌+◌, ◌-◌, ◌*◌, ◌<◌, ℕ, get_or, sym, ap, ap₂, ◌∙◌, arith}
 use Rattle.std.specs.Prelude.{min}
-use Rattle.dch_trellis.proofs.Lowered.{lesser_near-even, lesser_near-odd}
+use Rattle.dch_trellis.proofs.Classes.{lesser_near-even, lesser_near-odd}
 use Rattle.dch_trellis.proofs.tiny.least_block.Goals as goal
 
 pub returns-clause-even : goal.returns-clause-even

@@ -1,6 +1,6 @@
 use Rattle.std.proofs.Common.{◌+◌, ◌*◌, ◌<◌, ◌≤◌, ◌∙◌, ℕ, get_or, arith, ⊎_elim}
 use Rattle.std.proofs.lemmas.Bool.{cases_lt}
-use Rattle.dch_trellis.specs.Tiny.{lesser_near}
+use Rattle.dch_trellis.specs.Classes.{lesser_near}
 use Rattle.dch_trellis.proofs.Pairs.{from_halves}
 use Rattle.dch_trellis.proofs.tiny.least_metrics.Goals as goal
 

@@ -1,5 +1,5 @@
 use Rattle.std.proofs.Common.{◌≡◌, ◌+◌, ◌<◌, ◌*◌, ℕ, get_or}
-use Rattle.dch_trellis.specs.Tiny.{lesser_near}
+use Rattle.dch_trellis.specs.Classes.{lesser_near}
 use Rattle.dch_trellis.proofs.tiny.least_metrics.Given as goal
 
 abbrev pub invariant-loop-block : goal.invariant-loop-block

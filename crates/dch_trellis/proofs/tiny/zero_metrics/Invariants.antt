@@ -1,5 +1,5 @@
 use Rattle.std.proofs.Common.{◌≡◌, ◌<◌, ◌*◌, ℕ, get_or}
-use Rattle.dch_trellis.specs.Tiny.{by_zero_near}
+use Rattle.dch_trellis.specs.Classes.{by_zero_near}
 use Rattle.dch_trellis.proofs.tiny.zero_metrics.Given as goal
 
 abbrev pub invariant-loop-i : goal.invariant-loop-i
