@@ -5,7 +5,7 @@ ghost use Rattle.dch_tfci.specs.Tfci.{basis, word_bit, sent, IsSize};
 use dch_bits::{Bit, bit_at};
 
 /// The basis sequences by columns: bit `i` of column `n` is M(i,n) (TS 25.212 4.3.3, table 8).
-const COLUMNS: [u32; 10] = [
+static COLUMNS: [u32; 10] = [
     0x2aaa_d555,
     0x3333_6666,
     0x3c3c_7878,
