@@ -1,4 +1,5 @@
 pub mod Codes
 pub mod Kept
+pub mod Counters
 pub mod Counts
 pub mod Carried

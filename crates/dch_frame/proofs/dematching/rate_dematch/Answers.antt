@@ -1,7 +1,5 @@
-use Rattle.std.proofs.Common.{◌≡◌, ◌<◌, ◌≤◌, ◌*◌, ℕ, length, arith, ◌∙◌}
+use Rattle.std.proofs.Common.{◌<◌, ℕ, length, arith, ◌∙◌}
 use Rattle.dch_inter.specs.Places.{place_of}
-use Rattle.dch_match.specs.declared.pattern.Pattern.{Pattern}
-use Rattle.dch_match.specs.Patterns.{copies}
 use Rattle.dch_frame.proofs.Carried.{place_inside}
 use Rattle.dch_frame.proofs.Kept.{copies_inside}
 use Rattle.dch_frame.proofs.dematching.rate_dematch.Goals as goal

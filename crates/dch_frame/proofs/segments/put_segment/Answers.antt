@@ -1,9 +1,11 @@
-use Rattle.std.proofs.Common.{length, refl, arith}
-use Rattle.dch_frame.proofs.Carried.{put_more, put_all}
+use Rattle.std.proofs.Common.{◌∙◌, length, get_or, ap, sym, arith}
+use Rattle.dch_frame.proofs.Carried.{one_frame_place, one_frame_of}
 use Rattle.dch_frame.proofs.segments.put_segment.Goals as goal
 
-pub loop-m-preserved : goal.loop-m-preserved
-loop-m-preserved g c = put_more c.args.frames c.args.frame (length c.args.segment.now) c.loop-m.m c.column-column.result c.args.segment.now c.args.tti.now c.loop-m.tti c.index-segment-m.result c.requires.frames (omega arith) c.requires.inside c.requires.whole refl (omega arith) c.column-column.ensures.value c.column-column.ensures.inside (omega arith) c.index-segment-m.is c.loop-m.invariant
+pub returns-then-frames-eq1-clause-carried : goal.returns-then-frames-eq1-clause-carried
+returns-then-frames-eq1-clause-carried g c i d inside of =
+    ap (λ tti. get_or tti i d) c.copy_from_slice.ensures.after
+    ∙ ap (λ i. get_or c.args.segment.now i d) (sym (one_frame_place c.args.frames (length c.copy_from_slice.new.self) i c.requires.frames (omega arith) inside))
 
-pub returns-clause-carried : goal.returns-clause-carried
-returns-clause-carried g c = put_all c.args.frames c.args.frame (length c.args.segment.now) c.loop-m.m c.args.segment.now c.args.tti.now c.loop-m.tti c.requires.frames (omega arith) c.requires.whole (omega arith) (omega arith) c.loop-m.invariant
+pub returns-then-frames-eq1-clause-same : goal.returns-then-frames-eq1-clause-same
+returns-then-frames-eq1-clause-same g c i d inside apart = absurd (apart (one_frame_of c.args.frames (length c.copy_from_slice.new.self) c.args.frame i c.requires.frames (omega arith) c.requires.inside inside))

@@ -1,12 +1,9 @@
-use Rattle.std.proofs.Common.{◌≡◌, ◌+◌, ◌*◌, ◌/◌, ◌∙◌, ℕ, length, get_or, ap, sym, arith}
-use Rattle.dch_frame.specs.Stages.{segment_place}
-use Rattle.dch_frame.proofs.Carried.{rows_of, segment_place-row}
+use Rattle.std.proofs.Common.{◌≡◌, ◌∙◌, length, get_or, ap, sym, arith}
+use Rattle.dch_frame.proofs.Carried.{one_frame_shown}
 use Rattle.dch_frame.proofs.segments.segment.Goals as goal
 
-pub returns : goal.returns
-returns g c m d inside =
-    let f : ℕ = c.args.frames in
-    let len : ℕ = length c.args.tti.now in
-    let rows : len / f ≡ length c.args.out.now = rows_of f (length c.args.out.now) len (omega arith) c.requires.whole in
-    let place : segment_place f len c.args.frame m ≡ m * f + c.column-column.result = segment_place-row f len c.args.frame m (omega (arith, rows)) ∙ ap (λ column. m * f + column) (sym c.column-column.ensures.value) in
-    c.loop-m.invariant m d (omega arith) ∙ ap (λ place. get_or c.args.tti.now place d) (sym place)
+pub returns-then-frames-eq1 : goal.returns-then-frames-eq1
+returns-then-frames-eq1 g c m d inside =
+    let long : length c.copy_from_slice.new.self ≡ length c.args.tti.now = ap length c.copy_from_slice.ensures.after in
+    ap (λ out. get_or out m d) c.copy_from_slice.ensures.after
+    ∙ ap (λ m. get_or c.args.tti.now m d) (sym (one_frame_shown c.args.frames (length c.args.tti.now) c.args.frame m (omega arith) c.requires.inside (omega (arith, inside, long))))
