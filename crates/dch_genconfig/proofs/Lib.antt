@@ -1,0 +1,4 @@
+pub mod Counting
+pub mod GoodSides
+pub mod GoodBearers
+pub mod Good

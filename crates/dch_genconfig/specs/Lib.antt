@@ -1,0 +1,4 @@
+pub mod Channels
+pub mod Combinations
+pub mod Bearers
+pub mod Configuration
