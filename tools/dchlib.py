@@ -1,4 +1,5 @@
 """What the tools share: inputs and reports of `dch`, Iub frames (TS 25.427), MAC (TS 25.321) and RLC PDUs (TS 25.322)."""
+import re
 import sys
 import tomllib
 from dataclasses import dataclass, field
@@ -91,7 +92,7 @@ def read_input(path):
         raise BadInput(f'{path}: the configuration is no TOML: {fault}') from None
     script = [(end + 2 + i, line) for i, line in enumerate(lines[end + 1:]) if line]
     try:
-        return configuration_of(table), script
+        return configuration_of(table), checked(script, script, SCRIPT_LINE, path)
     except (KeyError, TypeError, ValueError, AttributeError) as fault:
         raise BadInput(f'{path}: this is no configuration of dch ({fault!r}); dch check tells more') from None
 
@@ -109,12 +110,31 @@ def configuration_of(table):
     return Configuration(table['iub']['payload_check'], found, bearers)
 
 
+# The lines of a report, and those of a script that tools look at, as docs/FORMATS.md has them.
+NUMBER, WAY = r'(0|[1-9][0-9]{0,8})', '(up|down)'
+REPORT_LINE = re.compile('|'.join([
+    'open', f'end frames={NUMBER}', 'refused .*', f'(took|full|wrong|outside|overlong|reserved|nobody|false) {WAY} {NUMBER}',
+    f'(badtti|bad|iubbad|nobearer|pdubad) {WAY} {NUMBER} {NUMBER}', rf'got {WAY} {NUMBER} (\.|[0-9a-f]+)', f'iub{WAY} {NUMBER} ([0-9a-f]{{2}})+',
+    'phydown none', 'phydown [01]+ [01-]+', r'phyup [01]+ (\.|[01]+)']))
+SCRIPT_LINE = re.compile('|'.join([
+    rf'unit {WAY} {NUMBER} \S+', f'(frame|tick|down|lose {WAY}|phy none)', f'frame {NUMBER}', f'flip {WAY} [dt] {NUMBER}', f'lose iub{WAY} {NUMBER}',
+    f'spoil iub{WAY} {NUMBER} {NUMBER} [0-9a-fA-F]{{2}}', rf'iub {NUMBER} (\.|([0-9a-fA-F]{{2}})+)', '(block|free|phy) .*', rf'unit {NUMBER} \S+', 'change .*']))
+
+
 def read_report(path):
     """The lines of a report of `dch`."""
-    lines = read_text(path).split('\n')
-    if lines[0] != 'open':
-        raise BadInput(f'{path}: this is no report of a node: its first line is {lines[0][:60]!r} and not open')
-    return [line for line in lines if line]
+    lines = [line for line in read_text(path).split('\n') if line]
+    if lines[:1] != ['open']:
+        raise BadInput(f'{path}: this is no report of a node: its first line is {"".join(lines[:1])[:60]!r} and not open')
+    return checked(lines, enumerate(lines, 1), REPORT_LINE, path)
+
+
+def checked(lines, numbered, form, path):
+    """The lines, all of which have a form."""
+    for number, line in numbered:
+        if not form.fullmatch(line):
+            raise BadInput(f'{path}, line {number}: {line[:60]!r} is no line of dch')
+    return lines
 
 
 def octets_of(text, where):
@@ -339,7 +359,32 @@ def events_of(configuration, script, report):
     command = command_of(report)
     told = [Event(tick, words, True) for tick, words in ticks_of_script(script)]
     answered = [Event(tick, words, False) for tick, words in ticks_of_report(configuration, command, report)]
+    for event in told + answered:
+        check_numbers(configuration, command, event)
     return command, sorted(told + answered, key=lambda event: event.tick)
+
+
+def check_numbers(configuration, command, event):
+    """The bearer, channel or set that a line is about has to be there."""
+    kind, *rest = event.words
+    if event.from_script:
+        if kind == 'unit' and command == 'link':
+            check_bearer(configuration, rest[0], int(rest[1]))
+        elif kind in ('lose', 'spoil') and len(rest) > 1:
+            configuration.of_set(rest[0][3:], int(rest[1]))
+    elif kind in ('took', 'full', 'wrong', 'got', 'pdubad', 'outside', 'overlong'):
+        check_bearer(configuration, rest[0], int(rest[1]))
+    elif kind == 'iubbad':
+        configuration.of_set(rest[0], int(rest[1]))
+    elif kind in ('iubdown', 'iubup'):
+        configuration.of_set(kind[3:], int(rest[0]))
+    elif kind not in ('phydown', 'phyup') and int(rest[1]) >= len(configuration.channels[rest[0]]):
+        raise BadInput(f'the report is not of this input: there is no channel {rest[1]} {rest[0]}')
+
+
+def check_bearer(configuration, way, number):
+    if number >= len(configuration.bearers) or way not in configuration.bearers[number].channels:
+        raise BadInput(f'the configuration has no bearer {number} {way}')
 
 
 def ticks_of_script(script):
