@@ -1,0 +1,4 @@
+pub mod Counts
+pub mod Counting
+pub mod LineWords
+pub mod Summary
