@@ -1,0 +1,4 @@
+pub mod Run
+pub mod Sizes
+pub mod Standing
+pub mod Units
