@@ -8,3 +8,4 @@ pub mod NodeComplete
 pub mod NodeRuns
 pub mod Scripts
 pub mod Texts
+pub mod Traces

@@ -21,7 +21,7 @@ use Rattle.dch_top.specs.Ran.{Runs}
 use Rattle.dch_top.specs.declared.command.Status.{Status}
 use Rattle.dch_top.specs.declared.command.Status.TheVariants.{Ok as Well}
 
-only_well : (outcome : Outcome) → Well ≡ outcome_status outcome → outcome ≡ Done
+pub only_well : (outcome : Outcome) → Well ≡ outcome_status outcome → outcome ≡ Done
 only_well Done same = refl
 only_well MetMalformed same = cc
 only_well FailedReading same = cc

@@ -9,5 +9,6 @@ pub mod NodeRuns
 pub mod Overlong
 pub mod Ran
 pub mod RncRuns
+pub mod Traces
 pub mod UeRuns
 pub mod Untouched

@@ -11,7 +11,9 @@ mod link;
 mod node_b;
 mod node_run;
 mod rnc;
+mod trace_laws;
 mod ue;
 
 pub use bench::Bench;
 pub use command::{Status, run};
+pub use trace_laws::{node_b_trace_law, rnc_trace_law};
