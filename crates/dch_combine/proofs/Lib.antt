@@ -1,0 +1,9 @@
+pub mod Blocks
+pub mod Buffers
+pub mod Combining
+pub mod Estimates
+pub mod Frames
+pub mod OneFrame
+pub mod Sent
+pub mod Sets
+pub mod Writing
