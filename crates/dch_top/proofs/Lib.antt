@@ -2,6 +2,7 @@ pub mod Blocks
 pub mod Checks
 pub mod Commands
 pub mod Complete
+pub mod GenComplete
 pub mod Judging
 pub mod LinkUnits
 pub mod NodeComplete

@@ -4,7 +4,6 @@ use Rattle.std.specs.Prelude.{codes}
 use Rattle.dch_io.specs.Ends.{End}
 use Rattle.dch_accept.specs.Plans.{Planned}
 use Rattle.dch_script.specs.Lines.{lines_of, rest_of}
-use Rattle.dch_check.specs.ConfigSection.{configuration_of, script_of}
 use Rattle.dch_lines.specs.LineTexts.{HandlesLines}
 use Rattle.dch_lines.specs.declared.stop.Outcome.TheVariants.{Ok as Done}
 use Rattle.dch_node.specs.Lines.{Line, text_of}
@@ -14,7 +13,7 @@ use Rattle.dch_nodecmd.specs.Rules.{closing, node_lines}
 use Rattle.dch_nodecmd.specs.Run.{Run, frames_in, opened_run}
 use Rattle.dch_nodecmd.specs.Shown.{shown}
 use Rattle.dch_top.specs.Benches.{Nodes}
-use Rattle.dch_top.specs.Configured.{EndsLate, FollowsScript, IsPlannedAs, outcome_status}
+use Rattle.dch_top.specs.Configured.{EndsLate, FollowsScript, IsPlannedAs}
 use Rattle.dch_top.specs.NodeRuns.{RunsNode}
 use Rattle.dch_top.specs.declared.command.Status.TheVariants.{Ok as Well}
 use Rattle.dch_top.proofs.LinkUnits.{only_well}

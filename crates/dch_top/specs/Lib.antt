@@ -2,6 +2,7 @@ pub mod Benches
 pub mod Checked
 pub mod Configured
 pub mod EncodeText
+pub mod GenRuns
 pub mod LinkRuns
 pub mod LinkUnits
 pub mod NodeBRuns

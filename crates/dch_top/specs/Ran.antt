@@ -7,7 +7,7 @@ use Rattle.dch_types.specs.declared.config.Config.{Config}
 use Rattle.dch_script.specs.Code.{meaning}
 use Rattle.dch_words.specs.Parses.{IsCommand, Parses}
 use Rattle.dch_words.specs.declared.arguments.Subcommand.{Subcommand}
-use Rattle.dch_words.specs.declared.arguments.Subcommand.TheVariants.{Check, Encode, NodeB, Rnc, Ue, Link}
+use Rattle.dch_words.specs.declared.arguments.Subcommand.TheVariants.{Check, Encode, NodeB, Rnc, Ue, Link, Gen}
 use Rattle.dch_words.specs.declared.arguments.Arguments.{Arguments}
 use Rattle.dch_lines.specs.Processor.{Progress}
 use Rattle.dch_lines.specs.Followed.{FollowsInput}
@@ -19,6 +19,7 @@ use Rattle.dch_uecmd.specs.Rules.{ue_rules}
 use Rattle.dch_top.specs.Benches.{Nodes, no_nodes}
 use Rattle.dch_top.specs.Checked.{Checks}
 use Rattle.dch_top.specs.EncodeText.{encoding}
+use Rattle.dch_top.specs.GenRuns.{RunsGen}
 use Rattle.dch_top.specs.LinkRuns.{AreLinkLines, RunsLink}
 use Rattle.dch_top.specs.NodeBRuns.{RunsNodeB}
 use Rattle.dch_top.specs.NodeRuns.{AreEvents}
@@ -79,6 +80,7 @@ Runs NodeB arguments source sink bench status = RunsNodeB arguments.start argume
 Runs Rnc arguments source sink bench status = RunsRnc arguments.start arguments.quiet source sink bench status
 Runs Ue arguments source sink bench status = RunsUe arguments.start arguments.quiet source sink bench status
 Runs Link arguments source sink bench status = RunsLink arguments.start arguments.quiet source sink bench status
+Runs Gen arguments source sink bench status = RunsGen arguments.start arguments.count source sink bench status
 
 -- what a run of these words does
 pub record Ran (words : List (String Global)) (source sink : End) (bench : Nodes) (status : Status) : Type 0 where
@@ -97,3 +99,4 @@ AreEventsFor NodeB config lines = AreEvents node_b_rules config lines
 AreEventsFor Rnc config lines = AreEvents rnc_rules config lines
 AreEventsFor Ue config lines = AreEvents ue_rules config lines
 AreEventsFor Link config lines = AreLinkLines config lines
+AreEventsFor Gen config lines = ⊥

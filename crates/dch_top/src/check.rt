@@ -96,10 +96,15 @@ fn judge_section(alloc: Global, section: &ConfigSection) -> Result<Answer, Statu
     ensures { JudgesText (settled section.now) result }
 {
     match judge(alloc, section.text()) {
-        Ok(Verdict::Accepted(accepted)) => match accepted_line(alloc, accepted.count()) {
-            Ok(line) => Ok(Answer::Accepted(line)),
-            Err(NoMemory) => Err(Status::NoMemory),
-        },
+        Ok(Verdict::Accepted(accepted)) => {
+            // Its memory is given back before the line is made.
+            let count = accepted.count();
+            drop(accepted);
+            match accepted_line(alloc, count) {
+                Ok(line) => Ok(Answer::Accepted(line)),
+                Err(NoMemory) => Err(Status::NoMemory),
+            }
+        }
         Ok(Verdict::Refused(line)) => Ok(Answer::Refused(line)),
         Err(NoMemory) => Err(Status::NoMemory),
     }

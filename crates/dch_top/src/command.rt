@@ -5,7 +5,7 @@ ghost use Rattle.dch_script.specs.Lines.{lines_of, rest_of};
 ghost use Rattle.dch_accept.specs.Plans.{Planned};
 ghost use Rattle.dch_check.specs.ConfigSection.{configuration_of, script_of};
 ghost use Rattle.dch_check.specs.Verdicts.{IsAccepted, IsAcceptedAs, Refuses};
-ghost use Rattle.dch_words.specs.declared.arguments.Subcommand.TheVariants.{Check, Encode, Link};
+ghost use Rattle.dch_words.specs.declared.arguments.Subcommand.TheVariants.{Check, Encode, Gen, Link};
 ghost use Rattle.dch_words.specs.declared.arguments.Arguments.{Arguments};
 ghost use Rattle.dch_top.specs.Benches.{no_nodes};
 ghost use Rattle.dch_io.specs.declared.feed.TheConstants.{LIMIT};
@@ -15,6 +15,7 @@ ghost use Rattle.dch_top.specs.Ran.{AreEventsFor, AreGood, Asks, IsNoCommand, Mi
 use crate::bench::Bench;
 use crate::check::check;
 use crate::encode::encode;
+use crate::generate::generate;
 use crate::link::link;
 use crate::node_b::node_b;
 use crate::rnc::rnc;
@@ -77,7 +78,8 @@ pub fn run<S: Source, K: Sink>(
     ensures write_fault { result ≡ Status.WriteFault → Rose (K.faults sink.old) (K.faults sink.new) }
     ensures usage { result ≡ Status.Usage → IsNoCommand words.now }
 
-    // A run of the three nodes that went well hands up the units of the bearers, whatever damage came between the nodes.
+    // A run of the three nodes that went well hands up the units of the bearers in order, as far as they came without a gap, whatever damage came
+    // between the nodes.
     ensures headline { (arguments : Arguments) → Says words.now arguments → arguments.subcommand ≡ Link → result ≡ Status.Ok
         → CarriesUnits arguments.start arguments.quiet (end_of S.left S.faults source.old source.new) (end_of K.taken K.faults sink.old sink.new) }
 
@@ -91,6 +93,9 @@ pub fn run<S: Source, K: Sink>(
         → AreEventsFor arguments.subcommand accepted.config (lines_of (script_of input)) → rest_of (script_of input) ≡ [] → length input ≤ LIMIT
         → ¬ Rose (S.faults source.old) (S.faults source.new) → ¬ Rose (K.faults sink.old) (K.faults sink.new)
         → (result ≡ Status.Ok) ⊎ (result ≡ Status.NoMemory)) }
+
+    // `gen` reads nothing, and a sink without a fault takes its summary.
+    ensures summed { Asks words.now Gen → ¬ Rose (K.faults sink.old) (K.faults sink.new) → (result ≡ Status.Ok) ⊎ (result ≡ Status.NoMemory) }
 
     // A configuration without a fault is judged.
     ensures good { Asks words.now Check → IfSome (S.left source.old) (λ input. (line : List ℕ) → IsAccepted (configuration_of input) line → length input ≤ LIMIT
@@ -128,10 +133,16 @@ fn run_command<S: Source, K: Sink>(
     bench: &mut Bench,
 ) -> Status
     requires start { arguments.start ≤ 31 }
+    requires count { arguments.count ≤ 100000 }
     requires bench { bench.old ≡ no_nodes }
     ensures { Runs arguments.subcommand arguments (end_of S.left S.faults source.old source.new) (end_of K.taken K.faults sink.old sink.new) bench.new result }
 {
-    let Arguments { start, quiet, .. } = arguments;
+    let Arguments {
+        count,
+        start,
+        quiet,
+        ..
+    } = arguments;
     match arguments.subcommand {
         Subcommand::Check => check(alloc, source, sink),
         Subcommand::Encode => encode(alloc, source, sink),
@@ -139,6 +150,7 @@ fn run_command<S: Source, K: Sink>(
         Subcommand::Rnc => rnc(alloc, start, quiet, source, sink, bench),
         Subcommand::Ue => ue(alloc, start, quiet, source, sink, bench),
         Subcommand::Link => link(alloc, start, quiet, source, sink, bench),
+        Subcommand::Gen => generate(alloc, start, count, sink, bench),
     }
 }
 

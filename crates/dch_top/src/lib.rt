@@ -7,6 +7,7 @@ mod command;
 mod configured;
 mod encode;
 mod encode_handler;
+mod generate;
 mod link;
 mod node_b;
 mod node_run;

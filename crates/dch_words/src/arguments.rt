@@ -26,6 +26,8 @@ pub enum Subcommand {
     Ue,
     /// Run a network controller, a Node B and a terminal together.
     Link,
+    /// Run all three through a script of the program's own, and sum up what they report.
+    Gen,
 }
 
 /// What the words of the command line say.
@@ -45,6 +47,7 @@ pub fn parse_arguments(alloc: Global, words: &[String]) -> Result<Option<Argumen
     ensures says { IfOk result (λ read. IfSome read (Parses (map string_bytes words.now))) }
     ensures none { IfOk result (λ read. IfNone read (¬ IsCommand (map string_bytes words.now))) }
     ensures start { IfOk result (λ read. IfSome read (λ words. words.start ≤ 31)) }
+    ensures count { IfOk result (λ read. IfSome read (λ words. words.count ≤ 100000)) }
 {
     let command = line_command(alloc)?;
     match command.try_get_matches_from(words) {
@@ -58,7 +61,8 @@ pub fn parse_arguments(alloc: Global, words: &[String]) -> Result<Option<Argumen
 fn meaning_of(matches: &ArgMatches<'_>) -> Option<Arguments>
     ensures some { IfSome result (Means (rows_of (found_of matches.now))) }
     ensures none { IfNone result ((words : Arguments) → ¬ Means (rows_of (found_of matches.now)) words) }
-    ensures few { IfSome result (λ words. words.start ≤ 31) }
+    ensures start { IfSome result (λ words. words.start ≤ 31) }
+    ensures count { IfSome result (λ words. words.count ≤ 100000) }
 {
     let subcommand = parse_subcommand(matches.get_str("command")?)?;
     let count = read_number_or(matches.get_str("count"), 1000, 1, 100_000)?;
@@ -93,6 +97,7 @@ fn parse_subcommand(text: &str) -> Option<Subcommand>
         "rnc" => Some(Subcommand::Rnc),
         "ue" => Some(Subcommand::Ue),
         "link" => Some(Subcommand::Link),
+        "gen" => Some(Subcommand::Gen),
         _ => None,
     }
 }

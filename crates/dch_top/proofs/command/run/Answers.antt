@@ -1,7 +1,8 @@
-use Rattle.dch_words.specs.declared.arguments.Subcommand.TheVariants.{Check, Encode}
+use Rattle.dch_words.specs.declared.arguments.Subcommand.TheVariants.{Check, Encode, Gen}
 use Rattle.dch_top.proofs.Checks.{good_answered, refused_answered}
 use Rattle.dch_top.proofs.Commands.{runs_as}
 use Rattle.dch_top.proofs.Complete.{completes}
+use Rattle.dch_top.proofs.GenComplete.{gen_answered}
 use Rattle.dch_top.proofs.LinkUnits.{units_carried}
 use Rattle.dch_top.proofs.NodeComplete.{events_answered}
 use Rattle.dch_top.proofs.command.run.Goals as goal
@@ -11,6 +12,9 @@ returns-clause-complete g c asks = completes _ _ _ _ _ _ _ _ c.follow_words.resu
 
 pub returns-clause-events : goal.returns-clause-events
 returns-clause-events g c arguments says = events_answered _ _ _ _ _ _ _ _ arguments.subcommand arguments _ c.follow_words.result (c.follow_words.ensures.runs arguments says)
+
+pub returns-clause-summed : goal.returns-clause-summed
+returns-clause-summed g c asks = gen_answered _ _ _ _ c.follow_words.result ((runs_as _ _ _ _ _ Gen c.follow_words.ensures asks).ends)
 
 pub returns-clause-good : goal.returns-clause-good
 returns-clause-good g c asks = good_answered _ _ _ _ _ _ _ _ c.follow_words.result ((runs_as _ _ _ _ _ Check c.follow_words.ensures asks).0)

@@ -1,3 +1,4 @@
+use Rattle.std.proofs.Common.{refl}
 use Rattle.dch_top.proofs.command.run_command.Goals as goal
 
 pub returns-in-NodeB : goal.returns-in-NodeB
@@ -11,3 +12,6 @@ returns-in-Ue g c = rw c.in-Ue.is c.ue.ensures
 
 pub returns-in-Link : goal.returns-in-Link
 returns-in-Link g c = rw c.in-Link.is c.link.ensures
+
+pub returns-in-Gen : goal.returns-in-Gen
+returns-in-Gen g c = rw c.in-Gen.is (record { ends = c.generate.ensures; unread = refl })
