@@ -1,6 +1,6 @@
 // Loaded before the C library, it makes one call of a program fail, or be short; .ci/hostile builds and uses it. FAULT names the call: alloc, read or write is
-// the one of number AT alone, allocs, reads and writes that one and all behind it; with short before the name the call moves one byte in place of failing. Where BYTES is set,
-// each read and write moves one byte at most. The file that SEEN names gets the counts of allocations, reads and writes.
+// the one of number AT alone, allocs, reads and writes that one and all behind it; with short before the name the call moves one byte in place of failing. BYTES is
+// the most bytes that a read or a write moves. The file that SEEN names gets the counts of allocations, reads and writes.
 #define _GNU_SOURCE
 #include <errno.h>
 #include <fcntl.h>
@@ -13,14 +13,13 @@
 enum { ALLOC, READ, WRITE };
 static const char *const names[] = {"alloc", "read", "write"};
 static const char *fault;
-static int bytes;
-static long at, seen[3];
+static long at, bytes, seen[3];
 void *__libc_malloc(size_t), *__libc_realloc(void *, size_t);
 
 __attribute__((constructor)) static void begin(void) {
     if (getenv("AT")) at = atol(getenv("AT"));
     fault = getenv("FAULT");
-    bytes = getenv("BYTES") != NULL;
+    if (getenv("BYTES")) bytes = atol(getenv("BYTES"));
 }
 
 __attribute__((destructor)) static void end(void) {
@@ -43,7 +42,10 @@ static int fails(int kind, int error) {
     return 1;
 }
 
-static size_t moved(int kind, size_t size) { return size > 1 && (bytes || strikes("short", kind)) ? 1 : size; }
+static size_t moved(int kind, size_t size) {
+    size_t most = strikes("short", kind) ? 1 : bytes ? (size_t)bytes : size;
+    return size < most ? size : most;
+}
 
 void *malloc(size_t size) { return fails(ALLOC, ENOMEM) ? NULL : __libc_malloc(size); }
 void *realloc(void *old, size_t size) { return fails(ALLOC, ENOMEM) ? NULL : __libc_realloc(old, size); }
