@@ -13,7 +13,7 @@ ghost use Rattle.dch_layerlaw.specs.TmHistory.{IsTmBearer, IsTmCarried, IsTmSome
 ///
 /// Then there is a history of two ends of this bearer alone, with blocks in flight in order, some of which are lost, that leads to just
 /// the senders and receivers that it has at the two ends. So what holds after every history holds of it: handed up are the
-/// accepted units in order, each once, but for those that were discarded, and no answer is Outside.
+/// accepted units in order, each once, as far as they came without a gap, but for those that were discarded, and no answer is Outside.
 pub fn am_history_law()
     ensures { (config : Config) (out into : Dir) (b up down : ℕ) (events : List At) (w : World) → IsAmBearer config out into b up down →
         Runs config out into (AreFaithful up down) (opened_world config out into) events w → IsHistory config out into b w }

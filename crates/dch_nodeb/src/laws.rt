@@ -7,7 +7,7 @@ ghost use Rattle.dch_nodeb.specs.Same.{IsSameOutput, IsSameState};
 ghost use Rattle.dch_nodeb.specs.State.{DownlinkDue, Event, IubFrame, State, opened_state};
 ghost use Rattle.dch_nodeb.specs.Steps.{Steps};
 
-/// A law: the state of a Node B follows from what happened at it, and its answer to an Iub frame from the frame.
+/// A law: the state of a Node B follows from what happened at it, and its answer to an Iub frame from its configuration and the frame.
 pub fn one_state_law()
     ensures step { (old new older newer : State) (event : Event) (output more : Output) →
         IsSameState old older → Steps old event new output → Steps older event newer more → IsSameState new newer }

@@ -21,7 +21,7 @@ pub fn run_pair(
     requires window { setup.now.rules.window ≤ 2048 }
     requires inside { All (IsInside octets.now) events.now }
     ensures outcome { IfOk result (λ e. IsOutcome e (pair_after setup.now (history octets.now events.now))) }
-    // in order, each once, and none is lost that was not discarded
+    // in order, each once, and below the first gap none is missing that was not discarded
     ensures delivered { IfOk result (λ e. AreDelivered e (pair_after setup.now (history octets.now events.now))) }
     // after each front of the history
     ensures safe { (k : ℕ) → IsSafe (rules_in setup.now) (pair_after setup.now (take k (history octets.now events.now))) }

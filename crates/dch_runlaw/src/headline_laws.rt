@@ -11,9 +11,10 @@ ghost use Rattle.dch_runlaw.specs.Headline.{Carries};
 ///
 /// Whatever damage comes between the nodes: a TTI whose radio frames all arrive as they were sent is read just as it was given, all blocks good.
 /// Where no row of the text says of an acknowledged bearer's two channels that a block was taken as good that was not given, the rows that hand
-/// up its units are those of the accepted units, in order, each once and whole, but for those that were discarded. Where none says so of the
-/// channel of another bearer, they are, for an unacknowledged one, those of the units whose octets and end mark all came and whose start is
-/// known, where fewer than 128 successive PDUs were lost; and for a transparent one some of the accepted units, in order, each at most once.
+/// up its units are those of the accepted units, in order, each once and whole, as far as they came without a gap, but for those that were
+/// discarded. Where none says so of the channel of another bearer, they are, for an unacknowledged one, those of the units whose octets and
+/// end mark all came and whose start is known, where fewer than 128 successive PDUs were lost; and for a transparent one some of the accepted
+/// units, in order, each at most once.
 pub fn headline_law()
     ensures { (planned : Planned) (first : ℕ) (quiet : Bool) (script : List (List ℕ)) (new : Run) (text : List ℕ) → IsPlanned planned → first % 8 ≡ 0 →
         HandlesLines link_lines (opened_run planned first quiet) script new text → Carries planned first quiet script text }

@@ -21,8 +21,8 @@ pub fn honest_law()
 
 /// A law: in a run of three nodes, radio frame by radio frame and with any damage between them, no line says of the two channels of an
 /// acknowledged bearer that a block was taken as good that was not given. Then the bearer's two ends are those of a history of two ends
-/// with blocks in flight, in order, some of which are lost. It is safe: handed up are the accepted units in order, each once, but for
-/// those that were discarded; and all lines on the bearer are the units that are handed up.
+/// with blocks in flight, in order, some of which are lost. It is safe: handed up are the accepted units in order, each once, as far as
+/// they came without a gap, but for those that were discarded; and all lines on the bearer are the units that are handed up.
 pub fn link_law()
     ensures { (planned : Planned) (first b up down : ℕ) (events : List Event) (new : LinkState) (lines : List Line) → Runs (opened_link planned first) events new lines →
         IsAcknowledged planned b up down → IsSilent up down lines → HasHistory planned b new }
