@@ -1,6 +1,9 @@
 -- What a restart does to a sender (TS 25.322 9.7.7, 11.4): it drops each unit of which an octet was built, and begins anew with the others.
 use Rattle.std.specs.Prelude.{◌+◌, ◌-◌, ℕ, List, [], ◌∷◌, length, drop, false, ◌||◌, nat_lt, if◌then◌else◌, None}
 use Rattle.dch_am.specs.Bodies.{Body, Unsent, carried, is_empty}
+use Rattle.dch_am.specs.Entities.{Entity}
+use Rattle.dch_am.specs.Receiver.{opened_receiver}
+use Rattle.dch_am.specs.Rules.{Rules}
 use Rattle.dch_am.specs.Sender.{Sender, discarded}
 
 -- the octets that PDUs carry
@@ -29,3 +32,7 @@ fresh_sender units at ticks before = record { accepted = units; unsent = record 
 -- it begins anew with the units of which nothing was built. Their ages go on
 abbrev pub restarted_sender : Sender → Sender
 restarted_sender s = fresh_sender (drop (begun s) s.accepted) (drop (begun s) s.accepted_at) s.ticks (discarded s)
+
+-- both sides of an entity begin anew
+abbrev pub restarted_entity : Rules → Entity → Entity
+restarted_entity rules e = record { sender = restarted_sender e.sender; receiver = opened_receiver rules; handed = 0 }
