@@ -1,6 +1,7 @@
 ghost use Rattle.std.specs.Prelude.{◌≡◌, ◌≢◌, ◌≤◌, ◌==◌, IfOk, Some, drop, length, nat_lt, true};
 ghost use Rattle.dch_bits.specs.declared.offer.Offer.TheVariants.{Accepted};
 ghost use Rattle.dch_am.specs.Entities.{Build, Come, Entity, HandUp, IsSmall, IsWritten, Offer as Offers, Tick, after_riding, offers_to_send, opened_entity, pdu_of, step, turn, writes};
+ghost use Rattle.dch_am.specs.Restart.{restarted_entity};
 ghost use Rattle.dch_am.specs.Rules.{Rules, rules_of};
 ghost use Rattle.dch_am.specs.Sender.{Sender, discarded, offered};
 ghost use Rattle.dch_amsend.specs.Standing.{IsSame as IsSameSide, Stands};
@@ -201,6 +202,17 @@ impl AmEntity {
         ensures sizes { AreSizes self.old self.new }
     {
         self.receiver.next_unit(out)
+    }
+
+    /// Both sides begin anew, as after a reset (TS 25.322 11.4): the sending side with the units of which no octet was built, the receiving side as
+    /// at opening. All units that ended have been handed up.
+    pub fn restart(&mut self)
+        requires settled { is_settled self.old ≡ true }
+        ensures stands { (rules : Rules) (e : Entity) → Represents rules self.old e → Represents rules self.new (restarted_entity rules e) }
+        ensures same { IsSame self.old self.new }
+    {
+        self.sender.restart();
+        self.receiver.restart();
     }
 
     /// How many units were discarded since opening. The count ends at the greatest number.

@@ -136,6 +136,18 @@ impl Holder {
         self.ack.is_some() || (self.owed && self.prohibit == 0)
     }
 
+    /// Goes back to what it held at opening.
+    pub fn restart(&mut self)
+        ensures { self.new ≡ opened self.old.rules self.old.pdu self.old.reply }
+    {
+        self.next = 0;
+        self.line.clear();
+        self.ack = None;
+        self.owed = false;
+        self.prohibit = 0;
+        self.period = self.rules.status_period;
+    }
+
     /// One tick.
     pub fn tick(&mut self)
         ensures { self.new ≡ after_tick self.old }

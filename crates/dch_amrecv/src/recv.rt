@@ -131,6 +131,17 @@ impl AmRecv {
         }
     }
 
+    /// Begins anew, as after a reset (TS 25.322 11.4): the state is that at opening, and what was kept of PDUs and of the unit in progress is
+    /// dropped. All units that ended have been handed up.
+    pub fn restart(&mut self)
+        requires settled { is_settled self.old ≡ true }
+        ensures value { self.new ≡ opened self.old.rules self.old.pdu self.old.reply }
+        ensures stands { (buffer : ℕ) → Stands self.new 0 (opened_receiver (rules_of buffer self.old.rules)) }
+        ensures same { IsSame self.old self.new }
+    {
+        self.holder.restart();
+    }
+
     /// One tick of the timers.
     pub fn tick(&mut self)
         ensures stands { (buffer given : ℕ) (r : Receiver) → Stands self.old given r → Stands self.new given (tick_receiver (rules_of buffer self.old.rules) r) }

@@ -15,11 +15,13 @@ use Rattle.dch_am.specs.Cuts.{IsCut}
 use Rattle.dch_am.specs.Discards.{discards_at}
 use Rattle.dch_am.specs.Listed.{IsListed}
 use Rattle.dch_am.specs.Numbers.{has, wrapped}
+use Rattle.dch_am.specs.Restart.{begun, restarted_sender}
 use Rattle.dch_am.specs.Rules.{Rules}
 use Rattle.dch_am.specs.Sender.{Sender, after_offer, first_open, next_new, offered}
 use Rattle.dch_am.specs.Short.{IsShort}
 use Rattle.dch_am.proofs.Listing.{Alike, alike, alike_answer, alike_place, listed_builds, listed_offers}
 use Rattle.dch_am.proofs.Reading.{cut_next, cut_unit}
+use Rattle.dch_am.proofs.Restarting.{cut_fresh, cut_full, full_drop}
 use Rattle.dch_rlcpdu.specs.Am.{am_pdu}
 use Rattle.dch_rlcum.specs.History.{IsSenderOf}
 use Rattle.dch_rlcum.specs.Sending.{Sending, answer_of, builds}
@@ -288,3 +290,14 @@ picked_last left l place e = go (nat_lt (first_wanted l.flown) (length l.flown))
     go false true c t u q = absurd (cc)
     go false false true t u q = record { some = ltb-true _ _ (and_parts _ _ u).1; none = ltb-false _ _ t; place_is = cc }
     go false false false t u q = absurd (cc)
+
+-- the sender begins anew
+pub restart_goes : (rules : Rules) (d : ℕ) (v : Outgoing) (s : Sender) (l : Line) (waiting : Sending) → length l.flown ≡ 0 → waiting.buffer ≡ v.waiting.buffer → IsOutgoing rules d v s → Stands rules l (restarted_sender s) → Keeps d waiting (restarted_sender s) → IsOutgoing rules d (record { size = v.size; line = l; waiting = waiting }) (restarted_sender s)
+restart_goes rules d v s l waiting none room is stands keeps = record {
+  size = is.size;
+  line = stands;
+  waiting = keeps;
+  room = room ∙ is.room;
+  cut = cut_fresh (restarted_sender s).accepted (full_drop (begun s) s.accepted (cut_full s.accepted s.unsent s.bodies is.cut));
+  flown = λ i less. absurd (omega (arith, less, none));
+}

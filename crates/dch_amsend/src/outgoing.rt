@@ -7,6 +7,7 @@ ghost use Rattle.dch_am.specs.Building.{after_build, after_choice, available, bo
 ghost use Rattle.dch_am.specs.Bodies.{ends_of, next_body};
 ghost use Rattle.dch_am.specs.Discards.{after_mrw, discards_at, mrw_due};
 ghost use Rattle.dch_am.specs.Numbers.{wrapped};
+ghost use Rattle.dch_am.specs.Restart.{restarted_sender};
 ghost use Rattle.dch_am.specs.Rules.{Rules, rules_of};
 ghost use Rattle.dch_am.specs.Sender.{Discard, Sender, after_offer, first_open, offered, opened_sender};
 ghost use Rattle.dch_am.specs.Short.{IsShort};
@@ -291,5 +292,16 @@ impl Outgoing {
         let (number, mark) = self.line.mrw();
         write_mrw(number, mark, out);
         self.line.moves();
+    }
+
+    /// Begins anew with the units of which no octet was built. Answers how many they are.
+    pub fn restart(&mut self) -> usize
+        ensures size { self.new.size ≡ self.old.size }
+        ensures window { self.new.line.window ≡ self.old.line.window }
+        ensures count { length self.new.line.flown ≡ 0 }
+        ensures history { (rules : Rules) (d : ℕ) (s : Sender) → IsOutgoing rules d self.old s → (result ≡ length (restarted_sender s).accepted) × IsOutgoing rules d self.new (restarted_sender s) }
+    {
+        self.line.restart();
+        self.waiting.restart()
     }
 }

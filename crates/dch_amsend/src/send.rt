@@ -4,6 +4,7 @@ ghost use Rattle.dch_am.specs.declared.answers.StatusTaken.TheVariants.{Taken};
 ghost use Rattle.dch_am.specs.Acknowledging.{after_fields, status_answer};
 ghost use Rattle.dch_am.specs.Building.{after_build, available, body_of_choice, choice, gives};
 ghost use Rattle.dch_am.specs.Discards.{after_moving, discards, mrw_due, tick_sender};
+ghost use Rattle.dch_am.specs.Restart.{restarted_sender};
 ghost use Rattle.dch_am.specs.Rules.{Rules, rules_of};
 ghost use Rattle.dch_am.specs.Sender.{Sender, after_offer, discarded, offered, opened_sender};
 ghost use Rattle.dch_am.specs.Short.{IsShort};
@@ -194,6 +195,16 @@ impl AmSend {
         ensures same { IsSame self.old self.new }
     {
         self.outgoing.write_mrw(out)
+    }
+
+    /// Begins anew, as after a reset (TS 25.322 11.4): every unit of which an octet was built is dropped, with all numbers, timers and discards.
+    /// The others stay in order, with their ages, and begin with PDU 0. How many units were discarded since opening stays.
+    pub fn restart(&mut self)
+        ensures stands { (rules : Rules) (s : Sender) → Stands rules self.old s → Stands rules self.new (restarted_sender s) }
+        ensures same { IsSame self.old self.new }
+    {
+        let kept = self.outgoing.restart();
+        self.held.restart(kept);
     }
 
     /// Gives all memory back.

@@ -10,10 +10,12 @@ use Rattle.dch_am.specs.Bodies.{Body, ends, ends_of, next_body}
 use Rattle.dch_am.specs.Building.{anew}
 use Rattle.dch_am.specs.Cuts.{IsCut}
 use Rattle.dch_am.specs.Discards.{discards_at}
+use Rattle.dch_am.specs.Restart.{begun, octets_in, restarted_sender}
 use Rattle.dch_am.specs.Sender.{Sender, after_offer, blocks, discarded, first_open, held, next_new, opened_sender}
 use Rattle.dch_am.proofs.Reading.{cut_few, ends_split}
+use Rattle.dch_am.proofs.Restarting.{begun_few, front_begun}
 use Rattle.dch_held.specs.declared.unit.Unit.{Unit as OneUnit}
-use Rattle.dch_held.specs.Held.{Held, age_at, blocks_for, capped, discarding, ended, has_room, left, no_unit, nothing, sizes_of, ticked, total, unit_at, with_pdu, with_unit}
+use Rattle.dch_held.specs.Held.{Held, age_at, blocks_for, capped, discarding, ended, has_room, left, no_unit, nothing, restarted, sizes_of, ticked, total, unit_at, with_pdu, with_unit}
 use Rattle.dch_held.specs.Holding.{AreAcknowledged, blocks_each, ends_each, Holds, IsAlike, IsTicked, released}
 use Rattle.dch_held.proofs.Ages.{at_aged, length-aged, sizes_of-aged}
 use Rattle.dch_held.proofs.Sums.{length-sizes_of, sizes_of-append, sizes_of-drop}
@@ -326,3 +328,29 @@ discarding_holds rules h after s to r p e to_is is = holds_same rules (discardin
 
     count : ℕ
     count = released s + r + 1 - max s.dropped (released s)
+
+-- the sender begins anew with the units of which nothing was built
+pub restarted_holds : (rules : Rules) (h after : Held) (s : Sender) (kept : ℕ) → after ≡ restarted kept h → kept ≡ length (restarted_sender s).accepted → IsCut s.accepted s.unsent s.bodies → Holds rules h s → Holds rules after (restarted_sender s)
+restarted_holds rules h after s kept e count cut is = holds_same rules (restarted kept h) after (restarted_sender s) e (record {
+  buffer = is.buffer;
+  window = is.window;
+  sizes = sizes_of-drop gone h.units ∙ (ap (drop gone) is.sizes ∙ (blocks_each-drop gone (held s) ∙ (ap blocks_each (drop-drop gone (released s) s.accepted) ∙ ap (λ n. blocks_each (drop n s.accepted)) more)));
+  ends = refl;
+  ages = λ i l on. ap (λ (u : OneUnit). u.age) (get_or-drop gone h.units i no_unit) ∙ (is.ages (gone + i) (omega (arith, l, length-drop gone h.units)) on ∙ ap (λ t. min 65535 (s.ticks - t)) (time i));
+  early = λ i. omega (arith, get_or-drop (begun s) s.accepted_at i 0, is.early (begun s + i));
+  times = omega (arith, length-drop (begun s) s.accepted_at, length-drop (begun s) s.accepted, is.times);
+  passed = omega arith;
+  discarded = is.discarded ∙ ap capped (omega arith);
+})
+  where
+    gone : ℕ
+    gone = length h.units - kept
+
+    more : released s + gone ≡ begun s
+    more = omega (arith, count, length-drop (begun s) s.accepted, units_held rules h s cut is, front_begun s.accepted s.unsent s.bodies (first_open s) cut, begun_few (octets_in s.bodies) s.accepted)
+
+    time : (i : ℕ) → slice_index s.accepted_at (released s + (gone + i)) ≡ slice_index (drop (begun s) s.accepted_at) (0 + i)
+    time i =
+        let old : released s + (gone + i) ≡ begun s + i = omega (arith, more) in
+        let new : i ≡ 0 + i = omega arith in
+        ap (slice_index s.accepted_at) old ∙ (sym (get_or-drop (begun s) s.accepted_at i 0) ∙ ap (slice_index (drop (begun s) s.accepted_at)) new)

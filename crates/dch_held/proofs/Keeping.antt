@@ -52,6 +52,18 @@ held_left units ends blocks most window count pdus is = record {
   few = omega (arith, is.few, length-drop pdus ends.items);
 }
 
+-- units leave, and all PDUs
+pub held_alone : (units : Buffer OneUnit) (ends : Buffer ℕ) (blocks most window count : ℕ) → IsHeld units ends blocks most window → IsHeld (buffer (drop count units.items) units.capacity) (buffer [] ends.capacity) (blocks - total (sizes_of (take count units.items))) most window
+held_alone units ends blocks most window count is = record {
+  units_room = is.units_room;
+  ends_room = is.ends_room;
+  full = full_drop count units.items is.full;
+  blocks_are = omega (arith, is.blocks_are, blocks_split count units.items);
+  within = omega (arith, is.within);
+  small = is.small;
+  few = omega arith;
+}
+
 -- all are a tick older
 pub held_aged : (units : Buffer OneUnit) (ends : Buffer ℕ) (blocks most window : ℕ) → IsHeld units ends blocks most window → IsHeld (buffer (aged units.items) units.capacity) ends blocks most window
 held_aged units ends blocks most window is = record {

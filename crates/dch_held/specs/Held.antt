@@ -102,3 +102,13 @@ capped n = min n (2 ^ 64 - 1)
 -- the units in front, so many, are discarded
 abbrev pub discarding : ℕ → Held → Held
 discarding to h = record h { passed = to; discarded = capped (h.discarded + (to - h.passed)) }
+
+-- of the units the last ones stay, so many. No PDU is in flight, and none of these units is discarded
+abbrev pub restarted : ℕ → Held → Held
+restarted kept h =
+    record h {
+      units = drop (length h.units - kept) h.units;
+      ends = [];
+      blocks = h.blocks - total (sizes_of (take (length h.units - kept) h.units));
+      passed = 0;
+    }

@@ -6,8 +6,9 @@ ghost use Rattle.dch_am.specs.Bodies.{ends_of, next_body};
 ghost use Rattle.dch_am.specs.Building.{anew};
 ghost use Rattle.dch_am.specs.Cuts.{IsCut};
 ghost use Rattle.dch_am.specs.Discards.{discards_at};
+ghost use Rattle.dch_am.specs.Restart.{restarted_sender};
 ghost use Rattle.dch_am.specs.Sender.{Sender, after_offer, blocks, first_open, held, next_new, opened_sender};
-ghost use Rattle.dch_held.specs.Held.{age_at, aged, blocks_for, capped, discarding, has_room, left, nothing, sizes_of, ticked, total, unit_at, with_pdu, with_unit};
+ghost use Rattle.dch_held.specs.Held.{age_at, aged, blocks_for, capped, discarding, has_room, left, nothing, restarted, sizes_of, ticked, total, unit_at, with_pdu, with_unit};
 ghost use Rattle.dch_held.specs.Holding.{AreAcknowledged, Holds, IsTicked, released};
 
 use crate::places::{age_all, blocks_for, blocks_in, capped_sum, ended_in, push_unit, unit_at};
@@ -179,6 +180,25 @@ impl Held {
     {
         self.discarded = capped_sum(self.discarded, to - self.passed);
         self.passed = to;
+    }
+
+    /// The sender begins anew: the last units stay, so many, and none of them is discarded. Their ages go on. No PDU is in flight.
+    pub fn restart(&mut self, kept: usize)
+        ensures after { self.new ≡ restarted kept self.old }
+        ensures history { (rules : Rules) (s : Sender) → kept ≡ length (restarted_sender s).accepted → IsCut s.accepted s.unsent s.bodies → Holds rules self.old s → Holds rules self.new (restarted_sender s) }
+    {
+        self.keep(kept);
+    }
+
+    /// The same, by places.
+    fn keep(&mut self, kept: usize)
+        ensures after { self.new ≡ restarted kept self.old }
+    {
+        let gone = self.units.len().saturating_sub(kept);
+        self.blocks -= blocks_in(&self.units, gone);
+        self.units.truncate_front(kept);
+        self.ends.clear();
+        self.passed = 0;
     }
 
     /// How many units are held.

@@ -103,6 +103,16 @@ impl Line {
         run
     }
 
+    /// Drops all PDUs and all units.
+    pub fn clear(&mut self)
+        ensures { self.new ≡ nothing self.old.capacity }
+    {
+        self.todo = 0;
+        self.trim = None;
+        self.window.clear();
+        self.units.clear();
+    }
+
     /// Hands up the first unit that waits, at the front of `out`, which has 1,500 octets.
     pub fn next_unit(&mut self, out: &mut [u8]) -> Option<Handed>
         requires { length out.old ≡ 1500 }

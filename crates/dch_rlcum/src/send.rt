@@ -8,7 +8,7 @@ ghost use Rattle.dch_filling.specs.Filling.{AreSome, IsCarried};
 ghost use Rattle.dch_bits.specs.declared.offer.Offer.TheVariants.{Accepted};
 ghost use Rattle.dch_rlcum.specs.History.{IsAvailable, IsSenderOf, accepted, texts};
 ghost use Rattle.dch_rlcum.specs.Queue.{IsPlace, units_at, used_of};
-ghost use Rattle.dch_rlcum.specs.Sending.{after_build, after_offer, answer_of, blocks, builds, carried, carried_by, ends_in, is_due, is_unsent, leading, left_by, listed, marks_in, no_units, pdu_of, room_of, units_after};
+ghost use Rattle.dch_rlcum.specs.Sending.{after_build, after_offer, answer_of, blocks, builds, carried, carried_by, ends_in, is_due, is_unsent, leading, left_by, listed, marks_in, no_units, pdu_of, restarted, room_of, units_after};
 
 use circular_buffer::HeapCircularBuffer;
 use dch_bits::{NoMemory, Offer};
@@ -240,6 +240,25 @@ impl UmSend {
         self.owed = place.owed;
         self.held = place.held;
         leave(&mut self.lengths, place.unit, place.used);
+    }
+
+    /// Begins anew: a unit of which an octet was sent is dropped, and the others wait in order. The next PDU has the number 0.
+    /// Answers how many units wait.
+    pub fn restart(&mut self) -> usize
+        ensures count { result ≡ length self.new.units.lengths }
+        ensures after { self.new ≡ restarted self.old }
+    {
+        self.held -= blocks_of(self.owed);
+        if self.sent > 0 {
+            let left = self.lengths.pop_front().unwrap_or(0) as usize;
+            self.held -= blocks_of(self.sent + left);
+            let kept = self.octets.len() - left;
+            self.octets.truncate_front(kept);
+        }
+        self.number = 0;
+        self.sent = 0;
+        self.owed = 0;
+        self.lengths.len()
     }
 }
 

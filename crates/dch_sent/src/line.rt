@@ -8,6 +8,7 @@ ghost use Rattle.dch_am.specs.Rules.{Rules, rules_of};
 ghost use Rattle.dch_am.specs.Numbers.{has, wrapped};
 ghost use Rattle.dch_am.specs.Bodies.{after_body, ends_of, is_left, next_body};
 ghost use Rattle.dch_am.specs.Building.{Again, New, Last, after_choice, again_polls, anew_polls, choice, once_more_polls};
+ghost use Rattle.dch_am.specs.Restart.{restarted_sender};
 ghost use Rattle.dch_am.specs.Sender.{Discard, Sender, first_open, next_new, opened_sender};
 ghost use Rattle.dch_sent.specs.Standing.{AreKept, chosen, IsNew, Sends, Stands, timed};
 ghost use Rattle.dch_sent.specs.Polling.{again_line, again_poll, counted, crosses, is_far, last_line, last_poll, new_line, new_poll, picked, poll_of, sent_line};
@@ -391,6 +392,22 @@ impl Line {
     {
         let ahead = self.flight.len() as u16 - place;
         (self.next + 4096 - ahead) % 4096
+    }
+
+    /// Begins anew: no PDU is in flight, no poll is out or owed, and no discard runs.
+    pub fn restart(&mut self)
+        ensures after { self.new ≡ opened_line self.old.rules }
+        ensures window { self.new.window ≡ self.old.window }
+        ensures history { (rules : Rules) (s : Sender) → Stands rules self.old s → Stands rules self.new (restarted_sender s) }
+    {
+        self.flight.leave(self.flight.len());
+        self.next = 0;
+        self.timer = 0;
+        self.polled = 0;
+        self.owed = false;
+        self.running = None;
+        self.built = 0;
+        self.ended = 0;
     }
 
     /// The place below which the status acknowledges all PDUs since it ends the discard.

@@ -79,6 +79,15 @@ impl Units {
         self.part = 0;
     }
 
+    /// Drops all units.
+    pub fn clear(&mut self)
+        ensures { self.new ≡ no_units }
+    {
+        self.sizes.clear();
+        self.octets.clear();
+        self.part = 0;
+    }
+
     /// Hands up the first unit that waits, at the front of `out`, which has 1,500 octets.
     pub fn next_unit(&mut self, out: &mut [u8]) -> Option<Handed>
         requires { length out.old ≡ 1500 }

@@ -5,3 +5,4 @@ pub mod Built
 pub mod Left
 pub mod Room
 pub mod Fills
+pub mod Restarting

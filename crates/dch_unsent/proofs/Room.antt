@@ -54,7 +54,7 @@ ended_zero (n ∷ ns) some = ap (λ b. cond b (0 + n) (ended_at 0 (0 - n) ns)) (
     none : (n : ℕ) → 0 - n ≡ 0
     none n = omega arith
 
-begun_zero : (ns : List ℕ) → AreSome ns → begun_by 0 0 ns ≡ 0
+pub begun_zero : (ns : List ℕ) → AreSome ns → begun_by 0 0 ns ≡ 0
 begun_zero [] some = refl
 begun_zero (n ∷ ns) some = ap (λ b. cond b (0 + 0) (begun_by 0 (0 - n) ns)) (differ n some.0)
   where

@@ -1,10 +1,11 @@
 ghost use Rattle.std.specs.Prelude.{◌≡◌, ◌+◌, ◌-◌, ◌≤◌, ◌++◌, ◌&&◌, not, ℕ, List, [], ◌∷◌, true, false, IfOk, length, nat_lt, replicate};
 ghost use Rattle.dch_am.specs.Bodies.{is_left, next_body};
 ghost use Rattle.dch_am.specs.Building.{anew};
+ghost use Rattle.dch_am.specs.Restart.{restarted_sender};
 ghost use Rattle.dch_am.specs.Sender.{Sender, after_offer, opened_sender};
 ghost use Rattle.dch_am.specs.Listed.{IsListed};
 ghost use Rattle.dch_rlcum.specs.Sending.{after_offer as after_offering};
-ghost use Rattle.dch_rlcum.specs.Sending.{after_build, answer_of, builds, is_unsent, no_units, pdu_of};
+ghost use Rattle.dch_rlcum.specs.Sending.{after_build, answer_of, builds, is_unsent, no_units, pdu_of, restarted};
 ghost use Rattle.dch_rlcum.specs.History.{IsSenderOf, texts};
 ghost use Rattle.dch_flight.specs.Flights.{sent_once};
 ghost use Rattle.dch_unsent.specs.Keeping.{cleared, fills, Has, Keeps};
@@ -100,6 +101,14 @@ impl Unsent {
         let marks = read_marks(&text[..size]);
         let goes_on = goes_on(&marks, size - 1);
         Flown::new(text, marks.full, marks.ends, goes_on)
+    }
+
+    /// Begins anew with the units of which no octet was built. Answers how many they are.
+    pub fn restart(&mut self) -> usize
+        ensures after { self.new ≡ restarted self.old }
+        ensures history { (d : ℕ) (s : Sender) → Keeps d self.old s → (result ≡ length (restarted_sender s).accepted) × Keeps d self.new (restarted_sender s) }
+    {
+        self.fresh.restart()
     }
 }
 
