@@ -90,8 +90,8 @@ fn packets() -> Bearer
     }
 }
 
-/// The rules of a bearer for which none is named.
-fn default_rules() -> AmRules
+/// The rules of a bearer of acknowledged mode for which none is named.
+pub fn default_rules() -> AmRules
     ensures { result ≡ default_rules }
 {
     AmRules {

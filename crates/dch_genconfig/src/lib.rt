@@ -6,4 +6,5 @@ mod channels;
 mod combinations;
 mod configuration;
 
+pub use bearers::default_rules;
 pub use configuration::{gen_config, gen_is_good};

@@ -48,24 +48,30 @@ none_malformed semantics IsGood state lines before later line why takes good sam
     let this : (is_empty line ≡ true) ⊎ IsGood line = rw at at here in
     ⊎_elim (λ empty. false≢true (sym faulty.words ∙ empty)) (λ ok. takes line why ok faulty.cause) this
 
-pub refused_none : {S : Type 0} (semantics : Semantics S) (IsGood : List ℕ → Type 0) (source : End) (state : S) (begun input taken more : List ℕ) (good : List (List ℕ)) (why : LineError) → RefusesLong semantics → TakesIn semantics state IsGood → input ≡ taken ++ more → (IsAtEnd source.now → input ≡ taken)
-    → All (λ line. (is_empty line ≡ true) ⊎ IsGood line) (lines_after begun input) → rest_after begun input ≡ [] → IsRefused semantics source state begun taken good why → ⊥
-refused_none semantics IsGood source state begun input taken more good why strict takes cut all lines_good ended refused =
+-- an input of whole lines is refused for none, where no line of it that follows the good ones is refused in their state
+pub none_refused : {S : Type 0} (semantics : Semantics S) (source : End) (state : S) (begun input taken more : List ℕ) (good : List (List ℕ)) (why : LineError) → RefusesLong semantics → input ≡ taken ++ more → (IsAtEnd source.now → input ≡ taken) → rest_after begun input ≡ []
+    → ((later : List (List ℕ)) (line : List ℕ) (reason : LineError) → lines_after begun input ≡ good ++ (line ∷ later) → IsFaulty semantics state line (Malformed reason) → ⊥)
+    → IsRefused semantics source state begun taken good why → ⊥
+none_refused semantics source state begun input taken more good why strict cut all ended none refused =
     let held : List ℕ = rest_after begun taken in
     let before : List (List ℕ) = lines_after begun taken in
     let lines : lines_after begun input ≡ before ++ lines_after held more = ap (λ l. lines_after begun l) cut ∙ lines_on begun held taken more refl in
     let rest : rest_after begun input ≡ rest_after held more = ap (λ l. rest_after begun l) cut ∙ rest_on begun held taken more refl in
     ⊎_elim
     (λ meets. ⊎_elim
-    (λ m. none_malformed semantics IsGood state (lines_after begun input) good (m.later ++ lines_after held more) m.line why takes lines_good
-    (lines ∙ ap (λ l. l ++ lines_after held more) m.lines ∙ append_assoc good (m.line ∷ m.later) (lines_after held more)) m.faulty)
+    (λ m. none (m.later ++ lines_after held more) m.line why (lines ∙ ap (λ l. l ++ lines_after held more) m.lines ∙ append_assoc good (m.line ∷ m.later) (lines_after held more)) m.faulty)
     (λ over. ⊎_elim
-    (λ m. none_malformed semantics IsGood state (lines_after begun input) before m.later m.line Long takes lines_good (lines ∙ ap (λ l. before ++ l) m.lines) m.faulty)
+    (λ m. none m.later m.line Long (lines ∙ ap (λ l. before ++ l) m.lines ∙ ap (λ l. l ++ (m.line ∷ m.later)) over.1.lines) m.faulty)
     (λ m. let empty : rest_after held more ≡ [] = sym rest ∙ ended in absurd (omega (arith, m.long, ap length empty)))
     (overlong semantics state held more strict over.1.long))
     meets)
     (λ off. let empty : held ≡ [] = sym (ap (λ l. rest_after begun l) (all off.1.end)) ∙ ended in absurd (omega (arith, off.1.some, ap length empty)))
     refused
+
+pub refused_none : {S : Type 0} (semantics : Semantics S) (IsGood : List ℕ → Type 0) (source : End) (state : S) (begun input taken more : List ℕ) (good : List (List ℕ)) (why : LineError) → RefusesLong semantics → TakesIn semantics state IsGood → input ≡ taken ++ more → (IsAtEnd source.now → input ≡ taken)
+    → All (λ line. (is_empty line ≡ true) ⊎ IsGood line) (lines_after begun input) → rest_after begun input ≡ [] → IsRefused semantics source state begun taken good why → ⊥
+refused_none semantics IsGood source state begun input taken more good why strict takes cut all lines_good ended refused =
+    none_refused semantics source state begun input taken more good why strict cut all ended (λ later line reason lines faulty. none_malformed semantics IsGood state (lines_after begun input) good later line reason takes lines_good lines faulty) refused
 
 pub completes : {S : Type 0} (semantics : Semantics S) (IsGood : List ℕ → Type 0) (before now k l : Option (List ℕ)) (f g h i : ℕ) (old : Progress S) (state : S) (part : List ℕ) (outcome : Outcome) → RefusesLong semantics → TakesAll semantics IsGood
     → FollowsInput semantics (span before now f g) (span k l h i) old state part outcome

@@ -14,7 +14,7 @@ use Rattle.dch_script.specs.Forms.{alone}
 use Rattle.dch_script.specs.Good.{IsListed, IsUnit}
 use Rattle.dch_script.specs.Nodes.{cells_of}
 use Rattle.dch_script.specs.Numbers.{is_numeral, number_of, value_after}
-use Rattle.dch_script.specs.Parts.{provided, combination_of, count_of, hex_of, number_in, set_of, tfci_letters, tfci_of}
+use Rattle.dch_script.specs.Parts.{provided, combination_of, hex_of, number_from, number_in, set_of, tfci_letters, tfci_of}
 use Rattle.dch_script.specs.ParsedLine.{ParsedLine, unit, ◌>>=◌}
 use Rattle.dch_script.specs.Texts.{are_cells, is_octets, is_unit, is_word_of_bits}
 use Rattle.dch_script.specs.Units.{bearer_of, has_channel, mode_at, named_bearer, text_of, unit_of}
@@ -79,12 +79,12 @@ set_keeps config dir word set is =
     bind_keeps (number_in 255 word) (λ n. provided (has_set (side_of config dir) n) n Number) set (has_set (side_of config dir) set ≡ true)
     (λ n _ later. provided_keeps (has_set (side_of config dir) n) n set Number (λ (s : ℕ). has_set (side_of config dir) s ≡ true) (λ yes. yes) later) is
 
--- a count that is read is 1 to 100,000
-pub count_keeps : (word : List ℕ) (count : ℕ) → count_of word ≡ Ok count → (1 ≤ count) × (count ≤ 100000)
-unfolding count_of
-count_keeps word count is =
-    bind_keeps (number_in 100000 word) (λ n. provided (nat_le 1 n) n Number) count ((1 ≤ count) × (count ≤ 100000))
-    (λ n read later. provided_keeps (nat_le 1 n) n count Number (λ (m : ℕ). (1 ≤ m) × (m ≤ 100000)) (λ yes. (leb-true 1 n yes, number_keeps 100000 n word read)) later) is
+-- a number that is read is within its limits
+pub from_keeps : (least most : ℕ) (word : List ℕ) (number : ℕ) → number_from least most word ≡ Ok number → (least ≤ number) × (number ≤ most)
+unfolding number_from
+from_keeps least most word number is =
+    bind_keeps (number_in most word) (λ n. provided (nat_le least n) n Number) number ((least ≤ number) × (number ≤ most))
+    (λ n read later. provided_keeps (nat_le least n) n number Number (λ (m : ℕ). (least ≤ m) × (m ≤ most)) (λ yes. (leb-true least n yes, number_keeps most n word read)) later) is
 
 -- a text that is read is octets
 pub hex_keeps : (word text : List ℕ) → hex_of word ≡ Ok text → is_octets text ≡ true
@@ -115,7 +115,7 @@ bearer_keeps config dir word b is =
     if_keeps (is_numeral word) (named_bearer config dir (number_of 255 word)) (Err Number) b (has_channel config dir b ≡ true) (named_keeps config dir (number_of 255 word) b) (λ wrong. absurd (cc)) is
 
 -- a text that is read is one of the bearer's units
-text_keeps : (mode : Mode) (word text : List ℕ) → text_of mode word ≡ Ok text → is_unit mode text ≡ true
+pub text_keeps : (mode : Mode) (word text : List ℕ) → text_of mode word ≡ Ok text → is_unit mode text ≡ true
 unfolding text_of
 text_keeps mode word text is = provided_keeps (is_unit mode word) word text Text (λ (t : List ℕ). is_unit mode t ≡ true) (λ yes. yes) is
 

@@ -6,6 +6,8 @@ pub mod Kept
 pub mod Lines
 pub mod LinkKept
 pub mod NodesKept
+pub mod PairKept
 pub mod Shown
+pub mod SoftKept
 pub mod Values
 pub mod Within

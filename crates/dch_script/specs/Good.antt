@@ -1,5 +1,5 @@
 -- What the events of a command keep, so that their words can be used without a further look.
-use Rattle.std.specs.Prelude.{◌≡◌, ◌<◌, ◌≤◌, ℕ, List, true, length, ⊤}
+use Rattle.std.specs.Prelude.{◌≡◌, ◌<◌, ◌≤◌, ℕ, List, Bool, true, false, Option, Some, None, length, ⊤}
 use Rattle.dch_types.specs.declared.channel.Dir.{Dir}
 use Rattle.dch_types.specs.declared.channel.Dir.TheVariants.{Up, Down}
 use Rattle.dch_types.specs.declared.config.Config.{Config}
@@ -43,6 +43,25 @@ IsOfLink config (lose_iub dir set) = has_set (side_of config dir) set ≡ true
 IsOfLink config (spoil dir set octet mask) = has_set (side_of config dir) set ≡ true
 IsOfLink config (frame count) = (1 ≤ count) × (count ≤ 100000)
 IsOfLink config parsed = ⊥
+
+-- an event that is damage to the next frame
+abbrev pub is_damage : ParsedLine → Bool
+is_damage (flip dir tfci place) = true
+is_damage (lose dir) = true
+is_damage (lose_iub dir set) = true
+is_damage (spoil dir set octet mask) = true
+is_damage parsed = false
+
+abbrev pub IsDamage : Config → ParsedLine → Type 0
+IsDamage config parsed = IsOfLink config parsed × (is_damage parsed ≡ true)
+
+abbrev pub IsTraffic : Config → ParsedLine → Type 0
+IsTraffic config parsed = IsOfLink config parsed × (is_damage parsed ≡ false)
+
+-- damage is done to one of so many legs, and to nothing else
+abbrev pub IsOfSoft : ℕ → Config → Option ℕ → ParsedLine → Type 0
+IsOfSoft legs config None parsed = IsTraffic config parsed
+IsOfSoft legs config (Some leg) parsed = (leg < legs) × IsDamage config parsed
 
 -- a terminal sends in the uplink
 abbrev pub IsOfUe : Config → ParsedLine → Type 0

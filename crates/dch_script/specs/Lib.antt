@@ -7,9 +7,11 @@ pub mod Link
 pub mod Meaning
 pub mod Nodes
 pub mod Numbers
+pub mod Pair
 pub mod Parts
 pub mod Report
 pub mod ParsedLine
+pub mod Soft
 pub mod Texts
 pub mod Units
 pub mod LineWords

@@ -1,5 +1,5 @@
 -- The lines of the command `link`.
-use Rattle.std.specs.Prelude.{ℕ, List, Result, Ok, Err, codes, if◌then◌else◌}
+use Rattle.std.specs.Prelude.{◌||◌, ℕ, List, Bool, Result, Ok, Err, codes, if◌then◌else◌}
 use Rattle.std.specs.Str.{bytes_eq}
 use Rattle.dch_types.specs.declared.config.Config.{Config}
 use Rattle.dch_script.specs.declared.event.LineError.{LineError}
@@ -75,13 +75,25 @@ frames_of words (Err error) = alone (frame 1) words
 unfoldable pub link_frame : List (List ℕ) → Result ParsedLine LineError
 link_frame words = frames_of words (one words)
 
--- what a line of `link` says by its first word and the words after it
-unfoldable pub link_words : Config → List ℕ → List (List ℕ) → Result ParsedLine LineError
-link_words config first words =
+-- what a line of units, combinations or radio frames says by its first word and the words after it
+unfoldable pub traffic_words : Config → List ℕ → List (List ℕ) → Result ParsedLine LineError
+traffic_words config first words =
     if bytes_eq first (codes "unit") then link_unit config words else (
     if bytes_eq first (codes "block") then link_block config words else (
     if bytes_eq first (codes "free") then link_free config words else (
+    if bytes_eq first (codes "frame") then link_frame words else Err Word)))
+
+-- what a line of damage says
+unfoldable pub damage_words : Config → List ℕ → List (List ℕ) → Result ParsedLine LineError
+damage_words config first words =
     if bytes_eq first (codes "flip") then link_flip words else (
     if bytes_eq first (codes "lose") then link_lose config words else (
-    if bytes_eq first (codes "spoil") then link_spoil config words else (
-    if bytes_eq first (codes "frame") then link_frame words else Err Word))))))
+    if bytes_eq first (codes "spoil") then link_spoil config words else Err Word))
+
+-- the first word of a line of damage
+unfoldable pub names_damage : List ℕ → Bool
+names_damage first = bytes_eq first (codes "flip") || (bytes_eq first (codes "lose") || bytes_eq first (codes "spoil"))
+
+-- what a line of `link` says
+unfoldable pub link_words : Config → List ℕ → List (List ℕ) → Result ParsedLine LineError
+link_words config first words = if names_damage first then damage_words config first words else traffic_words config first words

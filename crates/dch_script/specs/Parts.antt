@@ -1,5 +1,5 @@
 -- The words of a line that name a direction, a combination, a set or a number, or lend a text.
-use Rattle.std.specs.Prelude.{◌==◌, ℕ, List, Bool, true, false, Result, Ok, Err, codes, if◌then◌else◌, length, nat_le, nat_lt, slice_index}
+use Rattle.std.specs.Prelude.{ℕ, List, Bool, true, false, Result, Ok, Err, codes, if◌then◌else◌, length, nat_le, nat_lt, slice_index}
 use Rattle.std.specs.Option.{ok_or}
 use Rattle.std.specs.Str.{bytes_eq}
 use Rattle.hex.specs.Hex.{decode_sized}
@@ -48,11 +48,15 @@ set_of config dir word = do
   set ← number_in 255 word
   provided (has_set (side_of config dir) set) set Number
 
+-- a number of at least and at most so much
+unfoldable pub number_from : ℕ → ℕ → List ℕ → Result ℕ LineError
+number_from least most word = do
+  number ← number_in most word
+  provided (nat_le least number) number Number
+
 -- N of radio frames
-unfoldable pub count_of : List ℕ → Result ℕ LineError
-count_of word = do
-  count ← number_in 100000 word
-  provided (nat_le 1 count) count Number
+abbrev pub count_of : List ℕ → Result ℕ LineError
+count_of word = number_from 1 100000 word
 
 abbrev pub first_octet : Result (List ℕ) FromHexError → Result ℕ LineError
 first_octet (Ok octets) = Ok (slice_index octets 0)

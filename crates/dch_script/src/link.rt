@@ -1,5 +1,5 @@
 ghost use Rattle.std.specs.Prelude.{◌≡◌};
-ghost use Rattle.dch_script.specs.Link.{link_unit, link_block, link_free, link_flip, link_lose, link_spoil, link_frame, link_words};
+ghost use Rattle.dch_script.specs.Link.{damage_words, link_unit, link_block, link_free, link_flip, link_lose, link_spoil, link_frame, link_words, names_damage, traffic_words};
 ghost use Rattle.dch_script.specs.ParsedLine.{parsed};
 ghost use Rattle.dch_script.specs.LineWords.{later_words};
 
@@ -20,20 +20,57 @@ pub fn link_event<'a>(
 ) -> Result<Event<'a>, LineError>
     ensures { parsed result ≡ link_words config.now first.now (later_words words.entry) }
 {
+    if names_damage(first) {
+        damage_event(config, first, words)
+    } else {
+        traffic_event(config, first, words)
+    }
+}
+
+#[tactic(auto, unfolding(crate::specs::Link::names_damage))]
+fn names_damage(first: &[u8]) -> bool
+    ensures { result ≡ names_damage first.now }
+{
+    is_word(first, b"flip") || is_word(first, b"lose") || is_word(first, b"spoil")
+}
+
+/// What a line of units, combinations or radio frames says; any other first word is `Word`.
+#[tactic(auto, unfolding(crate::specs::Link::traffic_words))]
+pub fn traffic_event<'a>(
+    config: &Config,
+    first: &[u8],
+    words: Option<&'a [u8]>,
+) -> Result<Event<'a>, LineError>
+    ensures { parsed result ≡ traffic_words config.now first.now (later_words words.entry) }
+{
     if is_word(first, b"unit") {
         link_unit(config, words)
     } else if is_word(first, b"block") {
         link_block(config, words)
     } else if is_word(first, b"free") {
         link_free(config, words)
-    } else if is_word(first, b"flip") {
+    } else if is_word(first, b"frame") {
+        link_frame(words)
+    } else {
+        Err(LineError::Word)
+    }
+}
+
+/// What a line of damage to the next frame says; any other first word is `Word`.
+#[tactic(auto, unfolding(crate::specs::Link::damage_words))]
+pub fn damage_event<'a>(
+    config: &Config,
+    first: &[u8],
+    words: Option<&'a [u8]>,
+) -> Result<Event<'a>, LineError>
+    ensures { parsed result ≡ damage_words config.now first.now (later_words words.entry) }
+{
+    if is_word(first, b"flip") {
         link_flip(words)
     } else if is_word(first, b"lose") {
         link_lose(config, words)
     } else if is_word(first, b"spoil") {
         link_spoil(config, words)
-    } else if is_word(first, b"frame") {
-        link_frame(words)
     } else {
         Err(LineError::Word)
     }

@@ -1,7 +1,7 @@
 ghost use Rattle.std.specs.Prelude.{◌≡◌, ◌==◌, ◌≤◌, IfOk};
 ghost use Rattle.std.specs.List.{list_any};
 ghost use Rattle.dch_script.specs.Forms.{one_shown};
-ghost use Rattle.dch_script.specs.Parts.{combination_of, count_of, dir_of, iub_dir_of, mask_of, number_in, hex_of, part_of, set_of, tfci_letters, tfci_of};
+ghost use Rattle.dch_script.specs.Parts.{combination_of, count_of, dir_of, iub_dir_of, mask_of, number_from, number_in, hex_of, part_of, set_of, tfci_letters, tfci_of};
 
 use crate::event::LineError;
 use crate::numbers::read_number;
@@ -84,17 +84,25 @@ pub fn read_set(config: &Config, dir: Dir, word: &[u8]) -> Result<u8, LineError>
     }
 }
 
-/// A number of radio frames.
-#[tactic(auto, unfolding(crate::specs::Parts::count_of))]
-pub fn read_count(word: &[u8]) -> Result<u32, LineError>
-    ensures { result ≡ count_of word.now }
+/// A number of at least `least` and at most `most`.
+#[tactic(auto, unfolding(crate::specs::Parts::number_from))]
+pub fn number_from(word: &[u8], least: u32, most: u32) -> Result<u32, LineError>
+    ensures value { result ≡ number_from least most word.now }
+    ensures within { IfOk result (λ number. number ≤ most) }
 {
-    let count = number_in(word, 100_000)?;
-    if 1 <= count {
-        Ok(count)
+    let number = number_in(word, most)?;
+    if least <= number {
+        Ok(number)
     } else {
         Err(LineError::Number)
     }
+}
+
+/// A number of radio frames.
+pub fn read_count(word: &[u8]) -> Result<u32, LineError>
+    ensures { result ≡ count_of word.now }
+{
+    number_from(word, 1, 100_000)
 }
 
 /// The octet that two hexadecimal digits write.

@@ -393,7 +393,8 @@ impl Report {
         self.used = end;
     }
 
-    fn put_octets(&mut self, octets: &[u8])
+    /// Appends octets in lower-case hexadecimal, `.` for none.
+    pub fn put_octets(&mut self, octets: &[u8])
         requires { length self.old.text + length (octets_shown octets.now) ≤ self.old.most }
         ensures text { self.new ≡ record self.old { text = self.old.text ++ octets_shown octets.now } }
         ensures len { length self.new.text ≡ length self.old.text + length (octets_shown octets.now) }

@@ -55,7 +55,7 @@ fn mode_at(config: &Config, bearer: u8) -> Mode
 
 /// The text of a unit of a bearer in a mode.
 #[tactic(auto, unfolding(crate::specs::Units::text_of))]
-fn read_text(mode: Mode, word: &[u8]) -> Result<&[u8], LineError>
+pub fn read_text(mode: Mode, word: &[u8]) -> Result<&[u8], LineError>
     ensures { one_shown result ≡ text_of mode word.entry.now }
 {
     if is_unit(mode, word) {
