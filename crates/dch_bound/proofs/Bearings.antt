@@ -15,7 +15,7 @@ use Rattle.dch_rlcpdu.specs.declared.handed.PduError.TheVariants.{Short, Reserve
 use Rattle.dch_rlcpdu.specs.declared.um.UmView.{UmView}
 use Rattle.dch_rlcpdu.specs.Am.{am_reading}
 use Rattle.dch_rlcpdu.specs.Um.{um_reading}
-use Rattle.dch_rlcum.specs.Receiving.{Receiving}
+use Rattle.dch_rlcum.specs.Receiving.{Receiving, after_pdu as after_um}
 use Rattle.dch_am.specs.Entities.{Turn, Tells, Moves, Sends as SendsData, Rests, receiver_after, turn}
 use Rattle.dch_am.specs.Receiver.{Receiver, expected}
 use Rattle.dch_am.specs.Rules.{Rules}
@@ -26,13 +26,15 @@ use Rattle.dch_layer.specs.Building.{Builds, Gives}
 use Rattle.dch_layer.specs.Hearing.{error_number, hears, hears_am, hears_um, lines_by, new_units, receiver_of}
 use Rattle.dch_layer.specs.Octets.{octets_from, octets_of}
 use Rattle.dch_layer.specs.UnitLines.{line_if, unit_lines}
+use Rattle.dch_ambound.specs.Bounded.{IsBoundedReceiver, Takes}
+use Rattle.dch_ambound.specs.Bytes.{part_bytes, units_bytes}
+use Rattle.dch_ambound.proofs.Places.{run_above}
+use Rattle.dch_ambound.proofs.Receivers.{IsLightView, keeps, receiver_most, receiver_opened, view_taken}
+use Rattle.dch_ambound.proofs.Views.{reading_light}
 use Rattle.dch_bound.specs.Bounded.{IsBounded, IsBoundedAm, IsBoundedUm}
-use Rattle.dch_bound.specs.Bytes.{bearing_bytes, part_bytes}
-use Rattle.dch_bound.proofs.Places.{run_above, run_light}
-use Rattle.dch_bound.proofs.Receivers.{IsLightView, Takes, receiver_opened, view_taken}
-use Rattle.dch_bound.proofs.Texts.{bits_line, line_if_long, short_line, text_long, told}
-use Rattle.dch_bound.proofs.UmReceivers.{held_pdu}
-use Rattle.dch_bound.proofs.Views.{IsFew, reading_few, reading_light}
+use Rattle.dch_bound.specs.Bytes.{bearing_bytes}
+use Rattle.dch_bound.proofs.Texts.{bits_line, line_if_long, short_line, text_long, told, told_within}
+use Rattle.dch_bound.proofs.UmReceivers.{IsFew, held_pdu, reading_few}
 
 -- the lines on a block, and the bearer after it
 pub record IsPaid (config : Config) (b : ℕ) (old new : Bearing) (lines : List Line) : Type 0 where
@@ -47,8 +49,8 @@ error_small Sufi = omega arith
 
 um_paid : (config : Config) (dir : Dir) (b : ℕ) (view : Result UmView PduError) (s : Sends) (r : Receiving) → b < 100 → IsFew view → IsBoundedUm config b r → IsPaid config b (Unacknowledged s r) (hears_um dir b view s r).bearing (hears_um dir b view s r).lines
 um_paid config dir b (Ok view) s r small few is =
-    let none : told dir b r.waiting ≡ 0 = ap (told dir b) is.settled in
-    record { paid = omega (arith, held_pdu dir b 124 view r small few, none); bounded = record { mode = is.mode; settled = refl } }
+    let none : units_bytes r.waiting ≡ 0 = ap units_bytes is.settled in
+    record { paid = omega (arith, told_within dir b (after_um view r).waiting small, held_pdu 124 view r few, none); bounded = record { mode = is.mode; settled = refl } }
 um_paid config dir b (Err e) s r small few is = record { paid = omega (arith, short_line (PduBad dir b (error_number e)) (omega (arith, small), error_small e)); bounded = is }
 
 -- the lines around the units
@@ -65,15 +67,20 @@ lines_long rules dir b (Ok (Reset rsn hfni)) s r units small = omega arith
 lines_long rules dir b (Ok (ResetAck rsn hfni)) s r units small = omega arith
 lines_long rules dir b (Err e) s r units small = omega (arith, short_line (PduBad dir b (error_number e)) (omega (arith, small), error_small e))
 
+-- what was read comes, if anything was
+reading_taken : (rules : Rules) (r : Receiver) (view : Result AmView PduError) → IsLightView view → IsBoundedReceiver rules.window r → Takes rules.window r (receiver_of rules view r) 1116
+reading_taken rules r (Ok view) light is = view_taken rules r view light is
+reading_taken rules r (Err e) light is = keeps rules.window r 1116 is
+
 am_paid : (config : Config) (dir : Dir) (b : ℕ) (view : Result AmView PduError) (s : Sender) (r : Receiver) → b < 100 → IsLightView view → IsBoundedAm config b r → IsPaid config b (Acknowledged s r) (hears_am (rules_in config b) dir b view s r).bearing (hears_am (rules_in config b) dir b view s r).lines
 am_paid config dir b view s r small light is =
     let rules : Rules = rules_in config b in
     let now : Receiver = receiver_of rules view r in
-    let t : Takes dir b rules.window r now 1116 = view_taken dir b rules r view small light is.receiver in
+    let t : Takes rules.window r now 1116 = reading_taken rules r view light is.receiver in
     let units : new_units r now ≡ t.more = ap (drop (length r.reading.units)) t.units ∙ drop_at r.reading.units t.more (length r.reading.units) refl in
-    let same : told dir b (new_units r now) ≡ told dir b t.more = ap (told dir b) units in
+    let same : units_bytes (new_units r now) ≡ units_bytes t.more = ap units_bytes units in
     record {
-      paid = omega (arith, lines_long rules dir b view s r (new_units r now) small, same, t.paid);
+      paid = omega (arith, lines_long rules dir b view s r (new_units r now) small, told_within dir b (new_units r now) small, same, t.paid);
       bounded = record { mode = is.mode; receiver = t.bounded };
     }
 
@@ -152,4 +159,4 @@ bearing_few config b (Transparent w us) good inside is = omega arith
 bearing_few config b (Unacknowledged s r) good inside is = omega (arith, part_few r.part)
 bearing_few config b (Acknowledged s r) good inside is =
     let rules : IsRules (bearer_in config b).rules = (good.bearers b inside).rules in
-    omega (arith, part_few r.reading.part, run_light r.arrived (expected r) (rules_in config b).window is.receiver.light, rules.most_window)
+    omega (arith, receiver_most (rules_in config b).window r is.receiver, rules.most_window)

@@ -1,8 +1,4 @@
 pub mod Texts
-pub mod Readings
-pub mod Places
-pub mod Receivers
-pub mod Views
 pub mod UmReceivers
 pub mod Bearings
 pub mod Blocks

@@ -1,7 +1,6 @@
 -- How long the lines of a report are.
 use Rattle.std.proofs.Common.{◌≡◌, ◌<◌, ◌≤◌, ◌+◌, ◌*◌, ◌++◌, ◌∙◌, ℕ, List, [], ◌∷◌, Bool, true, false, cond, length, arith, refl, ap, length-append}
 use Rattle.std.specs.Prelude.{codes, decimal, map, nat_lt}
-use Rattle.std.proofs.lemmas.Bool.{ltb-true, ltb-false}
 use Rattle.std.proofs.lemmas.Fmt.{length-decimal-le}
 use Rattle.std.proofs.lemmas.List.{length-map}
 use Rattle.hex.specs.Hex.{lower_digits}
@@ -14,7 +13,7 @@ use Rattle.dch_script.specs.Report.{bits_shown, dir_word, octets_shown, pair_tex
 use Rattle.dch_node.specs.Lines.{Line, Took, Full, Wrong, Bad, Reserved, NoBearer, Nobody, PduBad, Outside, Overlong, Got, GotBits, Iub, IubBad, Phy, PhyNone, BadTti, Differs, text_of}
 use Rattle.dch_node.proofs.Texts.{text_of-append}
 use Rattle.dch_layer.specs.UnitLines.{line_if, unit_line, unit_lines}
-use Rattle.dch_bound.specs.Bytes.{part_bytes}
+use Rattle.dch_ambound.specs.Bytes.{unit_bytes, units_bytes}
 use Rattle.dch_bound.specs.Few.{IsShort}
 
 three : (n : ℕ) → n < 1000 → length (decimal n) ≤ 3
@@ -103,17 +102,15 @@ bits_line dir b bits small = omega (arith, got_line dir b (bits_shown bits) smal
 abbrev pub told : Dir → ℕ → List (List ℕ) → ℕ
 told dir b units = length (text_of (unit_lines dir b units))
 
--- a unit that ends is told out of what its octets and its mark bring
-pub unit_told : (dir : Dir) (b x : ℕ) (xs : List ℕ) → b < 100 → told dir b ((x ∷ xs) ∷ []) ≤ part_bytes (x ∷ xs) + 6
-unit_told dir b x xs small = go (nat_lt 1500 (length (x ∷ xs))) refl
+unit_told : (dir : Dir) (b : ℕ) (unit : List ℕ) → b < 100 → told dir b (unit ∷ []) ≤ unit_bytes unit
+unit_told dir b [] small = let dot : length (octets_shown []) ≡ 1 = refl in omega (arith, got_line dir b (octets_shown []) small, dot)
+unit_told dir b (x ∷ xs) small = go (nat_lt 1500 (length (x ∷ xs)))
   where
-    go : (c : Bool) → nat_lt 1500 (length (x ∷ xs)) ≡ c → length (text_of (cond c (Overlong dir b) (Got dir b (x ∷ xs)) ∷ [])) ≤ part_bytes (x ∷ xs) + 6
-    go true e = omega (arith, over_line dir b small, ltb-true 1500 (length (x ∷ xs)) e)
-    go false e = omega (arith, got_line dir b (octets_shown (x ∷ xs)) small, octets_long x xs, ltb-false 1500 (length (x ∷ xs)) e)
+    go : (c : Bool) → length (text_of (cond c (Overlong dir b) (Got dir b (x ∷ xs)) ∷ [])) ≤ cond c 17 (13 + 2 * length (x ∷ xs))
+    go true = over_line dir b small
+    go false = omega (arith, got_line dir b (octets_shown (x ∷ xs)) small, octets_long x xs)
 
-lines_more : (dir : Dir) (b : ℕ) (units more : List (List ℕ)) → unit_lines dir b (units ++ more) ≡ unit_lines dir b units ++ unit_lines dir b more
-lines_more dir b [] more = refl
-lines_more dir b (unit ∷ units) more = ap (λ lines. unit_line dir b unit ∷ lines) (lines_more dir b units more)
-
-pub told_more : (dir : Dir) (b : ℕ) (units more : List (List ℕ)) → told dir b (units ++ more) ≡ told dir b units + told dir b more
-told_more dir b units more = ap (λ lines. length (text_of lines)) (lines_more dir b units more) ∙ text_long (unit_lines dir b units) (unit_lines dir b more)
+-- they are no more than what is counted for the units
+pub told_within : (dir : Dir) (b : ℕ) (units : List (List ℕ)) → b < 100 → told dir b units ≤ units_bytes units
+told_within dir b [] small = omega arith
+told_within dir b (unit ∷ units) small = omega (arith, text_long (unit_line dir b unit ∷ []) (unit_lines dir b units), unit_told dir b unit small, told_within dir b units small)

@@ -9,7 +9,7 @@ ghost use Rattle.dch_linkcmd.specs.Rules.{PassesStage, link_lines};
 ghost use Rattle.dch_linkcmd.specs.Run.{Run, opened_run, steps_left};
 ghost use Rattle.dch_linkcmd.specs.Standing.{HasStageRoom, IsReady, RepresentsRun, stage_bytes};
 ghost use Rattle.dch_linkcmd.specs.Taking.{Tells};
-ghost use Rattle.dch_nodecmd.specs.declared.texts.TheConstants.{OCTETS};
+ghost use Rattle.dch_texts.specs.declared.texts.TheConstants.{OCTETS};
 
 use crate::filter::Filter;
 use crate::reading::{LinkLine, read_line};
@@ -18,9 +18,9 @@ use dch_bits::{Bit, NoMemory};
 use dch_lines::{LineFault, LineHandler};
 use dch_link::{CHECKS, Link, STAGES, Stage};
 use dch_nodeb::NodeB;
-use dch_nodecmd::{OCTETS, UNIT_BITS};
 use dch_rnc::Rnc;
 use dch_script::{Line, LineError, Report};
+use dch_texts::{OCTETS, UNIT_BITS};
 use dch_ue::Ue;
 use std::alloc::Global;
 use std::marker::Model;
@@ -42,7 +42,7 @@ pub struct LinkHandler {
 impl Model for LinkHandler {
     ghost use Rattle.std.specs.Prelude.{◌≡◌, length};
     ghost use Rattle.dch_linkcmd.specs.Standing.{Handler};
-    ghost use Rattle.dch_nodecmd.specs.declared.texts.TheConstants.{OCTETS};
+    ghost use Rattle.dch_texts.specs.declared.texts.TheConstants.{OCTETS};
 
     ghost Value = { Handler };
 

@@ -8,7 +8,7 @@ use Rattle.dch_script.specs.Parts.{tfci_letters}
 use Rattle.dch_script.specs.Texts.{are_cells, is_cells, is_word_of_bits}
 use Rattle.dch_script.specs.declared.event.Event.{Event}
 use Rattle.dch_script.specs.declared.event.Event.TheVariants.{Phy}
-use Rattle.dch_nodecmd.proofs.Letters.{bits_are_cells}
+use Rattle.dch_texts.proofs.Letters.{bits_are_cells}
 
 pub tfci_good : (config : Config) (event : Event) (bits letters : Bor (List ℕ)) → event ≡ Phy bits letters → IsOfNodeB config (parsed_of event) → is_word_of_bits 30 bits.now ≡ true
 unfolding tfci_letters

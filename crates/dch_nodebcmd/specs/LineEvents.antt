@@ -4,7 +4,7 @@ use Rattle.dch_bits.specs.Text.{bit_of_letter}
 use Rattle.dch_script.specs.ParsedLine.{ParsedLine, iub, down, phy, phy_none}
 use Rattle.dch_node.specs.Values.{Radio}
 use Rattle.dch_nodeb.specs.State.{Event, IubFrame, DownlinkDue, UplinkFrame}
-use Rattle.dch_nodecmd.specs.Texts.{cells_of, octets_of}
+use Rattle.dch_texts.specs.Texts.{cells_of, octets_of}
 
 -- the radio frame whose TFCI bits and cells have these texts
 abbrev pub radio_of : List ℕ → List ℕ → Radio

@@ -9,7 +9,7 @@ use Rattle.dch_nodeb.specs.State.{Event, State}
 use Rattle.dch_nodebcmd.specs.Rules.{node_b_rules}
 use Rattle.dch_nodecmd.specs.NodeRules.{meaning_for}
 use Rattle.dch_nodecmd.specs.Run.{Run}
-use Rattle.dch_nodecmd.specs.Texts.{octets_of}
+use Rattle.dch_texts.specs.Texts.{octets_of}
 
 -- a line brings an Iub frame of a set that is refused
 pub record BringsRefused (run : Run State Event) (line : List ℕ) (set : ℕ) (error : IubError) : Type 0 where

@@ -6,14 +6,15 @@ ghost use Rattle.dch_nodebcmd.specs.Lasting.{node_b_lasting};
 ghost use Rattle.dch_nodebcmd.specs.Rules.{frame_count, node_b_rules};
 ghost use Rattle.dch_nodecmd.specs.NodeRules.{IsMalformed};
 ghost use Rattle.dch_nodecmd.specs.Standing.{StepsBy};
-ghost use Rattle.dch_nodecmd.specs.declared.texts.TheConstants.{CELLS, OCTETS};
+ghost use Rattle.dch_texts.specs.declared.texts.TheConstants.{CELLS, OCTETS};
 
 use crate::reading::{TFCI_BITS, read_line};
 use dch_accept::Accepted;
 use dch_bits::{Bit, NoMemory, Trit};
 use dch_nodeb::{NodeB, NodeBEvent};
-use dch_nodecmd::{CELLS, CommandNode, OCTETS};
+use dch_nodecmd::CommandNode;
 use dch_script::{LineError, Report};
+use dch_texts::{CELLS, OCTETS};
 use std::alloc::Global;
 use std::marker::Model;
 
@@ -28,7 +29,7 @@ pub struct NodeBLines {
 impl Model for NodeBLines {
     ghost use Rattle.std.specs.Prelude.{◌≡◌, length};
     ghost use Rattle.dch_nodeb.specs.Values.{Node};
-    ghost use Rattle.dch_nodecmd.specs.declared.texts.TheConstants.{CELLS, OCTETS};
+    ghost use Rattle.dch_texts.specs.declared.texts.TheConstants.{CELLS, OCTETS};
 
     ghost Value = { Node };
 

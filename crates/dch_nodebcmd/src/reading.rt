@@ -7,13 +7,13 @@ ghost use Rattle.dch_nodebcmd.specs.LineEvents.{event_of};
 ghost use Rattle.dch_nodebcmd.specs.Rules.{node_b_rules};
 ghost use Rattle.dch_nodebcmd.specs.declared.reading.TheConstants.{TFCI_BITS};
 ghost use Rattle.dch_nodecmd.specs.NodeRules.{IsMalformed, SaysEvent};
-ghost use Rattle.dch_nodecmd.specs.declared.texts.TheConstants.{CELLS, OCTETS};
+ghost use Rattle.dch_texts.specs.declared.texts.TheConstants.{CELLS, OCTETS};
 
 use dch_accept::{Accepted, FrameView};
 use dch_bits::{Bit, Trit};
 use dch_nodeb::NodeBEvent;
-use dch_nodecmd::{read_cells, read_octets, read_tfci};
 use dch_script::{Command, Event, LineError, parse_in};
+use dch_texts::{read_cells, read_octets, read_tfci};
 
 /// The TFCI bits of an uplink radio frame.
 pub const TFCI_BITS: usize = 30;

@@ -5,4 +5,3 @@ pub mod Rules
 pub mod Run
 pub mod Shown
 pub mod Standing
-pub mod Texts

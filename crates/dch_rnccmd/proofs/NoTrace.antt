@@ -16,7 +16,7 @@ use Rattle.dch_rnccmd.specs.NoTrace.{BringsRefused}
 use Rattle.dch_rnccmd.specs.Rules.{kept_of, rnc_lines, rnc_rules}
 use Rattle.dch_nodecmd.specs.NoTrace.{ChangesNothing, LeavesNoTrace}
 use Rattle.dch_nodecmd.specs.Run.{Run}
-use Rattle.dch_nodecmd.specs.Texts.{octets_of}
+use Rattle.dch_texts.specs.Texts.{octets_of}
 use Rattle.dch_nodecmd.proofs.NoTrace.{no_trace as leaves_none}
 
 arrival_refused : (old new : State) (set : ℕ) (octets : List ℕ) (error : IubError) (output : Output) → IsCause old.planned.config Up set octets error → IsArrival old.planned old set octets new output

@@ -4,7 +4,7 @@ use Rattle.dch_types.specs.declared.config.Config.{Config}
 use Rattle.dch_script.specs.ParsedLine.{ParsedLine, unit, block, free, iub, tick}
 use Rattle.dch_script.specs.Units.{mode_at}
 use Rattle.dch_rnc.specs.State.{Event, OfferedUnit, BlockedCombination, IubFrame, Tick}
-use Rattle.dch_nodecmd.specs.Texts.{octets_of, unit_bits, unit_octets}
+use Rattle.dch_texts.specs.Texts.{octets_of, unit_bits, unit_octets}
 
 -- a unit with this text is offered to a bearer
 abbrev pub unit_event : Config → ℕ → List ℕ → Event

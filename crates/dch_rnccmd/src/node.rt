@@ -6,14 +6,15 @@ ghost use Rattle.dch_rnccmd.specs.Lasting.{rnc_lasting};
 ghost use Rattle.dch_rnccmd.specs.Rules.{frame_count, rnc_rules};
 ghost use Rattle.dch_nodecmd.specs.NodeRules.{IsMalformed};
 ghost use Rattle.dch_nodecmd.specs.Standing.{StepsBy};
-ghost use Rattle.dch_nodecmd.specs.declared.texts.TheConstants.{OCTETS, UNIT_BITS};
+ghost use Rattle.dch_texts.specs.declared.texts.TheConstants.{OCTETS, UNIT_BITS};
 
 use crate::reading::read_line;
 use dch_accept::Accepted;
 use dch_bits::{Bit, NoMemory};
-use dch_nodecmd::{CommandNode, OCTETS, UNIT_BITS};
+use dch_nodecmd::CommandNode;
 use dch_rnc::{Rnc, RncEvent};
 use dch_script::{LineError, Report};
+use dch_texts::{OCTETS, UNIT_BITS};
 use std::alloc::Global;
 use std::marker::Model;
 
@@ -28,7 +29,7 @@ pub struct RncLines {
 impl Model for RncLines {
     ghost use Rattle.std.specs.Prelude.{◌≡◌, length};
     ghost use Rattle.dch_rnc.specs.Values.{Node};
-    ghost use Rattle.dch_nodecmd.specs.declared.texts.TheConstants.{OCTETS, UNIT_BITS};
+    ghost use Rattle.dch_texts.specs.declared.texts.TheConstants.{OCTETS, UNIT_BITS};
 
     ghost Value = { Node };
 

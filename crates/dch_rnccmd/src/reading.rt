@@ -7,13 +7,13 @@ ghost use Rattle.dch_rnc.specs.Standing.{MayCome, event_of as happening};
 ghost use Rattle.dch_rnccmd.specs.LineEvents.{event_of, unit_event};
 ghost use Rattle.dch_rnccmd.specs.Rules.{rnc_rules};
 ghost use Rattle.dch_nodecmd.specs.NodeRules.{IsMalformed, SaysEvent};
-ghost use Rattle.dch_nodecmd.specs.declared.texts.TheConstants.{OCTETS, UNIT_BITS};
+ghost use Rattle.dch_texts.specs.declared.texts.TheConstants.{OCTETS, UNIT_BITS};
 
 use dch_accept::Accepted;
 use dch_bits::Bit;
-use dch_nodecmd::{read_octets, read_unit};
 use dch_rnc::RncEvent;
 use dch_script::{Command, Event, LineError, parse_in};
+use dch_texts::{read_octets, read_unit};
 
 /// Reads what a line says to the network controller. Its octets and bits are read into the rooms. `When` where it says `change`.
 pub fn read_line<'a>(

@@ -6,7 +6,7 @@ use Rattle.dch_script.specs.ParsedLine.{ParsedLine, unit, block, free, phy, phy_
 use Rattle.dch_script.specs.Units.{mode_at}
 use Rattle.dch_node.specs.Values.{Radio}
 use Rattle.dch_ue.specs.State.{Event, OfferedUnit, BlockedCombination, DownlinkFrame, Tick}
-use Rattle.dch_nodecmd.specs.Texts.{cells_of, unit_bits, unit_octets}
+use Rattle.dch_texts.specs.Texts.{cells_of, unit_bits, unit_octets}
 
 -- a unit with this text is offered to a bearer
 abbrev pub unit_event : Config → ℕ → List ℕ → Event

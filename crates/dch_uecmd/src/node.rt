@@ -6,13 +6,14 @@ ghost use Rattle.dch_uecmd.specs.Lasting.{ue_lasting};
 ghost use Rattle.dch_uecmd.specs.Rules.{frame_count, ue_rules};
 ghost use Rattle.dch_nodecmd.specs.NodeRules.{IsMalformed};
 ghost use Rattle.dch_nodecmd.specs.Standing.{StepsBy};
-ghost use Rattle.dch_nodecmd.specs.declared.texts.TheConstants.{CELLS, OCTETS};
+ghost use Rattle.dch_texts.specs.declared.texts.TheConstants.{CELLS, OCTETS};
 
 use crate::reading::read_line;
 use dch_accept::Accepted;
 use dch_bits::{Bit, NoMemory, Trit};
-use dch_nodecmd::{CELLS, CommandNode, OCTETS, UNIT_BITS};
+use dch_nodecmd::CommandNode;
 use dch_script::{LineError, Report};
+use dch_texts::{CELLS, OCTETS, UNIT_BITS};
 use dch_ue::{Ue, UeEvent};
 use std::alloc::Global;
 use std::marker::Model;
@@ -28,7 +29,7 @@ pub struct UeLines {
 impl Model for UeLines {
     ghost use Rattle.std.specs.Prelude.{◌≡◌, length};
     ghost use Rattle.dch_ue.specs.Values.{Node};
-    ghost use Rattle.dch_nodecmd.specs.declared.texts.TheConstants.{CELLS, OCTETS};
+    ghost use Rattle.dch_texts.specs.declared.texts.TheConstants.{CELLS, OCTETS};
 
     ghost Value = { Node };
 

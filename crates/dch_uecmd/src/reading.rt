@@ -8,12 +8,12 @@ ghost use Rattle.dch_ue.specs.Standing.{MayCome, event_of as happening};
 ghost use Rattle.dch_uecmd.specs.LineEvents.{event_of, radio_of, unit_event};
 ghost use Rattle.dch_uecmd.specs.Rules.{ue_rules};
 ghost use Rattle.dch_nodecmd.specs.NodeRules.{IsMalformed, SaysEvent};
-ghost use Rattle.dch_nodecmd.specs.declared.texts.TheConstants.{CELLS, OCTETS, UNIT_BITS};
+ghost use Rattle.dch_texts.specs.declared.texts.TheConstants.{CELLS, OCTETS, UNIT_BITS};
 
 use dch_accept::{Accepted, FrameView};
 use dch_bits::{Bit, Trit};
-use dch_nodecmd::{read_cells, read_tfci, read_unit};
 use dch_script::{Command, Event, LineError, parse_in};
+use dch_texts::{read_cells, read_tfci, read_unit};
 use dch_ue::UeEvent;
 
 /// Reads what a line says to the terminal. Its octets, bits and cells are read into the rooms. `When` where it says `change`.

@@ -4,8 +4,8 @@ ghost use Rattle.dch_bits.specs.Text.{bit_of_letter};
 ghost use Rattle.dch_script.specs.Code.{is_bits, longest};
 ghost use Rattle.dch_script.specs.Texts.{is_cells, is_unit, is_word_of_bits};
 ghost use Rattle.dch_script.specs.Units.{mode_at};
-ghost use Rattle.dch_nodecmd.specs.Texts.{bits_of, cells_of, octets_if, octets_of, unit_bits, unit_octets};
-ghost use Rattle.dch_nodecmd.specs.declared.texts.TheConstants.{CELLS, OCTETS, UNIT_BITS};
+ghost use Rattle.dch_texts.specs.Texts.{bits_of, cells_of, octets_if, octets_of, unit_bits, unit_octets};
+ghost use Rattle.dch_texts.specs.declared.texts.TheConstants.{CELLS, OCTETS, UNIT_BITS};
 
 use dch_bits::{Bit, Trit, read_bits_text, read_trits_text};
 use dch_types::{Config, Mode};

@@ -1,10 +1,9 @@
 -- A receiver of the acknowledged mode stays limited, and what it tells comes out of the bytes of what it holds and of what comes.
-use Rattle.std.proofs.Common.{◌≡◌, ◌<◌, ◌≤◌, ◌+◌, ◌-◌, ◌∙◌, ◌++◌, ◌||◌, ℕ, List, [], ◌∷◌, Bool, true, false, cond, Option, Some, None, Result, Ok, Err, max, arith, refl, ap, sym, ⊎_elim}
+use Rattle.std.proofs.Common.{◌≡◌, ◌<◌, ◌≤◌, ◌+◌, ◌-◌, ◌*◌, ◌∙◌, ◌++◌, ◌||◌, ℕ, List, [], ◌∷◌, Bool, true, false, cond, Option, Some, None, Result, Ok, Err, max, arith, refl, ap, sym, ⊎_elim}
 use Rattle.std.specs.Prelude.{nat_le}
 use Rattle.std.proofs.lemmas.Bool.{leb-false, lt-ltb, ltb-true, or_cases, or_left, or_right}
 use Rattle.std.proofs.lemmas.List.{append-nil}
 use Rattle.std.proofs.lemmas.List.Elements.{All-cons, All-nil}
-use Rattle.dch_types.specs.declared.channel.Dir.{Dir}
 use Rattle.dch_rlcpdu.specs.declared.am.AmView.{AmView}
 use Rattle.dch_rlcpdu.specs.declared.am.AmView.TheVariants.{Payload, Status, Reset, ResetAck}
 use Rattle.dch_rlcpdu.specs.declared.handed.PduError.{PduError}
@@ -15,29 +14,20 @@ use Rattle.dch_am.specs.declared.answers.MrwTaken.{MrwTaken}
 use Rattle.dch_am.specs.declared.answers.MrwTaken.TheVariants.{Nothing, Obeyed, Old, Outside as Beyond}
 use Rattle.dch_am.specs.Bodies.{Body}
 use Rattle.dch_am.specs.Contents.{body_in}
+use Rattle.dch_am.specs.Entities.{pdu_of, receiver_by}
 use Rattle.dch_am.specs.Moves.{after_control, after_move, after_move_in, move_in, moved, trimmed, with_ack, with_move}
 use Rattle.dch_am.specs.Numbers.{ahead, below, has, run_of, top}
 use Rattle.dch_am.specs.Receiver.{Receiver, after_pdu, expected, got, numbers, opened_receiver, read_on, taken, with_pdu}
 use Rattle.dch_am.specs.Rules.{Rules}
 use Rattle.dch_am.proofs.Lists.{Is, has-append, has-below, run_grows, top_above, top_least}
 use Rattle.dch_amlaw.proofs.Hands.{passed_le}
-use Rattle.dch_layer.specs.Hearing.{receiver_of}
-use Rattle.dch_bound.specs.Bounded.{IsBoundedReceiver, IsLight}
-use Rattle.dch_bound.specs.Bytes.{body_bytes, receiver_bytes, run_bytes}
-use Rattle.dch_bound.proofs.Texts.{told}
-use Rattle.dch_bound.proofs.Readings.{GoesOn, run_on}
-use Rattle.dch_bound.proofs.Places.{put_le, run_moves, run_split}
+use Rattle.dch_ambound.specs.Bounded.{IsBoundedReceiver, IsLight, Takes}
+use Rattle.dch_ambound.specs.Bytes.{body_bytes, part_bytes, receiver_bytes, run_bytes}
+use Rattle.dch_ambound.proofs.Readings.{GoesOn, run_on}
+use Rattle.dch_ambound.proofs.Places.{put_le, run_light, run_moves, run_split}
 
--- a receiver after an event: units that ended follow, and what is told of them and what can still come is no more than before and so
--- many bytes
-pub record Takes (dir : Dir) (b window : ℕ) (old new : Receiver) (bytes : ℕ) : Type 0 where
-  pub more : List (List ℕ)
-  pub units : new.reading.units ≡ old.reading.units ++ more
-  pub paid : told dir b more + receiver_bytes window new ≤ receiver_bytes window old + bytes
-  pub bounded : IsBoundedReceiver window new
-
-pub keeps : (dir : Dir) (b window : ℕ) (r : Receiver) (bytes : ℕ) → IsBoundedReceiver window r → Takes dir b window r r bytes
-keeps dir b window r bytes is = record { more = []; units = sym (append-nil r.reading.units); paid = omega arith; bounded = is }
+pub keeps : (window : ℕ) (r : Receiver) (bytes : ℕ) → IsBoundedReceiver window r → Takes window r r bytes
+keeps window r bytes is = record { more = []; units = sym (append-nil r.reading.units); paid = omega arith; bounded = is }
 
 -- more numbers are there
 grows : (old new : List ℕ) → ((x : ℕ) → Is x old → Is x new) → run_of old (top old) ≤ run_of new (top new)
@@ -50,15 +40,15 @@ more_passed : (passed later : ℕ) (ns : List ℕ) (x : ℕ) → passed ≤ late
 more_passed passed later ns x le h = has-append x (below later) ns ∙ ⊎_elim (λ q. or_left _ _ (has-below x later ∙ lt-ltb x later (omega (arith, le, ltb-true x passed (sym (has-below x passed) ∙ q))))) (λ q. or_right _ _ q) (or_cases (has x (below passed)) (has x ns) (sym (has-append x (below passed) ns) ∙ h))
 
 -- a PDU is kept
-kept : (dir : Dir) (b : ℕ) (rules : Rules) (r : Receiver) (ahead_by : ℕ) (poll : Bool) (body : Body) → b < 100 → ahead_by < rules.window → body_bytes body ≤ 1116 → IsBoundedReceiver rules.window r →
-    Takes dir b rules.window r (read_on (with_pdu rules r (expected r + ahead_by) poll body) (expected r)) 1116
-kept dir b rules r ahead_by poll body small near light is =
+kept : (rules : Rules) (r : Receiver) (ahead_by : ℕ) (poll : Bool) (body : Body) → ahead_by < rules.window → body_bytes body ≤ 1116 → IsBoundedReceiver rules.window r →
+    Takes rules.window r (read_on (with_pdu rules r (expected r + ahead_by) poll body) (expected r)) 1116
+kept rules r ahead_by poll body near light is =
     let k : ℕ = expected r + ahead_by in
     let now : Receiver = with_pdu rules r k poll body in
     let d : ℕ = expected now - expected r in
     let grow : expected r ≤ expected now = grows (got r) (got now) (one_more r.passed k (numbers r.arrived)) in
     let place : expected r + d ≡ expected now = omega arith in
-    let on : GoesOn dir b r.reading (read_on now (expected r)).reading (run_bytes now.arrived (expected r) d) = run_on dir b r.trim now.arrived r.reading (expected r) d small in
+    let on : GoesOn r.reading (read_on now (expected r)).reading (run_bytes now.arrived (expected r) d) = run_on r.trim now.arrived r.reading (expected r) d in
     let high : top (numbers now.arrived) ≤ expected r + rules.window = omega (arith, is.inside, near) in
     let moves : run_bytes now.arrived (expected r) d + run_bytes now.arrived (expected r + d) rules.window ≡ run_bytes now.arrived (expected r) rules.window = run_moves now.arrived (expected r) d rules.window high in
     let at : run_bytes now.arrived (expected r + d) rules.window ≡ run_bytes now.arrived (expected now) rules.window = ap (λ n. run_bytes now.arrived n rules.window) place in
@@ -77,24 +67,24 @@ near_by rules r sn is = go (nat_le (4096 - rules.window) (ahead (expected r) sn)
     go false true h q = absurd (cc)
     go false false h q = leb-false _ _ h
 
-pub pdu_taken : (dir : Dir) (b : ℕ) (rules : Rules) (r : Receiver) (sn : ℕ) (poll : Bool) (body : Body) → b < 100 → body_bytes body ≤ 1116 → IsBoundedReceiver rules.window r → Takes dir b rules.window r (after_pdu rules (taken rules r sn) r sn poll body) 1116
-pdu_taken dir b rules r sn poll body small light is = go (taken rules r sn) refl
+pub pdu_taken : (rules : Rules) (r : Receiver) (sn : ℕ) (poll : Bool) (body : Body) → body_bytes body ≤ 1116 → IsBoundedReceiver rules.window r → Takes rules.window r (after_pdu rules (taken rules r sn) r sn poll body) 1116
+pdu_taken rules r sn poll body light is = go (taken rules r sn) refl
   where
-    go : (t : Taken) → taken rules r sn ≡ t → Takes dir b rules.window r (after_pdu rules t r sn poll body) 1116
-    go Kept e = kept dir b rules r (ahead (expected r) sn) poll body small (near_by rules r sn e) light is
+    go : (t : Taken) → taken rules r sn ≡ t → Takes rules.window r (after_pdu rules t r sn poll body) 1116
+    go Kept e = kept rules r (ahead (expected r) sn) poll body (near_by rules r sn e) light is
     go Duplicate e = record { more = []; units = sym (append-nil r.reading.units); paid = omega arith; bounded = record { light = is.light; inside = is.inside } }
-    go Outside e = keeps dir b rules.window r 1116 is
+    go Outside e = keeps rules.window r 1116 is
 
 -- an MRW is obeyed
-obeyed : (dir : Dir) (b window : ℕ) (r : Receiver) (ahead_by sn n : ℕ) → b < 100 → IsBoundedReceiver window r → Takes dir b window r (with_ack (read_on (with_move r (expected r + ahead_by) n) (expected r + ahead_by)) sn n) 0
-obeyed dir b window r ahead_by sn n small is =
+obeyed : (window : ℕ) (r : Receiver) (ahead_by sn n : ℕ) → IsBoundedReceiver window r → Takes window r (with_ack (read_on (with_move r (expected r + ahead_by) n) (expected r + ahead_by)) sn n) 0
+obeyed window r ahead_by sn n is =
     let k : ℕ = expected r + ahead_by in
     let now : Receiver = with_move r k n in
     let d : ℕ = expected now - k in
     let grow : expected r ≤ expected now = grows (got r) (got now) (λ x h. more_passed r.passed (max r.passed k) (numbers r.arrived) x (omega arith) h) in
     let reach : k ≤ expected now = omega (arith, passed_le now) in
     let place : expected r + (ahead_by + d) ≡ expected now = omega arith in
-    let on : GoesOn dir b (record { units = r.reading.units; part = [] }) (read_on now k).reading (run_bytes r.arrived k d) = run_on dir b (trimmed r.trim k n) r.arrived (record { units = r.reading.units; part = [] }) k d small in
+    let on : GoesOn (record { units = r.reading.units; part = [] }) (read_on now k).reading (run_bytes r.arrived k d) = run_on (trimmed r.trim k n) r.arrived (record { units = r.reading.units; part = [] }) k d in
     let moves : run_bytes r.arrived (expected r) (ahead_by + d) + run_bytes r.arrived (expected r + (ahead_by + d)) window ≡ run_bytes r.arrived (expected r) window = run_moves r.arrived (expected r) (ahead_by + d) window is.inside in
     let at : run_bytes r.arrived (expected r + (ahead_by + d)) window ≡ run_bytes r.arrived (expected now) window = ap (λ m. run_bytes r.arrived m window) place in
     record {
@@ -104,18 +94,18 @@ obeyed dir b window r ahead_by sn n small is =
       bounded = record { light = is.light; inside = omega (arith, is.inside, grow) };
     }
 
-pub move_taken : (dir : Dir) (b window : ℕ) (r : Receiver) (t : MrwTaken) (sn n : ℕ) → b < 100 → IsBoundedReceiver window r → Takes dir b window r (after_move t r sn n) 0
-move_taken dir b window r Obeyed sn n small is = obeyed dir b window r (ahead (expected r) sn) sn n small is
-move_taken dir b window r Old sn n small is = record { more = []; units = sym (append-nil r.reading.units); paid = omega arith; bounded = record { light = is.light; inside = is.inside } }
-move_taken dir b window r (Beyond i) sn n small is = keeps dir b window r 0 is
-move_taken dir b window r Nothing sn n small is = keeps dir b window r 0 is
+pub move_taken : (window : ℕ) (r : Receiver) (t : MrwTaken) (sn n : ℕ) → IsBoundedReceiver window r → Takes window r (after_move t r sn n) 0
+move_taken window r Obeyed sn n is = obeyed window r (ahead (expected r) sn) sn n is
+move_taken window r Old sn n is = record { more = []; units = sym (append-nil r.reading.units); paid = omega arith; bounded = record { light = is.light; inside = is.inside } }
+move_taken window r (Beyond i) sn n is = keeps window r 0 is
+move_taken window r Nothing sn n is = keeps window r 0 is
 
-pub control_taken : (dir : Dir) (b : ℕ) (rules : Rules) (r : Receiver) (fields : List Field) → b < 100 → IsBoundedReceiver rules.window r → Takes dir b rules.window r (after_control rules r fields) 0
-control_taken dir b rules r fields small is = go (move_in fields)
+pub control_taken : (rules : Rules) (r : Receiver) (fields : List Field) → IsBoundedReceiver rules.window r → Takes rules.window r (after_control rules r fields) 0
+control_taken rules r fields is = go (move_in fields)
   where
-    go : (o : Option (ℕ × ℕ)) → Takes dir b rules.window r (after_move_in rules r o) 0
-    go None = keeps dir b rules.window r 0 is
-    go (Some p) = move_taken dir b rules.window r (moved rules r p.0) p.0 p.1 small is
+    go : (o : Option (ℕ × ℕ)) → Takes rules.window r (after_move_in rules r o) 0
+    go None = keeps rules.window r 0 is
+    go (Some p) = move_taken rules.window r (moved rules r p.0) p.0 p.1 is
 
 -- what a PDU holds is light
 abbrev pub IsLightView : Result AmView PduError → Type 0
@@ -125,16 +115,23 @@ IsLightView (Ok (Reset rsn hfni)) = Unit {0}
 IsLightView (Ok (ResetAck rsn hfni)) = Unit {0}
 IsLightView (Err e) = Unit {0}
 
--- what was read comes
-pub view_taken : (dir : Dir) (b : ℕ) (rules : Rules) (r : Receiver) (view : Result AmView PduError) → b < 100 → IsLightView view → IsBoundedReceiver rules.window r → Takes dir b rules.window r (receiver_of rules view r) 1116
-view_taken dir b rules r (Ok (Payload sn poll c piggyback)) small light is = pdu_taken dir b rules r sn poll (body_in c) small light is
-view_taken dir b rules r (Ok (Status fields)) small light is =
-    let t : Takes dir b rules.window r (after_control rules r fields) 0 = control_taken dir b rules r fields small is in
+-- a PDU that was read comes
+pub view_taken : (rules : Rules) (r : Receiver) (view : AmView) → IsLightView (Ok view) → IsBoundedReceiver rules.window r → Takes rules.window r (receiver_by rules (pdu_of view) r) 1116
+view_taken rules r (Payload sn poll c piggyback) light is = pdu_taken rules r sn poll (body_in c) light is
+view_taken rules r (Status fields) light is =
+    let t : Takes rules.window r (after_control rules r fields) 0 = control_taken rules r fields is in
     record { more = t.more; units = t.units; paid = omega (arith, t.paid); bounded = t.bounded }
-view_taken dir b rules r (Ok (Reset rsn hfni)) small light is = keeps dir b rules.window r 1116 is
-view_taken dir b rules r (Ok (ResetAck rsn hfni)) small light is = keeps dir b rules.window r 1116 is
-view_taken dir b rules r (Err e) small light is = keeps dir b rules.window r 1116 is
+view_taken rules r (Reset rsn hfni) light is = keeps rules.window r 1116 is
+view_taken rules r (ResetAck rsn hfni) light is = keeps rules.window r 1116 is
 
 -- a receiver that was opened
 pub receiver_opened : (rules : Rules) → IsBoundedReceiver rules.window (opened_receiver rules)
 receiver_opened rules = record { light = All-nil IsLight; inside = omega arith }
+
+-- how much can come of it
+pub receiver_most : (window : ℕ) (r : Receiver) → IsBoundedReceiver window r → receiver_bytes window r ≤ 3009 + window * 1116
+receiver_most window r is = omega (arith, part_most r.reading.part, run_light r.arrived (expected r) window is.light)
+  where
+    part_most : (part : List ℕ) → part_bytes part ≤ 3009
+    part_most [] = omega arith
+    part_most (x ∷ xs) = omega arith

@@ -10,7 +10,7 @@ use Rattle.dch_bits.specs.declared.text.BitsError.{BitsError}
 use Rattle.dch_bits.specs.Text.{is_no_bit, is_no_cell, unless_bad, reading}
 use Rattle.dch_script.specs.Code.{is_bits}
 use Rattle.dch_script.specs.Texts.{is_cells, is_word_of_bits}
-use Rattle.dch_nodecmd.specs.Texts.{bits_of, cells_of}
+use Rattle.dch_texts.specs.Texts.{bits_of, cells_of}
 
 -- a letter is 0 or 1, or else it is none
 no_bit : (a b : Bool) → (a || b) ≡ true → (not a && not b) ≡ true → ⊥

@@ -10,8 +10,8 @@ use Rattle.dch_types.proofs.Sums.{total_none, total_same, total_small}
 use Rattle.dch_am.specs.Bodies.{Body}
 use Rattle.dch_am.specs.Numbers.{top}
 use Rattle.dch_am.specs.Receiver.{body_of, numbers}
-use Rattle.dch_bound.specs.Bounded.{IsLight}
-use Rattle.dch_bound.specs.Bytes.{body_bytes, run_bytes}
+use Rattle.dch_ambound.specs.Bounded.{IsLight}
+use Rattle.dch_ambound.specs.Bytes.{body_bytes, run_bytes}
 
 -- numbers of which one at most is another, and small
 one_changed : (w v : ℕ → ℕ) (at more n : ℕ) → ((i : ℕ) → (w i ≡ v i) ⊎ ((i ≡ at) × (w i ≤ more))) → total w n ≤ total v n + more

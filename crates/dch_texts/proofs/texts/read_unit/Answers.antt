@@ -1,5 +1,5 @@
-use Rattle.dch_nodecmd.proofs.Units.{unit_of_bits, unit_of_octets}
-use Rattle.dch_nodecmd.proofs.texts.read_unit.Goals as goal
+use Rattle.dch_texts.proofs.Units.{unit_of_bits, unit_of_octets}
+use Rattle.dch_texts.proofs.texts.read_unit.Goals as goal
 
 pub read_bits-requires-clause-text : goal.read_bits-requires-clause-text
 read_bits-requires-clause-text c = unit_of_bits c.mode_at.result c.args.text.now c.in-Tm.is (rw (← c.mode_at.ensures) at c.requires.text)

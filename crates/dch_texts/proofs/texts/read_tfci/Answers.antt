@@ -1,6 +1,6 @@
 use Rattle.std.proofs.Common.{◌≡◌, length, arith, length-take}
-use Rattle.dch_nodecmd.proofs.Letters.{tfci_count, tfci_read}
-use Rattle.dch_nodecmd.proofs.texts.read_tfci.Goals as goal
+use Rattle.dch_texts.proofs.Letters.{tfci_count, tfci_read}
+use Rattle.dch_texts.proofs.texts.read_tfci.Goals as goal
 
 pub unreachable-requires : goal.unreachable-requires
 unreachable-requires c = tfci_read c.args.text.now (length c.args.tfci.now) c.in-Err.field-0 c.requires c.in-Err.ensures.answer

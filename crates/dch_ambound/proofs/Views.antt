@@ -8,19 +8,17 @@ use Rattle.dch_rlcpdu.specs.declared.am.AmView.{AmView}
 use Rattle.dch_rlcpdu.specs.declared.handed.PduError.{PduError}
 use Rattle.dch_rlcpdu.specs.declared.handed.PduError.TheVariants.{Reserved}
 use Rattle.dch_rlcpdu.specs.declared.marks.Mode.{Mode}
-use Rattle.dch_rlcpdu.specs.declared.marks.Mode.TheVariants.{Unacknowledged, Acknowledged}
-use Rattle.dch_rlcpdu.specs.declared.um.UmView.{UmView}
+use Rattle.dch_rlcpdu.specs.declared.marks.Mode.TheVariants.{Acknowledged}
 use Rattle.dch_rlcpdu.specs.Am.{am_reading, as_reset, as_reset_ack, control_reading, data_reading, piggyback_reading, status_reading, with_body, with_piggyback}
 use Rattle.dch_rlcpdu.specs.AmControl.{reset_reading}
-use Rattle.dch_rlcpdu.specs.Marks.{indicators, mark_of}
+use Rattle.dch_rlcpdu.specs.Marks.{indicators}
 use Rattle.dch_rlcpdu.specs.Parts.{Content, begins_with, cut_at, ends_of, is_closed, leading, parts_of, total_of}
 use Rattle.dch_rlcpdu.specs.Split.{body_reading}
-use Rattle.dch_rlcpdu.specs.Um.{um_reading, um_view}
 use Rattle.dch_rlcpdu.proofs.Ends.{Marked, marks_marked}
 use Rattle.dch_rlcpdu.proofs.Splits.{IsBody, body_text}
 use Rattle.dch_am.specs.Contents.{all_but_last, body_in, last_of}
-use Rattle.dch_bound.specs.Bytes.{body_bytes, full_bytes, pieces_bytes}
-use Rattle.dch_bound.proofs.Receivers.{IsLightView}
+use Rattle.dch_ambound.specs.Bytes.{body_bytes, full_bytes, pieces_bytes}
+use Rattle.dch_ambound.proofs.Receivers.{IsLightView}
 
 -- the parts together have no more octets than there are behind a place
 parts_within : (closed : Bool) (from : ℕ) (es octets : List ℕ) → from ≤ length octets → ((i : ℕ) → i < length es → get_or (from ∷ es) i 0 < get_or es i 0) → ((i : ℕ) → i < length es → get_or es i 0 ≤ length octets) → total_of (cut_at closed from es octets) + from ≤ length octets
@@ -47,7 +45,7 @@ length-indicators : (ms : List ℕ) → length (indicators ms) ≡ length ms
 length-indicators [] = refl
 length-indicators (m ∷ ms) = omega (arith, length-indicators ms)
 
-content_read : (mode : Mode) (following : Bool) (p : List ℕ) (c : Content) (size : ℕ) → length p ≤ size → body_reading mode following p ≡ Ok c → IsContent size c
+pub content_read : (mode : Mode) (following : Bool) (p : List ℕ) (c : Content) (size : ℕ) → length p ≤ size → body_reading mode following p ≡ Ok c → IsContent size c
 content_read mode following p c size few e =
     let is : IsBody mode following p c = body_text mode following p c e in
     let m : Marked (length c.octets) 0 c.marks (leading c.marks) (ends_of c.marks) (is_closed c.marks) = marks_marked mode (length c.octets) c.marks is.marks in
@@ -112,16 +110,3 @@ data_light first (octet ∷ p) few =
 pub reading_light : (p : List ℕ) → length p ≤ 126 → IsLightView (am_reading p)
 reading_light [] few = tt
 reading_light (x ∷ p) few = cond_both {A = Result AmView PduError} (nat_lt x 128) (control_reading (x / 16) (x ∷ p)) (data_reading x p) IsLightView (λ _. control_light (x / 16) (x ∷ p)) (λ _. data_light x p (omega arith))
-
--- of the unacknowledged mode, of at most 125 octets
-abbrev pub IsFew : Result UmView PduError → Type 0
-IsFew (Ok view) = IsContent 124 view.body
-IsFew (Err e) = Unit {0}
-
-pub reading_few : (p : List ℕ) → length p ≤ 125 → IsFew (um_reading p)
-reading_few [] few = tt
-reading_few (octet ∷ p) few = go (body_reading Unacknowledged (octet % 2 == 1) p) refl
-  where
-    go : (r : Result Content PduError) → body_reading Unacknowledged (octet % 2 == 1) p ≡ r → IsFew (um_view (mark_of octet) r)
-    go (Err e) is = tt
-    go (Ok c) is = content_read Unacknowledged (octet % 2 == 1) p c 124 (omega arith) is

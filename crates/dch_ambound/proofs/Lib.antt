@@ -1,0 +1,5 @@
+pub mod Units
+pub mod Readings
+pub mod Places
+pub mod Receivers
+pub mod Views
