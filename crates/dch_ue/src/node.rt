@@ -25,12 +25,23 @@ use std::alloc::Global;
 use std::marker::Model;
 
 /// A terminal. All its memory is taken at opening.
-#[derive(Drop)]
 pub struct Ue {
     cfn: u8,
     layer: Layer2,
     receiver: DownlinkReceiver,
     transmitter: UplinkTransmitter,
+}
+
+// By hand, so that whoever holds a node drops it by one call, and its proof doesn't go through all its parts.
+impl Drop for Ue {
+    fn drop(self) {
+        let Ue {
+            cfn: _cfn,
+            layer: _layer,
+            receiver: _receiver,
+            transmitter: _transmitter,
+        } = self;
+    }
 }
 
 impl Model for Ue {
