@@ -16,6 +16,8 @@ mod overdue;
 #[cfg(test)]
 mod pair;
 #[cfg(test)]
+mod reset;
+#[cfg(test)]
 mod said;
 #[cfg(test)]
 mod sent;

@@ -34,7 +34,7 @@ fn setup(discard_age: u16) -> PairSetup
 }
 
 // Units of 15 octets, each of which begins with its number.
-fn numbered(alloc: Global, count: u16) -> Result<Vec<u8>, NoMemory> {
+pub fn numbered(alloc: Global, count: u16) -> Result<Vec<u8>, NoMemory> {
     let mut octets = Vec::new(alloc);
     for number in 0..count {
         octets.push((number / 256) as u8)?;
@@ -98,7 +98,7 @@ fn ran(
 }
 
 // The number with which a unit begins, where the unit is whole.
-fn number(unit: &[u8]) -> Option<u32> {
+pub fn number(unit: &[u8]) -> Option<u32> {
     let [high, low, rest @ ..] = unit else {
         return None;
     };

@@ -14,3 +14,4 @@ pub use inside::are_inside;
 pub use outcome::PairEnd;
 pub use run::run_pair;
 pub use setup::{End, PairEvent, PairSetup};
+pub use store::Store;

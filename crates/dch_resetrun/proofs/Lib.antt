@@ -1,0 +1,5 @@
+pub mod Texts
+pub mod Handing
+pub mod Peers
+pub mod Meeting
+pub mod Delivered
