@@ -1,5 +1,8 @@
 use dch_config::read;
-use dch_script::{Command, Event, Line, LineError, Report, parse, parse_in};
+use dch_script::{
+    Command, Event, Line, LineError, PairLine, Report, parse, parse_in, parse_leg, parse_pair,
+    parse_pair_at,
+};
 use dch_types::{Coding, Config, Crc, Dir};
 use std::alloc::{AllocError, Global};
 use std::test::Fail;
@@ -322,6 +325,56 @@ fn a_line_of_encode(rt: HostRuntime) {
     };
     assert!(rt; parse(Command::Encode, b"code half 8 .\n") == Ok(event));
     assert!(rt; parses_as(rt.alloc(), Command::Encode, "code half 8 .", event));
+}
+
+#[test]
+fn events_of_pair(rt: HostRuntime) {
+    let hex = b"7dF0";
+    assert!(rt; parse_pair_at(true, b"offer b 7dF0\n") == Ok(PairLine::Offer { end: 1, hex }));
+    assert!(rt; parse_pair(b"build a\n") == Ok(PairLine::Build { end: 0 }));
+    assert!(rt; parse_pair(b"arrive b\n") == Ok(PairLine::Arrive { end: 1 }));
+    assert!(rt; parse_pair(b"lose a\n") == Ok(PairLine::Lose { end: 0 }));
+    assert!(rt; parse_pair(b"tick b\n") == Ok(PairLine::Tick { end: 1 }));
+    assert!(rt; parse_pair(b"reset a\n") == Ok(PairLine::Reset { end: 0 }));
+}
+
+#[test]
+fn ends_of_pair(rt: HostRuntime) {
+    let ends = PairLine::Ends {
+        first: 6,
+        second: 126,
+        buffer: 4096,
+        window: 2048,
+    };
+    assert!(rt; parse_pair_at(false, b"ends 6 126 4096 2048\n") == Ok(ends));
+    assert!(rt; parse_pair(b"ends 5 126 4096 2048\n") == Err(LineError::Number));
+    assert!(rt; parse_pair_at(false, b"tick\n") == Err(LineError::Word));
+    assert!(rt; parse_pair_at(true, b"ends 6 126\n") == Err(LineError::Word));
+    assert!(rt; parse_pair_at(true, b"tick c\n") == Err(LineError::Text));
+}
+
+/// Whether a line of `soft` with two legs says this for the small configuration.
+fn leg_says(
+    alloc: Global,
+    line: &[u8],
+    expected: Result<(Option<u8>, Event<'_>), LineError>,
+) -> bool {
+    match read(alloc, small().as_bytes()) {
+        Ok(config) => parse_leg(2, &config, line) == expected,
+        Err(_) => false,
+    }
+}
+
+#[test]
+fn lines_of_soft(rt: HostRuntime) {
+    let alloc = rt.alloc();
+    let lost = Event::Lose { dir: Dir::Up };
+    assert!(rt; leg_says(alloc, b"leg 1 lose up\n", Ok((Some(1), lost))));
+    assert!(rt; leg_says(alloc, b"frame 3\n", Ok((None, Event::Frame(3)))));
+    assert!(rt; leg_says(alloc, b"leg 2\n", Err(LineError::Count)));
+    assert!(rt; leg_says(alloc, b"leg 2 lose left\n", Err(LineError::Number)));
+    assert!(rt; leg_says(alloc, b"leg 1 frame\n", Err(LineError::Word)));
+    assert!(rt; leg_says(alloc, b"lose up\n", Err(LineError::Word)));
 }
 
 #[test]

@@ -32,6 +32,8 @@ fn what_words_say(rt: HostRuntime) -> Result<(), Fail> {
     assert!(rt; read(alloc, "encode")? == plain);
     let full = parsed(Subcommand::Check, 100_000, 31, true);
     assert!(rt; read(alloc, "--quiet check 100000 --start=31")? == full);
+    let pair = parsed(Subcommand::Pair, 1000, 0, false);
+    assert!(rt; read(alloc, "pair")? == pair);
     assert!(rt; read(alloc, "encode 5 --start 32")? == None);
     Ok(())
 }

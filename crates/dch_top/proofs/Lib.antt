@@ -7,6 +7,7 @@ pub mod Judging
 pub mod LinkUnits
 pub mod NodeComplete
 pub mod NodeRuns
+pub mod PairComplete
 pub mod Scripts
 pub mod Texts
 pub mod Traces

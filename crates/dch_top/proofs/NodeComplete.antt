@@ -28,7 +28,7 @@ use Rattle.dch_nodecmd.specs.Rules.{config_of, node_lines}
 use Rattle.dch_nodecmd.specs.Run.{Run, opened_run}
 use Rattle.dch_nodecmd.proofs.NoTrace.{lines_stay}
 use Rattle.dch_words.specs.declared.arguments.Subcommand.{Subcommand}
-use Rattle.dch_words.specs.declared.arguments.Subcommand.TheVariants.{Check, Encode, NodeB, Rnc, Ue, Link, Gen}
+use Rattle.dch_words.specs.declared.arguments.Subcommand.TheVariants.{Check, Encode, NodeB, Rnc, Ue, Link, Gen, Pair}
 use Rattle.dch_words.specs.declared.arguments.Arguments.{Arguments}
 use Rattle.dch_nodebcmd.specs.Lasting.{node_b_lasting}
 use Rattle.dch_nodebcmd.specs.Rules.{node_b_rules}
@@ -185,3 +185,4 @@ events_answered (Some input) now k l f g h i Rnc arguments nodes status runs = s
 events_answered (Some input) now k l f g h i Ue arguments nodes status runs = script_completes (node_scripted ue_rules ue_lasting arguments.start arguments.quiet) (Some input) now k l f g h i _ status runs.runs
 events_answered (Some input) now k l f g h i Link arguments nodes status runs = script_completes (link_scripted arguments.start arguments.quiet) (Some input) now k l f g h i _ status runs.runs
 events_answered (Some input) now k l f g h i Gen arguments nodes status runs = λ accepted good events. absurd events
+events_answered (Some input) now k l f g h i Pair arguments nodes status runs = λ accepted good events. absurd events

@@ -8,6 +8,7 @@ pub mod LinkUnits
 pub mod NodeBRuns
 pub mod NodeRuns
 pub mod Overlong
+pub mod PairRuns
 pub mod Ran
 pub mod RncRuns
 pub mod Traces

@@ -7,7 +7,7 @@ use Rattle.dch_types.specs.declared.config.Config.{Config}
 use Rattle.dch_script.specs.Code.{meaning}
 use Rattle.dch_words.specs.Parses.{IsCommand, Parses}
 use Rattle.dch_words.specs.declared.arguments.Subcommand.{Subcommand}
-use Rattle.dch_words.specs.declared.arguments.Subcommand.TheVariants.{Check, Encode, NodeB, Rnc, Ue, Link, Gen}
+use Rattle.dch_words.specs.declared.arguments.Subcommand.TheVariants.{Check, Encode, NodeB, Rnc, Ue, Link, Gen, Pair}
 use Rattle.dch_words.specs.declared.arguments.Arguments.{Arguments}
 use Rattle.dch_lines.specs.Processor.{Progress}
 use Rattle.dch_lines.specs.Followed.{FollowsInput}
@@ -23,6 +23,7 @@ use Rattle.dch_top.specs.GenRuns.{RunsGen}
 use Rattle.dch_top.specs.LinkRuns.{AreLinkLines, RunsLink}
 use Rattle.dch_top.specs.NodeBRuns.{RunsNodeB}
 use Rattle.dch_top.specs.NodeRuns.{AreEvents}
+use Rattle.dch_top.specs.PairRuns.{RunsPair}
 use Rattle.dch_top.specs.RncRuns.{RunsRnc}
 use Rattle.dch_top.specs.UeRuns.{RunsUe}
 use Rattle.dch_top.specs.Untouched.{IsUntouched}
@@ -81,6 +82,7 @@ Runs Rnc arguments source sink bench status = RunsRnc arguments.start arguments.
 Runs Ue arguments source sink bench status = RunsUe arguments.start arguments.quiet source sink bench status
 Runs Link arguments source sink bench status = RunsLink arguments.start arguments.quiet source sink bench status
 Runs Gen arguments source sink bench status = RunsGen arguments.start arguments.count source sink bench status
+Runs Pair arguments source sink bench status = RunsPair source sink status × (bench ≡ no_nodes)
 
 -- what a run of these words does
 pub record Ran (words : List (String Global)) (source sink : End) (bench : Nodes) (status : Status) : Type 0 where
@@ -100,3 +102,4 @@ AreEventsFor Rnc config lines = AreEvents rnc_rules config lines
 AreEventsFor Ue config lines = AreEvents ue_rules config lines
 AreEventsFor Link config lines = AreLinkLines config lines
 AreEventsFor Gen config lines = ⊥
+AreEventsFor Pair config lines = ⊥

@@ -5,11 +5,12 @@ ghost use Rattle.dch_script.specs.Lines.{lines_of, rest_of};
 ghost use Rattle.dch_accept.specs.Plans.{Planned};
 ghost use Rattle.dch_check.specs.ConfigSection.{configuration_of, script_of};
 ghost use Rattle.dch_check.specs.Verdicts.{IsAccepted, IsAcceptedAs, Refuses};
-ghost use Rattle.dch_words.specs.declared.arguments.Subcommand.TheVariants.{Check, Encode, Gen, Link};
+ghost use Rattle.dch_words.specs.declared.arguments.Subcommand.TheVariants.{Check, Encode, Gen, Link, Pair};
 ghost use Rattle.dch_words.specs.declared.arguments.Arguments.{Arguments};
 ghost use Rattle.dch_top.specs.Benches.{no_nodes};
 ghost use Rattle.dch_io.specs.declared.feed.TheConstants.{LIMIT};
 ghost use Rattle.dch_top.specs.LinkUnits.{CarriesUnits};
+ghost use Rattle.dch_top.specs.PairRuns.{ArePairLines};
 ghost use Rattle.dch_top.specs.Ran.{AreEventsFor, AreGood, Asks, IsNoCommand, Misuses, Ran, Runs, Says};
 
 use crate::bench::Bench;
@@ -18,6 +19,7 @@ use crate::encode::encode;
 use crate::generate::generate;
 use crate::link::link;
 use crate::node_b::node_b;
+use crate::pair::pair;
 use crate::rnc::rnc;
 use crate::ue::ue;
 use dch_bits::NoMemory;
@@ -94,6 +96,11 @@ pub fn run<S: Source, K: Sink>(
         → ¬ Rose (S.faults source.old) (S.faults source.new) → ¬ Rose (K.faults sink.old) (K.faults sink.new)
         → (result ≡ Status.Ok) ⊎ (result ≡ Status.NoMemory)) }
 
+    // Lines of `pair` of which none is refused where those before it lead are all answered.
+    ensures paired { Asks words.now Pair → IfSome (S.left source.old) (λ input. ArePairLines (lines_of input) → rest_of input ≡ [] → length input ≤ LIMIT
+        → ¬ Rose (S.faults source.old) (S.faults source.new) → ¬ Rose (K.faults sink.old) (K.faults sink.new)
+        → (result ≡ Status.Ok) ⊎ (result ≡ Status.NoMemory)) }
+
     // `gen` reads nothing, and a sink without a fault takes its summary.
     ensures summed { Asks words.now Gen → ¬ Rose (K.faults sink.old) (K.faults sink.new) → (result ≡ Status.Ok) ⊎ (result ≡ Status.NoMemory) }
 
@@ -151,6 +158,7 @@ fn run_command<S: Source, K: Sink>(
         Subcommand::Ue => ue(alloc, start, quiet, source, sink, bench),
         Subcommand::Link => link(alloc, start, quiet, source, sink, bench),
         Subcommand::Gen => generate(alloc, start, count, sink, bench),
+        Subcommand::Pair => pair(alloc, source, sink),
     }
 }
 

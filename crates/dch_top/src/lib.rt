@@ -11,6 +11,7 @@ mod generate;
 mod link;
 mod node_b;
 mod node_run;
+mod pair;
 mod rnc;
 mod trace_laws;
 mod ue;

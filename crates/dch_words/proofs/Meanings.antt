@@ -5,7 +5,7 @@ use Rattle.std.specs.Str.Parse.{ParsesUnsigned}
 use Rattle.std.proofs.lemmas.Fmt.{decimal_injective, parse-decimal}
 use Rattle.clap.specs.Words.{Row, Text, matches_of}
 use Rattle.dch_words.specs.declared.arguments.Subcommand.{Subcommand}
-use Rattle.dch_words.specs.declared.arguments.Subcommand.TheVariants.{Check, Encode, NodeB, Rnc, Ue, Link, Gen}
+use Rattle.dch_words.specs.declared.arguments.Subcommand.TheVariants.{Check, Encode, NodeB, Rnc, Ue, Link, Gen, Pair}
 use Rattle.dch_words.specs.declared.arguments.Arguments.{Arguments}
 use Rattle.dch_words.specs.Line.{IsTaken, line_app}
 use Rattle.dch_words.specs.Parses.{IsCommand, IsNumber, IsNumberOr, Means, Parses, subcommand_name}
@@ -24,7 +24,7 @@ one_number default least most (Some text) m n fits first second =
 
 -- the commands differ in their first letters
 abbrev subcommand_of : Text → Subcommand
-subcommand_of name = let first : ℕ = slice_index name 0 in if first == 99 then Check else (if first == 101 then Encode else (if first == 110 then NodeB else (if first == 114 then Rnc else (if first == 108 then Link else (if first == 103 then Gen else Ue)))))
+subcommand_of name = let first : ℕ = slice_index name 0 in if first == 99 then Check else (if first == 101 then Encode else (if first == 110 then NodeB else (if first == 114 then Rnc else (if first == 108 then Link else (if first == 103 then Gen else (if first == 112 then Pair else Ue))))))
 
 back : (v : Subcommand) → subcommand_of (subcommand_name v) ≡ v
 back Check = refl
@@ -34,6 +34,7 @@ back Rnc = refl
 back Ue = refl
 back Link = refl
 back Gen = refl
+back Pair = refl
 
 -- commands of one word are one
 one_subcommand : (v w : Subcommand) → subcommand_name v ≡ subcommand_name w → v ≡ w

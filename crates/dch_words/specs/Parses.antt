@@ -2,7 +2,7 @@
 use Rattle.std.specs.Prelude.{◌≡◌, ◌≤◌, ℕ, List, Option, Some, None, codes, decimal}
 use Rattle.clap.specs.Words.{Row, Text, first_of, matches_of}
 use Rattle.dch_words.specs.declared.arguments.Subcommand.{Subcommand}
-use Rattle.dch_words.specs.declared.arguments.Subcommand.TheVariants.{Check, Encode, NodeB, Rnc, Ue, Link, Gen}
+use Rattle.dch_words.specs.declared.arguments.Subcommand.TheVariants.{Check, Encode, NodeB, Rnc, Ue, Link, Gen, Pair}
 use Rattle.dch_words.specs.declared.arguments.Arguments.{Arguments}
 use Rattle.dch_words.specs.Line.{IsTaken, is_given, line_app}
 
@@ -15,6 +15,7 @@ subcommand_name Rnc = codes "rnc"
 subcommand_name Ue = codes "ue"
 subcommand_name Link = codes "link"
 subcommand_name Gen = codes "gen"
+subcommand_name Pair = codes "pair"
 
 -- the text is the number `n` in decimal digits, without sign or leading zero, and `n` is from `least` to `most`
 abbrev pub IsNumber : ℕ → ℕ → Text → ℕ → Type 0

@@ -28,6 +28,8 @@ pub enum Subcommand {
     Link,
     /// Run all three through a script of the program's own, and sum up what they report.
     Gen,
+    /// Run two ends of acknowledged mode that can be reset.
+    Pair,
 }
 
 /// What the words of the command line say.
@@ -98,6 +100,7 @@ fn parse_subcommand(text: &str) -> Option<Subcommand>
         "ue" => Some(Subcommand::Ue),
         "link" => Some(Subcommand::Link),
         "gen" => Some(Subcommand::Gen),
+        "pair" => Some(Subcommand::Pair),
         _ => None,
     }
 }

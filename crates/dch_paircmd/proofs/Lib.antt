@@ -1,0 +1,5 @@
+pub mod Arriving
+pub mod Handing
+pub mod Handling
+pub mod Leading
+pub mod Queues

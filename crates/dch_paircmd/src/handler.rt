@@ -1,0 +1,165 @@
+ghost use Rattle.std.specs.Prelude.{◌≡◌, ◌≤◌, ◌+◌, None, Some, IfErr, IfOk, OnOk, false, length, refl, true};
+ghost use Rattle.dch_script.specs.Pair.{pair_meaning_at};
+ghost use Rattle.dch_lines.specs.Semantics.{Adds, IsFault, Leads};
+ghost use Rattle.dch_paircmd.specs.Ends.{Ends};
+ghost use Rattle.dch_paircmd.specs.Overlong.{pair_refuses_long};
+ghost use Rattle.dch_paircmd.specs.Rules.{pair_lines};
+ghost use Rattle.dch_paircmd.specs.Standing.{AreEnds, AreKnown, IsReady, RepresentsRun};
+ghost use Rattle.dch_paircmd.specs.declared.handler.TheConstants.{MOST_TEXT};
+
+use crate::ends::PairEnds;
+use crate::events::Rooms;
+use dch_bits::NoMemory;
+use dch_lines::{LineFault, LineHandler};
+use dch_script::{Line, LineError, PairLine, Report, parse_pair_at};
+use std::alloc::Global;
+use std::marker::Model;
+
+/// The most bytes of the text of a line.
+pub const MOST_TEXT: usize = 2_400_000;
+
+/// The handler of the command `pair`. The first line opens the two ends, and takes their memory; each later line is an event at one of them.
+pub struct PairHandler {
+    alloc: Global,
+    ends: Option<PairEnds>,
+    rooms: Rooms,
+}
+
+// By hand, so that whoever holds it drops it by one call, and its proof doesn't go through all its parts.
+impl Drop for PairHandler {
+    fn drop(self) {
+        let PairHandler {
+            alloc: _alloc,
+            ends: _ends,
+            rooms: _rooms,
+        } = self;
+    }
+}
+
+impl Model for PairHandler {
+    ghost use Rattle.std.specs.Prelude.{Option};
+    ghost use Rattle.dch_paircmd.specs.Standing.{EndsValue};
+
+    ghost Value = { Option EndsValue };
+
+    ghost view = { λ h. h.ends };
+}
+
+impl PairHandler {
+    /// A handler before the first line. The rest of its memory is taken here.
+    pub fn open(alloc: Global) -> Result<PairHandler, NoMemory>
+        ensures { IfOk result (λ handler. handler ≡ None) }
+    {
+        let rooms = Rooms::open(alloc)?;
+        Ok(PairHandler {
+            alloc,
+            ends: None,
+            rooms,
+        })
+    }
+}
+
+/// Takes the first line, which opens the ends.
+fn start(alloc: Global, line: &[u8], report: &mut Report) -> Result<PairEnds, LineFault>
+    requires room { length report.old.text + MOST_TEXT ≤ report.old.most }
+    ensures ok { IfOk result (λ ends. (e : Ends) × AreEnds ends e × Adds (pair_lines.handles None line.now (Some e)) report.old report.new) }
+    ensures err { IfErr result (λ fault. IsFault pair_lines None line.now fault) }
+    ensures same { IfErr result (λ _. report.new ≡ report.old) }
+    ensures most { report.new.most ≡ report.old.most }
+    ensures fits { IfOk result (λ _. length report.new.text ≤ report.new.most) }
+{
+    match parse_pair_at(false, line) {
+        Ok(
+            PairLine::Ends {
+                first,
+                second,
+                buffer,
+                window,
+            },
+        ) => match PairEnds::open(alloc, first, second, buffer, window) {
+            Ok(ends) => {
+                report.put(&Line::Open);
+                Ok(ends)
+            }
+            Err(NoMemory) => Err(LineFault::NoMemory),
+        },
+        Ok(_) => unreachable!(),
+        Err(why) => Err(LineFault::Malformed(why)),
+    }
+}
+
+/// Takes a later line, the event of which happens.
+fn pass(
+    ends: &mut PairEnds,
+    line: &[u8],
+    rooms: &mut Rooms,
+    report: &mut Report,
+) -> Result<(), LineFault>
+    requires known { AreKnown ends.old }
+    requires room { length report.old.text + MOST_TEXT ≤ report.old.most }
+    ensures ok { OnOk result (Leads (λ e v. AreEnds v e) ends.old ends.new (λ old new. Adds (pair_lines.handles (Some old) line.now (Some new)) report.old report.new)) }
+    ensures err { IfErr result (λ fault. (e : Ends) → AreEnds ends.old e → IsFault pair_lines (Some e) line.now fault) }
+    ensures same { IfErr result (λ _. (ends.new ≡ ends.old) × (report.new ≡ report.old)) }
+    ensures known { AreKnown ends.new }
+    ensures most { report.new.most ≡ report.old.most }
+    ensures fits { OnOk result (length report.new.text ≤ report.new.most) }
+{
+    let event = match parse_pair_at(true, line) {
+        Ok(event) => event,
+        Err(why) => return Err(LineFault::Malformed(why)),
+    };
+    match ends.happen(event, rooms, report) {
+        Ok(()) => {
+            let _spare = report.spare();
+            Ok(())
+        }
+        Err(why) => Err(LineFault::Malformed(why)),
+    }
+}
+
+impl LineHandler for PairHandler {
+    ghost use Rattle.std.specs.Prelude.{Option};
+
+    ghost State = { Option Ends };
+
+    ghost semantics = { pair_lines };
+
+    ghost represents = { RepresentsRun };
+
+    ghost most = { λ _. MOST_TEXT };
+
+    ghost remaining = { λ _. 0 };
+
+    ghost stands = { IsReady };
+
+    ghost handled = { λ _. 0 };
+
+    fn handle_line(&mut self, line: &[u8], report: &mut Report) -> Result<(), LineFault> {
+        match &mut self.ends {
+            Some(ends) => pass(ends, line, &mut self.rooms, report),
+            None => {
+                self.ends = Some(start(self.alloc, line, report)?);
+                Ok(())
+            }
+        }
+    }
+
+    fn remaining(&self) -> u32 {
+        0
+    }
+
+    fn resume(&mut self, _report: &mut Report) {}
+
+    #[tactic(auto, using(crate::proofs::Handling::closing_short))]
+    fn close(&self, nonempty_lines: u64, report: &mut Report) {
+        report.put(&Line::EndLines(nonempty_lines));
+    }
+
+    fn most(&self) -> usize {
+        MOST_TEXT
+    }
+
+    ghost overlong = { pair_refuses_long };
+
+    ghost counts = { λ _ _ _. refl };
+}
