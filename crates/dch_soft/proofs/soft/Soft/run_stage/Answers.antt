@@ -1,0 +1,25 @@
+use Rattle.std.proofs.Common.{sym, subst}
+use Rattle.dch_rnc.specs.State.{Tick}
+use Rattle.dch_soft.specs.Stages.{AtStage}
+use Rattle.dch_soft.specs.declared.stage.Stage.{Stage}
+use Rattle.dch_soft.specs.Standing.{IsSoftOf, LeadsTo, Represents}
+use Rattle.dch_soft.specs.Values.{Parts}
+use Rattle.dch_soft.specs.contracts.soft.Soft.{the_view}
+use Rattle.dch_soft.proofs.Nexts.{rnc_next}
+use Rattle.dch_soft.proofs.soft.Soft.run_stage.Goals as goal
+
+pub returns-in-RncTick-clause-passes : goal.returns-in-RncTick-clause-passes
+returns-in-RncTick-clause-passes c = λ first soft was.
+    let planned = c.args.accepted.now in
+    let parts : Parts = the_view c.self.inside in
+    let is : Represents planned first soft parts = subst (λ (p : Parts). Represents planned first soft p) (sym c.self.view_is) was in
+    subst (λ (s : Stage). LeadsTo planned first (AtStage s soft) (record parts { rnc = c.step.new.self }) c.args.report.now c.step.new.report) (sym c.in-RncTick.is)
+    (rnc_next planned first soft parts Tick c.step.new.self c.args.report.now c.step.new.report is (c.step.ensures.step soft.rnc.state is.rnc.stands) c.step.ensures.most)
+
+pub returns-in-RncTick-clause-opened : goal.returns-in-RncTick-clause-opened
+returns-in-RncTick-clause-opened c =
+    let planned = c.args.accepted.now in
+    let parts : Parts = the_view c.self.inside in
+    let opened : IsSoftOf planned parts = subst (λ (p : Parts). IsSoftOf planned p) (sym c.self.view_is) c.requires.opened in
+    let were = opened.opened in
+    record { ue = were.ue; rnc = c.step.ensures.opened; legs = were.legs; combiner = were.combiner; all = were.all; some = were.some; few = were.few; room = were.room }

@@ -1,0 +1,10 @@
+pub mod Errors
+pub mod Events
+pub mod Hearing
+pub mod Legs
+pub mod Passing
+pub mod Rooms
+pub mod Soft
+pub mod Stages
+pub mod Standing
+pub mod Values
