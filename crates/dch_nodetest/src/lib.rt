@@ -1,4 +1,4 @@
-//! Tests of MAC, of the choice of combinations, of Iub frames and of the three nodes: their public calls over values from outside. A crate with tests is proved twice, so they stand here together.
+//! Tests of MAC, of the choice of combinations and of Iub frames: their public calls over values from outside. A crate with tests is proved twice, so they stand here together.
 #![tactic(auto)]
 
 #[cfg(test)]
@@ -6,10 +6,4 @@ mod iub;
 #[cfg(test)]
 mod mac;
 #[cfg(test)]
-mod nodeb;
-#[cfg(test)]
-mod rnc;
-#[cfg(test)]
 mod select;
-#[cfg(test)]
-mod ue;
