@@ -1,5 +1,5 @@
 -- A run of `pair` without faults on good lines ends well.
-use Rattle.std.proofs.Common.{◌≡◌, ◌⊎◌, ◌≤◌, ◌++◌, ℕ, List, [], Option, None, Some, length, length-append, refl, ap, subst, arith, inl, inr, IfSome}
+use Rattle.std.proofs.Common.{◌≡◌, ◌⊎◌, ◌≤◌, ℕ, List, [], Option, None, Some, length, length-append, refl, ap, subst, arith, inl, inr, IfSome}
 use Rattle.std.specs.Io.KnownBytes.{IsAtEnd}
 use Rattle.dch_io.specs.Causes.{Rose}
 use Rattle.dch_io.specs.Ends.{End, span}
@@ -13,7 +13,6 @@ use Rattle.dch_lines.proofs.Complete.{all_consumed, consumed, none_refused}
 use Rattle.dch_paircmd.specs.Ends.{Ends}
 use Rattle.dch_paircmd.specs.Overlong.{pair_refuses_long}
 use Rattle.dch_paircmd.specs.Rules.{pair_lines}
-use Rattle.dch_paircmd.specs.Standing.{RepresentsRun}
 use Rattle.dch_top.specs.PairRuns.{ArePairLines, FollowsPair, RunsPair, pair_begin}
 use Rattle.dch_top.specs.declared.command.Status.{Status}
 use Rattle.dch_top.specs.declared.command.Status.TheVariants.{Ok, Refused, Usage, ReadFault, WriteFault, NoMemory, TooLong}
