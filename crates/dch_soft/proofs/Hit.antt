@@ -7,12 +7,12 @@ use Rattle.dch_accept.specs.Plans.{Planned}
 use Rattle.dch_damage.specs.Opened.{HasRadioRoom}
 use Rattle.dch_damage.specs.Tables.{radio_arrived}
 use Rattle.dch_nodeb.specs.Values.{radio_shown}
-use Rattle.dch_soft.specs.Hearing.{Arrive, HaveRadioRooms}
+use Rattle.dch_soft.specs.Hearing.{Arrive}
 use Rattle.dch_soft.specs.Legs.{LegState, opened_leg, radio_from, undamaged}
 use Rattle.dch_soft.specs.Soft.{SoftState, framed}
 use Rattle.dch_soft.specs.Standing.{AreLegsOf, AreNewLegs, ArePartsOf, IsLegOf, RepresentLegs, Represents, RepresentsLeg}
 use Rattle.dch_soft.specs.Values.{EachLeg, IsLeg, LegParts, Parts}
-use Rattle.dch_soft.proofs.Legs.{new_leg, no_leg, set_leg}
+use Rattle.dch_soft.proofs.Legs.{new_leg, set_leg}
 
 -- there is a leg of each number
 pub leg_there : (legs : List LegParts) (k : ℕ) → k < length legs → (it : LegParts) × IsLeg legs k it
@@ -27,15 +27,6 @@ pub record HitTo (count : ℕ) (old new : List LegParts) : Type 0 where
   pub opened : (planned : Planned) → AreLegsOf planned old → AreLegsOf planned new
   pub stand : (planned : Planned) (first : ℕ) (states : ℕ → LegState) → RepresentLegs planned first states old → RepresentLegs planned first states new
   pub arrive : (planned : Planned) (first : ℕ) (states : ℕ → LegState) → RepresentLegs planned first states old → EachLeg (λ k leg. k < count → radio_arrived leg.damage ≡ radio_from (states k)) new
-
-pub hit_none : (legs : List LegParts) → HaveRadioRooms legs → HitTo 0 legs legs
-hit_none legs rooms = record {
-  all = refl;
-  rooms = λ k leg is later. rooms k leg is;
-  opened = λ planned are. are;
-  stand = λ planned first states are. are;
-  arrive = λ planned first states are k leg is early. absurd (omega (arith, early));
-}
 
 pub hit_next : (count : ℕ) (old mid : List LegParts) (it hit : LegParts) → HitTo count old mid → IsLeg mid count it → ((planned : Planned) → IsLegOf planned it → IsLegOf planned hit)
     → ((planned : Planned) (first : ℕ) (leg : LegState) → RepresentsLeg planned first leg it → RepresentsLeg planned first leg hit × (radio_arrived hit.damage ≡ radio_from leg)) → HitTo (count + 1) old (slice_set mid count hit)
@@ -61,14 +52,6 @@ pub record ClearedTo (count : ℕ) (old new : List LegParts) : Type 0 where
   pub cleared : (planned : Planned) (first : ℕ) (states : ℕ → LegState) → RepresentLegs planned first states old → EachLeg (λ k leg. k < count → RepresentsLeg planned first (undamaged (states k)) leg) new
   pub later : (planned : Planned) (first : ℕ) (states : ℕ → LegState) → RepresentLegs planned first states old → EachLeg (λ k leg. count ≤ k → RepresentsLeg planned first (states k) leg) new
 
-pub clear_none : (legs : List LegParts) → ClearedTo 0 legs legs
-clear_none legs = record {
-  all = refl;
-  opened = λ planned are. are;
-  cleared = λ planned first states are k leg is early. absurd (omega (arith, early));
-  later = λ planned first states are k leg is later. are k leg is;
-}
-
 pub clear_next : (count : ℕ) (old mid : List LegParts) (it clear : LegParts) → ClearedTo count old mid → IsLeg mid count it → ((planned : Planned) → IsLegOf planned it → IsLegOf planned clear)
     → ((planned : Planned) (first : ℕ) (leg : LegState) → RepresentsLeg planned first leg it → RepresentsLeg planned first (undamaged leg) clear) → ClearedTo (count + 1) old (slice_set mid count clear)
 clear_next count old mid it clear was is opened clears = record {
@@ -84,10 +67,7 @@ clear_next count old mid it clear was is opened clears = record {
 pub clear_all : (old new : List LegParts) (count : ℕ) (planned : Planned) (first : ℕ) (states : ℕ → LegState) → length new ≤ count → ClearedTo count old new → RepresentLegs planned first states old → RepresentLegs planned first (λ k. undamaged (states k)) new
 clear_all old new count planned first states all clear are = λ k leg is. clear.cleared planned first states are k leg is (omega (arith, is.0, all))
 
--- the first legs are new
-pub legs_none : (planned : Planned) (first : ℕ) → AreNewLegs planned first 0 []
-legs_none planned first = record { all = refl; opened = no_leg (λ k leg. IsLegOf planned leg); stands = no_leg (λ k leg. RepresentsLeg planned first (opened_leg planned first) leg) }
-
+-- one more leg is new
 pub legs_next : (planned : Planned) (first count : ℕ) (legs : List LegParts) (new : LegParts) → AreNewLegs planned first count legs → IsLegOf planned new → RepresentsLeg planned first (opened_leg planned first) new
     → AreNewLegs planned first (count + 1) (legs ++ new ∷ [])
 legs_next planned first count legs new were is stands = record {

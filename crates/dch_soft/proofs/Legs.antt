@@ -21,7 +21,3 @@ new_leg P legs new each own = λ k leg is. elim (eqb_tells k (length legs)) [
   | inr other ↦ (let apart : k ≢ length legs = other.1 in let early : k < length legs = omega (arith, is.0, length-append legs (new ∷ [])) in
       each k leg (early, is.1 ∙ get_or_append_left legs (new ∷ []) leg k early))
 ]
-
--- and of no leg
-pub no_leg : (P : ℕ → LegParts → Type 0) → EachLeg P []
-no_leg P k leg is = absurd (omega (arith, is.0))

@@ -19,12 +19,12 @@ use Rattle.dch_rnc.specs.Standing.{Represents as RncStands, RepresentsHistory as
 use Rattle.dch_rnc.specs.State.{opened_state as opened_rnc}
 use Rattle.dch_rnc.specs.Steps.{Steps as RncSteps}
 use Rattle.dch_rnc.specs.Values.{Node as Rnc}
-use Rattle.dch_link.proofs.Coursing.{course_of, history_of}
+use Rattle.dch_link.proofs.Coursing.{course_of}
 use Rattle.dch_link.proofs.Fits.{says_fits}
 use Rattle.dch_soft.specs.Legs.{opened_leg}
-use Rattle.dch_soft.specs.Soft.{SoftState, opened_soft}
-use Rattle.dch_soft.specs.Standing.{AreNewLegs, HaveHistories, Represents, RepresentsLeg}
-use Rattle.dch_soft.specs.Values.{LegParts, Parts}
+use Rattle.dch_soft.specs.Soft.{opened_soft}
+use Rattle.dch_soft.specs.Standing.{AreNewLegs, Represents, RepresentsLeg}
+use Rattle.dch_soft.specs.Values.{LegParts}
 
 pub leg_opened : (planned : Planned) (first : ℕ) (node_b : NodeB) (tables : Tables) → NodeBHistory planned first [] [] node_b → Waits [] tables → RepresentsLeg planned first (opened_leg planned first) (record { node_b = node_b; damage = tables })
 leg_opened planned first node_b tables has waits = record {
@@ -44,13 +44,4 @@ soft_opened planned first count room ue rnc legs combiner ue_has rnc_has are non
   legs = are.stands;
   frames = fun_ext (λ s. fun_ext (λ k. sym (none s k)));
   cfn = refl;
-}
-
--- each node stands for its history
-pub have_histories : (planned : Planned) (first : ℕ) (soft : SoftState) (parts : Parts) → Represents planned first soft parts → HaveHistories planned first soft parts.ue parts.legs parts.rnc
-have_histories planned first soft parts is = record {
-  ue_has = history_of UeSteps (UeStands planned) UeShows (opened_ue planned first) soft.ue parts.ue is.ue;
-  rnc_has = history_of RncSteps (RncStands planned) RncShows (opened_rnc planned first) soft.rnc parts.rnc is.rnc;
-  count = sym is.count;
-  legs_have = λ k leg here. history_of NodeBSteps (NodeBStands planned) NodeBShows (opened_node_b planned first) (soft.legs k).node_b leg.node_b (is.legs k leg here).node_b;
 }
