@@ -22,7 +22,7 @@ use std::alloc::Global;
 use std::marker::Model;
 
 /// A configuration that was accepted, with the plans of its rate matching and the tables of its second interleavers.
-#[derive(Debug, Drop)]
+#[derive(Debug)]
 pub struct Accepted {
     config: Config,
     uplink: Sequence<UplinkPlan>,
@@ -30,6 +30,20 @@ pub struct Accepted {
     pub(crate) uplink_interleavers: UplinkInterleavers,
     pub(crate) downlink_interleaver: Interleaver,
     count: u128,
+}
+
+// By hand, so that whoever holds one drops it by one call.
+impl Drop for Accepted {
+    fn drop(self) {
+        let Accepted {
+            config: _config,
+            uplink: _uplink,
+            downlink: _downlink,
+            uplink_interleavers: _uplink_interleavers,
+            downlink_interleaver: _downlink_interleaver,
+            count: _count,
+        } = self;
+    }
 }
 
 impl Model for Accepted {

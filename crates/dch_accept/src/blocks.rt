@@ -20,7 +20,6 @@ const MOST_BLOCKS: usize = 64;
 
 /// The transport blocks of a TTI of a channel with their format, and for each whether it is good, in memory for the
 /// greatest TTI of a direction.
-#[derive(Drop)]
 pub struct TtiBlocks {
     format: u8,
     count: usize,
@@ -28,6 +27,20 @@ pub struct TtiBlocks {
     bits: Vec<Bit>,
     marks: Vec<bool>,
     room: usize,
+}
+
+// By hand, so that whoever holds one drops it by one call.
+impl Drop for TtiBlocks {
+    fn drop(self) {
+        let TtiBlocks {
+            format: _format,
+            count: _count,
+            size: _size,
+            bits: _bits,
+            marks: _marks,
+            room: _room,
+        } = self;
+    }
 }
 
 impl Model for TtiBlocks {

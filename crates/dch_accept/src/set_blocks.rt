@@ -22,11 +22,21 @@ pub struct Idle {
 }
 
 /// The transport blocks of the channels of an Iub frame set, in one TTI of each (TS 25.427 6.2).
-#[derive(Drop)]
 pub struct SetBlocks {
     set: u8,
     idle: Vec<Idle>,
     blocks: Vec<TtiBlocks>,
+}
+
+// By hand, so that whoever holds one drops it by one call.
+impl Drop for SetBlocks {
+    fn drop(self) {
+        let SetBlocks {
+            set: _set,
+            idle: _idle,
+            blocks: _blocks,
+        } = self;
+    }
 }
 
 impl Model for SetBlocks {

@@ -22,11 +22,21 @@ use std::alloc::Global;
 use std::marker::Model;
 
 /// An entity of the acknowledged mode. All memory is taken when it is opened.
-#[derive(Drop)]
 pub struct AmEntity {
     sender: AmSend,
     receiver: AmRecv,
     size: usize,
+}
+
+// By hand, so that whoever holds one drops it by one call.
+impl Drop for AmEntity {
+    fn drop(self) {
+        let AmEntity {
+            sender: _sender,
+            receiver: _receiver,
+            size: _size,
+        } = self;
+    }
 }
 
 impl Model for AmEntity {

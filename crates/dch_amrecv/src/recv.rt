@@ -23,9 +23,15 @@ use std::alloc::Global;
 use std::marker::Model;
 
 /// The receiving side of an acknowledged bearer. All memory is taken when it is opened.
-#[derive(Drop)]
 pub struct AmRecv {
     holder: Holder,
+}
+
+// By hand, so that whoever holds one drops it by one call.
+impl Drop for AmRecv {
+    fn drop(self) {
+        let AmRecv { holder: _holder } = self;
+    }
 }
 
 impl Model for AmRecv {

@@ -25,11 +25,21 @@ use std::alloc::Global;
 use std::marker::Model;
 
 /// The sending side of an acknowledged bearer (TS 25.322 4.2.1.3). All memory is taken when it is opened.
-#[derive(Drop)]
 pub struct AmSend {
     outgoing: Outgoing,
     held: Held,
     rules: AmRules,
+}
+
+// By hand, so that whoever holds one drops it by one call.
+impl Drop for AmSend {
+    fn drop(self) {
+        let AmSend {
+            outgoing: _outgoing,
+            held: _held,
+            rules: _rules,
+        } = self;
+    }
 }
 
 impl Model for AmSend {

@@ -34,12 +34,23 @@ use std::alloc::Global;
 use std::marker::Model;
 
 /// An acknowledged bearer at an end.
-#[derive(Drop)]
 pub struct AmBearer {
     number: u8,
     into: Dir,
     shape: Shape,
     entity: AmEntity,
+}
+
+// By hand, so that whoever holds one drops it by one call.
+impl Drop for AmBearer {
+    fn drop(self) {
+        let AmBearer {
+            number: _number,
+            into: _into,
+            shape: _shape,
+            entity: _entity,
+        } = self;
+    }
 }
 
 impl Model for AmBearer {

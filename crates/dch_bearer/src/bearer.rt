@@ -18,11 +18,21 @@ use dch_types::{Dir, Mode};
 use std::alloc::Global;
 
 /// A bearer at an end, in its mode (TS 25.322 4.2).
-#[derive(Drop)]
 pub enum Bearer {
     Tm(TmBearer),
     Um(UmBearer),
     Am(AmBearer),
+}
+
+// By hand, so that whoever holds one drops it by one call.
+impl Drop for Bearer {
+    fn drop(self) {
+        match self {
+            Bearer::Tm(_tm) => {}
+            Bearer::Um(_um) => {}
+            Bearer::Am(_am) => {}
+        }
+    }
 }
 
 impl Bearer {

@@ -18,12 +18,23 @@ use std::alloc::Global;
 use std::marker::Model;
 
 /// A transparent bearer at an end: units leave as blocks, and blocks come as units.
-#[derive(Drop)]
 pub struct TmBearer {
     number: u8,
     into: Dir,
     sizes: Sequence<u16>,
     sender: Option<TmSend>,
+}
+
+// By hand, so that whoever holds one drops it by one call.
+impl Drop for TmBearer {
+    fn drop(self) {
+        let TmBearer {
+            number: _number,
+            into: _into,
+            sizes: _sizes,
+            sender: _sender,
+        } = self;
+    }
 }
 
 impl Model for TmBearer {

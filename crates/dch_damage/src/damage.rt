@@ -17,7 +17,6 @@ use std::alloc::Global;
 use std::marker::Model;
 
 /// The damage that waits for the frames of the next radio frame (10 ms), and what arrives of those that it hits.
-#[derive(Drop)]
 pub struct Damage {
     up: RadioDamage,
     down: RadioDamage,
@@ -25,6 +24,20 @@ pub struct Damage {
     down_sets: Vec<IubDamage>,
     radio: RadioBuffer,
     iub: IubBuffer,
+}
+
+// By hand, so that whoever holds one drops it by one call.
+impl Drop for Damage {
+    fn drop(self) {
+        let Damage {
+            up: _up,
+            down: _down,
+            up_sets: _up_sets,
+            down_sets: _down_sets,
+            radio: _radio,
+            iub: _iub,
+        } = self;
+    }
 }
 
 impl Model for Damage {

@@ -20,7 +20,6 @@ use std::alloc::Global;
 use std::marker::Model;
 
 /// The room in which a TTI is coded and filled.
-#[derive(Drop)]
 struct Room {
     coder: TtiCoder,
     coded: Vec<Bit>,
@@ -29,6 +28,18 @@ struct Room {
     ghost coded_room: { length coded.items ≡ 131072 },
     ghost shown_room: { length shown.items ≡ 131072 },
     ghost tti_room: { length tti.items ≡ 457920 },
+}
+
+// By hand, so that whoever holds one drops it by one call.
+impl Drop for Room {
+    fn drop(self) {
+        let Room {
+            coder: _coder,
+            coded: _coded,
+            shown: _shown,
+            tti: _tti,
+        } = self;
+    }
 }
 
 impl Room {
@@ -95,10 +106,19 @@ fn code_front(
 }
 
 /// The running TTIs of all downlink channels, coded and ready to be sent.
-#[derive(Drop)]
 pub struct DlTti {
     room: Room,
     tti_buffers: Vec<TtiBuffer>,
+}
+
+// By hand, so that whoever holds one drops it by one call.
+impl Drop for DlTti {
+    fn drop(self) {
+        let DlTti {
+            room: _room,
+            tti_buffers: _tti_buffers,
+        } = self;
+    }
 }
 
 impl Model for DlTti {

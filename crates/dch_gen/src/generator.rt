@@ -28,12 +28,23 @@ use std::marker::Model;
 
 /// Three nodes that run together, to whose bearers units are offered before each radio frame, and what is counted of their report.
 /// All memory is taken at opening.
-#[derive(Drop)]
 pub struct Generator {
     accepted: Accepted,
     link: Link,
     step: Report,
     counts: Counts,
+}
+
+// By hand, so that whoever holds one drops it by one call.
+impl Drop for Generator {
+    fn drop(self) {
+        let Generator {
+            accepted: _accepted,
+            link: _link,
+            step: _step,
+            counts: _counts,
+        } = self;
+    }
 }
 
 impl Model for Generator {
@@ -92,7 +103,13 @@ impl Generator {
     pub fn into_nodes(self) -> (Ue, NodeB, Rnc)
         ensures { (first : ℕ) (link : LinkState) → Represents self.accepted first link self.link → HaveHistories self.accepted first link result.0 result.1 result.2 }
     {
-        self.link.into_nodes()
+        let Generator {
+            accepted: _accepted,
+            link,
+            step: _step,
+            counts: _counts,
+        } = self;
+        link.into_nodes()
     }
 
     /// Offers units to the bearers of both directions, and passes a radio frame.

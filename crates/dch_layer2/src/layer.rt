@@ -16,7 +16,6 @@ use std::alloc::Global;
 use std::marker::Model;
 
 /// Layer 2 of an end that sends in one direction and receives in the other. All memory is taken when it is opened.
-#[derive(Drop)]
 pub struct Layer2 {
     pub(crate) out: Dir,
     pub(crate) into: Dir,
@@ -26,6 +25,22 @@ pub struct Layer2 {
     given: Vec<TtiBlocks>,
     heads: Vec<Head>,
     pub(crate) unit: Vec<u8>,
+}
+
+// By hand, so that whoever holds one drops it by one call.
+impl Drop for Layer2 {
+    fn drop(self) {
+        let Layer2 {
+            out: _out,
+            into: _into,
+            bearers: _bearers,
+            blocked: _blocked,
+            running: _running,
+            given: _given,
+            heads: _heads,
+            unit: _unit,
+        } = self;
+    }
 }
 
 impl Model for Layer2 {

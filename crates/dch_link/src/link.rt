@@ -36,12 +36,23 @@ pub const CHECKS: usize = 2400;
 
 /// A terminal, a Node B and a network controller that hand their frames on to each other, and the damage that waits for the next radio
 /// frame. All memory is taken at opening.
-#[derive(Drop)]
 pub struct Link {
     ue: Ue,
     node_b: NodeB,
     rnc: Rnc,
     damage: Damage,
+}
+
+// By hand, so that whoever holds one drops it by one call.
+impl Drop for Link {
+    fn drop(self) {
+        let Link {
+            ue: _ue,
+            node_b: _node_b,
+            rnc: _rnc,
+            damage: _damage,
+        } = self;
+    }
 }
 
 impl Model for Link {
@@ -72,7 +83,13 @@ impl Link {
         ensures nodes { (result.0 ≡ self.ue) × (result.1 ≡ self.node_b) × (result.2 ≡ self.rnc) }
         ensures histories { (planned : Planned) (first : ℕ) (link : LinkState) → Represents planned first link self → HaveHistories planned first link result.0 result.1 result.2 }
     {
-        (self.ue, self.node_b, self.rnc)
+        let Link {
+            ue,
+            node_b,
+            rnc,
+            damage: _damage,
+        } = self;
+        (ue, node_b, rnc)
     }
 
     /// Takes what a script does between two radio frames, and reports what the node says that takes it.

@@ -27,7 +27,6 @@ use std::marker::Model;
 
 /// The handler of the command `link`, which takes each line as something that happens between two radio frames, or as radio frames,
 /// stage by stage. All memory is taken at opening.
-#[derive(Drop)]
 pub struct LinkHandler {
     accepted: Accepted,
     link: Link,
@@ -37,6 +36,22 @@ pub struct LinkHandler {
     left: u32,
     frames: u64,
     lines: u64,
+}
+
+// By hand, so that whoever holds one drops it by one call.
+impl Drop for LinkHandler {
+    fn drop(self) {
+        let LinkHandler {
+            accepted: _accepted,
+            link: _link,
+            octets: _octets,
+            filter: _filter,
+            stage: _stage,
+            left: _left,
+            frames: _frames,
+            lines: _lines,
+        } = self;
+    }
 }
 
 impl Model for LinkHandler {
@@ -90,7 +105,17 @@ impl LinkHandler {
     pub fn into_nodes(self) -> (Ue, NodeB, Rnc)
         ensures { (run : Run) → RepresentsRun run self → HaveHistories self.accepted run.first run.link result.0 result.1 result.2 }
     {
-        self.link.into_nodes()
+        let LinkHandler {
+            accepted: _accepted,
+            link,
+            octets: _octets,
+            filter: _filter,
+            stage: _stage,
+            left: _left,
+            frames: _frames,
+            lines: _lines,
+        } = self;
+        link.into_nodes()
     }
 
     /// Passes the next stage of a radio frame, after the last of which the next radio frame is on.

@@ -34,7 +34,7 @@ pub struct NodeB {
     tx_buffers: Vec<IubTxBuffer>,
 }
 
-// By hand, so that whoever holds a node drops it by one call, and its proof doesn't go through all its parts.
+// By hand, so that whoever holds one drops it by one call.
 impl Drop for NodeB {
     fn drop(self) {
         let NodeB {

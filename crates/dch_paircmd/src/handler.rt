@@ -25,7 +25,7 @@ pub struct PairHandler {
     rooms: Rooms,
 }
 
-// By hand, so that whoever holds it drops it by one call, and its proof doesn't go through all its parts.
+// By hand, so that whoever holds one drops it by one call.
 impl Drop for PairHandler {
     fn drop(self) {
         let PairHandler {

@@ -25,7 +25,6 @@ use std::marker::Model;
 
 /// One end of a bearer in acknowledged mode that can be reset: an entity since the last restart, the reset that the end has begun, and the last
 /// RESET that came. All memory is taken when it is opened.
-#[derive(Drop)]
 pub struct ResetEnd {
     entity: AmEntity,
     pending: Option<Pending>,
@@ -34,6 +33,21 @@ pub struct ResetEnd {
     owes: bool,
     restarts: u64,
     hfni: u32,
+}
+
+// By hand, so that whoever holds one drops it by one call.
+impl Drop for ResetEnd {
+    fn drop(self) {
+        let ResetEnd {
+            entity: _entity,
+            pending: _pending,
+            next_rsn: _next_rsn,
+            heard: _heard,
+            owes: _owes,
+            restarts: _restarts,
+            hfni: _hfni,
+        } = self;
+    }
 }
 
 impl Model for ResetEnd {

@@ -35,7 +35,7 @@ pub struct Rnc {
     tx_buffers: Vec<IubTxBuffer>,
 }
 
-// By hand, so that whoever holds a node drops it by one call, and its proof doesn't go through all its parts.
+// By hand, so that whoever holds one drops it by one call.
 impl Drop for Rnc {
     fn drop(self) {
         let Rnc {

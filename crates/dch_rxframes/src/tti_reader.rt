@@ -64,12 +64,23 @@ pub trait CountVotes {
 }
 
 /// Received radio frames of a direction, and the room to read the TTIs of its channels from them.
-#[derive(Drop)]
 pub struct TtiReader<R> {
     rx_frames: ReceivedFrames,
     scratch: R,
     votes: Vec<Vote>,
     decoder: Decoder,
+}
+
+// By hand, so that whoever holds one drops it by one call.
+impl<R: Drop> Drop for TtiReader<R> {
+    fn drop(self) {
+        let TtiReader {
+            rx_frames: _rx_frames,
+            scratch: _scratch,
+            votes: _votes,
+            decoder: _decoder,
+        } = self;
+    }
 }
 
 impl<R> Model for TtiReader<R> {

@@ -41,7 +41,6 @@ const SETS: u8 = 8;
 /// A terminal, the legs of its soft handover and a network controller that hand their frames on to each other, and the damage that waits
 /// on each leg for the next radio frame. The terminal hears one leg at a time; the uplink Iub frames of the legs are combined to one (TS
 /// 25.427 6.2). All memory is taken at opening.
-#[derive(Drop)]
 pub struct Soft {
     ue: Ue,
     rnc: Rnc,
@@ -49,6 +48,20 @@ pub struct Soft {
     combiner: Combiner,
     out: Vec<u8>,
     cfn: u8,
+}
+
+// By hand, so that whoever holds one drops it by one call.
+impl Drop for Soft {
+    fn drop(self) {
+        let Soft {
+            ue: _ue,
+            rnc: _rnc,
+            legs: _legs,
+            combiner: _combiner,
+            out: _out,
+            cfn: _cfn,
+        } = self;
+    }
 }
 
 impl Model for Soft {
@@ -94,7 +107,15 @@ impl Soft {
         ensures nodes { (result.0 ≡ self.ue) × (result.1.items ≡ self.legs) × (result.2 ≡ self.rnc) }
         ensures histories { (planned : Planned) (first : ℕ) (soft : SoftState) → Represents planned first soft self → HaveHistories planned first soft result.0 result.1.items result.2 }
     {
-        (self.ue, self.legs, self.rnc)
+        let Soft {
+            ue,
+            rnc,
+            legs,
+            combiner: _combiner,
+            out: _out,
+            cfn: _cfn,
+        } = self;
+        (ue, legs, rnc)
     }
 
     /// How many legs there are.

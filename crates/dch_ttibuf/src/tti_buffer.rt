@@ -11,11 +11,21 @@ use std::alloc::Global;
 use std::marker::Model;
 
 /// The TTI of a channel as its radio frames carry it.
-#[derive(Drop)]
 pub struct TtiBuffer {
     format: Option<u8>,
     cells: Vec<Trit>,
     len: usize,
+}
+
+// By hand, so that whoever holds one drops it by one call.
+impl Drop for TtiBuffer {
+    fn drop(self) {
+        let TtiBuffer {
+            format: _format,
+            cells: _cells,
+            len: _len,
+        } = self;
+    }
 }
 
 impl Model for TtiBuffer {

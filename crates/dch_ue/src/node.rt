@@ -32,7 +32,7 @@ pub struct Ue {
     transmitter: UplinkTransmitter,
 }
 
-// By hand, so that whoever holds a node drops it by one call, and its proof doesn't go through all its parts.
+// By hand, so that whoever holds one drops it by one call.
 impl Drop for Ue {
     fn drop(self) {
         let Ue {

@@ -15,12 +15,23 @@ use std::alloc::Global;
 use std::marker::Model;
 
 /// The running TTIs of all uplink channels, coded and ready to be sent.
-#[derive(Drop)]
 pub struct UlTti {
     coder: TtiCoder,
     coded: Vec<Bit>,
     padded: Vec<Trit>,
     tti_buffers: Vec<TtiBuffer>,
+}
+
+// By hand, so that whoever holds one drops it by one call.
+impl Drop for UlTti {
+    fn drop(self) {
+        let UlTti {
+            coder: _coder,
+            coded: _coded,
+            padded: _padded,
+            tti_buffers: _tti_buffers,
+        } = self;
+    }
 }
 
 impl Model for UlTti {
