@@ -1,14 +1,14 @@
 -- A text is one number at most, and words say one thing at most.
-use Rattle.std.proofs.Common.{◌≡◌, ◌<◌, ◌^◌, ◌∙◌, ℕ, List, Option, Some, None, Result, Ok, Bool, true, false, true≢false, is_some, ap, sym, subst, refl, IfSome, IfNone, arith}
+use Rattle.std.proofs.Common.{◌≡◌, ◌<◌, ◌^◌, ◌∙◌, ℕ, List, Option, Some, None, Result, Ok, Bool, true, false, true≢false, is_some, ap, sym, subst, refl, IfSome, IfNone, codes, arith}
 use Rattle.std.specs.Prelude.{◌==◌, if◌then◌else◌, slice_index}
 use Rattle.std.specs.Str.Parse.{ParsesUnsigned}
 use Rattle.std.proofs.lemmas.Fmt.{decimal_injective, parse-decimal}
-use Rattle.clap.specs.Words.{Row, Text, matches_of}
+use Rattle.clap.specs.Words.{Row, Text, first_of, matches_of}
 use Rattle.dch_words.specs.declared.arguments.Subcommand.{Subcommand}
-use Rattle.dch_words.specs.declared.arguments.Subcommand.TheVariants.{Check, Encode, NodeB, Rnc, Ue, Link, Gen, Pair}
+use Rattle.dch_words.specs.declared.arguments.Subcommand.TheVariants.{Check, Encode, NodeB, Rnc, Ue, Link, Gen, Pair, Soft}
 use Rattle.dch_words.specs.declared.arguments.Arguments.{Arguments}
 use Rattle.dch_words.specs.Line.{IsTaken, line_app}
-use Rattle.dch_words.specs.Parses.{IsCommand, IsNumber, IsNumberOr, Means, Parses, subcommand_name}
+use Rattle.dch_words.specs.Parses.{IsCommand, IsCount, IsNumber, IsNumberOr, Means, Parses, subcommand_name}
 
 -- a text that is a number is read as that number
 pub number_read : {E : Type 0} (least most : ℕ) (text : Text) (read : Result ℕ E) → most < 2 ^ 32
@@ -22,9 +22,26 @@ one_number default least most None m n fits first second = first ∙ sym second
 one_number default least most (Some text) m n fits first second =
     decimal_injective m n (omega arith) (omega arith) (sym first.0 ∙ second.0)
 
+-- a command has one count at most
+one_count : (v : Subcommand) (word : Option Text) (m n : ℕ) → IsCount v word m → IsCount v word n → m ≡ n
+one_count Soft None m n first second = elim first [ ]
+one_count Soft (Some text) m n first second = one_number 1000 1 6 (Some text) m n (omega arith) first second
+one_count Check word m n first second = one_number 1000 1 100000 word m n (omega arith) first second
+one_count Encode word m n first second = one_number 1000 1 100000 word m n (omega arith) first second
+one_count NodeB word m n first second = one_number 1000 1 100000 word m n (omega arith) first second
+one_count Rnc word m n first second = one_number 1000 1 100000 word m n (omega arith) first second
+one_count Ue word m n first second = one_number 1000 1 100000 word m n (omega arith) first second
+one_count Link word m n first second = one_number 1000 1 100000 word m n (omega arith) first second
+one_count Gen word m n first second = one_number 1000 1 100000 word m n (omega arith) first second
+one_count Pair word m n first second = one_number 1000 1 100000 word m n (omega arith) first second
+
+-- the count of a command, as another says it
+pub same_count : (v w : Subcommand) (word other : Option Text) (n : ℕ) → v ≡ w → word ≡ other → IsCount v word n → IsCount w other n
+same_count v w word other n command same is = subst (λ x. IsCount x other n) command (subst (λ o. IsCount v o n) same is)
+
 -- the commands differ in their first letters
 abbrev subcommand_of : Text → Subcommand
-subcommand_of name = let first : ℕ = slice_index name 0 in if first == 99 then Check else (if first == 101 then Encode else (if first == 110 then NodeB else (if first == 114 then Rnc else (if first == 108 then Link else (if first == 103 then Gen else (if first == 112 then Pair else Ue))))))
+subcommand_of name = let first : ℕ = slice_index name 0 in if first == 99 then Check else (if first == 101 then Encode else (if first == 110 then NodeB else (if first == 114 then Rnc else (if first == 108 then Link else (if first == 103 then Gen else (if first == 112 then Pair else (if first == 115 then Soft else Ue)))))))
 
 back : (v : Subcommand) → subcommand_of (subcommand_name v) ≡ v
 back Check = refl
@@ -35,9 +52,10 @@ back Ue = refl
 back Link = refl
 back Gen = refl
 back Pair = refl
+back Soft = refl
 
 -- commands of one word are one
-one_subcommand : (v w : Subcommand) → subcommand_name v ≡ subcommand_name w → v ≡ w
+pub one_subcommand : (v w : Subcommand) → subcommand_name v ≡ subcommand_name w → v ≡ w
 one_subcommand v w same = sym (back v) ∙ ap subcommand_of same ∙ back w
 
 -- an option is not both none and some
@@ -61,7 +79,9 @@ joined v w m n s t p q subcommand count start quiet = rw (subcommand, count, sta
 pub one_meaning : (texts : List Text) (a b : Arguments) → Parses texts a → Parses texts b → a ≡ b
 one_meaning texts a b first second = joined a.subcommand b.subcommand a.count b.count a.start b.start a.quiet b.quiet
     (one_subcommand a.subcommand b.subcommand (some_one _ _ (sym first.1.subcommand ∙ second.1.subcommand)))
-    (one_number 1000 1 100000 _ a.count b.count (omega arith) first.1.count second.1.count)
+    (one_count b.subcommand _ a.count b.count
+    (subst (λ v. IsCount v (first_of (codes "count") (matches_of line_app texts)) a.count) (one_subcommand a.subcommand b.subcommand (some_one _ _ (sym first.1.subcommand ∙ second.1.subcommand))) first.1.count)
+    second.1.count)
     (one_number 0 0 31 _ a.start b.start (omega arith) first.1.start second.1.start)
     (first.1.quiet ∙ sym second.1.quiet)
 

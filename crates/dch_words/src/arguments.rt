@@ -1,10 +1,11 @@
-ghost use Rattle.std.specs.Prelude.{◌≡◌, ◌≤◌, List, IfOk, IfSome, IfNone, map, string_bytes};
+ghost use Rattle.std.specs.Prelude.{◌≡◌, ◌≤◌, ℕ, List, IfOk, IfSome, IfNone, map, option_map, string_bytes};
 ghost use Rattle.clap.specs.Words.{Text, found_of, rows_of};
 ghost use Rattle.dch_words.specs.Line.{is_given};
-ghost use Rattle.dch_words.specs.Parses.{IsCommand, Means, Parses, subcommand_name};
+ghost use Rattle.dch_words.specs.Parses.{AreLegs, IsCommand, IsCount, Means, Parses, subcommand_name};
+ghost use Rattle.dch_words.specs.declared.arguments.Subcommand.TheVariants.{Soft};
 
 use crate::line::line_command;
-use crate::number::read_number_or;
+use crate::number::{read_number, read_number_or};
 use clap::ArgMatches;
 use clap::error::ErrorKind;
 use clap::parser::ValueSource;
@@ -30,13 +31,15 @@ pub enum Subcommand {
     Gen,
     /// Run two ends of acknowledged mode that can be reset.
     Pair,
+    /// Run a network controller, the Node Bs of a soft handover and a terminal together.
+    Soft,
 }
 
 /// What the words of the command line say.
 #[derive(Clone, Copy, Debug, PartialEq, Eq)]
 pub struct Arguments {
     pub subcommand: Subcommand,
-    /// How much is wanted, 1 to 100,000; 1,000 where the words give no count.
+    /// How much is wanted, 1 to 100,000, and 1,000 where the words give no count; of `soft` how many legs, 1 to 6, which the words give.
     pub count: u32,
     /// An eighth of the first connection frame number, 0 to 31; 0 where the words give no start.
     pub start: u8,
@@ -50,6 +53,7 @@ pub fn parse_arguments(alloc: Global, words: &[String]) -> Result<Option<Argumen
     ensures none { IfOk result (λ read. IfNone read (¬ IsCommand (map string_bytes words.now))) }
     ensures start { IfOk result (λ read. IfSome read (λ words. words.start ≤ 31)) }
     ensures count { IfOk result (λ read. IfSome read (λ words. words.count ≤ 100000)) }
+    ensures legs { IfOk result (λ read. IfSome read (λ words. words.subcommand ≡ Soft → AreLegs words.count)) }
 {
     let command = line_command(alloc)?;
     match command.try_get_matches_from(words) {
@@ -65,9 +69,10 @@ fn meaning_of(matches: &ArgMatches<'_>) -> Option<Arguments>
     ensures none { IfNone result ((words : Arguments) → ¬ Means (rows_of (found_of matches.now)) words) }
     ensures start { IfSome result (λ words. words.start ≤ 31) }
     ensures count { IfSome result (λ words. words.count ≤ 100000) }
+    ensures legs { IfSome result (λ words. words.subcommand ≡ Soft → AreLegs words.count) }
 {
     let subcommand = parse_subcommand(matches.get_str("command")?)?;
-    let count = read_number_or(matches.get_str("count"), 1000, 1, 100_000)?;
+    let count = read_count(subcommand, matches.get_str("count"))?;
     let start = read_number_or(matches.get_str("start"), 0, 0, 31)?;
     Some(Arguments {
         subcommand,
@@ -75,6 +80,19 @@ fn meaning_of(matches: &ArgMatches<'_>) -> Option<Arguments>
         start: start as u8,
         quiet: is_given(matches, "quiet"),
     })
+}
+
+/// The count of a command: of `soft` how many legs, of all others a count that may be left out.
+fn read_count(subcommand: Subcommand, text: Option<&str>) -> Option<u32>
+    ensures some { IfSome result (λ n. IsCount subcommand (option_map (λ s. s.now) text.entry) n) }
+    ensures none { IfNone result ((n : ℕ) → ¬ IsCount subcommand (option_map (λ s. s.now) text.entry) n) }
+    ensures few { IfSome result (λ n. n ≤ 100000) }
+    ensures legs { IfSome result (λ n. subcommand ≡ Soft → AreLegs n) }
+{
+    match subcommand {
+        Subcommand::Soft => read_number(text?, 1, 6),
+        _ => read_number_or(text, 1000, 1, 100_000),
+    }
 }
 
 /// Whether the words give an argument, and not its default alone.
@@ -101,6 +119,7 @@ fn parse_subcommand(text: &str) -> Option<Subcommand>
         "link" => Some(Subcommand::Link),
         "gen" => Some(Subcommand::Gen),
         "pair" => Some(Subcommand::Pair),
+        "soft" => Some(Subcommand::Soft),
         _ => None,
     }
 }

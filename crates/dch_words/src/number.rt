@@ -4,7 +4,7 @@ ghost use Rattle.dch_words.specs.Parses.{IsNumber, IsNumberOr};
 use itoa::Buffer;
 
 /// The number from `least` to `most` that a text writes in decimal digits, without sign or leading zero.
-fn read_number(text: &str, least: u32, most: u32) -> Option<u32>
+pub fn read_number(text: &str, least: u32, most: u32) -> Option<u32>
     ensures some { IfSome result (λ n. IsNumber least most text.now n) }
     ensures none { IfNone result ((n : ℕ) → ¬ IsNumber least most text.now n) }
 {

@@ -1,8 +1,8 @@
 use Rattle.std.proofs.Common.{◌∙◌, Some, ap, codes, subst, sym}
 use Rattle.clap.specs.Words.{found_of}
 use Rattle.clap.proofs.WalkLemmas.{first_value-rows}
-use Rattle.dch_words.specs.Parses.{IsNumberOr}
-use Rattle.dch_words.proofs.Meanings.{none_some, some_one}
+use Rattle.dch_words.specs.Parses.{IsCount, IsNumberOr}
+use Rattle.dch_words.proofs.Meanings.{none_some, one_subcommand, same_count, some_one}
 use Rattle.dch_words.proofs.arguments.meaning_of.Goals as goal
 
 pub returns-in_err-get_str-clause-none : goal.returns-in_err-get_str-clause-none
@@ -18,10 +18,13 @@ returns-in_err-subcommand-clause-none c =
 
 pub returns-in_err-count-clause-none : goal.returns-in_err-count-clause-none
 returns-in_err-count-clause-none c =
-    let word = c.get_str-2.ensures ∙ first_value-rows (found_of c.args.matches.now) (codes "count") in
+    let found = found_of c.args.matches.now in
+    let word = c.get_str-2.ensures ∙ first_value-rows found (codes "count") in
+    let named = sym (c.in_ok-get_str.ensures ∙ first_value-rows found (codes "command")) ∙ ap (λ t. Some t) c.in_ok-subcommand.ensures.some in
     rw c.from_residual-in_err-count.ensures (λ words means.
+    let same = one_subcommand words.subcommand c.in_ok-subcommand.subcommand (some_one _ _ (sym means.subcommand ∙ named)) in
     c.in_err-count.ensures.none words.count
-    (subst (λ o. IsNumberOr 1000 1 100000 o words.count) (sym word) means.count))
+    (same_count words.subcommand c.in_ok-subcommand.subcommand _ _ words.count same (sym word) means.count))
 
 pub returns-in_err-start-clause-none : goal.returns-in_err-start-clause-none
 returns-in_err-start-clause-none c =
@@ -37,7 +40,7 @@ returns-clause-some c =
     record {
       subcommand = sym (c.in_ok-get_str.ensures ∙ first_value-rows found (codes "command"))
           ∙ ap (λ t. Some t) c.in_ok-subcommand.ensures.some;
-      count = subst (λ o. IsNumberOr 1000 1 100000 o c.in_ok-count.count) count c.in_ok-count.ensures.some;
+      count = subst (λ o. IsCount c.in_ok-subcommand.subcommand o c.in_ok-count.count) count c.in_ok-count.ensures.some;
       start = subst (λ o. IsNumberOr 0 0 31 o c.in_ok-start.start) start c.in_ok-start.ensures.some;
       quiet = c.is_given.ensures;
     }
