@@ -1,3 +1,4 @@
 pub mod ConfigSections
 pub mod Judgements
+pub mod Singles
 pub mod Taking

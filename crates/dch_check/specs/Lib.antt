@@ -1,5 +1,6 @@
 pub mod Acceptance
 pub mod ConfigSection
 pub mod Refusals
+pub mod Singles
 pub mod TakenConfigs
 pub mod Verdicts

@@ -4,10 +4,12 @@
 mod acceptance;
 mod config_section;
 mod refusal;
+mod single;
 mod taken_config;
 mod verdict;
 
 pub use acceptance::accepted_line;
 pub use config_section::ConfigSection;
+pub use single::{judge_single, one_single_law};
 pub use taken_config::{ConfigFault, TakenConfig, take_config};
 pub use verdict::{Verdict, judge, one_judgement_law};
