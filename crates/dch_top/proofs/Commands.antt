@@ -4,7 +4,7 @@ use Rattle.std.proofs.KnownBytes.{Appends-nil, Consumes-nil}
 use Rattle.std.specs.declared.alloc.Global.{Global}
 use Rattle.dch_io.specs.Ends.{End, span}
 use Rattle.dch_words.specs.declared.arguments.Subcommand.{Subcommand}
-use Rattle.dch_words.specs.declared.arguments.Subcommand.TheVariants.{Check, Encode, NodeB, Rnc, Ue, Link, Gen, Pair}
+use Rattle.dch_words.specs.declared.arguments.Subcommand.TheVariants.{Check, Encode, NodeB, Rnc, Ue, Link, Soft, Gen, Pair}
 use Rattle.dch_words.specs.declared.arguments.Arguments.{Arguments}
 use Rattle.dch_words.proofs.Meanings.{one_meaning}
 use Rattle.dch_top.specs.Benches.{Nodes, no_nodes}
@@ -37,5 +37,6 @@ ran_nothing words a k f h nodes none = record {
     nothing Rnc arguments = record { runs = record { taken = []; written = []; takes = Consumes-nil a; writes = Appends-nil k; answers = inl (omega arith, refl) }; idle = λ ill. none }
     nothing Ue arguments = record { runs = record { taken = []; written = []; takes = Consumes-nil a; writes = Appends-nil k; answers = inl (omega arith, refl) }; idle = λ ill. none }
     nothing Link arguments = record { runs = record { taken = []; written = []; takes = Consumes-nil a; writes = Appends-nil k; answers = inl (omega arith, refl) }; idle = λ ill. none }
+    nothing Soft arguments = record { runs = record { taken = []; written = []; takes = Consumes-nil a; writes = Appends-nil k; answers = inl (omega arith, refl) }; idle = λ ill. none }
     nothing Gen arguments = record { ends = (Appends-nil k, none); unread = refl }
     nothing Pair arguments = (inr (refl, (Consumes-nil a, Appends-nil k)), none)

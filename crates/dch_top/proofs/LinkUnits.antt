@@ -20,6 +20,7 @@ use Rattle.dch_top.specs.LinkUnits.{CarriesUnits}
 use Rattle.dch_top.specs.Ran.{Runs}
 use Rattle.dch_top.specs.declared.command.Status.{Status}
 use Rattle.dch_top.specs.declared.command.Status.TheVariants.{Ok as Well}
+use Rattle.dch_top.specs.declared.front.FrontKind.TheVariants.{Whole}
 
 pub only_well : (outcome : Outcome) → Well ≡ outcome_status outcome → outcome ≡ Done
 only_well Done same = refl
@@ -35,10 +36,10 @@ link_carries start quiet source sink nodes runs = ⊎_elim (λ early. absurd ear
     opened : Planned → Run
     opened accepted = opened_run accepted (8 * start) quiet
 
-    well : (after : Run) → EndsLate link_lines opened source sink runs.runs.taken runs.runs.written after Well → CarriesUnits start quiet source sink
+    well : (after : Run) → EndsLate Whole link_lines opened source sink runs.runs.taken runs.runs.written after Well → CarriesUnits start quiet source sink
     well after late =
         let done : late.outcome ≡ Done = only_well late.outcome late.same in
-        let follows : FollowsScript link_lines opened source sink runs.runs.taken runs.runs.written after Done = subst (FollowsScript link_lines opened source sink runs.runs.taken runs.runs.written after) done late.follows in
+        let follows : FollowsScript Whole link_lines opened source sink runs.runs.taken runs.runs.written after Done = subst (FollowsScript Whole link_lines opened source sink runs.runs.taken runs.runs.written after) done late.follows in
         let handles : HandlesLines link_lines (opened follows.accepted) (lines_of (script_of runs.runs.taken)) after follows.answers.text =
         subst (λ (bytes : List ℕ). HandlesLines link_lines (opened follows.accepted) (lines_of bytes) after follows.answers.text) (sym follows.script) follows.answers.handles in
         let begins : (8 * start) % 8 ≡ 0 = omega arith in

@@ -12,11 +12,7 @@ use Rattle.dch_script.specs.Lines.{lines_of, rest_of}
 use Rattle.dch_script.specs.ParsedLine.{ParsedLine, change}
 use Rattle.dch_script.specs.declared.event.LineError.{LineError}
 use Rattle.dch_check.specs.ConfigSection.{configuration_of, nothing, script_of}
-use Rattle.dch_check.specs.Verdicts.{IsAcceptedAs, Refuses}
-use Rattle.dch_check.specs.Acceptance.{accepted_line}
 use Rattle.dch_check.proofs.Taking.{behind_at_end, script_more}
-use Rattle.dch_check.proofs.Judgements.{accepted_so, one_judgement, same_config}
-use Rattle.dch_accept.specs.Answers.{count_of}
 use Rattle.dch_lines.specs.declared.stop.Outcome.{Outcome}
 use Rattle.dch_lines.specs.declared.stop.Outcome.TheVariants.{Ok as Done, Refused as MetMalformed, ReadFault as FailedReading, WriteFault as FailedWriting, NoMemory as Lacking, TooLong as TookTooMuch}
 use Rattle.dch_lines.specs.LineTexts.{HandlesLines, is_empty}
@@ -28,7 +24,7 @@ use Rattle.dch_nodecmd.specs.Rules.{config_of, node_lines}
 use Rattle.dch_nodecmd.specs.Run.{Run, opened_run}
 use Rattle.dch_nodecmd.proofs.NoTrace.{lines_stay}
 use Rattle.dch_words.specs.declared.arguments.Subcommand.{Subcommand}
-use Rattle.dch_words.specs.declared.arguments.Subcommand.TheVariants.{Check, Encode, NodeB, Rnc, Ue, Link, Gen, Pair}
+use Rattle.dch_words.specs.declared.arguments.Subcommand.TheVariants.{Check, Encode, NodeB, Rnc, Ue, Link, Soft, Gen, Pair}
 use Rattle.dch_words.specs.declared.arguments.Arguments.{Arguments}
 use Rattle.dch_nodebcmd.specs.Lasting.{node_b_lasting}
 use Rattle.dch_nodebcmd.specs.Rules.{node_b_rules}
@@ -37,19 +33,29 @@ use Rattle.dch_rnccmd.specs.Rules.{rnc_rules}
 use Rattle.dch_uecmd.specs.Lasting.{ue_lasting}
 use Rattle.dch_uecmd.specs.Rules.{ue_rules}
 use Rattle.dch_script.specs.Meaning.{meaning_in}
+use Rattle.dch_script.specs.Soft.{soft_meaning}
 use Rattle.dch_script.specs.declared.event.Command.TheVariants.{Link as LinkLines}
 use Rattle.dch_linkcmd.specs.LineEvents.{Said, Says as LinkSays}
 use Rattle.dch_linkcmd.specs.Overlong.{link_refuses_long}
 use Rattle.dch_linkcmd.specs.Rules.{link_lines}
-use Rattle.dch_linkcmd.specs.Run.{Run as LinkRun, config_of as link_config, opened_run as opened_link}
+use Rattle.dch_linkcmd.specs.Run.{Run as LinkRun, opened_run as opened_link}
 use Rattle.dch_linkcmd.proofs.Staying.{link_lines_stay}
+use Rattle.dch_softcmd.specs.LineEvents.{Said as SoftSaid, Says as SoftSays}
+use Rattle.dch_softcmd.specs.Overlong.{soft_refuses_long}
+use Rattle.dch_softcmd.specs.Rules.{soft_lines}
+use Rattle.dch_softcmd.specs.Run.{Run as SoftRun, config_of as soft_config, opened_run as opened_soft}
 use Rattle.dch_top.specs.Benches.{Nodes}
 use Rattle.dch_top.specs.Checked.{HasEnded}
 use Rattle.dch_top.specs.Configured.{EndsEarly, EndsLate, FollowsScript, RunsConfigured, outcome_status}
-use Rattle.dch_top.specs.Ran.{AreEventsFor, Runs}
+use Rattle.dch_top.specs.Fronts.{AdmitsFront, RefusesFront}
+use Rattle.dch_top.specs.Ran.{AreEventsFor, Runs, front_kind}
 use Rattle.dch_top.specs.declared.command.Status.{Status}
 use Rattle.dch_top.specs.declared.command.Status.TheVariants.{Ok as Well, Refused, Usage, ReadFault, WriteFault, NoMemory, TooLong}
+use Rattle.dch_top.specs.declared.front.FrontKind.{FrontKind}
+use Rattle.dch_top.specs.declared.front.FrontKind.TheVariants.{Whole, Single}
 use Rattle.dch_top.proofs.Checks.{same_configuration}
+use Rattle.dch_top.proofs.Fronts.{one_front, same_front}
+use Rattle.dch_top.proofs.SoftStays.{soft_lines_stay}
 
 -- a good answer is no error, and `change` says no event
 ok_err : {A : Type 0} (parsed : A) (r : Result A LineError) (why : LineError) → r ≡ Ok parsed → r ≡ Err why → ⊥
@@ -81,49 +87,47 @@ script_whole source input taken more cut all ended = ⊎_elim
     (λ done. (more, (ap script_of cut ∙ script_more taken more done, λ end. ap script_of (all end))))
     (λ end. ([], (ap script_of (all end) ∙ sym (append-nil (script_of taken)), λ at. ap script_of (all at)))) ended
 
--- a command whose lines stand behind a configuration, which stays over them: its rules, the state in which it is opened, the configuration
--- of a state, and what its good lines say under one
+-- a command whose lines stand behind a configuration: what may stand there, its rules, the state in which it is opened, and what its good
+-- lines say under a configuration; none of them is refused in a state to which its lines lead
 pub record Scripted (S : Type 0) : Type 1 where
+  pub kind : FrontKind
   pub semantics : Semantics S
   pub opened : Planned → S
-  pub config : S → Config
   pub says : Config → List ℕ → Type 0
   pub long : RefusesLong semantics
-  pub opens : (accepted : Planned) → config (opened accepted) ≡ accepted.config
-  pub stays : (old new : S) (lines : List (List ℕ)) (text : List ℕ) → HandlesLines semantics old lines new text → config new ≡ config old
-  pub well : (under : Config) (state : S) → config state ≡ under → TakesIn semantics state (says under)
+  pub takes : (accepted : Planned) (state : S) (lines : List (List ℕ)) (text : List ℕ) → HandlesLines semantics (opened accepted) lines state text → TakesIn semantics state (says accepted.config)
 
 -- each of the lines is empty, or says something
 abbrev AreSaid : {S : Type 0} → Scripted S → Config → List (List ℕ) → Type 0
 AreSaid command config lines = All (λ line. (is_empty line ≡ true) ⊎ command.says config line) lines
 
 -- the lines of the script are not refused
-not_refused : {S : Type 0} (command : Scripted S) (input : List ℕ) (now : Option (List ℕ)) (f g : ℕ) (accepted : Planned) (taken written : List ℕ) (after : S) (sink : End) → Consumes (Some input) now taken → IsAcceptedAs (configuration_of input) accepted
-    → AreSaid command accepted.config (lines_of (script_of input)) → rest_of (script_of input) ≡ [] → FollowsScript command.semantics command.opened (span (Some input) now f g) sink taken written after MetMalformed → ⊥
+not_refused : {S : Type 0} (command : Scripted S) (input : List ℕ) (now : Option (List ℕ)) (f g : ℕ) (accepted : Planned) (taken written : List ℕ) (after : S) (sink : End) → Consumes (Some input) now taken → AdmitsFront command.kind (configuration_of input) accepted
+    → AreSaid command accepted.config (lines_of (script_of input)) → rest_of (script_of input) ≡ [] → FollowsScript command.kind command.semantics command.opened (span (Some input) now f g) sink taken written after MetMalformed → ⊥
 not_refused command input now f g accepted taken written after sink takes good events rest follows =
     let source : End = span (Some input) now f g in
     let more = consumed input taken now takes in
     let all = all_consumed input taken now takes in
     let script = script_whole source input taken more.0 more.1 all follows.ended in
     let lines = follows.answers in
-    let same : follows.accepted.config ≡ accepted.config = same_config (configuration_of taken) (configuration_of input) follows.accepted accepted (same_configuration source input taken more.0 more.1 all follows.ended) follows.is.judged good in
-    let stays : command.config lines.state ≡ accepted.config = command.stays (command.opened follows.accepted) lines.state lines.good lines.text lines.handles ∙ command.opens follows.accepted ∙ same in
-    refused_none command.semantics (command.says accepted.config) source lines.state [] (script_of input) (follows.part ++ follows.later) script.0 lines.good lines.why command.long (command.well accepted.config lines.state stays)
+    let same : follows.accepted.config ≡ accepted.config = same_front command.kind (configuration_of taken) (configuration_of input) follows.accepted accepted (same_configuration source input taken more.0 more.1 all follows.ended) follows.is.judged good in
+    let well : TakesIn command.semantics lines.state (command.says accepted.config) = subst (λ (c : Config). TakesIn command.semantics lines.state (command.says c)) same (command.takes follows.accepted lines.state lines.good lines.text lines.handles) in
+    refused_none command.semantics (command.says accepted.config) source lines.state [] (script_of input) (follows.part ++ follows.later) script.0 lines.good lines.why command.long well
     (script.1.0 ∙ ap (λ s. s ++ script.0) follows.script) (λ end. script.1.1 end ∙ follows.script) events rest lines.refused
 
 -- the lines of a script end within the limit
 script_within : (taken : List ℕ) → length (script_of taken) ≤ length taken
 script_within taken = (behind_at_end nothing taken).0
 
-pub script_completes : {S : Type 0} (command : Scripted S) (before now k l : Option (List ℕ)) (f g h i : ℕ) (Holds : S → Type 0) (status : Status) → RunsConfigured command.semantics command.opened Holds (span before now f g) (span k l h i) status
-    → IfSome before (λ input. (accepted : Planned) → IsAcceptedAs (configuration_of input) accepted → AreSaid command accepted.config (lines_of (script_of input)) → rest_of (script_of input) ≡ [] → length input ≤ LIMIT → ¬ Rose f g → ¬ Rose h i → (status ≡ Well) ⊎ (status ≡ NoMemory))
+pub script_completes : {S : Type 0} (command : Scripted S) (before now k l : Option (List ℕ)) (f g h i : ℕ) (Holds : S → Type 0) (status : Status) → RunsConfigured command.kind command.semantics command.opened Holds (span before now f g) (span k l h i) status
+    → IfSome before (λ input. (accepted : Planned) → AdmitsFront command.kind (configuration_of input) accepted → AreSaid command accepted.config (lines_of (script_of input)) → rest_of (script_of input) ≡ [] → length input ≤ LIMIT → ¬ Rose f g → ¬ Rose h i → (status ≡ Well) ⊎ (status ≡ NoMemory))
 script_completes command None now k l f g h i Holds status run = tt
 script_completes {S} command (Some input) now k l f g h i Holds status run = λ accepted good events rest size s t. ⊎_elim (early accepted good size s t status) (late accepted good events rest size s t) run.answers
   where
     few : length run.taken ≤ length input
     few = let more = consumed input run.taken now run.takes in omega (arith, ap length more.1, length-append run.taken more.0)
 
-    early : (accepted : Planned) → IsAcceptedAs (configuration_of input) accepted → length input ≤ LIMIT → ¬ Rose f g → ¬ Rose h i → (status : Status) → EndsEarly (span (Some input) now f g) (span k l h i) run.taken run.written status → (status ≡ Well) ⊎ (status ≡ NoMemory)
+    early : (accepted : Planned) → AdmitsFront command.kind (configuration_of input) accepted → length input ≤ LIMIT → ¬ Rose f g → ¬ Rose h i → (status : Status) → EndsEarly command.kind (span (Some input) now f g) (span k l h i) run.taken run.written status → (status ≡ Well) ⊎ (status ≡ NoMemory)
     early accepted good size s t Well ends = absurd ends
     early accepted good size s t Usage ends = absurd ends
     early accepted good size s t NoMemory ends = inr refl
@@ -133,13 +137,13 @@ script_completes {S} command (Some input) now k l f g h i Holds status run = λ 
     early accepted good size s t Refused ends =
         let more = consumed input run.taken now run.takes in
         let same = same_configuration (span (Some input) now f g) input run.taken more.0 more.1 (all_consumed input run.taken now run.takes) ends.ended in
-        absurd (one_judgement (configuration_of input) (accepted_line (count_of accepted.config)) run.written (accepted_so (configuration_of input) accepted good) (subst (λ text. Refuses text run.written) same ends.refuses))
+        absurd (one_front command.kind (configuration_of input) run.written accepted good (subst (λ text. RefusesFront command.kind text run.written) same ends.refuses))
 
-    late : (accepted : Planned) → IsAcceptedAs (configuration_of input) accepted → AreSaid command accepted.config (lines_of (script_of input)) → rest_of (script_of input) ≡ [] → length input ≤ LIMIT → ¬ Rose f g → ¬ Rose h i
-        → (after : S) × (EndsLate command.semantics command.opened (span (Some input) now f g) (span k l h i) run.taken run.written after status × Holds after) → (status ≡ Well) ⊎ (status ≡ NoMemory)
+    late : (accepted : Planned) → AdmitsFront command.kind (configuration_of input) accepted → AreSaid command accepted.config (lines_of (script_of input)) → rest_of (script_of input) ≡ [] → length input ≤ LIMIT → ¬ Rose f g → ¬ Rose h i
+        → (after : S) × (EndsLate command.kind command.semantics command.opened (span (Some input) now f g) (span k l h i) run.taken run.written after status × Holds after) → (status ≡ Well) ⊎ (status ≡ NoMemory)
     late accepted good events rest size s t (after, (ends, holds)) = by ends.outcome ends.follows ends.same ends.enough
       where
-        by : (outcome : Outcome) → FollowsScript command.semantics command.opened (span (Some input) now f g) (span k l h i) run.taken run.written after outcome → status ≡ outcome_status outcome → outcome ≢ Lacking → (status ≡ Well) ⊎ (status ≡ NoMemory)
+        by : (outcome : Outcome) → FollowsScript command.kind command.semantics command.opened (span (Some input) now f g) (span k l h i) run.taken run.written after outcome → status ≡ outcome_status outcome → outcome ≢ Lacking → (status ≡ Well) ⊎ (status ≡ NoMemory)
         by Done follows same enough = inl same
         by Lacking follows same enough = inr same
         by FailedReading follows same enough = absurd (s follows.answers.fails)
@@ -150,32 +154,44 @@ script_completes {S} command (Some input) now k l f g h i Holds status run = λ 
 -- a command with one node
 abbrev node_scripted : {S E : Type 0} (rules : NodeRules S E) → AreLasting rules → (start : ℕ) (quiet : Bool) → Scripted (Run S E)
 node_scripted rules lasting start quiet = record {
+  kind = Whole;
   semantics = node_lines rules;
   opened = λ accepted. opened_run rules accepted (8 * start) quiet;
-  config = config_of rules;
   says = Says rules;
   long = refuses_long rules;
-  opens = λ accepted. ap (λ (p : Planned). p.config) (lasting.opens accepted (8 * start));
-  stays = λ old new lines text handles. ap (λ (p : Planned). p.config) (lines_stay rules lasting old new lines text handles);
-  well = λ config run same. says_well rules lasting config run same;
+  takes = λ accepted state lines text handles. says_well rules lasting accepted.config state
+      (ap (λ (p : Planned). p.config) (lines_stay rules lasting (opened_run rules accepted (8 * start) quiet) state lines text handles ∙ lasting.opens accepted (8 * start)));
 }
 
 -- the command `link`
 abbrev link_scripted : (start : ℕ) (quiet : Bool) → Scripted LinkRun
 link_scripted start quiet = record {
+  kind = Whole;
   semantics = link_lines;
   opened = λ accepted. opened_link accepted (8 * start) quiet;
-  config = link_config;
   says = λ config line. (said : Said) × LinkSays config line said;
   long = link_refuses_long;
-  opens = λ accepted. refl;
-  stays = link_lines_stay;
-  well = λ config run same line why says refuses. ok_err says.1.parsed _ why (subst (λ (c : Config). meaning_in LinkLines c line ≡ Ok says.1.parsed) (sym same) says.1.is_parsed) refuses;
+  takes = λ accepted state lines text handles line why says refuses. ok_err says.1.parsed _ why
+      (subst (λ (c : Config). meaning_in LinkLines c line ≡ Ok says.1.parsed) (sym (link_lines_stay (opened_link accepted (8 * start) quiet) state lines text handles)) says.1.is_parsed) refuses;
+}
+
+-- the command `soft` with so many legs
+abbrev soft_scripted : (legs start : ℕ) (quiet : Bool) → Scripted SoftRun
+soft_scripted legs start quiet = record {
+  kind = Single;
+  semantics = soft_lines;
+  opened = λ accepted. opened_soft accepted (8 * start) legs quiet;
+  says = λ config line. (said : SoftSaid) × SoftSays legs config line said;
+  long = soft_refuses_long;
+  takes = λ accepted state lines text handles line why says refuses.
+      let alike = soft_lines_stay (opened_soft accepted (8 * start) legs quiet) state lines text handles in
+      let same : soft_meaning state.soft.count (soft_config state) line ≡ Ok (says.1.leg, says.1.parsed) = rw (alike.count, alike.active) says.1.is_parsed in
+      ok_err (says.1.leg, says.1.parsed) _ why same refuses;
 }
 
 -- the nodes of each command answer all lines
 pub events_answered : (before now k l : Option (List ℕ)) (f g h i : ℕ) (subcommand : Subcommand) (arguments : Arguments) (nodes : Nodes) (status : Status) → Runs subcommand arguments (span before now f g) (span k l h i) nodes status
-    → IfSome before (λ input. (accepted : Planned) → IsAcceptedAs (configuration_of input) accepted → AreEventsFor subcommand accepted.config (lines_of (script_of input)) → rest_of (script_of input) ≡ [] → length input ≤ LIMIT → ¬ Rose f g → ¬ Rose h i
+    → IfSome before (λ input. (accepted : Planned) → AdmitsFront (front_kind subcommand) (configuration_of input) accepted → AreEventsFor subcommand arguments accepted.config (lines_of (script_of input)) → rest_of (script_of input) ≡ [] → length input ≤ LIMIT → ¬ Rose f g → ¬ Rose h i
     → (status ≡ Well) ⊎ (status ≡ NoMemory))
 events_answered None now k l f g h i subcommand arguments nodes status runs = tt
 events_answered (Some input) now k l f g h i Check arguments nodes status runs = λ accepted good events. absurd events
@@ -184,5 +200,6 @@ events_answered (Some input) now k l f g h i NodeB arguments nodes status runs =
 events_answered (Some input) now k l f g h i Rnc arguments nodes status runs = script_completes (node_scripted rnc_rules rnc_lasting arguments.start arguments.quiet) (Some input) now k l f g h i _ status runs.runs
 events_answered (Some input) now k l f g h i Ue arguments nodes status runs = script_completes (node_scripted ue_rules ue_lasting arguments.start arguments.quiet) (Some input) now k l f g h i _ status runs.runs
 events_answered (Some input) now k l f g h i Link arguments nodes status runs = script_completes (link_scripted arguments.start arguments.quiet) (Some input) now k l f g h i _ status runs.runs
+events_answered (Some input) now k l f g h i Soft arguments nodes status runs = script_completes (soft_scripted arguments.count arguments.start arguments.quiet) (Some input) now k l f g h i _ status runs.runs
 events_answered (Some input) now k l f g h i Gen arguments nodes status runs = λ accepted good events. absurd events
 events_answered (Some input) now k l f g h i Pair arguments nodes status runs = λ accepted good events. absurd events

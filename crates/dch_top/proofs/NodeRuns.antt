@@ -8,9 +8,10 @@ use Rattle.dch_top.specs.Configured.{RunsConfigured}
 use Rattle.dch_top.specs.NodeRuns.{RunsWith}
 use Rattle.dch_top.specs.declared.command.Status.{Status}
 use Rattle.dch_top.specs.declared.command.Status.TheVariants.{Ok, Refused, Usage, ReadFault, WriteFault, NoMemory, TooLong}
+use Rattle.dch_top.specs.declared.front.FrontKind.{FrontKind}
 
-pub runs_ill : {S : Type 0} (semantics : Semantics S) (opened : Planned → S) (Holds : Nodes → S → Type 0) (source sink : End) (nodes : Nodes) (status : Status) → nodes ≡ no_nodes → RunsConfigured semantics opened (λ run. Unit {0}) source sink status × (status ≢ Ok)
-    → RunsWith semantics opened Holds source sink nodes status
+pub runs_ill : {S : Type 0} {kind : FrontKind} (semantics : Semantics S) (opened : Planned → S) (Holds : Nodes → S → Type 0) (source sink : End) (nodes : Nodes) (status : Status) → nodes ≡ no_nodes → RunsConfigured kind semantics opened (λ run. Unit {0}) source sink status × (status ≢ Ok)
+    → RunsWith kind semantics opened Holds source sink nodes status
 runs_ill semantics opened Holds source sink nodes Ok none runs = absurd (runs.1 refl)
 runs_ill semantics opened Holds source sink nodes Refused none runs = record { runs = runs.0; idle = λ ill. none }
 runs_ill semantics opened Holds source sink nodes Usage none runs = record { runs = runs.0; idle = λ ill. none }

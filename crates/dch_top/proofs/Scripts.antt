@@ -26,6 +26,7 @@ use Rattle.dch_top.specs.Configured.{FollowsBehind, FollowsRest, FollowsScript, 
 use Rattle.dch_top.specs.Untouched.{IsUntouched}
 use Rattle.dch_top.specs.declared.command.Status.{Status}
 use Rattle.dch_top.specs.declared.command.Status.TheVariants.{Ok as Well, NoMemory}
+use Rattle.dch_top.specs.declared.front.FrontKind.{FrontKind}
 
 -- what was followed, from the work at its beginning
 abbrev pub Followed : {S C : Type 0} → Semantics S → (S → C → Type 0) → End → End → TakenConfig → Progress C → Progress C → List ℕ → Outcome → Type 0
@@ -63,7 +64,7 @@ ends_ill semantics represents source sink front old new handler state bytes line
     record { after = led.0; outcome = outcome; follows = led.1.1; same = refl; enough = enough; ill = ill }
 
 -- a fault before the configuration was whole
-pub ends_unopened : (a b k : Option (List ℕ)) (f g h : ℕ) (room : List ℕ) (fault : ConfigFault) → TakesConfig (span a b f g) room (Err fault) → EndsUnopened (span a b f g) (span k k h h) (fault_status fault)
+pub ends_unopened : {kind : FrontKind} (a b k : Option (List ℕ)) (f g h : ℕ) (room : List ℕ) (fault : ConfigFault) → TakesConfig (span a b f g) room (Err fault) → EndsUnopened kind (span a b f g) (span k k h h) (fault_status fault)
 ends_unopened a b k f g h room fault.ReadFault takes = record { taken = takes.taken; written = []; takes = takes.takes; writes = Appends-nil k; answers = (record { fails = takes.fails; within = takes.within; soon = takes.soon }, refl) }
 ends_unopened a b k f g h room fault.NoMemory takes = record { taken = takes.taken; written = []; takes = takes.takes; writes = Appends-nil k; answers = (takes.within, refl) }
 ends_unopened a b k f g h room fault.TooLong takes = record { taken = takes.taken; written = []; takes = takes.takes; writes = Appends-nil k; answers = (record { long = takes.long; soon = takes.soon }, refl) }
@@ -120,10 +121,10 @@ pending_length : (room : List ℕ) (from to : ℕ) → from ≤ to → to ≤ le
 pending_length room from to ordered inside = length-take-le (to - from) (drop from room) (omega (arith, length-drop from room, ordered, inside))
 
 -- the line `---` came, and the lines behind it were followed
-follows_whole : {S : Type 0} (semantics : Semantics S) (opened : Planned → S) (a b c k l : Option (List ℕ)) (f g h i j : ℕ) (room : List ℕ) (front : TakenConfig) (accepted : Planned) (after : S) (outcome : Outcome) → (is : IsTakenConfig (span a b f g) room front) → IsPlannedAs (settled front.section) accepted
+follows_whole : {S : Type 0} {kind : FrontKind} (semantics : Semantics S) (opened : Planned → S) (a b c k l : Option (List ℕ)) (f g h i j : ℕ) (room : List ℕ) (front : TakenConfig) (accepted : Planned) (after : S) (outcome : Outcome) → (is : IsTakenConfig (span a b f g) room front) → IsPlannedAs kind (settled front.section) accepted
     → (whole : IsComplete front room is.taken) → (run : FollowsInput semantics (span b c g h) (span k l i j) (opened_begin front (opened accepted)) after (slice_range room front.pending.from front.pending.to) outcome)
-    → FollowsScript semantics opened (span a c f h) (span k l i j) (is.taken ++ run.taken) run.written after outcome
-follows_whole semantics opened a b c k l f g h i j room front accepted after outcome is good whole run =
+    → FollowsScript kind semantics opened (span a c f h) (span k l i j) (is.taken ++ run.taken) run.written after outcome
+follows_whole {S} {kind} semantics opened a b c k l f g h i j room front accepted after outcome is good whole run =
     let taken : List ℕ = is.taken ++ run.taken in
     let part : List ℕ = slice_range room front.pending.from front.pending.to in
     let more : configuration_of taken ≡ configuration_of is.taken = configuration_more is.taken run.taken whole.done in
@@ -135,7 +136,7 @@ follows_whole semantics opened a b c k l f g h i j room front accepted after out
     record {
       ended = inl (complete_more is.taken run.taken whole.done);
       accepted = accepted;
-      is = subst (λ t. IsPlannedAs t accepted) (is.text ∙ sym more) good;
+      is = subst (λ t. IsPlannedAs kind t accepted) (is.text ∙ sym more) good;
       part = part;
       later = run.taken;
       script = script ∙ ap (λ p. p ++ run.taken) (sym whole.behind);
@@ -149,10 +150,10 @@ none_taken None taken takes = absurd takes
 none_taken (Some rest) taken takes = nil_from_length taken (omega (arith, ap length takes, length-append taken rest))
 
 -- the input ended with the configuration, and no line follows
-follows_last : {S : Type 0} (semantics : Semantics S) (opened : Planned → S) (a b k l now : Option (List ℕ)) (f g i j : ℕ) (room : List ℕ) (front : TakenConfig) (accepted : Planned) (after : S) (outcome : Outcome) → (is : IsTakenConfig (span a b f g) room front) → IsPlannedAs (settled front.section) accepted
+follows_last : {S : Type 0} {kind : FrontKind} (semantics : Semantics S) (opened : Planned → S) (a b k l now : Option (List ℕ)) (f g i j : ℕ) (room : List ℕ) (front : TakenConfig) (accepted : Planned) (after : S) (outcome : Outcome) → (is : IsTakenConfig (span a b f g) room front) → IsPlannedAs kind (settled front.section) accepted
     → IsEnded front (span a b f g) is.taken → (run : FollowsInput semantics (span (Some []) now 0 0) (span k l i j) (opened_begin front (opened accepted)) after (slice_range room front.pending.from front.pending.to) outcome)
-    → FollowsScript semantics opened (span a b f g) (span k l i j) is.taken run.written after outcome
-follows_last semantics opened a b k l now f g i j room front accepted after outcome is good ended run =
+    → FollowsScript kind semantics opened (span a b f g) (span k l i j) is.taken run.written after outcome
+follows_last {S} {kind} semantics opened a b k l now f g i j room front accepted after outcome is good ended run =
     let part : List ℕ = slice_range room front.pending.from front.pending.to in
     let none : script_of is.taken ≡ [] = script_none is.taken ended.soon in
     let empty : part ≡ [] = nil_from_length part (omega (arith, pending_length room front.pending.from front.pending.to is.ordered is.inside, ended.none)) in
@@ -162,7 +163,7 @@ follows_last semantics opened a b k l now f g i j room front accepted after outc
     record {
       ended = inr ended.end;
       accepted = accepted;
-      is = subst (λ t. IsPlannedAs t accepted) is.text good;
+      is = subst (λ t. IsPlannedAs kind t accepted) is.text good;
       part = part;
       later = run.taken;
       script = none ∙ sym (ap (λ p. p ++ run.taken) empty ∙ none_taken now run.taken run.takes);
@@ -180,11 +181,11 @@ of_true A B true is x = x
 of_true A B false is x = absurd (false≢true is)
 
 -- a run with an accepted configuration
-pub runs_opened : {S : Type 0} (semantics : Semantics S) (opened : Planned → S) (Holds : S → Type 0) (a b c k l : Option (List ℕ)) (f g h i j : ℕ) (room : List ℕ) (front : TakenConfig) (accepted : Planned) (after : S) (outcome : Outcome) → IsTakenConfig (span a b f g) room front → IsPlannedAs (settled front.section) accepted
-    → FollowsBehind semantics (span b c g h) (span k l i j) front (opened accepted) after (slice_range room front.pending.from front.pending.to) outcome → outcome ≢ Lacking → Holds after → RunsConfigured semantics opened Holds (span a c f h) (span k l i j) (outcome_status outcome)
-runs_opened semantics opened Holds a b c k l f g h i j room front accepted after outcome is good follows enough holds = by front.pending.at_end refl
+pub runs_opened : {S : Type 0} {kind : FrontKind} (semantics : Semantics S) (opened : Planned → S) (Holds : S → Type 0) (a b c k l : Option (List ℕ)) (f g h i j : ℕ) (room : List ℕ) (front : TakenConfig) (accepted : Planned) (after : S) (outcome : Outcome) → IsTakenConfig (span a b f g) room front → IsPlannedAs kind (settled front.section) accepted
+    → FollowsBehind semantics (span b c g h) (span k l i j) front (opened accepted) after (slice_range room front.pending.from front.pending.to) outcome → outcome ≢ Lacking → Holds after → RunsConfigured kind semantics opened Holds (span a c f h) (span k l i j) (outcome_status outcome)
+runs_opened {S} {kind} semantics opened Holds a b c k l f g h i j room front accepted after outcome is good follows enough holds = by front.pending.at_end refl
   where
-    by : (at_end : Bool) → front.pending.at_end ≡ at_end → RunsConfigured semantics opened Holds (span a c f h) (span k l i j) (outcome_status outcome)
+    by : (at_end : Bool) → front.pending.at_end ≡ at_end → RunsConfigured kind semantics opened Holds (span a c f h) (span k l i j) (outcome_status outcome)
     by false going =
         let run = of_false _ _ front.pending.at_end going follows in
         let whole : IsComplete front room is.taken = ⊎_elim (λ whole. whole) (λ ended. absurd (false≢true (sym going ∙ ended.ended))) is.whole in
@@ -207,14 +208,14 @@ runs_opened semantics opened Holds a b c k l f g h i j room front accepted after
         })
 
 -- a run that ended before the line `open`
-pub runs_unopened : {S : Type 0} (semantics : Semantics S) (opened : Planned → S) (Holds : S → Type 0) (source sink : End) (status : Status) → EndsUnopened source sink status → RunsConfigured semantics opened Holds source sink status
+pub runs_unopened : {S : Type 0} {kind : FrontKind} (semantics : Semantics S) (opened : Planned → S) (Holds : S → Type 0) (source sink : End) (status : Status) → EndsUnopened kind source sink status → RunsConfigured kind semantics opened Holds source sink status
 runs_unopened semantics opened Holds source sink status not = record { taken = not.taken; written = not.written; takes = not.takes; writes = not.writes; answers = inl not.answers }
 
-pub not_well : (source sink : End) (status : Status) → EndsUnopened source sink status → status ≢ Well
+pub not_well : {kind : FrontKind} (source sink : End) (status : Status) → EndsUnopened kind source sink status → status ≢ Well
 not_well source sink status not same = rw same at not.answers
 
 -- another thing holds of the command's state afterwards
-pub runs_with : {S : Type 0} (semantics : Semantics S) (opened : Planned → S) (Holds Then : S → Type 0) (source sink : End) (status : Status) → ((after : S) → Holds after → Then after) → RunsConfigured semantics opened Holds source sink status → RunsConfigured semantics opened Then source sink status
+pub runs_with : {S : Type 0} {kind : FrontKind} (semantics : Semantics S) (opened : Planned → S) (Holds Then : S → Type 0) (source sink : End) (status : Status) → ((after : S) → Holds after → Then after) → RunsConfigured kind semantics opened Holds source sink status → RunsConfigured kind semantics opened Then source sink status
 runs_with semantics opened Holds Then source sink status on runs = record {
   taken = runs.taken;
   written = runs.written;
@@ -224,7 +225,7 @@ runs_with semantics opened Holds Then source sink status on runs = record {
 }
 
 -- memory was wanted before the line `open`
-pub lacks_before_opening : (a b c k l : Option (List ℕ)) (f g h i j : ℕ) (room : List ℕ) (front : TakenConfig) → IsTakenConfig (span a b f g) room front → IsUntouched (span b c g h) (span k l i j) → EndsUnopened (span a c f h) (span k l i j) NoMemory
+pub lacks_before_opening : {kind : FrontKind} (a b c k l : Option (List ℕ)) (f g h i j : ℕ) (room : List ℕ) (front : TakenConfig) → IsTakenConfig (span a b f g) room front → IsUntouched (span b c g h) (span k l i j) → EndsUnopened kind (span a c f h) (span k l i j) NoMemory
 lacks_before_opening a b c k l f g h i j room front is still = record {
   taken = is.taken;
   written = [];
@@ -243,17 +244,17 @@ ill_status Lacking ill well = cc
 ill_status TookTooMuch ill well = cc
 
 -- the lines behind an accepted configuration ended the run, and not well
-pub runs_ill : {S : Type 0} (semantics : Semantics S) (opened : Planned → S) (a b c k l : Option (List ℕ)) (f g h i j : ℕ) (room : List ℕ) (front : TakenConfig) (accepted : Planned) (status : Status) → IsTakenConfig (span a b f g) room front → IsPlannedAs (settled front.section) accepted
+pub runs_ill : {S : Type 0} {kind : FrontKind} (semantics : Semantics S) (opened : Planned → S) (a b c k l : Option (List ℕ)) (f g h i j : ℕ) (room : List ℕ) (front : TakenConfig) (accepted : Planned) (status : Status) → IsTakenConfig (span a b f g) room front → IsPlannedAs kind (settled front.section) accepted
     → ((status ≡ NoMemory) × IsUntouched (span b c g h) (span k l i j)) ⊎ StopsBehind semantics (span b c g h) (span k l i j) front (opened accepted) (slice_range room front.pending.from front.pending.to) status
-    → RunsConfigured semantics opened (λ after. Unit {0}) (span a c f h) (span k l i j) status × (status ≢ Well)
-runs_ill semantics opened a b c k l f g h i j room front accepted status is good stops = ⊎_elim none some stops
+    → RunsConfigured kind semantics opened (λ after. Unit {0}) (span a c f h) (span k l i j) status × (status ≢ Well)
+runs_ill {S} {kind} semantics opened a b c k l f g h i j room front accepted status is good stops = ⊎_elim none some stops
   where
-    none : (status ≡ NoMemory) × IsUntouched (span b c g h) (span k l i j) → RunsConfigured semantics opened (λ after. Unit {0}) (span a c f h) (span k l i j) status × (status ≢ Well)
+    none : (status ≡ NoMemory) × IsUntouched (span b c g h) (span k l i j) → RunsConfigured kind semantics opened (λ after. Unit {0}) (span a c f h) (span k l i j) status × (status ≢ Well)
     none wanted =
-        let not : EndsUnopened (span a c f h) (span k l i j) status = rw wanted.0 (lacks_before_opening a b c k l f g h i j room front is wanted.1) in
+        let not : EndsUnopened kind (span a c f h) (span k l i j) status = rw wanted.0 (lacks_before_opening a b c k l f g h i j room front is wanted.1) in
         (runs_unopened semantics opened (λ after. Unit {0}) (span a c f h) (span k l i j) status not, not_well (span a c f h) (span k l i j) status not)
 
-    some : StopsBehind semantics (span b c g h) (span k l i j) front (opened accepted) (slice_range room front.pending.from front.pending.to) status → RunsConfigured semantics opened (λ after. Unit {0}) (span a c f h) (span k l i j) status × (status ≢ Well)
+    some : StopsBehind semantics (span b c g h) (span k l i j) front (opened accepted) (slice_range room front.pending.from front.pending.to) status → RunsConfigured kind semantics opened (λ after. Unit {0}) (span a c f h) (span k l i j) status × (status ≢ Well)
     some stop = (rw stop.same (runs_opened semantics opened (λ after. Unit {0}) a b c k l f g h i j room front accepted stop.after stop.outcome is good stop.follows stop.enough tt), λ well. ill_status stop.outcome stop.ill (sym stop.same ∙ well))
 
 -- what holds where the sink was left as it was before
@@ -261,15 +262,15 @@ sink_from : (P : End → Type 0) (k m l : Option (List ℕ)) (i n j : ℕ) → m
 sink_from P k m l i n j unwritten faultless holds = rw (← unwritten, ← faultless) holds
 
 -- a run whose configuration was taken, and whose lines were followed
-pub runs_configured : {S : Type 0} (semantics : Semantics S) (opened : Planned → S) (Holds : S → Type 0) (a b c k m l : Option (List ℕ)) (f g h i n j : ℕ) (room : List ℕ) (front : TakenConfig) (accepted : Planned) (after : S) (outcome : Outcome) → IsConfigured (span a b f g) (span k m i n) room front accepted
-    → FollowsBehind semantics (span b c g h) (span m l n j) front (opened accepted) after (slice_range room front.pending.from front.pending.to) outcome → outcome ≢ Lacking → Holds after → RunsConfigured semantics opened Holds (span a c f h) (span k l i j) (outcome_status outcome)
-runs_configured semantics opened Holds a b c k m l f g h i n j room front accepted after outcome is follows enough holds =
-    sink_from (λ sink. RunsConfigured semantics opened Holds (span a c f h) sink (outcome_status outcome)) k m l i n j is.unwritten is.faultless
+pub runs_configured : {S : Type 0} {kind : FrontKind} (semantics : Semantics S) (opened : Planned → S) (Holds : S → Type 0) (a b c k m l : Option (List ℕ)) (f g h i n j : ℕ) (room : List ℕ) (front : TakenConfig) (accepted : Planned) (after : S) (outcome : Outcome) → IsConfigured kind (span a b f g) (span k m i n) room front accepted
+    → FollowsBehind semantics (span b c g h) (span m l n j) front (opened accepted) after (slice_range room front.pending.from front.pending.to) outcome → outcome ≢ Lacking → Holds after → RunsConfigured kind semantics opened Holds (span a c f h) (span k l i j) (outcome_status outcome)
+runs_configured {S} {kind} semantics opened Holds a b c k m l f g h i n j room front accepted after outcome is follows enough holds =
+    sink_from (λ sink. RunsConfigured kind semantics opened Holds (span a c f h) sink (outcome_status outcome)) k m l i n j is.unwritten is.faultless
     (runs_opened semantics opened Holds a b c m l f g h n j room front accepted after outcome is.whole is.is follows enough holds)
 
-pub stops_configured : {S : Type 0} (semantics : Semantics S) (opened : Planned → S) (a b c k m l : Option (List ℕ)) (f g h i n j : ℕ) (room : List ℕ) (front : TakenConfig) (accepted : Planned) (status : Status) → IsConfigured (span a b f g) (span k m i n) room front accepted
+pub stops_configured : {S : Type 0} {kind : FrontKind} (semantics : Semantics S) (opened : Planned → S) (a b c k m l : Option (List ℕ)) (f g h i n j : ℕ) (room : List ℕ) (front : TakenConfig) (accepted : Planned) (status : Status) → IsConfigured kind (span a b f g) (span k m i n) room front accepted
     → ((status ≡ NoMemory) × IsUntouched (span b c g h) (span m l n j)) ⊎ StopsBehind semantics (span b c g h) (span m l n j) front (opened accepted) (slice_range room front.pending.from front.pending.to) status
-    → RunsConfigured semantics opened (λ after. Unit {0}) (span a c f h) (span k l i j) status × (status ≢ Well)
-stops_configured semantics opened a b c k m l f g h i n j room front accepted status is stops =
-    sink_from (λ sink. RunsConfigured semantics opened (λ after. Unit {0}) (span a c f h) sink status × (status ≢ Well)) k m l i n j is.unwritten is.faultless
+    → RunsConfigured kind semantics opened (λ after. Unit {0}) (span a c f h) (span k l i j) status × (status ≢ Well)
+stops_configured {S} {kind} semantics opened a b c k m l f g h i n j room front accepted status is stops =
+    sink_from (λ sink. RunsConfigured kind semantics opened (λ after. Unit {0}) (span a c f h) sink status × (status ≢ Well)) k m l i n j is.unwritten is.faultless
     (runs_ill semantics opened a b c m l f g h n j room front accepted status is.whole is.is stops)

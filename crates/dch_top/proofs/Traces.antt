@@ -16,6 +16,7 @@ use Rattle.dch_top.specs.Benches.{Nodes}
 use Rattle.dch_top.specs.Configured.{EndsLate, FollowsScript, IsPlannedAs}
 use Rattle.dch_top.specs.NodeRuns.{RunsNode}
 use Rattle.dch_top.specs.declared.command.Status.TheVariants.{Ok as Well}
+use Rattle.dch_top.specs.declared.front.FrontKind.TheVariants.{Whole}
 use Rattle.dch_top.proofs.LinkUnits.{only_well}
 use Rattle.dch_top.specs.Traces.{Answers, HasLine, IsAnswer, LeavesNoTrace}
 
@@ -26,10 +27,10 @@ answered {S} {E} rules Holds start quiet source sink nodes runs = ⊎_elim (λ e
     opened : Planned → Run S E
     opened accepted = opened_run rules accepted (8 * start) quiet
 
-    well : (after : Run S E) → EndsLate (node_lines rules) opened source sink runs.runs.taken runs.runs.written after Well → Answers rules start quiet source sink
+    well : (after : Run S E) → EndsLate Whole (node_lines rules) opened source sink runs.runs.taken runs.runs.written after Well → Answers rules start quiet source sink
     well after late =
         let done : late.outcome ≡ Done = only_well late.outcome late.same in
-        let follows : FollowsScript (node_lines rules) opened source sink runs.runs.taken runs.runs.written after Done = subst (FollowsScript (node_lines rules) opened source sink runs.runs.taken runs.runs.written after) done late.follows in
+        let follows : FollowsScript Whole (node_lines rules) opened source sink runs.runs.taken runs.runs.written after Done = subst (FollowsScript Whole (node_lines rules) opened source sink runs.runs.taken runs.runs.written after) done late.follows in
         record {
           taken = runs.runs.taken;
           written = runs.runs.written;
@@ -66,7 +67,7 @@ traceless {S} {E} rules start quiet input shorter written before after line line
       whole = answer.all ∙ ap (λ (l : List ℕ). codes "open\n" ++ l ++ last) whole ∙ joined (codes "open\n") none.front own none.back last;
       without = record {
         accepted = answer.accepted;
-        is = subst (λ (text : List ℕ). IsPlannedAs text answer.accepted) (sym has.same) answer.is;
+        is = subst (λ (text : List ℕ). IsPlannedAs Whole text answer.accepted) (sym has.same) answer.is;
         ended = has.ended;
         new = none.other;
         text = none.front ++ none.back;

@@ -7,10 +7,13 @@ use Rattle.dch_check.specs.ConfigSection.{configuration_of, is_complete}
 use Rattle.dch_check.specs.Verdicts.{IsAccepted, Refuses}
 use Rattle.dch_check.specs.declared.taken_config.ConfigFault.{ConfigFault}
 use Rattle.dch_check.specs.declared.taken_config.ConfigFault.TheVariants as fault
+use Rattle.dch_top.specs.Fronts.{RefusesFront}
 use Rattle.dch_top.specs.declared.check.Answer.{Answer}
 use Rattle.dch_top.specs.declared.check.Answer.TheVariants.{Accepted as AcceptedBy, Refused as RefusedBy}
 use Rattle.dch_top.specs.declared.command.Status.{Status}
 use Rattle.dch_top.specs.declared.command.Status.TheVariants.{Ok as Done, Refused, Usage, ReadFault, WriteFault, NoMemory, TooLong}
+use Rattle.dch_top.specs.declared.front.FrontKind.{FrontKind}
+use Rattle.dch_top.specs.declared.front.FrontKind.TheVariants.{Whole}
 
 -- the input was taken to its end, and its configuration is accepted by this line
 pub record IsGoodInput (source : End) (taken line : List ℕ) : Type 0 where
@@ -22,11 +25,11 @@ pub record IsGoodInput (source : End) (taken line : List ℕ) : Type 0 where
 abbrev pub HasEnded : End → List ℕ → Type 0
 HasEnded source taken = (is_complete taken ≡ true) ⊎ IsAtEnd source.now
 
--- the configuration is refused by this line, with the piece that completes it
-pub record IsRefusedInput (source : End) (taken line : List ℕ) : Type 0 where
+-- the configuration is refused by this line, with the piece that completes it, where such a one may stand in front
+pub record IsRefusedInput (kind : FrontKind) (source : End) (taken line : List ℕ) : Type 0 where
   pub within : length taken ≤ LIMIT
   pub ended : HasEnded source taken
-  pub refuses : Refuses (configuration_of taken) line
+  pub refuses : RefusesFront kind (configuration_of taken) line
   pub old : List ℕ
   pub piece : List ℕ
   pub pieces : taken ≡ old ++ piece
@@ -52,13 +55,13 @@ pub record IsBeyond (taken : List ℕ) : Type 0 where
 pub record FailsAnswering (source sink : End) (taken written : List ℕ) : Type 0 where
   pub fails : Fails sink
   pub line : List ℕ
-  pub answers : IsGoodInput source taken line ⊎ IsRefusedInput source taken line
+  pub answers : IsGoodInput source taken line ⊎ IsRefusedInput Whole source taken line
   pub cut : IsCutShort written line
 
 -- what is written where the bytes taken are these
 abbrev pub ChecksTaken : End → End → List ℕ → List ℕ → Status → Type 0
 ChecksTaken source sink taken written Done = IsGoodInput source taken written
-ChecksTaken source sink taken written Refused = IsRefusedInput source taken written
+ChecksTaken source sink taken written Refused = IsRefusedInput Whole source taken written
 ChecksTaken source sink taken written Usage = ⊥
 ChecksTaken source sink taken written ReadFault = FailsJudging source taken × (written ≡ [])
 ChecksTaken source sink taken written WriteFault = FailsAnswering source sink taken written
@@ -87,7 +90,7 @@ fault_status fault.TooLong = TooLong
 -- what judging the bytes taken finds
 abbrev pub Finds : End → List ℕ → Result Answer Status → Type 0
 Finds source taken (Ok (AcceptedBy line)) = IsGoodInput source taken (string_bytes line)
-Finds source taken (Ok (RefusedBy line)) = IsRefusedInput source taken (string_bytes line)
+Finds source taken (Ok (RefusedBy line)) = IsRefusedInput Whole source taken (string_bytes line)
 Finds source taken (Err ReadFault) = FailsJudging source taken
 Finds source taken (Err NoMemory) = Unit {0}
 Finds source taken (Err TooLong) = IsBeyond taken

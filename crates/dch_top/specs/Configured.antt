@@ -7,7 +7,6 @@ use Rattle.dch_accept.specs.Plans.{IsPlanned, Planned}
 use Rattle.dch_script.specs.Lines.{lines_of}
 use Rattle.dch_check.specs.ConfigSection.{configuration_of, is_complete, script_of, settled}
 use Rattle.dch_check.specs.TakenConfigs.{IsTakenConfig, lines_before}
-use Rattle.dch_check.specs.Verdicts.{IsAcceptedAs}
 use Rattle.dch_check.specs.declared.taken_config.TakenConfig.{TakenConfig}
 use Rattle.dch_lines.specs.Followed.{AnswersTaken, FollowsInput}
 use Rattle.dch_lines.specs.Processor.{Progress}
@@ -15,9 +14,11 @@ use Rattle.dch_lines.specs.Semantics.{Semantics}
 use Rattle.dch_lines.specs.declared.stop.Outcome.{Outcome}
 use Rattle.dch_lines.specs.declared.stop.Outcome.TheVariants.{Ok as Done, Refused as MetMalformed, ReadFault as FailedReading, WriteFault as FailedWriting, NoMemory as Lacking, TooLong as TookTooMuch}
 use Rattle.dch_top.specs.Checked.{HasEnded, IsRefusedInput}
+use Rattle.dch_top.specs.Fronts.{AdmitsFront}
 use Rattle.dch_top.specs.Untouched.{IsUntouched}
 use Rattle.dch_top.specs.declared.command.Status.{Status}
 use Rattle.dch_top.specs.declared.command.Status.TheVariants.{Ok as Well, Refused, Usage, ReadFault, WriteFault, NoMemory, TooLong}
+use Rattle.dch_top.specs.declared.front.FrontKind.{FrontKind}
 
 -- a read failed before the configuration was complete
 pub record FailsEarly (source : End) (taken : List ℕ) : Type 0 where
@@ -31,21 +32,21 @@ pub record IsLongEarly (taken : List ℕ) : Type 0 where
   pub soon : is_complete (take LIMIT taken) ≡ false
 
 -- a write failed within the line that refuses the configuration
-pub record CutsRefusal (source sink : End) (taken written : List ℕ) : Type 0 where
+pub record CutsRefusal (kind : FrontKind) (source sink : End) (taken written : List ℕ) : Type 0 where
   pub fails : Fails sink
   pub line : List ℕ
-  pub refuses : IsRefusedInput source taken line
+  pub refuses : IsRefusedInput kind source taken line
   pub cut : IsCutShort written line
 
 -- how a run ends without the line `open`
-abbrev pub EndsEarly : End → End → List ℕ → List ℕ → Status → Type 0
-EndsEarly source sink taken written Well = ⊥
-EndsEarly source sink taken written Refused = IsRefusedInput source taken written
-EndsEarly source sink taken written Usage = ⊥
-EndsEarly source sink taken written ReadFault = FailsEarly source taken × (written ≡ [])
-EndsEarly source sink taken written WriteFault = CutsRefusal source sink taken written
-EndsEarly source sink taken written NoMemory = (length taken ≤ LIMIT) × (written ≡ [])
-EndsEarly source sink taken written TooLong = IsLongEarly taken × (written ≡ [])
+abbrev pub EndsEarly : FrontKind → End → End → List ℕ → List ℕ → Status → Type 0
+EndsEarly kind source sink taken written Well = ⊥
+EndsEarly kind source sink taken written Refused = IsRefusedInput kind source taken written
+EndsEarly kind source sink taken written Usage = ⊥
+EndsEarly kind source sink taken written ReadFault = FailsEarly source taken × (written ≡ [])
+EndsEarly kind source sink taken written WriteFault = CutsRefusal kind source sink taken written
+EndsEarly kind source sink taken written NoMemory = (length taken ≤ LIMIT) × (written ≡ [])
+EndsEarly kind source sink taken written TooLong = IsLongEarly taken × (written ≡ [])
 
 -- the work with the lines of a script in a state, before the first of them: the line `open` waits, and lines are counted over the whole input
 abbrev pub script_begin : {S : Type 0} → List ℕ → S → Progress S
@@ -58,16 +59,16 @@ script_begin taken state = record {
   nonempty_lines = 0;
 }
 
--- a text is read as a configuration that is accepted, and this is the configuration with the plans of its rate matching
-pub record IsPlannedAs (text : List ℕ) (accepted : Planned) : Type 0 where
-  pub judged : IsAcceptedAs text accepted
+-- a text in front of lines is accepted, and this is the configuration with the plans of its rate matching
+pub record IsPlannedAs (kind : FrontKind) (text : List ℕ) (accepted : Planned) : Type 0 where
+  pub judged : AdmitsFront kind text accepted
   pub plans : IsPlanned accepted
 
 -- the configuration is complete and accepted, and the lines behind it are followed from the state in which the command is opened for it
-pub record FollowsScript {S : Type 0} (semantics : Semantics S) (opened : Planned → S) (source sink : End) (taken written : List ℕ) (after : S) (outcome : Outcome) : Type 0 where
+pub record FollowsScript {S : Type 0} (kind : FrontKind) (semantics : Semantics S) (opened : Planned → S) (source sink : End) (taken written : List ℕ) (after : S) (outcome : Outcome) : Type 0 where
   pub ended : HasEnded source taken
   pub accepted : Planned
-  pub is : IsPlannedAs (configuration_of taken) accepted
+  pub is : IsPlannedAs kind (configuration_of taken) accepted
   pub part : List ℕ
   pub later : List ℕ
   pub script : script_of taken ≡ part ++ later
@@ -83,39 +84,39 @@ outcome_status Lacking = NoMemory
 outcome_status TookTooMuch = TooLong
 
 -- how a run ends with the line `open`; no line wants memory
-pub record EndsLate {S : Type 0} (semantics : Semantics S) (opened : Planned → S) (source sink : End) (taken written : List ℕ) (after : S) (status : Status) : Type 0 where
+pub record EndsLate {S : Type 0} (kind : FrontKind) (semantics : Semantics S) (opened : Planned → S) (source sink : End) (taken written : List ℕ) (after : S) (status : Status) : Type 0 where
   pub outcome : Outcome
-  pub follows : FollowsScript semantics opened source sink taken written after outcome
+  pub follows : FollowsScript kind semantics opened source sink taken written after outcome
   pub same : status ≡ outcome_status outcome
   pub enough : outcome ≢ Lacking
 
 -- the source gave some bytes, and the sink took the answer to them; where the line `open` was written this holds of the command's state afterwards
-pub record RunsConfigured {S : Type 0} (semantics : Semantics S) (opened : Planned → S) (Holds : S → Type 0) (source sink : End) (status : Status) : Type 0 where
+pub record RunsConfigured {S : Type 0} (kind : FrontKind) (semantics : Semantics S) (opened : Planned → S) (Holds : S → Type 0) (source sink : End) (status : Status) : Type 0 where
   pub taken : List ℕ
   pub written : List ℕ
   pub takes : Consumes source.before source.now taken
   pub writes : Appends sink.before sink.now written
-  pub answers : EndsEarly source sink taken written status ⊎ ((after : S) × (EndsLate semantics opened source sink taken written after status × Holds after))
+  pub answers : EndsEarly kind source sink taken written status ⊎ ((after : S) × (EndsLate kind semantics opened source sink taken written after status × Holds after))
 
 -- the same, where the run ended without the line `open`
-pub record EndsUnopened (source sink : End) (status : Status) : Type 0 where
+pub record EndsUnopened (kind : FrontKind) (source sink : End) (status : Status) : Type 0 where
   pub taken : List ℕ
   pub written : List ℕ
   pub takes : Consumes source.before source.now taken
   pub writes : Appends sink.before sink.now written
-  pub answers : EndsEarly source sink taken written status
+  pub answers : EndsEarly kind source sink taken written status
 
 -- the configuration was taken and accepted, and nothing is written
-pub record IsConfigured (source sink : End) (room : List ℕ) (front : TakenConfig) (accepted : Planned) : Type 0 where
+pub record IsConfigured (kind : FrontKind) (source sink : End) (room : List ℕ) (front : TakenConfig) (accepted : Planned) : Type 0 where
   pub whole : IsTakenConfig source room front
-  pub is : IsPlannedAs (settled front.section) accepted
+  pub is : IsPlannedAs kind (settled front.section) accepted
   pub unwritten : sink.now ≡ sink.before
   pub faultless : sink.faults_now ≡ sink.faults_before
 
 -- what taking a configuration does
-abbrev pub TakesConfiguration : End → End → List ℕ → Result (TakenConfig × Planned) Status → Type 0
-TakesConfiguration source sink room (Ok taken) = IsConfigured source sink room taken.0 taken.1
-TakesConfiguration source sink room (Err status) = EndsUnopened source sink status
+abbrev pub TakesConfiguration : FrontKind → End → End → List ℕ → Result (TakenConfig × Planned) Status → Type 0
+TakesConfiguration kind source sink room (Ok taken) = IsConfigured kind source sink room taken.0 taken.1
+TakesConfiguration kind source sink room (Err status) = EndsUnopened kind source sink status
 
 -- the work with the lines behind a configuration that was taken
 abbrev pub opened_begin : {S : Type 0} → TakenConfig → S → Progress S

@@ -1,5 +1,5 @@
 -- What a run of the command `gen` does, and what the bench holds then.
-use Rattle.std.specs.Prelude.{◌≡◌, ℕ, [], Some}
+use Rattle.std.specs.Prelude.{◌≡◌, ℕ, [], ◌∷◌, Some}
 use Rattle.std.specs.Io.KnownBytes.{Appends}
 use Rattle.dch_io.specs.Ends.{End}
 use Rattle.dch_nodeb.specs.Values.{Node as NodeB}
@@ -15,7 +15,7 @@ pub record HoldsGen (start frames : ℕ) (sink : End) (nodes : Nodes) : Type 0 w
   pub ue : Ue
   pub node_b : NodeB
   pub rnc : Rnc
-  pub all : nodes ≡ record { ue = Some ue; node_b = Some node_b; rnc = Some rnc }
+  pub all : nodes ≡ record { ue = Some ue; node_bs = node_b ∷ []; rnc = Some rnc }
   pub writes : WritesSummary start frames sink ue node_b rnc
 
 -- how a run ends

@@ -2,6 +2,7 @@ pub mod Benches
 pub mod Checked
 pub mod Configured
 pub mod EncodeText
+pub mod Fronts
 pub mod GenRuns
 pub mod LinkRuns
 pub mod LinkUnits
@@ -11,6 +12,7 @@ pub mod Overlong
 pub mod PairRuns
 pub mod Ran
 pub mod RncRuns
+pub mod SoftRuns
 pub mod Traces
 pub mod UeRuns
 pub mod Untouched

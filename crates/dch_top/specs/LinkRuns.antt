@@ -1,5 +1,5 @@
 -- What a run of the command `link` does.
-use Rattle.std.specs.Prelude.{◌≡◌, ◌≢◌, ◌⊎◌, ◌*◌, ℕ, List, Bool, true, All, Result, Ok, Err, Some}
+use Rattle.std.specs.Prelude.{◌≡◌, ◌≢◌, ◌⊎◌, ◌*◌, ℕ, List, [], ◌∷◌, Bool, true, All, Result, Ok, Err, Some}
 use Rattle.dch_io.specs.Ends.{End}
 use Rattle.dch_types.specs.declared.config.Config.{Config}
 use Rattle.dch_lines.specs.LineTexts.{is_empty}
@@ -16,10 +16,11 @@ use Rattle.dch_top.specs.Configured.{RunsConfigured}
 use Rattle.dch_top.specs.NodeRuns.{RunsWith}
 use Rattle.dch_top.specs.declared.command.Status.{Status}
 use Rattle.dch_top.specs.declared.command.Status.TheVariants.{Ok as Well}
+use Rattle.dch_top.specs.declared.front.FrontKind.TheVariants.{Whole}
 
 -- the lines behind the configuration are those of three nodes that were opened for it
 abbrev pub RunsLines : ℕ → Bool → (Run → Type 0) → End → End → Status → Type 0
-RunsLines start quiet Holds source sink status = RunsConfigured link_lines (λ accepted. opened_run accepted (8 * start) quiet) Holds source sink status
+RunsLines start quiet Holds source sink status = RunsConfigured Whole link_lines (λ accepted. opened_run accepted (8 * start) quiet) Holds source sink status
 
 -- each of three nodes stands for just what happened at it in a run
 abbrev pub HaveRunHistories : Ue → NodeB → Rnc → Run → Type 0
@@ -35,11 +36,11 @@ pub record HoldsLink (nodes : Nodes) (run : Run) : Type 0 where
   pub ue : Ue
   pub node_b : NodeB
   pub rnc : Rnc
-  pub all : nodes ≡ record { ue = Some ue; node_b = Some node_b; rnc = Some rnc }
+  pub all : nodes ≡ record { ue = Some ue; node_bs = node_b ∷ []; rnc = Some rnc }
   pub histories : HaveRunHistories ue node_b rnc run
 
 abbrev pub RunsLink : ℕ → Bool → End → End → Nodes → Status → Type 0
-RunsLink start quiet source sink nodes status = RunsWith link_lines (λ accepted. opened_run accepted (8 * start) quiet) HoldsLink source sink nodes status
+RunsLink start quiet source sink nodes status = RunsWith Whole link_lines (λ accepted. opened_run accepted (8 * start) quiet) HoldsLink source sink nodes status
 
 -- each of the lines is empty or says something to the nodes
 abbrev pub AreLinkLines : Config → List (List ℕ) → Type 0

@@ -8,6 +8,7 @@ use Rattle.dch_check.specs.ConfigSection.{configuration_of, script_of}
 use Rattle.dch_nodecmd.specs.Rules.{closing}
 use Rattle.dch_runlaw.specs.Headline.{Carries}
 use Rattle.dch_top.specs.Configured.{IsPlannedAs}
+use Rattle.dch_top.specs.declared.front.FrontKind.TheVariants.{Whole}
 
 -- the source gave a configuration that is accepted, and lines behind it that lead three nodes through a run; the sink took the line `open`,
 -- the text that is shown of the run, and the closing line; and the rows of the text hand up the units of the bearers
@@ -17,7 +18,7 @@ pub record CarriesUnits (start : ℕ) (quiet : Bool) (source sink : End) : Type 
   pub takes : Consumes source.before source.now taken
   pub writes : Appends sink.before sink.now written
   pub accepted : Planned
-  pub is : IsPlannedAs (configuration_of taken) accepted
+  pub is : IsPlannedAs Whole (configuration_of taken) accepted
   pub text : List ℕ
   pub frames : ℕ
   pub all : written ≡ codes "open\n" ++ text ++ closing frames

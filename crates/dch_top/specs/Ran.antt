@@ -7,7 +7,7 @@ use Rattle.dch_types.specs.declared.config.Config.{Config}
 use Rattle.dch_script.specs.Code.{meaning}
 use Rattle.dch_words.specs.Parses.{IsCommand, Parses}
 use Rattle.dch_words.specs.declared.arguments.Subcommand.{Subcommand}
-use Rattle.dch_words.specs.declared.arguments.Subcommand.TheVariants.{Check, Encode, NodeB, Rnc, Ue, Link, Gen, Pair}
+use Rattle.dch_words.specs.declared.arguments.Subcommand.TheVariants.{Check, Encode, NodeB, Rnc, Ue, Link, Soft, Gen, Pair}
 use Rattle.dch_words.specs.declared.arguments.Arguments.{Arguments}
 use Rattle.dch_lines.specs.Processor.{Progress}
 use Rattle.dch_lines.specs.Followed.{FollowsInput}
@@ -25,10 +25,13 @@ use Rattle.dch_top.specs.NodeBRuns.{RunsNodeB}
 use Rattle.dch_top.specs.NodeRuns.{AreEvents}
 use Rattle.dch_top.specs.PairRuns.{RunsPair}
 use Rattle.dch_top.specs.RncRuns.{RunsRnc}
+use Rattle.dch_top.specs.SoftRuns.{AreSoftLines, RunsSoft}
 use Rattle.dch_top.specs.UeRuns.{RunsUe}
 use Rattle.dch_top.specs.Untouched.{IsUntouched}
 use Rattle.dch_top.specs.declared.command.Status.{Status}
 use Rattle.dch_top.specs.declared.command.Status.TheVariants.{Ok, Refused, Usage, ReadFault, WriteFault, NoMemory, TooLong}
+use Rattle.dch_top.specs.declared.front.FrontKind.{FrontKind}
+use Rattle.dch_top.specs.declared.front.FrontKind.TheVariants.{Whole, Single}
 
 -- the work of `encode` before its first line
 abbrev pub beginning : Progress (Unit {0})
@@ -81,6 +84,7 @@ Runs NodeB arguments source sink bench status = RunsNodeB arguments.start argume
 Runs Rnc arguments source sink bench status = RunsRnc arguments.start arguments.quiet source sink bench status
 Runs Ue arguments source sink bench status = RunsUe arguments.start arguments.quiet source sink bench status
 Runs Link arguments source sink bench status = RunsLink arguments.start arguments.quiet source sink bench status
+Runs Soft arguments source sink bench status = RunsSoft arguments.count arguments.start arguments.quiet source sink bench status
 Runs Gen arguments source sink bench status = RunsGen arguments.start arguments.count source sink bench status
 Runs Pair arguments source sink bench status = RunsPair source sink status × (bench ≡ no_nodes)
 
@@ -93,13 +97,16 @@ pub record Ran (words : List (String Global)) (source sink : End) (bench : Nodes
 abbrev pub AreGood : List (List ℕ) → Type 0
 AreGood lines = All (λ line. (is_empty line ≡ true) ⊎ IsOk (meaning line)) lines
 
+-- what stands in front of the lines of a command
+abbrev pub front_kind : Subcommand → FrontKind
+front_kind Soft = Single
+front_kind _ = Whole
+
 -- each of the lines is empty or says something to the nodes of a command
-abbrev pub AreEventsFor : Subcommand → Config → List (List ℕ) → Type 0
-AreEventsFor Check config lines = ⊥
-AreEventsFor Encode config lines = ⊥
-AreEventsFor NodeB config lines = AreEvents node_b_rules config lines
-AreEventsFor Rnc config lines = AreEvents rnc_rules config lines
-AreEventsFor Ue config lines = AreEvents ue_rules config lines
-AreEventsFor Link config lines = AreLinkLines config lines
-AreEventsFor Gen config lines = ⊥
-AreEventsFor Pair config lines = ⊥
+abbrev pub AreEventsFor : Subcommand → Arguments → Config → List (List ℕ) → Type 0
+AreEventsFor NodeB arguments config lines = AreEvents node_b_rules config lines
+AreEventsFor Rnc arguments config lines = AreEvents rnc_rules config lines
+AreEventsFor Ue arguments config lines = AreEvents ue_rules config lines
+AreEventsFor Link arguments config lines = AreLinkLines config lines
+AreEventsFor Soft arguments config lines = AreSoftLines arguments.count config lines
+AreEventsFor _ arguments config lines = ⊥

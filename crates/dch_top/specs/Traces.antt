@@ -12,11 +12,12 @@ use Rattle.dch_nodecmd.specs.Rules.{closing, node_lines}
 use Rattle.dch_nodecmd.specs.Run.{Run, frames_in, opened_run}
 use Rattle.dch_nodecmd.specs.Shown.{shown}
 use Rattle.dch_top.specs.Configured.{IsPlannedAs}
+use Rattle.dch_top.specs.declared.front.FrontKind.TheVariants.{Whole}
 
 -- the answer to an input of good lines behind an accepted configuration, from the line `open` to the line that counts the radio frames
 pub record IsAnswer {S E : Type 0} (rules : NodeRules S E) (start : ℕ) (quiet : Bool) (input written : List ℕ) : Type 0 where
   pub accepted : Planned
-  pub is : IsPlannedAs (configuration_of input) accepted
+  pub is : IsPlannedAs Whole (configuration_of input) accepted
   pub ended : rest_of (script_of input) ≡ []
   pub new : Run S E
   pub text : List ℕ

@@ -4,14 +4,16 @@ ghost use Rattle.dch_io.specs.Ends.{end_of};
 ghost use Rattle.dch_script.specs.Lines.{lines_of, rest_of};
 ghost use Rattle.dch_accept.specs.Plans.{Planned};
 ghost use Rattle.dch_check.specs.ConfigSection.{configuration_of, script_of};
-ghost use Rattle.dch_check.specs.Verdicts.{IsAccepted, IsAcceptedAs, Refuses};
-ghost use Rattle.dch_words.specs.declared.arguments.Subcommand.TheVariants.{Check, Encode, Gen, Link, Pair};
+ghost use Rattle.dch_check.specs.Verdicts.{IsAccepted, Refuses};
+ghost use Rattle.dch_words.specs.Parses.{AreLegs};
+ghost use Rattle.dch_words.specs.declared.arguments.Subcommand.TheVariants.{Check, Encode, Gen, Link, Pair, Soft};
 ghost use Rattle.dch_words.specs.declared.arguments.Arguments.{Arguments};
 ghost use Rattle.dch_top.specs.Benches.{no_nodes};
 ghost use Rattle.dch_io.specs.declared.feed.TheConstants.{LIMIT};
+ghost use Rattle.dch_top.specs.Fronts.{AdmitsFront};
 ghost use Rattle.dch_top.specs.LinkUnits.{CarriesUnits};
 ghost use Rattle.dch_top.specs.PairRuns.{ArePairLines};
-ghost use Rattle.dch_top.specs.Ran.{AreEventsFor, AreGood, Asks, IsNoCommand, Misuses, Ran, Runs, Says};
+ghost use Rattle.dch_top.specs.Ran.{AreEventsFor, AreGood, Asks, IsNoCommand, Misuses, Ran, Runs, Says, front_kind};
 
 use crate::bench::Bench;
 use crate::check::check;
@@ -21,6 +23,7 @@ use crate::link::link;
 use crate::node_b::node_b;
 use crate::pair::pair;
 use crate::rnc::rnc;
+use crate::soft::soft;
 use crate::ue::ue;
 use dch_bits::NoMemory;
 use dch_io::{Sink, Source, write_all};
@@ -91,8 +94,8 @@ pub fn run<S: Source, K: Sink>(
         → (result ≡ Status.Ok) ⊎ (result ≡ Status.NoMemory)) }
 
     // So are the lines of a command with nodes behind an accepted configuration.
-    ensures events { (arguments : Arguments) → Says words.now arguments → IfSome (S.left source.old) (λ input. (accepted : Planned) → IsAcceptedAs (configuration_of input) accepted
-        → AreEventsFor arguments.subcommand accepted.config (lines_of (script_of input)) → rest_of (script_of input) ≡ [] → length input ≤ LIMIT
+    ensures events { (arguments : Arguments) → Says words.now arguments → IfSome (S.left source.old) (λ input. (accepted : Planned) → AdmitsFront (front_kind arguments.subcommand) (configuration_of input) accepted
+        → AreEventsFor arguments.subcommand arguments accepted.config (lines_of (script_of input)) → rest_of (script_of input) ≡ [] → length input ≤ LIMIT
         → ¬ Rose (S.faults source.old) (S.faults source.new) → ¬ Rose (K.faults sink.old) (K.faults sink.new)
         → (result ≡ Status.Ok) ⊎ (result ≡ Status.NoMemory)) }
 
@@ -141,6 +144,7 @@ fn run_command<S: Source, K: Sink>(
 ) -> Status
     requires start { arguments.start ≤ 31 }
     requires count { arguments.count ≤ 100000 }
+    requires legs { arguments.subcommand ≡ Soft → AreLegs arguments.count }
     requires bench { bench.old ≡ no_nodes }
     ensures { Runs arguments.subcommand arguments (end_of S.left S.faults source.old source.new) (end_of K.taken K.faults sink.old sink.new) bench.new result }
 {
@@ -157,6 +161,7 @@ fn run_command<S: Source, K: Sink>(
         Subcommand::Rnc => rnc(alloc, start, quiet, source, sink, bench),
         Subcommand::Ue => ue(alloc, start, quiet, source, sink, bench),
         Subcommand::Link => link(alloc, start, quiet, source, sink, bench),
+        Subcommand::Soft => soft(alloc, arguments, source, sink, bench),
         Subcommand::Gen => generate(alloc, start, count, sink, bench),
         Subcommand::Pair => pair(alloc, source, sink),
     }

@@ -7,12 +7,14 @@ mod command;
 mod configured;
 mod encode;
 mod encode_handler;
+mod front;
 mod generate;
 mod link;
 mod node_b;
 mod node_run;
 mod pair;
 mod rnc;
+mod soft;
 mod trace_laws;
 mod ue;
 

@@ -7,6 +7,7 @@ ghost use Rattle.dch_top.specs.LinkRuns.{GivesNodes, RunsLink};
 use crate::bench::Bench;
 use crate::command::Status;
 use crate::configured::{follow_script, take_configuration};
+use crate::front::FrontKind;
 use dch_io::{Sink, Source, new_piece};
 use dch_linkcmd::LinkHandler;
 use dch_nodeb::NodeB;
@@ -68,7 +69,7 @@ fn run_link_pieces<S: Source, K: Sink>(
     requires piece { length piece.old ≡ PIECE }
     ensures { GivesNodes start quiet (end_of S.left S.faults source.old source.new) (end_of K.taken K.faults sink.old sink.new) result }
 {
-    let (front, accepted) = match take_configuration(alloc, source, sink, piece) {
+    let (front, accepted) = match take_configuration(alloc, source, sink, piece, FrontKind::Whole) {
         Ok(taken) => taken,
         Err(status) => return Err(status),
     };

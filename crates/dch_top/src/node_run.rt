@@ -5,6 +5,7 @@ ghost use Rattle.dch_top.specs.NodeRuns.{GivesNode};
 
 use crate::command::Status;
 use crate::configured::{follow_script, take_configuration};
+use crate::front::FrontKind;
 use dch_io::{Sink, Source, new_piece};
 use dch_nodecmd::{CommandNode, NodeHandler};
 use std::alloc::Global;
@@ -39,7 +40,7 @@ fn run_pieces<N: CommandNode + Drop, S: Source, K: Sink>(
     requires piece { length piece.old ≡ PIECE }
     ensures { GivesNode N.rules N.represents N.shows start quiet (end_of S.left S.faults source.old source.new) (end_of K.taken K.faults sink.old sink.new) result }
 {
-    let (front, accepted) = match take_configuration(alloc, source, sink, piece) {
+    let (front, accepted) = match take_configuration(alloc, source, sink, piece, FrontKind::Whole) {
         Ok(taken) => taken,
         Err(status) => return Err(status),
     };

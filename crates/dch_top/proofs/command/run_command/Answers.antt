@@ -13,5 +13,8 @@ returns-in-Ue g c = rw c.in-Ue.is c.ue.ensures
 pub returns-in-Link : goal.returns-in-Link
 returns-in-Link g c = rw c.in-Link.is c.link.ensures
 
+pub returns-in-Soft : goal.returns-in-Soft
+returns-in-Soft g c = rw c.in-Soft.is c.soft.ensures
+
 pub returns-in-Gen : goal.returns-in-Gen
 returns-in-Gen g c = rw c.in-Gen.is (record { ends = c.generate.ensures; unread = refl })

@@ -1,4 +1,4 @@
-use Rattle.std.proofs.Common.{◌*◌, ◌∙◌, Some, ap, refl}
+use Rattle.std.proofs.Common.{◌*◌, ◌∙◌, [], ◌∷◌, Some, ap, refl}
 use Rattle.dch_linkcmd.specs.Rules.{link_lines}
 use Rattle.dch_linkcmd.specs.Run.{opened_run}
 use Rattle.dch_top.specs.Benches.{Nodes}
@@ -15,7 +15,7 @@ returns-in-Ok g c = record {
         ue = c.in-Ok.ue;
         node_b = c.in-Ok.node_b;
         rnc = c.in-Ok.rnc;
-        all = c.hold_rnc.ensures ∙ ap (λ (n : Nodes). record n { rnc = Some c.in-Ok.rnc }) (c.hold_node_b.ensures ∙ ap (λ (n : Nodes). record n { node_b = Some c.in-Ok.node_b }) (c.hold_ue.ensures ∙ ap (λ (n : Nodes). record n { ue = Some c.in-Ok.ue }) c.requires.bench));
+        all = c.hold_rnc.ensures ∙ ap (λ (n : Nodes). record n { rnc = Some c.in-Ok.rnc }) (c.hold_node_b.ensures ∙ ap (λ (n : Nodes). record n { node_bs = c.in-Ok.node_b ∷ [] }) (c.hold_ue.ensures ∙ ap (λ (n : Nodes). record n { ue = Some c.in-Ok.ue }) c.requires.bench));
         histories = stands;
       }) c.in-Ok.ensures;
   idle = λ ill. absurd (ill refl);

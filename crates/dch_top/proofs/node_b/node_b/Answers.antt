@@ -1,4 +1,4 @@
-use Rattle.std.proofs.Common.{◌*◌, ◌∙◌, Some, ap, refl}
+use Rattle.std.proofs.Common.{◌*◌, ◌∙◌, [], ◌∷◌, ap, refl}
 use Rattle.dch_nodeb.specs.Standing.{Represents, Shows}
 use Rattle.dch_nodebcmd.specs.Rules.{node_b_rules}
 use Rattle.dch_nodecmd.specs.Rules.{node_lines}
@@ -13,6 +13,6 @@ use Rattle.dch_top.proofs.node_b.node_b.Goals as goal
 pub returns-in-Ok : goal.returns-in-Ok
 returns-in-Ok g c = record {
   runs = runs_with (node_lines node_b_rules) (λ accepted. opened_run node_b_rules accepted (8 * c.args.start) c.args.quiet) (HasRunHistory node_b_rules Represents Shows c.in-Ok.lines) (IfWell HoldsNodeB c.hold_node_b.new.self Well) _ _ Well
-      (λ after stands. (c.into_node.result, (c.hold_node_b.ensures ∙ ap (λ (nodes : Nodes). record nodes { node_b = Some c.into_node.result }) c.requires.bench, rw c.into_node.ensures stands))) c.in-Ok.ensures;
+      (λ after stands. (c.into_node.result, (c.hold_node_b.ensures ∙ ap (λ (nodes : Nodes). record nodes { node_bs = c.into_node.result ∷ [] }) c.requires.bench, rw c.into_node.ensures stands))) c.in-Ok.ensures;
   idle = λ ill. absurd (ill refl);
 }
