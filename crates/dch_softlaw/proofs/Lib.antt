@@ -1,0 +1,11 @@
+pub mod Phases
+pub mod Changes
+pub mod Agreeing
+pub mod Coming
+pub mod Delivering
+pub mod Counting
+pub mod Taking
+pub mod Happening
+pub mod Telling
+pub mod Unharmed
+pub mod Scripting
