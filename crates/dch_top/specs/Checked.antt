@@ -25,7 +25,7 @@ pub record IsGoodInput (source : End) (taken line : List ℕ) : Type 0 where
 abbrev pub HasEnded : End → List ℕ → Type 0
 HasEnded source taken = (is_complete taken ≡ true) ⊎ IsAtEnd source.now
 
--- the configuration is refused by this line, with the piece that completes it, where such a one may stand in front
+-- what stands in front is refused by this line, with the piece that completes it; the kind says what may stand there
 pub record IsRefusedInput (kind : FrontKind) (source : End) (taken line : List ℕ) : Type 0 where
   pub within : length taken ≤ LIMIT
   pub ended : HasEnded source taken

@@ -6,7 +6,7 @@ use dch_check::{Verdict, judge, judge_single};
 use std::alloc::Global;
 
 /// What may stand in front of the lines of a command.
-#[derive(Clone, Copy, Debug, PartialEq, Eq)]
+#[derive(Clone, Copy)]
 pub enum FrontKind {
     /// A configuration, which is all that comes before the line `---`.
     Whole,
