@@ -5,7 +5,7 @@ pub mod Coming
 pub mod Delivering
 pub mod Counting
 pub mod Taking
-pub mod Happening
+pub mod EndEvents
 pub mod Telling
 pub mod Unharmed
 pub mod Scripting

@@ -1,5 +1,5 @@
 pub mod Runs
-pub mod Happenings
+pub mod EndEvents
 pub mod Ttis
 pub mod Legs
 pub mod Told

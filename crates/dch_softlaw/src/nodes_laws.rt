@@ -3,7 +3,7 @@ ghost use Rattle.dch_accept.specs.Plans.{Planned};
 ghost use Rattle.dch_node.specs.Lines.{Line};
 ghost use Rattle.dch_runlaw.specs.HonestBearers.{IsAcknowledged};
 ghost use Rattle.dch_runlaw.specs.Nodes.{AreFaithful, Runs as NodesRun, opened_nodes};
-ghost use Rattle.dch_softlaw.specs.Happenings.{AfterEach, HandsUp, IsListOf, after_all, events_of, happenings};
+ghost use Rattle.dch_softlaw.specs.EndEvents.{AfterEach, HandsUp, IsListOf, after_all, events_of, end_events};
 ghost use Rattle.dch_softlaw.specs.Runs.{Move, Point, Runs, opened_point};
 ghost use Rattle.dch_softlaw.specs.Told.{IsTold};
 
@@ -12,10 +12,10 @@ ghost use Rattle.dch_softlaw.specs.Told.{IsTold};
 /// that each of them has reported in the run. Where in the run two channels are faithful after each of the events, they are so in the list.
 pub fn soft_events_law()
     ensures events { (planned : Planned) (first legs : ℕ) (moves : List Move) (new : Point) (lines : List Line) (run : Runs (opened_point planned first legs) moves new lines) →
-        IsListOf planned first (happenings moves (opened_point planned first legs) new lines run) new.soft }
+        IsListOf planned first (end_events moves (opened_point planned first legs) new lines run) new.soft }
     ensures faithful { (planned : Planned) (first legs up down : ℕ) (moves : List Move) (new : Point) (lines : List Line) (run : Runs (opened_point planned first legs) moves new lines) →
-        AfterEach (AreFaithful up down) (opened_nodes planned first first) (happenings moves (opened_point planned first legs) new lines run) →
-        NodesRun (AreFaithful up down) (opened_nodes planned first first) (events_of (happenings moves (opened_point planned first legs) new lines run)) (after_all (opened_nodes planned first first) (happenings moves (opened_point planned first legs) new lines run)) }
+        AfterEach (AreFaithful up down) (opened_nodes planned first first) (end_events moves (opened_point planned first legs) new lines run) →
+        NodesRun (AreFaithful up down) (opened_nodes planned first first) (events_of (end_events moves (opened_point planned first legs) new lines run)) (after_all (opened_nodes planned first first) (end_events moves (opened_point planned first legs) new lines run)) }
 {}
 
 /// A law: in a run in soft handover, with any damage on any leg, both channels of an acknowledged bearer of a good configuration are
@@ -24,8 +24,8 @@ pub fn soft_events_law()
 /// history hands up, in order.
 pub fn soft_nodes_law()
     ensures { (planned : Planned) (first legs b up down : ℕ) (moves : List Move) (new : Point) (lines : List Line) (run : Runs (opened_point planned first legs) moves new lines) →
-        IsAcknowledged planned b up down → AfterEach (AreFaithful up down) (opened_nodes planned first first) (happenings moves (opened_point planned first legs) new lines run) →
-        HandsUp planned first b (happenings moves (opened_point planned first legs) new lines run) new.soft lines }
+        IsAcknowledged planned b up down → AfterEach (AreFaithful up down) (opened_nodes planned first first) (end_events moves (opened_point planned first legs) new lines run) →
+        HandsUp planned first b (end_events moves (opened_point planned first legs) new lines run) new.soft lines }
 {}
 
 /// A law: of the lines of a run in soft handover, those on units and PDUs of a bearer that went up are just those that the network

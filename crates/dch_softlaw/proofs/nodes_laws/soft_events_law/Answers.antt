@@ -1,4 +1,4 @@
-use Rattle.dch_softlaw.proofs.Happening.{run_faithful, run_listed}
+use Rattle.dch_softlaw.proofs.EndEvents.{run_faithful, run_listed}
 use Rattle.dch_softlaw.proofs.nodes_laws.soft_events_law.Goals as goal
 
 pub returns-clause-events : goal.returns-clause-events

@@ -1,4 +1,4 @@
-use Rattle.dch_softlaw.proofs.Happening.{run_hands_up}
+use Rattle.dch_softlaw.proofs.EndEvents.{run_hands_up}
 use Rattle.dch_softlaw.proofs.nodes_laws.soft_nodes_law.Goals as goal
 
 pub returns : goal.returns

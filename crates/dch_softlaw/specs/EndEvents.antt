@@ -20,72 +20,72 @@ use Rattle.dch_runlaw.specs.Nodes.{Any, AtRnc, AtUe, Event as NodesEvent, IsAmHi
 use Rattle.dch_softlaw.specs.Runs.{Between, Move, Next, Point, Runs, Steps}
 
 -- an event at the terminal or at the network controller, and what is known of the node after it
-pub data Happening : Type 0 where
-  HappenedAtUe : (event : UeEvent) → (ue : Course UeState UeEvent) → Happening
-  HappenedAtRnc : (event : RncEvent) → (rnc : Course RncState RncEvent) → Happening
+pub data EndEvent : Type 0 where
+  EventAtUe : (event : UeEvent) → (ue : Course UeState UeEvent) → EndEvent
+  EventAtRnc : (event : RncEvent) → (rnc : Course RncState RncEvent) → EndEvent
 
 -- what happens between two radio frames is an event of one of the two, but for damage
-abbrev pub between : Event → SoftState → List Happening
-between (OfferedUnit Up bearer octets bits) new = HappenedAtUe (UeOffered bearer octets bits) new.ue ∷ []
-between (OfferedUnit Down bearer octets bits) new = HappenedAtRnc (RncOffered bearer octets bits) new.rnc ∷ []
-between (BlockedCombination Up combination on) new = HappenedAtUe (UeBlocked combination on) new.ue ∷ []
-between (BlockedCombination Down combination on) new = HappenedAtRnc (RncBlocked combination on) new.rnc ∷ []
+abbrev pub between : Event → SoftState → List EndEvent
+between (OfferedUnit Up bearer octets bits) new = EventAtUe (UeOffered bearer octets bits) new.ue ∷ []
+between (OfferedUnit Down bearer octets bits) new = EventAtRnc (RncOffered bearer octets bits) new.rnc ∷ []
+between (BlockedCombination Up combination on) new = EventAtUe (UeBlocked combination on) new.ue ∷ []
+between (BlockedCombination Down combination on) new = EventAtRnc (RncBlocked combination on) new.rnc ∷ []
 between (Damages leg damage) new = []
 
 -- the network controller takes the combined frame of a set whose TTI is over, if there is one
-abbrev pub combined : (started : Option ℕ) → (set : ℕ) → (old new : SoftState) → (lines : List Line) → WhereOver started (λ cfn. GivesFrame cfn set) old new lines → List Happening
+abbrev pub combined : (started : Option ℕ) → (set : ℕ) → (old new : SoftState) → (lines : List Line) → WhereOver started (λ cfn. GivesFrame cfn set) old new lines → List EndEvent
 combined None set old new lines gives = []
 combined (Some cfn) set old new lines (inl none) = []
-combined (Some cfn) set old new lines (inr frame) = HappenedAtRnc (IubFrameUp set frame.octets) new.rnc ∷ []
+combined (Some cfn) set old new lines (inr frame) = EventAtRnc (IubFrameUp set frame.octets) new.rnc ∷ []
 
 -- in a stage of a radio frame
-abbrev pub in_stage : (stage : Stage) → (old new : SoftState) → (lines : List Line) → AtStage stage old new lines → List Happening
-in_stage RncTick old new lines passes = HappenedAtRnc RncTicks new.rnc ∷ []
+abbrev pub in_stage : (stage : Stage) → (old new : SoftState) → (lines : List Line) → AtStage stage old new lines → List EndEvent
+in_stage RncTick old new lines passes = EventAtRnc RncTicks new.rnc ∷ []
 in_stage (IubDown leg set) old new lines passes = []
 in_stage (RadioDown leg) old new lines passes = []
-in_stage UeTick old new lines passes = HappenedAtUe (DownlinkFrame passes.hears.heard) passes.mid.ue ∷ HappenedAtUe UeTicks new.ue ∷ []
+in_stage UeTick old new lines passes = EventAtUe (DownlinkFrame passes.hears.heard) passes.mid.ue ∷ EventAtUe UeTicks new.ue ∷ []
 in_stage (RadioUp leg) old new lines passes = []
 in_stage (IubUp set leg) old new lines passes = []
 in_stage (Combine set) old new lines passes = combined (over (uplink_of old) set old.cfn) set old new lines passes
 
-abbrev pub in_step : (move : Move) → (old new : Point) → (lines : List Line) → Steps old move new lines → List Happening
+abbrev pub in_step : (move : Move) → (old new : Point) → (lines : List Line) → Steps old move new lines → List EndEvent
 in_step (Between event) old new lines step = between event step.soft
 in_step Next old new lines step = in_stage old.stage old.soft step.soft lines step.passes
 
 -- in a run
-abbrev pub happenings : (moves : List Move) → (old new : Point) → (lines : List Line) → Runs old moves new lines → List Happening
-happenings [] old new lines run = []
-happenings (move ∷ moves) old new lines run = in_step move old run.next run.own run.step ++ happenings moves run.next new run.rest run.later
+abbrev pub end_events : (moves : List Move) → (old new : Point) → (lines : List Line) → Runs old moves new lines → List EndEvent
+end_events [] old new lines run = []
+end_events (move ∷ moves) old new lines run = in_step move old run.next run.own run.step ++ end_events moves run.next new run.rest run.later
 
 -- the events alone
-abbrev pub event_of : Happening → NodesEvent
-event_of (HappenedAtUe event ue) = AtUe event
-event_of (HappenedAtRnc event rnc) = AtRnc event
+abbrev pub event_of : EndEvent → NodesEvent
+event_of (EventAtUe event ue) = AtUe event
+event_of (EventAtRnc event rnc) = AtRnc event
 
-abbrev pub events_of : List Happening → List NodesEvent
+abbrev pub events_of : List EndEvent → List NodesEvent
 events_of happened = map event_of happened
 
 -- the two nodes after it: a channel was given what its near end gave to it, and what its far end read as good was taken of it
-abbrev pub after : Nodes → Happening → Nodes
-after old (HappenedAtUe event ue) = record old {
+abbrev pub after : Nodes → EndEvent → Nodes
+after old (EventAtUe event ue) = record old {
   ue = ue.state;
   ue_lines = ue.lines;
   up = λ i. record { given = (old.up i).given ++ given_by_ue old.ue event ue.state i; taken = (old.up i).taken };
   down = λ i. record { given = (old.down i).given; taken = (old.down i).taken ++ good_in (ue.state.readings i) };
 }
-after old (HappenedAtRnc event rnc) = record old {
+after old (EventAtRnc event rnc) = record old {
   rnc = rnc.state;
   rnc_lines = rnc.lines;
   up = λ i. record { given = (old.up i).given; taken = (old.up i).taken ++ good_in (rnc.state.readings i) };
   down = λ i. record { given = (old.down i).given ++ given_by_rnc old.rnc event rnc.state i; taken = (old.down i).taken };
 }
 
-abbrev pub after_all : Nodes → List Happening → Nodes
+abbrev pub after_all : Nodes → List EndEvent → Nodes
 after_all nodes [] = nodes
 after_all nodes (happening ∷ later) = after_all (after nodes happening) later
 
 -- something holds after each of these
-abbrev pub AfterEach : (Nodes → Type 0) → Nodes → List Happening → Type 0
+abbrev pub AfterEach : (Nodes → Type 0) → Nodes → List EndEvent → Type 0
 AfterEach Holds nodes [] = Unit {0}
 AfterEach Holds nodes (happening ∷ later) = Holds (after nodes happening) × AfterEach Holds (after nodes happening) later
 
@@ -97,19 +97,19 @@ pub record AreOf (soft : SoftState) (nodes : Nodes) : Type 0 where
   pub rnc_lines : nodes.rnc_lines ≡ soft.rnc.lines
 
 -- the events at one of the two
-abbrev pub ue_events : List Happening → List UeEvent
+abbrev pub ue_events : List EndEvent → List UeEvent
 ue_events [] = []
-ue_events (HappenedAtUe event ue ∷ later) = event ∷ ue_events later
-ue_events (HappenedAtRnc event rnc ∷ later) = ue_events later
+ue_events (EventAtUe event ue ∷ later) = event ∷ ue_events later
+ue_events (EventAtRnc event rnc ∷ later) = ue_events later
 
-abbrev pub rnc_events : List Happening → List RncEvent
+abbrev pub rnc_events : List EndEvent → List RncEvent
 rnc_events [] = []
-rnc_events (HappenedAtUe event ue ∷ later) = rnc_events later
-rnc_events (HappenedAtRnc event rnc ∷ later) = event ∷ rnc_events later
+rnc_events (EventAtUe event ue ∷ later) = rnc_events later
+rnc_events (EventAtRnc event rnc ∷ later) = event ∷ rnc_events later
 
 -- what happened from opening on is all that happened at the terminal and the network controller of a soft handover, and a list of events at
 -- two nodes that leads to these two
-pub record IsListOf (planned : Planned) (first : ℕ) (happened : List Happening) (soft : SoftState) : Type 0 where
+pub record IsListOf (planned : Planned) (first : ℕ) (happened : List EndEvent) (soft : SoftState) : Type 0 where
   pub ue : soft.ue.events ≡ ue_events happened
   pub rnc : soft.rnc.events ≡ rnc_events happened
   pub run : NodesRun Any (opened_nodes planned first first) (events_of happened) (after_all (opened_nodes planned first first) happened)
@@ -117,7 +117,7 @@ pub record IsListOf (planned : Planned) (first : ℕ) (happened : List Happening
 
 -- with what went over their channels they stand in a history of an acknowledged bearer's pair; and the lines of the run on PDUs and units of
 -- the bearer are just the units that the history hands up at its ends
-pub record HandsUp (planned : Planned) (first b : ℕ) (happened : List Happening) (soft : SoftState) (lines : List Line) : Type 0 where
+pub record HandsUp (planned : Planned) (first b : ℕ) (happened : List EndEvent) (soft : SoftState) (lines : List Line) : Type 0 where
   pub are : AreOf soft (after_all (opened_nodes planned first first) happened)
   pub history : IsAmHistory planned b (after_all (opened_nodes planned first first) happened)
   pub up : lines_on Up b lines ≡ unit_lines Up b (pair_after planned.config Up Down b history.events).far.entity.receiver.reading.units
