@@ -10,3 +10,4 @@ pub mod HeldSets
 pub mod Padded
 pub mod Plans
 pub mod Reports
+pub mod Rooms

@@ -13,6 +13,7 @@ ghost use Rattle.dch_accept.specs.Reports.{step_bytes};
 
 use crate::refusal::Refusal;
 use dch_bits::{Bit, NoMemory};
+use dch_coding::CodingRoom;
 use dch_collision::{Direction, Found, Search};
 use dch_frame::{Interleaver, UplinkInterleavers};
 use dch_match::{DownlinkPlan, MatchError, UplinkPlan, downlink, uplink};
@@ -79,7 +80,7 @@ pub fn accept(alloc: Global, config: Config) -> Result<Accepted, Refusal>
     if count > MOST_SEARCHES {
         return Err(Refusal::Sequences(count));
     }
-    look_for_collisions(alloc, &config, uplink.as_slice(), &downlink)?;
+    look_for_collisions(alloc, &config, uplink.as_slice(), &downlink, count)?;
     let uplink_interleavers = UplinkInterleavers::open(alloc)?;
     let downlink_interleaver = Interleaver::open(alloc, config.downlink.code_bits())?;
     Ok(Accepted {
@@ -107,19 +108,27 @@ fn plans(alloc: Global, config: &Uplink) -> Result<Sequence<UplinkPlan>, Refusal
     Ok(plans)
 }
 
-/// Looks for the first collision.
+/// Looks for the first collision. Where no code block may lose bits there is none, and no memory is taken.
 fn look_for_collisions(
     alloc: Global,
     config: &Config,
     plans: &[UplinkPlan],
     plan: &DownlinkPlan,
+    count: u128,
 ) -> Result<(), Refusal>
     requires good { IsGood config.now }
     requires plans { AreAllPlans config.now.uplink plans.now }
     requires plan { IsDownlinkPlan config.now.downlink plan.now }
+    requires count { count ≡ count_of config.now }
     ensures { IsSearched config.now result }
 {
-    let mut search = Search::open(alloc)?;
+    if count == 0 {
+        return Ok(());
+    }
+    let room = CodingRoom::of_side(&config.uplink.side).wider(CodingRoom::of_side(
+        &config.downlink.side,
+    ));
+    let mut search = Search::open(alloc, room)?;
     let uplink = Direction::Up {
         config: &config.uplink,
         plans,

@@ -7,7 +7,7 @@ use std::test::Fail;
 #[test]
 #[tactic(auto, unfolding(dch_types::specs::Lengths::tti_bits))]
 fn blocks_of_a_tti(rt: HostRuntime) -> Result<(), Fail> {
-    let mut coder = TtiCoder::open(rt.alloc())?;
+    let mut coder = TtiCoder::open(rt.alloc(), 18)?;
     let channel = Trch {
         frames: 1,
         coding: Coding::Uncoded,

@@ -1,4 +1,4 @@
-ghost use Rattle.std.specs.Prelude.{◌≡◌, length};
+ghost use Rattle.std.specs.Prelude.{◌≡◌, ◌≤◌, length};
 
 use dch_bits::{Bit, bits_text};
 use dch_collision::Collider;
@@ -23,7 +23,10 @@ fn find(
     filler: usize,
     sent_flags: &[u8],
     letters: &mut [u8; 6],
-) -> bool {
+) -> bool
+    requires { 6 ≤ collider.old }
+    ensures { collider.new ≡ collider.old }
+{
     let mut flags = [false; 42];
     assert!(rt; filler <= 6 && sent_flags.len() <= 42);
     assert!(rt; coding.coded_block(6) == sent_flags.len() as u64);
@@ -36,7 +39,7 @@ fn find(
 
 #[test]
 fn first_blocks(rt: HostRuntime) -> Result<(), Fail> {
-    let mut collider = Collider::open(rt.alloc())?;
+    let mut collider = Collider::open(rt.alloc(), 6)?;
     let rows: [(Coding, usize, &[u8], &[u8; 6]); 8] = [
         (Coding::Half, 0, b"1100000100000000001001001000", b"001100"),
         (Coding::Half, 2, b"1100000100000000001001001000", b"001100"),
@@ -67,7 +70,7 @@ fn first_blocks(rt: HostRuntime) -> Result<(), Fail> {
 
 #[test]
 fn no_collision(rt: HostRuntime) -> Result<(), Fail> {
-    let mut collider = Collider::open(rt.alloc())?;
+    let mut collider = Collider::open(rt.alloc(), 6)?;
     let rows: [(Coding, usize, &[u8]); 9] = [
         (Coding::Half, 3, b"1100000100000000001001001000"),
         (Coding::Half, 0, b"0010000001110001100110010100"),
@@ -100,7 +103,7 @@ fn no_collision(rt: HostRuntime) -> Result<(), Fail> {
 
 #[test]
 fn long_blocks(rt: HostRuntime) -> Result<(), Fail> {
-    let mut collider = Collider::open(rt.alloc())?;
+    let mut collider = Collider::open(rt.alloc(), 504)?;
     let mut out = [Bit::One; 504];
     assert!(rt; !collider.find(Coding::Third, 0, &[true; 1536], &mut out));
     assert!(rt; collider.find(Coding::Third, 0, &[false; 1536], &mut out));
@@ -111,7 +114,7 @@ fn long_blocks(rt: HostRuntime) -> Result<(), Fail> {
 
 #[test]
 fn every_tenth_bit_removed(rt: HostRuntime) -> Result<(), Fail> {
-    let mut collider = Collider::open(rt.alloc())?;
+    let mut collider = Collider::open(rt.alloc(), 0)?;
     let mut sent_flags = [true; 100];
     for i in 0..10usize {
         sent_flags[10 * i] = false;

@@ -5,7 +5,7 @@ ghost use Rattle.dch_types.specs.declared.channel.Crc.TheVariants.{C8};
 
 use dch_accept::{Accepted, TtiBlocks};
 use dch_bits::{Bit, NoMemory, Vote};
-use dch_coding::code;
+use dch_coding::{CodingRoom, code};
 use dch_crc::attach;
 use dch_decode::*;
 use dch_samples::tiny;
@@ -49,7 +49,11 @@ fn two_code_blocks(rt: HostRuntime) -> Result<(), Fail> {
     let mut votes = [Vote { zeros: 0, ones: 0 }; 1566];
     damaged_copies(&coded, &mut votes);
     let mut back = [Bit::One; 505];
-    let mut decoder = Decoder::open(rt.alloc())?;
+    let room = CodingRoom {
+        bits: 1566,
+        code_block: 253,
+    };
+    let mut decoder = Decoder::open(rt.alloc(), room)?;
     decoder.decode(Coding::Third, &votes, &mut back);
     assert!(rt; back == joined);
     Ok(())
@@ -57,7 +61,11 @@ fn two_code_blocks(rt: HostRuntime) -> Result<(), Fail> {
 
 #[test]
 fn bits_that_are_not_coded(rt: HostRuntime) -> Result<(), Fail> {
-    let mut decoder = Decoder::open(rt.alloc())?;
+    let room = CodingRoom {
+        bits: 3,
+        code_block: 0,
+    };
+    let mut decoder = Decoder::open(rt.alloc(), room)?;
     let votes = [
         Vote { zeros: 1, ones: 2 },
         Vote { zeros: 2, ones: 2 },
@@ -91,6 +99,7 @@ fn blocks_and_their_parity(rt: HostRuntime) {
 fn reads_two(channel: &Trch, decoder: &mut Decoder, blocks: &mut TtiBlocks) -> bool
     requires code { channel.now.coding ≡ Uncoded }
     requires parity { channel.now.crc ≡ C8 }
+    requires room { 16 ≤ decoder.old.bits }
 {
     let mut bits = [Bit::Zero; 16];
     bits[9] = Bit::One;
@@ -104,7 +113,11 @@ fn reads_two(channel: &Trch, decoder: &mut Decoder, blocks: &mut TtiBlocks) -> b
 /// Whether they are read by a decoder into the blocks of a configuration.
 fn are_read(alloc: Global, accepted: &Accepted) -> Result<bool, NoMemory> {
     let mut blocks = TtiBlocks::open(alloc, accepted, Dir::Up)?;
-    let mut decoder = Decoder::open(alloc)?;
+    let room = CodingRoom {
+        bits: 16,
+        code_block: 0,
+    };
+    let mut decoder = Decoder::open(alloc, room)?;
     let channel = Trch {
         frames: 1,
         coding: Coding::Uncoded,

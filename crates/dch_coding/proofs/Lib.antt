@@ -1,3 +1,4 @@
 pub mod Blocks
 pub mod Lengths
 pub mod Parts
+pub mod Rooms

@@ -1,3 +1,4 @@
 pub mod Chain
 pub mod Cuts
+pub mod Rooms
 pub mod Ttis

@@ -1,4 +1,4 @@
-ghost use Rattle.std.specs.Prelude.{◌≡◌, ◌+◌, ◌*◌, ◌≤◌, length};
+ghost use Rattle.std.specs.Prelude.{◌≡◌, ◌+◌, ◌*◌, ◌≤◌, length, IfOk};
 ghost use Rattle.dch_types.specs.Lengths.{crc_size, joined_bits, block_count, block_size, coded_bits, tti_bits};
 ghost use Rattle.dch_coding.specs.Ttis.{ArePartsUpTo, IsCodedTti};
 
@@ -6,25 +6,36 @@ use crate::chain::code;
 use crate::memory::zeros;
 use dch_bits::{Bit, NoMemory};
 use dch_crc::attach;
-use dch_types::{Crc, Format, MAX_TTI_BITS, Trch, block_size};
+use dch_types::{Crc, Format, Trch, block_size};
 use std::alloc::Global;
+use std::marker::Model;
 
-/// The room to code all transport blocks of a TTI. Its joined bits and its code blocks with their filler are no more than its
-/// coded bits.
+/// The room to code all transport blocks of a TTI of up to so many coded bits. Contracts see that number. The joined bits of
+/// a TTI and its code blocks with their filler are no more than its coded bits.
 #[derive(Drop)]
 pub struct TtiCoder {
     joined: Vec<Bit>,
     blocks: Vec<Bit>,
-    ghost joined_room: { length joined.items ≡ 131072 },
-    ghost blocks_room: { length blocks.items ≡ 131072 },
+}
+
+impl Model for TtiCoder {
+    ghost use Rattle.std.specs.Prelude.{◌≡◌, ℕ, length};
+
+    ghost Value = { ℕ };
+
+    ghost view = { λ c. length c.joined.items };
+
+    ghost invariant = { λ c. length c.blocks.items ≡ length c.joined.items };
 }
 
 impl TtiCoder {
-    /// Takes all memory that coding wants.
-    pub fn open(alloc: Global) -> Result<TtiCoder, NoMemory> {
+    /// Takes the memory for TTIs of up to `most` coded bits. Nothing more is taken later.
+    pub fn open(alloc: Global, most: usize) -> Result<TtiCoder, NoMemory>
+        ensures { IfOk result (λ coder. coder ≡ most) }
+    {
         Ok(TtiCoder {
-            joined: zeros(alloc, MAX_TTI_BITS)?,
-            blocks: zeros(alloc, MAX_TTI_BITS)?,
+            joined: zeros(alloc, most)?,
+            blocks: zeros(alloc, most)?,
         })
     }
 
@@ -32,9 +43,11 @@ impl TtiCoder {
     /// joined, cut and coded (TS 25.212 4.2.1 to 4.2.3).
     pub fn code(&mut self, channel: &Trch, format: &Format, blocks: &[Bit], out: &mut [Bit])
         requires limit { tti_bits channel.now format.now ≤ 131072 }
+        requires fits { tti_bits channel.now format.now ≤ self.old }
         requires blocks { length blocks.now ≡ format.now.number * format.now.size }
         requires room { length out.old ≡ tti_bits channel.now format.now }
-        ensures { IsCodedTti channel.now format.now blocks.now out.new }
+        ensures coded { IsCodedTti channel.now format.now blocks.now out.new }
+        ensures kept { self.new ≡ self.old }
     {
         code_into(
             channel,
@@ -58,8 +71,8 @@ fn code_into(
 )
     requires limit { tti_bits channel.now format.now ≤ 131072 }
     requires blocks { length blocks.now ≡ format.now.number * format.now.size }
-    requires joined { length joined.old ≡ 131072 }
-    requires cut { length cut.old ≡ 131072 }
+    requires joined { tti_bits channel.now format.now ≤ length joined.old }
+    requires cut { tti_bits channel.now format.now ≤ length cut.old }
     requires room { length out.old ≡ tti_bits channel.now format.now }
     ensures { IsCodedTti channel.now format.now blocks.now out.new }
 {
@@ -82,8 +95,8 @@ fn lengths_of(channel: &Trch, format: &Format) -> Lengths
     ensures joined { result.joined ≡ joined_bits channel.now format.now }
     ensures blocks { result.blocks ≡ block_count result.joined channel.now.coding * block_size result.joined (block_count result.joined channel.now.coding) }
     ensures coded { tti_bits channel.now format.now ≡ coded_bits channel.now.coding result.joined }
-    ensures few_joined { result.joined ≤ 131072 }
-    ensures few_blocks { result.blocks ≤ 131072 }
+    ensures few_joined { result.joined ≤ tti_bits channel.now format.now }
+    ensures few_blocks { result.blocks ≤ tti_bits channel.now format.now }
 {
     let joined = channel.joined_bits(format);
     let count = channel.coding.block_count(joined);

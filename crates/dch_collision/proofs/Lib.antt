@@ -10,4 +10,5 @@ pub mod Sizes
 pub mod Unpunctured
 pub mod Visits
 pub mod Whole
+pub mod Uncounted
 pub mod Under

@@ -9,17 +9,20 @@ use Rattle.dch_types.specs.declared.channel.Coding.TheVariants.{Uncoded, Half, T
 use Rattle.dch_types.specs.declared.channel.Side.{Side}
 use Rattle.dch_types.specs.Lengths.{block_count, block_size, coded_block, coded_bits}
 use Rattle.dch_types.specs.Limits.{IsChannel, IsFrames, IsSide}
-use Rattle.dch_types.specs.Parts.{channel_at}
+use Rattle.dch_types.specs.Parts.{channel_at, format_at}
 use Rattle.dch_types.proofs.Sizes.{block_count-some}
 use Rattle.dch_segment.specs.declared.cut.Plan.{Plan}
 use Rattle.dch_segment.specs.Segments.{plan_of}
 use Rattle.dch_segment.proofs.Sizes.{size_short, filler_few}
 use Rattle.dch_coding.proofs.Lengths.{blocks_short}
+use Rattle.dch_coding.proofs.Rooms.{searched_is}
+use Rattle.dch_coding.specs.Rooms.{Holds, format_room}
+use Rattle.dch_coding.specs.declared.room.CodingRoom.{CodingRoom}
 use Rattle.dch_puncture.specs.Copies.{bits_in, padded_in}
 use Rattle.dch_puncture.proofs.Sizes.{some_frames}
 use Rattle.dch_collision.specs.declared.shape.Shape.{Shape}
 use Rattle.dch_collision.specs.Clear.{joined_in}
-use Rattle.dch_collision.specs.Shapes.{IsShape}
+use Rattle.dch_collision.specs.Shapes.{Fits, IsShape}
 use Rattle.dch_collision.proofs.Unpunctured.{bits_are, padded_more}
 
 -- a TTI of at most 131,072 bits has no more after padding
@@ -78,8 +81,18 @@ shape_is side i f shape good channel format coding plan bits padded =
       whole = ap₂ (λ (a b : ℕ). a * b) count (ap₂ coded_block coding size) ∙ sym (bits_are side i f) ∙ sym bits;
       fits = omega (arith, bits, padded, padded_more (bits_in side i f) (channel_at side i).frames (some_frames (channel_at side i).frames is.frames));
       few = omega (arith, padded, padded_few (bits_in side i f) (channel_at side i).frames is.frames few);
-      room = omega (arith, size, block_few x code, blocks_short x code, format_few side i f, few);
+      within = omega (arith, size, padded, block_few x code, blocks_short x code, format_few side i f, padded_more (bits_in side i f) (channel_at side i).frames (some_frames (channel_at side i).frames is.frames));
       few_blocks = omega (arith, count, few_are x code (omega (arith, format_few side i f, few)));
       filler = omega (arith, size, filler, filler_fits x code);
       short = λ coded. omega (arith, size, size_short x code (λ un. coded (coding ∙ un)));
+    }
+
+-- where there is room for a format, there is room to search in it
+pub shape_fits : (side : Side) (i f : ℕ) (shape : Shape) (room : CodingRoom) → IsShape side i f shape → Holds room (format_room (channel_at side i) (format_at (channel_at side i) f)) → Fits room shape
+shape_fits side i f shape room is holds =
+    let code : Coding = (channel_at side i).coding in
+    let x : ℕ = joined_in side i f in
+    record {
+      bits = omega (arith, is.padded, holds.bits);
+      block = λ coded. omega (arith, ap (λ (p : Plan). p.size) is.plan, searched_is code x (λ un. coded (is.coding ∙ un)), holds.code_block);
     }

@@ -5,6 +5,7 @@ use Rattle.dch_types.specs.declared.channel.Coding.TheVariants.{Uncoded}
 use Rattle.dch_types.specs.declared.channel.Side.{Side}
 use Rattle.dch_types.specs.Lengths.{coded_block}
 use Rattle.dch_types.specs.Parts.{channel_at}
+use Rattle.dch_coding.specs.declared.room.CodingRoom.{CodingRoom}
 use Rattle.dch_segment.specs.Segments.{plan_of}
 use Rattle.dch_puncture.specs.Copies.{bits_in, padded_in}
 use Rattle.dch_collision.specs.declared.found.FormatCollision.{FormatCollision}
@@ -21,10 +22,15 @@ pub record IsShape (side : Side) (i f : ℕ) (shape : Shape) : Type 0 where
   pub whole : shape.plan.blocks * coded_block shape.coding shape.plan.size ≡ shape.bits
   pub fits : shape.bits ≤ shape.padded
   pub few : shape.padded ≤ 131072
-  pub room : shape.plan.size ≤ 131072
+  pub within : shape.plan.size ≤ shape.padded
   pub few_blocks : shape.plan.blocks ≤ 65536
   pub filler : shape.plan.filler ≤ shape.plan.size
   pub short : shape.coding ≢ Uncoded → shape.plan.size ≤ 504
+
+-- there is room for a search in a format of these sizes
+pub record Fits (room : CodingRoom) (shape : Shape) : Type 0 where
+  pub bits : shape.padded ≤ room.bits
+  pub block : shape.coding ≢ Uncoded → shape.plan.size ≤ room.code_block
 
 -- the block of a collision, at the front of its room
 abbrev pub block_of : FormatCollision → List Bit → List Bit

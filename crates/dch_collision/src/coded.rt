@@ -18,7 +18,7 @@ pub fn find_coded(
     votes: &mut [Vote],
     out: &mut [Bit],
 ) -> bool
-    requires longest { trellis.old ≡ 504 }
+    requires longest { length out.old ≤ trellis.old }
     requires short { length out.old ≤ 504 }
     requires filler { filler ≤ length out.old }
     requires coded { length sent_flags.now ≡ coded_length rate (length out.old) }
@@ -47,7 +47,7 @@ fn may_collide(
     votes: &mut [Vote],
     out: &mut [Bit],
 ) -> bool
-    requires longest { trellis.old ≡ 504 }
+    requires longest { length out.old ≤ trellis.old }
     requires some { 1 ≤ length out.old }
     requires short { length out.old ≤ 504 }
     requires filler { filler ≤ length out.old }
@@ -97,7 +97,7 @@ fn last_start(
     votes: &mut [Vote],
     out: &mut [Bit],
 ) -> bool
-    requires longest { trellis.old ≡ 504 }
+    requires longest { length out.old ≤ trellis.old }
     requires short { length out.old ≤ 504 }
     requires filler { filler ≤ length out.old }
     requires coded { length sent_flags.now ≡ coded_length rate (length out.old) }
@@ -125,7 +125,7 @@ fn starts(
     votes: &mut [Vote],
     out: &mut [Bit],
 ) -> bool
-    requires longest { trellis.old ≡ 504 }
+    requires longest { length out.old ≤ trellis.old }
     requires inside { k < length out.old }
     requires short { length out.old ≤ 504 }
     requires coded { length sent_flags.now ≡ coded_length rate (length out.old) }

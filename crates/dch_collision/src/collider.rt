@@ -4,42 +4,49 @@ ghost use Rattle.dch_types.specs.Lengths.{coded_block};
 ghost use Rattle.dch_conv.specs.Conv.{coded_length};
 ghost use Rattle.dch_collision.specs.Hidden.{coding_of};
 ghost use Rattle.dch_collision.specs.Collisions.{copies_kept, IsFirstCollision, NoneCollide};
-ghost use Rattle.dch_types.specs.declared.limits.TheConstants.{MAX_CODE_BLOCK_BITS};
-ghost use Rattle.dch_collision.specs.declared.collider.TheConstants.{CODED};
 
 use crate::coded::find_coded;
 use crate::uncoded::find_uncoded;
 use dch_bits::{Bit, NoMemory, Vote};
 use dch_conv::Rate;
 use dch_trellis::Trellis;
-use dch_types::{Coding, MAX_CODE_BLOCK_BITS};
+use dch_types::Coding;
 use std::alloc::Global;
+use std::marker::Model;
 
-/// The most coded bits of a code block.
-const CODED: usize = 1536;
-
-/// The memory of the search for code blocks that no receiver can tell apart.
+/// The memory of the search for code blocks that no receiver can tell apart, for blocks that are coded and have up to so many
+/// bits. Contracts see that number.
 #[derive(Drop)]
 pub struct Collider {
     trellis: Trellis,
     votes: Vec<Vote>,
-    ghost longest: { trellis ≡ MAX_CODE_BLOCK_BITS },
-    ghost room: { length votes.items ≡ CODED },
+}
+
+impl Model for Collider {
+    ghost use Rattle.std.specs.Prelude.{◌≡◌, ◌+◌, ◌*◌, ℕ, length};
+
+    ghost Value = { ℕ };
+
+    ghost view = { λ c. c.trellis };
+
+    ghost invariant = { λ c. length c.votes.items ≡ 3 * (c.trellis + 8) };
 }
 
 impl Collider {
-    /// Takes all memory that the search wants.
-    pub fn open(alloc: Global) -> Result<Collider, NoMemory> {
+    /// Takes the memory for coded blocks of up to `most` bits, at most 504. Nothing more is taken later.
+    pub fn open(alloc: Global, most: usize) -> Result<Collider, NoMemory>
+        requires { most ≤ 504 }
+        ensures { IfOk result (λ collider. collider ≡ most) }
+    {
         Ok(Collider {
-            trellis: Trellis::open(alloc, MAX_CODE_BLOCK_BITS)?,
-            votes: no_votes(alloc, CODED)?,
+            trellis: Trellis::open(alloc, most)?,
+            votes: no_votes(alloc, 3 * (most + 8))?,
         })
     }
 
     /// Whether two different code blocks of the length of `out`, with so many zeros of filler in front, have equal coded
     /// bits wherever `sent_flags` tells that a copy is sent (TS 25.212 4.2.3 and 4.2.7). If so, `out` becomes the first block
-    /// in text order, 0 before 1, that collides with the block of zeros; otherwise it holds no answer. Coded blocks have
-    /// at most 504 bits.
+    /// in text order, 0 before 1, that collides with the block of zeros; otherwise it holds no answer.
     pub fn find(
         &mut self,
         coding: Coding,
@@ -48,10 +55,12 @@ impl Collider {
         out: &mut [Bit],
     ) -> bool
         requires short { coding ≢ Uncoded → length out.old ≤ 504 }
+        requires fits { coding ≢ Uncoded → length out.old ≤ self.old }
         requires filler { filler ≤ length out.old }
         requires coded { length sent_flags.now ≡ coded_block coding (length out.old) }
         ensures found { result ≡ true → IsFirstCollision coding (length out.old) filler (copies_kept sent_flags.now) out.new }
         ensures none { result ≡ false → NoneCollide coding (length out.old) filler (copies_kept sent_flags.now) }
+        ensures kept { self.new ≡ self.old }
     {
         match coding {
             Coding::Uncoded => find_uncoded(filler, sent_flags, out),
@@ -62,11 +71,13 @@ impl Collider {
 
     /// The same of blocks that are coded.
     fn find_at(&mut self, rate: Rate, filler: usize, sent_flags: &[bool], out: &mut [Bit]) -> bool
-        requires short { length out.old ≤ MAX_CODE_BLOCK_BITS }
+        requires short { length out.old ≤ 504 }
+        requires fits { length out.old ≤ self.old }
         requires filler { filler ≤ length out.old }
         requires coded { length sent_flags.now ≡ coded_length rate (length out.old) }
         ensures found { result ≡ true → IsFirstCollision (coding_of rate) (length out.old) filler (copies_kept sent_flags.now) out.new }
         ensures none { result ≡ false → NoneCollide (coding_of rate) (length out.old) filler (copies_kept sent_flags.now) }
+        ensures kept { self.new ≡ self.old }
     {
         find_coded(
             &mut self.trellis,

@@ -1,6 +1,7 @@
 ghost use Rattle.std.specs.Prelude.{◌≡◌, ◌<◌, None, length, IfSome};
 ghost use Rattle.dch_types.specs.Limits.{IsSide};
-ghost use Rattle.dch_types.specs.Parts.{channel_at};
+ghost use Rattle.dch_types.specs.Parts.{channel_at, format_at};
+ghost use Rattle.dch_coding.specs.Rooms.{Holds, format_room};
 ghost use Rattle.dch_legal.specs.Sequences.{frames_of};
 ghost use Rattle.dch_collision.specs.Clear.{IsClearFormat};
 ghost use Rattle.dch_collision.specs.Directions.{IsPlanned, copies_in, side_in};
@@ -52,9 +53,11 @@ impl<'a> Direction<'a> {
         requires channel { i < length (side_in self).channels }
         requires format { f < length (channel_at (side_in self) i).formats }
         requires room { length sequence.old ≡ frames_of (side_in self) i }
-        requires block { length block.old ≡ 131072 }
+        requires fits { Holds room.old (format_room (channel_at (side_in self) i) (format_at (channel_at (side_in self) i) f)) }
+        requires block { length block.old ≡ room.old.bits }
         ensures some { IfSome result (λ hit. IsCollisionInFormat (side_in self.entry) (copies_in self.entry) i f sequence.new block.new hit) }
         ensures none { result ≡ None → IsClearFormat (side_in self.entry) (copies_in self.entry) i f }
+        ensures kept { room.new ≡ room.old }
     {
         match self {
             Direction::Up { config, plans } => {

@@ -1,6 +1,8 @@
-ghost use Rattle.std.specs.Prelude.{◌≡◌, ◌<◌, ◌≤◌, ℕ, List, None, length, take, IfSome};
+ghost use Rattle.std.specs.Prelude.{◌≡◌, ◌≢◌, ◌<◌, ◌≤◌, ℕ, List, None, length, take, IfSome};
+ghost use Rattle.dch_types.specs.declared.channel.Coding.TheVariants.{Uncoded};
 ghost use Rattle.dch_types.specs.Limits.{IsDownlink};
-ghost use Rattle.dch_types.specs.Parts.{channel_at};
+ghost use Rattle.dch_types.specs.Parts.{channel_at, format_at};
+ghost use Rattle.dch_coding.specs.Rooms.{Holds, format_room};
 ghost use Rattle.dch_match.specs.Downlinks.{IsDownlinkPlan};
 ghost use Rattle.dch_legal.specs.Sequences.{frames_of};
 ghost use Rattle.dch_puncture.specs.Copies.{downlink_copies, AreSentFlags};
@@ -33,9 +35,11 @@ pub(crate) fn first_in_format(
     requires channel { i < length config.now.side.channels }
     requires format { f < length (channel_at config.now.side i).formats }
     requires room { length sequence.old ≡ frames_of config.now.side i }
-    requires block { length block.old ≡ 131072 }
+    requires fits { Holds room.old (format_room (channel_at config.now.side i) (format_at (channel_at config.now.side i) f)) }
+    requires block { length block.old ≡ room.old.bits }
     ensures some { IfSome result (λ hit. IsCollisionInFormat config.now.side (downlink_copies config.now) i f sequence.new block.new hit) }
     ensures none { result ≡ None → IsClearFormat config.now.side (downlink_copies config.now) i f }
+    ensures kept { room.new ≡ room.old }
 {
     if !downlink_punctures(config, plan, i, f) {
         return None;
@@ -75,10 +79,12 @@ fn removed(
     requires channel { i < length config.now.side.channels }
     requires format { f < length (channel_at config.now.side i).formats }
     requires shape { IsShape config.now.side i f shape.now }
-    requires sent_flags { length sent_flags.old ≡ 131072 }
-    requires block { length block.old ≡ 131072 }
+    requires fits { shape.now.coding ≢ Uncoded → shape.now.plan.size ≤ collider.old }
+    requires sent_flags { shape.now.padded ≤ length sent_flags.old }
+    requires block { shape.now.padded ≤ length block.old }
     ensures some { IfSome result (λ r. (sequence : List ℕ) → IsFirstUnder config.now.side (downlink_copies config.now) i f sequence r (take shape.now.plan.size block.new)) }
     ensures none { result ≡ None → (sequence : List ℕ) → IsClearUnder config.now.side (downlink_copies config.now) i f sequence }
+    ensures kept { collider.new ≡ collider.old }
 {
     flag(config, plan, i, f, shape, sent_flags);
     first_collision(collider, shape, sent_flags, block)
@@ -97,7 +103,7 @@ fn flag(
     requires channel { i < length config.now.side.channels }
     requires format { f < length (channel_at config.now.side i).formats }
     requires shape { IsShape config.now.side i f shape.now }
-    requires room { length sent_flags.old ≡ 131072 }
+    requires room { shape.now.padded ≤ length sent_flags.old }
     ensures { (sequence : List ℕ) → AreSentFlags (downlink_copies config.now i f sequence) (take shape.now.bits sent_flags.new) }
 {
     let sent_flags = &mut sent_flags[..shape.bits];

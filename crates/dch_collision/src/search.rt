@@ -1,5 +1,5 @@
-ghost use Rattle.std.specs.Prelude.{◌≡◌, ◌<◌, None, length, IfOk, IfSome};
-ghost use Rattle.dch_types.specs.declared.limits.TheConstants.{MAX_TTI_BITS};
+ghost use Rattle.std.specs.Prelude.{◌≡◌, ◌<◌, ◌≤◌, None, length, IfOk, IfSome};
+ghost use Rattle.dch_coding.specs.Rooms.{HoldsSide};
 ghost use Rattle.dch_legal.specs.Sequences.{frames_of};
 ghost use Rattle.dch_collision.specs.Clear.{IsClearChannel};
 ghost use Rattle.dch_collision.specs.Directions.{IsPlanned, copies_in, side_in};
@@ -10,15 +10,26 @@ use crate::collider::Collider;
 use crate::direction::Direction;
 use crate::found::{FormatCollision, Found, found_collision};
 use dch_bits::{Bit, NoMemory};
-use dch_types::MAX_TTI_BITS;
+use dch_coding::CodingRoom;
 use std::alloc::Global;
+use std::marker::Model;
 
-/// The memory of a search for collisions of code blocks.
+/// The memory of a search for collisions of code blocks. Contracts see for how large TTIs there is room.
 #[derive(Drop)]
 pub struct Search {
     room: Room,
     block: Vec<Bit>,
-    ghost block_room: { length block.items ≡ MAX_TTI_BITS },
+}
+
+impl Model for Search {
+    ghost use Rattle.std.specs.Prelude.{◌≡◌, length};
+    ghost use Rattle.dch_coding.specs.declared.room.CodingRoom.{CodingRoom};
+
+    ghost Value = { CodingRoom };
+
+    ghost view = { λ s. s.room };
+
+    ghost invariant = { λ s. length s.block.items ≡ s.room.bits };
 }
 
 /// Room for the flags of the coded bits that are sent, in a radio frame and in a TTI.
@@ -27,22 +38,32 @@ pub(crate) struct Room {
     pub collider: Collider,
     pub segment: Vec<bool>,
     pub sent_flags: Vec<bool>,
-    ghost segment_room: { length segment.items ≡ MAX_TTI_BITS },
-    ghost flags_room: { length sent_flags.items ≡ MAX_TTI_BITS },
+}
+
+impl Model for Room {
+    ghost use Rattle.std.specs.Prelude.{◌≡◌, length};
+    ghost use Rattle.dch_coding.specs.declared.room.CodingRoom.{CodingRoom};
+
+    ghost Value = { CodingRoom };
+
+    ghost view = { λ r. record { bits = length r.sent_flags.items; code_block = r.collider } };
+
+    ghost invariant = { λ r. length r.segment.items ≡ length r.sent_flags.items };
 }
 
 impl Search {
-    /// Takes all memory that a search wants.
-    pub fn open(alloc: Global) -> Result<Search, NoMemory> {
+    /// Takes the memory to search in TTIs of that size. Nothing more is taken later, but for an answer.
+    pub fn open(alloc: Global, room: CodingRoom) -> Result<Search, NoMemory>
+        requires { room.code_block ≤ 504 }
+        ensures { IfOk result (λ search. search ≡ room) }
+    {
+        let block = bits(alloc, room.bits)?;
         let room = Room {
-            collider: Collider::open(alloc)?,
-            segment: flags(alloc, MAX_TTI_BITS)?,
-            sent_flags: flags(alloc, MAX_TTI_BITS)?,
+            collider: Collider::open(alloc, room.code_block)?,
+            segment: flags(alloc, room.bits)?,
+            sent_flags: flags(alloc, room.bits)?,
         };
-        Ok(Search {
-            room,
-            block: bits(alloc, MAX_TTI_BITS)?,
-        })
+        Ok(Search { room, block })
     }
 
     /// The first collision in a direction: by channel, format, legal sequence of combinations, and code block. `None` where no
@@ -52,8 +73,10 @@ impl Search {
         alloc: Global,
         direction: Direction<'_>,
     ) -> Result<Option<Found>, NoMemory>
-        requires { IsPlanned direction }
-        ensures { IfOk result (Finds (side_in direction.entry) (copies_in direction.entry)) }
+        requires planned { IsPlanned direction }
+        requires fits { HoldsSide self.old (side_in direction) }
+        ensures found { IfOk result (Finds (side_in direction.entry) (copies_in direction.entry)) }
+        ensures kept { self.new ≡ self.old }
     {
         find(alloc, &mut self.room, direction, &mut self.block)
     }
@@ -66,8 +89,10 @@ fn find(
     block: &mut [Bit],
 ) -> Result<Option<Found>, NoMemory>
     requires planned { IsPlanned direction }
-    requires block { length block.old ≡ 131072 }
-    ensures { IfOk result (Finds (side_in direction.entry) (copies_in direction.entry)) }
+    requires fits { HoldsSide room.old (side_in direction) }
+    requires block { length block.old ≡ room.old.bits }
+    ensures found { IfOk result (Finds (side_in direction.entry) (copies_in direction.entry)) }
+    ensures kept { room.new ≡ room.old }
 {
     let side = direction.side();
     let mut places = [0; 8];
@@ -90,11 +115,13 @@ fn first_in_channel(
     block: &mut [Bit],
 ) -> Option<FormatCollision>
     requires planned { IsPlanned direction }
+    requires fits { HoldsSide room.old (side_in direction) }
     requires channel { i < length (side_in direction).channels }
     requires room { length sequence.old ≡ frames_of (side_in direction) i }
-    requires block { length block.old ≡ 131072 }
+    requires block { length block.old ≡ room.old.bits }
     ensures some { IfSome result (λ hit. IsCollisionInChannel (side_in direction.entry) (copies_in direction.entry) i sequence.new block.new hit) }
     ensures none { result ≡ None → IsClearChannel (side_in direction.entry) (copies_in direction.entry) i }
+    ensures kept { room.new ≡ room.old }
 {
     let side = direction.side();
     for f in 0..side.channel(usize::from(i)).formats.len() {

@@ -17,7 +17,7 @@ pub fn read_block(
     filler: usize,
     out: &mut [Bit],
 )
-    requires room { trellis.old ≡ 504 }
+    requires room { coding ≢ Uncoded → length out.old ≤ trellis.old }
     requires some { 1 ≤ length out.old }
     requires short { coding ≢ Uncoded → length out.old ≤ 504 }
     requires filler { filler ≤ length out.old }

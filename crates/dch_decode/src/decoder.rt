@@ -1,10 +1,11 @@
-ghost use Rattle.std.specs.Prelude.{◌≡◌, ◌≢◌, ◌+◌, ◌*◌, ◌^◌, ◌<◌, ◌≤◌, ℕ, List, length, take, slice_index_or};
+ghost use Rattle.std.specs.Prelude.{◌≡◌, ◌≢◌, ◌+◌, ◌*◌, ◌^◌, ◌<◌, ◌≤◌, ℕ, List, length, take, slice_index_or, IfOk};
 ghost use Rattle.dch_bits.specs.declared.bit.Bit.{Bit};
 ghost use Rattle.dch_bits.specs.declared.bit.Vote.{Vote};
 ghost use Rattle.dch_types.specs.declared.channel.Coding.TheVariants.{Uncoded};
-ghost use Rattle.dch_types.specs.Lengths.{coded_block, coded_bits, joined_bits, tti_bits};
+ghost use Rattle.dch_types.specs.Lengths.{coded_block, coded_bits};
 ghost use Rattle.dch_segment.specs.Segments.{plan_of, filler_of};
 ghost use Rattle.dch_coding.specs.Chain.{coded_of};
+ghost use Rattle.dch_coding.specs.Rooms.{searched_bits};
 ghost use Rattle.dch_trellis.specs.Nearest.{disagreement};
 ghost use Rattle.dch_decode.specs.Read.{IsRead, AreRead};
 ghost use Rattle.dch_coding.specs.Ttis.{part};
@@ -13,29 +14,42 @@ ghost use Rattle.dch_collision.specs.Clear.{HasNoCollision};
 
 use crate::block::read_block;
 use dch_bits::{Bit, NoMemory, Vote};
+use dch_coding::CodingRoom;
 use dch_segment::{Plan, join, plan};
 use dch_trellis::Trellis;
-use dch_types::{Coding, Format, MAX_CODE_BLOCK_BITS, MAX_TTI_BITS, Trch};
+use dch_types::Coding;
 use std::alloc::Global;
+use std::marker::Model;
 
-/// The room to decode one TTI of at most 131,072 coded bits at a time.
+/// The room to decode one TTI at a time. Contracts see for how large ones.
 #[derive(Drop)]
 pub struct Decoder {
-    trellis: Trellis,
-    blocks: Vec<Bit>,
-    joined: Vec<Bit>,
-    ghost longest: { trellis ≡ 504 },
-    ghost blocks_room: { length blocks.items ≡ 131072 },
-    ghost joined_room: { length joined.items ≡ 131072 },
+    pub(crate) trellis: Trellis,
+    pub(crate) blocks: Vec<Bit>,
+    pub(crate) joined: Vec<Bit>,
+}
+
+impl Model for Decoder {
+    ghost use Rattle.std.specs.Prelude.{◌≡◌, length};
+    ghost use Rattle.dch_coding.specs.declared.room.CodingRoom.{CodingRoom};
+
+    ghost Value = { CodingRoom };
+
+    ghost view = { λ d. record { bits = length d.joined.items; code_block = d.trellis } };
+
+    ghost invariant = { λ d. length d.blocks.items ≡ length d.joined.items };
 }
 
 impl Decoder {
-    /// Takes all memory that decoding wants.
-    pub fn open(alloc: Global) -> Result<Decoder, NoMemory> {
+    /// Takes the memory to decode TTIs of that size. Nothing more is taken later.
+    pub fn open(alloc: Global, room: CodingRoom) -> Result<Decoder, NoMemory>
+        requires { room.code_block ≤ 504 }
+        ensures { IfOk result (λ decoder. decoder ≡ room) }
+    {
         Ok(Decoder {
-            trellis: Trellis::open(alloc, MAX_CODE_BLOCK_BITS)?,
-            blocks: vec![in alloc; Bit::Zero; MAX_TTI_BITS]?,
-            joined: vec![in alloc; Bit::Zero; MAX_TTI_BITS]?,
+            trellis: Trellis::open(alloc, room.code_block)?,
+            blocks: vec![in alloc; Bit::Zero; room.bits]?,
+            joined: vec![in alloc; Bit::Zero; room.bits]?,
         })
     }
 
@@ -45,37 +59,20 @@ impl Decoder {
     pub fn decode(&mut self, coding: Coding, votes: &[Vote], joined: &mut [Bit])
         requires coded { length votes.now ≡ coded_bits coding (length joined.old) }
         requires short { length votes.now ≤ 131072 }
+        requires fits { length votes.now ≤ self.old.bits }
+        requires block { searched_bits coding (length joined.old) ≤ self.old.code_block }
         requires few { (j : ℕ) (v : Vote) → j < length votes.now → (slice_index_or votes.now j v).zeros + (slice_index_or votes.now j v).ones ≤ 460800 }
         ensures read { AreRead coding votes.now joined.new }
         ensures undamaged { (sent : List Bit) (kept : ℕ → ℕ) → length sent ≡ length joined.new → AreCopies votes.now (coded_of coding sent) kept →
             HasNoCollision coding (length sent) kept → (joined.new ≡ sent) × (disagreement votes.now (coded_of coding joined.new) ≡ 0) }
+        ensures kept { self.new ≡ self.old }
     {
         decode_with(&mut self.trellis, &mut self.blocks, coding, votes, joined);
-    }
-
-    /// The joined bits of a TTI of a channel in a format.
-    pub fn joined(&mut self, channel: &Trch, format: &Format, votes: &[Vote]) -> &[Bit]
-        requires coded { length votes.now ≡ tti_bits channel.now format.now }
-        requires short { length votes.now ≤ 131072 }
-        requires few { (j : ℕ) (v : Vote) → j < length votes.now → (slice_index_or votes.now j v).zeros + (slice_index_or votes.now j v).ones ≤ 460800 }
-        ensures long { length result.now ≡ joined_bits channel.now format.now }
-        ensures read { AreRead channel.now.coding votes.now result.now }
-    {
-        let len = channel.joined_bits(format) as usize;
-        decode_front(
-            &mut self.trellis,
-            &mut self.blocks,
-            channel.coding,
-            votes,
-            len,
-            &mut self.joined,
-        );
-        &self.joined[..len]
     }
 }
 
 /// Reads so many joined bits to the front of `out`.
-fn decode_front(
+pub(crate) fn decode_front(
     trellis: &mut Trellis,
     blocks: &mut [Bit],
     coding: Coding,
@@ -83,13 +80,13 @@ fn decode_front(
     len: usize,
     out: &mut [Bit],
 )
-    requires longest { trellis.old ≡ 504 }
-    requires blocks { length blocks.old ≡ 131072 }
-    requires room { length out.old ≡ 131072 }
+    requires longest { searched_bits coding len ≤ trellis.old }
+    requires blocks { length votes.now ≤ length blocks.old }
+    requires room { length votes.now ≤ length out.old }
     requires coded { length votes.now ≡ coded_bits coding len }
     requires short { length votes.now ≤ 131072 }
     requires few { (j : ℕ) (v : Vote) → j < length votes.now → (slice_index_or votes.now j v).zeros + (slice_index_or votes.now j v).ones ≤ 460800 }
-    ensures fits { len ≤ 131072 }
+    ensures fits { len ≤ length out.new }
     ensures read { AreRead coding votes.now (take len out.new) }
     ensures kept { trellis.new ≡ trellis.old }
 {
@@ -103,8 +100,8 @@ fn decode_with(
     votes: &[Vote],
     joined: &mut [Bit],
 )
-    requires longest { trellis.old ≡ 504 }
-    requires room { length blocks.old ≡ 131072 }
+    requires longest { searched_bits coding (length joined.old) ≤ trellis.old }
+    requires room { length votes.now ≤ length blocks.old }
     requires coded { length votes.now ≡ coded_bits coding (length joined.old) }
     requires short { length votes.now ≤ 131072 }
     requires few { (j : ℕ) (v : Vote) → j < length votes.now → (slice_index_or votes.now j v).zeros + (slice_index_or votes.now j v).ones ≤ 460800 }
@@ -125,7 +122,7 @@ fn read_blocks(
     votes: &[Vote],
     blocks: &mut [Bit],
 )
-    requires room { trellis.old ≡ 504 }
+    requires room { coding ≢ Uncoded → plan.now.size ≤ trellis.old }
     requires short { plan.now.size ≤ 131072 }
     requires coded { coding ≢ Uncoded → plan.now.size ≤ 504 }
     requires some { 0 < plan.now.blocks → 1 ≤ plan.now.size }

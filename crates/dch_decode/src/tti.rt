@@ -1,13 +1,14 @@
 ghost use Rattle.std.specs.Prelude.{◌≡◌, ◌+◌, ◌*◌, ◌<◌, ◌≤◌, ◌↔◌, ℕ, List, Bool, length, take, slice_index_or, false, IsTrue};
 ghost use Rattle.dch_bits.specs.declared.bit.Bit.{Bit};
 ghost use Rattle.dch_bits.specs.declared.bit.Vote.{Vote};
-ghost use Rattle.dch_types.specs.Lengths.{crc_size, tti_bits};
+ghost use Rattle.dch_types.specs.Lengths.{crc_size, joined_bits, tti_bits};
 ghost use Rattle.dch_crc.specs.Parity.{IsAttached};
 ghost use Rattle.dch_accept.specs.Blocks.{Held, bits_of};
+ghost use Rattle.dch_coding.specs.Rooms.{searched_bits};
 ghost use Rattle.dch_coding.specs.Ttis.{part};
 ghost use Rattle.dch_decode.specs.Received.{IsReceived, ReadsCopies};
 
-use crate::decoder::Decoder;
+use crate::decoder::{Decoder, decode_front};
 use crate::transport::received;
 use dch_accept::TtiBlocks;
 use dch_bits::{Bit, Vote};
@@ -28,12 +29,24 @@ impl Decoder {
         requires room { bits_of format.now ≤ out.old.room }
         requires coded { length votes.now ≡ tti_bits channel.now format.now }
         requires short { length votes.now ≤ 131072 }
+        requires fits { length votes.now ≤ self.old.bits }
+        requires block { searched_bits channel.now.coding (joined_bits channel.now format.now) ≤ self.old.code_block }
         requires few { (j : ℕ) (v : Vote) → j < length votes.now → (slice_index_or votes.now j v).zeros + (slice_index_or votes.now j v).ones ≤ 460800 }
         ensures read { IsReceived channel.now number format.now votes.now out.new }
         ensures undamaged { ReadsCopies channel.now format.now votes.now out.new }
         ensures room { out.new.room ≡ out.old.room }
+        ensures kept { self.new ≡ self.old }
     {
-        let joined = self.joined(channel, format, votes);
+        let len = channel.joined_bits(format) as usize;
+        decode_front(
+            &mut self.trellis,
+            &mut self.blocks,
+            channel.coding,
+            votes,
+            len,
+            &mut self.joined,
+        );
+        let joined = &self.joined[..len];
         let size = usize::from(format.size);
         out.resize(number, format);
         write_blocks(

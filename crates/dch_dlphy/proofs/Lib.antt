@@ -2,6 +2,7 @@ pub mod Arrived
 pub mod Clear
 pub mod Demultiplexed
 pub mod Filled
+pub mod Fits
 pub mod One
 pub mod OneFrame
 pub mod Rooms

@@ -28,7 +28,8 @@ loaded_one planned i f blocks one other a b =
     let cells : one.cells ≡ other.cells = ext_get_or Off one.cells other.cells long (λ k inside.
     a.cells.shown k inside ∙ ap (λ bits. shown (length one.cells) bits k) coded ∙ ap (λ len. shown len b.coded k) long ∙ sym (b.cells.shown k (omega (arith, inside, long)))) in
     let format : one.format ≡ other.format = a.format ∙ sym b.format in
-    λ t. record { format = format t; cells = cells t }
+    let room : one.room ≡ other.room = a.room ∙ sym b.room in
+    λ t. record { format = format t; cells = cells t; room = room t }
 
 votes_one : (planned : Planned) (reader : RxFrames) (i f : ℕ) (xs ys : List Vote) → length xs ≡ length ys → AreVotes planned reader i f xs → AreVotes planned reader i f ys → xs ≡ ys
 votes_one planned reader i f xs ys long a b =

@@ -1,13 +1,11 @@
-ghost use Rattle.std.specs.Prelude.{◌≡◌, length};
-
 use crate::demultiplexing::demultiplex_tti;
 use crate::parts::{bits_per_frame, pattern_of};
-use dch_accept::Accepted;
+use dch_accept::{Accepted, TtiRoom};
 use dch_bits::{NoMemory, Trit, Vote};
 use dch_frame::count_votes;
 use dch_match::kept;
 use dch_rxframes::{CountVotes, ReceivedFrames, TtiReader};
-use dch_types::{Dir, MAX_TTI_CELLS};
+use dch_types::Dir;
 use std::alloc::Global;
 
 /// Received downlink radio frames, from which the TTIs of the channels are read: where the places of a channel lie in a radio
@@ -18,10 +16,10 @@ pub type DlReader = TtiReader<DlScratch>;
 #[derive(Drop)]
 pub struct DlScratch {
     cells: Vec<Trit>,
-    ghost room: { length cells.items ≡ 457920 },
 }
 
 impl CountVotes for DlScratch {
+    ghost use Rattle.std.specs.Prelude.{length};
     ghost use Rattle.dch_types.specs.declared.channel.Dir.TheVariants.{Down};
     ghost use Rattle.dch_dlphy.specs.Given.{gives_its_format};
     ghost use Rattle.dch_dlphy.specs.Read.{AreVotes};
@@ -37,9 +35,13 @@ impl CountVotes for DlScratch {
         Dir::Down
     }
 
-    fn open(alloc: Global) -> Result<DlScratch, NoMemory> {
+    ghost size = { λ s. length s.cells.items };
+
+    ghost size_for = { λ room. room.cells };
+
+    fn open(alloc: Global, room: &TtiRoom) -> Result<DlScratch, NoMemory> {
         Ok(DlScratch {
-            cells: vec![in alloc; Trit::Off; MAX_TTI_CELLS]?,
+            cells: vec![in alloc; Trit::Off; room.cells]?,
         })
     }
 

@@ -15,7 +15,7 @@ use dch_bits::{Bit, NoMemory, Trit};
 use dch_coding::TtiCoder;
 use dch_match::Pattern;
 use dch_ttibuf::{TtiBuffer, tti_buffers};
-use dch_types::{Dir, Format, MAX_TTI_BITS, MAX_TTI_CELLS, Trch};
+use dch_types::{Dir, Format, Trch};
 use std::alloc::Global;
 use std::marker::Model;
 
@@ -25,9 +25,8 @@ struct Room {
     coded: Vec<Bit>,
     shown: Vec<Trit>,
     tti: Vec<Trit>,
-    ghost coded_room: { length coded.items ≡ 131072 },
-    ghost shown_room: { length shown.items ≡ 131072 },
-    ghost tti_room: { length tti.items ≡ 457920 },
+    ghost coder_room: { coder ≡ length coded.items },
+    ghost shown_room: { length shown.items ≡ length coded.items },
 }
 
 // By hand, so that whoever holds one drops it by one call.
@@ -43,12 +42,16 @@ impl Drop for Room {
 }
 
 impl Room {
-    fn open(alloc: Global) -> Result<Room, NoMemory> {
+    /// Takes the memory for TTIs of so many coded bits and cells.
+    fn open(alloc: Global, bits: usize, cells: usize) -> Result<Room, NoMemory>
+        ensures bits { IfOk result (λ room. length room.coded.items ≡ bits) }
+        ensures cells { IfOk result (λ room. length room.tti.items ≡ cells) }
+    {
         Ok(Room {
-            coder: TtiCoder::open(alloc)?,
-            coded: vec![in alloc; Bit::Zero; MAX_TTI_BITS]?,
-            shown: vec![in alloc; Trit::Off; MAX_TTI_BITS]?,
-            tti: vec![in alloc; Trit::Off; MAX_TTI_CELLS]?,
+            coder: TtiCoder::open(alloc, bits)?,
+            coded: vec![in alloc; Bit::Zero; bits]?,
+            shown: vec![in alloc; Trit::Off; bits]?,
+            tti: vec![in alloc; Trit::Off; cells]?,
         })
     }
 
@@ -68,8 +71,12 @@ impl Room {
         requires pattern { IsWellFormed pattern.now }
         requires len { pattern.now.len ≡ tti_bits channel.now (format_at channel.now format) }
         requires fits { copies_below pattern.now.kind pattern.now.len ≤ channel.now.frames * places }
-        requires room { channel.now.frames * places ≤ 457920 }
-        ensures { IsMatched channel.now format (record { pattern = pattern.now; cells = places }) blocks.now buffer.new }
+        requires coded { tti_bits channel.now (format_at channel.now format) ≤ length self.old.coded.items }
+        requires room { channel.now.frames * places ≤ length self.old.tti.items }
+        requires buffer { channel.now.frames * places ≤ buffer.old.room.cells }
+        ensures loaded { IsMatched channel.now buffer.old.room format (record { pattern = pattern.now; cells = places }) blocks.now buffer.new }
+        ensures bits { length self.new.coded.items ≡ length self.old.coded.items }
+        ensures cells { length self.new.tti.items ≡ length self.old.tti.items }
     {
         let kind = channel.format(format as usize);
         let bits = code_front(&mut self.coder, channel, kind, blocks, &mut self.coded);
@@ -96,9 +103,11 @@ fn code_front(
 ) -> usize
     requires limit { tti_bits channel.now format.now ≤ 131072 }
     requires blocks { length blocks.now ≡ bits_of format.now }
-    requires room { length out.old ≡ 131072 }
+    requires fits { tti_bits channel.now format.now ≤ coder.old }
+    requires room { tti_bits channel.now format.now ≤ length out.old }
     ensures long { result ≡ tti_bits channel.now format.now }
     ensures coded { IsCodedTti channel.now format.now blocks.now (take result out.new) }
+    ensures kept { coder.new ≡ coder.old }
 {
     let bits = channel.tti_bits(format) as usize;
     coder.code(channel, format, blocks, &mut out[..bits]);
@@ -122,12 +131,14 @@ impl Drop for DlTti {
 }
 
 impl Model for DlTti {
-    ghost use Rattle.std.specs.Prelude.{List};
-    ghost use Rattle.dch_ttibuf.specs.Loaded.{Loaded};
+    ghost use Rattle.std.specs.Prelude.{List, length};
+    ghost use Rattle.dch_ttibuf.specs.Loaded.{AreWithin, Loaded};
 
     ghost Value = { List Loaded };
 
     ghost view = { λ t. t.tti_buffers.items };
+
+    ghost invariant = { λ t. AreWithin (length t.room.coded.items) (length t.room.tti.items) t.tti_buffers.items };
 }
 
 impl DlTti {
@@ -135,10 +146,10 @@ impl DlTti {
     pub fn open(alloc: Global, accepted: &Accepted) -> Result<DlTti, NoMemory>
         ensures { IfOk result (IsTtiOf accepted.now) }
     {
-        let channels = accepted.config().downlink.side.channels.len();
+        let room = accepted.most_room(Dir::Down);
         Ok(DlTti {
-            room: Room::open(alloc)?,
-            tti_buffers: tti_buffers(alloc, channels)?,
+            room: Room::open(alloc, room.coding.bits, room.cells)?,
+            tti_buffers: tti_buffers(alloc, accepted, Dir::Down)?,
         })
     }
 

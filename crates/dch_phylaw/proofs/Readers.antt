@@ -10,6 +10,7 @@ use Rattle.dch_types.specs.Parts.{channel_at, side_of}
 use Rattle.dch_accept.specs.Cells.{code_cells, frame_cells}
 use Rattle.dch_accept.specs.Frames.{most_cells}
 use Rattle.dch_accept.specs.Plans.{Planned}
+use Rattle.dch_accept.specs.Rooms.{most_room}
 use Rattle.dch_node.specs.RxFrames.{AreHeard, KeepsRadio}
 use Rattle.dch_node.specs.Values.{Radio}
 use Rattle.dch_rxframes.specs.RxFrames.{AreBack, Finds, IsFound, IsKeptOf, IsReaderOf, RxFrame, RxFrames, frame_at, rx_frame_at, tti_place}
@@ -22,7 +23,11 @@ abbrev with_room : Planned → Dir → RxFrame → RxFrame
 with_room planned dir kept = record kept { room = most_cells planned.config dir }
 
 abbrev pub roomed : Planned → Dir → RxFrames → RxFrames
-roomed planned dir reader = record { cfn = reader.cfn; frames = map (λ k. with_room planned dir (rx_frame_at reader.frames k)) (range_with_len 0 8) }
+roomed planned dir reader = record {
+  cfn = reader.cfn;
+  frames = map (λ k. with_room planned dir (rx_frame_at reader.frames k)) (range_with_len 0 8);
+  room = most_room planned dir;
+}
 
 roomed_at : (planned : Planned) (dir : Dir) (reader : RxFrames) (k : ℕ) → k < 8 → rx_frame_at (roomed planned dir reader).frames k ≡ with_room planned dir (rx_frame_at reader.frames k)
 roomed_at planned dir reader k inside = get_or-map-range_with_len (λ k. with_room planned dir (rx_frame_at reader.frames k)) 0 8 k k _ inside (omega arith)
@@ -48,6 +53,7 @@ found_of planned dir (Some radio) kept c keeps found =
 pub is_reader : (planned : Planned) (dir : Dir) (cfn : ℕ) (frames : ℕ → Option Radio) (reader : RxFrames) → AreHeard planned dir cfn frames reader → IsReaderOf planned dir (roomed planned dir reader)
 is_reader planned dir cfn frames reader heard = record {
   all = length-map-range_with_len (λ k. with_room planned dir (rx_frame_at reader.frames k)) 0 8;
+  room = refl;
   each = λ k inside. subst (IsKeptOf planned dir) (sym (roomed_at planned dir reader k inside)) (record {
     room = refl;
     listed = λ c found. (found_of planned dir (frames k) (rx_frame_at reader.frames k) c (heard.kept k inside) found).0;

@@ -1,5 +1,6 @@
-use dch_accept::{Accepted, PhyFrame, SetBlocks, TtiBlocks};
+use dch_accept::{Accepted, PhyFrame, SetBlocks, TtiBlocks, TtiRoom};
 use dch_bits::{Bit, NoMemory, Trit};
+use dch_coding::CodingRoom;
 use dch_samples::speech;
 use dch_types::{Dir, Format};
 use std::alloc::Global;
@@ -84,10 +85,26 @@ fn keeps_a_set(alloc: Global, accepted: &Accepted) -> Result<bool, NoMemory> {
     Ok(before == 1 && set.set() == 1)
 }
 
+/// Whether the greatest TTIs are those of speech: the last channel's 516 coded bits, which go to 472 places of the downlink,
+/// and the second channel's 334 in two radio frames.
+fn has_room(accepted: &Accepted) -> bool {
+    let up = TtiRoom {
+        coding: CodingRoom {
+            bits: 516,
+            code_block: 164,
+        },
+        frame_bits: 167,
+        cells: 516,
+    };
+    let down = TtiRoom { cells: 472, ..up };
+    accepted.most_room(Dir::Up) == up && accepted.most_room(Dir::Down) == down
+}
+
 /// Whether a configuration has the plans, shared channels and room of speech.
 fn is_as_planned(accepted: &Accepted) -> bool {
     let _plan = accepted.downlink_plan();
     is_planned(accepted)
+        && has_room(accepted)
         && shares(accepted)
         && accepted.count() == 2
         && accepted.step_bytes() == 16_500_000

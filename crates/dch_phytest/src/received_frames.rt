@@ -1,11 +1,18 @@
+use dch_accept::TtiRoom;
 use dch_bits::Trit;
+use dch_coding::CodingRoom;
 use dch_frame::Interleaver;
 use dch_rxframes::ReceivedFrames;
 use std::test::Fail;
 
 #[test]
 fn a_frame_of_two_codes_is_kept_by_its_cfn(rt: HostRuntime) -> Result<(), Fail> {
-    let mut rx_frames = ReceivedFrames::open(rt.alloc(), 62)?;
+    let room = TtiRoom {
+        coding: CodingRoom::NONE,
+        frame_bits: 0,
+        cells: 0,
+    };
+    let mut rx_frames = ReceivedFrames::open(rt.alloc(), 62, room)?;
     let interleaver = Interleaver::open(rt.alloc(), 31)?;
     let mut cells = [Trit::Zero; 62];
 

@@ -10,9 +10,11 @@ use Rattle.dch_types.specs.Parts.{channel_at, side_of}
 use Rattle.dch_frame.specs.Stages.{code_back}
 use Rattle.dch_tfci.specs.Tfci.{IsNearest}
 use Rattle.dch_accept.specs.declared.frame.FrameView.{FrameView}
+use Rattle.dch_accept.specs.declared.room.TtiRoom.{TtiRoom}
 use Rattle.dch_accept.specs.Cells.{code_cells, frame_cells}
 use Rattle.dch_accept.specs.Frames.{most_cells, tfci_bits}
 use Rattle.dch_accept.specs.Plans.{Planned}
+use Rattle.dch_accept.specs.Rooms.{most_room}
 
 -- the combination of a frame, if the frame is there, its cells in multiplexed order, and how many there is room for
 pub record RxFrame : Type 0 where
@@ -20,10 +22,12 @@ pub record RxFrame : Type 0 where
   pub cells : List Trit
   pub room : ℕ
 
--- the CFN of the last frame, and the frames of the last 8 CFNs by their remainders modulo 8
+-- the CFN of the last frame, the frames of the last 8 CFNs by their remainders modulo 8, and for how large TTIs there is room where
+-- they are read
 pub record RxFrames : Type 0 where
   pub cfn : ℕ
   pub frames : List RxFrame
+  pub room : TtiRoom
 
 -- the frame with remainder k
 abbrev pub rx_frame_at : List RxFrame → ℕ → RxFrame
@@ -87,10 +91,11 @@ pub record IsKeptOf (planned : Planned) (dir : Dir) (kept : RxFrame) : Type 0 wh
   pub listed : (c : ℕ) → kept.combination ≡ Some c → c < length (side_of planned.config dir).combinations
   pub long : (c : ℕ) → kept.combination ≡ Some c → length kept.cells ≡ frame_cells planned dir c
 
--- and so do all of the last 8 frames
+-- and so do all of the last 8 frames; and there is room for the direction's greatest TTI
 pub record IsReaderOf (planned : Planned) (dir : Dir) (reader : RxFrames) : Type 0 where
   pub all : length reader.frames ≡ 8
   pub each : (k : ℕ) → k < 8 → IsKeptOf planned dir (rx_frame_at reader.frames k)
+  pub room : reader.room ≡ most_room planned dir
 
 -- so many places without a frame
 pub record AreMissing (most count : ℕ) (frames : List RxFrame) : Type 0 where

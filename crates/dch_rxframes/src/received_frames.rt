@@ -6,6 +6,7 @@ ghost use Rattle.dch_accept.specs.Plans.{Planned};
 ghost use Rattle.dch_rxframes.specs.RxFrames.{AreMissing, IsHeld, IsReaderOf, rx_frame_at, tti_place};
 
 use crate::received_frame::ReceivedFrame;
+use dch_accept::TtiRoom;
 use dch_bits::{NoMemory, Trit};
 use dch_frame::Interleaver;
 use std::alloc::Global;
@@ -14,11 +15,12 @@ use std::marker::Model;
 /// How many frames are kept: those of the longest TTI.
 const FRAMES: usize = 8;
 
-/// The radio frames of the last 8 CFNs.
+/// The radio frames of the last 8 CFNs, and for how large TTIs there is room where they are read.
 #[derive(Drop)]
 pub struct ReceivedFrames {
     cfn: u8,
     frames: Vec<ReceivedFrame>,
+    room: TtiRoom,
 }
 
 impl Model for ReceivedFrames {
@@ -27,19 +29,21 @@ impl Model for ReceivedFrames {
 
     ghost Value = { RxFrames };
 
-    ghost view = { λ h. record { cfn = h.cfn; frames = h.frames.items } };
+    ghost view = { λ h. record { cfn = h.cfn; frames = h.frames.items; room = h.room } };
 
     ghost invariant = { λ h. length h.frames.items ≡ 8 };
 }
 
 impl ReceivedFrames {
-    /// Takes the memory for frames of at most so many cells. None is there.
-    pub fn open(alloc: Global, room: usize) -> Result<ReceivedFrames, NoMemory>
-        ensures { IfOk result (λ rx_frames. AreMissing room 8 rx_frames.frames) }
+    /// Takes the memory for frames of at most so many cells, and notes the room for their TTIs. No frame is there.
+    pub fn open(alloc: Global, cells: usize, room: TtiRoom) -> Result<ReceivedFrames, NoMemory>
+        ensures missing { IfOk result (λ rx_frames. AreMissing cells 8 rx_frames.frames) }
+        ensures room { IfOk result (λ rx_frames. rx_frames.room ≡ room) }
     {
         Ok(ReceivedFrames {
             cfn: 0,
-            frames: frames(alloc, room, FRAMES)?,
+            frames: frames(alloc, cells, FRAMES)?,
+            room,
         })
     }
 

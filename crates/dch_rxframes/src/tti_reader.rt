@@ -4,6 +4,7 @@ ghost use Rattle.dch_bits.specs.declared.bit.Vote.{Vote};
 ghost use Rattle.dch_types.specs.declared.channel.Dir.{Dir};
 ghost use Rattle.dch_types.specs.Parts.{side_of};
 ghost use Rattle.dch_accept.specs.Blocks.{Held, HoldsTtis};
+ghost use Rattle.dch_accept.specs.declared.room.TtiRoom.{TtiRoom};
 ghost use Rattle.dch_accept.specs.Frames.{most_cells};
 ghost use Rattle.dch_accept.specs.Plans.{Planned};
 ghost use Rattle.dch_decode.specs.Received.{ArrivesAs};
@@ -15,10 +16,10 @@ ghost use Rattle.dch_rxframes.specs.RxFrames.{AreMissing, HasTfci, IsReaderOf, R
 
 use crate::outcome::TtiOutcome;
 use crate::received_frames::ReceivedFrames;
-use dch_accept::{Accepted, FrameView, TtiBlocks};
+use dch_accept::{Accepted, FrameView, TtiBlocks, TtiRoom};
 use dch_bits::{NoMemory, Vote};
 use dch_decode::Decoder;
-use dch_types::{Dir, MAX_TTI_BITS};
+use dch_types::Dir;
 use std::alloc::Global;
 use std::marker::Model;
 
@@ -32,12 +33,18 @@ pub trait CountVotes {
     // Blocks of a channel in a format were sent, and the radio frames of their TTI are kept as they were written.
     ghost sent: { Planned → RxFrames → ℕ → ℕ → List Bit → Type 0 };
 
+    // How much room there is to count, and how much of it TTIs of that size want.
+    ghost size: { Self → ℕ };
+
+    ghost size_for: { TtiRoom → ℕ };
+
     /// The direction.
     fn dir() -> Dir
         ensures { result ≡ dir };
 
-    /// Takes all memory that counting wants.
-    fn open(alloc: Global) -> Result<Self, NoMemory>;
+    /// Takes all memory that counting the votes of TTIs of that size wants.
+    fn open(alloc: Global, room: &TtiRoom) -> Result<Self, NoMemory>
+        ensures { IfOk result (λ scratch. size scratch ≡ size_for room.now) };
 
     /// Counts the votes for the coded bits of a channel's TTI in a format that all of its radio frames give it, at the front of
     /// `out`.
@@ -52,19 +59,21 @@ pub trait CountVotes {
         requires opened { IsReaderOf accepted.now dir rx_frames.now }
         requires channel { channel < length (side_of accepted.now.config dir).channels }
         requires format { IsFormatOf (side_of accepted.now.config dir) rx_frames.now channel format }
-        requires room { length out.old ≡ 131072 }
+        requires scratch { size self.old ≡ size_for rx_frames.now.room }
+        requires room { length out.old ≡ rx_frames.now.room.coding.bits }
         ensures counted { counts accepted.now rx_frames.now channel format (votes_in (side_of accepted.now.config dir) channel format out.new) }
         ensures few { (j : ℕ) (v : Vote) → j < coded_in (side_of accepted.now.config dir) channel format →
             (slice_index_or out.new j v).zeros + (slice_index_or out.new j v).ones ≤ 460800 }
         ensures undamaged { (blocks : List Bit) → sent accepted.now rx_frames.now channel format blocks →
-            AreVotesOf (side_of accepted.now.config dir) channel format blocks (votes_in (side_of accepted.now.config dir) channel format out.new) };
+            AreVotesOf (side_of accepted.now.config dir) channel format blocks (votes_in (side_of accepted.now.config dir) channel format out.new) }
+        ensures kept { size self.new ≡ size self.old };
 
     /// The radio frames of such a TTI give the channel the format in which its blocks were sent.
     ghost gives: { GivesItsFormat dir sent };
 }
 
 /// Received radio frames of a direction, and the room to read the TTIs of its channels from them.
-pub struct TtiReader<R> {
+pub struct TtiReader<R: CountVotes> {
     rx_frames: ReceivedFrames,
     scratch: R,
     votes: Vec<Vote>,
@@ -72,7 +81,7 @@ pub struct TtiReader<R> {
 }
 
 // By hand, so that whoever holds one drops it by one call.
-impl<R: Drop> Drop for TtiReader<R> {
+impl<R: CountVotes + Drop> Drop for TtiReader<R> {
     fn drop(self) {
         let TtiReader {
             rx_frames: _rx_frames,
@@ -83,7 +92,7 @@ impl<R: Drop> Drop for TtiReader<R> {
     }
 }
 
-impl<R> Model for TtiReader<R> {
+impl<R: CountVotes> Model for TtiReader<R> {
     ghost use Rattle.std.specs.Prelude.{◌≡◌, length};
     ghost use Rattle.dch_rxframes.specs.RxFrames.{RxFrames};
 
@@ -91,7 +100,7 @@ impl<R> Model for TtiReader<R> {
 
     ghost view = { λ r. r.rx_frames };
 
-    ghost invariant = { λ r. length r.votes.items ≡ 131072 };
+    ghost invariant = { λ r. (R.size r.scratch ≡ R.size_for r.rx_frames.room) × (length r.votes.items ≡ r.rx_frames.room.coding.bits) × (r.decoder ≡ r.rx_frames.room.coding) };
 }
 
 impl<R: CountVotes + Drop> TtiReader<R> {
@@ -100,11 +109,13 @@ impl<R: CountVotes + Drop> TtiReader<R> {
         ensures missing { IfOk result (λ reader. AreMissing (most_cells accepted.now.config R.dir) 8 reader.frames) }
         ensures opened { IfOk result (IsReaderOf accepted.now R.dir) }
     {
+        let dir = R::dir();
+        let room = accepted.most_room(dir);
         Ok(TtiReader {
-            rx_frames: ReceivedFrames::open(alloc, accepted.most_cells(R::dir()))?,
-            scratch: R::open(alloc)?,
-            votes: vec![in alloc; Vote { zeros: 0, ones: 0 }; MAX_TTI_BITS]?,
-            decoder: Decoder::open(alloc)?,
+            rx_frames: ReceivedFrames::open(alloc, accepted.most_cells(dir), room)?,
+            scratch: R::open(alloc, &room)?,
+            votes: vec![in alloc; Vote { zeros: 0, ones: 0 }; room.coding.bits]?,
+            decoder: Decoder::open(alloc, room.coding)?,
         })
     }
 

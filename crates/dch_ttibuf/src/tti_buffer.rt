@@ -2,19 +2,22 @@ ghost use Rattle.std.specs.Prelude.{◌≡◌, ◌<◌, ◌≤◌, ◌+◌, ◌*
 ghost use Rattle.dch_bits.specs.declared.bit.Trit.TheVariants.{Off};
 ghost use Rattle.dch_inter.specs.Places.{first_of};
 ghost use Rattle.dch_types.specs.Limits.{IsFrames};
+ghost use Rattle.dch_types.specs.Parts.{side_of};
 ghost use Rattle.dch_ttibuf.specs.Loaded.{AreEmpty, AreInterleaved};
 
+use dch_accept::{Accepted, TtiRoom};
 use dch_bits::{NoMemory, Trit};
 use dch_frame::segment;
-use dch_types::MAX_TTI_CELLS;
+use dch_types::Dir;
 use std::alloc::Global;
 use std::marker::Model;
 
-/// The TTI of a channel as its radio frames carry it.
+/// The TTI of a channel as its radio frames carry it, in memory for the channel's greatest TTI.
 pub struct TtiBuffer {
     format: Option<u8>,
     cells: Vec<Trit>,
     len: usize,
+    room: TtiRoom,
 }
 
 // By hand, so that whoever holds one drops it by one call.
@@ -24,6 +27,7 @@ impl Drop for TtiBuffer {
             format: _format,
             cells: _cells,
             len: _len,
+            room: _room,
         } = self;
     }
 }
@@ -34,20 +38,22 @@ impl Model for TtiBuffer {
 
     ghost Value = { Loaded };
 
-    ghost view = { λ s. record { format = s.format; cells = take s.len s.cells.items } };
+    ghost view = { λ s. record { format = s.format; cells = take s.len s.cells.items; room = s.room } };
 
-    ghost invariant = { λ s. (s.len ≤ length s.cells.items) × (length s.cells.items ≡ 457920) };
+    ghost invariant = { λ s. (s.len ≤ length s.cells.items) × (length s.cells.items ≡ s.room.cells) };
 }
 
 impl TtiBuffer {
-    /// Takes the memory for one TTI. Nothing is loaded.
-    pub fn open(alloc: Global) -> Result<TtiBuffer, NoMemory>
-        ensures { IfOk result (λ buffer. buffer.format ≡ None) }
+    /// Takes the memory for TTIs of that size. Nothing is loaded.
+    pub fn open(alloc: Global, room: TtiRoom) -> Result<TtiBuffer, NoMemory>
+        ensures none { IfOk result (λ buffer. buffer.format ≡ None) }
+        ensures room { IfOk result (λ buffer. buffer.room ≡ room) }
     {
         Ok(TtiBuffer {
             format: None,
-            cells: vec![in alloc; Trit::Off; MAX_TTI_CELLS]?,
+            cells: vec![in alloc; Trit::Off; room.cells]?,
             len: 0,
+            room,
         })
     }
 
@@ -69,9 +75,10 @@ impl TtiBuffer {
     pub fn load(&mut self, format: u8, frames: usize, tti: &[Trit])
         requires frames { IsFrames frames }
         requires whole { length tti.now % frames ≡ 0 }
-        requires short { length tti.now ≤ 457920 }
+        requires fits { length tti.now ≤ self.old.room.cells }
         ensures format { self.new.format ≡ Some format }
         ensures cells { AreInterleaved frames tti.now self.new.cells }
+        ensures room { self.new.room ≡ self.old.room }
     {
         self.len = interleave_to_front(frames, tti, &mut self.cells);
         self.format = Some(format);
@@ -82,9 +89,8 @@ impl TtiBuffer {
 fn interleave_to_front(frames: usize, tti: &[Trit], out: &mut [Trit]) -> usize
     requires frames { IsFrames frames }
     requires whole { length tti.now % frames ≡ 0 }
-    requires short { length tti.now ≤ 457920 }
-    requires room { length out.old ≡ 457920 }
-    ensures fits { result ≤ 457920 }
+    requires room { length tti.now ≤ length out.old }
+    ensures fits { result ≤ length out.new }
     ensures cells { AreInterleaved frames tti.now (take result out.new) }
 {
     interleave(frames, tti, &mut out[..tti.len()]);
@@ -105,13 +111,14 @@ fn interleave(frames: usize, tti: &[Trit], out: &mut [Trit])
     }
 }
 
-/// Takes the memory for the TTIs of so many channels.
-pub fn tti_buffers(alloc: Global, count: usize) -> Result<Vec<TtiBuffer>, NoMemory>
-    ensures { IfOk result (λ tti_buffers. AreEmpty count tti_buffers.items) }
+/// Takes the memory for the TTIs of the channels of a direction. Nothing is loaded.
+pub fn tti_buffers(alloc: Global, accepted: &Accepted, dir: Dir) -> Result<Vec<TtiBuffer>, NoMemory>
+    ensures { IfOk result (λ tti_buffers. AreEmpty accepted.now dir (length (side_of accepted.now.config dir).channels) tti_buffers.items) }
 {
     let mut tti_buffers = Vec::new(alloc);
-    for _i in 0..count {
-        tti_buffers.push(TtiBuffer::open(alloc)?)?;
+    for i in 0..accepted.side(dir).channels.len() {
+        let room = accepted.tti_room(dir, i as u8);
+        tti_buffers.push(TtiBuffer::open(alloc, room)?)?;
     }
     Ok(tti_buffers)
 }

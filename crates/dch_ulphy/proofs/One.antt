@@ -32,7 +32,8 @@ loaded_one planned i f blocks one other a b =
     ∙ ap (λ bits. as_cell (get_or bits (first_of channel.frames (length one.cells) k) Zero)) coded
     ∙ ap (λ len. as_cell (get_or b.coded (first_of channel.frames len k) Zero)) long
     ∙ sym (b.cells.shown k (omega (arith, inside, long)))) in
-    λ t. record { format = format t; cells = cells t }
+    let room : one.room ≡ other.room = a.room ∙ sym b.room in
+    λ t. record { format = format t; cells = cells t; room = room t }
 
 votes_one : (planned : Planned) (reader : RxFrames) (i f : ℕ) (xs ys : List Vote) → length xs ≡ length ys → AreVotes planned reader i f xs → AreVotes planned reader i f ys → xs ≡ ys
 votes_one planned reader i f xs ys long a b = same_lists xs ys long (λ j v inside. a j v inside ∙ sym (b j v (omega (arith, inside, long))))

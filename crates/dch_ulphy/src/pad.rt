@@ -14,10 +14,10 @@ use dch_inter::equalise;
 pub fn pad(frames: usize, coded: &[Bit], out: &mut [Trit]) -> usize
     requires frames { IsFrames frames }
     requires short { length coded.now ≤ 131072 }
-    requires room { length out.old ≡ 131072 }
+    requires room { padded (length coded.now) frames ≤ length out.old }
     ensures long { result ≡ padded (length coded.now) frames }
     ensures whole { result % frames ≡ 0 }
-    ensures fits { result ≤ 131072 }
+    ensures fits { result ≤ length out.new }
     ensures cells { (p : ℕ) → p < result → slice_index_or out.new p Off ≡ as_cell (slice_index_or coded.now p Zero) }
 {
     let len = equalise(coded.len(), frames);

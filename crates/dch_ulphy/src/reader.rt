@@ -1,29 +1,31 @@
-ghost use Rattle.std.specs.Prelude.{◌≡◌, length};
-
 use crate::demultiplexing::demultiplex_tti;
-use dch_accept::Accepted;
+use dch_accept::{Accepted, TtiRoom};
 use dch_bits::{NoMemory, Vote};
 use dch_rxframes::{CountVotes, ReceivedFrames, TtiReader};
-use dch_types::{Dir, MAX_TTI_BITS};
+use dch_types::Dir;
 use std::alloc::Global;
 
 /// The room to count the votes of a radio frame.
 #[derive(Drop)]
 pub struct UlScratch {
     counted: Vec<Vote>,
-    ghost room: { length counted.items ≡ 131072 },
 }
 
 impl CountVotes for UlScratch {
+    ghost use Rattle.std.specs.Prelude.{length};
     ghost use Rattle.dch_types.specs.declared.channel.Dir.TheVariants.{Up};
     ghost use Rattle.dch_ulphy.specs.Given.{gives_its_format};
     ghost use Rattle.dch_ulphy.specs.Read.{AreVotes};
     ghost use Rattle.dch_ulphy.specs.Sent.{WasSent};
 
-    fn open(alloc: Global) -> Result<UlScratch, NoMemory> {
+    ghost size = { λ s. length s.counted.items };
+
+    ghost size_for = { λ room. room.frame_bits };
+
+    fn open(alloc: Global, room: &TtiRoom) -> Result<UlScratch, NoMemory> {
         let none = Vote { zeros: 0, ones: 0 };
         Ok(UlScratch {
-            counted: vec![in alloc; none; MAX_TTI_BITS]?,
+            counted: vec![in alloc; none; room.frame_bits]?,
         })
     }
 

@@ -1,4 +1,5 @@
-ghost use Rattle.std.specs.Prelude.{◌≡◌, ◌≢◌, ◌<◌, ℕ, length, IfOk};
+ghost use Rattle.std.specs.Prelude.{◌≡◌, ◌≢◌, ◌<◌, ◌≤◌, ℕ, length, IfOk};
+ghost use Rattle.dch_types.specs.Lengths.{tti_bits};
 ghost use Rattle.dch_types.specs.Limits.{IsChannel};
 ghost use Rattle.dch_types.specs.Parts.{channel_at, format_at};
 ghost use Rattle.dch_accept.specs.Blocks.{bits_of};
@@ -10,7 +11,7 @@ use dch_accept::Accepted;
 use dch_bits::{Bit, NoMemory, Trit};
 use dch_coding::TtiCoder;
 use dch_ttibuf::{TtiBuffer, tti_buffers};
-use dch_types::{Dir, MAX_TTI_BITS, Trch};
+use dch_types::{Dir, Trch};
 use std::alloc::Global;
 use std::marker::Model;
 
@@ -36,13 +37,13 @@ impl Drop for UlTti {
 
 impl Model for UlTti {
     ghost use Rattle.std.specs.Prelude.{◌≡◌, List, length};
-    ghost use Rattle.dch_ttibuf.specs.Loaded.{Loaded};
+    ghost use Rattle.dch_ttibuf.specs.Loaded.{AreWithin, Loaded};
 
     ghost Value = { List Loaded };
 
     ghost view = { λ t. t.tti_buffers.items };
 
-    ghost invariant = { λ t. (length t.coded.items ≡ 131072) × (length t.padded.items ≡ 131072) };
+    ghost invariant = { λ t. (t.coder ≡ length t.coded.items) × AreWithin (length t.coded.items) (length t.padded.items) t.tti_buffers.items };
 }
 
 impl UlTti {
@@ -50,12 +51,12 @@ impl UlTti {
     pub fn open(alloc: Global, accepted: &Accepted) -> Result<UlTti, NoMemory>
         ensures { IfOk result (IsTtiOf accepted.now) }
     {
-        let channels = accepted.config().uplink.side.channels.len();
+        let room = accepted.most_room(Dir::Up);
         Ok(UlTti {
-            coder: TtiCoder::open(alloc)?,
-            coded: vec![in alloc; Bit::Zero; MAX_TTI_BITS]?,
-            padded: vec![in alloc; Trit::Off; MAX_TTI_BITS]?,
-            tti_buffers: tti_buffers(alloc, channels)?,
+            coder: TtiCoder::open(alloc, room.coding.bits)?,
+            coded: vec![in alloc; Bit::Zero; room.coding.bits]?,
+            padded: vec![in alloc; Trit::Off; room.cells]?,
+            tti_buffers: tti_buffers(alloc, accepted, Dir::Up)?,
         })
     }
 
@@ -106,10 +107,13 @@ fn load(
     requires channel { IsChannel channel.now }
     requires format { format < length channel.now.formats }
     requires blocks { length blocks.now ≡ bits_of (format_at channel.now format) }
-    requires room { length coded.old ≡ 131072 }
-    requires padded { length padded.old ≡ 131072 }
-    ensures loaded { IsPadded channel.now format blocks.now buffer.new }
+    requires coder { tti_bits channel.now (format_at channel.now format) ≤ coder.old }
+    requires room { tti_bits channel.now (format_at channel.now format) ≤ length coded.old }
+    requires padded { padded_cells channel.now format ≤ length padded.old }
+    requires fits { padded_cells channel.now format ≤ buffer.old.room.cells }
+    ensures loaded { IsPadded channel.now buffer.old.room format blocks.now buffer.new }
     ensures long { IsLong channel.now (padded_cells channel.now) buffer.new }
+    ensures kept { coder.new ≡ coder.old }
 {
     let kind = channel.format(format as usize);
     let coded = &mut coded[..channel.tti_bits(kind) as usize];

@@ -4,6 +4,7 @@ use Rattle.dch_ulphy.proofs.tti.load.Goals as goal
 
 pub returns-clause-loaded : goal.returns-clause-loaded
 returns-clause-loaded c = record {
+  room = c.load.ensures.room;
   format = c.load.ensures.format;
   coded = c.code.new.out;
   is = search rules;

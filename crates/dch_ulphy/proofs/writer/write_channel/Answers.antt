@@ -28,7 +28,7 @@ segment-requires c =
     let len : c.frame-pattern.result.len ≡ before = c.frame-pattern.ensures.len ∙ ap (λ (config : Config). before_of config.uplink.side comb i) value in
     let good : IsGood c.args.accepted.now.config = subst IsGood value c.config.ensures.good in
     let small : n < c.frames_of.result = mod_below c.args.cfn c.frames_of.result c.frames_of.ensures.some in
-    let room : n * before + before ≤ length (loaded_at c.args.tti_buffers.now i).cells = segment_room side comb i n c.args.tti_buffers.now good.uplink.side c.requires.opened c.requires.combination c.requires.formats c.requires.channel (omega (arith, frames, small)) in
+    let room : n * before + before ≤ length (loaded_at c.args.tti_buffers.now i).cells = segment_room c.args.accepted.now comb i n c.args.tti_buffers.now good.uplink.side c.requires.opened c.requires.combination c.requires.formats c.requires.channel (omega (arith, frames, small)) in
     subst (λ m. n * m + m ≤ length c.buffer_of.result.now.cells) (sym len)
     (subst (λ (loaded : Loaded). n * before + before ≤ length loaded.cells) (sym c.buffer_of.ensures) room)
 

@@ -1,6 +1,6 @@
-use Rattle.std.proofs.Common.{◌≡◌, ◌+◌, ◌*◌, ◌<◌, ◌≤◌, ℕ, List, length, take, rules, arith, ap, sym, ◌∙◌, subst}
+use Rattle.std.proofs.Common.{◌≡◌, ◌+◌, ◌*◌, ◌<◌, ◌≤◌, ℕ, List, length, take, arith, ap, sym, ◌∙◌, subst}
 use Rattle.std.specs.Prelude.{◌++◌}
-use Rattle.std.proofs.lemmas.List.{get_or_append_left}
+use Rattle.std.proofs.lemmas.List.{get_or_append_left, length-take-le}
 use Rattle.dch_bits.specs.declared.bit.Trit.{Trit}
 use Rattle.dch_bits.specs.declared.bit.Vote.{Vote}
 use Rattle.dch_types.specs.declared.channel.Side.{Side}
@@ -17,12 +17,37 @@ use Rattle.dch_rxframes.proofs.Reading.{take_whole}
 use Rattle.dch_dlphy.specs.Loaded.{tti_cells}
 use Rattle.dch_dlphy.specs.Read.{AreVotes}
 use Rattle.dch_dlphy.proofs.Demultiplexed.{kept_cells, read_back}
+use Rattle.dch_dlphy.proofs.Fits.{ReadFits, places_all, read_fits}
 use Rattle.dch_dlphy.proofs.SentBack.{votes_arrive}
 use Rattle.dch_dlphy.proofs.reader.DlScratchCountVotes.count.Goals as goal
 
 -- as many votes as coded bits
 sized_front : (side : Side) (i f : ℕ) (votes rest : List Vote) → length votes ≡ coded_in side i f → length (votes_in side i f (votes ++ rest)) ≡ coded_in side i f
 sized_front side i f votes rest long = ap length (take_whole (coded_in side i f) votes rest long) ∙ long
+
+pub slice_mut-room-requires-clause-in_bounds : goal.slice_mut-room-requires-clause-in_bounds
+slice_mut-room-requires-clause-in_bounds c =
+    let fits : ReadFits c.args.accepted.now c.args.rx_frames.now c.args.channel c.args.format =
+    read_fits c.args.accepted.now c.args.rx_frames.now c.args.channel c.args.format c.requires.opened (subst IsGood c.config-config.ensures.value c.config-config.ensures.good).downlink.side c.requires.channel c.requires.format.inside in
+    omega (arith, places_all c.args.accepted.now c.args.channel c.args.format c.bits_per_frame-places.result c.frames_of-frames.result c.bits_per_frame-places.ensures.value c.frames_of-frames.ensures.value, fits.cells, c.requires.scratch)
+
+pub slice_bounds-count_votes-end : goal.slice_bounds-count_votes-end
+slice_bounds-count_votes-end c =
+    let fits : ReadFits c.args.accepted.now c.args.rx_frames.now c.args.channel c.args.format =
+    read_fits c.args.accepted.now c.args.rx_frames.now c.args.channel c.args.format c.requires.opened (subst IsGood c.config-config.ensures.value c.config-config.ensures.good).downlink.side c.requires.channel c.requires.format.inside in
+    omega (arith, fits.votes, c.pattern_of-pattern.ensures.len, c.requires.room)
+
+pub slice_bounds-count_votes-end-2 : goal.slice_bounds-count_votes-end-2
+slice_bounds-count_votes-end-2 c =
+    let fits : ReadFits c.args.accepted.now c.args.rx_frames.now c.args.channel c.args.format =
+    read_fits c.args.accepted.now c.args.rx_frames.now c.args.channel c.args.format c.requires.opened (subst IsGood c.config-config.ensures.value c.config-config.ensures.good).downlink.side c.requires.channel c.requires.format.inside in
+    sym (length-take-le c.pattern_of-pattern.result.len c.args.out.now (omega (arith, fits.votes, c.pattern_of-pattern.ensures.len, c.requires.room)))
+
+pub count_votes-requires-clause-room : goal.count_votes-requires-clause-room
+count_votes-requires-clause-room c =
+    let fits : ReadFits c.args.accepted.now c.args.rx_frames.now c.args.channel c.args.format =
+    read_fits c.args.accepted.now c.args.rx_frames.now c.args.channel c.args.format c.requires.opened (subst IsGood c.config-config.ensures.value c.config-config.ensures.good).downlink.side c.requires.channel c.requires.format.inside in
+    length-take-le c.pattern_of-pattern.result.len c.args.out.now (omega (arith, fits.votes, c.pattern_of-pattern.ensures.len, c.requires.room))
 
 pub returns-clause-counted : goal.returns-clause-counted
 returns-clause-counted c =
@@ -32,14 +57,18 @@ returns-clause-counted c =
     let side : Side = planned.config.downlink.side in
     let cells : List Trit = c.demultiplex_tti.new.out in
     let votes : List Vote = c.count_votes.new.out in
-    let sized : length votes ≡ c.pattern_of-pattern.result.len = search rules in
-    let long : length cells ≡ tti_cells planned i f = search rules in
-    let fits : c.kept.result ≤ length cells = search rules in
-    let inside : c.kept.result ≤ length c.deref.result.now = search rules in
-    let read : take c.kept.result c.deref.result.now ≡ take c.kept.result cells = read_back c.kept.result _ c.deref.result.now cells _ _ c.deref.ensures.value fits inside in
+    let fits : ReadFits c.args.accepted.now c.args.rx_frames.now c.args.channel c.args.format =
+    read_fits c.args.accepted.now c.args.rx_frames.now c.args.channel c.args.format c.requires.opened (subst IsGood c.config-config.ensures.value c.config-config.ensures.good).downlink.side c.requires.channel c.requires.format.inside in
+    let sized : length votes ≡ c.pattern_of-pattern.result.len = c.count_votes.auto.out ∙ length-take-le c.pattern_of-pattern.result.len c.args.out.now (omega (arith, fits.votes, c.pattern_of-pattern.ensures.len, c.requires.room)) in
+    let long : length cells ≡ tti_cells planned i f = omega (arith, c.demultiplex_tti.auto.out, c.slice_mut-room.ensures.len, places_all c.args.accepted.now c.args.channel c.args.format c.bits_per_frame-places.result c.frames_of-frames.result c.bits_per_frame-places.ensures.value c.frames_of-frames.ensures.value) in
+    let all : copies_below c.pattern_of-pattern.result.kind c.pattern_of-pattern.result.len ≤ (channel_at side i).frames * c.bits_per_frame-places.result =
+    subst (λ (pattern : Pattern). copies_below pattern.kind pattern.len ≤ (channel_at side i).frames * c.bits_per_frame-places.result) (sym c.pattern_of-pattern.ensures.value) c.bits_per_frame-places.ensures.fits in
+    let enough : c.kept.result ≤ length cells = omega (arith, c.kept.ensures.sum, all, long, ap (λ n. (channel_at side i).frames * n) c.bits_per_frame-places.ensures.value) in
+    let inside : c.kept.result ≤ length c.deref.result.now = omega (arith, enough, long, fits.cells, c.requires.scratch, c.deref.ensures.len) in
+    let read : take c.kept.result c.deref.result.now ≡ take c.kept.result cells = read_back c.kept.result _ c.deref.result.now cells _ _ c.deref.ensures.value enough inside in
     subst (AreVotes planned c.args.rx_frames.now i f) (sym (take_whole (coded_in side i f) votes _ (sized ∙ c.pattern_of-pattern.ensures.len))) (record {
       cells = take c.kept.result cells;
-      kept = kept_cells planned c.args.rx_frames.now i f c.kept.result c.pattern_of-pattern.result cells c.pattern_of-pattern.ensures.value c.kept.ensures.sum long fits c.demultiplex_tti.ensures;
+      kept = kept_cells planned c.args.rx_frames.now i f c.kept.result c.pattern_of-pattern.result cells c.pattern_of-pattern.ensures.value c.kept.ensures.sum long enough c.demultiplex_tti.ensures;
       are = λ j v inside. c.count_votes.ensures.votes j v inside ∙ ap (λ cells. votes_of c.pattern_of-pattern.result cells j) read ∙ ap (λ (pattern : Pattern). votes_of pattern (take c.kept.result cells) j) c.pattern_of-pattern.ensures.value;
     })
 
@@ -47,7 +76,9 @@ pub returns-clause-few : goal.returns-clause-few
 returns-clause-few c j v early =
     let pattern : Pattern = c.pattern_of-pattern.result in
     let votes : List Vote = c.count_votes.new.out in
-    let sized : length votes ≡ pattern.len = search rules in
+    let fits : ReadFits c.args.accepted.now c.args.rx_frames.now c.args.channel c.args.format =
+    read_fits c.args.accepted.now c.args.rx_frames.now c.args.channel c.args.format c.requires.opened (subst IsGood c.config-config.ensures.value c.config-config.ensures.good).downlink.side c.requires.channel c.requires.format.inside in
+    let sized : length votes ≡ pattern.len = c.count_votes.auto.out ∙ length-take-le pattern.len c.args.out.now (omega (arith, fits.votes, c.pattern_of-pattern.ensures.len, c.requires.room)) in
     let inside : j < length votes = omega (arith, early, sized, c.pattern_of-pattern.ensures.len) in
     let all : copies_below pattern.kind pattern.len ≤ (channel_at c.args.accepted.now.config.downlink.side c.args.channel).frames * c.bits_per_frame-places.result =
     subst (λ (pattern : Pattern). copies_below pattern.kind pattern.len ≤ (channel_at c.args.accepted.now.config.downlink.side c.args.channel).frames * c.bits_per_frame-places.result) (sym c.pattern_of-pattern.ensures.value) c.bits_per_frame-places.ensures.fits in
@@ -60,5 +91,8 @@ returns-clause-undamaged c blocks was =
     let good : IsGood planned.config = subst IsGood c.config-config.ensures.value c.config-config.ensures.good in
     let clear : IsClear planned.config = subst IsClear c.config-config.ensures.value c.config-config.ensures.clear in
     let plan : IsDownlinkPlan planned.config.downlink planned.downlink = subst (IsDownlinkPlan planned.config.downlink) c.downlink_plan-plan.ensures.value c.downlink_plan-plan.ensures.plan in
+    let fits : ReadFits c.args.accepted.now c.args.rx_frames.now c.args.channel c.args.format =
+    read_fits c.args.accepted.now c.args.rx_frames.now c.args.channel c.args.format c.requires.opened (subst IsGood c.config-config.ensures.value c.config-config.ensures.good).downlink.side c.requires.channel c.requires.format.inside in
+    let sized : length c.count_votes.new.out ≡ c.pattern_of-pattern.result.len = c.count_votes.auto.out ∙ length-take-le c.pattern_of-pattern.result.len c.args.out.now (omega (arith, fits.votes, c.pattern_of-pattern.ensures.len, c.requires.room)) in
     votes_arrive planned c.args.rx_frames.now c.args.channel c.args.format was.sequence _ blocks good.downlink plan clear c.requires.opened c.requires.channel c.requires.format.inside
-    (sized_front planned.config.downlink.side c.args.channel c.args.format c.count_votes.new.out _ (search rules)) (returns-clause-counted c) was.sent
+    (sized_front planned.config.downlink.side c.args.channel c.args.format c.count_votes.new.out _ (sized ∙ c.pattern_of-pattern.ensures.len)) (returns-clause-counted c) was.sent

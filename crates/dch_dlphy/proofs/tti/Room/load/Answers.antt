@@ -8,12 +8,13 @@ use Rattle.dch_dlphy.specs.Loaded.{filled_cell}
 use Rattle.dch_dlphy.proofs.Filled.{are_filled, take_whole}
 use Rattle.dch_dlphy.proofs.tti.Room.load.Goals as goal
 
-pub returns : goal.returns
-returns c =
+pub returns-clause-loaded : goal.returns-clause-loaded
+returns-clause-loaded c =
     let coded : List Bit = take c.code_front-bits.result c.code_front-bits.new.out in
     let same : c.deref.result.now ≡ c.code_front-bits.new.out = c.deref.ensures.value ∙ take_whole _ c.code_front-bits.new.out _ (omega (arith, c.code_front-bits.auto.out, c.deref_mut.ensures.len)) in
     let tti : c.deref-2.result.now ≡ c.fill_front.new.tti = c.deref-2.ensures.value ∙ take_whole _ c.fill_front.new.tti _ (omega (arith, c.fill_front.auto.tti, c.deref_mut-3.ensures.len)) in
     record {
+      room = c.load.ensures.room;
       format = c.load.ensures.format;
       coded = coded;
       is = subst (λ (format : Format). IsCodedTti c.args.channel.now format c.args.blocks.now coded) c.format-kind.ensures.value c.code_front-bits.ensures.coded;
