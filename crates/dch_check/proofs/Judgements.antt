@@ -19,7 +19,9 @@ use Rattle.dch_accept.specs.declared.refusal.Refusal.{Refusal}
 use Rattle.dch_accept.specs.declared.refusal.Refusal.TheVariants as why
 use Rattle.dch_check.specs.Acceptance.{acceptance_refusal, accepted_line}
 use Rattle.dch_check.specs.Refusals.{refusal}
-use Rattle.dch_check.specs.Verdicts.{IsAccepted, IsAcceptedAs, IsAcceptedBy, IsUnread, IsUnaccepted, Refuses}
+use Rattle.dch_check.specs.Verdicts.{IsAccepted, IsAcceptedAs, IsAcceptedBy, IsUnread, IsUnaccepted, Refuses, RefusesAs}
+use Rattle.dch_check.specs.declared.which.Which.{Which}
+use Rattle.dch_check.specs.declared.which.Which.TheVariants.{First}
 
 some_one : {T : Type 0} (x y : T) → Some x ≡ Some y → x ≡ y
 some_one x y same = cc
@@ -40,12 +42,12 @@ no_fault fault faults none first =
 no_limit : (tree : Members) (config : Config) (e : ConfigError) → IsConfig tree config → IsRefused tree e → ⊥
 no_limit tree config e good refused = none_some (limit_refusal (config_of tree)) e (sym (ap limit_refusal good.value) ∙ good.limits) refused.limits
 
-by_error : (text line : List ℕ) (tree : Members) (config : Config) (e : ConfigError) → IsDocument text tree → IsConfig tree config → Reads text (Err e) → refusal e ≡ Some line → ⊥
-by_error text line tree config NoMemory document good reads shown = cc
-by_error text line tree config NotToml document good reads shown = reads tree document
-by_error text line tree config (Key path) document good reads shown = no_fault _ _ (ap document_faults (one_tree text reads.0 tree reads.1 document) ∙ good.keys) reads.2
-by_error text line tree config (Range path) document good reads shown = no_fault _ _ (ap document_faults (one_tree text reads.0 tree reads.1 document) ∙ good.keys) reads.2
-by_error text line tree config e document good reads shown =
+by_error : (which : Which) (text line : List ℕ) (tree : Members) (config : Config) (e : ConfigError) → IsDocument text tree → IsConfig tree config → Reads text (Err e) → refusal which e ≡ Some line → ⊥
+by_error which text line tree config NoMemory document good reads shown = cc
+by_error which text line tree config NotToml document good reads shown = reads tree document
+by_error which text line tree config (Key path) document good reads shown = no_fault _ _ (ap document_faults (one_tree text reads.0 tree reads.1 document) ∙ good.keys) reads.2
+by_error which text line tree config (Range path) document good reads shown = no_fault _ _ (ap document_faults (one_tree text reads.0 tree reads.1 document) ∙ good.keys) reads.2
+by_error which text line tree config e document good reads shown =
     no_limit tree config e good (rw (one_tree text reads.0 tree reads.1 document) at reads.2)
 
 -- a text is read as one configuration
@@ -61,23 +63,26 @@ none_collides config Down i f r sequence first second clear c =
     clear.down i c.is.collides.there f sequence c.is.collides.here.here.legal r c.is.collides.here.here.here.there _ _ c.is.collides.here.here.here.here.collides
 
 -- what is accepted has no cause to be refused
-no_cause : (config : Config) (line other : List ℕ) (why : Refusal) → IsAcceptedBy config line → IsCause config why → acceptance_refusal why ≡ Some other → ⊥
-no_cause config line other why.NoMemory accepted cause shown = cc
-no_cause config line other (why.NoRate c) accepted cause shown = accepted.rates c cause.there cause.none
-no_cause config line other (why.Sequences n) accepted cause shown = absurd (omega (arith, accepted.few, cause.more))
-no_cause config line other (why.Collision dir i f r sequence first second) accepted cause shown =
+no_cause : (which : Which) (config : Config) (line other : List ℕ) (why : Refusal) → IsAcceptedBy config line → IsCause config why → acceptance_refusal which why ≡ Some other → ⊥
+no_cause which config line other why.NoMemory accepted cause shown = cc
+no_cause which config line other (why.NoRate c) accepted cause shown = accepted.rates c cause.there cause.none
+no_cause which config line other (why.Sequences n) accepted cause shown = absurd (omega (arith, accepted.few, cause.more))
+no_cause which config line other (why.Collision dir i f r sequence first second) accepted cause shown =
     none_collides config dir i f r sequence first second accepted.clear cause
 
-not_unread : (text line other : List ℕ) → IsAccepted text line → IsUnread text other → ⊥
-not_unread text line other good unread = by_error text other good.reads.0 good.config unread.why good.reads.1 good.reads.2 unread.reads unread.shown
+not_unread : (which : Which) (text line other : List ℕ) → IsAccepted text line → IsUnread which text other → ⊥
+not_unread which text line other good unread = by_error which text other good.reads.0 good.config unread.why good.reads.1 good.reads.2 unread.reads unread.shown
 
-not_unaccepted : (text line other : List ℕ) → IsAccepted text line → IsUnaccepted text other → ⊥
-not_unaccepted text line other good refused =
+not_unaccepted : (which : Which) (text line other : List ℕ) → IsAccepted text line → IsUnaccepted which text other → ⊥
+not_unaccepted which text line other good refused =
     let same : good.config ≡ refused.config = one_config text good.config refused.config good.reads refused.reads in
-    no_cause refused.config line other refused.refused.why (subst (λ c. IsAcceptedBy c line) same good.accepted) refused.refused.cause refused.refused.shown
+    no_cause which refused.config line other refused.refused.why (subst (λ c. IsAcceptedBy c line) same good.accepted) refused.refused.cause refused.refused.shown
+
+pub one_judgement_as : (which : Which) (text line other : List ℕ) → IsAccepted text line → RefusesAs which text other → ⊥
+one_judgement_as which text line other good refused = ⊎_elim (not_unread which text line other good) (not_unaccepted which text line other good) refused
 
 pub one_judgement : (text line other : List ℕ) → IsAccepted text line → Refuses text other → ⊥
-one_judgement text line other good refused = ⊎_elim (not_unread text line other good) (not_unaccepted text line other good) refused
+one_judgement text line other good refused = one_judgement_as First text line other good refused
 
 -- what is accepted with its plans is accepted by its line
 pub accepted_so : (text : List ℕ) (accepted : Planned) → IsAcceptedAs text accepted → IsAccepted text (accepted_line (count_of accepted.config))

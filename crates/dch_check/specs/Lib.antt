@@ -1,4 +1,5 @@
 pub mod Acceptance
+pub mod Both
 pub mod ConfigSection
 pub mod Refusals
 pub mod Singles

@@ -9,6 +9,8 @@ use Rattle.dch_accept.specs.Plans.{Planned}
 use Rattle.dch_accept.specs.declared.refusal.Refusal.{Refusal}
 use Rattle.dch_check.specs.Acceptance.{acceptance_refusal, accepted_line}
 use Rattle.dch_check.specs.Refusals.{refusal}
+use Rattle.dch_check.specs.declared.which.Which.{Which}
+use Rattle.dch_check.specs.declared.which.Which.TheVariants.{First}
 use Rattle.dch_check.specs.declared.verdict.Verdict.{Verdict}
 use Rattle.dch_check.specs.declared.verdict.Verdict.TheVariants.{Accepted, Refused}
 
@@ -21,15 +23,15 @@ pub record IsAcceptedBy (config : Config) (line : List ℕ) : Type 0 where
   pub shown : line ≡ accepted_line (count_of config)
 
 -- it is not accepted, and this line says why
-pub record IsRefusedBy (config : Config) (line : List ℕ) : Type 0 where
+pub record IsRefusedBy (which : Which) (config : Config) (line : List ℕ) : Type 0 where
   pub why : Refusal
   pub cause : IsCause config why
-  pub shown : acceptance_refusal why ≡ Some line
+  pub shown : acceptance_refusal which why ≡ Some line
 
 -- the judgement of a configuration
-abbrev pub JudgesConfig : Config → Verdict → Type 0
-JudgesConfig config (Accepted accepted) = IsPlannedFrom config accepted
-JudgesConfig config (Refused line) = IsRefusedBy config (string_bytes line)
+abbrev pub JudgesConfig : Which → Config → Verdict → Type 0
+JudgesConfig which config (Accepted accepted) = IsPlannedFrom config accepted
+JudgesConfig which config (Refused line) = IsRefusedBy which config (string_bytes line)
 
 -- a text is read as a configuration that is accepted, and this is the line that says so
 pub record IsAccepted (text line : List ℕ) : Type 0 where
@@ -44,22 +46,28 @@ pub record IsAcceptedAs (text : List ℕ) (accepted : Planned) : Type 0 where
   pub is : IsPlannedFrom config accepted
 
 -- a text is not read as a configuration, and this line says why
-pub record IsUnread (text line : List ℕ) : Type 0 where
+pub record IsUnread (which : Which) (text line : List ℕ) : Type 0 where
   pub why : ConfigError
   pub reads : Reads text (Err why)
-  pub shown : refusal why ≡ Some line
+  pub shown : refusal which why ≡ Some line
 
 -- a text is read as a configuration that is not accepted, and this line says why
-pub record IsUnaccepted (text line : List ℕ) : Type 0 where
+pub record IsUnaccepted (which : Which) (text line : List ℕ) : Type 0 where
   pub config : Config
   pub reads : Reads text (Ok config)
-  pub refused : IsRefusedBy config line
+  pub refused : IsRefusedBy which config line
 
--- a text is refused by this line
+-- a text is refused by this line, as the first configuration of an input or as the second one
+abbrev pub RefusesAs : Which → List ℕ → List ℕ → Type 0
+RefusesAs which text line = IsUnread which text line ⊎ IsUnaccepted which text line
+
 abbrev pub Refuses : List ℕ → List ℕ → Type 0
-Refuses text line = IsUnread text line ⊎ IsUnaccepted text line
+Refuses text line = RefusesAs First text line
 
--- the judgement of a text
+-- the judgement of a text, as the first configuration of an input or as the second one
+abbrev pub JudgesAs : Which → List ℕ → Verdict → Type 0
+JudgesAs which text (Accepted accepted) = IsAcceptedAs text accepted
+JudgesAs which text (Refused line) = RefusesAs which text (string_bytes line)
+
 abbrev pub Judges : List ℕ → Verdict → Type 0
-Judges text (Accepted accepted) = IsAcceptedAs text accepted
-Judges text (Refused line) = Refuses text (string_bytes line)
+Judges text verdict = JudgesAs First text verdict

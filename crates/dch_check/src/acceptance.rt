@@ -1,7 +1,8 @@
 ghost use Rattle.std.specs.Prelude.{◌≡◌, ◌++◌, Some, IfOk, OnOk, decimal, string_bytes};
 ghost use Rattle.dch_bits.specs.Text.{letter_of};
-ghost use Rattle.dch_check.specs.Acceptance.{acceptance_refusal, accepted_line, of_combination, of_count, of_block, of_collision, numbers_text, more_numbers, letters};
+ghost use Rattle.dch_check.specs.Acceptance.{acceptance_refusal, accepted_line, accepted_lines, of_combination, of_count, of_block, of_collision, numbers_text, more_numbers, letters, accepted_second_line};
 
+use crate::which::{Which, which_word};
 use dch_accept::Refusal;
 use dch_bits::{Bit, NoMemory};
 use dch_script::dir_word;
@@ -16,14 +17,33 @@ pub fn accepted_line(alloc: Global, count: u128) -> Result<String, NoMemory>
     Ok(line)
 }
 
+/// The lines of the configurations that are accepted, of which there may be a second one, with their counts of what may collide.
+pub fn accepted_lines(alloc: Global, first: u128, second: Option<u128>) -> Result<String, NoMemory>
+    ensures { IfOk result (λ lines. string_bytes lines ≡ accepted_lines first second) }
+{
+    let mut lines = accepted_line(alloc, first)?;
+    if let Some(count) = second {
+        let line = accepted_second_line(alloc, count)?;
+        lines.push_str(&line)?;
+    }
+    Ok(lines)
+}
+
+fn accepted_second_line(alloc: Global, count: u128) -> Result<String, NoMemory>
+    ensures { IfOk result (λ line. string_bytes line ≡ accepted_second_line count) }
+{
+    let line = format!(in alloc; "accepted second count={count}\n")?;
+    Ok(line)
+}
+
 /// The line that says why a configuration is not accepted. Want of memory has none.
-pub fn acceptance_line(alloc: Global, refusal: &Refusal) -> Result<String, NoMemory>
-    ensures { IfOk result (λ line. acceptance_refusal refusal.now ≡ Some (string_bytes line)) }
+pub fn acceptance_line(alloc: Global, which: Which, refusal: &Refusal) -> Result<String, NoMemory>
+    ensures { IfOk result (λ line. acceptance_refusal which refusal.now ≡ Some (string_bytes line)) }
 {
     match refusal {
         Refusal::NoMemory => Err(NoMemory),
-        Refusal::NoRate(combination) => combination_line(alloc, *combination),
-        Refusal::Sequences(count) => count_line(alloc, *count),
+        Refusal::NoRate(combination) => combination_line(alloc, which, *combination),
+        Refusal::Sequences(count) => count_line(alloc, which, *count),
         Refusal::Collision {
             dir,
             channel,
@@ -33,7 +53,7 @@ pub fn acceptance_line(alloc: Global, refusal: &Refusal) -> Result<String, NoMem
             first,
             second,
         } => {
-            let mut line = block_text(alloc, *dir, *channel, *format, *block)?;
+            let mut line = block_text(alloc, which, *dir, *channel, *format, *block)?;
             push_collision(
                 alloc,
                 &mut line,
@@ -46,32 +66,36 @@ pub fn acceptance_line(alloc: Global, refusal: &Refusal) -> Result<String, NoMem
     }
 }
 
-fn combination_line(alloc: Global, combination: u16) -> Result<String, NoMemory>
-    ensures { IfOk result (λ line. string_bytes line ≡ of_combination combination) }
+fn combination_line(alloc: Global, which: Which, combination: u16) -> Result<String, NoMemory>
+    ensures { IfOk result (λ line. string_bytes line ≡ of_combination which combination) }
 {
-    let line = format!(in alloc; "refused 25 combination={combination}\n")?;
+    let which = which_word(which);
+    let line = format!(in alloc; "refused 25{which} combination={combination}\n")?;
     Ok(line)
 }
 
-fn count_line(alloc: Global, count: u128) -> Result<String, NoMemory>
-    ensures { IfOk result (λ line. string_bytes line ≡ of_count count) }
+fn count_line(alloc: Global, which: Which, count: u128) -> Result<String, NoMemory>
+    ensures { IfOk result (λ line. string_bytes line ≡ of_count which count) }
 {
-    let line = format!(in alloc; "refused 27 count={count}\n")?;
+    let which = which_word(which);
+    let line = format!(in alloc; "refused 27{which} count={count}\n")?;
     Ok(line)
 }
 
 /// The front of the line of a collision: the place of the two code blocks.
 fn block_text(
     alloc: Global,
+    which: Which,
     dir: Dir,
     channel: u8,
     format: u8,
     block: u16,
 ) -> Result<String, NoMemory>
-    ensures { IfOk result (λ text. string_bytes text ≡ of_block dir channel format block) }
+    ensures { IfOk result (λ text. string_bytes text ≡ of_block which dir channel format block) }
 {
+    let which = which_word(which);
     let dir = dir_word(dir);
-    let mut text = format!(in alloc; "refused 40 {dir}")?;
+    let mut text = format!(in alloc; "refused 40{which} {dir}")?;
     push_field(alloc, &mut text, " channel=", u16::from(channel))?;
     push_field(alloc, &mut text, " format=", u16::from(format))?;
     push_field(alloc, &mut text, " block=", block)?;

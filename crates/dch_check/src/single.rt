@@ -25,7 +25,7 @@ pub fn judge_single(alloc: Global, text: &[u8]) -> Result<Verdict, NoMemory>
 }
 
 /// Where the first line begins that sets a second configuration apart.
-fn second_at(text: &[u8]) -> Option<usize>
+pub(crate) fn second_at(text: &[u8]) -> Option<usize>
     ensures some { IfSome result (IsSecondAt text.now) }
     ensures none { IfNone result (has_second text.now ≡ false) }
 {
@@ -39,7 +39,8 @@ fn second_at(text: &[u8]) -> Option<usize>
     None
 }
 
-fn second_line(alloc: Global) -> Result<String, NoMemory>
+/// The line that refuses what sets a second configuration apart.
+pub(crate) fn second_line(alloc: Global) -> Result<String, NoMemory>
     ensures { IfOk result (λ line. string_bytes line ≡ codes "refused 28\n") }
 {
     let line = format!(in alloc; "refused 28\n")?;

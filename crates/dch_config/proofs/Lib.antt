@@ -1,4 +1,5 @@
 pub mod Combinations
+pub mod SameSizes
 pub mod Outcomes
 pub mod Places
 pub mod GoodSides

@@ -4,3 +4,4 @@ pub mod Bearers
 pub mod Limits
 pub mod Reading
 pub mod Good
+pub mod Changes

@@ -67,7 +67,7 @@ pub(crate) fn check(config: &Config) -> Result<(), ConfigError>
     }
 }
 
-fn channel_number(dir: Dir, bearer: &Bearer) -> Option<u8>
+pub(crate) fn channel_number(dir: Dir, bearer: &Bearer) -> Option<u8>
     ensures { result ≡ channel_number dir bearer.now }
 {
     match dir {
@@ -102,7 +102,7 @@ pub fn has_ct(config: &Config, dir: Dir, i: u8) -> bool
 }
 
 /// The size of a channel's first block; `None` where it sends none.
-fn first_size(formats: &[Format]) -> Option<u16>
+pub(crate) fn first_size(formats: &[Format]) -> Option<u16>
     ensures { result ≡ first_size formats.now }
 {
     formats

@@ -51,3 +51,11 @@ pub enum ConfigError {
     #[error("too many bits in a TTI")]
     TtiBits(Dir, u8),
 }
+
+/// Why a configuration can't follow another one while the channel runs.
+#[derive(Clone, Copy, Debug, PartialEq, Eq, Error)]
+pub enum ChangeError {
+    /// A bearer doesn't go on as it is; this is the first one.
+    #[error("a bearer changes")]
+    Change(u8),
+}
