@@ -7,9 +7,9 @@ use Rattle.std.proofs.KnownBytes.{Appends-nil}
 use Rattle.dch_io.specs.Causes.{Rose}
 use Rattle.dch_io.specs.Ends.{End, span}
 use Rattle.dch_check.specs.ConfigSection.{configuration_of}
-use Rattle.dch_check.specs.Verdicts.{IsAccepted, Refuses}
+use Rattle.dch_check.specs.Both.{AreAccepted, RefusesBoth}
 use Rattle.dch_check.proofs.ConfigSections.{configuration_more}
-use Rattle.dch_check.proofs.Judgements.{one_judgement}
+use Rattle.dch_check.proofs.BothJudgements.{one_both}
 use Rattle.dch_io.specs.declared.feed.TheConstants.{LIMIT}
 use Rattle.dch_top.specs.Checked.{Answers, Checks, HasEnded, Judged}
 use Rattle.dch_top.specs.declared.check.Answer.{Answer}
@@ -52,7 +52,7 @@ same_configuration source input taken more cut all ended =
 
 -- an accepted configuration is answered without a fault
 pub good_answered : (before now k l : Option (List ℕ)) (f g h i : ℕ) (status : Status) → Checks (span before now f g) (span k l h i) status
-    → IfSome before (λ input. (line : List ℕ) → IsAccepted (configuration_of input) line → length input ≤ LIMIT → ¬ Rose f g → ¬ Rose h i → (status ≡ Done) ⊎ (status ≡ NoMemory))
+    → IfSome before (λ input. (line : List ℕ) → AreAccepted (configuration_of input) line → length input ≤ LIMIT → ¬ Rose f g → ¬ Rose h i → (status ≡ Done) ⊎ (status ≡ NoMemory))
 good_answered None now k l f g h i status run = tt
 good_answered (Some input) now k l f g h i Done run = λ line good size s t. inl refl
 good_answered (Some input) now k l f g h i NoMemory run = λ line good size s t. inr refl
@@ -65,11 +65,11 @@ good_answered (Some input) now k l f g h i TooLong run = λ line good size s t.
 good_answered (Some input) now k l f g h i Refused run = λ line good size s t.
     let more = consumed input run.taken now run.takes in
     let same = same_configuration (span (Some input) now f g) input run.taken more.0 more.1 (all_consumed input run.taken now run.takes) run.answers.ended in
-    absurd (one_judgement (configuration_of input) line run.written good (subst (λ text. Refuses text run.written) same run.answers.refuses))
+    absurd (one_both (configuration_of input) line run.written good (subst (λ text. RefusesBoth text run.written) same run.answers.refuses))
 
 -- and so is a refused one
 pub refused_answered : (before now k l : Option (List ℕ)) (f g h i : ℕ) (status : Status) → Checks (span before now f g) (span k l h i) status
-    → IfSome before (λ input. (line : List ℕ) → Refuses (configuration_of input) line → length input ≤ LIMIT → ¬ Rose f g → ¬ Rose h i → (status ≡ Refused) ⊎ (status ≡ NoMemory))
+    → IfSome before (λ input. (line : List ℕ) → RefusesBoth (configuration_of input) line → length input ≤ LIMIT → ¬ Rose f g → ¬ Rose h i → (status ≡ Refused) ⊎ (status ≡ NoMemory))
 refused_answered None now k l f g h i status run = tt
 refused_answered (Some input) now k l f g h i Refused run = λ line refused size s t. inl refl
 refused_answered (Some input) now k l f g h i NoMemory run = λ line refused size s t. inr refl
@@ -81,4 +81,4 @@ refused_answered (Some input) now k l f g h i TooLong run = λ line refused size
     absurd (omega (arith, run.answers.0.long, ap length more.1, length-append run.taken more.0))
 refused_answered (Some input) now k l f g h i Done run = λ line refused size s t.
     let whole = all_consumed input run.taken now run.takes run.answers.end in
-    absurd (one_judgement (configuration_of input) run.written line (subst (λ t. IsAccepted t run.written) (sym (ap configuration_of whole)) run.answers.good) refused)
+    absurd (one_both (configuration_of input) run.written line (subst (λ t. AreAccepted t run.written) (sym (ap configuration_of whole)) run.answers.good) refused)

@@ -12,7 +12,7 @@ use Rattle.dch_io.specs.declared.feed.ReadStop.TheVariants as stop
 use Rattle.dch_io.specs.declared.feed.TheConstants.{LIMIT}
 use Rattle.dch_check.specs.ConfigSection.{configuration_of, is_complete, settled}
 use Rattle.dch_check.specs.TakenConfigs.{IsTakenConfig, TakesConfig}
-use Rattle.dch_check.specs.Verdicts.{IsAccepted, Refuses}
+use Rattle.dch_check.specs.Both.{AreAccepted, RefusesBoth}
 use Rattle.dch_check.specs.declared.taken_config.TakenConfig.{TakenConfig}
 use Rattle.dch_check.specs.declared.taken_config.ConfigFault.{ConfigFault}
 use Rattle.dch_check.specs.declared.taken_config.ConfigFault.TheVariants as fault
@@ -83,14 +83,14 @@ has_ended : (source : End) (room : List ℕ) (front : TakenConfig) → (is : IsT
 has_ended source room front is = ⊎_elim (λ whole. inl whole.done) (λ ended. inr ended.end) is.whole
 
 -- it is refused
-pub judged_refused : (source : End) (room : List ℕ) (front : TakenConfig) (line : String Global) → IsTakenConfig source room front → Refuses (settled front.section) (string_bytes line) → Judged source (Ok (RefusedBy line))
+pub judged_refused : (source : End) (room : List ℕ) (front : TakenConfig) (line : String Global) → IsTakenConfig source room front → RefusesBoth (settled front.section) (string_bytes line) → Judged source (Ok (RefusedBy line))
 judged_refused source room front line is refuses = record {
   taken = is.taken;
   takes = is.takes;
   finds = record {
     within = is.within;
     ended = has_ended source room front is;
-    refuses = subst (λ t. Refuses t (string_bytes line)) is.text refuses;
+    refuses = subst (λ t. RefusesBoth t (string_bytes line)) is.text refuses;
     old = is.old;
     piece = is.piece;
     pieces = is.pieces;
@@ -106,18 +106,18 @@ judged_whole source room front (Ok (RefusedBy line)) is end judges = judged_refu
 judged_whole source room front (Ok (AcceptedBy line)) is end judges = record {
   taken = is.taken;
   takes = is.takes;
-  finds = record { end = ⊎_elim (λ whole. absurd (false≢true (sym whole.going ∙ end))) (λ ended. ended.end) is.whole; within = is.within; good = subst (λ t. IsAccepted t (string_bytes line)) is.text judges };
+  finds = record { end = ⊎_elim (λ whole. absurd (false≢true (sym whole.going ∙ end))) (λ ended. ended.end) is.whole; within = is.within; good = subst (λ t. AreAccepted t (string_bytes line)) is.text judges };
 }
 
 -- an accepted configuration stays so, whatever follows
-good_more : (bytes more line : List ℕ) → is_complete bytes ≡ true → IsAccepted (configuration_of bytes) line → IsAccepted (configuration_of (bytes ++ more)) line
-good_more bytes more line done good = subst (λ t. IsAccepted t line) (sym (configuration_more bytes more done)) good
+good_more : (bytes more line : List ℕ) → is_complete bytes ≡ true → AreAccepted (configuration_of bytes) line → AreAccepted (configuration_of (bytes ++ more)) line
+good_more bytes more line done good = subst (λ t. AreAccepted t line) (sym (configuration_more bytes more done)) good
 
 -- the line `---` came
 came : (source : End) (room : List ℕ) (front : TakenConfig) → (is : IsTakenConfig source room front) → front.pending.at_end ≡ false → is_complete is.taken ≡ true
 came source room front is going = ⊎_elim (λ whole. whole.done) (λ ended. absurd (false≢true (sym going ∙ ended.ended))) is.whole
 
-pub judged_good : (a b c : Option (List ℕ)) (f g h : ℕ) (room : List ℕ) (front : TakenConfig) (line : String Global) → IsTakenConfig (span a b f g) room front → front.pending.at_end ≡ false → IsAccepted (settled front.section) (string_bytes line) → PassesOver (span b c g h) front.read (Ok tt)
+pub judged_good : (a b c : Option (List ℕ)) (f g h : ℕ) (room : List ℕ) (front : TakenConfig) (line : String Global) → IsTakenConfig (span a b f g) room front → front.pending.at_end ≡ false → AreAccepted (settled front.section) (string_bytes line) → PassesOver (span b c g h) front.read (Ok tt)
     → Judged (span a c f h) (Ok (AcceptedBy line))
 judged_good a b c f g h room front line is going good passes =
     let done = came (span a b f g) room front is going in
@@ -127,11 +127,11 @@ judged_good a b c f g h room front line is going good passes =
       finds = record {
         end = passes.ends.0;
         within = omega (arith, passes.ends.1, is.counted, length-append is.taken passes.more);
-        good = good_more is.taken passes.more (string_bytes line) done (subst (λ t. IsAccepted t (string_bytes line)) is.text good);
+        good = good_more is.taken passes.more (string_bytes line) done (subst (λ t. AreAccepted t (string_bytes line)) is.text good);
       };
     }
 
-pub judged_fault : (a b c : Option (List ℕ)) (f g h : ℕ) (room : List ℕ) (front : TakenConfig) (line : String Global) (status : Status) → IsTakenConfig (span a b f g) room front → front.pending.at_end ≡ false → IsAccepted (settled front.section) (string_bytes line) → PassesOver (span b c g h) front.read (Err status)
+pub judged_fault : (a b c : Option (List ℕ)) (f g h : ℕ) (room : List ℕ) (front : TakenConfig) (line : String Global) (status : Status) → IsTakenConfig (span a b f g) room front → front.pending.at_end ≡ false → AreAccepted (settled front.section) (string_bytes line) → PassesOver (span b c g h) front.read (Err status)
     → Judged (span a c f h) (Err status)
 judged_fault a b c f g h room front line ReadFault is going good passes =
     let done = came (span a b f g) room front is going in
@@ -141,7 +141,7 @@ judged_fault a b c f g h room front line ReadFault is going good passes =
       finds = record {
         fails = omega (arith, is.later, passes.ends.0);
         within = omega (arith, passes.ends.1, is.counted, length-append is.taken passes.more);
-        good = λ whole. (string_bytes line, good_more is.taken passes.more (string_bytes line) done (subst (λ t. IsAccepted t (string_bytes line)) is.text good));
+        good = λ whole. (string_bytes line, good_more is.taken passes.more (string_bytes line) done (subst (λ t. AreAccepted t (string_bytes line)) is.text good));
       };
     }
 judged_fault a b c f g h room front line TooLong is going good passes =
@@ -154,7 +154,7 @@ judged_fault a b c f g h room front line TooLong is going good passes =
       takes = Consumes-trans a b c is.taken passes.more is.takes passes.takes;
       finds = record {
         long = omega (arith, passes.ends, is.counted, length-append is.taken passes.more);
-        good = rw front_is (λ whole. (string_bytes line, good_more is.taken (take rest passes.more) (string_bytes line) done (subst (λ t. IsAccepted t (string_bytes line)) is.text good)));
+        good = rw front_is (λ whole. (string_bytes line, good_more is.taken (take rest passes.more) (string_bytes line) done (subst (λ t. AreAccepted t (string_bytes line)) is.text good)));
       };
     }
 judged_fault a b c f g h room front line status is going good passes = absurd passes.ends

@@ -4,32 +4,29 @@ use Rattle.std.specs.Io.KnownBytes.{Consumes, Appends, IsAtEnd}
 use Rattle.dch_io.specs.Ends.{End, Breaks, Fails, IsCutShort}
 use Rattle.dch_io.specs.declared.feed.TheConstants.{LIMIT, PIECE}
 use Rattle.dch_check.specs.ConfigSection.{configuration_of, is_complete}
-use Rattle.dch_check.specs.Verdicts.{IsAccepted, Refuses}
+use Rattle.dch_check.specs.Both.{AreAccepted, RefusesBoth}
 use Rattle.dch_check.specs.declared.taken_config.ConfigFault.{ConfigFault}
 use Rattle.dch_check.specs.declared.taken_config.ConfigFault.TheVariants as fault
-use Rattle.dch_top.specs.Fronts.{RefusesFront}
 use Rattle.dch_top.specs.declared.check.Answer.{Answer}
 use Rattle.dch_top.specs.declared.check.Answer.TheVariants.{Accepted as AcceptedBy, Refused as RefusedBy}
 use Rattle.dch_top.specs.declared.command.Status.{Status}
 use Rattle.dch_top.specs.declared.command.Status.TheVariants.{Ok as Done, Refused, Usage, ReadFault, WriteFault, NoMemory, TooLong}
-use Rattle.dch_top.specs.declared.front.FrontKind.{FrontKind}
-use Rattle.dch_top.specs.declared.front.FrontKind.TheVariants.{Whole}
 
--- the input was taken to its end, and its configuration is accepted by this line
-pub record IsGoodInput (source : End) (taken line : List ℕ) : Type 0 where
+-- the input was taken to its end, and its configurations are accepted by these lines
+pub record IsGoodInput (source : End) (taken lines : List ℕ) : Type 0 where
   pub end : IsAtEnd source.now
   pub within : length taken ≤ LIMIT
-  pub good : IsAccepted (configuration_of taken) line
+  pub good : AreAccepted (configuration_of taken) lines
 
 -- the configuration is complete: the line `---` was taken, or the input ended
 abbrev pub HasEnded : End → List ℕ → Type 0
 HasEnded source taken = (is_complete taken ≡ true) ⊎ IsAtEnd source.now
 
--- what stands in front is refused by this line, with the piece that completes it; the kind says what may stand there
-pub record IsRefusedInput (kind : FrontKind) (source : End) (taken line : List ℕ) : Type 0 where
+-- what stands in front is refused by this line, with the piece that completes it
+pub record IsRefusedInput (Refuses : List ℕ → List ℕ → Type 0) (source : End) (taken line : List ℕ) : Type 0 where
   pub within : length taken ≤ LIMIT
   pub ended : HasEnded source taken
-  pub refuses : RefusesFront kind (configuration_of taken) line
+  pub refuses : Refuses (configuration_of taken) line
   pub old : List ℕ
   pub piece : List ℕ
   pub pieces : taken ≡ old ++ piece
@@ -38,7 +35,7 @@ pub record IsRefusedInput (kind : FrontKind) (source : End) (taken line : List �
 
 -- no configuration that is complete is refused
 abbrev pub IsGoodSoFar : List ℕ → Type 0
-IsGoodSoFar taken = is_complete taken ≡ true → (line : List ℕ) × IsAccepted (configuration_of taken) line
+IsGoodSoFar taken = is_complete taken ≡ true → (lines : List ℕ) × AreAccepted (configuration_of taken) lines
 
 -- a read failed
 pub record FailsJudging (source : End) (taken : List ℕ) : Type 0 where
@@ -55,13 +52,13 @@ pub record IsBeyond (taken : List ℕ) : Type 0 where
 pub record FailsAnswering (source sink : End) (taken written : List ℕ) : Type 0 where
   pub fails : Fails sink
   pub line : List ℕ
-  pub answers : IsGoodInput source taken line ⊎ IsRefusedInput Whole source taken line
+  pub answers : IsGoodInput source taken line ⊎ IsRefusedInput RefusesBoth source taken line
   pub cut : IsCutShort written line
 
 -- what is written where the bytes taken are these
 abbrev pub ChecksTaken : End → End → List ℕ → List ℕ → Status → Type 0
 ChecksTaken source sink taken written Done = IsGoodInput source taken written
-ChecksTaken source sink taken written Refused = IsRefusedInput Whole source taken written
+ChecksTaken source sink taken written Refused = IsRefusedInput RefusesBoth source taken written
 ChecksTaken source sink taken written Usage = ⊥
 ChecksTaken source sink taken written ReadFault = FailsJudging source taken × (written ≡ [])
 ChecksTaken source sink taken written WriteFault = FailsAnswering source sink taken written
@@ -90,7 +87,7 @@ fault_status fault.TooLong = TooLong
 -- what judging the bytes taken finds
 abbrev pub Finds : End → List ℕ → Result Answer Status → Type 0
 Finds source taken (Ok (AcceptedBy line)) = IsGoodInput source taken (string_bytes line)
-Finds source taken (Ok (RefusedBy line)) = IsRefusedInput Whole source taken (string_bytes line)
+Finds source taken (Ok (RefusedBy line)) = IsRefusedInput RefusesBoth source taken (string_bytes line)
 Finds source taken (Err ReadFault) = FailsJudging source taken
 Finds source taken (Err NoMemory) = Unit {0}
 Finds source taken (Err TooLong) = IsBeyond taken
@@ -104,8 +101,8 @@ pub record Judged (source : End) (found : Result Answer Status) : Type 0 where
 
 -- what judging a text finds, if there is memory
 abbrev pub JudgesText : List ℕ → Result Answer Status → Type 0
-JudgesText text (Ok (AcceptedBy line)) = IsAccepted text (string_bytes line)
-JudgesText text (Ok (RefusedBy line)) = Refuses text (string_bytes line)
+JudgesText text (Ok (AcceptedBy lines)) = AreAccepted text (string_bytes lines)
+JudgesText text (Ok (RefusedBy line)) = RefusesBoth text (string_bytes line)
 JudgesText text (Err status) = status ≡ NoMemory
 
 -- what writing the line of a judgement does

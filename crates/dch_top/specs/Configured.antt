@@ -14,7 +14,7 @@ use Rattle.dch_lines.specs.Semantics.{Semantics}
 use Rattle.dch_lines.specs.declared.stop.Outcome.{Outcome}
 use Rattle.dch_lines.specs.declared.stop.Outcome.TheVariants.{Ok as Done, Refused as MetMalformed, ReadFault as FailedReading, WriteFault as FailedWriting, NoMemory as Lacking, TooLong as TookTooMuch}
 use Rattle.dch_top.specs.Checked.{HasEnded, IsRefusedInput}
-use Rattle.dch_top.specs.Fronts.{AdmitsFront}
+use Rattle.dch_top.specs.Fronts.{AdmitsFront, RefusesFront}
 use Rattle.dch_top.specs.Untouched.{IsUntouched}
 use Rattle.dch_top.specs.declared.command.Status.{Status}
 use Rattle.dch_top.specs.declared.command.Status.TheVariants.{Ok as Well, Refused, Usage, ReadFault, WriteFault, NoMemory, TooLong}
@@ -35,13 +35,13 @@ pub record IsLongEarly (taken : List ℕ) : Type 0 where
 pub record CutsRefusal (kind : FrontKind) (source sink : End) (taken written : List ℕ) : Type 0 where
   pub fails : Fails sink
   pub line : List ℕ
-  pub refuses : IsRefusedInput kind source taken line
+  pub refuses : IsRefusedInput (RefusesFront kind) source taken line
   pub cut : IsCutShort written line
 
 -- how a run ends without the line `open`
 abbrev pub EndsEarly : FrontKind → End → End → List ℕ → List ℕ → Status → Type 0
 EndsEarly kind source sink taken written Well = ⊥
-EndsEarly kind source sink taken written Refused = IsRefusedInput kind source taken written
+EndsEarly kind source sink taken written Refused = IsRefusedInput (RefusesFront kind) source taken written
 EndsEarly kind source sink taken written Usage = ⊥
 EndsEarly kind source sink taken written ReadFault = FailsEarly source taken × (written ≡ [])
 EndsEarly kind source sink taken written WriteFault = CutsRefusal kind source sink taken written

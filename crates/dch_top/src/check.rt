@@ -1,16 +1,19 @@
-ghost use Rattle.std.specs.Prelude.{◌≡◌, ◌≤◌, length};
+ghost use Rattle.std.specs.Prelude.{◌≡◌, ◌≤◌, length, option_map};
 ghost use Rattle.dch_io.specs.Ends.{end_of};
 ghost use Rattle.dch_io.specs.declared.feed.TheConstants.{LIMIT, PIECE};
+ghost use Rattle.dch_accept.specs.Answers.{count_of};
 ghost use Rattle.dch_check.specs.ConfigSection.{settled};
 ghost use Rattle.dch_top.specs.Checked.{Answers, Checks, Judged, JudgesText, PassesOver, answer_line, fault_status};
 
 use crate::command::Status;
 use dch_bits::NoMemory;
-use dch_check::{ConfigFault, ConfigSection, Verdict, accepted_line, judge, take_config};
+use dch_check::{
+    ConfigFault, ConfigSection, Judgement, Second, accepted_lines, judge_both, take_config,
+};
 use dch_io::{ReadStop, Sink, Source, new_piece, read_next, write_all};
 use std::alloc::Global;
 
-/// The answer to a configuration: the line that accepts it, or the one that refuses it.
+/// The answer to a configuration, or to two: the lines that accept them, or the one that refuses them.
 #[derive(Drop)]
 pub enum Answer {
     Accepted(String),
@@ -18,7 +21,7 @@ pub enum Answer {
 }
 
 impl Answer {
-    /// The line, with its line feed.
+    /// The lines, each with its line feed.
     fn line(&self) -> &[u8]
         ensures { result.now ≡ answer_line self.now }
     {
@@ -28,7 +31,8 @@ impl Answer {
     }
 }
 
-/// Runs `check`: judges the configuration as soon as it is complete, and takes the rest of the input after one that is accepted.
+/// Runs `check`: judges the configuration, and the second one where there is one, as soon as they are complete, and takes the rest of the
+/// input where they are accepted.
 pub fn check<S: Source, K: Sink>(alloc: Global, source: &mut S, sink: &mut K) -> Status
     ensures { Checks (end_of S.left S.faults source.old source.new) (end_of K.taken K.faults sink.old sink.new) result }
 {
@@ -38,7 +42,7 @@ pub fn check<S: Source, K: Sink>(alloc: Global, source: &mut S, sink: &mut K) ->
     }
 }
 
-/// Writes the line of an answer.
+/// Writes the lines of an answer.
 fn write_answer<K: Sink>(answer: &Answer, sink: &mut K) -> Status
     ensures { Answers (end_of K.taken K.faults sink.old sink.new) answer.now result }
 {
@@ -51,7 +55,7 @@ fn write_answer<K: Sink>(answer: &Answer, sink: &mut K) -> Status
     }
 }
 
-/// Judges the configuration of an input.
+/// Judges the configurations of an input.
 fn judge_input<S: Source>(alloc: Global, source: &mut S) -> Result<Answer, Status>
     ensures { Judged (end_of S.left S.faults source.old source.new) result }
 {
@@ -91,23 +95,31 @@ pub fn status_of(fault: ConfigFault) -> Status
     }
 }
 
-/// Judges a configuration that is complete.
+/// Judges configurations that are complete.
 fn judge_section(alloc: Global, section: &ConfigSection) -> Result<Answer, Status>
     ensures { JudgesText (settled section.now) result }
 {
-    match judge(alloc, section.text()) {
-        Ok(Verdict::Accepted(accepted)) => {
-            // Its memory is given back before the line is made.
-            let count = accepted.count();
+    match judge_both(alloc, section.text()) {
+        Ok(Judgement::Accepted(accepted)) => {
+            // Their memory is given back before the lines are made.
+            let first = accepted.first.count();
+            let second = second_count(&accepted.second);
             drop(accepted);
-            match accepted_line(alloc, count) {
-                Ok(line) => Ok(Answer::Accepted(line)),
+            match accepted_lines(alloc, first, second) {
+                Ok(lines) => Ok(Answer::Accepted(lines)),
                 Err(NoMemory) => Err(Status::NoMemory),
             }
         }
-        Ok(Verdict::Refused(line)) => Ok(Answer::Refused(line)),
+        Ok(Judgement::Refused(line)) => Ok(Answer::Refused(line)),
         Err(NoMemory) => Err(Status::NoMemory),
     }
+}
+
+/// The count of a second configuration, if there is one.
+fn second_count(second: &Option<Second>) -> Option<u128>
+    ensures { result ≡ option_map (λ second. count_of second.accepted.config) second.now }
+{
+    second.as_ref().map(|second| second.accepted.count())
 }
 
 /// Takes the rest of an input after so many bytes.

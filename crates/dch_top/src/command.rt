@@ -4,7 +4,7 @@ ghost use Rattle.dch_io.specs.Ends.{end_of};
 ghost use Rattle.dch_script.specs.Lines.{lines_of, rest_of};
 ghost use Rattle.dch_accept.specs.Plans.{Planned};
 ghost use Rattle.dch_check.specs.ConfigSection.{configuration_of, script_of};
-ghost use Rattle.dch_check.specs.Verdicts.{IsAccepted, Refuses};
+ghost use Rattle.dch_check.specs.Both.{AreAccepted, RefusesBoth};
 ghost use Rattle.dch_words.specs.Parses.{AreLegs};
 ghost use Rattle.dch_words.specs.declared.arguments.Subcommand.TheVariants.{Check, Encode, Gen, Link, Pair, Soft};
 ghost use Rattle.dch_words.specs.declared.arguments.Arguments.{Arguments};
@@ -108,10 +108,10 @@ pub fn run<S: Source, K: Sink>(
     ensures summed { Asks words.now Gen → ¬ Rose (K.faults sink.old) (K.faults sink.new) → (result ≡ Status.Ok) ⊎ (result ≡ Status.NoMemory) }
 
     // A configuration without a fault is judged.
-    ensures good { Asks words.now Check → IfSome (S.left source.old) (λ input. (line : List ℕ) → IsAccepted (configuration_of input) line → length input ≤ LIMIT
+    ensures good { Asks words.now Check → IfSome (S.left source.old) (λ input. (lines : List ℕ) → AreAccepted (configuration_of input) lines → length input ≤ LIMIT
         → ¬ Rose (S.faults source.old) (S.faults source.new) → ¬ Rose (K.faults sink.old) (K.faults sink.new)
         → (result ≡ Status.Ok) ⊎ (result ≡ Status.NoMemory)) }
-    ensures refused { Asks words.now Check → IfSome (S.left source.old) (λ input. (line : List ℕ) → Refuses (configuration_of input) line → length input ≤ LIMIT
+    ensures refused { Asks words.now Check → IfSome (S.left source.old) (λ input. (line : List ℕ) → RefusesBoth (configuration_of input) line → length input ≤ LIMIT
         → ¬ Rose (S.faults source.old) (S.faults source.new) → ¬ Rose (K.faults sink.old) (K.faults sink.new)
         → (result ≡ Status.Refused) ⊎ (result ≡ Status.NoMemory)) }
 {
