@@ -28,131 +28,9 @@ channel = [
 "
 }
 
-/// What a line is: its kind of error, or `good`.
-fn kind(parsed: &Result<Event<'_>, LineError>) -> &'static str {
-    match parsed {
-        Ok(_) => "good",
-        Err(LineError::Long) => "long",
-        Err(LineError::Cut) => "cut",
-        Err(LineError::Word) => "word",
-        Err(LineError::Count) => "count",
-        Err(LineError::Number) => "number",
-        Err(LineError::Text) => "text",
-        Err(LineError::Bearer) => "bearer",
-        Err(LineError::When) => "when",
-    }
-}
-
 /// A line with its line feed.
 fn line_of(alloc: Global, text: &str) -> Result<String, AllocError> {
     format!(in alloc; "{text}\n")
-}
-
-/// Whether a row, which is a kind, a space and a line of a command, tells the line's kind.
-fn is_right(alloc: Global, command: Command, config: &Config, row: &str) -> bool {
-    let Some((expected, text)) = row.split_once(' ') else {
-        return false;
-    };
-    match line_of(alloc, text) {
-        Ok(line) => kind(&parse_in(command, config, line.as_bytes())) == expected,
-        Err(_) => false,
-    }
-}
-
-/// Whether each row of a table is right.
-fn are_right_in(alloc: Global, command: Command, config: &Config, rows: &str) -> bool {
-    for row in rows.split('\n') {
-        if !is_right(alloc, command, config, row) {
-            return false;
-        }
-    }
-    true
-}
-
-/// Whether each row of a table is right for the small configuration, which is held here alone: a `?` beside it would be dear to
-/// prove.
-fn are_right(alloc: Global, command: Command, rows: &str) -> bool {
-    match read(alloc, small().as_bytes()) {
-        Ok(config) => are_right_in(alloc, command, &config, rows),
-        Err(_) => false,
-    }
-}
-
-fn rows_of_link() -> &'static str {
-    "good unit up 1 .
-good frame 100000
-good spoil iubdown 5 2 Fa
-word change
-word Frame
-count frame 1 2
-number frame 
-number frame 0
-number frame 100001
-number frame 01
-number frame +1
-count unit up 0
-text unit left 9 2
-number unit up x 2
-number unit up 00 2
-bearer unit up 3 01
-bearer unit up 2 01
-bearer unit down 0 01
-bearer unit up 99999999999999999999999 01
-text unit up 0 7d
-text unit up 1 7d0
-text unit up 1 
-number block up 2
-text flip up c 0
-number flip up d 65536
-text lose iubup
-text lose up 0
-number lose iubup 5
-count spoil iubup 0 9
-text spoil iubup 0 9 9
-number spoil iubup 0 65536 9g
-count spoil iubup 0 0 0 0"
-}
-
-fn rows_of_ue() -> &'static str {
-    "word iub 0 00
-count tick 
-count phy
-text phy nothing
-text phy 101010101010101101010101010101 .
-number block 2
-bearer unit 2 0"
-}
-
-fn rows_of_node_b() -> &'static str {
-    "good iub 5 .
-good phy 101010101010101101010101010101 .
-word tick
-count down 1
-number iub 0 8a
-text iub 5 8a0
-text phy 10101010101010110101010101010 .
-text phy 101010101010101101010101010101 01-
-text phy . ."
-}
-
-fn rows_of_rnc() -> &'static str {
-    "word phy none
-count change 2
-number iub 5 00
-text iub 3 x0
-bearer unit 0 00"
-}
-
-#[test]
-fn malformed_lines_of_link(rt: HostRuntime) {
-    assert!(rt; are_right(rt.alloc(), Command::Link, rows_of_link()));
-}
-
-#[test]
-fn malformed_lines_of_one_node(rt: HostRuntime) {
-    assert!(rt; are_right(rt.alloc(), Command::Ue, rows_of_ue()));
-    assert!(rt; are_right(rt.alloc(), Command::NodeB, rows_of_node_b()));
-    assert!(rt; are_right(rt.alloc(), Command::Rnc, rows_of_rnc()));
 }
 
 /// Whether a line of a command is this event for the small configuration.
@@ -287,33 +165,6 @@ fn lines_of_radio_frames(rt: HostRuntime) {
             "011"
         )
     );
-}
-
-/// Whether a line of `link` is of a kind for the small configuration.
-fn is_of_kind(alloc: Global, line: &[u8], expected: &str) -> bool {
-    match read(alloc, small().as_bytes()) {
-        Ok(config) => kind(&parse_in(Command::Link, &config, line)) == expected,
-        Err(_) => false,
-    }
-}
-
-/// So many letters.
-fn letters(alloc: Global, count: usize) -> Result<Vec<u8>, AllocError> {
-    vec![in alloc; b'x'; count]
-}
-
-#[test]
-fn lines_at_the_limit(rt: HostRuntime) -> Result<(), Fail> {
-    let mut line = letters(rt.alloc(), 1_048_576)?;
-    assert!(rt; is_of_kind(rt.alloc(), &line, "cut"));
-    line.push(b'\n')?;
-    assert!(rt; is_of_kind(rt.alloc(), &line, "word"));
-    let _end = line.pop();
-    line.push(b'x')?;
-    assert!(rt; is_of_kind(rt.alloc(), &line, "long"));
-    line.push(b'\n')?;
-    assert!(rt; is_of_kind(rt.alloc(), &line, "long"));
-    Ok(())
 }
 
 #[test]
