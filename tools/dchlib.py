@@ -86,6 +86,9 @@ def read_input(path):
     """The configuration and the lines of the script, as numbered pairs, of an input of `dch`."""
     lines = read_text(path).split('\n')
     end = lines.index('---') if '---' in lines else len(lines)
+    second = next((number for number, line in enumerate(lines[:end], 1) if line.startswith('--- ')), None)
+    if second:
+        raise BadInput(f'{path}, line {second}: the tools read one configuration, and here a second one begins')
     try:
         table = tomllib.loads('\n'.join(lines[:end]))
     except tomllib.TOMLDecodeError as fault:
@@ -118,7 +121,7 @@ REPORT_LINE = re.compile('|'.join([
     'phydown none', 'phydown [01]+ [01-]+', r'phyup [01]+ (\.|[01]+)']))
 SCRIPT_LINE = re.compile('|'.join([
     rf'unit {WAY} {NUMBER} \S+', f'(frame|tick|down|lose {WAY}|phy none)', f'frame {NUMBER}', f'flip {WAY} [dt] {NUMBER}', f'lose iub{WAY} {NUMBER}',
-    f'spoil iub{WAY} {NUMBER} {NUMBER} [0-9a-fA-F]{{2}}', rf'iub {NUMBER} (\.|([0-9a-fA-F]{{2}})+)', '(block|free|phy) .*', rf'unit {NUMBER} \S+', 'change .*']))
+    f'spoil iub{WAY} {NUMBER} {NUMBER} [0-9a-fA-F]{{2}}', rf'iub {NUMBER} (\.|([0-9a-fA-F]{{2}})+)', '(block|free|phy) .*', rf'unit {NUMBER} \S+', 'change']))
 
 
 def read_report(path):
