@@ -1,8 +1,9 @@
 -- What the calls of a bearer, mode by mode, make of what layer 2 keeps of it.
 use Rattle.std.proofs.Common.{◌≡◌, ◌<◌, ◌++◌, ◌∙◌, ℕ, suc, List, [], ◌∷◌, Bool, true, false, cond, Option, Some, None, Result, Ok, Err, length, arith, refl, sym, ap, ap₂, subst}
-use Rattle.std.specs.Prelude.{IsSome, option_map}
+use Rattle.std.specs.Prelude.{IsSome, nat_lt, option_map}
 use Rattle.dch_bits.specs.declared.bit.Bit.{Bit}
 use Rattle.dch_bits.specs.declared.offer.Offer.{Offer}
+use Rattle.dch_bits.specs.declared.offer.Offer.TheVariants.{Accepted, Full, WrongSize}
 use Rattle.dch_types.specs.declared.channel.Dir.{Dir}
 use Rattle.dch_types.specs.declared.config.Config.{Config}
 use Rattle.dch_script.specs.Held.{Held}
@@ -10,7 +11,7 @@ use Rattle.dch_rlcpdu.specs.Am.{am_reading}
 use Rattle.dch_rlcpdu.specs.Um.{um_reading}
 use Rattle.dch_rlcpdu.specs.declared.handed.PduError.{PduError}
 use Rattle.dch_rlcpdu.specs.declared.um.UmView.{UmView}
-use Rattle.dch_rlctm.specs.Waiting.{Waiting, front_of}
+use Rattle.dch_rlctm.specs.Waiting.{Waiting, after_offer as after_unit, answer_of as unit_answer, front_of, is_size}
 use Rattle.dch_rlcum.specs.Receiving.{Receiving}
 use Rattle.dch_rlcum.specs.Sending.{Sending, Units, after_build, builds, is_unsent, no_units, pdu_of, units_after}
 use Rattle.dch_am.specs.Discards.{tick_sender}
@@ -21,14 +22,14 @@ use Rattle.dch_am.specs.Rules.{Rules}
 use Rattle.dch_am.specs.Sender.{Sender, after_offer, offered}
 use Rattle.dch_am.specs.Telling.{tick_receiver}
 use Rattle.dch_select.specs.declared.head.Head.{Head}
-use Rattle.dch_layer.specs.Bearings.{Bearing, Transparent, Unacknowledged, Acknowledged, Sends, after_answer, answers, channel_of, head_of, pdu_octets, rules_in, ticked}
+use Rattle.dch_layer.specs.Bearings.{Bearing, Transparent, Unacknowledged, Acknowledged, Sends, after_answer, answers, channel_of, head_of, pdu_octets, rules_in, sizes_on, ticked}
 use Rattle.dch_layer.specs.Hearing.{hears, hears_um, receiver_of, sender_of}
 use Rattle.dch_layer.specs.Octets.{AreOctets, block_of, field_for, octets_of}
 use Rattle.dch_layer.proofs.Counting.{offers_kept}
 use Rattle.dch_bearer.specs.Acknowledged.{AmRunning, BuildsAtTurn, HasRoomToHear, HasSides, HasTurn, IsSameBearer, entity_of, lines_on}
 use Rattle.dch_bearer.specs.Reports.{HasRoomFor, added}
-use Rattle.dch_bearer.specs.Standing.{Built, HoldsReceiving, HoldsSending, HoldsUnits, Represents, StandsAm, StandsTm, StandsUm}
-use Rattle.dch_bearer.specs.Values.{TmRunning, UmRunning, count_of, due_in, heard_by, lines_in, lines_of, next_in, tm_built, um_built, um_due, um_head, um_heard, um_lines, um_pdu, units_in, with_first}
+use Rattle.dch_bearer.specs.Standing.{Built, HaveSame, HoldsReceiving, HoldsSending, HoldsUnits, Represents, StandsAm, StandsTm, StandsUm}
+use Rattle.dch_bearer.specs.Values.{TmRunning, UmRunning, answer_at, count_of, due_in, heard_by, lines_in, lines_of, next_in, tm_after, tm_answer, tm_built, um_built, um_due, um_head, um_heard, um_lines, um_pdu, units_in, with_first}
 use Rattle.dch_bearer.specs.declared.bearer.Bearer.TheVariants.{Tm, Um, Am}
 
 -- the acknowledged mode
@@ -256,7 +257,53 @@ um_hears config out into b (Unacknowledged s r) v now bits is some now_is =
       receiving = held_after (um_reading (octets_of bits)) (channel_of config into b) r v.receiver is.receiving some;
     }))
 
--- the transparent mode: one that has a block to build has a sender
+-- the transparent mode: one that has a channel to send on has a sender, and an offer is answered by the sizes of its blocks
+pub tm_can : (config : Config) (out into : Dir) (b : ℕ) (now : Bearing) (v : TmRunning) → Represents config out into b now (Tm v) → IsSome (channel_of config out b) → IsSome v.sender
+tm_can config out into b (Unacknowledged s r) v is some = absurd is
+tm_can config out into b (Acknowledged s r) v is some = absurd is
+tm_can config out into b (Transparent w us) v is some = go (channel_of config out b) v.sender is.units some
+  where
+    go : (o : Option ℕ) (t : Option Waiting) → HoldsUnits o w t → IsSome o → IsSome t
+    go None t h e = let n : false ≡ true = e in absurd (cc)
+    go (Some i) None h e = absurd h
+    go (Some i) (Some t) h e = refl
+
+answered_alike : (sizes others : List ℕ) (bits : List Bit) (o : Option ℕ) (w : Waiting) (t : Option Waiting) → HaveSame sizes others → HoldsUnits o w t → IsSome t → answer_at sizes bits t ≡ unit_answer others bits w
+answered_alike sizes others bits o w None same is some = let h : false ≡ true = some in absurd (cc)
+answered_alike sizes others bits None w (Some t) same is some = absurd is
+answered_alike sizes others bits (Some i) w (Some t) same is some =
+    ap (λ (fits : Bool). cond fits (cond (nat_lt (length t.units) t.buffer) Accepted Full) WrongSize) (same (length bits))
+    ∙ ap₂ (λ (us : List (List Bit)) (n : ℕ). cond (is_size others (length bits)) (cond (nat_lt (length us) n) Accepted Full) WrongSize) is.0 is.1
+
+pub tm_answers : (config : Config) (out into : Dir) (b : ℕ) (old : Bearing) (v : TmRunning) (octets : List ℕ) (bits : List Bit) (o : Offer) → Represents config out into b old (Tm v) → IsSome v.sender → o ≡ tm_answer bits v → o ≡ answers config out b octets bits old
+tm_answers config out into b (Unacknowledged s r) v octets bits o is some answer = absurd is
+tm_answers config out into b (Acknowledged s r) v octets bits o is some answer = absurd is
+tm_answers config out into b (Transparent w us) v octets bits o is some answer = answer ∙ answered_alike v.sizes (sizes_on config out (channel_of config out b)) bits (channel_of config out b) w v.sender is.sizes is.units some
+
+held_unit : (answer : Offer) (bits : List Bit) (o : Option ℕ) (w : Waiting) (t : Option Waiting) → HoldsUnits o w t → IsSome t → HoldsUnits o (after_unit answer bits w) (option_map (after_unit answer bits) t)
+held_unit answer bits o w None is some = let h : false ≡ true = some in absurd (cc)
+held_unit answer bits None w (Some t) is some = absurd is
+held_unit Accepted bits (Some i) w (Some t) is some = (ap (λ (us : List (List Bit)). us ++ bits ∷ []) is.0, is.1)
+held_unit Full bits (Some i) w (Some t) is some = is
+held_unit WrongSize bits (Some i) w (Some t) is some = is
+
+pub tm_offers : (config : Config) (out into : Dir) (b : ℕ) (old : Bearing) (v now : TmRunning) (octets : List ℕ) (bits : List Bit) (o : Offer) → Represents config out into b old (Tm v) → IsSome v.sender → o ≡ tm_answer bits v → now ≡ tm_after o bits v →
+    Represents config out into b (after_answer (answers config out b octets bits old) octets bits old) (Tm now)
+tm_offers config out into b (Unacknowledged s r) v now octets bits o is some answer now_is = absurd is
+tm_offers config out into b (Acknowledged s r) v now octets bits o is some answer now_is = absurd is
+tm_offers config out into b (Transparent w us) v now octets bits o is some answer now_is =
+    let same : o ≡ answers config out b octets bits (Transparent w us) = tm_answers config out into b (Transparent w us) v octets bits o is some answer in
+    subst (λ (a : Offer). Represents config out into b (after_answer a octets bits (Transparent w us)) (Tm now)) same
+    (subst (λ (x : TmRunning). StandsTm config out into b (after_unit o bits w) x) (sym now_is) (record {
+      mode = is.mode;
+      number = is.number;
+      comes_in = is.comes_in;
+      sizes = is.sizes;
+      units = held_unit o bits (channel_of config out b) w v.sender is.units some;
+      no_field = is.no_field;
+    }))
+
+-- one that has a block to build has a sender
 pub tm_sends : (config : Config) (out into : Dir) (b : ℕ) (now : Bearing) (v : TmRunning) → Represents config out into b now (Tm v) → 0 < (head_of config out b now).count → IsSome v.sender
 tm_sends config out into b (Unacknowledged s r) v is some = absurd is
 tm_sends config out into b (Acknowledged s r) v is some = absurd is

@@ -10,7 +10,7 @@ use Rattle.dch_config.specs.Bearers.{has_ct}
 use Rattle.dch_config.specs.Good.{IsGood}
 use Rattle.dch_layer.specs.Bearings.{bearer_in, channel_of, field_on, pdu_octets, sizes_in, sizes_on}
 use Rattle.dch_layer.proofs.Good.{AreFilled, am_fits, field_named, no_field, um_fits}
-use Rattle.dch_rlctm.specs.Waiting.{Waiting}
+use Rattle.dch_rlctm.specs.Waiting.{Waiting, is_size}
 use Rattle.dch_rlcum.specs.Sending.{Sending}
 use Rattle.dch_bearer.specs.Standing.{HoldsUnits, StandsTm}
 use Rattle.dch_bearer.specs.Values.{IsFilling, TmRunning}
@@ -63,7 +63,7 @@ tm_opened config out into b i sizes t v good m e sizes_are none room is = subst 
   mode = m;
   number = refl;
   comes_in = refl;
-  sizes = sizes_are ∙ sym (ap (sizes_on config out) e);
+  sizes = λ n. ap (λ these. is_size these n) (sizes_are ∙ sym (ap (sizes_on config out) e));
   units = subst (λ o. HoldsUnits o (record { units = []; buffer = (bearer_in config b).buffer; most = 5000 }) (Some t)) (sym e) (none, room);
   no_field = no_field config out b (Some i) good e m;
 })

@@ -6,3 +6,4 @@ pub mod AmSides
 pub mod Bearings
 pub mod Formats
 pub mod Fitting
+pub mod Changing

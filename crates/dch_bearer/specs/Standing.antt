@@ -4,8 +4,9 @@ use Rattle.dch_bits.specs.declared.bit.Bit.{Bit}
 use Rattle.dch_types.specs.declared.channel.Dir.{Dir}
 use Rattle.dch_types.specs.declared.bearer.Mode.TheVariants.{Tm as TmMode, Um as UmMode, Am as AmMode}
 use Rattle.dch_types.specs.declared.config.Config.{Config}
+use Rattle.dch_config.specs.Changes.{KeepsBearer}
 use Rattle.dch_script.specs.Held.{Held}
-use Rattle.dch_rlctm.specs.Waiting.{Waiting}
+use Rattle.dch_rlctm.specs.Waiting.{Waiting, is_size}
 use Rattle.dch_rlcum.specs.Receiving.{Receiving}
 use Rattle.dch_rlcum.specs.Sending.{Sending, no_units}
 use Rattle.dch_am.specs.Receiver.{Receiver}
@@ -28,11 +29,15 @@ HoldsUnits None w (Some t) = ⊥
 HoldsUnits (Some i) w None = ⊥
 HoldsUnits (Some i) w (Some t) = (t.units ≡ w.units) × (t.buffer ≡ w.buffer)
 
+-- the same sizes are among both, in whatever order and however often
+abbrev pub HaveSame : List ℕ → List ℕ → Type 0
+HaveSame sizes others = (size : ℕ) → is_size sizes size ≡ is_size others size
+
 pub record StandsTm (config : Config) (out into : Dir) (b : ℕ) (w : Waiting) (v : TmRunning) : Type 0 where
   pub mode : (bearer_in config b).mode ≡ TmMode
   pub number : v.number ≡ b
   pub comes_in : v.into ≡ into
-  pub sizes : v.sizes ≡ sizes_on config out (channel_of config out b)
+  pub sizes : HaveSame v.sizes (sizes_on config out (channel_of config out b))
   pub units : HoldsUnits (channel_of config out b) w v.sender
   pub no_field : ct_of config out b ≡ None
 
@@ -125,3 +130,25 @@ pub record CanTake (bearer : Bearer) (bits : List Bit) (report : Held) : Type 0 
   pub receives : IsSome (channel_of config into b)
   pub comes : MayCome config into b bearing (length bits)
   pub room : HasRoomFor report (hears config into b bits bearing).lines
+
+-- a bearer whose PDUs have as many octets in a configuration, where it has a channel to send on if it sends
+pub record FitsUm (config : Config) (out : Dir) (v : UmRunning) : Type 0 where
+  pub there : v.number < length config.bearers
+  pub mode : (bearer_in config v.number).mode ≡ UmMode
+  pub octets : pdu_octets config out v.number ≡ v.shape.octets
+  pub sends : IsSome v.sender → IsSome (channel_of config out v.number)
+
+pub record FitsAm (config : Config) (out : Dir) (v : AmRunning) : Type 0 where
+  pub there : v.number < length config.bearers
+  pub mode : (bearer_in config v.number).mode ≡ AmMode
+  pub octets : pdu_octets config out v.number ≡ v.shape.octets
+
+-- it goes on in another configuration: it stands for a bearer of a first one that is kept
+pub record CanGoOn (config : Config) (out : Dir) (bearer : Bearer) : Type 0 where
+  pub first : Config
+  pub into : Dir
+  pub b : ℕ
+  pub bearing : Bearing
+  pub stands : Represents first out into b bearing bearer
+  pub keeps : KeepsBearer first config b
+  pub there : b < length config.bearers

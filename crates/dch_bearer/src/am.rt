@@ -11,12 +11,13 @@ ghost use Rattle.dch_amentity.specs.Answers.{is_outside, is_unknown};
 ghost use Rattle.dch_amentity.specs.Standing.{AreSizes, Represents, is_settled, size_in, waiting_in};
 ghost use Rattle.dch_types.specs.declared.bearer.Mode.TheVariants.{Am};
 ghost use Rattle.dch_layer.specs.Bearings.{bearer_in, rules_in};
-ghost use Rattle.dch_bearer.specs.Standing.{StandsAm};
+ghost use Rattle.dch_bearer.specs.Standing.{FitsAm, StandsAm};
 ghost use Rattle.dch_layer.specs.Hearing.{receiver_of, sender_of};
 ghost use Rattle.dch_layer.specs.Octets.{octets_of};
 ghost use Rattle.dch_layer.specs.UnitLines.{unit_lines};
 ghost use Rattle.dch_bearer.specs.Acknowledged.{BuildsAtTurn, HasRoomToHear, HasSides, HasTurn, IsAmShape, IsSameBearer, entity_of, lines_on, outside_first, outside_last};
 ghost use Rattle.dch_bearer.specs.Reports.{HasRoomFor, added};
+ghost use Rattle.dch_bearer.specs.Shapes.{shape_of};
 
 use crate::block::{read_octets, write_block};
 use crate::channel::{bearer_of, shape_on};
@@ -94,6 +95,16 @@ impl AmBearer {
         let comes = shape_on(accepted, into, bearer).octets as usize;
         let entity = AmEntity::open(alloc, shape.octets as usize, comes, it.buffer, it.rules)?;
         Ok(AmBearer::new(bearer, into, shape, entity))
+    }
+
+    /// From now on sends the blocks of a configuration, at an end that sends in the direction `out`. The octets of its PDUs stay.
+    pub(crate) fn change(&mut self, accepted: &Accepted, out: Dir)
+        requires { FitsAm accepted.now.config out self.old }
+        ensures { self.new ≡ record self.old { shape = shape_of accepted.now.config out self.old.number } }
+    {
+        // Whole octets fill the blocks in a good configuration.
+        let _config = accepted.config();
+        self.shape = shape_on(accepted, out, self.number);
     }
 
     /// Offers a unit of 1 to 1,500 octets.

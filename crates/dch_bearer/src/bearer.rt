@@ -1,10 +1,11 @@
 ghost use Rattle.std.specs.Prelude.{◌≡◌, ◌<◌, ℕ, IfOk, length};
 ghost use Rattle.dch_types.specs.declared.channel.Dir.{Dir};
 ghost use Rattle.dch_types.specs.declared.config.Config.{Config};
+ghost use Rattle.dch_config.specs.Changes.{KeepsBearer};
 ghost use Rattle.dch_layer.specs.Bearings.{Bearing, after_answer, answers, head_of, opened_bearing, ticked};
 ghost use Rattle.dch_layer.specs.Hearing.{hears};
 ghost use Rattle.dch_bearer.specs.Reports.{added};
-ghost use Rattle.dch_bearer.specs.Standing.{Built, CanBuild, CanSend, CanTake, Represents};
+ghost use Rattle.dch_bearer.specs.Standing.{Built, CanBuild, CanGoOn, CanSend, CanTake, Represents};
 
 use crate::am::AmBearer;
 use crate::channel::bearer_of;
@@ -117,6 +118,22 @@ impl Bearer {
             Bearer::Tm(bearer) => bearer.take(bits, report),
             Bearer::Um(bearer) => bearer.take(bits, unit, report),
             Bearer::Am(bearer) => bearer.take(bits, unit, report),
+        }
+    }
+
+    /// Goes on in another configuration, in which it is kept, at an end that sends in the direction `out`: its units and its numbers stay, and
+    /// from now on it sends the blocks of that configuration.
+    pub fn change(&mut self, accepted: &Accepted, out: Dir)
+        requires { CanGoOn accepted.now.config out self.old }
+        ensures { (first : Config) (into : Dir) (b : ℕ) (old : Bearing) → Represents first out into b old self.old → KeepsBearer first accepted.now.config b → b < length accepted.now.config.bearers →
+            Represents accepted.now.config out into b old self.new }
+    {
+        // A transparent bearer shares its channel with no other in a good configuration.
+        let _config = accepted.config();
+        match self {
+            Bearer::Tm(_) => {}
+            Bearer::Um(bearer) => bearer.change(accepted, out),
+            Bearer::Am(bearer) => bearer.change(accepted, out),
         }
     }
 }

@@ -5,7 +5,7 @@ ghost use Rattle.dch_rlcum.specs.Receiving.{opened};
 ghost use Rattle.dch_bearer.specs.Shapes.{shape_of};
 ghost use Rattle.dch_types.specs.declared.bearer.Mode.TheVariants.{Um};
 ghost use Rattle.dch_layer.specs.Bearings.{bearer_in, channel_of, marks_start};
-ghost use Rattle.dch_bearer.specs.Standing.{HoldsReceiving, HoldsSending, StandsUm, opened_sends};
+ghost use Rattle.dch_bearer.specs.Standing.{FitsUm, HoldsReceiving, HoldsSending, StandsUm, opened_sends};
 ghost use Rattle.dch_layer.specs.Octets.{AreOctets, block_of, octets_of};
 ghost use Rattle.dch_layer.specs.UnitLines.{unit_lines};
 ghost use Rattle.dch_bearer.specs.Reports.{HasRoomFor, added};
@@ -95,6 +95,16 @@ impl UmBearer {
         let sender = sender_of(alloc, accepted, out, bearer, shape)?;
         let receiver = receiver_of(alloc, accepted, into, bearer)?;
         Ok(UmBearer::new(bearer, into, shape, sender, receiver))
+    }
+
+    /// From now on sends the blocks of a configuration, at an end that sends in the direction `out`. The octets of its PDUs stay.
+    pub(crate) fn change(&mut self, accepted: &Accepted, out: Dir)
+        requires { FitsUm accepted.now.config out self.old }
+        ensures { self.new ≡ record self.old { shape = shape_of accepted.now.config out self.old.number } }
+    {
+        // Whole octets fill the blocks in a good configuration.
+        let _config = accepted.config();
+        self.shape = shape_on(accepted, out, self.number);
     }
 
     /// Offers a unit of 1 to 1,500 octets.

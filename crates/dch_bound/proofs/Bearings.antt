@@ -17,7 +17,7 @@ use Rattle.dch_rlcpdu.specs.Am.{am_reading}
 use Rattle.dch_rlcpdu.specs.Um.{um_reading}
 use Rattle.dch_rlcum.specs.Receiving.{Receiving, after_pdu as after_um}
 use Rattle.dch_am.specs.Entities.{Turn, Tells, Moves, Sends as SendsData, Rests, receiver_after, turn}
-use Rattle.dch_am.specs.Receiver.{Receiver, expected}
+use Rattle.dch_am.specs.Receiver.{Receiver}
 use Rattle.dch_am.specs.Rules.{Rules}
 use Rattle.dch_am.specs.Sender.{Sender}
 use Rattle.dch_node.specs.Lines.{Line, Outside, PduBad, text_of}

@@ -1,5 +1,5 @@
 -- What layer 2 of an end tells comes out of the bytes of what its bearers hold and of the blocks that come.
-use Rattle.std.proofs.Common.{◌≡◌, ◌≢◌, ◌<◌, ◌≤◌, ◌+◌, ◌*◌, ◌++◌, ℕ, zero, suc, List, [], ◌∷◌, Bool, true, false, cond, length, drop, arith, refl, ap, sym, subst, inl, inr}
+use Rattle.std.proofs.Common.{◌≡◌, ◌≢◌, ◌<◌, ◌≤◌, ◌+◌, ◌*◌, ◌++◌, ◌∙◌, ℕ, zero, suc, List, [], ◌∷◌, Bool, true, false, cond, length, drop, arith, refl, ap, sym, subst, inl, inr}
 use Rattle.std.specs.Prelude.{◌==◌}
 use Rattle.std.proofs.lemmas.Bool.{cases_lt, eq-eqb, eqb-true}
 use Rattle.std.proofs.lemmas.List.Elements.{All-head, All-tail}
@@ -11,15 +11,19 @@ use Rattle.dch_types.specs.declared.config.Config.{Config}
 use Rattle.dch_types.specs.Parts.{side_of}
 use Rattle.dch_types.specs.Sums.{total}
 use Rattle.dch_types.proofs.Sums.{total_le, total_none, total_same, total_small}
+use Rattle.dch_config.specs.Changes.{GoesOnAs, KeepsBearer}
 use Rattle.dch_config.specs.Good.{IsGood}
 use Rattle.dch_mac.specs.declared.answer.Demux.{Demux}
 use Rattle.dch_mac.specs.declared.answer.Demux.TheVariants.{To, Reserved as ReservedField, NoBearer as Unknown, Nobody as NoOne}
 use Rattle.dch_mac.specs.Receivers.{receiver}
 use Rattle.dch_node.specs.Lines.{Line, Bad, Full as NoRoom, NoBearer, Nobody, Reserved, Took, Wrong, text_of}
-use Rattle.dch_layer.specs.Bearings.{Bearing, after_answer, answers, channel_of, line_of_answer}
+use Rattle.dch_layer.specs.Bearings.{Acknowledged, Bearing, Transparent, Unacknowledged, after_answer, answers, bearer_in, channel_of, line_of_answer}
 use Rattle.dch_layer.specs.Hearing.{hears}
-use Rattle.dch_layer.specs.Layers.{Came, Layer, Outcome, blocks, goes, offers, opened_layer, takes, takes_good, takes_one, ticks, with_bearing}
+use Rattle.dch_layer.specs.Layers.{Came, Layer, Outcome, blocks, changed_layer, goes, offers, opened_layer, takes, takes_good, takes_one, ticks, with_bearing}
 use Rattle.dch_layer.specs.Starting.{IsStart, asked_in, count_on}
+use Rattle.dch_layer.proofs.Changing.{kept_rules}
+use Rattle.dch_am.specs.Rules.{Rules}
+use Rattle.dch_ambound.specs.Bounded.{IsBoundedReceiver}
 use Rattle.dch_bound.specs.Bounded.{AreBounded, IsBounded}
 use Rattle.dch_bound.specs.Bytes.{bearing_bytes, layer_bytes}
 use Rattle.dch_bound.specs.Coming.{AreBlocks, IsBlock}
@@ -64,6 +68,20 @@ start_holds config out cfn old new is = all_hold config old new (λ b. give_hold
 -- at opening
 pub opened_are : (config : Config) (out : Dir) → AreBounded config (opened_layer config out)
 opened_are config out b inside = opened_bounded config out b
+
+-- where another configuration becomes active, in which each bearer is kept
+kept_bounded : (first second : Config) (b : ℕ) (bearing : Bearing) → GoesOnAs first second (bearer_in first b) (bearer_in second b) → IsBounded first b bearing → IsBounded second b bearing
+kept_bounded first second b (Transparent w us) goes is = tt
+kept_bounded first second b (Unacknowledged s r) goes is = record { mode = sym goes.alike.mode ∙ is.mode; settled = is.settled }
+kept_bounded first second b (Acknowledged s r) goes is = record {
+  mode = sym goes.alike.mode ∙ is.mode;
+  receiver = subst (λ (rules : Rules). IsBoundedReceiver rules.window r) (sym (kept_rules first second b goes)) is.receiver;
+}
+
+pub changed_are : (first second : Config) (out : Dir) (layer : Layer) → ((b : ℕ) → KeepsBearer first second b) → AreBounded first layer → AreBounded second (changed_layer second out layer)
+changed_are first second out layer kept are b inside =
+    let before : b < length first.bearers = (kept b).there.1 inside in
+    kept_bounded first second b (layer.bearings b) ((kept b).same before) (are b before)
 
 pub opened_none : (config : Config) (out : Dir) → layer_bytes config (opened_layer config out) ≡ 0
 opened_none config out = total_none (λ b. bearing_bytes config b ((opened_layer config out).bearings b)) (length config.bearers) (λ b. opened_bytes config out b)

@@ -115,7 +115,7 @@ unpacked : (n s : ℕ) → ◌≡◌ {A = Option ℕ} (Some n) (Some s) → n �
 unpacked n s h = cc
 
 -- the size of the blocks of a channel
-first_is : (formats : List Format) (s : ℕ) → first_size formats ≡ Some s → size_in formats ≡ s
+pub first_is : (formats : List Format) (s : ℕ) → first_size formats ≡ Some s → size_in formats ≡ s
 first_is [] s e = absurd (cc)
 first_is (f ∷ formats) s e = go (λ h. first_is formats s h) (is_idle f) refl
   where
@@ -136,7 +136,7 @@ fits_by m formats ct (Some s) e is =
     let both = both_true (have_one_size formats s) (is_pdu_size m ct s) is in
     subst (λ n. (have_one_size formats n ≡ true) × (is_pdu_size m ct n ≡ true)) (sym (first_is formats s e)) both
 
-field_size : (x : Bool) (c : ℕ) → field_bits (cond x (Some c) None) ≡ cond x 4 0
+pub field_size : (x : Bool) (c : ℕ) → field_bits (cond x (Some c) None) ≡ cond x 4 0
 field_size true c = refl
 field_size false c = refl
 

@@ -1,3 +1,4 @@
 pub mod Octets
 pub mod Counting
 pub mod Good
+pub mod Changing

@@ -33,6 +33,10 @@ opened_layer config out = record {
   given = λ i. record { format = idle_format (channel_at (side_of config out) i); blocks = [] };
 }
 
+-- where another configuration becomes active every channel runs its idle format in it, no combination is blocked, and the bearers stay
+abbrev pub changed_layer : Config → Dir → Layer → Layer
+changed_layer config out old = record (opened_layer config out) { bearings = old.bearings }
+
 -- bearer b becomes another, and all others stay
 abbrev pub with_bearing : Layer → ℕ → Bearing → Layer
 with_bearing layer b new = record layer { bearings = λ c. if c == b then new else layer.bearings c }

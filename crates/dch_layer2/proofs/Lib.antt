@@ -14,3 +14,4 @@ pub mod Frames
 pub mod Filling
 pub mod Joined
 pub mod Paying
+pub mod GoingOn

@@ -7,3 +7,4 @@ pub mod Sharing
 pub mod Started
 pub mod Joined
 pub mod Bounded
+pub mod Changing

@@ -19,6 +19,11 @@ pub record LayerRunning : Type 0 where
   pub heads : List Head
   pub unit : List ℕ
 
+-- the parts that it needs for a configuration which is to follow: which combinations are blocked, and the blocks of the running TTIs
+pub record NextLayer : Type 0 where
+  pub blocked : List Bool
+  pub given : List Held
+
 -- bearer b
 abbrev pub entity_at : List Bearer → ℕ → Bearer
 entity_at bearers b = slice_index_or bearers b (Tm (record { number = 0; into = Up; sizes = []; sender = None }))

@@ -1,10 +1,13 @@
 ghost use Rattle.std.specs.Prelude.{◌≡◌, ◌<◌, ℕ, IfOk, length};
 ghost use Rattle.dch_types.specs.declared.config.Config.{Config};
+ghost use Rattle.dch_config.specs.Changes.{KeepsBearer};
 ghost use Rattle.dch_accept.specs.HeldSets.{held_at};
 ghost use Rattle.dch_layer.specs.Bearings.{answers};
-ghost use Rattle.dch_layer.specs.Layers.{Layer, blocks, offers, ticks};
+ghost use Rattle.dch_layer.specs.Layers.{Layer, blocks, changed_layer, offers, ticks};
+ghost use Rattle.dch_layer2.specs.Changing.{CanGoOn, IsNextLayer};
 ghost use Rattle.dch_layer2.specs.Standing.{AreTicked, CanOffer, HasStarted, IsLayerOf, IsOpened, IsSameEnd, Represents};
 
+use crate::changing::{NextLayer, change_bearers};
 use crate::choosing::{Moment, take_heads};
 use crate::opening::{open_bearers, open_given, open_heads, open_unit};
 use dch_accept::{Accepted, TtiBlocks};
@@ -14,6 +17,7 @@ use dch_select::Head;
 use dch_types::Dir;
 use std::alloc::Global;
 use std::marker::Model;
+use std::mem;
 
 /// Layer 2 of an end that sends in one direction and receives in the other. All memory is taken when it is opened.
 pub struct Layer2 {
@@ -70,6 +74,23 @@ impl Layer2 {
             heads: open_heads(alloc, accepted)?,
             unit: open_unit(alloc)?,
         })
+    }
+
+    /// Another configuration becomes active, in which each bearer is kept: no combination is blocked, and every channel runs its idle format.
+    /// `next` gets the parts that are needed no more.
+    pub fn change(&mut self, accepted: &Accepted, next: &mut NextLayer)
+        requires bearers { CanGoOn accepted.now.config self.old }
+        requires next { IsNextLayer accepted.now.config self.old.out next.old }
+        ensures stands { (first : Config) (layer : Layer) → Represents first layer self.old → ((b : ℕ) → KeepsBearer first accepted.now.config b) →
+            Represents accepted.now.config (changed_layer accepted.now.config self.old.out layer) self.new }
+        ensures ends { IsSameEnd self.old self.new }
+    {
+        // There is at least one combination.
+        let _side = accepted.side(self.out);
+        change_bearers(accepted, self.out, &mut self.bearers);
+        self.running = 0;
+        mem::swap(&mut self.given, &mut next.given);
+        mem::swap(&mut self.blocked, &mut next.blocked);
     }
 
     /// The blocks that a channel was given for its running TTI, with their format.
