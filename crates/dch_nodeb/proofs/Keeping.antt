@@ -12,8 +12,8 @@ use Rattle.dch_iub.specs.declared.error.IubError.{IubError}
 use Rattle.dch_script.specs.Held.{Held as Text}
 use Rattle.dch_node.specs.Lines.{IubBad, text_of}
 use Rattle.dch_node.specs.IubFrames.{refusal_number}
-use Rattle.dch_nodeb.specs.Moves.{AreNewRxBuffers, AreReady, IsFilled, IsReady, Keeps}
-use Rattle.dch_nodeb.specs.Opened.{AreRxBuffersOf}
+use Rattle.dch_nodeb.specs.Moves.{AreReady, IsFilled, IsReady, Keeps}
+use Rattle.dch_nodeb.specs.Opened.{AreNewRxBuffers, AreRxBuffersOf}
 use Rattle.dch_types.specs.Timing.{set_frames, starts}
 use Rattle.dch_nodeb.specs.Values.{IubRxBuffer, rx_buffer_at}
 

@@ -1,4 +1,5 @@
 pub mod Arriving
+pub mod Changing
 pub mod Departing
 pub mod Giving
 pub mod Going

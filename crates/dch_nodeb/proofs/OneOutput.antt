@@ -8,8 +8,8 @@ use Rattle.dch_node.specs.Lines.{Line, joined}
 use Rattle.dch_node.specs.Traces.{Trace}
 use Rattle.dch_node.specs.Values.{Output, Radio}
 use Rattle.dch_node.proofs.RxFrames.{heard_same}
-use Rattle.dch_nodeb.specs.Same.{IsSameOutput, IsSameState}
-use Rattle.dch_nodeb.specs.State.{DownlinkDue, Event, IubFrame, State, UplinkFrame}
+use Rattle.dch_nodeb.specs.Same.{ArePlanned, IsSameOutput, IsSameState}
+use Rattle.dch_nodeb.specs.State.{Change, DownlinkDue, Event, IubFrame, State, UplinkFrame}
 use Rattle.dch_nodeb.specs.Steps.{IsDeparture, IsReception, Steps, radio_line}
 use Rattle.dch_nodeb.proofs.OneRadio.{radio_one}
 use Rattle.dch_nodeb.proofs.OneTti.{delivers_alike, delivers_one}
@@ -60,21 +60,28 @@ step_output old new older newer DownlinkDue output more planned same a b = depar
 step_output old new older newer (UplinkFrame frame) output more planned same a b =
     reception_same old.planned old new older newer frame output more planned.good.uplink.side same.cfn (step_same old new older newer (UplinkFrame frame) output more same a b) a
     (subst (λ (p : Planned). IsReception p older frame newer more) same.planned b)
+step_output old new older newer (Change other) output more planned same a b =
+    subst (λ (o : Output). IsSameOutput output o) (a.quiet ∙ sym b.quiet) (same_output output)
 
--- no step changes the configuration
-step_planned : (old new : State) (event : Event) (output : Output) → Steps old event new output → new.planned ≡ old.planned
-step_planned old new (IubFrame set octets) output (inl kept) = ap (λ (s : State). s.planned) kept.state
-step_planned old new (IubFrame set octets) output (inr refused) = ap (λ (s : State). s.planned) refused.state
-step_planned old new DownlinkDue output step = ap (λ (s : State). s.planned) step.state
-step_planned old new (UplinkFrame frame) output step = ap (λ (s : State). s.planned) step.state
+-- the configuration that is active is an accepted one, as are all that become active later
+planned_by : (old new : State) → new ≡ old → IsPlanned old.planned → IsPlanned new.planned
+planned_by old new same is = subst (λ (s : State). IsPlanned s.planned) (sym same) is
+
+step_planned : (old new : State) (event : Event) (events : List Event) (output : Output) → IsPlanned old.planned → ArePlanned (event ∷ events) → Steps old event new output → IsPlanned new.planned × ArePlanned events
+step_planned old new (IubFrame set octets) events output is are (inl kept) = (planned_by _ new kept.state is, are)
+step_planned old new (IubFrame set octets) events output is are (inr refused) = (planned_by _ new refused.state is, are)
+step_planned old new DownlinkDue events output is are step = (planned_by _ new step.state is, are)
+step_planned old new (UplinkFrame frame) events output is are step = (planned_by _ new step.state is, are)
+step_planned old new (Change planned) events output is are step = (planned_by _ new step.state are.0, are.1)
 
 -- all steps have the same lines, and the last one the same output
-pub trace_output : (old older new newer : State) (before earlier last more : Output) (events : List Event) (lines rest : List Line) → IsPlanned old.planned → IsSameState old older → IsSameOutput before earlier
+pub trace_output : (old older new newer : State) (before earlier last more : Output) (events : List Event) (lines rest : List Line) → IsPlanned old.planned → ArePlanned events → IsSameState old older → IsSameOutput before earlier
     → Trace Steps old before events new last lines → Trace Steps older earlier events newer more rest → (rest ≡ lines) × IsSameOutput last more
-trace_output old older new newer before earlier last more [] lines rest planned same outputs a b =
+trace_output old older new newer before earlier last more [] lines rest planned are same outputs a b =
     (b.2 ∙ sym a.2, subst (λ (o : Output). IsSameOutput o more) (sym a.1) (subst (λ (o : Output). IsSameOutput before o) (sym b.1) outputs))
-trace_output old older new newer before earlier last more (event ∷ events) lines rest planned same outputs a b =
+trace_output old older new newer before earlier last more (event ∷ events) lines rest planned are same outputs a b =
     let now : IsSameOutput a.output b.output = step_output old a.next older b.next event a.output b.output planned same a.step b.step in
-    let later = trace_output a.next b.next new newer a.output b.output last more events a.rest b.rest (subst IsPlanned (sym (step_planned old a.next event a.output a.step)) planned)
+    let next : IsPlanned a.next.planned × ArePlanned events = step_planned old a.next event events a.output planned are a.step in
+    let later = trace_output a.next b.next new newer a.output b.output last more events a.rest b.rest next.0 next.1
     (step_same old a.next older b.next event a.output b.output same a.step b.step) now a.later b.later in
     (b.reported ∙ ap₂ (λ (ls ms : List Line). ls ++ ms) now.lines later.0 ∙ sym a.reported, later.1)

@@ -14,7 +14,7 @@ use Rattle.dch_node.specs.Traces.{Trace}
 use Rattle.dch_node.specs.Values.{Output, Radio, says}
 use Rattle.dch_node.proofs.IubFrames.{one_frame, one_number}
 use Rattle.dch_nodeb.specs.Same.{IsSameState, KeepsSame}
-use Rattle.dch_nodeb.specs.State.{DownlinkDue, DownlinkIubFrame, Event, IubFrame, State, UplinkFrame, coming, given_now, keeping, kept_still, leaving, taken}
+use Rattle.dch_nodeb.specs.State.{Change, DownlinkDue, DownlinkIubFrame, Event, IubFrame, State, UplinkFrame, changed, coming, given_now, keeping, kept_still, leaving, taken}
 use Rattle.dch_nodeb.specs.Steps.{IsArrival, Steps}
 use Rattle.dch_nodeb.proofs.Steady.{tells}
 
@@ -92,6 +92,10 @@ coming_same old older radio same = record {
   ]);
 }
 
+-- another configuration becomes active
+changed_same : (planned : Planned) (old older : State) → IsSameState old older → IsSameState (changed planned old) (changed planned older)
+changed_same planned old older same = record { planned = refl; cfn = same.cfn; kept = λ s. refl; given = λ i inside. refl; frames = λ k. refl }
+
 renamed : (new next newer nexter : State) → new ≡ next → newer ≡ nexter → IsSameState next nexter → IsSameState new newer
 renamed new next newer nexter is are same =
     subst (λ (s : State). IsSameState s newer) (sym is) (subst (λ (s : State). IsSameState next s) (sym are) same)
@@ -134,6 +138,7 @@ step_same old new older newer DownlinkDue output more same a b =
     let there : newer ≡ leaving side older = b.state ∙ ap (λ (p : Planned). leaving p.config.downlink.side older) same.planned in
     renamed new (leaving side old) newer (leaving side older) a.state there (leaving_same old older same)
 step_same old new older newer (UplinkFrame radio) output more same a b = renamed new (coming old radio) newer (coming older radio) a.state b.state (coming_same old older radio same)
+step_same old new older newer (Change planned) output more same a b = renamed new (changed planned old) newer (changed planned older) a.state b.state (changed_same planned old older same)
 
 -- and so do all steps
 pub trace_same : (old older new newer : State) (before earlier last more : Output) (events : List Event) (lines rest : List Line) → IsSameState old older

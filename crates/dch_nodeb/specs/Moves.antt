@@ -28,12 +28,6 @@ use Rattle.dch_node.specs.IubFrames.{refusal_number}
 use Rattle.dch_nodeb.specs.Steps.{DeliversSet, radio_line}
 use Rattle.dch_nodeb.specs.Values.{IubRxBuffer, UplinkReceiver, DownlinkTransmitter, rx_buffer_at}
 
--- receive buffers for the first sets, with idle formats and no frame
-pub record AreNewRxBuffers (planned : Planned) (count : ℕ) (rx_buffers : List IubRxBuffer) : Type 0 where
-  pub all : length rx_buffers ≡ count
-  pub empty : (s : ℕ) → s < count → (rx_buffer_at rx_buffers s).cfn ≡ None
-  pub idle : (s : ℕ) → s < count → IsIdleSet planned.config Down s (rx_buffer_at rx_buffers s).held
-
 -- a receive buffer has a frame that was read
 pub record IsFilled (planned : Planned) (set : ℕ) (octets : List ℕ) (rx_buffer : IubRxBuffer) : Type 0 where
   pub cfn : ℕ

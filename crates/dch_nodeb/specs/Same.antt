@@ -1,9 +1,10 @@
 -- Two states of a Node B that say the same, and two outputs.
-use Rattle.std.specs.Prelude.{◌≡◌, ◌<◌, ℕ, Option, Some, None, length}
+use Rattle.std.specs.Prelude.{◌≡◌, ◌<◌, ℕ, List, [], ◌∷◌, Option, Some, None, length}
 use Rattle.dch_types.specs.declared.channel.Side.{Side}
+use Rattle.dch_accept.specs.Plans.{IsPlanned}
 use Rattle.dch_iub.specs.Shape.{ForSet}
 use Rattle.dch_node.specs.Values.{Output}
-use Rattle.dch_nodeb.specs.State.{DownlinkIubFrame, State}
+use Rattle.dch_nodeb.specs.State.{Change, DownlinkDue, DownlinkIubFrame, Event, IubFrame, State, UplinkFrame}
 
 -- another frame is kept for the set, with the same CFN and the same blocks of each of its channels
 pub record KeepsAgain (side : Side) (set : ℕ) (frame : DownlinkIubFrame) (other : Option DownlinkIubFrame) : Type 0 where
@@ -31,3 +32,11 @@ pub record IsSameOutput (output other : Output) : Type 0 where
   pub lines : other.lines ≡ output.lines
   pub sent : other.sent ≡ output.sent
   pub iub : (s : ℕ) → s < 8 → other.iub s ≡ output.iub s
+
+-- each configuration that becomes active is one that can be accepted
+abbrev pub ArePlanned : List Event → Type 0
+ArePlanned [] = Unit {0}
+ArePlanned (IubFrame set octets ∷ events) = ArePlanned events
+ArePlanned (DownlinkDue ∷ events) = ArePlanned events
+ArePlanned (UplinkFrame frame ∷ events) = ArePlanned events
+ArePlanned (Change planned ∷ events) = IsPlanned planned × ArePlanned events

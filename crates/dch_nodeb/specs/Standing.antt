@@ -7,28 +7,52 @@ use Rattle.dch_accept.specs.Plans.{Planned}
 use Rattle.dch_rxframes.specs.RxFrames.{HasTfci, rx_frame_at}
 use Rattle.dch_iub.specs.Shape.{ForSet}
 use Rattle.dch_nodeb.specs.declared.event.NodeBEvent.{NodeBEvent}
-use Rattle.dch_nodeb.specs.declared.event.NodeBEvent.TheVariants.{Iub, Down as Due, Phy}
+use Rattle.dch_nodeb.specs.declared.event.NodeBEvent.TheVariants.{Iub, Down as Due, Phy, Change as Changes}
 use Rattle.dch_node.specs.Lines.{Line}
 use Rattle.dch_node.specs.Standing.{HasHistory, HasLongerHistory, TakesStep}
 use Rattle.dch_node.specs.Values.{Output}
 use Rattle.dch_txframes.specs.Lending.{radio_of}
-use Rattle.dch_nodeb.specs.State.{Event, IubFrame, DownlinkDue, UplinkFrame, DownlinkIubFrame, State, opened_state}
+use Rattle.dch_nodeb.specs.Opened.{CanChange, HasNext, IsNodeOf}
+use Rattle.dch_nodeb.specs.State.{Change, Event, IubFrame, DownlinkDue, UplinkFrame, DownlinkIubFrame, State, opened_state}
 use Rattle.dch_node.specs.RxFrames.{KeepsRadio}
 use Rattle.dch_node.specs.IubFrames.{blocks_at}
 use Rattle.dch_nodeb.specs.Steps.{AreAllLoaded, Steps}
 use Rattle.dch_nodeb.specs.Values.{Node, IubRxBuffer, iub_shown, rx_buffer_at, radio_shown}
 
--- what happens, as plain lists
-abbrev pub event_of : NodeBEvent → Event
-event_of (Iub set frame) = IubFrame set frame.now
-event_of Due = DownlinkDue
-event_of (Phy frame) = UplinkFrame (radio_of frame)
+-- what happens, as plain lists, in the configuration that is active after it
+abbrev pub event_of : Planned → NodeBEvent → Event
+event_of planned (Iub set frame) = IubFrame set frame.now
+event_of planned Due = DownlinkDue
+event_of planned (Phy frame) = UplinkFrame (radio_of frame)
+event_of planned Changes = Change planned
 
 -- an event that may come: its set exists in the downlink, its radio frame has 30 TFCI bits
 abbrev pub MayCome : Planned → NodeBEvent → Type 0
 MayCome planned (Iub set frame) = has_set planned.config.downlink.side set ≡ true
 MayCome planned Due = Unit {0}
 MayCome planned (Phy frame) = HasTfci planned Up frame
+MayCome planned Changes = Unit {0}
+
+-- the Node B is open for the configuration that is active: before a change that is another one, which this one can follow
+abbrev pub IsReadyFor : Planned → NodeBEvent → Node → Type 0
+IsReadyFor planned (Iub set frame) node = IsNodeOf planned node
+IsReadyFor planned Due node = IsNodeOf planned node
+IsReadyFor planned (Phy frame) node = IsNodeOf planned node
+IsReadyFor planned Changes node = CanChange planned node
+
+-- the configuration that is active before an event
+abbrev pub IsActiveBefore : Planned → NodeBEvent → Planned → Node → Type 0
+IsActiveBefore planned (Iub set frame) before node = before ≡ planned
+IsActiveBefore planned Due before node = before ≡ planned
+IsActiveBefore planned (Phy frame) before node = before ≡ planned
+IsActiveBefore planned Changes before node = HasNext before planned node
+
+-- the Node B still holds its parts for a second configuration, if it did; a change takes them
+abbrev pub KeepsNext : Planned → NodeBEvent → Node → Node → Type 0
+KeepsNext planned (Iub set frame) old new = (second : Planned) → HasNext planned second old → HasNext planned second new
+KeepsNext planned Due old new = (second : Planned) → HasNext planned second old → HasNext planned second new
+KeepsNext planned (Phy frame) old new = (second : Planned) → HasNext planned second old → HasNext planned second new
+KeepsNext planned Changes old new = new.next ≡ None
 
 -- a receive buffer has the frame that is kept for a set, if one is
 abbrev pub KeepsFrame : Side → ℕ → Option DownlinkIubFrame → IubRxBuffer → Type 0
@@ -57,11 +81,11 @@ pub record NothingSent (node : Node) : Type 0 where
 abbrev pub Stepped : Planned → State → Event → Node → List ℕ → List ℕ → Type 0
 Stepped planned old event node before after = TakesStep Steps (Represents planned) Shows old event node before after
 
--- a Node B stands for what happened since opening, with the lines of all reports
-abbrev pub RepresentsHistory : Planned → ℕ → List Event → List Line → Node → Type 0
-RepresentsHistory planned first events lines node = HasHistory Steps (Represents planned) Shows (opened_state planned first) events lines node
+-- a Node B stands for what happened since it was opened for a configuration, with the lines of all reports; this one is active now
+abbrev pub RepresentsHistory : Planned → Planned → ℕ → List Event → List Line → Node → Type 0
+RepresentsHistory began planned first events lines node = HasHistory Steps (Represents planned) Shows (opened_state began first) events lines node
 
 -- one more event, with the lines by whose text the report went on
-abbrev pub ExtendsHistory : Planned → ℕ → List Event → List Line → Event → Node → List ℕ → List ℕ → Type 0
-ExtendsHistory planned first events lines event node before after =
-    HasLongerHistory Steps (Represents planned) Shows (opened_state planned first) events lines event node before after
+abbrev pub ExtendsHistory : Planned → Planned → ℕ → List Event → List Line → Event → Node → List ℕ → List ℕ → Type 0
+ExtendsHistory began planned first events lines event node before after =
+    HasLongerHistory Steps (Represents planned) Shows (opened_state began first) events lines event node before after

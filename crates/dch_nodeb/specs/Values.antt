@@ -28,13 +28,24 @@ pub record UplinkReceiver : Type 0 where
   pub rx_frames : RxFrames
   pub tti : Held
 
--- the parts of a Node B
+-- the parts of a Node B that are made for a configuration
+pub record Parts : Type 0 where
+  pub rx_buffers : List IubRxBuffer
+  pub transmitter : DownlinkTransmitter
+  pub receiver : UplinkReceiver
+  pub tx_buffers : List IubTxBuffer
+
+-- the parts of a Node B, and those that it holds for a second configuration, if it does
 pub record Node : Type 0 where
   pub cfn : ℕ
   pub rx_buffers : List IubRxBuffer
   pub transmitter : DownlinkTransmitter
   pub receiver : UplinkReceiver
   pub tx_buffers : List IubTxBuffer
+  pub next : Option Parts
+
+abbrev pub node_of : ℕ → Parts → Option Parts → Node
+node_of cfn parts next = record { cfn = cfn; rx_buffers = parts.rx_buffers; transmitter = parts.transmitter; receiver = parts.receiver; tx_buffers = parts.tx_buffers; next = next }
 
 -- the radio frame that the last step sent, and the Iub frame of a set
 abbrev pub radio_shown : Node → Option Radio

@@ -9,4 +9,6 @@ pub enum NodeBEvent<'a> {
     Down,
     /// The uplink radio frame of the CFN came, or is missing.
     Phy { frame: Option<FrameView<'a>> },
+    /// The second configuration becomes active.
+    Change,
 }

@@ -3,8 +3,8 @@ ghost use Rattle.dch_types.specs.declared.channel.Dir.TheVariants.{Down};
 ghost use Rattle.dch_types.specs.Timing.{has_set};
 ghost use Rattle.dch_accept.specs.HeldSets.{IsIdleSet, IsSetOf, held_at};
 ghost use Rattle.dch_iub.specs.Answers.{IsCause};
-ghost use Rattle.dch_nodeb.specs.Moves.{AreNewRxBuffers, AreReady, IsFilled, IsReady, Keeps};
-ghost use Rattle.dch_nodeb.specs.Opened.{AreRxBuffersOf};
+ghost use Rattle.dch_nodeb.specs.Moves.{AreReady, IsFilled, IsReady, Keeps};
+ghost use Rattle.dch_nodeb.specs.Opened.{AreNewRxBuffers, AreRxBuffersOf};
 ghost use Rattle.dch_txframes.specs.Rooms.{HasRoomFor};
 ghost use Rattle.dch_nodeb.specs.Values.{rx_buffer_at};
 

@@ -3,7 +3,7 @@ ghost use Rattle.dch_accept.specs.Plans.{IsPlanned, Planned};
 ghost use Rattle.dch_node.specs.Lines.{Line};
 ghost use Rattle.dch_node.specs.Traces.{Reaches};
 ghost use Rattle.dch_node.specs.Values.{Output};
-ghost use Rattle.dch_nodeb.specs.Same.{IsSameOutput, IsSameState};
+ghost use Rattle.dch_nodeb.specs.Same.{ArePlanned, IsSameOutput, IsSameState};
 ghost use Rattle.dch_nodeb.specs.State.{DownlinkDue, Event, IubFrame, State, opened_state};
 ghost use Rattle.dch_nodeb.specs.Steps.{Steps};
 
@@ -19,13 +19,14 @@ pub fn one_state_law()
 {}
 
 /// A law: a step of a Node B has one output. From states that say the same, an event gives the same lines, the same radio frame and
-/// the same Iub frame for each set; and so the same events give the same lines since opening.
+/// the same Iub frame for each set; and so the same events give the same lines since opening, where each configuration that becomes
+/// active is one that can be accepted.
 pub fn one_output_law()
     ensures departure { (old new older newer : State) (output more : Output) →
         IsSameState old older → Steps old DownlinkDue new output → Steps older DownlinkDue newer more → IsSameOutput output more }
     ensures step { (old new older newer : State) (event : Event) (output more : Output) → IsPlanned old.planned → IsSameState old older →
         Steps old event new output → Steps older event newer more → IsSameOutput output more }
-    ensures history { (planned : Planned) (first : ℕ) (events : List Event) (state other : State) (last more : Output) (lines rest : List Line) → IsPlanned planned →
+    ensures history { (planned : Planned) (first : ℕ) (events : List Event) (state other : State) (last more : Output) (lines rest : List Line) → IsPlanned planned → ArePlanned events →
         Reaches Steps (opened_state planned first) events state last lines →
         Reaches Steps (opened_state planned first) events other more rest → (rest ≡ lines) × IsSameOutput last more }
 {}

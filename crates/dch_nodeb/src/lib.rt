@@ -6,6 +6,7 @@ mod event;
 mod iub_rx_buffer;
 mod laws;
 mod node;
+mod parts;
 mod receiver;
 mod sets;
 mod transmitter;

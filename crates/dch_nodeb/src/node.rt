@@ -1,26 +1,27 @@
-ghost use Rattle.std.specs.Prelude.{◌≡◌, ◌<◌, ◌≤◌, ◌+◌, ◌%◌, ℕ, List, [], length, IfOk, true};
+ghost use Rattle.std.specs.Prelude.{◌≡◌, ◌<◌, ◌≤◌, ◌+◌, ◌%◌, ℕ, List, [], None, length, IfOk, true};
 ghost use Rattle.dch_types.specs.declared.channel.Dir.TheVariants.{Up};
 ghost use Rattle.dch_types.specs.Timing.{has_set};
+ghost use Rattle.dch_config.specs.Changes.{KeepsBearer};
+ghost use Rattle.dch_accept.specs.Plans.{Planned};
 ghost use Rattle.dch_accept.specs.Reports.{step_bytes};
 ghost use Rattle.dch_rxframes.specs.RxFrames.{HasTfci};
 ghost use Rattle.dch_node.specs.Lines.{Line};
-ghost use Rattle.dch_nodeb.specs.Opened.{IsNodeOf};
+ghost use Rattle.dch_nodeb.specs.Opened.{CanChange, HasNext, IsNodeOf};
 ghost use Rattle.dch_txframes.specs.Rooms.{HasRoomFor};
 ghost use Rattle.dch_txframes.specs.Lending.{octets_of, radio_of};
-ghost use Rattle.dch_nodeb.specs.Standing.{NothingSent, MayCome, Represents, RepresentsHistory, Stepped, ExtendsHistory, event_of};
-ghost use Rattle.dch_nodeb.specs.State.{IubFrame, UplinkFrame, Event, DownlinkDue, State};
+ghost use Rattle.dch_nodeb.specs.Standing.{ExtendsHistory, IsActiveBefore, IsReadyFor, KeepsNext, MayCome, NothingSent, Represents, RepresentsHistory, Stepped, event_of};
+ghost use Rattle.dch_nodeb.specs.State.{Change, DownlinkDue, Event, IubFrame, State, UplinkFrame};
 ghost use Rattle.dch_nodeb.specs.Values.{iub_shown, radio_shown};
 
-use crate::downlink::{load, transmit};
+use crate::downlink::transmit;
 use crate::event::NodeBEvent;
-use crate::iub_rx_buffer::{IubRxBuffer, keep, rx_buffers};
-use crate::receiver::UplinkReceiver;
-use crate::transmitter::DownlinkTransmitter;
+use crate::iub_rx_buffer::keep;
+use crate::parts::Parts;
 use crate::uplink::receive;
 use dch_accept::{Accepted, FrameView};
 use dch_bits::NoMemory;
 use dch_script::Report;
-use dch_txframes::{IubTxBuffer, clear_sent, tx_buffers};
+use dch_txframes::clear_sent;
 use dch_types::Dir;
 use std::alloc::Global;
 use std::marker::Model;
@@ -28,10 +29,8 @@ use std::marker::Model;
 /// A Node B with one cell. All its memory is taken at opening.
 pub struct NodeB {
     cfn: u8,
-    rx_buffers: Vec<IubRxBuffer>,
-    transmitter: DownlinkTransmitter,
-    receiver: UplinkReceiver,
-    tx_buffers: Vec<IubTxBuffer>,
+    parts: Parts,
+    next: Option<Parts>,
 }
 
 // By hand, so that whoever holds one drops it by one call.
@@ -39,23 +38,22 @@ impl Drop for NodeB {
     fn drop(self) {
         let NodeB {
             cfn: _cfn,
-            rx_buffers: _rx_buffers,
-            transmitter: _transmitter,
-            receiver: _receiver,
-            tx_buffers: _tx_buffers,
+            parts: _parts,
+            next: _next,
         } = self;
     }
 }
 
 impl Model for NodeB {
-    ghost use Rattle.std.specs.Prelude.{◌≡◌, length};
-    ghost use Rattle.dch_nodeb.specs.Values.{Node};
+    ghost use Rattle.std.specs.Prelude.{◌≡◌, length, option_map};
+    ghost use Rattle.dch_nodeb.specs.Holding.{parts_of};
+    ghost use Rattle.dch_nodeb.specs.Values.{Node, node_of};
 
     ghost Value = { Node };
 
-    ghost view = { λ n. record { cfn = n.cfn; rx_buffers = n.rx_buffers.items; transmitter = n.transmitter; receiver = n.receiver; tx_buffers = n.tx_buffers.items } };
+    ghost view = { λ n. node_of n.cfn (parts_of n.parts) (option_map parts_of n.next) };
 
-    ghost invariant = { λ n. length n.tx_buffers.items ≡ 8 };
+    ghost invariant = { λ n. length n.parts.tx_buffers.items ≡ 8 };
 }
 
 impl NodeB {
@@ -64,31 +62,48 @@ impl NodeB {
     pub fn open(alloc: Global, accepted: &Accepted, first_cfn: u8) -> Result<NodeB, NoMemory>
         requires { first_cfn % 8 ≡ 0 }
         ensures opened { IfOk result (IsNodeOf accepted.now) }
-        ensures stands { IfOk result (RepresentsHistory accepted.now first_cfn [] []) }
+        ensures stands { IfOk result (RepresentsHistory accepted.now accepted.now first_cfn [] []) }
+        ensures alone { IfOk result (λ node. node.next ≡ None) }
     {
-        // The channels of a set have TTIs of one length in a good configuration.
-        let _side = accepted.side(Dir::Down);
-        let rx_buffers = rx_buffers(alloc, accepted)?;
-        let mut transmitter = DownlinkTransmitter::open(alloc, accepted)?;
-        load(accepted, first_cfn, &rx_buffers, &mut transmitter);
         Ok(NodeB {
             cfn: first_cfn,
-            rx_buffers,
-            transmitter,
-            receiver: UplinkReceiver::open(alloc, accepted)?,
-            tx_buffers: tx_buffers(alloc, accepted, Dir::Up)?,
+            parts: Parts::open(alloc, accepted)?,
+            next: None,
         })
     }
 
-    /// Takes one event, and reports what it does. The report has room for what one step may write.
+    /// Opens a Node B for a first configuration, and takes all memory for a second one besides, which can follow it.
+    pub fn open_both(
+        alloc: Global,
+        first: &Accepted,
+        second: &Accepted,
+        first_cfn: u8,
+    ) -> Result<NodeB, NoMemory>
+        requires eighth { first_cfn % 8 ≡ 0 }
+        requires kept { (b : ℕ) → KeepsBearer first.now.config second.now.config b }
+        ensures opened { IfOk result (IsNodeOf first.now) }
+        ensures stands { IfOk result (RepresentsHistory first.now first.now first_cfn [] []) }
+        ensures next { IfOk result (HasNext first.now second.now) }
+    {
+        Ok(NodeB {
+            cfn: first_cfn,
+            parts: Parts::open(alloc, first)?,
+            next: Some(Parts::open(alloc, second)?),
+        })
+    }
+
+    /// Takes one event, and reports what it does, in the configuration that is active; for a change that is the second one. The
+    /// report has room for what one step may write.
     pub fn step(&mut self, accepted: &Accepted, event: NodeBEvent<'_>, report: &mut Report)
-        requires opened { IsNodeOf accepted.now self.old }
+        requires opened { IsReadyFor accepted.now event self.old }
         requires event { MayCome accepted.now event }
         requires room { HasRoomFor report.old (step_bytes accepted.now.config) }
         ensures opened { IsNodeOf accepted.now self.new }
-        ensures step { (state : State) → Represents accepted.now state self.old → Stepped accepted.now state (event_of event.entry) self.new report.old.text report.new.text }
-        ensures history { (first : ℕ) (events : List Event) (lines : List Line) → RepresentsHistory accepted.now first events lines self.old →
-            ExtendsHistory accepted.now first events lines (event_of event.entry) self.new report.old.text report.new.text }
+        ensures step { (before : Planned) (state : State) → IsActiveBefore accepted.now event.entry before self.old → Represents before state self.old →
+            Stepped accepted.now state (event_of accepted.now event.entry) self.new report.old.text report.new.text }
+        ensures history { (began before : Planned) (first : ℕ) (events : List Event) (lines : List Line) → IsActiveBefore accepted.now event.entry before self.old →
+            RepresentsHistory began before first events lines self.old → ExtendsHistory began accepted.now first events lines (event_of accepted.now event.entry) self.new report.old.text report.new.text }
+        ensures next { KeepsNext accepted.now event.entry self.old self.new }
         ensures few { length report.new.text ≤ length report.old.text + 4000000 }
         ensures most { report.new.most ≡ report.old.most }
     {
@@ -102,7 +117,7 @@ impl NodeB {
     pub fn sent(&self) -> Option<FrameView<'_>>
         ensures { radio_of result ≡ radio_shown self.now }
     {
-        self.transmitter.view()
+        self.parts.transmitter.view()
     }
 
     /// The uplink Iub frame of a set that the last step sent, if it sent one.
@@ -110,36 +125,52 @@ impl NodeB {
         requires { set < 8 }
         ensures { octets_of result ≡ iub_shown self.now set }
     {
-        self.tx_buffers[set as usize].octets()
+        self.parts.tx_buffers[set as usize].octets()
     }
 
     /// Hides what the last step sent, and takes one event.
     fn happen(&mut self, accepted: &Accepted, event: NodeBEvent<'_>, report: &mut Report)
-        requires opened { IsNodeOf accepted.now self.old }
+        requires opened { IsReadyFor accepted.now event self.old }
         requires event { MayCome accepted.now event }
         requires room { HasRoomFor report.old 4000000 }
         ensures opened { IsNodeOf accepted.now self.new }
-        ensures step { (state : State) → Represents accepted.now state self.old → Stepped accepted.now state (event_of event.entry) self.new report.old.text report.new.text }
+        ensures step { (before : Planned) (state : State) → IsActiveBefore accepted.now event.entry before self.old → Represents before state self.old →
+            Stepped accepted.now state (event_of accepted.now event.entry) self.new report.old.text report.new.text }
+        ensures next { KeepsNext accepted.now event.entry self.old self.new }
         ensures few { length report.new.text ≤ length report.old.text + 4000000 }
         ensures most { report.new.most ≡ report.old.most }
     {
-        self.clear_sent(accepted);
+        self.clear_sent();
         match event {
             NodeBEvent::Iub { set, frame } => self.receive_iub(accepted, set, frame, report),
             NodeBEvent::Down => self.transmit_radio(accepted, report),
             NodeBEvent::Phy { frame } => self.receive_radio(accepted, frame, report),
+            NodeBEvent::Change => self.change(accepted),
         }
     }
 
     /// Nothing is shown as sent.
-    fn clear_sent(&mut self, accepted: &Accepted)
-        requires { IsNodeOf accepted.now self.old }
-        ensures opened { IsNodeOf accepted.now self.new }
+    fn clear_sent(&mut self)
         ensures quiet { NothingSent self.new }
-        ensures stands { (state : State) → Represents accepted.now state self.old → Represents accepted.now state self.new }
+        ensures opened { (planned : Planned) → IsNodeOf planned self.old → IsNodeOf planned self.new }
+        ensures stands { (planned : Planned) (state : State) → Represents planned state self.old → Represents planned state self.new }
+        ensures next { self.new.next ≡ self.old.next }
     {
-        self.transmitter.clear_sent();
-        clear_sent(&mut self.tx_buffers);
+        self.parts.transmitter.clear_sent();
+        clear_sent(&mut self.parts.tx_buffers);
+    }
+
+    /// The second configuration becomes active, with the parts that are held for it; those of the first one are given back.
+    fn change(&mut self, accepted: &Accepted)
+        requires { CanChange accepted.now self.old }
+        ensures opened { IsNodeOf accepted.now self.new }
+        ensures step { (before : Planned) (state : State) (text : List ℕ) → HasNext before accepted.now self.old → Represents before state self.old →
+            Stepped accepted.now state (Change accepted.now) self.new text text }
+        ensures next { self.new.next ≡ None }
+    {
+        if let Some(parts) = self.next.take() {
+            self.parts = parts;
+        }
     }
 
     /// An Iub frame arrives for a set.
@@ -150,10 +181,11 @@ impl NodeB {
         requires room { HasRoomFor report.old 4000000 }
         ensures opened { IsNodeOf accepted.now self.new }
         ensures step { (state : State) → Represents accepted.now state self.old → Stepped accepted.now state (IubFrame set frame.now) self.new report.old.text report.new.text }
+        ensures next { self.new.next ≡ self.old.next }
         ensures few { length report.new.text ≤ length report.old.text + 4000000 }
         ensures most { report.new.most ≡ report.old.most }
     {
-        keep(accepted, set, frame, &mut self.rx_buffers, report);
+        keep(accepted, set, frame, &mut self.parts.rx_buffers, report);
     }
 
     /// The downlink radio frame is due.
@@ -163,6 +195,7 @@ impl NodeB {
         requires room { HasRoomFor report.old 4000000 }
         ensures opened { IsNodeOf accepted.now self.new }
         ensures step { (state : State) → Represents accepted.now state self.old → Stepped accepted.now state DownlinkDue self.new report.old.text report.new.text }
+        ensures next { self.new.next ≡ self.old.next }
         ensures few { length report.new.text ≤ length report.old.text + 4000000 }
         ensures most { report.new.most ≡ report.old.most }
     {
@@ -171,8 +204,8 @@ impl NodeB {
         transmit(
             accepted,
             self.cfn,
-            &mut self.rx_buffers,
-            &mut self.transmitter,
+            &mut self.parts.rx_buffers,
+            &mut self.parts.transmitter,
             report,
         );
     }
@@ -190,6 +223,7 @@ impl NodeB {
         requires room { HasRoomFor report.old 4000000 }
         ensures opened { IsNodeOf accepted.now self.new }
         ensures step { (state : State) → Represents accepted.now state self.old → Stepped accepted.now state (UplinkFrame (radio_of frame.entry)) self.new report.old.text report.new.text }
+        ensures next { self.new.next ≡ self.old.next }
         ensures few { length report.new.text ≤ length report.old.text + 4000000 }
         ensures most { report.new.most ≡ report.old.most }
     {
@@ -197,8 +231,8 @@ impl NodeB {
             accepted,
             self.cfn,
             frame,
-            &mut self.receiver,
-            &mut self.tx_buffers,
+            &mut self.parts.receiver,
+            &mut self.parts.tx_buffers,
             report,
         );
         self.cfn = self.cfn.wrapping_add(1);

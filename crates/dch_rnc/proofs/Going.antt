@@ -2,15 +2,27 @@
 use Rattle.std.proofs.Common.{ℕ, List}
 use Rattle.dch_accept.specs.Plans.{Planned}
 use Rattle.dch_node.specs.Lines.{Line}
-use Rattle.dch_node.proofs.Traces.{history_next}
-use Rattle.dch_rnc.specs.Standing.{Represents, RepresentsHistory, Shows, Stepped, ExtendsHistory}
+use Rattle.dch_node.specs.Values.{no_output}
+use Rattle.dch_node.proofs.Traces.{trace_next}
+use Rattle.dch_rnc.specs.Standing.{Represents, RepresentsHistory, Stepped, ExtendsHistory}
 use Rattle.dch_rnc.specs.State.{Event, State, opened_state}
 use Rattle.dch_rnc.specs.Steps.{Steps}
 use Rattle.dch_rnc.specs.Values.{Node}
 
--- a Node B that takes a step from each state that it stands for stands for one event more
-pub went_on : (planned : Planned) (old new : Node) (event : Event) (before after : List ℕ) (first : ℕ) (events : List Event) (lines : List Line)
-    → RepresentsHistory planned first events lines old → ((state : State) → Represents planned state old → Stepped planned state event new before after)
-    → ExtendsHistory planned first events lines event new before after
-went_on planned old new event before after first events lines was steps =
-    history_next Steps (Represents planned) Shows (opened_state planned first) old new event before after events lines was steps
+-- a network controller that takes a step from each state that it stands for stands for one event more, in the configuration that is active then
+pub went_on : (began before planned : Planned) (old new : Node) (event : Event) (from to : List ℕ) (first : ℕ) (events : List Event) (lines : List Line)
+    → RepresentsHistory began before first events lines old → ((state : State) → Represents before state old → Stepped planned state event new from to)
+    → ExtendsHistory began planned first events lines event new from to
+went_on began before planned old new event from to first events lines was steps =
+    let stepped : Stepped planned was.state event new from to = steps was.state was.stands in
+    record {
+      own = stepped.output.lines;
+      stands = record {
+        state = stepped.next;
+        last = stepped.output;
+        after = trace_next Steps (opened_state began first) was.state stepped.next no_output was.last stepped.output events event lines was.after stepped.step;
+        stands = stepped.stands;
+        shows = stepped.shows;
+      };
+      reported = stepped.reported;
+    }

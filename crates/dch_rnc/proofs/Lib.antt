@@ -1,10 +1,11 @@
-pub mod Given
+pub mod Changing
 pub mod Filling
-pub mod Sending
-pub mod Taking
-pub mod Staying
+pub mod Frames
+pub mod Given
 pub mod Going
 pub mod Moving
 pub mod One
 pub mod Opening
-pub mod Frames
+pub mod Sending
+pub mod Staying
+pub mod Taking

@@ -27,8 +27,8 @@ use Rattle.dch_layer2.specs.Reading.{Nothing, Read, Reading}
 use Rattle.dch_layer2.specs.Standing.{IsSameEnd, Represents as StandsFor}
 use Rattle.dch_layer2.specs.Values.{LayerRunning}
 use Rattle.dch_layer2.proofs.Paying.{next_room, taken_on}
-use Rattle.dch_rnc.specs.Moves.{AreNewRxSets, IsTaken, Receives, TakesSet}
-use Rattle.dch_rnc.specs.Opened.{AreRxSetsOf}
+use Rattle.dch_rnc.specs.Moves.{IsTaken, Receives, TakesSet}
+use Rattle.dch_rnc.specs.Opened.{AreNewRxSets, AreRxSetsOf}
 use Rattle.dch_txframes.specs.Rooms.{HasRoomFor}
 use Rattle.dch_rnc.specs.State.{set_readings}
 use Rattle.dch_rnc.specs.Values.{rx_set_at}

@@ -1,3 +1,4 @@
+pub mod Holding
 pub mod Lending
 pub mod Moves
 pub mod Opened

@@ -5,7 +5,7 @@ use Rattle.dch_types.specs.declared.config.Config.{Config}
 use Rattle.dch_types.specs.Parts.{channel_at}
 use Rattle.dch_types.specs.Timing.{set_frames, starts}
 use Rattle.dch_accept.specs.Blocks.{Held}
-use Rattle.dch_accept.specs.HeldSets.{HeldSet, IsSetOf, held_at}
+use Rattle.dch_accept.specs.HeldSets.{HeldSet, held_at}
 use Rattle.dch_accept.specs.Plans.{Planned}
 use Rattle.dch_iub.specs.Answers.{IsCause}
 use Rattle.dch_iub.specs.Forms.{IsReadForm, IsWrittenForm}
@@ -58,11 +58,6 @@ pub record Receives (planned : Planned) (set : ℕ) (octets : List ℕ) (read : 
   pub few : set < 8
   pub opened : AreRxSetsOf planned rx_sets
   pub answers : Answers planned set octets read (rx_set_at rx_sets set) old new before after
-
--- memory for the uplink blocks of the first sets
-pub record AreNewRxSets (planned : Planned) (count : ℕ) (rx_sets : List HeldSet) : Type 0 where
-  pub all : length rx_sets ≡ count
-  pub each : (s : ℕ) → s < count → IsSetOf planned.config Up s (rx_set_at rx_sets s)
 
 -- the same format and bits
 pub record IsSameBlocks (given held : Held) : Type 0 where

@@ -12,17 +12,19 @@ use Rattle.dch_node.specs.Lines.{Line}
 use Rattle.dch_node.specs.Standing.{HasHistory, HasLongerHistory, TakesStep}
 use Rattle.dch_node.specs.Values.{Output}
 use Rattle.dch_rnc.specs.declared.event.RncEvent.{RncEvent}
-use Rattle.dch_rnc.specs.declared.event.RncEvent.TheVariants.{Unit as Offered, Block, Iub, Tick as Ticks}
-use Rattle.dch_rnc.specs.State.{Event, OfferedUnit, BlockedCombination, IubFrame, Tick, State, opened_state}
+use Rattle.dch_rnc.specs.declared.event.RncEvent.TheVariants.{Unit as Offered, Block, Iub, Tick as Ticks, Change as Changes}
+use Rattle.dch_rnc.specs.Opened.{CanChange, HasNext, IsNodeOf}
+use Rattle.dch_rnc.specs.State.{Change, Event, OfferedUnit, BlockedCombination, IubFrame, Tick, State, opened_state}
 use Rattle.dch_rnc.specs.Steps.{Steps}
 use Rattle.dch_rnc.specs.Values.{Node, iub_shown, taken_shown}
 
--- what happens, as plain lists
-abbrev pub event_of : RncEvent → Event
-event_of (Offered b octets bits) = OfferedUnit b octets.now bits.now
-event_of (Block c on) = BlockedCombination c on
-event_of (Iub set frame) = IubFrame set frame.now
-event_of Ticks = Tick
+-- what happens, as plain lists, in the configuration that is active after it
+abbrev pub event_of : Planned → RncEvent → Event
+event_of planned (Offered b octets bits) = OfferedUnit b octets.now bits.now
+event_of planned (Block c on) = BlockedCombination c on
+event_of planned (Iub set frame) = IubFrame set frame.now
+event_of planned Ticks = Tick
+event_of planned Changes = Change planned
 
 -- bearer b is there, and has a downlink channel
 pub record SendsDown (config : Config) (b : ℕ) : Type 0 where
@@ -35,6 +37,31 @@ MayCome planned (Offered b octets bits) = SendsDown planned.config b
 MayCome planned (Block c on) = c < length planned.config.downlink.side.combinations
 MayCome planned (Iub set frame) = has_set planned.config.uplink.side set ≡ true
 MayCome planned Ticks = Unit {0}
+MayCome planned Changes = Unit {0}
+
+-- the network controller is open for the configuration that is active: before a change that is another one, which this one can follow
+abbrev pub IsReadyFor : Planned → RncEvent → Node → Type 0
+IsReadyFor planned (Offered b octets bits) node = IsNodeOf planned node
+IsReadyFor planned (Block c on) node = IsNodeOf planned node
+IsReadyFor planned (Iub set frame) node = IsNodeOf planned node
+IsReadyFor planned Ticks node = IsNodeOf planned node
+IsReadyFor planned Changes node = CanChange planned node
+
+-- the configuration that is active before an event
+abbrev pub IsActiveBefore : Planned → RncEvent → Planned → Node → Type 0
+IsActiveBefore planned (Offered b octets bits) before node = before ≡ planned
+IsActiveBefore planned (Block c on) before node = before ≡ planned
+IsActiveBefore planned (Iub set frame) before node = before ≡ planned
+IsActiveBefore planned Ticks before node = before ≡ planned
+IsActiveBefore planned Changes before node = HasNext before planned node
+
+-- the network controller still holds its parts for a second configuration, if it did; a change takes them
+abbrev pub KeepsNext : Planned → RncEvent → Node → Node → Type 0
+KeepsNext planned (Offered b octets bits) old new = (second : Planned) → HasNext planned second old → HasNext planned second new
+KeepsNext planned (Block c on) old new = (second : Planned) → HasNext planned second old → HasNext planned second new
+KeepsNext planned (Iub set frame) old new = (second : Planned) → HasNext planned second old → HasNext planned second new
+KeepsNext planned Ticks old new = (second : Planned) → HasNext planned second old → HasNext planned second new
+KeepsNext planned Changes old new = new.next ≡ None
 
 -- the blocks of a reading
 abbrev pub blocks_read : Reading → Option Held
@@ -66,11 +93,12 @@ pub record NothingShown (node : Node) : Type 0 where
 abbrev pub Stepped : Planned → State → Event → Node → List ℕ → List ℕ → Type 0
 Stepped planned old event node before after = TakesStep Steps (Represents planned) Shows old event node before after
 
--- a network controller stands for what happened since opening, with the lines of all reports
-abbrev pub RepresentsHistory : Planned → ℕ → List Event → List Line → Node → Type 0
-RepresentsHistory planned first events lines node = HasHistory Steps (Represents planned) Shows (opened_state planned first) events lines node
+-- a network controller stands for what happened since it was opened for a configuration, with the lines of all reports; this one is
+-- active now
+abbrev pub RepresentsHistory : Planned → Planned → ℕ → List Event → List Line → Node → Type 0
+RepresentsHistory began planned first events lines node = HasHistory Steps (Represents planned) Shows (opened_state began first) events lines node
 
 -- one more event, with the lines by whose text the report went on
-abbrev pub ExtendsHistory : Planned → ℕ → List Event → List Line → Event → Node → List ℕ → List ℕ → Type 0
-ExtendsHistory planned first events lines event node before after =
-    HasLongerHistory Steps (Represents planned) Shows (opened_state planned first) events lines event node before after
+abbrev pub ExtendsHistory : Planned → Planned → ℕ → List Event → List Line → Event → Node → List ℕ → List ℕ → Type 0
+ExtendsHistory began planned first events lines event node before after =
+    HasLongerHistory Steps (Represents planned) Shows (opened_state began first) events lines event node before after

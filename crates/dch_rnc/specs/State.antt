@@ -6,7 +6,7 @@ use Rattle.dch_types.specs.declared.channel.Side.{Side}
 use Rattle.dch_types.specs.Parts.{channel_at}
 use Rattle.dch_accept.specs.HeldSets.{HeldSet, held_at}
 use Rattle.dch_accept.specs.Plans.{Planned}
-use Rattle.dch_layer.specs.Layers.{Layer, opened_layer}
+use Rattle.dch_layer.specs.Layers.{Layer, changed_layer, opened_layer}
 use Rattle.dch_layer2.specs.Reading.{Nothing, Read, Reading}
 
 -- the configuration that is active, the CFN of the TTIs that start with the next tick, layer 2, and what the last step read of each
@@ -18,12 +18,13 @@ pub record State : Type 0 where
   pub readings : ℕ → Reading
 
 -- what happens at a network controller: a unit is offered to a bearer, a combination is blocked or free, an Iub frame arrives for a
--- set of uplink channels, or 10 ms have passed
+-- set of uplink channels, 10 ms have passed, or a second configuration becomes active
 pub data Event : Type 0 where
   OfferedUnit : (bearer : ℕ) → (octets : List ℕ) → (bits : List Bit) → Event
   BlockedCombination : (combination : ℕ) → (on : Bool) → Event
   IubFrame : (set : ℕ) → (octets : List ℕ) → Event
   Tick : Event
+  Change : (planned : Planned) → Event
 
 -- of no channel anything is read
 abbrev pub no_readings : ℕ → Reading
@@ -44,3 +45,8 @@ with_layer old layer = record old { layer = layer; readings = no_readings }
 -- and the CFN goes on
 abbrev pub ticking : State → Layer → State
 ticking old layer = record old { cfn = (old.cfn + 1) % 256; layer = layer; readings = no_readings }
+
+-- another configuration is active: every channel runs its idle format, no combination is blocked, and nothing is read. The bearers and
+-- the CFN stay
+abbrev pub changed : Planned → State → State
+changed planned old = record (opened_state planned old.cfn) { layer = changed_layer planned.config Down old.layer }

@@ -12,13 +12,13 @@ use Rattle.dch_iub.specs.Shape.{ForSet}
 use Rattle.dch_iub.specs.declared.error.IubError.{IubError}
 use Rattle.dch_node.specs.IubFrames.{refusal_number}
 use Rattle.dch_node.specs.Lines.{Iub, IubBad, Line}
-use Rattle.dch_node.specs.Values.{Output, says}
+use Rattle.dch_node.specs.Values.{Output, no_output, says}
 use Rattle.dch_layer.specs.Layers.{Layer, blocks, offers, ticks}
 use Rattle.dch_txframes.specs.Octets.{AreOctets}
 use Rattle.dch_layer.specs.Starting.{IsStart}
 use Rattle.dch_layer2.specs.Joined.{CarriesGiven}
 use Rattle.dch_layer2.specs.Reading.{reads_below}
-use Rattle.dch_rnc.specs.State.{Event, OfferedUnit, BlockedCombination, IubFrame, Tick, State, no_readings, set_readings, ticking, with_layer}
+use Rattle.dch_rnc.specs.State.{Change, Event, OfferedUnit, BlockedCombination, IubFrame, Tick, State, changed, no_readings, set_readings, ticking, with_layer}
 
 -- an Iub frame is read, whatever its CFN is, and the blocks of its channels go up in rising order of channels (TS 25.427 6.2)
 pub record IsReadFrame (planned : Planned) (old : State) (set : ℕ) (octets : List ℕ) (new : State) (output : Output) : Type 0 where
@@ -76,9 +76,15 @@ pub record IsOffer (planned : Planned) (old : State) (b : ℕ) (octets : List �
   pub state : new ≡ with_layer old (offers planned.config Down b octets bits old.layer).layer
   pub reported : output ≡ says (offers planned.config Down b octets bits old.layer).lines
 
+-- another configuration becomes active, without a word
+pub record IsChange (planned : Planned) (old new : State) (output : Output) : Type 0 where
+  pub state : new ≡ changed planned old
+  pub quiet : output ≡ no_output
+
 -- one step, in the configuration that is active
 abbrev pub Steps : State → Event → State → Output → Type 0
 Steps old (OfferedUnit b octets bits) new output = IsOffer old.planned old b octets bits new output
 Steps old (BlockedCombination c on) new output = (new ≡ with_layer old (blocks c on old.layer)) × (output ≡ says [])
 Steps old (IubFrame set octets) new output = IsArrival old.planned old set octets new output
 Steps old Tick new output = IsTick old.planned old new output
+Steps old (Change planned) new output = IsChange planned old new output

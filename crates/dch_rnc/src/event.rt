@@ -21,4 +21,6 @@ pub enum RncEvent<'a> {
     },
     /// 10 ms have passed.
     Tick,
+    /// The second configuration becomes active.
+    Change,
 }

@@ -5,6 +5,7 @@ mod downlink;
 mod event;
 mod laws;
 mod node;
+mod parts;
 mod sets;
 mod uplink;
 

@@ -1,38 +1,40 @@
-ghost use Rattle.std.specs.Prelude.{◌≡◌, ◌<◌, ◌≤◌, ◌+◌, ◌%◌, ℕ, List, [], length, IfOk, true};
+ghost use Rattle.std.specs.Prelude.{◌≡◌, ◌<◌, ◌≤◌, ◌+◌, ◌%◌, ℕ, List, [], None, length, IfOk, true};
 ghost use Rattle.dch_types.specs.declared.channel.Dir.TheVariants.{Up, Down};
 ghost use Rattle.dch_types.specs.Timing.{has_set};
+ghost use Rattle.dch_config.specs.Changes.{KeepsBearer};
 ghost use Rattle.dch_accept.specs.HeldSets.{held_at};
+ghost use Rattle.dch_accept.specs.Plans.{Planned};
 ghost use Rattle.dch_accept.specs.Reports.{step_bytes};
 ghost use Rattle.dch_node.specs.Lines.{Line};
 ghost use Rattle.dch_rnc.specs.Lending.{held_of};
-ghost use Rattle.dch_rnc.specs.Opened.{HasChannel, IsNodeOf};
-ghost use Rattle.dch_rnc.specs.Standing.{ExtendsHistory, IsAt, MayCome, NothingShown, Represents, RepresentsHistory, SendsDown, Stepped, event_of};
-ghost use Rattle.dch_rnc.specs.State.{BlockedCombination, Event, IubFrame, OfferedUnit, State, Tick};
+ghost use Rattle.dch_rnc.specs.Opened.{CanChange, HasChannel, HasNext, IsNodeOf};
+ghost use Rattle.dch_rnc.specs.Standing.{ExtendsHistory, IsActiveBefore, IsAt, IsReadyFor, KeepsNext, MayCome, NothingShown, Represents, RepresentsHistory, SendsDown, Stepped, event_of};
+ghost use Rattle.dch_rnc.specs.State.{BlockedCombination, Change, Event, IubFrame, OfferedUnit, State, Tick};
 ghost use Rattle.dch_rnc.specs.Values.{iub_shown, taken_shown};
 ghost use Rattle.dch_txframes.specs.Lending.{octets_of};
 ghost use Rattle.dch_txframes.specs.Rooms.{HasRoomFor};
 
 use crate::downlink::send_sets;
 use crate::event::RncEvent;
-use crate::sets::channel_sets;
-use crate::uplink::{receive, rx_sets};
-use dch_accept::{Accepted, SetBlocks, TtiBlocks};
+use crate::parts::{Next, Parts};
+use crate::uplink::receive;
+use dch_accept::{Accepted, TtiBlocks};
 use dch_bits::{Bit, NoMemory};
 use dch_layer2::Layer2;
 use dch_script::Report;
-use dch_txframes::{IubTxBuffer, clear_sent, put_answer, tx_buffers};
+use dch_txframes::{clear_sent, put_answer};
 use dch_types::Dir;
 use std::alloc::Global;
 use std::marker::Model;
+use std::mem;
 
 /// A network controller with one terminal. All its memory is taken at opening.
 pub struct Rnc {
     cfn: u8,
     layer: Layer2,
-    channel_sets: Vec<u8>,
-    rx_sets: Vec<SetBlocks>,
     read: Option<u8>,
-    tx_buffers: Vec<IubTxBuffer>,
+    parts: Parts,
+    next: Option<Next>,
 }
 
 // By hand, so that whoever holds one drops it by one call.
@@ -41,23 +43,23 @@ impl Drop for Rnc {
         let Rnc {
             cfn: _cfn,
             layer: _layer,
-            channel_sets: _channel_sets,
-            rx_sets: _rx_sets,
             read: _read,
-            tx_buffers: _tx_buffers,
+            parts: _parts,
+            next: _next,
         } = self;
     }
 }
 
 impl Model for Rnc {
-    ghost use Rattle.std.specs.Prelude.{◌≡◌, length};
-    ghost use Rattle.dch_rnc.specs.Values.{Node};
+    ghost use Rattle.std.specs.Prelude.{◌≡◌, length, option_map};
+    ghost use Rattle.dch_rnc.specs.Holding.{next_of, parts_of};
+    ghost use Rattle.dch_rnc.specs.Values.{Node, node_of};
 
     ghost Value = { Node };
 
-    ghost view = { λ n. record { cfn = n.cfn; layer = n.layer; channel_sets = n.channel_sets.items; rx_sets = n.rx_sets.items; read = n.read; tx_buffers = n.tx_buffers.items } };
+    ghost view = { λ n. node_of n.cfn n.layer n.read (parts_of n.parts) (option_map next_of n.next) };
 
-    ghost invariant = { λ n. length n.tx_buffers.items ≡ 8 };
+    ghost invariant = { λ n. length n.parts.tx_buffers.items ≡ 8 };
 }
 
 impl Rnc {
@@ -66,27 +68,52 @@ impl Rnc {
     pub fn open(alloc: Global, accepted: &Accepted, first_cfn: u8) -> Result<Rnc, NoMemory>
         requires { first_cfn % 8 ≡ 0 }
         ensures opened { IfOk result (IsNodeOf accepted.now) }
-        ensures stands { IfOk result (RepresentsHistory accepted.now first_cfn [] []) }
+        ensures stands { IfOk result (RepresentsHistory accepted.now accepted.now first_cfn [] []) }
+        ensures alone { IfOk result (λ node. node.next ≡ None) }
     {
         Ok(Rnc {
             cfn: first_cfn,
             layer: Layer2::open(alloc, accepted, Dir::Down, Dir::Up)?,
-            channel_sets: channel_sets(alloc, accepted.side(Dir::Up))?,
-            rx_sets: rx_sets(alloc, accepted)?,
             read: None,
-            tx_buffers: tx_buffers(alloc, accepted, Dir::Down)?,
+            parts: Parts::open(alloc, accepted)?,
+            next: None,
         })
     }
 
-    /// Takes one event, and reports what it does. The report has room for what one step may write.
+    /// Opens a network controller for a first configuration, and takes all memory for a second one besides, which can follow it.
+    pub fn open_both(
+        alloc: Global,
+        first: &Accepted,
+        second: &Accepted,
+        first_cfn: u8,
+    ) -> Result<Rnc, NoMemory>
+        requires eighth { first_cfn % 8 ≡ 0 }
+        requires kept { (b : ℕ) → KeepsBearer first.now.config second.now.config b }
+        ensures opened { IfOk result (IsNodeOf first.now) }
+        ensures stands { IfOk result (RepresentsHistory first.now first.now first_cfn [] []) }
+        ensures next { IfOk result (HasNext first.now second.now) }
+    {
+        Ok(Rnc {
+            cfn: first_cfn,
+            layer: Layer2::open(alloc, first, Dir::Down, Dir::Up)?,
+            read: None,
+            parts: Parts::open(alloc, first)?,
+            next: Some(Next::open(alloc, second)?),
+        })
+    }
+
+    /// Takes one event, and reports what it does, in the configuration that is active; for a change that is the second one. The
+    /// report has room for what one step may write.
     pub fn step(&mut self, accepted: &Accepted, event: RncEvent<'_>, report: &mut Report)
-        requires opened { IsNodeOf accepted.now self.old }
+        requires opened { IsReadyFor accepted.now event self.old }
         requires event { MayCome accepted.now event }
         requires room { HasRoomFor report.old (step_bytes accepted.now.config) }
         ensures opened { IsNodeOf accepted.now self.new }
-        ensures step { (state : State) → Represents accepted.now state self.old → Stepped accepted.now state (event_of event.entry) self.new report.old.text report.new.text }
-        ensures history { (first : ℕ) (events : List Event) (lines : List Line) → RepresentsHistory accepted.now first events lines self.old →
-            ExtendsHistory accepted.now first events lines (event_of event.entry) self.new report.old.text report.new.text }
+        ensures step { (before : Planned) (state : State) → IsActiveBefore accepted.now event.entry before self.old → Represents before state self.old →
+            Stepped accepted.now state (event_of accepted.now event.entry) self.new report.old.text report.new.text }
+        ensures history { (began before : Planned) (first : ℕ) (events : List Event) (lines : List Line) → IsActiveBefore accepted.now event.entry before self.old →
+            RepresentsHistory began before first events lines self.old → ExtendsHistory began accepted.now first events lines (event_of accepted.now event.entry) self.new report.old.text report.new.text }
+        ensures next { KeepsNext accepted.now event.entry self.old self.new }
         ensures few { length report.new.text ≤ length report.old.text + step_bytes accepted.now.config }
         ensures most { report.new.most ≡ report.old.most }
     {
@@ -101,7 +128,7 @@ impl Rnc {
         requires { set < 8 }
         ensures { octets_of result ≡ iub_shown self.now set }
     {
-        self.tx_buffers[set as usize].octets()
+        self.parts.tx_buffers[set as usize].octets()
     }
 
     /// The blocks that a downlink channel was given for its running TTI, with their format.
@@ -118,8 +145,8 @@ impl Rnc {
         ensures { held_of result ≡ taken_shown self.now channel }
     {
         let set = self.read?;
-        if self.channel_sets[channel as usize] == set {
-            Some(self.rx_sets[set as usize].channel(channel))
+        if self.parts.channel_sets[channel as usize] == set {
+            Some(self.parts.rx_sets[set as usize].channel(channel))
         } else {
             None
         }
@@ -127,15 +154,17 @@ impl Rnc {
 
     /// Hides what the last step sent and read, and takes one event.
     fn happen(&mut self, accepted: &Accepted, event: RncEvent<'_>, report: &mut Report)
-        requires opened { IsNodeOf accepted.now self.old }
+        requires opened { IsReadyFor accepted.now event self.old }
         requires event { MayCome accepted.now event }
         requires room { HasRoomFor report.old (step_bytes accepted.now.config) }
         ensures opened { IsNodeOf accepted.now self.new }
-        ensures step { (state : State) → Represents accepted.now state self.old → Stepped accepted.now state (event_of event.entry) self.new report.old.text report.new.text }
+        ensures step { (before : Planned) (state : State) → IsActiveBefore accepted.now event.entry before self.old → Represents before state self.old →
+            Stepped accepted.now state (event_of accepted.now event.entry) self.new report.old.text report.new.text }
+        ensures next { KeepsNext accepted.now event.entry self.old self.new }
         ensures few { length report.new.text ≤ length report.old.text + step_bytes accepted.now.config }
         ensures most { report.new.most ≡ report.old.most }
     {
-        self.clear_shown(accepted);
+        self.clear_shown();
         match event {
             RncEvent::Unit {
                 bearer,
@@ -145,18 +174,34 @@ impl Rnc {
             RncEvent::Block { combination, on } => self.block(accepted, combination, on),
             RncEvent::Iub { set, frame } => self.receive_iub(accepted, set, frame, report),
             RncEvent::Tick => self.tick(accepted, report),
+            RncEvent::Change => self.change(accepted),
         }
     }
 
     /// Nothing is shown as sent or read.
-    fn clear_shown(&mut self, accepted: &Accepted)
-        requires { IsNodeOf accepted.now self.old }
-        ensures opened { IsNodeOf accepted.now self.new }
+    fn clear_shown(&mut self)
+        ensures opened { (planned : Planned) → IsNodeOf planned self.old → IsNodeOf planned self.new }
         ensures quiet { NothingShown self.new }
-        ensures stands { (state : State) → Represents accepted.now state self.old → IsAt accepted.now state self.new }
+        ensures stands { (planned : Planned) (state : State) → Represents planned state self.old → IsAt planned state self.new }
+        ensures next { self.new.next ≡ self.old.next }
     {
         self.read = None;
-        clear_sent(&mut self.tx_buffers);
+        clear_sent(&mut self.parts.tx_buffers);
+    }
+
+    /// The second configuration becomes active, with what is held for it; what only the first one needs is given back.
+    fn change(&mut self, accepted: &Accepted)
+        requires opened { CanChange accepted.now self.old }
+        requires quiet { NothingShown self.old }
+        ensures opened { IsNodeOf accepted.now self.new }
+        ensures step { (before : Planned) (state : State) (text : List ℕ) → HasNext before accepted.now self.old → IsAt before state self.old →
+            Stepped accepted.now state (Change accepted.now) self.new text text }
+        ensures next { self.new.next ≡ None }
+    {
+        if let Some(mut next) = self.next.take() {
+            self.layer.change(accepted, &mut next.layer);
+            mem::swap(&mut self.parts, &mut next.parts);
+        }
     }
 
     /// A unit is offered to a bearer.
@@ -174,6 +219,7 @@ impl Rnc {
         requires room { HasRoomFor report.old (step_bytes accepted.now.config) }
         ensures opened { IsNodeOf accepted.now self.new }
         ensures step { (state : State) → IsAt accepted.now state self.old → Stepped accepted.now state (OfferedUnit bearer octets.now bits.now) self.new report.old.text report.new.text }
+        ensures next { self.new.next ≡ self.old.next }
         ensures few { length report.new.text ≤ length report.old.text + step_bytes accepted.now.config }
         ensures most { report.new.most ≡ report.old.most }
     {
@@ -188,6 +234,7 @@ impl Rnc {
         requires combination { combination < length accepted.now.config.downlink.side.combinations }
         ensures opened { IsNodeOf accepted.now self.new }
         ensures step { (state : State) (text : List ℕ) → IsAt accepted.now state self.old → Stepped accepted.now state (BlockedCombination combination on) self.new text text }
+        ensures next { self.new.next ≡ self.old.next }
     {
         self.layer.block(combination, on);
     }
@@ -200,6 +247,7 @@ impl Rnc {
         requires room { HasRoomFor report.old (step_bytes accepted.now.config) }
         ensures opened { IsNodeOf accepted.now self.new }
         ensures step { (state : State) → IsAt accepted.now state self.old → Stepped accepted.now state (IubFrame set frame.now) self.new report.old.text report.new.text }
+        ensures next { self.new.next ≡ self.old.next }
         ensures few { length report.new.text ≤ length report.old.text + step_bytes accepted.now.config }
         ensures most { report.new.most ≡ report.old.most }
     {
@@ -209,7 +257,7 @@ impl Rnc {
             accepted,
             set,
             frame,
-            &mut self.rx_sets,
+            &mut self.parts.rx_sets,
             &mut self.layer,
             report,
         ) {
@@ -224,6 +272,7 @@ impl Rnc {
         requires room { HasRoomFor report.old (step_bytes accepted.now.config) }
         ensures opened { IsNodeOf accepted.now self.new }
         ensures step { (state : State) → IsAt accepted.now state self.old → Stepped accepted.now state Tick self.new report.old.text report.new.text }
+        ensures next { self.new.next ≡ self.old.next }
         ensures few { length report.new.text ≤ length report.old.text + step_bytes accepted.now.config }
         ensures most { report.new.most ≡ report.old.most }
     {
@@ -233,7 +282,7 @@ impl Rnc {
             accepted,
             self.cfn,
             &self.layer,
-            &mut self.tx_buffers,
+            &mut self.parts.tx_buffers,
             report,
         );
         self.cfn = self.cfn.wrapping_add(1);

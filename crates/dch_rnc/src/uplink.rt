@@ -4,8 +4,8 @@ ghost use Rattle.dch_types.specs.Timing.{has_set};
 ghost use Rattle.dch_accept.specs.HeldSets.{IsSetOf};
 ghost use Rattle.dch_accept.specs.Reports.{step_bytes};
 ghost use Rattle.dch_layer2.specs.Bounded.{HasLayer};
-ghost use Rattle.dch_rnc.specs.Moves.{AreNewRxSets, Receives, TakesSet};
-ghost use Rattle.dch_rnc.specs.Opened.{AreRxSetsOf};
+ghost use Rattle.dch_rnc.specs.Moves.{Receives, TakesSet};
+ghost use Rattle.dch_rnc.specs.Opened.{AreNewRxSets, AreRxSetsOf};
 ghost use Rattle.dch_txframes.specs.Rooms.{HasRoomFor};
 
 use crate::sets::place_of;

@@ -12,3 +12,4 @@ pub mod Moving
 pub mod Ticking
 pub mod OneFrame
 pub mod Opening
+pub mod Changing

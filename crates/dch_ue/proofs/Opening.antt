@@ -1,5 +1,5 @@
 -- A terminal that was just opened.
-use Rattle.std.proofs.Common.{◌≡◌, ◌<◌, ◌∙◌, ℕ, [], length, arith, refl, sym, inl, inr, true, false, eq-eqb}
+use Rattle.std.proofs.Common.{◌≡◌, ◌<◌, ◌∙◌, ℕ, [], List, Option, None, length, arith, refl, sym, inl, inr, true, false, eq-eqb}
 use Rattle.std.specs.Prelude.{◌%◌}
 use Rattle.dch_types.specs.declared.channel.Dir.TheVariants.{Up, Down}
 use Rattle.dch_types.specs.declared.channel.Side.{Side}
@@ -9,21 +9,21 @@ use Rattle.dch_types.specs.Timing.{starts}
 use Rattle.dch_accept.specs.Frames.{most_cells}
 use Rattle.dch_accept.specs.Plans.{Planned}
 use Rattle.dch_rxframes.specs.RxFrames.{AreMissing}
+use Rattle.dch_node.specs.Lines.{Line}
 use Rattle.dch_node.specs.Values.{no_output}
 use Rattle.dch_layer.specs.Layers.{opened_layer}
 use Rattle.dch_bound.proofs.Layers.{opened_are}
 use Rattle.dch_layer2.specs.Standing.{IsOpened}
 use Rattle.dch_layer2.specs.Values.{LayerRunning}
-use Rattle.dch_ue.specs.Moves.{AreNewTtis}
-use Rattle.dch_ue.specs.Opened.{IsNodeOf, IsReceiverOf, IsTransmitterOf}
+use Rattle.dch_ue.specs.Opened.{AreNewTtis, IsNodeOf, IsReceiverOf, IsTransmitterOf}
 use Rattle.dch_ue.specs.Standing.{RepresentsHistory}
-use Rattle.dch_ue.specs.State.{opened_state}
-use Rattle.dch_ue.specs.Values.{DownlinkReceiver, Node, UplinkTransmitter}
+use Rattle.dch_ue.specs.State.{Event, opened_state}
+use Rattle.dch_ue.specs.Values.{DownlinkReceiver, NextParts, Node, UplinkTransmitter}
 use Rattle.dch_ue.proofs.Moving.{none_shown, none_taken}
 
--- its parts
+-- its parts, where no second configuration is to follow
 abbrev pub opened_node : ℕ → LayerRunning → DownlinkReceiver → UplinkTransmitter → Node
-opened_node first layer receiver transmitter = record { cfn = first; layer = layer; receiver = receiver; transmitter = transmitter }
+opened_node first layer receiver transmitter = record { cfn = first; layer = layer; receiver = receiver; transmitter = transmitter; next = None }
 
 -- every TTI starts where the CFN is a multiple of 8
 starts-eighth : (frames cfn : ℕ) → IsFrames frames → cfn % 8 ≡ 0 → starts frames cfn ≡ true
@@ -39,7 +39,7 @@ starts-eighth frames cfn is eighth = elim is [
 ]
 
 -- so the TTI of no channel goes on
-none_goes_on : (side : Side) (first i : ℕ) → IsSide side → first % 8 ≡ 0 → i < length side.channels → starts (channel_at side i).frames first ≡ false → ⊥
+pub none_goes_on : (side : Side) (first i : ℕ) → IsSide side → first % 8 ≡ 0 → i < length side.channels → starts (channel_at side i).frames first ≡ false → ⊥
 none_goes_on side first i good eighth inside off =
     let on : starts (channel_at side i).frames first ≡ true = starts-eighth (channel_at side i).frames first (good.channels i inside).frames eighth in
     cc (sym on ∙ off)
@@ -58,7 +58,7 @@ opened_is planned first layer receiver transmitter good eighth opened receives m
 
 pub opened_stands : (planned : Planned) (first : ℕ) (layer : LayerRunning) (receiver : DownlinkReceiver) (transmitter : UplinkTransmitter) → IsSide planned.config.uplink.side → first % 8 ≡ 0 → IsOpened planned.config Up Down layer
     → AreMissing (most_cells planned.config Down) 8 receiver.rx_frames.frames → receiver.pushed ≡ false → AreNewTtis planned (length planned.config.downlink.side.channels) receiver.ttis → transmitter.radio.sent ≡ false
-    → RepresentsHistory planned first [] [] (opened_node first layer receiver transmitter)
+    → RepresentsHistory planned planned first [] [] (opened_node first layer receiver transmitter)
 opened_stands planned first layer receiver transmitter good eighth opened none missing new quiet = record {
   state = opened_state planned first;
   last = no_output;
@@ -79,4 +79,38 @@ opened_stands planned first layer receiver transmitter good eighth opened none m
     readings = λ i inside. none_taken receiver.ttis i (new.each i inside);
   };
   shows = record { radio = none_shown (opened_node first layer receiver transmitter) quiet };
+}
+
+-- with parts for a second configuration it stands for the same
+abbrev pub with_next : Node → Option NextParts → Node
+with_next node next = record node { next = next }
+
+pub next_is : (planned : Planned) (node : Node) (next : Option NextParts) → IsNodeOf planned node → IsNodeOf planned (with_next node next)
+next_is planned node next opened = record {
+  sends = opened.sends;
+  receives = opened.receives;
+  layer = opened.layer;
+  receiver = opened.receiver;
+  transmitter = opened.transmitter;
+  noted = opened.noted;
+  last = opened.last;
+}
+
+pub next_stands : (began planned : Planned) (first : ℕ) (events : List Event) (lines : List Line) (node : Node) (next : Option NextParts) → RepresentsHistory began planned first events lines node
+    → RepresentsHistory began planned first events lines (with_next node next)
+next_stands began planned first events lines node next history = record {
+  state = history.state;
+  last = history.last;
+  after = history.after;
+  stands = record {
+    at = record {
+      active = history.stands.at.active;
+      cfn = history.stands.at.cfn;
+      frames = history.stands.at.frames;
+      layer = history.stands.at.layer;
+      loaded = history.stands.at.loaded;
+    };
+    readings = history.stands.readings;
+  };
+  shows = record { radio = history.shows.radio };
 }

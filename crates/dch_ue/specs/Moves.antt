@@ -4,7 +4,6 @@ use Rattle.dch_types.specs.declared.channel.Dir.TheVariants.{Up, Down}
 use Rattle.dch_types.specs.declared.config.Config.{Config}
 use Rattle.dch_types.specs.Parts.{channel_at}
 use Rattle.dch_types.specs.Timing.{starts}
-use Rattle.dch_accept.specs.Blocks.{HoldsTtis}
 use Rattle.dch_accept.specs.HeldSets.{held_at}
 use Rattle.dch_accept.specs.Plans.{Planned}
 use Rattle.dch_script.specs.Held.{Held as Text}
@@ -26,12 +25,6 @@ use Rattle.dch_txframes.specs.Rooms.{HasRoomFor}
 use Rattle.dch_ue.specs.Opened.{AreTtisOf, IsReceiverOf, IsTransmitterOf}
 use Rattle.dch_ue.specs.Steps.{IsReading}
 use Rattle.dch_ue.specs.Values.{DownlinkReceiver, RxTti, UplinkTransmitter, reading_of, readings_of, tti_at}
-
--- memory for the TTIs of the first channels, of which nothing was read
-pub record AreNewTtis (planned : Planned) (count : ℕ) (ttis : List RxTti) : Type 0 where
-  pub all : length ttis ≡ count
-  pub each : (i : ℕ) → i < count → (tti_at ttis i).outcome ≡ None
-  pub room : (i : ℕ) → i < count → HoldsTtis planned.config.downlink.side (tti_at ttis i).held.room
 
 -- a radio frame is kept for a CFN, or that it is missing
 pub record Hears (planned : Planned) (cfn : ℕ) (radio : Option Radio) (old new : RxFrames) : Type 0 where

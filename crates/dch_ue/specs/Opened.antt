@@ -1,24 +1,33 @@
 -- The parts of a terminal that was opened for a configuration.
-use Rattle.std.specs.Prelude.{◌≡◌, ◌<◌, ℕ, List, Some, true, false, length}
+use Rattle.std.specs.Prelude.{◌≡◌, ◌<◌, ◌%◌, ℕ, List, Option, Some, None, true, false, length}
 use Rattle.dch_types.specs.declared.channel.Dir.{Dir}
 use Rattle.dch_types.specs.declared.channel.Dir.TheVariants.{Up, Down}
 use Rattle.dch_types.specs.Parts.{channel_at, format_number, side_of}
 use Rattle.dch_types.specs.Timing.{starts}
+use Rattle.dch_config.specs.Changes.{KeepsBearer}
 use Rattle.dch_accept.specs.Blocks.{HoldsTtis}
+use Rattle.dch_accept.specs.Frames.{most_cells}
 use Rattle.dch_accept.specs.HeldSets.{held_at}
 use Rattle.dch_accept.specs.Plans.{Planned}
 use Rattle.dch_ttibuf.specs.Loaded.{Loaded, loaded_at}
-use Rattle.dch_rxframes.specs.RxFrames.{IsReaderOf}
+use Rattle.dch_rxframes.specs.RxFrames.{AreMissing, IsReaderOf}
 use Rattle.dch_ulphy.specs.Loaded.{IsTtiOf}
 use Rattle.dch_layer2.specs.Bounded.{HasLayer}
+use Rattle.dch_layer2.specs.Changing.{IsNextLayer}
 use Rattle.dch_layer2.specs.Values.{LayerRunning}
 use Rattle.dch_txframes.specs.Opened.{IsRadioTxOf}
-use Rattle.dch_ue.specs.Values.{DownlinkReceiver, Node, RxTti, UplinkTransmitter, tti_at}
+use Rattle.dch_ue.specs.Values.{DownlinkReceiver, NextParts, Node, RxTti, UplinkTransmitter, tti_at}
 
 -- room for the TTIs of each channel
 pub record AreTtisOf (planned : Planned) (ttis : List RxTti) : Type 0 where
   pub all : length ttis ≡ length planned.config.downlink.side.channels
   pub each : (i : ℕ) → i < length planned.config.downlink.side.channels → HoldsTtis planned.config.downlink.side (tti_at ttis i).held.room
+
+-- memory for the TTIs of the first channels, of which nothing was read
+pub record AreNewTtis (planned : Planned) (count : ℕ) (ttis : List RxTti) : Type 0 where
+  pub all : length ttis ≡ count
+  pub each : (i : ℕ) → i < count → (tti_at ttis i).outcome ≡ None
+  pub room : (i : ℕ) → i < count → HoldsTtis planned.config.downlink.side (tti_at ttis i).held.room
 
 -- what receives radio frames fits the downlink
 pub record IsReceiverOf (planned : Planned) (receiver : DownlinkReceiver) : Type 0 where
@@ -58,3 +67,29 @@ pub record HasChannel (dir : Dir) (node : Node) (channel : ℕ) : Type 0 where
   pub planned : Planned
   pub opened : IsNodeOf planned node
   pub there : channel < length (side_of planned.config dir).channels
+
+-- parts that were opened for a configuration, in which nothing came and nothing was sent
+pub record IsNextOf (planned : Planned) (next : NextParts) : Type 0 where
+  pub layer : IsNextLayer planned.config Up next.layer
+  pub receiver : IsReceiverOf planned next.receiver
+  pub missing : AreMissing (most_cells planned.config Down) 8 next.receiver.rx_frames.frames
+  pub none : next.receiver.pushed ≡ false
+  pub ttis : AreNewTtis planned (length planned.config.downlink.side.channels) next.receiver.ttis
+  pub transmitter : IsTransmitterOf planned next.transmitter
+  pub quiet : next.transmitter.radio.sent ≡ false
+
+abbrev pub Holds : Planned → Option NextParts → Type 0
+Holds planned None = ⊥
+Holds planned (Some next) = IsNextOf planned next
+
+-- a second configuration can follow: each bearer of the first one is kept, and the terminal holds its parts for the second one
+pub record HasNext (first second : Planned) (node : Node) : Type 0 where
+  pub kept : (b : ℕ) → KeepsBearer first.config second.config b
+  pub parts : Holds second node.next
+
+-- it was opened for a first configuration, and a second one can become active now, when the TTIs of all channels have ended
+pub record CanChange (planned : Planned) (node : Node) : Type 0 where
+  pub first : Planned
+  pub opened : IsNodeOf first node
+  pub next : HasNext first planned node
+  pub whole : node.cfn % 8 ≡ 0

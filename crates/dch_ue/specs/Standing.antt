@@ -18,17 +18,19 @@ use Rattle.dch_node.specs.Standing.{HasHistory, HasLongerHistory, TakesStep}
 use Rattle.dch_node.specs.Values.{Output}
 use Rattle.dch_txframes.specs.Lending.{radio_of}
 use Rattle.dch_ue.specs.declared.event.UeEvent.{UeEvent}
-use Rattle.dch_ue.specs.declared.event.UeEvent.TheVariants.{Unit as Offered, Block, Phy, Tick as Ticks}
-use Rattle.dch_ue.specs.State.{Event, OfferedUnit, BlockedCombination, DownlinkFrame, Tick, State, opened_state}
+use Rattle.dch_ue.specs.declared.event.UeEvent.TheVariants.{Unit as Offered, Block, Phy, Tick as Ticks, Change as Changes}
+use Rattle.dch_ue.specs.Opened.{CanChange, HasNext, IsNodeOf}
+use Rattle.dch_ue.specs.State.{Event, OfferedUnit, BlockedCombination, DownlinkFrame, Tick, Change, State, opened_state}
 use Rattle.dch_ue.specs.Steps.{Steps}
 use Rattle.dch_ue.specs.Values.{DownlinkReceiver, Node, blocks_read, radio_shown, taken_shown, tti_at}
 
--- what happens, as plain lists
-abbrev pub event_of : UeEvent → Event
-event_of (Offered b octets bits) = OfferedUnit b octets.now bits.now
-event_of (Block c on) = BlockedCombination c on
-event_of (Phy frame) = DownlinkFrame (radio_of frame)
-event_of Ticks = Tick
+-- what happens, as plain lists, in a configuration that is active, or becomes active in a change
+abbrev pub event_of : Planned → UeEvent → Event
+event_of planned (Offered b octets bits) = OfferedUnit b octets.now bits.now
+event_of planned (Block c on) = BlockedCombination c on
+event_of planned (Phy frame) = DownlinkFrame (radio_of frame)
+event_of planned Ticks = Tick
+event_of planned Changes = Change planned
 
 -- bearer b is there, and has an uplink channel
 pub record SendsUp (config : Config) (b : ℕ) : Type 0 where
@@ -42,6 +44,31 @@ MayCome planned (Offered b octets bits) = SendsUp planned.config b
 MayCome planned (Block c on) = c < length planned.config.uplink.side.combinations
 MayCome planned (Phy frame) = HasTfci planned Down frame
 MayCome planned Ticks = Unit {0}
+MayCome planned Changes = Unit {0}
+
+-- a terminal can take an event: the configuration is active, or in a change it can become active
+abbrev pub IsReadyFor : Planned → UeEvent → Node → Type 0
+IsReadyFor planned (Offered b octets bits) node = IsNodeOf planned node
+IsReadyFor planned (Block c on) node = IsNodeOf planned node
+IsReadyFor planned (Phy frame) node = IsNodeOf planned node
+IsReadyFor planned Ticks node = IsNodeOf planned node
+IsReadyFor planned Changes node = CanChange planned node
+
+-- the configuration that is active before an event: this one itself, or in a change one that it can follow
+abbrev pub IsActiveBefore : Planned → UeEvent → Planned → Node → Type 0
+IsActiveBefore planned (Offered b octets bits) before node = before ≡ planned
+IsActiveBefore planned (Block c on) before node = before ≡ planned
+IsActiveBefore planned (Phy frame) before node = before ≡ planned
+IsActiveBefore planned Ticks before node = before ≡ planned
+IsActiveBefore planned Changes before node = HasNext before planned node
+
+-- what a terminal holds for a second configuration stays, until that becomes active
+abbrev pub KeepsNext : Planned → UeEvent → Node → Node → Type 0
+KeepsNext planned (Offered b octets bits) old new = (second : Planned) → HasNext planned second old → HasNext planned second new
+KeepsNext planned (Block c on) old new = (second : Planned) → HasNext planned second old → HasNext planned second new
+KeepsNext planned (Phy frame) old new = (second : Planned) → HasNext planned second old → HasNext planned second new
+KeepsNext planned Ticks old new = (second : Planned) → HasNext planned second old → HasNext planned second new
+KeepsNext planned Changes old new = new.next ≡ None
 
 -- the radio frames that came are kept: those of the CFNs before, and that of the CFN, if it came
 pub record HasFrames (planned : Planned) (state : State) (receiver : DownlinkReceiver) : Type 0 where
@@ -82,11 +109,12 @@ pub record NothingShown (node : Node) : Type 0 where
 abbrev pub Stepped : Planned → State → Event → Node → List ℕ → List ℕ → Type 0
 Stepped planned old event node before after = TakesStep Steps (Represents planned) Shows old event node before after
 
--- a terminal stands for what happened since opening, with the lines of all reports
-abbrev pub RepresentsHistory : Planned → ℕ → List Event → List Line → Node → Type 0
-RepresentsHistory planned first events lines node = HasHistory Steps (Represents planned) Shows (opened_state planned first) events lines node
+-- a terminal that was opened for a configuration, and in which one is active now, stands for what happened since opening, with the lines of
+-- all reports
+abbrev pub RepresentsHistory : Planned → Planned → ℕ → List Event → List Line → Node → Type 0
+RepresentsHistory began planned first events lines node = HasHistory Steps (Represents planned) Shows (opened_state began first) events lines node
 
 -- one more event, with the lines by whose text the report went on
-abbrev pub ExtendsHistory : Planned → ℕ → List Event → List Line → Event → Node → List ℕ → List ℕ → Type 0
-ExtendsHistory planned first events lines event node before after =
-    HasLongerHistory Steps (Represents planned) Shows (opened_state planned first) events lines event node before after
+abbrev pub ExtendsHistory : Planned → Planned → ℕ → List Event → List Line → Event → Node → List ℕ → List ℕ → Type 0
+ExtendsHistory began planned first events lines event node before after =
+    HasLongerHistory Steps (Represents planned) Shows (opened_state began first) events lines event node before after

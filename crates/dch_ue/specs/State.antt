@@ -5,7 +5,7 @@ use Rattle.dch_bits.specs.declared.bit.Bit.{Bit}
 use Rattle.dch_types.specs.declared.channel.Dir.TheVariants.{Up}
 use Rattle.dch_accept.specs.Plans.{Planned}
 use Rattle.dch_node.specs.Values.{Radio}
-use Rattle.dch_layer.specs.Layers.{Layer, opened_layer}
+use Rattle.dch_layer.specs.Layers.{Layer, changed_layer, opened_layer}
 use Rattle.dch_layer2.specs.Reading.{Nothing, Reading}
 
 -- the configuration that is active, the CFN of the radio frame that is on, the downlink radio frame that came for it, those of the last
@@ -19,12 +19,13 @@ pub record State : Type 0 where
   pub readings : ℕ → Reading
 
 -- what happens at a terminal: a unit is offered to a bearer, a combination is blocked or free, the downlink radio frame of the CFN comes,
--- which may be missing, or 10 ms have passed
+-- which may be missing, 10 ms have passed, or another configuration becomes active
 pub data Event : Type 0 where
   OfferedUnit : (bearer : ℕ) → (octets : List ℕ) → (bits : List Bit) → Event
   BlockedCombination : (combination : ℕ) → (on : Bool) → Event
   DownlinkFrame : (frame : Option Radio) → Event
   Tick : Event
+  Change : (planned : Planned) → Event
 
 -- of no channel anything is read
 abbrev pub no_readings : ℕ → Reading
@@ -49,3 +50,8 @@ frames_now old k = if k == old.cfn % 8 then old.came else old.frames k
 -- the channels were read, layer 2 becomes another one, and the CFN goes on
 abbrev pub ticking : State → (ℕ → Reading) → Layer → State
 ticking old readings layer = record old { cfn = (old.cfn + 1) % 256; came = None; frames = frames_now old; layer = layer; readings = readings }
+
+-- another configuration becomes active: every channel runs its idle format in it, no combination is blocked, no radio frame came, and nothing
+-- is read. The bearers and the CFN stay
+abbrev pub changed : Planned → State → State
+changed planned old = record (opened_state planned old.cfn) { layer = changed_layer planned.config Up old.layer }

@@ -14,12 +14,12 @@ use Rattle.dch_ulphy.specs.Frames.{IsFrame}
 use Rattle.dch_ulphy.specs.Loaded.{IsLoaded}
 use Rattle.dch_node.specs.Lines.{Phy}
 use Rattle.dch_node.specs.RxFrames.{AreHeard}
-use Rattle.dch_node.specs.Values.{Output, Radio, says}
+use Rattle.dch_node.specs.Values.{Output, Radio, no_output, says}
 use Rattle.dch_layer.specs.Layers.{Layer, Outcome, blocks, offers, ticks}
 use Rattle.dch_layer.specs.Starting.{IsStart}
 use Rattle.dch_layer2.specs.Joined.{joined_bits}
 use Rattle.dch_layer2.specs.Reading.{Bad, Nothing, Read, Reading, reads_below}
-use Rattle.dch_ue.specs.State.{Event, OfferedUnit, BlockedCombination, DownlinkFrame, Tick, State, coming, frames_now, ticking, with_layer}
+use Rattle.dch_ue.specs.State.{Event, OfferedUnit, BlockedCombination, DownlinkFrame, Tick, Change, State, changed, coming, frames_now, ticking, with_layer}
 
 -- what is read of channel i: nothing where its TTI goes on; where it ends, its blocks, or that one of its radio frames is bad
 abbrev pub IsReading : Planned → RxFrames → ℕ → Reading → Type 0
@@ -65,9 +65,15 @@ pub record IsOffer (planned : Planned) (old : State) (b : ℕ) (octets : List �
   pub state : new ≡ with_layer old (offers planned.config Up b octets bits old.layer).layer
   pub reported : output ≡ says (offers planned.config Up b octets bits old.layer).lines
 
--- one step, in the configuration that is active
+-- another configuration becomes active, of which nothing is told
+pub record IsChange (planned : Planned) (old new : State) (output : Output) : Type 0 where
+  pub state : new ≡ changed planned old
+  pub quiet : output ≡ no_output
+
+-- one step, in the configuration that is active, or a change to another one
 abbrev pub Steps : State → Event → State → Output → Type 0
 Steps old (OfferedUnit b octets bits) new output = IsOffer old.planned old b octets bits new output
 Steps old (BlockedCombination c on) new output = (new ≡ with_layer old (blocks c on old.layer)) × (output ≡ says [])
 Steps old (DownlinkFrame frame) new output = (new ≡ coming old frame) × (output ≡ says [])
 Steps old Tick new output = IsTick old.planned old new output
+Steps old (Change planned) new output = IsChange planned old new output

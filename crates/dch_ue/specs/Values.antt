@@ -6,7 +6,7 @@ use Rattle.dch_rxframes.specs.declared.outcome.TtiOutcome.{TtiOutcome}
 use Rattle.dch_rxframes.specs.declared.outcome.TtiOutcome.TheVariants.{Blocks, BadFrame}
 use Rattle.dch_rxframes.specs.RxFrames.{RxFrames}
 use Rattle.dch_layer2.specs.Reading.{Bad, Nothing, Read, Reading}
-use Rattle.dch_layer2.specs.Values.{LayerRunning}
+use Rattle.dch_layer2.specs.Values.{LayerRunning, NextLayer}
 use Rattle.dch_node.specs.Values.{Radio}
 use Rattle.dch_txframes.specs.declared.radio_tx_buffer.RadioTxBuffer.{RadioTxBuffer}
 use Rattle.dch_txframes.specs.Values.{radio_sent}
@@ -31,12 +31,19 @@ pub record UplinkTransmitter : Type 0 where
   pub running : List Loaded
   pub radio : RadioTxBuffer
 
--- the parts of a terminal
+-- the parts for a configuration that is to follow
+pub record NextParts : Type 0 where
+  pub layer : NextLayer
+  pub receiver : DownlinkReceiver
+  pub transmitter : UplinkTransmitter
+
+-- the parts of a terminal, and those for a second configuration, where one is to follow
 pub record Node : Type 0 where
   pub cfn : ℕ
   pub layer : LayerRunning
   pub receiver : DownlinkReceiver
   pub transmitter : UplinkTransmitter
+  pub next : Option NextParts
 
 -- what the last step read of a channel
 abbrev pub reading_if : Option TtiOutcome → Held → Reading

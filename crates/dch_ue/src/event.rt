@@ -21,4 +21,6 @@ pub enum UeEvent<'a> {
     },
     /// 10 ms have passed.
     Tick,
+    /// The second configuration becomes active, with the radio frames of the current CFN (TS 25.331 8.2.2).
+    Change,
 }

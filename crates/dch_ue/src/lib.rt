@@ -3,6 +3,7 @@
 
 mod event;
 mod laws;
+mod next;
 mod node;
 mod receiver;
 mod transmitter;

@@ -1,18 +1,21 @@
-ghost use Rattle.std.specs.Prelude.{◌≡◌, ◌<◌, ◌≤◌, ◌+◌, ◌%◌, ℕ, List, [], length, IfOk};
+ghost use Rattle.std.specs.Prelude.{◌≡◌, ◌<◌, ◌≤◌, ◌+◌, ◌%◌, ℕ, List, None, [], length, IfOk};
 ghost use Rattle.dch_types.specs.declared.channel.Dir.TheVariants.{Up, Down};
+ghost use Rattle.dch_config.specs.Changes.{KeepsBearer};
 ghost use Rattle.dch_accept.specs.HeldSets.{held_at};
+ghost use Rattle.dch_accept.specs.Plans.{Planned};
 ghost use Rattle.dch_accept.specs.Reports.{step_bytes};
 ghost use Rattle.dch_rxframes.specs.RxFrames.{HasTfci};
 ghost use Rattle.dch_node.specs.Lines.{Line};
 ghost use Rattle.dch_txframes.specs.Lending.{radio_of};
 ghost use Rattle.dch_txframes.specs.Rooms.{HasRoomFor};
 ghost use Rattle.dch_ue.specs.Lending.{held_of};
-ghost use Rattle.dch_ue.specs.Opened.{HasChannel, IsNodeOf};
-ghost use Rattle.dch_ue.specs.Standing.{ExtendsHistory, IsAt, MayCome, NothingShown, Represents, RepresentsHistory, SendsUp, Stepped, event_of};
-ghost use Rattle.dch_ue.specs.State.{BlockedCombination, DownlinkFrame, Event, OfferedUnit, State, Tick};
+ghost use Rattle.dch_ue.specs.Opened.{CanChange, HasChannel, HasNext, IsNodeOf};
+ghost use Rattle.dch_ue.specs.Standing.{ExtendsHistory, IsActiveBefore, IsAt, IsReadyFor, KeepsNext, MayCome, NothingShown, Represents, RepresentsHistory, SendsUp, Stepped, event_of};
+ghost use Rattle.dch_ue.specs.State.{BlockedCombination, Change, DownlinkFrame, Event, OfferedUnit, State, Tick};
 ghost use Rattle.dch_ue.specs.Values.{radio_shown, taken_shown};
 
 use crate::event::UeEvent;
+use crate::next::NextParts;
 use crate::receiver::DownlinkReceiver;
 use crate::transmitter::UplinkTransmitter;
 use dch_accept::{Accepted, FrameView, TtiBlocks};
@@ -23,6 +26,7 @@ use dch_txframes::put_answer;
 use dch_types::Dir;
 use std::alloc::Global;
 use std::marker::Model;
+use std::mem;
 
 /// A terminal. All its memory is taken at opening.
 pub struct Ue {
@@ -30,6 +34,7 @@ pub struct Ue {
     layer: Layer2,
     receiver: DownlinkReceiver,
     transmitter: UplinkTransmitter,
+    next: Option<NextParts>,
 }
 
 // By hand, so that whoever holds one drops it by one call.
@@ -40,6 +45,7 @@ impl Drop for Ue {
             layer: _layer,
             receiver: _receiver,
             transmitter: _transmitter,
+            next: _next,
         } = self;
     }
 }
@@ -49,7 +55,7 @@ impl Model for Ue {
 
     ghost Value = { Node };
 
-    ghost view = { λ n. record { cfn = n.cfn; layer = n.layer; receiver = n.receiver; transmitter = n.transmitter } };
+    ghost view = { λ n. record { cfn = n.cfn; layer = n.layer; receiver = n.receiver; transmitter = n.transmitter; next = n.next } };
 }
 
 impl Ue {
@@ -58,7 +64,8 @@ impl Ue {
     pub fn open(alloc: Global, accepted: &Accepted, first_cfn: u8) -> Result<Ue, NoMemory>
         requires { first_cfn % 8 ≡ 0 }
         ensures opened { IfOk result (IsNodeOf accepted.now) }
-        ensures stands { IfOk result (RepresentsHistory accepted.now first_cfn [] []) }
+        ensures stands { IfOk result (RepresentsHistory accepted.now accepted.now first_cfn [] []) }
+        ensures alone { IfOk result (λ node. node.next ≡ None) }
     {
         // The TTIs of a good configuration have 1, 2, 4 or 8 radio frames.
         let _side = accepted.side(Dir::Up);
@@ -67,18 +74,40 @@ impl Ue {
             layer: Layer2::open(alloc, accepted, Dir::Up, Dir::Down)?,
             receiver: DownlinkReceiver::open(alloc, accepted)?,
             transmitter: UplinkTransmitter::open(alloc, accepted)?,
+            next: None,
         })
     }
 
-    /// Takes one event, and reports what it does. The report has room for what one step may write.
+    /// Takes all memory for a configuration, which is active first, and for a second one that can follow it.
+    pub fn open_both(
+        alloc: Global,
+        first: &Accepted,
+        second: &Accepted,
+        first_cfn: u8,
+    ) -> Result<Ue, NoMemory>
+        requires kept { (b : ℕ) → KeepsBearer first.now.config second.now.config b }
+        requires eighth { first_cfn % 8 ≡ 0 }
+        ensures opened { IfOk result (IsNodeOf first.now) }
+        ensures stands { IfOk result (RepresentsHistory first.now first.now first_cfn [] []) }
+        ensures next { IfOk result (HasNext first.now second.now) }
+    {
+        let mut ue = Ue::open(alloc, first, first_cfn)?;
+        ue.next = Some(NextParts::open(alloc, second)?);
+        Ok(ue)
+    }
+
+    /// Takes one event, and reports what it does. The report has room for what one step may write. The configuration is the active one; in a
+    /// change it is the second one, which becomes active.
     pub fn step(&mut self, accepted: &Accepted, event: UeEvent<'_>, report: &mut Report)
-        requires opened { IsNodeOf accepted.now self.old }
+        requires opened { IsReadyFor accepted.now event self.old }
         requires event { MayCome accepted.now event }
         requires room { HasRoomFor report.old (step_bytes accepted.now.config) }
         ensures opened { IsNodeOf accepted.now self.new }
-        ensures step { (state : State) → Represents accepted.now state self.old → Stepped accepted.now state (event_of event.entry) self.new report.old.text report.new.text }
-        ensures history { (first : ℕ) (events : List Event) (lines : List Line) → RepresentsHistory accepted.now first events lines self.old →
-            ExtendsHistory accepted.now first events lines (event_of event.entry) self.new report.old.text report.new.text }
+        ensures step { (before : Planned) (state : State) → IsActiveBefore accepted.now event.entry before self.old → Represents before state self.old →
+            Stepped accepted.now state (event_of accepted.now event.entry) self.new report.old.text report.new.text }
+        ensures history { (began before : Planned) (first : ℕ) (events : List Event) (lines : List Line) → IsActiveBefore accepted.now event.entry before self.old → RepresentsHistory began before first events lines self.old →
+            ExtendsHistory began accepted.now first events lines (event_of accepted.now event.entry) self.new report.old.text report.new.text }
+        ensures next { KeepsNext accepted.now event.entry self.old self.new }
         ensures few { length report.new.text ≤ length report.old.text + step_bytes accepted.now.config }
         ensures most { report.new.most ≡ report.old.most }
     {
@@ -113,15 +142,17 @@ impl Ue {
 
     /// Hides what the last step sent and read, and takes one event.
     fn happen(&mut self, accepted: &Accepted, event: UeEvent<'_>, report: &mut Report)
-        requires opened { IsNodeOf accepted.now self.old }
+        requires opened { IsReadyFor accepted.now event self.old }
         requires event { MayCome accepted.now event }
         requires room { HasRoomFor report.old (step_bytes accepted.now.config) }
         ensures opened { IsNodeOf accepted.now self.new }
-        ensures step { (state : State) → Represents accepted.now state self.old → Stepped accepted.now state (event_of event.entry) self.new report.old.text report.new.text }
+        ensures step { (before : Planned) (state : State) → IsActiveBefore accepted.now event.entry before self.old → Represents before state self.old →
+            Stepped accepted.now state (event_of accepted.now event.entry) self.new report.old.text report.new.text }
+        ensures next { KeepsNext accepted.now event.entry self.old self.new }
         ensures few { length report.new.text ≤ length report.old.text + step_bytes accepted.now.config }
         ensures most { report.new.most ≡ report.old.most }
     {
-        self.clear_shown(accepted);
+        self.clear_shown();
         match event {
             UeEvent::Unit {
                 bearer,
@@ -131,18 +162,37 @@ impl Ue {
             UeEvent::Block { combination, on } => self.block(accepted, combination, on),
             UeEvent::Phy { frame } => self.receive_radio(accepted, frame),
             UeEvent::Tick => self.tick(accepted, report),
+            UeEvent::Change => self.change(accepted),
         }
     }
 
     /// Nothing is shown as sent or read.
-    fn clear_shown(&mut self, accepted: &Accepted)
-        requires { IsNodeOf accepted.now self.old }
-        ensures opened { IsNodeOf accepted.now self.new }
+    fn clear_shown(&mut self)
+        ensures opened { (planned : Planned) → IsNodeOf planned self.old → IsNodeOf planned self.new }
         ensures quiet { NothingShown self.new }
-        ensures stands { (state : State) → Represents accepted.now state self.old → IsAt accepted.now state self.new }
+        ensures stands { (planned : Planned) (state : State) → Represents planned state self.old → IsAt planned state self.new }
+        ensures next { self.new.next ≡ self.old.next }
+        ensures cfn { self.new.cfn ≡ self.old.cfn }
     {
         self.transmitter.clear_sent();
         self.receiver.clear_read();
+    }
+
+    /// A second configuration becomes active, for which the terminal holds its parts: they take the place of those for the first one.
+    fn change(&mut self, accepted: &Accepted)
+        requires { CanChange accepted.now self.old }
+        ensures opened { IsNodeOf accepted.now self.new }
+        ensures step { (before : Planned) (state : State) (text : List ℕ) → HasNext before accepted.now self.old → IsAt before state self.old →
+            Stepped accepted.now state (Change accepted.now) self.new text text }
+        ensures next { self.new.next ≡ None }
+    {
+        // The TTIs of a good configuration have 1, 2, 4 or 8 radio frames.
+        let _side = accepted.side(Dir::Up);
+        if let Some(mut next) = self.next.take() {
+            self.layer.change(accepted, &mut next.layer);
+            mem::swap(&mut self.transmitter, &mut next.transmitter);
+            mem::swap(&mut self.receiver, &mut next.receiver);
+        }
     }
 
     /// A unit is offered to a bearer.
@@ -159,6 +209,7 @@ impl Ue {
         requires bearer { SendsUp accepted.now.config bearer }
         requires room { HasRoomFor report.old (step_bytes accepted.now.config) }
         ensures opened { IsNodeOf accepted.now self.new }
+        ensures next { self.new.next ≡ self.old.next }
         ensures step { (state : State) → IsAt accepted.now state self.old → Stepped accepted.now state (OfferedUnit bearer octets.now bits.now) self.new report.old.text report.new.text }
         ensures few { length report.new.text ≤ length report.old.text + step_bytes accepted.now.config }
         ensures most { report.new.most ≡ report.old.most }
@@ -173,6 +224,7 @@ impl Ue {
         requires quiet { NothingShown self.old }
         requires combination { combination < length accepted.now.config.uplink.side.combinations }
         ensures opened { IsNodeOf accepted.now self.new }
+        ensures next { self.new.next ≡ self.old.next }
         ensures step { (state : State) (text : List ℕ) → IsAt accepted.now state self.old → Stepped accepted.now state (BlockedCombination combination on) self.new text text }
     {
         self.layer.block(combination, on);
@@ -184,6 +236,7 @@ impl Ue {
         requires quiet { NothingShown self.old }
         requires frame { HasTfci accepted.now Down frame }
         ensures opened { IsNodeOf accepted.now self.new }
+        ensures next { self.new.next ≡ self.old.next }
         ensures step { (state : State) (text : List ℕ) → IsAt accepted.now state self.old → Stepped accepted.now state (DownlinkFrame (radio_of frame.entry)) self.new text text }
     {
         self.receiver.push(accepted, self.cfn, frame);
@@ -196,6 +249,7 @@ impl Ue {
         requires quiet { NothingShown self.old }
         requires room { HasRoomFor report.old (step_bytes accepted.now.config) }
         ensures opened { IsNodeOf accepted.now self.new }
+        ensures next { self.new.next ≡ self.old.next }
         ensures step { (state : State) → IsAt accepted.now state self.old → Stepped accepted.now state Tick self.new report.old.text report.new.text }
         ensures few { length report.new.text ≤ length report.old.text + step_bytes accepted.now.config }
         ensures most { report.new.most ≡ report.old.most }

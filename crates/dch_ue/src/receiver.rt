@@ -10,8 +10,8 @@ ghost use Rattle.dch_layer2.specs.Bounded.{HasLayer, HasRead, IsTti};
 ghost use Rattle.dch_txframes.specs.Lending.{radio_of};
 ghost use Rattle.dch_txframes.specs.Rooms.{HasRoomFor};
 ghost use Rattle.dch_ue.specs.Lending.{held_of};
-ghost use Rattle.dch_ue.specs.Moves.{AreClearedTo, AreNewTtis, AreReadTo, Comes, Completes, HasRoomToGive, Gives, Receives};
-ghost use Rattle.dch_ue.specs.Opened.{AreTtisOf, IsReceiverOf};
+ghost use Rattle.dch_ue.specs.Moves.{AreClearedTo, AreReadTo, Comes, Completes, HasRoomToGive, Gives, Receives};
+ghost use Rattle.dch_ue.specs.Opened.{AreNewTtis, AreTtisOf, IsReceiverOf};
 ghost use Rattle.dch_ue.specs.Steps.{IsReading};
 ghost use Rattle.dch_ue.specs.Values.{blocks_read, reading_of, readings_of, tti_at};
 

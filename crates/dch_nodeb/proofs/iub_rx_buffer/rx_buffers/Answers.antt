@@ -1,5 +1,5 @@
 use Rattle.std.proofs.Common.{◌+◌, List, sym, subst}
-use Rattle.dch_nodeb.specs.Moves.{AreNewRxBuffers}
+use Rattle.dch_nodeb.specs.Opened.{AreNewRxBuffers}
 use Rattle.dch_nodeb.specs.Values.{IubRxBuffer}
 use Rattle.dch_nodeb.proofs.Keeping.{new_place}
 use Rattle.dch_nodeb.proofs.iub_rx_buffer.rx_buffers.Goals as goal

@@ -11,5 +11,5 @@ pub returns-clause-step : goal.returns-clause-step
 returns-clause-step c = step_output
 
 pub returns-clause-history : goal.returns-clause-history
-returns-clause-history c planned first events state other last more lines rest good a b =
-    trace_output (opened_state planned first) (opened_state planned first) state other no_output no_output last more events lines rest good (same_state (opened_state planned first)) (same_output no_output) a b
+returns-clause-history c planned first events state other last more lines rest good are a b =
+    trace_output (opened_state planned first) (opened_state planned first) state other no_output no_output last more events lines rest good are (same_state (opened_state planned first)) (same_output no_output) a b

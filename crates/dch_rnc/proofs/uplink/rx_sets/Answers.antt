@@ -1,6 +1,6 @@
 use Rattle.std.proofs.Common.{◌+◌, List, sym, subst}
 use Rattle.dch_accept.specs.HeldSets.{HeldSet}
-use Rattle.dch_rnc.specs.Moves.{AreNewRxSets}
+use Rattle.dch_rnc.specs.Opened.{AreNewRxSets}
 use Rattle.dch_rnc.proofs.Taking.{new_rx_set}
 use Rattle.dch_rnc.proofs.uplink.rx_sets.Goals as goal
 

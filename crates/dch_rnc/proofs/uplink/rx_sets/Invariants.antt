@@ -1,4 +1,4 @@
-use Rattle.dch_rnc.specs.Moves.{AreNewRxSets}
+use Rattle.dch_rnc.specs.Opened.{AreNewRxSets}
 use Rattle.dch_rnc.proofs.uplink.rx_sets.Given as goal
 
 abbrev pub invariant-loop-set : goal.invariant-loop-set

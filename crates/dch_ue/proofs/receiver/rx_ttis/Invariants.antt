@@ -1,4 +1,4 @@
-use Rattle.dch_ue.specs.Moves.{AreNewTtis}
+use Rattle.dch_ue.specs.Opened.{AreNewTtis}
 use Rattle.dch_ue.proofs.receiver.rx_ttis.Given as goal
 
 abbrev pub invariant-loop : goal.invariant-loop

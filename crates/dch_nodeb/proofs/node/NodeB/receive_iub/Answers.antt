@@ -11,7 +11,7 @@ use Rattle.dch_nodeb.proofs.node.NodeB.receive_iub.Goals as goal
 pub returns-clause-step : goal.returns-clause-step
 returns-clause-step c = λ state stands.
     subst (λ (rx_buffers : List IubRxBuffer). Stepped c.args.accepted.now state (IubFrame c.args.set c.args.frame.now) (record (the_view c.self.inside) { rx_buffers = rx_buffers }) c.args.report.now.text c.keep.new.report.text)
-    (sym (with_items_is c.self.inside.rx_buffers c.keep.new.rx_buffers (c.keep.auto.rx_buffers ∙ c.deref_mut.ensures.len)))
+    (sym (with_items_is c.self.inside.parts.rx_buffers c.keep.new.rx_buffers (c.keep.auto.rx_buffers ∙ c.deref_mut.ensures.len)))
     (arrived c.args.accepted.now state (the_view c.self.inside) c.keep.new.rx_buffers c.args.set c.args.frame.now c.args.report.now c.keep.new.report
     (subst (λ (n : Node). NothingSent n) (sym c.self.view_is) c.requires.quiet)
     (subst (λ (rx_buffers : List IubRxBuffer). Keeps c.args.accepted.now c.args.set c.args.frame.now rx_buffers c.keep.new.rx_buffers c.args.report.now c.keep.new.report) c.deref_mut.ensures.value c.keep.ensures)

@@ -14,7 +14,7 @@ pub returns-clause-step : goal.returns-clause-step
 returns-clause-step c = λ state stands.
     subst (λ (tx_buffers : List IubTxBuffer). Stepped c.args.accepted.now state (UplinkFrame (radio_of c.args.frame))
     (record (the_view c.self.inside) { cfn = (c.self.inside.cfn + 1) % 256; receiver = c.receive.new.receiver; tx_buffers = tx_buffers }) c.args.report.now.text c.receive.new.report.text)
-    (sym (with_items_is c.self.inside.tx_buffers c.receive.new.tx_buffers (c.receive.auto.tx_buffers ∙ c.deref_mut.ensures.len)))
+    (sym (with_items_is c.self.inside.parts.tx_buffers c.receive.new.tx_buffers (c.receive.auto.tx_buffers ∙ c.deref_mut.ensures.len)))
     (received c.args.accepted.now state (the_view c.self.inside) (radio_of c.args.frame) c.receive.new.tx_buffers c.receive.new.receiver c.args.report.now c.receive.new.report
     (subst (λ (n : Node). NothingSent n) (sym c.self.view_is) c.requires.quiet) c.receive.ensures
     (subst (λ (n : Node). Represents c.args.accepted.now state n) (sym c.self.view_is) stands))

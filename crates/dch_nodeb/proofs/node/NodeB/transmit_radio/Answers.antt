@@ -15,9 +15,9 @@ pub returns-clause-step : goal.returns-clause-step
 returns-clause-step c = λ state stands.
     let opened : IsNodeOf c.args.accepted.now (the_view c.self.inside) = subst (λ (n : Node). IsNodeOf c.args.accepted.now n) (sym c.self.view_is) c.requires.opened in
     subst (λ (rx_buffers : List IubRxBuffer). Stepped c.args.accepted.now state DownlinkDue (record (the_view c.self.inside) { rx_buffers = rx_buffers; transmitter = c.transmit.new.transmitter }) c.args.report.now.text c.transmit.new.report.text)
-    (sym (with_items_is c.self.inside.rx_buffers c.transmit.new.rx_buffers (c.transmit.auto.rx_buffers ∙ c.deref_mut.ensures.len)))
+    (sym (with_items_is c.self.inside.parts.rx_buffers c.transmit.new.rx_buffers (c.transmit.auto.rx_buffers ∙ c.deref_mut.ensures.len)))
     (departed c.args.accepted.now state (the_view c.self.inside) c.transmit.new.rx_buffers c.transmit.new.transmitter c.args.report.now c.transmit.new.report
     (subst (λ (side : Side). IsSide side) c.side-side.ensures.value c.side-side.ensures.good) opened.rx_buffers opened.noted
     (subst (λ (n : Node). NothingSent n) (sym c.self.view_is) c.requires.quiet)
-    (subst (λ (rx_buffers : List IubRxBuffer). Transmits c.args.accepted.now c.self.inside.cfn rx_buffers c.transmit.new.rx_buffers c.self.inside.transmitter c.transmit.new.transmitter c.args.report.now c.transmit.new.report) c.deref_mut.ensures.value c.transmit.ensures)
+    (subst (λ (rx_buffers : List IubRxBuffer). Transmits c.args.accepted.now c.self.inside.cfn rx_buffers c.transmit.new.rx_buffers c.self.inside.parts.transmitter c.transmit.new.transmitter c.args.report.now c.transmit.new.report) c.deref_mut.ensures.value c.transmit.ensures)
     (subst (λ (n : Node). Represents c.args.accepted.now state n) (sym c.self.view_is) stands))

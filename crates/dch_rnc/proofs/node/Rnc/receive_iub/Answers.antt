@@ -18,7 +18,7 @@ returns-then-receive-clause-opened c =
     let opened : IsNodeOf planned node = subst (λ (n : Node). IsNodeOf planned n) (sym c.self.view_is) c.requires.opened in
     let held : HeldSet = rx_set_at c.receive.new.rx_sets c.args.set in
     subst (λ (rx_sets : List HeldSet). IsNodeOf planned (record node { layer = c.receive.new.layer; rx_sets = rx_sets; read = Some c.args.set }))
-    (sym (with_items_is c.self.inside.rx_sets c.receive.new.rx_sets (c.receive.auto.rx_sets ∙ c.deref_mut.ensures.len)))
+    (sym (with_items_is c.self.inside.parts.rx_sets c.receive.new.rx_sets (c.receive.auto.rx_sets ∙ c.deref_mut.ensures.len)))
     (still_received planned node c.receive.new.layer c.receive.new.rx_sets (Some c.args.set) opened c.if-receive.ensures.answers.takes.ends
     (taken_layer planned c.args.set held node.layer c.receive.new.layer c.args.report.now c.receive.new.report (subst IsGood c.config-config.ensures.value c.config-config.ensures.good)
     (c.receive.ensures.opened.each c.args.set c.receive.ensures.few) opened.layer c.if-receive.ensures.answers.takes) c.receive.ensures.opened)
@@ -30,7 +30,7 @@ returns-then-receive-clause-step c = λ state stands.
     let opened : IsNodeOf planned node = subst (λ (n : Node). IsNodeOf planned n) (sym c.self.view_is) c.requires.opened in
     let at : IsAt planned state node = subst (λ (n : Node). IsAt planned state n) (sym c.self.view_is) stands in
     subst (λ (rx_sets : List HeldSet). Stepped planned state (IubFrame c.args.set c.args.frame.now) (record node { layer = c.receive.new.layer; rx_sets = rx_sets; read = Some c.args.set }) c.args.report.now.text c.receive.new.report.text)
-    (sym (with_items_is c.self.inside.rx_sets c.receive.new.rx_sets (c.receive.auto.rx_sets ∙ c.deref_mut.ensures.len)))
+    (sym (with_items_is c.self.inside.parts.rx_sets c.receive.new.rx_sets (c.receive.auto.rx_sets ∙ c.deref_mut.ensures.len)))
     (taken planned state node c.receive.new.layer c.receive.new.rx_sets c.args.set c.args.frame.now c.args.report.now c.receive.new.report (subst (λ (n : Node). NothingShown n) (sym c.self.view_is) c.requires.quiet) at opened.channel_sets
     c.if-receive.ensures.answers)
 

@@ -21,7 +21,7 @@ returns-clause-step c = λ state stands.
     let at : IsAt planned state node = subst (λ (n : Node). IsAt planned state n) (sym c.self.view_is) stands in
     let down : c.start.new.self.out ≡ Down = c.start.ensures.ends.sends ∙ (c.tick.ensures.ends.sends ∙ opened.sends) in
     subst (λ (tx_buffers : List IubTxBuffer). Stepped planned state Tick (record node { cfn = (c.self.inside.cfn + 1) % 256; layer = c.start.new.self; tx_buffers = tx_buffers }) c.args.report.now.text c.send_sets.new.report.text)
-    (sym (with_items_is c.self.inside.tx_buffers c.send_sets.new.tx_buffers (c.send_sets.auto.tx_buffers ∙ c.deref_mut.ensures.len)))
+    (sym (with_items_is c.self.inside.parts.tx_buffers c.send_sets.new.tx_buffers (c.send_sets.auto.tx_buffers ∙ c.deref_mut.ensures.len)))
     (ticked planned state node c.start.new.self c.send_sets.new.tx_buffers c.args.report.now c.send_sets.new.report (subst (λ (n : Node). NothingShown n) (sym c.self.view_is) c.requires.quiet) at down
     (c.start.ensures.started (ticks planned.config state.layer) (c.tick.ensures.stands planned.config state.layer at.layer)) c.send_sets.ensures)
 
@@ -46,6 +46,6 @@ returns-clause-opened c =
     let opened : IsNodeOf planned node = subst (λ (n : Node). IsNodeOf planned n) (sym c.self.view_is) c.requires.opened in
     let new = c.start.new.self in
     subst (λ (tx_buffers : List IubTxBuffer). IsNodeOf planned (record node { cfn = (c.self.inside.cfn + 1) % 256; layer = new; tx_buffers = tx_buffers }))
-    (sym (with_items_is c.self.inside.tx_buffers c.send_sets.new.tx_buffers (c.send_sets.auto.tx_buffers ∙ c.deref_mut.ensures.len)))
+    (sym (with_items_is c.self.inside.parts.tx_buffers c.send_sets.new.tx_buffers (c.send_sets.auto.tx_buffers ∙ c.deref_mut.ensures.len)))
     (still_ticked planned node ((c.self.inside.cfn + 1) % 256) new c.send_sets.new.tx_buffers opened (ends_through node.layer c.tick.new.self new c.tick.ensures.ends c.start.ensures.ends)
     (ticked_layer planned node c.tick.new.self new c.self.inside.cfn opened c.tick.ensures.stands c.start.ensures.started) c.send_sets.ensures.opened)
