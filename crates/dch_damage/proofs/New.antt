@@ -9,12 +9,19 @@ use Rattle.dch_damage.specs.Tables.{IubTables, RadioTables, Tables, radio_at, se
 use Rattle.dch_damage.specs.Waiting.{IubWaits, RadioWaits, Waits}
 use Rattle.dch_damage.specs.declared.turned.Turned.TheVariants.{Not}
 
--- the tables of both directions
-pub new_opened : (planned : Planned) (tables : Tables) → IsRadioDamageOf planned Up tables.up → IsRadioDamageOf planned Down tables.down → AreNewSets planned Up 8 tables.up_sets
-    → AreNewSets planned Down 8 tables.down_sets → IsDamageOf planned tables
-new_opened planned tables up down up_sets down_sets = record {
-  radio = λ dir. elim dir as (λ d. IsRadioDamageOf planned d (radio_at tables d)) [ Up ↦ up | Down ↦ down ];
-  iub = λ dir set few. elim dir as (λ d. IsIubDamageOf planned d set (set_at tables d set)) [ Up ↦ up_sets.each set few | Down ↦ down_sets.each set few ];
+-- the tables of both directions, for the first configuration and for the other
+pub one_opened : (one other : Planned) (tables : Tables) → IsRadioDamageOf one Up tables.up → IsRadioDamageOf one Down tables.down → AreNewSets one other Up 8 tables.up_sets
+    → AreNewSets one other Down 8 tables.down_sets → IsDamageOf one tables
+one_opened one other tables up down up_sets down_sets = record {
+  radio = λ dir. elim dir as (λ d. IsRadioDamageOf one d (radio_at tables d)) [ Up ↦ up | Down ↦ down ];
+  iub = λ dir set few. elim dir as (λ d. IsIubDamageOf one d set (set_at tables d set)) [ Up ↦ up_sets.of_one set few | Down ↦ down_sets.of_one set few ];
+}
+
+pub other_opened : (one other : Planned) (tables : Tables) → IsRadioDamageOf other Up tables.up → IsRadioDamageOf other Down tables.down → AreNewSets one other Up 8 tables.up_sets
+    → AreNewSets one other Down 8 tables.down_sets → IsDamageOf other tables
+other_opened one other tables up down up_sets down_sets = record {
+  radio = λ dir. elim dir as (λ d. IsRadioDamageOf other d (radio_at tables d)) [ Up ↦ up | Down ↦ down ];
+  iub = λ dir set few. elim dir as (λ d. IsIubDamageOf other d set (set_at tables d set)) [ Up ↦ up_sets.of_other set few | Down ↦ down_sets.of_other set few ];
 }
 
 quiet_radio : (dir : Dir) (tables : RadioTables) → IsQuietRadio tables → RadioWaits [] dir tables
@@ -31,9 +38,9 @@ quiet_set dir set tables quiet = record {
 }
 
 -- nothing waits in them
-pub new_waits : (planned : Planned) (tables : Tables) → IsQuietRadio tables.up → IsQuietRadio tables.down → AreNewSets planned Up 8 tables.up_sets → AreNewSets planned Down 8 tables.down_sets
+pub new_waits : (one other : Planned) (tables : Tables) → IsQuietRadio tables.up → IsQuietRadio tables.down → AreNewSets one other Up 8 tables.up_sets → AreNewSets one other Down 8 tables.down_sets
     → Waits [] tables
-new_waits planned tables up down up_sets down_sets = record {
+new_waits one other tables up down up_sets down_sets = record {
   radio = λ dir. elim dir as (λ d. RadioWaits [] d (radio_at tables d)) [ Up ↦ quiet_radio Up tables.up up | Down ↦ quiet_radio Down tables.down down ];
   iub = λ dir set few. elim dir as (λ d. IubWaits [] d set (set_at tables d set)) [ Up ↦ quiet_set Up set _ (up_sets.quiet set few) | Down ↦ quiet_set Down set _ (down_sets.quiet set few) ];
 }

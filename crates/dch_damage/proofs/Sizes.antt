@@ -1,5 +1,5 @@
 -- Tables that were opened for a configuration stay so while they keep their sizes.
-use Rattle.std.proofs.Common.{◌≡◌, ◌≢◌, ◌<◌, ◌∙◌, ℕ, List, Bool, true, false, ap, inl, inr, length, refl, subst, sym, get_or-set_same, get_or-set_other}
+use Rattle.std.proofs.Common.{◌≡◌, ◌≢◌, ◌<◌, ◌≤◌, ◌∙◌, ℕ, List, Bool, true, false, ap, inl, inr, length, refl, subst, sym, get_or-set_same, get_or-set_other}
 use Rattle.std.proofs.Math.ListN.{length-set}
 use Rattle.std.proofs.lemmas.Bool.Decides.{eqb_tells}
 use Rattle.std.proofs.lemmas.List.{length-replicate}
@@ -7,9 +7,9 @@ use Rattle.std.specs.Prelude.{Option}
 use Rattle.dch_types.specs.declared.channel.Dir.{Dir}
 use Rattle.dch_types.specs.declared.channel.Dir.TheVariants.{Up, Down}
 use Rattle.dch_accept.specs.Plans.{Planned}
-use Rattle.dch_iub.specs.Longest.{IsLongest}
 use Rattle.dch_node.specs.Values.{Radio}
-use Rattle.dch_damage.specs.Opened.{AreClearedTo, HoldsCells, IsDamageOf}
+use Rattle.dch_accept.specs.Frames.{tfci_bits}
+use Rattle.dch_damage.specs.Opened.{AreClearedTo, HoldsCells, HoldsOctets, IsDamageOf}
 use Rattle.dch_damage.specs.Tables.{IubTables, RadioTables, Tables, flipped, masked, radio_at, radio_cleared, set_at, set_in, sets_at, with_radio, with_set, with_sets}
 use Rattle.dch_damage.specs.declared.turned.Turned.TheVariants.{Not}
 
@@ -22,10 +22,10 @@ pub record AreAsLong (old new : Tables) : Type 0 where
 pub still_opened : (planned : Planned) (old new : Tables) → AreAsLong old new → IsDamageOf planned old → IsDamageOf planned new
 still_opened planned old new long is = record {
   radio = λ dir. record {
-    tfci = long.tfci dir ∙ (is.radio dir).tfci;
+    tfci = subst (λ n. tfci_bits planned.config dir ≤ n) (sym (long.tfci dir)) (is.radio dir).tfci;
     cells = subst (HoldsCells planned dir) (sym (long.cells dir)) (is.radio dir).cells;
   };
-  iub = λ dir set few. subst (λ n. IsLongest planned.config dir set n) (sym (long.masks dir set few)) (is.iub dir set few);
+  iub = λ dir set few. subst (HoldsOctets planned dir set) (sym (long.masks dir set few)) (is.iub dir set few);
 }
 
 -- a direction's radio tables have changed

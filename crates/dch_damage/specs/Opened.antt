@@ -1,11 +1,11 @@
--- Tables that were opened for a configuration.
+-- Tables that have room for the frames of a configuration.
 use Rattle.std.specs.Prelude.{◌≡◌, ◌<◌, ◌≤◌, ℕ, List, Option, Some, None, length}
 use Rattle.dch_types.specs.declared.channel.Dir.{Dir}
 use Rattle.dch_types.specs.Parts.{side_of}
 use Rattle.dch_accept.specs.Cells.{frame_cells}
 use Rattle.dch_accept.specs.Frames.{tfci_bits}
 use Rattle.dch_accept.specs.Plans.{Planned}
-use Rattle.dch_iub.specs.Longest.{IsLongest}
+use Rattle.dch_iub.specs.Shape.{AreFormats, frame_octets}
 use Rattle.dch_node.specs.Values.{Radio}
 use Rattle.dch_damage.specs.Tables.{IubTables, RadioTables, Tables, iub_cleared, radio_at, radio_cleared, set_at, set_in}
 
@@ -13,14 +13,18 @@ use Rattle.dch_damage.specs.Tables.{IubTables, RadioTables, Tables, iub_cleared,
 abbrev pub HoldsCells : Planned → Dir → ℕ → Type 0
 HoldsCells planned dir cells = (c : ℕ) → c < length (side_of planned.config dir).combinations → frame_cells planned dir c ≤ cells
 
+-- a number of octets that no Iub frame of a direction's set exceeds
+abbrev pub HoldsOctets : Planned → Dir → ℕ → ℕ → Type 0
+HoldsOctets planned dir set octets = (numbers : List ℕ) → AreFormats (side_of planned.config dir) set numbers → frame_octets planned.config dir set numbers ≤ octets
+
 -- a direction's tables have a place for each TFCI bit, and for each cell of its radio frames
 pub record IsRadioDamageOf (planned : Planned) (dir : Dir) (tables : RadioTables) : Type 0 where
-  pub tfci : length tables.tfci ≡ tfci_bits planned.config dir
+  pub tfci : tfci_bits planned.config dir ≤ length tables.tfci
   pub cells : HoldsCells planned dir (length tables.cells)
 
--- a set's table has a mask for each octet of its longest Iub frame
+-- a set's table has a mask for each octet of its Iub frames
 abbrev pub IsIubDamageOf : Planned → Dir → ℕ → IubTables → Type 0
-IsIubDamageOf planned dir set tables = IsLongest planned.config dir set (length tables.masks)
+IsIubDamageOf planned dir set tables = HoldsOctets planned dir set (length tables.masks)
 
 -- the tables of both directions and of their sets
 pub record IsDamageOf (planned : Planned) (tables : Tables) : Type 0 where
@@ -35,10 +39,11 @@ IsQuietSet tables = tables ≡ iub_cleared tables
 abbrev pub IsQuietRadio : RadioTables → Type 0
 IsQuietRadio tables = tables ≡ radio_cleared tables
 
--- the tables of the first sets of a direction are new
-pub record AreNewSets (planned : Planned) (dir : Dir) (count : ℕ) (sets : List IubTables) : Type 0 where
+-- the tables of the first sets of a direction are new, and have room for the frames of two configurations
+pub record AreNewSets (one other : Planned) (dir : Dir) (count : ℕ) (sets : List IubTables) : Type 0 where
   pub all : length sets ≡ count
-  pub each : (set : ℕ) → set < count → IsIubDamageOf planned dir set (set_in sets set)
+  pub of_one : (set : ℕ) → set < count → IsIubDamageOf one dir set (set_in sets set)
+  pub of_other : (set : ℕ) → set < count → IsIubDamageOf other dir set (set_in sets set)
   pub quiet : (set : ℕ) → set < count → IsQuietSet (set_in sets set)
 
 -- a direction's tables have a place for each bit and each cell of a radio frame

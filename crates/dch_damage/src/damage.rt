@@ -57,10 +57,19 @@ impl Damage {
         ensures opened { IfOk result (IsDamageOf accepted.now) }
         ensures none { IfOk result (Waits []) }
     {
-        let up = RadioDamage::open(alloc, accepted, Dir::Up)?;
-        let down = RadioDamage::open(alloc, accepted, Dir::Down)?;
-        let up_sets = open_sets(alloc, accepted, Dir::Up)?;
-        let down_sets = open_sets(alloc, accepted, Dir::Down)?;
+        Damage::open_both(alloc, accepted, accepted)
+    }
+
+    /// Takes the memory for the damage to the frames of each of two configurations. Nothing waits.
+    pub fn open_both(alloc: Global, first: &Accepted, second: &Accepted) -> Result<Damage, NoMemory>
+        ensures first { IfOk result (IsDamageOf first.now) }
+        ensures second { IfOk result (IsDamageOf second.now) }
+        ensures none { IfOk result (Waits []) }
+    {
+        let up = RadioDamage::open(alloc, first, second, Dir::Up)?;
+        let down = RadioDamage::open(alloc, first, second, Dir::Down)?;
+        let up_sets = open_sets(alloc, first, second, Dir::Up)?;
+        let down_sets = open_sets(alloc, first, second, Dir::Down)?;
         let bits = up.bits().max(down.bits());
         let cells = up.most_cells().max(down.most_cells());
         let octets = longest_of_sets(&up_sets).max(longest_of_sets(&down_sets));

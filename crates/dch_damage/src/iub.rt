@@ -35,14 +35,22 @@ impl Model for IubDamage {
 }
 
 impl IubDamage {
-    /// Takes the memory for the octets of the frames of a set of a direction. Nothing waits.
-    fn open(alloc: Global, accepted: &Accepted, dir: Dir, set: u8) -> Result<IubDamage, NoMemory>
-        ensures opened { IfOk result (IsIubDamageOf accepted.now dir set) }
+    /// Takes the memory for the octets of the frames of a set of a direction, under each of two configurations. Nothing waits.
+    fn open(
+        alloc: Global,
+        first: &Accepted,
+        second: &Accepted,
+        dir: Dir,
+        set: u8,
+    ) -> Result<IubDamage, NoMemory>
+        ensures first { IfOk result (IsIubDamageOf first.now dir set) }
+        ensures second { IfOk result (IsIubDamageOf second.now dir set) }
         ensures quiet { IfOk result IsQuietSet }
     {
+        let octets = longest(first, dir, set).max(longest(second, dir, set));
         Ok(IubDamage {
             lost: false,
-            masks: vec![in alloc; 0; longest(accepted, dir, set)]?,
+            masks: vec![in alloc; 0; octets]?,
             touched: false,
         })
     }
@@ -114,13 +122,18 @@ fn mask_octets(masks: &[u8], octets: &[u8], out: &mut [u8])
     }
 }
 
-/// Takes the memory for the damage to the Iub frames of all sets of a direction. Nothing waits.
-pub fn open_sets(alloc: Global, accepted: &Accepted, dir: Dir) -> Result<Vec<IubDamage>, NoMemory>
-    ensures { IfOk result (λ sets. AreNewSets accepted.now dir 8 sets.items) }
+/// Takes the memory for the damage to the Iub frames of all sets of a direction, under each of two configurations. Nothing waits.
+pub fn open_sets(
+    alloc: Global,
+    first: &Accepted,
+    second: &Accepted,
+    dir: Dir,
+) -> Result<Vec<IubDamage>, NoMemory>
+    ensures { IfOk result (λ sets. AreNewSets first.now second.now dir 8 sets.items) }
 {
     let mut sets = Vec::new(alloc);
     for set in 0..SETS {
-        sets.push(IubDamage::open(alloc, accepted, dir, set)?)?;
+        sets.push(IubDamage::open(alloc, first, second, dir, set)?)?;
     }
     Ok(sets)
 }

@@ -36,15 +36,23 @@ impl Model for RadioDamage {
 }
 
 impl RadioDamage {
-    /// Takes the memory for the places of the radio frames of a direction. Nothing waits.
-    pub fn open(alloc: Global, accepted: &Accepted, dir: Dir) -> Result<RadioDamage, NoMemory>
-        ensures opened { IfOk result (IsRadioDamageOf accepted.now dir) }
+    /// Takes the memory for the places of the radio frames of a direction, under each of two configurations. Nothing waits.
+    pub fn open(
+        alloc: Global,
+        first: &Accepted,
+        second: &Accepted,
+        dir: Dir,
+    ) -> Result<RadioDamage, NoMemory>
+        ensures first { IfOk result (IsRadioDamageOf first.now dir) }
+        ensures second { IfOk result (IsRadioDamageOf second.now dir) }
         ensures quiet { IfOk result IsQuietRadio }
     {
+        let bits = tfci_bits(first, dir).max(tfci_bits(second, dir));
+        let cells = longest_frame(first, dir).max(longest_frame(second, dir));
         Ok(RadioDamage {
             lost: false,
-            tfci: vec![in alloc; Turned::Not; tfci_bits(accepted, dir)]?,
-            cells: vec![in alloc; Turned::Not; longest_frame(accepted, dir)]?,
+            tfci: vec![in alloc; Turned::Not; bits]?,
+            cells: vec![in alloc; Turned::Not; cells]?,
             touched: false,
         })
     }

@@ -47,12 +47,12 @@ pub advances_then : (m k : ℕ) (First Then : LinkState → LinkState → List L
 advances_then m k First Then old mid new one other = record {
   goes = λ first link is.
       let front = one.goes first link is in
-      let back = other.goes first front.next (subst (λ (p : Planned). Represents p first front.next mid.link) (sym one.same) front.stands) in
+      let back = other.goes first front.next (subst (λ (p : Planned). Represents p p first front.next mid.link) (sym one.same) front.stands) in
       record {
         next = back.next;
         lines = front.lines ++ back.lines;
         does = record { mid = front.next; front = front.lines; back = back.lines; first = front.does; then = back.does; all = refl };
-        stands = subst (λ (p : Planned). Represents p first back.next new.link) one.same back.stands;
+        stands = subst (λ (p : Planned). Represents p p first back.next new.link) one.same back.stands;
         counted = λ before was. both_counted front.lines back.lines old.counts mid.counts new.counts before front.counted back.counted was;
       };
   ready = other.ready;
@@ -156,17 +156,17 @@ arrives old new way =
 
 -- the radio frame is over
 pub passes_all : (old mid new : Parts) → Advances 20 (PassFrom 20 (Some RncTick)) old mid
-    → ((first : ℕ) (link : LinkState) → Represents mid.accepted first link mid.link → Represents mid.accepted first (record link { damage = [] }) new.link) → IsLinkOf mid.accepted new.link
+    → ((first : ℕ) (link : LinkState) → Represents mid.accepted mid.accepted first link mid.link → Represents mid.accepted mid.accepted first (record link { damage = [] }) new.link) → IsLinkOf mid.accepted new.link
     → new ≡ record mid { link = new.link } → Advances 20 PassesAll old new
 passes_all old mid new passes over opened same = record {
   goes = λ first link is.
       let own = passes.goes first link is in
-      let stands : Represents mid.accepted first own.next mid.link = subst (λ (p : Planned). Represents p first own.next mid.link) (sym passes.same) own.stands in
+      let stands : Represents mid.accepted mid.accepted first own.next mid.link = subst (λ (p : Planned). Represents p p first own.next mid.link) (sym passes.same) own.stands in
       record {
         next = record own.next { damage = [] };
         lines = own.lines;
         does = record { last = own.next; passes = own.does; over = refl };
-        stands = subst (λ (p : Planned). Represents p first (record own.next { damage = [] }) new.link) passes.same (over first own.next stands);
+        stands = subst (λ (p : Planned). Represents p p first (record own.next { damage = [] }) new.link) passes.same (over first own.next stands);
         counted = λ before was. subst (λ (parts : Parts). AreCountsOf (before ++ lines_of (text_of own.lines)) parts.counts) (sym same) (own.counted before was);
       };
   ready = subst (λ (parts : Parts). IsReady parts) (sym same) (record { opened = opened; bearers = passes.ready.bearers; empty = passes.ready.empty; enough = passes.ready.enough });
@@ -182,7 +182,7 @@ passed_next first n f old new frame was =
       link = own.next;
       lines = was.lines ++ own.lines;
       passed = subst (λ (p : Planned). PassFrames n (suc f) (opened_link p first) own.next (was.lines ++ own.lines)) (sym frame.same) (record { mid = was.link; front = was.lines; back = own.lines; first = was.passed; then = own.does; all = refl });
-      stands = subst (λ (p : Planned). Represents p first own.next new.link) (sym frame.same) own.stands;
+      stands = subst (λ (p : Planned). Represents p p first own.next new.link) (sym frame.same) own.stands;
       counted = subst (λ (l : List (List ℕ)). AreCountsOf l new.counts) (sym (lines_of_text was.lines own.lines)) (own.counted (lines_of (text_of was.lines)) was.counted);
     }
 

@@ -10,12 +10,12 @@ use Rattle.dch_summary.specs.Counting.{AreCountsOf, HasRoom}
 use Rattle.dch_summary.proofs.Counted.{room_less}
 use Rattle.dch_gen.specs.Standing.{Advances, HasBearers, IsReady, Parts, stage_bytes}
 
-pub stepped : (Does : LinkState → LinkState → List Line → Type 0) (old new : Parts) (reported : Held) (text : List ℕ) → text ≡ reported.text → IsReady old → ((first : ℕ) (link : LinkState) → Represents old.accepted first link old.link → LeadsTo old.accepted first (Does link) new.link old.step reported)
+pub stepped : (Does : LinkState → LinkState → List Line → Type 0) (old new : Parts) (reported : Held) (text : List ℕ) → text ≡ reported.text → IsReady old → ((began : Planned) (first : ℕ) (link : LinkState) → Represents began old.accepted first link old.link → LeadsTo began old.accepted first (Does link) new.link old.step reported)
     → IsLinkOf old.accepted new.link → new.accepted ≡ old.accepted → new.step ≡ record reported { text = [] } → reported.most ≡ old.step.most → length reported.text ≤ length old.step.text + stage_bytes old.accepted.config
     → ((lines : List (List ℕ)) → AreCountsOf lines old.counts → AreCountsOf (lines ++ lines_of text) new.counts) → ((more : ℕ) → HasRoom old.counts (length text + more) → HasRoom new.counts more) → Advances 1 Does old new
 stepped Does old new reported text is_text ready leads opened same step most few counted room = record {
   goes = λ first link is.
-      let own = leads first link is in
+      let own = leads old.accepted first link is in
       let same_text : text ≡ text_of own.lines = is_text ∙ ap (λ (h : Held). h.text) own.reported ∙ ap (λ (t : List ℕ). t ++ text_of own.lines) ready.empty in
       record {
         next = own.next;

@@ -45,7 +45,7 @@ pub record HasPassed (first n f : ℕ) (parts : Parts) : Type 0 where
   pub link : LinkState
   pub lines : List Line
   pub passed : PassFrames n f (opened_link parts.accepted first) link lines
-  pub stands : Represents parts.accepted first link parts.link
+  pub stands : Represents parts.accepted parts.accepted first link parts.link
   pub counted : AreCountsOf (lines_of (text_of lines)) parts.counts
 
 -- something was done from a state of the nodes, and the lines of its text were counted
@@ -53,12 +53,12 @@ pub record GoesOn (first : ℕ) (Does : LinkState → List Line → Type 0) (old
   pub next : LinkState
   pub lines : List Line
   pub does : Does next lines
-  pub stands : Represents old.accepted first next new.link
+  pub stands : Represents old.accepted old.accepted first next new.link
   pub counted : (before : List (List ℕ)) → AreCountsOf before old.counts → AreCountsOf (before ++ lines_of (text_of lines)) new.counts
 
 -- the same from any state that the nodes stand for, with the text of so many steps at most
 pub record Advances (steps : ℕ) (Does : LinkState → LinkState → List Line → Type 0) (old new : Parts) : Type 0 where
-  pub goes : (first : ℕ) (link : LinkState) → Represents old.accepted first link old.link → GoesOn first (Does link) old new
+  pub goes : (first : ℕ) (link : LinkState) → Represents old.accepted old.accepted first link old.link → GoesOn first (Does link) old new
   pub ready : IsReady new
   pub same : new.accepted ≡ old.accepted
   pub counts : (more : ℕ) → MayCount old (steps + more) → MayCount new more

@@ -101,7 +101,7 @@ impl Generator {
 
     /// The nodes, after the work. Each stands for what happened to it.
     pub fn into_nodes(self) -> (Ue, NodeB, Rnc)
-        ensures { (first : ℕ) (link : LinkState) → Represents self.accepted first link self.link → HaveHistories self.accepted first link result.0 result.1 result.2 }
+        ensures { (first : ℕ) (link : LinkState) → Represents self.accepted self.accepted first link self.link → HaveHistories self.accepted self.accepted first link result.0 result.1 result.2 }
     {
         let Generator {
             accepted: _accepted,

@@ -19,7 +19,7 @@ run_of start frames parts is passed = record { accepted = parts.accepted; is = i
 
 -- its summary was written
 pub written : (start frames : ℕ) (sink : End) (parts : Parts) (text : List ℕ) (ue : Ue) (node_b : NodeB) (rnc : Rnc) → IsConfigured parts.accepted → (passed : HasPassed (8 * start) frames frames parts) → text ≡ summary frames (lines_of (text_of passed.lines))
-    → Appends sink.before sink.now text → HaveHistories parts.accepted (8 * start) passed.link ue node_b rnc → WritesSummary start frames sink ue node_b rnc
+    → Appends sink.before sink.now text → HaveHistories parts.accepted parts.accepted (8 * start) passed.link ue node_b rnc → WritesSummary start frames sink ue node_b rnc
 written start frames sink parts text ue node_b rnc is passed same writes histories = record {
   run = run_of start frames parts is passed;
   writes = subst (λ (t : List ℕ). Appends sink.before sink.now t) same writes;

@@ -38,7 +38,7 @@ summary_of {start} {frames} run = summary frames (lines_of (text_of run.lines))
 pub record WritesSummary (start frames : ℕ) (sink : End) (ue : Ue) (node_b : NodeB) (rnc : Rnc) : Type 0 where
   pub run : GenRun start frames
   pub writes : Appends sink.before sink.now (summary_of run)
-  pub histories : HaveHistories run.accepted (8 * start) run.link ue node_b rnc
+  pub histories : HaveHistories run.accepted run.accepted (8 * start) run.link ue node_b rnc
 
 -- the sink failed within the summary of a run
 pub record CutsSummary (start frames : ℕ) (sink : End) : Type 0 where

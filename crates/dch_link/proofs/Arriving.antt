@@ -30,7 +30,7 @@ radio_same (Some frame) = refl
 -- the tables have room for what fits a configuration
 pub iub_room : (planned : Planned) (tables : Tables) (dir : Dir) (set : ℕ) (octets : Option (List ℕ)) → IsDamageOf planned tables → set < 8 → MayFitIub planned dir set octets → HasIubRoom tables dir set octets
 iub_room planned tables dir set None is few fits = tt
-iub_room planned tables dir set (Some octets) is few fits = omega (arith, (is.iub dir set few).most fits.numbers fits.formats, fits.long)
+iub_room planned tables dir set (Some octets) is few fits = omega (arith, is.iub dir set few fits.numbers fits.formats, fits.long)
 
 pub radio_room : (planned : Planned) (tables : Tables) (dir : Dir) (radio : Option Radio) → IsDamageOf planned tables → MayFitRadio planned dir radio → HasRadioRoom tables dir radio
 radio_room planned tables dir None is fits = tt

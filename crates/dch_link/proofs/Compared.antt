@@ -35,20 +35,20 @@ rnc_good (Bad frame) = refl
 given_is : (planned : Planned) (out : Dir) (layer : Layer) (running : LayerRunning) (i : ℕ) → running.out ≡ out → LayerStands planned.config layer running → i < length (side_of planned.config out).channels → blocks_in (held_at running.given i) ≡ (layer.given i).blocks
 given_is planned out layer running i sends is inside = (is.given i (subst (λ (d : Dir). i < length (side_of planned.config d).channels) (sym sends) inside)).blocks
 
-pub compared_down : (planned : Planned) (first : ℕ) (link : LinkState) (nodes : Nodes) (before after : Text) → AreNodesOf planned nodes → Represents planned first link nodes
+pub compared_down : (began planned : Planned) (first : ℕ) (link : LinkState) (nodes : Nodes) (before after : Text) → AreNodesOf planned nodes → Represents began planned first link nodes
     → ComparesAll Down (λ i. good_of (ue_taken nodes.ue i)) (λ i. blocks_in (held_at nodes.rnc.layer.given i)) (length planned.config.downlink.side.channels) before after
     → ComparesAll Down (λ i. good_in (link.ue.state.readings i)) (λ i. (link.rnc.state.layer.given i).blocks) (length planned.config.downlink.side.channels) before after
-compared_down planned first link nodes before after opened is all = record {
+compared_down began planned first link nodes before after opened is all = record {
   lines = all.lines;
   checked = checked-same Down (λ i. good_of (ue_taken nodes.ue i)) (λ i. blocks_in (held_at nodes.rnc.layer.given i)) (λ i. good_in (link.ue.state.readings i)) (λ i. (link.rnc.state.layer.given i).blocks) (length planned.config.downlink.side.channels) all.lines
       (λ i inside. ap good_of (is.ue.stands.readings i inside) ∙ ue_good (link.ue.state.readings i)) (λ i inside. given_is planned Down link.rnc.state.layer nodes.rnc.layer i opened.rnc.sends is.rnc.stands.at.layer inside) all.checked;
   reported = all.reported;
 }
 
-pub compared_up : (planned : Planned) (first : ℕ) (link : LinkState) (nodes : Nodes) (before after : Text) → AreNodesOf planned nodes → Represents planned first link nodes
+pub compared_up : (began planned : Planned) (first : ℕ) (link : LinkState) (nodes : Nodes) (before after : Text) → AreNodesOf planned nodes → Represents began planned first link nodes
     → ComparesAll Up (λ i. good_of (rnc_taken nodes.rnc i)) (λ i. blocks_in (held_at nodes.ue.layer.given i)) (length planned.config.uplink.side.channels) before after
     → ComparesAll Up (λ i. good_in (link.rnc.state.readings i)) (λ i. (link.ue.state.layer.given i).blocks) (length planned.config.uplink.side.channels) before after
-compared_up planned first link nodes before after opened is all = record {
+compared_up began planned first link nodes before after opened is all = record {
   lines = all.lines;
   checked = checked-same Up (λ i. good_of (rnc_taken nodes.rnc i)) (λ i. blocks_in (held_at nodes.ue.layer.given i)) (λ i. good_in (link.rnc.state.readings i)) (λ i. (link.ue.state.layer.given i).blocks) (length planned.config.uplink.side.channels) all.lines
       (λ i inside. ap good_of (is.rnc.stands.readings i inside) ∙ rnc_good (link.rnc.state.readings i)) (λ i inside. given_is planned Up link.ue.state.layer nodes.ue.layer i opened.ue.sends is.ue.stands.at.layer inside) all.checked;

@@ -19,11 +19,11 @@ use Rattle.dch_rxframes.specs.RxFrames.{RxFrames}
 use Rattle.dch_node.specs.Lines.{Line}
 use Rattle.dch_node.specs.Values.{Output, Radio, says}
 use Rattle.dch_layer.specs.Layers.{Layer}
-use Rattle.dch_ue.specs.State.{Event as UeEvent, BlockedCombination as UeBlocked, DownlinkFrame, OfferedUnit as UeOffered, State as UeState, Tick as UeTicks}
+use Rattle.dch_ue.specs.State.{Event as UeEvent, BlockedCombination as UeBlocked, Change as UeChange, DownlinkFrame, OfferedUnit as UeOffered, State as UeState, Tick as UeTicks}
 use Rattle.dch_ue.specs.Steps.{Steps as UeSteps}
-use Rattle.dch_nodeb.specs.State.{DownlinkDue, Event as NodeBEvent, IubFrame as IubDown, State as NodeBState, UplinkFrame}
+use Rattle.dch_nodeb.specs.State.{Change as NodeBChange, DownlinkDue, Event as NodeBEvent, IubFrame as IubDown, State as NodeBState, UplinkFrame}
 use Rattle.dch_nodeb.specs.Steps.{DeliversSet, IsRadio, Steps as NodeBSteps}
-use Rattle.dch_rnc.specs.State.{Event as RncEvent, BlockedCombination as RncBlocked, IubFrame as IubUp, OfferedUnit as RncOffered, State as RncState, Tick as RncTicks}
+use Rattle.dch_rnc.specs.State.{Event as RncEvent, BlockedCombination as RncBlocked, Change as RncChange, IubFrame as IubUp, OfferedUnit as RncOffered, State as RncState, Tick as RncTicks}
 use Rattle.dch_rnc.specs.Steps.{IsSent, Steps as RncSteps}
 use Rattle.dch_link.specs.Fitting.{Fits, FitsIub, FitsRadio, MayFitIub, MayFitRadio}
 
@@ -74,6 +74,7 @@ ue_fits planned old new UeTicks output step same runs = record {
       (λ listed. frame_fits old.planned Up _ new.layer.running step.written.frame step.radio listed step.written.written step.written.tfci step.written.cells) runs);
   iub_is = λ s early. subst (λ (o : Option (List ℕ)). MayFitIub planned Up s o) (sym (step.no_iub s early)) tt;
 }
+ue_fits planned old new (UeChange second) output step same runs = says_fits planned Up Up output [] step.quiet
 
 radio_fits : (planned : Planned) (state : NodeBState) (radio : Option Radio) → IsRadio planned state radio → MayFitRadio planned Down radio
 radio_fits planned state None is = tt
@@ -97,6 +98,7 @@ node_b_fits planned old new (UplinkFrame frame) output step same = subst (λ (p 
   radio_is = subst (λ (r : Option Radio). MayFitRadio old.planned Down r) (sym step.no_radio) tt;
   iub_is = λ s early. delivered_fits old.planned step.rx_frames s (step.lines s) (output.iub s) (step.sets s early);
 })
+node_b_fits planned old new (NodeBChange second) output step same = says_fits planned Down Up output [] step.quiet
 
 sent_fits : (planned : Planned) (cfn : ℕ) (layer : Layer) (set : ℕ) (iub : Option (List ℕ)) → IsSent planned.config cfn layer set iub → MayFitIub planned Down set iub
 sent_fits planned cfn layer set None is = tt
@@ -111,3 +113,4 @@ rnc_fits planned old new RncTicks output step same = subst (λ (p : Planned). Fi
   radio_is = subst (λ (r : Option Radio). MayFitRadio old.planned Down r) (sym step.no_radio) tt;
   iub_is = λ s early. sent_fits old.planned old.cfn new.layer s (output.iub s) (step.iub s early);
 })
+rnc_fits planned old new (RncChange second) output step same = says_fits planned Down Down output [] step.quiet

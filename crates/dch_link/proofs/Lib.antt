@@ -1,7 +1,10 @@
 pub mod Arriving
+pub mod Cfns
+pub mod Changing
 pub mod Compared
 pub mod Coursing
 pub mod Fits
+pub mod Following
 pub mod Nexts
 pub mod Opened
 pub mod Reporting

@@ -36,14 +36,14 @@ ue_running : (planned : Planned) (state : UeState) (ue : Ue) → IsUeOf planned 
 ue_running planned state ue opened is =
     subst (λ n. n < length planned.config.uplink.side.combinations) is.at.layer.running (subst (λ (d : Dir). ue.layer.running < length (side_of planned.config d).combinations) opened.sends is.at.layer.runs)
 
-pub ue_next : (planned : Planned) (first : ℕ) (link : LinkState) (nodes : Nodes) (event : UeEvent) (ue : Ue) (before after : Text) → Represents planned first link nodes → IsUeOf planned ue
-    → UeStepped planned link.ue.state event ue before.text after.text → after.most ≡ before.most → LeadsTo planned first (UeReports link event) (record nodes { ue = ue }) before after
-ue_next planned first link nodes event ue before after was opened step most = record {
+pub ue_next : (began planned : Planned) (first : ℕ) (link : LinkState) (nodes : Nodes) (event : UeEvent) (ue : Ue) (before after : Text) → Represents began planned first link nodes → IsUeOf planned ue
+    → UeStepped planned link.ue.state event ue before.text after.text → after.most ≡ before.most → LeadsTo began planned first (UeReports link event) (record nodes { ue = ue }) before after
+ue_next began planned first link nodes event ue before after was opened step most = record {
   next = record link { ue = course_after link.ue event step.next step.output };
   lines = step.output.lines;
   does = (record { ue = course_after link.ue event step.next step.output; goes = record { state = step.next; output = step.output; step = step.step; is = refl }; is = refl }, refl);
   stands = record {
-    ue = course_is UeSteps (UeStands planned) UeShows (opened_ue planned first) link.ue event nodes.ue ue before.text after.text was.ue step;
+    ue = course_is UeSteps (UeStands planned) UeShows (opened_ue began first) link.ue event nodes.ue ue before.text after.text was.ue step;
     node_b = was.node_b;
     rnc = was.rnc;
     ue_sends = ue_fits planned link.ue.state step.next event step.output step.step was.ue.stands.at.active (ue_running planned step.next ue opened step.stands);
@@ -54,15 +54,15 @@ ue_next planned first link nodes event ue before after was opened step most = re
   reported = went_on before after step.output.lines step.reported most;
 }
 
-pub node_b_next : (planned : Planned) (first : ℕ) (link : LinkState) (nodes : Nodes) (event : NodeBEvent) (node_b : NodeB) (before after : Text) → Represents planned first link nodes
-    → NodeBStepped planned link.node_b.state event node_b before.text after.text → after.most ≡ before.most → LeadsTo planned first (NodeBReports link event) (record nodes { node_b = node_b }) before after
-node_b_next planned first link nodes event node_b before after was step most = record {
+pub node_b_next : (began planned : Planned) (first : ℕ) (link : LinkState) (nodes : Nodes) (event : NodeBEvent) (node_b : NodeB) (before after : Text) → Represents began planned first link nodes
+    → NodeBStepped planned link.node_b.state event node_b before.text after.text → after.most ≡ before.most → LeadsTo began planned first (NodeBReports link event) (record nodes { node_b = node_b }) before after
+node_b_next began planned first link nodes event node_b before after was step most = record {
   next = record link { node_b = course_after link.node_b event step.next step.output };
   lines = step.output.lines;
   does = (record { node_b = course_after link.node_b event step.next step.output; goes = record { state = step.next; output = step.output; step = step.step; is = refl }; is = refl }, refl);
   stands = record {
     ue = was.ue;
-    node_b = course_is NodeBSteps (NodeBStands planned) NodeBShows (opened_node_b planned first) link.node_b event nodes.node_b node_b before.text after.text was.node_b step;
+    node_b = course_is NodeBSteps (NodeBStands planned) NodeBShows (opened_node_b began first) link.node_b event nodes.node_b node_b before.text after.text was.node_b step;
     rnc = was.rnc;
     ue_sends = was.ue_sends;
     node_b_sends = node_b_fits planned link.node_b.state step.next event step.output step.step was.node_b.stands.active;
@@ -72,16 +72,16 @@ node_b_next planned first link nodes event node_b before after was step most = r
   reported = went_on before after step.output.lines step.reported most;
 }
 
-pub rnc_next : (planned : Planned) (first : ℕ) (link : LinkState) (nodes : Nodes) (event : RncEvent) (rnc : Rnc) (before after : Text) → Represents planned first link nodes
-    → RncStepped planned link.rnc.state event rnc before.text after.text → after.most ≡ before.most → LeadsTo planned first (RncReports link event) (record nodes { rnc = rnc }) before after
-rnc_next planned first link nodes event rnc before after was step most = record {
+pub rnc_next : (began planned : Planned) (first : ℕ) (link : LinkState) (nodes : Nodes) (event : RncEvent) (rnc : Rnc) (before after : Text) → Represents began planned first link nodes
+    → RncStepped planned link.rnc.state event rnc before.text after.text → after.most ≡ before.most → LeadsTo began planned first (RncReports link event) (record nodes { rnc = rnc }) before after
+rnc_next began planned first link nodes event rnc before after was step most = record {
   next = record link { rnc = course_after link.rnc event step.next step.output };
   lines = step.output.lines;
   does = (record { rnc = course_after link.rnc event step.next step.output; goes = record { state = step.next; output = step.output; step = step.step; is = refl }; is = refl }, refl);
   stands = record {
     ue = was.ue;
     node_b = was.node_b;
-    rnc = course_is RncSteps (RncStands planned) RncShows (opened_rnc planned first) link.rnc event nodes.rnc rnc before.text after.text was.rnc step;
+    rnc = course_is RncSteps (RncStands planned) RncShows (opened_rnc began first) link.rnc event nodes.rnc rnc before.text after.text was.rnc step;
     ue_sends = was.ue_sends;
     node_b_sends = was.node_b_sends;
     rnc_sends = rnc_fits planned link.rnc.state step.next event step.output step.step was.rnc.stands.at.active;
@@ -91,8 +91,8 @@ rnc_next planned first link nodes event rnc before after was step most = record 
 }
 
 -- the tables of damage change, and keep another list
-pub with_damage : (planned : Planned) (first : ℕ) (link : LinkState) (nodes : Nodes) (damage : List Damage) (tables : Tables) → Represents planned first link nodes → Waits damage tables → Represents planned first (record link { damage = damage }) (record nodes { damage = tables })
-with_damage planned first link nodes damage tables was waits = record {
+pub with_damage : (began planned : Planned) (first : ℕ) (link : LinkState) (nodes : Nodes) (damage : List Damage) (tables : Tables) → Represents began planned first link nodes → Waits damage tables → Represents began planned first (record link { damage = damage }) (record nodes { damage = tables })
+with_damage began planned first link nodes damage tables was waits = record {
   ue = was.ue;
   node_b = was.node_b;
   rnc = was.rnc;
@@ -103,24 +103,24 @@ with_damage planned first link nodes damage tables was waits = record {
 }
 
 -- one more piece of damage waits
-pub damage_next : (planned : Planned) (first : ℕ) (link : LinkState) (nodes : Nodes) (one : Damage) (tables : Tables) (report : Text) → Represents planned first link nodes → Waits (one ∷ link.damage) tables
-    → LeadsTo planned first (Happens link (Damages one)) (record nodes { damage = tables }) report report
-damage_next planned first link nodes one tables report was waits = record {
+pub damage_next : (began planned : Planned) (first : ℕ) (link : LinkState) (nodes : Nodes) (one : Damage) (tables : Tables) (report : Text) → Represents began planned first link nodes → Waits (one ∷ link.damage) tables
+    → LeadsTo began planned first (Happens link (Damages one)) (record nodes { damage = tables }) report report
+damage_next began planned first link nodes one tables report was waits = record {
   next = record link { damage = one ∷ link.damage };
   lines = [];
   does = (refl, refl);
-  stands = with_damage planned first link nodes (one ∷ link.damage) tables was waits;
+  stands = with_damage began planned first link nodes (one ∷ link.damage) tables was waits;
   reported = added-none report;
 }
 
 -- nodes that stood for something still do
 pub still : (planned : Planned) (Does : LinkState → LinkState → List Line → Type 0) (old new : Nodes) (before after : Text) → IsLinkOf planned old → AreNodesOf planned new
-    → ((first : ℕ) (link : LinkState) → Represents planned first link old → LeadsTo planned first (Does link) new before after) → IsLinkOf planned new
+    → ((began : Planned) (first : ℕ) (link : LinkState) → Represents began planned first link old → LeadsTo began planned first (Does link) new before after) → IsLinkOf planned new
 still planned Does old new before after was opened leads =
-    let led = leads was.first was.link was.stands in
-    record { opened = opened; first = was.first; link = led.next; stands = led.stands }
+    let led = leads was.began was.first was.link was.stands in
+    record { opened = opened; began = was.began; first = was.first; link = led.next; stands = led.stands }
 
 -- what was done is something else that was done
-pub led_by : (planned : Planned) (first : ℕ) (One Other : LinkState → List Line → Type 0) (nodes : Nodes) (before after : Text) → ((next : LinkState) (lines : List Line) → One next lines → Other next lines)
-    → LeadsTo planned first One nodes before after → LeadsTo planned first Other nodes before after
-led_by planned first One Other nodes before after other leads = record { next = leads.next; lines = leads.lines; does = other leads.next leads.lines leads.does; stands = leads.stands; reported = leads.reported }
+pub led_by : (began planned : Planned) (first : ℕ) (One Other : LinkState → List Line → Type 0) (nodes : Nodes) (before after : Text) → ((next : LinkState) (lines : List Line) → One next lines → Other next lines)
+    → LeadsTo began planned first One nodes before after → LeadsTo began planned first Other nodes before after
+led_by began planned first One Other nodes before after other leads = record { next = leads.next; lines = leads.lines; does = other leads.next leads.lines leads.does; stands = leads.stands; reported = leads.reported }

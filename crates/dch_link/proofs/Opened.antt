@@ -22,8 +22,8 @@ use Rattle.dch_link.specs.Standing.{Represents}
 use Rattle.dch_link.proofs.Coursing.{course_of}
 use Rattle.dch_link.proofs.Fits.{says_fits}
 
-pub opened_stands : (planned : Planned) (first : ℕ) (ue : Ue) (node_b : NodeB) (rnc : Rnc) (tables : Tables) → UeHistory planned first [] [] ue → NodeBHistory planned first [] [] node_b → RncHistory planned first [] [] rnc → Waits [] tables
-    → Represents planned first (opened_link planned first) (record { ue = ue; node_b = node_b; rnc = rnc; damage = tables })
+pub opened_stands : (planned : Planned) (first : ℕ) (ue : Ue) (node_b : NodeB) (rnc : Rnc) (tables : Tables) → UeHistory planned planned first [] [] ue → NodeBHistory planned planned first [] [] node_b → RncHistory planned planned first [] [] rnc → Waits [] tables
+    → Represents planned planned first (opened_link planned first) (record { ue = ue; node_b = node_b; rnc = rnc; damage = tables })
 opened_stands planned first ue node_b rnc tables ue_has node_b_has rnc_has waits = record {
   ue = course_of UeSteps (UeStands planned) UeShows (opened_ue planned first) ue ue_has;
   node_b = course_of NodeBSteps (NodeBStands planned) NodeBShows (opened_node_b planned first) node_b node_b_has;

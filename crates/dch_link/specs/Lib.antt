@@ -1,3 +1,4 @@
+pub mod Changing
 pub mod Checks
 pub mod Comparing
 pub mod Courses
@@ -8,3 +9,4 @@ pub mod Passing
 pub mod Stages
 pub mod Standing
 pub mod Values
+pub mod Within

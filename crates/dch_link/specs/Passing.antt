@@ -1,5 +1,5 @@
 -- The stages of a radio frame, one after another.
-use Rattle.std.specs.Prelude.{◌+◌, ◌-◌, ◌==◌, ◌<◌, ℕ, Option, Some, None, if◌then◌else◌}
+use Rattle.std.specs.Prelude.{◌+◌, ◌-◌, ◌%◌, ◌==◌, ◌<◌, ℕ, Bool, true, false, Option, Some, None, if◌then◌else◌}
 use Rattle.dch_link.specs.declared.stage.Stage.{Stage}
 use Rattle.dch_link.specs.declared.stage.Stage.TheVariants.{RncTick, IubDown, RadioDown, UeTick, RadioUp, IubUp}
 
@@ -29,3 +29,21 @@ stages_left RadioDown = 11
 stages_left UeTick = 10
 stages_left RadioUp = 9
 stages_left (IubUp set) = 8 - set
+
+-- a radio frame begins with this stage
+abbrev pub is_first : Stage → Bool
+is_first RncTick = true
+is_first (IubDown set) = false
+is_first RadioDown = false
+is_first UeTick = false
+is_first RadioUp = false
+is_first (IubUp set) = false
+
+-- the CFN of the terminal after a stage: it goes on where 10 ms pass there
+abbrev pub cfn_after : Stage → ℕ → ℕ
+cfn_after RncTick cfn = cfn
+cfn_after (IubDown set) cfn = cfn
+cfn_after RadioDown cfn = cfn
+cfn_after UeTick cfn = (cfn + 1) % 256
+cfn_after RadioUp cfn = cfn
+cfn_after (IubUp set) cfn = cfn

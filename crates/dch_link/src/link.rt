@@ -1,5 +1,6 @@
 ghost use Rattle.std.specs.Prelude.{◌≡◌, ◌<◌, ◌≤◌, ◌+◌, ◌%◌, ℕ, [], length, IfOk};
 ghost use Rattle.dch_types.specs.declared.channel.Dir.TheVariants.{Down, Up};
+ghost use Rattle.dch_config.specs.Changes.{KeepsBearer};
 ghost use Rattle.dch_accept.specs.HeldSets.{held_at};
 ghost use Rattle.dch_accept.specs.Plans.{Planned};
 ghost use Rattle.dch_accept.specs.Reports.{step_bytes};
@@ -12,9 +13,9 @@ ghost use Rattle.dch_rnc.specs.Values.{taken_shown as rnc_taken};
 ghost use Rattle.dch_link.specs.Comparing.{ComparesAll, good_of};
 ghost use Rattle.dch_link.specs.Events.{Happens};
 ghost use Rattle.dch_link.specs.Link.{LinkState, opened_link};
-ghost use Rattle.dch_link.specs.Passing.{IsStage};
+ghost use Rattle.dch_link.specs.Passing.{IsStage, cfn_after};
 ghost use Rattle.dch_link.specs.Stages.{AtStage, UeGoes};
-ghost use Rattle.dch_link.specs.Standing.{AreNodesOf, HaveHistories, IsLinkOf, LeadsTo, MayCome, Represents, event_of};
+ghost use Rattle.dch_link.specs.Standing.{AreNodesOf, CanChange, ChangesTo, HasNext, HaveHistories, IsLinkOf, LeadsTo, MayCome, Represents, event_of};
 ghost use Rattle.dch_link.specs.Values.{Nodes};
 
 use crate::check::compare;
@@ -68,7 +69,7 @@ impl Link {
     pub fn open(alloc: Global, accepted: &Accepted, first_cfn: u8) -> Result<Link, NoMemory>
         requires { first_cfn % 8 ≡ 0 }
         ensures opened { IfOk result (IsLinkOf accepted.now) }
-        ensures stands { IfOk result (Represents accepted.now first_cfn (opened_link accepted.now first_cfn)) }
+        ensures stands { IfOk result (Represents accepted.now accepted.now first_cfn (opened_link accepted.now first_cfn)) }
     {
         Ok(Link {
             ue: Ue::open(alloc, accepted, first_cfn)?,
@@ -78,10 +79,32 @@ impl Link {
         })
     }
 
+    /// Opens the three nodes for a first configuration, and takes all memory for a second one besides, which can follow it. The first
+    /// radio frame has this CFN, and no damage waits.
+    pub fn open_both(
+        alloc: Global,
+        first: &Accepted,
+        second: &Accepted,
+        first_cfn: u8,
+    ) -> Result<Link, NoMemory>
+        requires eighth { first_cfn % 8 ≡ 0 }
+        requires kept { (b : ℕ) → KeepsBearer first.now.config second.now.config b }
+        ensures opened { IfOk result (IsLinkOf first.now) }
+        ensures stands { IfOk result (Represents first.now first.now first_cfn (opened_link first.now first_cfn)) }
+        ensures next { IfOk result (HasNext first.now second.now) }
+    {
+        Ok(Link {
+            ue: Ue::open_both(alloc, first, second, first_cfn)?,
+            node_b: NodeB::open_both(alloc, first, second, first_cfn)?,
+            rnc: Rnc::open_both(alloc, first, second, first_cfn)?,
+            damage: Damage::open_both(alloc, first, second)?,
+        })
+    }
+
     /// The nodes, after the work.
     pub fn into_nodes(self) -> (Ue, NodeB, Rnc)
         ensures nodes { (result.0 ≡ self.ue) × (result.1 ≡ self.node_b) × (result.2 ≡ self.rnc) }
-        ensures histories { (planned : Planned) (first : ℕ) (link : LinkState) → Represents planned first link self → HaveHistories planned first link result.0 result.1 result.2 }
+        ensures histories { (began planned : Planned) (first : ℕ) (link : LinkState) → Represents began planned first link self → HaveHistories began planned first link result.0 result.1 result.2 }
     {
         let Link {
             ue,
@@ -98,9 +121,11 @@ impl Link {
         requires event { MayCome accepted.now event }
         requires room { HasRoomFor report.old (step_bytes accepted.now.config) }
         ensures opened { IsLinkOf accepted.now self.new }
-        ensures happens { (first : ℕ) (link : LinkState) → Represents accepted.now first link self.old → LeadsTo accepted.now first (Happens link (event_of event.entry)) self.new report.old report.new }
+        ensures happens { (began : Planned) (first : ℕ) (link : LinkState) → Represents began accepted.now first link self.old → LeadsTo began accepted.now first (Happens link (event_of event.entry)) self.new report.old report.new }
+        ensures next { (second : Planned) → HasNext accepted.now second self.old → HasNext accepted.now second self.new }
         ensures few { length report.new.text ≤ length report.old.text + step_bytes accepted.now.config }
         ensures most { report.new.most ≡ report.old.most }
+        ensures cfn { self.new.ue.cfn ≡ self.old.ue.cfn }
     {
         self.take_event(accepted, event, report);
     }
@@ -111,9 +136,11 @@ impl Link {
         requires stage { IsStage stage }
         requires room { HasRoomFor report.old (step_bytes accepted.now.config + 2400) }
         ensures opened { IsLinkOf accepted.now self.new }
-        ensures passes { (first : ℕ) (link : LinkState) → Represents accepted.now first link self.old → LeadsTo accepted.now first (AtStage stage link) self.new report.old report.new }
+        ensures passes { (began : Planned) (first : ℕ) (link : LinkState) → Represents began accepted.now first link self.old → LeadsTo began accepted.now first (AtStage stage link) self.new report.old report.new }
+        ensures next { (second : Planned) → HasNext accepted.now second self.old → HasNext accepted.now second self.new }
         ensures few { length report.new.text ≤ length report.old.text + (step_bytes accepted.now.config + 2400) }
         ensures most { report.new.most ≡ report.old.most }
+        ensures cfn { self.new.ue.cfn ≡ cfn_after stage self.old.ue.cfn }
     {
         self.run_stage(accepted, stage, report);
     }
@@ -122,9 +149,37 @@ impl Link {
     pub fn end_frame(&mut self, accepted: &Accepted)
         requires { IsLinkOf accepted.now self.old }
         ensures opened { IsLinkOf accepted.now self.new }
-        ensures clear { (first : ℕ) (link : LinkState) → Represents accepted.now first link self.old → Represents accepted.now first (record link { damage = [] }) self.new }
+        ensures clear { (began : Planned) (first : ℕ) (link : LinkState) → Represents began accepted.now first link self.old → Represents began accepted.now first (record link { damage = [] }) self.new }
+        ensures next { (second : Planned) → HasNext accepted.now second self.old → HasNext accepted.now second self.new }
+        ensures cfn { self.new.ue.cfn ≡ self.old.ue.cfn }
     {
         self.damage.clear();
+    }
+
+    /// A second configuration becomes active at the network controller, the Node B and the terminal, after the last radio frame of all TTIs.
+    /// Nothing is reported of it, and the damage that waits stays for the next radio frame.
+    pub fn change(&mut self, accepted: &Accepted, report: &mut Report)
+        requires opened { CanChange accepted.now self.old }
+        requires room { HasRoomFor report.old (step_bytes accepted.now.config) }
+        ensures opened { IsLinkOf accepted.now self.new }
+        ensures changes { (began before : Planned) (first : ℕ) (link : LinkState) → Represents began before first link self.old → HasNext before accepted.now self.old → ChangesTo began accepted.now first link self.new }
+        ensures same { report.new ≡ report.old }
+        ensures cfn { self.new.ue.cfn ≡ self.old.ue.cfn }
+    {
+        self.change_nodes(accepted, report);
+    }
+
+    /// The second configuration becomes active at each node.
+    fn change_nodes(&mut self, accepted: &Accepted, report: &mut Report)
+        requires opened { CanChange accepted.now self.old }
+        requires room { HasRoomFor report.old (step_bytes accepted.now.config) }
+        ensures opened { AreNodesOf accepted.now self.new }
+        ensures changes { (began before : Planned) (first : ℕ) (link : LinkState) → Represents began before first link self.old → HasNext before accepted.now self.old → ChangesTo began accepted.now first link self.new }
+        ensures same { report.new ≡ report.old }
+    {
+        self.rnc.step(accepted, RncEvent::Change, report);
+        self.node_b.step(accepted, NodeBEvent::Change, report);
+        self.ue.step(accepted, UeEvent::Change, report);
     }
 
     /// Takes an event at the node where it happens, or as damage that waits.
@@ -133,7 +188,8 @@ impl Link {
         requires event { MayCome accepted.now event }
         requires room { HasRoomFor report.old (step_bytes accepted.now.config) }
         ensures opened { AreNodesOf accepted.now self.new }
-        ensures happens { (first : ℕ) (link : LinkState) → Represents accepted.now first link self.old → LeadsTo accepted.now first (Happens link (event_of event.entry)) self.new report.old report.new }
+        ensures happens { (began : Planned) (first : ℕ) (link : LinkState) → Represents began accepted.now first link self.old → LeadsTo began accepted.now first (Happens link (event_of event.entry)) self.new report.old report.new }
+        ensures next { (second : Planned) → HasNext accepted.now second self.old → HasNext accepted.now second self.new }
         ensures few { length report.new.text ≤ length report.old.text + step_bytes accepted.now.config }
         ensures most { report.new.most ≡ report.old.most }
     {
@@ -201,7 +257,8 @@ impl Link {
         requires stage { IsStage stage }
         requires room { HasRoomFor report.old (step_bytes accepted.now.config + 2400) }
         ensures opened { AreNodesOf accepted.now self.new }
-        ensures passes { (first : ℕ) (link : LinkState) → Represents accepted.now first link self.old → LeadsTo accepted.now first (AtStage stage link) self.new report.old report.new }
+        ensures passes { (began : Planned) (first : ℕ) (link : LinkState) → Represents began accepted.now first link self.old → LeadsTo began accepted.now first (AtStage stage link) self.new report.old report.new }
+        ensures next { (second : Planned) → HasNext accepted.now second self.old → HasNext accepted.now second self.new }
         ensures few { length report.new.text ≤ length report.old.text + (step_bytes accepted.now.config + 2400) }
         ensures most { report.new.most ≡ report.old.most }
     {
@@ -221,7 +278,8 @@ impl Link {
         requires set { set < 8 }
         requires room { HasRoomFor report.old (step_bytes accepted.now.config) }
         ensures opened { AreNodesOf accepted.now self.new }
-        ensures passes { (first : ℕ) (link : LinkState) → Represents accepted.now first link self.old → LeadsTo accepted.now first (AtStage (Stage.IubDown set) link) self.new report.old report.new }
+        ensures passes { (began : Planned) (first : ℕ) (link : LinkState) → Represents began accepted.now first link self.old → LeadsTo began accepted.now first (AtStage (Stage.IubDown set) link) self.new report.old report.new }
+        ensures next { (second : Planned) → HasNext accepted.now second self.old → HasNext accepted.now second self.new }
         ensures few { length report.new.text ≤ length report.old.text + step_bytes accepted.now.config }
         ensures most { report.new.most ≡ report.old.most }
     {
@@ -237,7 +295,8 @@ impl Link {
         requires opened { IsLinkOf accepted.now self.old }
         requires room { HasRoomFor report.old (step_bytes accepted.now.config + 2400) }
         ensures opened { AreNodesOf accepted.now self.new }
-        ensures passes { (first : ℕ) (link : LinkState) → Represents accepted.now first link self.old → LeadsTo accepted.now first (AtStage Stage.UeTick link) self.new report.old report.new }
+        ensures passes { (began : Planned) (first : ℕ) (link : LinkState) → Represents began accepted.now first link self.old → LeadsTo began accepted.now first (AtStage Stage.UeTick link) self.new report.old report.new }
+        ensures next { (second : Planned) → HasNext accepted.now second self.old → HasNext accepted.now second self.new }
         ensures few { length report.new.text ≤ length report.old.text + (step_bytes accepted.now.config + 2400) }
         ensures most { report.new.most ≡ report.old.most }
     {
@@ -251,7 +310,8 @@ impl Link {
         requires opened { IsLinkOf accepted.now self.old }
         requires room { HasRoomFor report.old (step_bytes accepted.now.config) }
         ensures opened { AreNodesOf accepted.now self.new }
-        ensures comes { (first : ℕ) (link : LinkState) → Represents accepted.now first link self.old → (mid : LinkState) × (UeGoes link (DownlinkFrame (radio_after link.damage Down link.node_b.last.sent)) mid × Represents accepted.now first mid self.new) }
+        ensures comes { (began : Planned) (first : ℕ) (link : LinkState) → Represents began accepted.now first link self.old → (mid : LinkState) × (UeGoes link (DownlinkFrame (radio_after link.damage Down link.node_b.last.sent)) mid × Represents began accepted.now first mid self.new) }
+        ensures next { (second : Planned) → HasNext accepted.now second self.old → HasNext accepted.now second self.new }
         ensures same { report.new ≡ report.old }
     {
         self.damage.hit_radio(Dir::Down, self.node_b.sent());
@@ -264,7 +324,8 @@ impl Link {
         requires opened { IsLinkOf accepted.now self.old }
         requires room { HasRoomFor report.old (step_bytes accepted.now.config) }
         ensures opened { AreNodesOf accepted.now self.new }
-        ensures passes { (first : ℕ) (link : LinkState) → Represents accepted.now first link self.old → LeadsTo accepted.now first (AtStage Stage.RadioUp link) self.new report.old report.new }
+        ensures passes { (began : Planned) (first : ℕ) (link : LinkState) → Represents began accepted.now first link self.old → LeadsTo began accepted.now first (AtStage Stage.RadioUp link) self.new report.old report.new }
+        ensures next { (second : Planned) → HasNext accepted.now second self.old → HasNext accepted.now second self.new }
         ensures few { length report.new.text ≤ length report.old.text + step_bytes accepted.now.config }
         ensures most { report.new.most ≡ report.old.most }
     {
@@ -280,7 +341,8 @@ impl Link {
         requires set { set < 8 }
         requires room { HasRoomFor report.old (step_bytes accepted.now.config + 2400) }
         ensures opened { AreNodesOf accepted.now self.new }
-        ensures passes { (first : ℕ) (link : LinkState) → Represents accepted.now first link self.old → LeadsTo accepted.now first (AtStage (Stage.IubUp set) link) self.new report.old report.new }
+        ensures passes { (began : Planned) (first : ℕ) (link : LinkState) → Represents began accepted.now first link self.old → LeadsTo began accepted.now first (AtStage (Stage.IubUp set) link) self.new report.old report.new }
+        ensures next { (second : Planned) → HasNext accepted.now second self.old → HasNext accepted.now second self.new }
         ensures few { length report.new.text ≤ length report.old.text + (step_bytes accepted.now.config + 2400) }
         ensures most { report.new.most ≡ report.old.most }
     {

@@ -1,5 +1,5 @@
 ghost use Rattle.std.specs.Prelude.{◌≡◌, ◌≤◌, IfSome, true};
-ghost use Rattle.dch_link.specs.Passing.{IsStage, next_stage, stages_left};
+ghost use Rattle.dch_link.specs.Passing.{IsStage, is_first, next_stage, stages_left};
 
 /// How many stages a radio frame has.
 pub const STAGES: u32 = 20;
@@ -38,6 +38,13 @@ impl Stage {
             Stage::IubUp(7) => None,
             Stage::IubUp(set) => Some(Stage::IubUp(set + 1)),
         }
+    }
+
+    /// Whether a radio frame begins with this stage.
+    pub fn is_first(self) -> bool
+        ensures { result ≡ is_first self }
+    {
+        matches!(self, Stage::RncTick)
     }
 
     /// How many stages of the radio frame are left, this one included.

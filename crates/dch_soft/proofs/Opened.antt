@@ -26,14 +26,14 @@ use Rattle.dch_soft.specs.Soft.{opened_soft}
 use Rattle.dch_soft.specs.Standing.{AreNewLegs, Represents, RepresentsLeg}
 use Rattle.dch_soft.specs.Values.{LegParts}
 
-pub leg_opened : (planned : Planned) (first : ℕ) (node_b : NodeB) (tables : Tables) → NodeBHistory planned first [] [] node_b → Waits [] tables → RepresentsLeg planned first (opened_leg planned first) (record { node_b = node_b; damage = tables })
+pub leg_opened : (planned : Planned) (first : ℕ) (node_b : NodeB) (tables : Tables) → NodeBHistory planned planned first [] [] node_b → Waits [] tables → RepresentsLeg planned first (opened_leg planned first) (record { node_b = node_b; damage = tables })
 leg_opened planned first node_b tables has waits = record {
   node_b = course_of NodeBSteps (NodeBStands planned) NodeBShows (opened_node_b planned first) node_b has;
   sends = says_fits planned Down Up no_output [] refl;
   damage = waits;
 }
 
-pub soft_opened : (planned : Planned) (first count room : ℕ) (ue : Ue) (rnc : Rnc) (legs : List LegParts) (combiner : Combiner) → UeHistory planned first [] [] ue → RncHistory planned first [] [] rnc → AreNewLegs planned first count legs
+pub soft_opened : (planned : Planned) (first count room : ℕ) (ue : Ue) (rnc : Rnc) (legs : List LegParts) (combiner : Combiner) → UeHistory planned planned first [] [] ue → RncHistory planned planned first [] [] rnc → AreNewLegs planned first count legs
     → ((s k : ℕ) → frames_of combiner s k ≡ None) → Represents planned first (opened_soft planned first count) (record { ue = ue; rnc = rnc; legs = legs; combiner = combiner; room = room; cfn = first })
 soft_opened planned first count room ue rnc legs combiner ue_has rnc_has are none = record {
   ue = course_of UeSteps (UeStands planned) UeShows (opened_ue planned first) ue ue_has;

@@ -143,7 +143,7 @@ pub record AreNewLegs (planned : Planned) (first count : ℕ) (legs : List LegPa
 
 -- each node stands for just what happened at it
 pub record HaveHistories (planned : Planned) (first : ℕ) (soft : SoftState) (ue : Ue) (legs : List LegParts) (rnc : Rnc) : Type 0 where
-  pub ue_has : UeHistory planned first soft.ue.events soft.ue.lines ue
-  pub rnc_has : RncHistory planned first soft.rnc.events soft.rnc.lines rnc
+  pub ue_has : UeHistory planned planned first soft.ue.events soft.ue.lines ue
+  pub rnc_has : RncHistory planned planned first soft.rnc.events soft.rnc.lines rnc
   pub count : length legs ≡ soft.count
-  pub legs_have : EachLeg (λ k leg. NodeBHistory planned first (soft.legs k).node_b.events (soft.legs k).node_b.lines leg.node_b) legs
+  pub legs_have : EachLeg (λ k leg. NodeBHistory planned planned first (soft.legs k).node_b.events (soft.legs k).node_b.lines leg.node_b) legs

@@ -29,4 +29,4 @@ returns c =
     let new : Parts = record mid { link = c.end_frame.new.self } in
     let way : IsUnderWay None c.args.self.now c.loop-next.self = subst (λ (o : Option Stage). IsUnderWay o c.args.self.now c.loop-next.self) (none_is c.loop-next.next c.in_default.not-Some) c.loop-next.invariant in
     let passed : Advances 20 (PassFrom 20 (Some RncTick)) c.args.self.now mid = subst (λ (p : Parts). Advances 20 (PassFrom 20 (Some RncTick)) c.args.self.now p) (sym c.self.view_is) (arrives c.args.self.now c.loop-next.self way) in
-    passes_all c.args.self.now mid new passed c.end_frame.ensures.clear c.end_frame.ensures.opened refl
+    passes_all c.args.self.now mid new passed (c.end_frame.ensures.clear mid.accepted) c.end_frame.ensures.opened refl

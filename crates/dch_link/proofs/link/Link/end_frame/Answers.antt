@@ -11,7 +11,8 @@ returns-clause-opened c =
     let opened : IsLinkOf c.args.accepted.now nodes = subst (λ (n : Nodes). IsLinkOf c.args.accepted.now n) (sym c.self.view_is) c.requires in
     record {
       opened = record { ue = opened.opened.ue; node_b = opened.opened.node_b; rnc = opened.opened.rnc; damage = c.clear.ensures.opened c.args.accepted.now opened.opened.damage };
+      began = opened.began;
       first = opened.first;
       link = record opened.link { damage = [] };
-      stands = with_damage c.args.accepted.now opened.first opened.link nodes [] c.clear.new.self opened.stands c.clear.ensures.none;
+      stands = with_damage opened.began c.args.accepted.now opened.first opened.link nodes [] c.clear.new.self opened.stands c.clear.ensures.none;
     }

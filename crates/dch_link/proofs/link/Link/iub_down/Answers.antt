@@ -1,6 +1,6 @@
-use Rattle.std.proofs.Common.{◌≡◌, ◌∙◌, ℕ, List, Option, Some, ap, sym, subst}
+use Rattle.std.proofs.Common.{◌≡◌, ◌∙◌, ℕ, List, Option, Some, refl, ap, sym, subst, None, []}
 use Rattle.dch_types.specs.declared.channel.Dir.TheVariants.{Down}
-use Rattle.dch_link.specs.Standing.{IsLinkOf, LeadsTo, Represents}
+use Rattle.dch_link.specs.Standing.{HasNext, IsLinkOf, LeadsTo, Represents}
 use Rattle.dch_link.specs.Values.{Nodes}
 use Rattle.dch_link.specs.contracts.link.Link.{the_view}
 use Rattle.dch_nodeb.specs.State.{IubFrame}
@@ -8,8 +8,10 @@ use Rattle.dch_damage.specs.Damage.{iub_after}
 use Rattle.dch_damage.specs.Lending.{octets_of as octets_hit}
 use Rattle.dch_damage.specs.Opened.{HasIubRoom}
 use Rattle.dch_link.specs.Stages.{MayGoDown}
+use Rattle.dch_link.proofs.Following.{damage_follows, node_b_follows}
 use Rattle.dch_link.proofs.Arriving.{iub_room, octets_same, set_there}
 use Rattle.dch_link.proofs.Nexts.{node_b_next, with_damage}
+use Rattle.dch_link.proofs.Reporting.{added-none}
 use Rattle.dch_link.proofs.link.Link.iub_down.Goals as goal
 
 pub hit_iub-requires-clause-room : goal.hit_iub-requires-clause-room
@@ -30,15 +32,41 @@ step-requires-clause-event c =
     ∙ ap (iub_after opened.link.damage Down c.args.set) (octets_same c.iub.result ∙ c.iub.ensures ∙ opened.stands.rnc.shows.iub c.args.set c.requires.set))
 
 pub returns-in-Some-clause-passes : goal.returns-in-Some-clause-passes
-returns-in-Some-clause-passes c = λ first link was.
+returns-in-Some-clause-passes c = λ began first link was.
     let planned = c.args.accepted.now in
     let set = c.args.set in
     let nodes : Nodes = the_view c.self.inside in
-    let is : Represents planned first link nodes = subst (λ (n : Nodes). Represents planned first link n) (sym c.self.view_is) was in
+    let is : Represents began planned first link nodes = subst (λ (n : Nodes). Represents began planned first link n) (sym c.self.view_is) was in
     let waits = c.hit_iub.ensures.arrives link.damage is.damage in
     let arrives : Some c.in-Some.frame.now ≡ iub_after link.damage Down set (link.rnc.last.iub set) =
     ap octets_hit (sym c.in-Some.is) ∙ c.iub-2.ensures ∙ waits.1 ∙ ap (iub_after link.damage Down set) (octets_same c.iub.result ∙ c.iub.ensures ∙ is.rnc.shows.iub set c.requires.set) in
     let hit : Nodes = record nodes { damage = c.hit_iub.new.self } in
-    let stood : Represents planned first link hit = with_damage planned first link nodes link.damage c.hit_iub.new.self is waits.0 in
-    subst (λ (o : Option (List ℕ)). LeadsTo planned first (λ next lines. MayGoDown set o link next lines) (record hit { node_b = c.step.new.self }) c.args.report.now c.step.new.report) arrives
-    (node_b_next planned first link hit (IubFrame set c.in-Some.frame.now) c.step.new.self c.args.report.now c.step.new.report stood (c.step.ensures.step link.node_b.state is.node_b.stands) c.step.ensures.most)
+    let stood : Represents began planned first link hit = with_damage began planned first link nodes link.damage c.hit_iub.new.self is waits.0 in
+    subst (λ (o : Option (List ℕ)). LeadsTo began planned first (λ next lines. MayGoDown set o link next lines) (record hit { node_b = c.step.new.self }) c.args.report.now c.step.new.report) arrives
+    (node_b_next began planned first link hit (IubFrame set c.in-Some.frame.now) c.step.new.self c.args.report.now c.step.new.report stood (c.step.ensures.step planned link.node_b.state refl is.node_b.stands) c.step.ensures.most)
+
+pub returns-in-Some-clause-next : goal.returns-in-Some-clause-next
+returns-in-Some-clause-next c = λ second was.
+    let planned = c.args.accepted.now in
+    let nodes : Nodes = the_view c.self.inside in
+    let has : HasNext planned second nodes = subst (λ (n : Nodes). HasNext planned second n) (sym c.self.view_is) was in
+    let hit : Nodes = record nodes { damage = c.hit_iub.new.self } in
+    node_b_follows planned second hit c.step.new.self c.step.ensures.next (damage_follows planned second nodes c.hit_iub.new.self c.hit_iub.ensures.opened has)
+
+pub returns-in_default-clause-passes : goal.returns-in_default-clause-passes
+returns-in_default-clause-passes c = λ began first link was.
+    let planned = c.args.accepted.now in
+    let set = c.args.set in
+    let nodes : Nodes = the_view c.self.inside in
+    let is : Represents began planned first link nodes = subst (λ (n : Nodes). Represents began planned first link n) (sym c.self.view_is) was in
+    let waits = c.hit_iub.ensures.arrives link.damage is.damage in
+    let none : None ≡ iub_after link.damage Down set (link.rnc.last.iub set) =
+    ap octets_hit (sym c.in_default.is) ∙ c.iub-2.ensures ∙ waits.1 ∙ ap (iub_after link.damage Down set) (octets_same c.iub.result ∙ c.iub.ensures ∙ is.rnc.shows.iub set c.requires.set) in
+    let hit : Nodes = record nodes { damage = c.hit_iub.new.self } in
+    subst (λ (o : Option (List ℕ)). LeadsTo began planned first (λ next lines. MayGoDown set o link next lines) hit c.args.report.now c.args.report.now) none (record {
+      next = link;
+      lines = [];
+      does = (refl, refl);
+      stands = with_damage began planned first link nodes link.damage c.hit_iub.new.self is waits.0;
+      reported = added-none c.args.report.now;
+    })

@@ -1,11 +1,11 @@
-use Rattle.std.proofs.Common.{◌≡◌, ◌∙◌, ◌++◌, ℕ, List, length, Option, Some, ap, sym, subst}
+use Rattle.std.proofs.Common.{◌≡◌, ◌∙◌, ◌++◌, ℕ, List, length, Option, Some, refl, ap, sym, subst, None, []}
 use Rattle.dch_types.specs.declared.channel.Dir.TheVariants.{Up}
 use Rattle.dch_accept.specs.Plans.{Planned}
 use Rattle.dch_script.specs.Held.{Held as Text}
 use Rattle.dch_node.specs.Lines.{Line}
 use Rattle.dch_txframes.specs.Reports.{added}
 use Rattle.dch_link.specs.Checks.{AreChecked, good_in}
-use Rattle.dch_link.specs.Standing.{AreNodesOf, IsLinkOf, LeadsTo, Represents}
+use Rattle.dch_link.specs.Standing.{AreNodesOf, HasNext, IsLinkOf, LeadsTo, Represents}
 use Rattle.dch_link.specs.Values.{Nodes}
 use Rattle.dch_link.specs.contracts.link.Link.{the_view}
 use Rattle.dch_rnc.specs.State.{IubFrame}
@@ -13,10 +13,11 @@ use Rattle.dch_damage.specs.Damage.{iub_after}
 use Rattle.dch_damage.specs.Lending.{octets_of as octets_hit}
 use Rattle.dch_damage.specs.Opened.{HasIubRoom}
 use Rattle.dch_link.specs.Stages.{MayGoUp}
+use Rattle.dch_link.proofs.Following.{damage_follows, rnc_follows}
 use Rattle.dch_link.proofs.Arriving.{iub_room, octets_same, set_there}
 use Rattle.dch_link.proofs.Compared.{compared_up}
 use Rattle.dch_link.proofs.Nexts.{rnc_next, with_damage}
-use Rattle.dch_link.proofs.Reporting.{added-added}
+use Rattle.dch_link.proofs.Reporting.{added-added, added-none}
 use Rattle.dch_link.proofs.link.Link.iub_up.Goals as goal
 
 pub hit_iub-requires-clause-room : goal.hit_iub-requires-clause-room
@@ -37,22 +38,22 @@ step-requires-clause-event c =
     ∙ ap (iub_after opened.link.damage Up c.args.set) (octets_same c.iub.result ∙ c.iub.ensures ∙ opened.stands.node_b.shows.iub c.args.set c.requires.set))
 
 pub returns-in-Some-clause-passes : goal.returns-in-Some-clause-passes
-returns-in-Some-clause-passes c = λ first link was.
+returns-in-Some-clause-passes c = λ began first link was.
     let set = c.args.set in
     let planned = c.args.accepted.now in
     let nodes : Nodes = the_view c.self.inside in
     let opened : IsLinkOf planned nodes = subst (λ (n : Nodes). IsLinkOf planned n) (sym c.self.view_is) c.requires.opened in
-    let is : Represents planned first link nodes = subst (λ (n : Nodes). Represents planned first link n) (sym c.self.view_is) was in
+    let is : Represents began planned first link nodes = subst (λ (n : Nodes). Represents began planned first link n) (sym c.self.view_is) was in
     let waits = c.hit_iub.ensures.arrives link.damage is.damage in
     let arrives : Some c.in-Some.frame.now ≡ iub_after link.damage Up set (link.node_b.last.iub set) =
     ap octets_hit (sym c.in-Some.is) ∙ c.iub-2.ensures ∙ waits.1 ∙ ap (iub_after link.damage Up set) (octets_same c.iub.result ∙ c.iub.ensures ∙ is.node_b.shows.iub set c.requires.set) in
     let hit : Nodes = record nodes { damage = c.hit_iub.new.self } in
-    let stood : Represents planned first link hit = with_damage planned first link nodes link.damage c.hit_iub.new.self is waits.0 in
-    let led = rnc_next planned first link hit (IubFrame set c.in-Some.frame.now) c.step.new.self c.args.report.now c.step.new.report stood (c.step.ensures.step link.rnc.state is.rnc.stands) c.step.ensures.most in
+    let stood : Represents began planned first link hit = with_damage began planned first link nodes link.damage c.hit_iub.new.self is waits.0 in
+    let led = rnc_next began planned first link hit (IubFrame set c.in-Some.frame.now) c.step.new.self c.args.report.now c.step.new.report stood (c.step.ensures.step planned link.rnc.state refl is.rnc.stands) c.step.ensures.most in
     let now : Nodes = record hit { rnc = c.step.new.self } in
     let all : AreNodesOf planned now = record { ue = opened.opened.ue; node_b = opened.opened.node_b; rnc = c.step.ensures.opened; damage = c.hit_iub.ensures.opened planned opened.opened.damage } in
-    let compared = compared_up planned first led.next now c.step.new.report c.compare_up.new.report all led.stands c.compare_up.ensures.compared in
-    subst (λ (o : Option (List ℕ)). LeadsTo planned first (λ next lines. MayGoUp set o link next lines) now c.args.report.now c.compare_up.new.report) arrives (record {
+    let compared = compared_up began planned first led.next now c.step.new.report c.compare_up.new.report all led.stands c.compare_up.ensures.compared in
+    subst (λ (o : Option (List ℕ)). LeadsTo began planned first (λ next lines. MayGoUp set o link next lines) now c.args.report.now c.compare_up.new.report) arrives (record {
       next = led.next;
       lines = led.lines ++ compared.lines;
       does = record {
@@ -63,4 +64,30 @@ returns-in-Some-clause-passes c = λ first link was.
       };
       stands = led.stands;
       reported = compared.reported ∙ ap (λ (t : Text). added t compared.lines) led.reported ∙ added-added c.args.report.now led.lines compared.lines;
+    })
+
+pub returns-in-Some-clause-next : goal.returns-in-Some-clause-next
+returns-in-Some-clause-next c = λ second was.
+    let planned = c.args.accepted.now in
+    let nodes : Nodes = the_view c.self.inside in
+    let has : HasNext planned second nodes = subst (λ (n : Nodes). HasNext planned second n) (sym c.self.view_is) was in
+    let hit : Nodes = record nodes { damage = c.hit_iub.new.self } in
+    rnc_follows planned second hit c.step.new.self c.step.ensures.next (damage_follows planned second nodes c.hit_iub.new.self c.hit_iub.ensures.opened has)
+
+pub returns-in_default-clause-passes : goal.returns-in_default-clause-passes
+returns-in_default-clause-passes c = λ began first link was.
+    let planned = c.args.accepted.now in
+    let set = c.args.set in
+    let nodes : Nodes = the_view c.self.inside in
+    let is : Represents began planned first link nodes = subst (λ (n : Nodes). Represents began planned first link n) (sym c.self.view_is) was in
+    let waits = c.hit_iub.ensures.arrives link.damage is.damage in
+    let none : None ≡ iub_after link.damage Up set (link.node_b.last.iub set) =
+    ap octets_hit (sym c.in_default.is) ∙ c.iub-2.ensures ∙ waits.1 ∙ ap (iub_after link.damage Up set) (octets_same c.iub.result ∙ c.iub.ensures ∙ is.node_b.shows.iub set c.requires.set) in
+    let hit : Nodes = record nodes { damage = c.hit_iub.new.self } in
+    subst (λ (o : Option (List ℕ)). LeadsTo began planned first (λ next lines. MayGoUp set o link next lines) hit c.args.report.now c.args.report.now) none (record {
+      next = link;
+      lines = [];
+      does = (refl, refl);
+      stands = with_damage began planned first link nodes link.damage c.hit_iub.new.self is waits.0;
+      reported = added-none c.args.report.now;
     })

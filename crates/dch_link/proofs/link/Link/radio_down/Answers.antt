@@ -1,6 +1,6 @@
-use Rattle.std.proofs.Common.{◌≡◌, ◌∙◌, [], Option, ap, sym, subst}
+use Rattle.std.proofs.Common.{◌≡◌, ◌∙◌, [], Option, refl, ap, sym, subst}
 use Rattle.dch_types.specs.declared.channel.Dir.TheVariants.{Down}
-use Rattle.dch_link.specs.Standing.{IsLinkOf, Represents}
+use Rattle.dch_link.specs.Standing.{HasNext, IsLinkOf, Represents}
 use Rattle.dch_link.specs.Values.{Nodes}
 use Rattle.dch_link.specs.contracts.link.Link.{the_view}
 use Rattle.std.proofs.Common.{◌++◌}
@@ -11,6 +11,7 @@ use Rattle.dch_txframes.specs.Lending.{radio_of}
 use Rattle.dch_damage.specs.Damage.{radio_after}
 use Rattle.dch_damage.specs.Opened.{HasRadioRoom}
 use Rattle.dch_link.specs.Stages.{UeGoes}
+use Rattle.dch_link.proofs.Following.{damage_follows, ue_follows}
 use Rattle.dch_link.proofs.Arriving.{radio_room, radio_same, tfci_kept}
 use Rattle.dch_link.proofs.Nexts.{ue_next, with_damage}
 use Rattle.dch_link.proofs.Reporting.{added-none, went_on}
@@ -36,16 +37,16 @@ step-requires-clause-event c =
     ∙ ap (radio_after opened.link.damage Down) (radio_same c.sent.result ∙ c.sent.ensures ∙ opened.stands.node_b.shows.radio))
 
 pub returns-clause-comes : goal.returns-clause-comes
-returns-clause-comes c = λ first link was.
+returns-clause-comes c = λ began first link was.
     let planned = c.args.accepted.now in
     let nodes : Nodes = the_view c.self.inside in
-    let is : Represents planned first link nodes = subst (λ (n : Nodes). Represents planned first link n) (sym c.self.view_is) was in
+    let is : Represents began planned first link nodes = subst (λ (n : Nodes). Represents began planned first link n) (sym c.self.view_is) was in
     let waits = c.hit_radio.ensures.arrives link.damage is.damage in
     let arrives : radio_of c.radio-frame.result ≡ radio_after link.damage Down link.node_b.last.sent =
     sym (radio_same c.radio-frame.result) ∙ c.radio-frame.ensures ∙ waits.1 ∙ ap (radio_after link.damage Down) (radio_same c.sent.result ∙ c.sent.ensures ∙ is.node_b.shows.radio) in
     let hit : Nodes = record nodes { damage = c.hit_radio.new.self } in
-    let stood : Represents planned first link hit = with_damage planned first link nodes link.damage c.hit_radio.new.self is waits.0 in
-    let led = ue_next planned first link hit (DownlinkFrame (radio_of c.radio-frame.result)) c.step.new.self c.args.report.now c.step.new.report stood c.step.ensures.opened (c.step.ensures.step link.ue.state is.ue.stands) c.step.ensures.most in
+    let stood : Represents began planned first link hit = with_damage began planned first link nodes link.damage c.hit_radio.new.self is waits.0 in
+    let led = ue_next began planned first link hit (DownlinkFrame (radio_of c.radio-frame.result)) c.step.new.self c.args.report.now c.step.new.report stood c.step.ensures.opened (c.step.ensures.step planned link.ue.state refl is.ue.stands) c.step.ensures.most in
     (led.next, (subst (λ (r : Option Radio). UeGoes link (DownlinkFrame r) led.next) arrives led.does.0, led.stands))
 
 pub returns-clause-same : goal.returns-clause-same
@@ -53,5 +54,13 @@ returns-clause-same c =
     let planned = c.args.accepted.now in
     let nodes : Nodes = the_view c.self.inside in
     let opened : IsLinkOf planned nodes = subst (λ (n : Nodes). IsLinkOf planned n) (sym c.self.view_is) c.requires.opened in
-    let stepped = c.step.ensures.step opened.link.ue.state opened.stands.ue.stands in
+    let stepped = c.step.ensures.step planned opened.link.ue.state refl opened.stands.ue.stands in
     went_on c.args.report.now c.step.new.report [] (subst (λ (o : Output). c.step.new.report.text ≡ c.args.report.now.text ++ text_of o.lines) stepped.step.1 stepped.reported) c.step.ensures.most ∙ sym (added-none c.args.report.now)
+
+pub returns-clause-next : goal.returns-clause-next
+returns-clause-next c = λ second was.
+    let planned = c.args.accepted.now in
+    let nodes : Nodes = the_view c.self.inside in
+    let has : HasNext planned second nodes = subst (λ (n : Nodes). HasNext planned second n) (sym c.self.view_is) was in
+    let hit : Nodes = record nodes { damage = c.hit_radio.new.self } in
+    ue_follows planned second hit c.step.new.self c.step.ensures.next (damage_follows planned second nodes c.hit_radio.new.self c.hit_radio.ensures.opened has)

@@ -1,6 +1,6 @@
-use Rattle.std.proofs.Common.{◌≡◌, ◌∙◌, Option, ap, sym, subst}
+use Rattle.std.proofs.Common.{◌≡◌, ◌∙◌, Option, refl, ap, sym, subst}
 use Rattle.dch_types.specs.declared.channel.Dir.TheVariants.{Up}
-use Rattle.dch_link.specs.Standing.{IsLinkOf, LeadsTo, Represents}
+use Rattle.dch_link.specs.Standing.{HasNext, IsLinkOf, LeadsTo, Represents}
 use Rattle.dch_link.specs.Values.{Nodes}
 use Rattle.dch_link.specs.contracts.link.Link.{the_view}
 use Rattle.dch_nodeb.specs.State.{UplinkFrame}
@@ -9,6 +9,7 @@ use Rattle.dch_txframes.specs.Lending.{radio_of}
 use Rattle.dch_damage.specs.Damage.{radio_after}
 use Rattle.dch_damage.specs.Opened.{HasRadioRoom}
 use Rattle.dch_link.specs.Stages.{NodeBReports}
+use Rattle.dch_link.proofs.Following.{damage_follows, node_b_follows}
 use Rattle.dch_link.proofs.Arriving.{radio_room, radio_same, tfci_kept}
 use Rattle.dch_link.proofs.Nexts.{node_b_next, with_damage}
 use Rattle.dch_link.proofs.link.Link.radio_up.Goals as goal
@@ -33,14 +34,22 @@ step-requires-clause-event c =
     ∙ ap (radio_after opened.link.damage Up) (radio_same c.sent.result ∙ c.sent.ensures ∙ opened.stands.ue.shows.radio))
 
 pub returns-clause-passes : goal.returns-clause-passes
-returns-clause-passes c = λ first link was.
+returns-clause-passes c = λ began first link was.
     let planned = c.args.accepted.now in
     let nodes : Nodes = the_view c.self.inside in
-    let is : Represents planned first link nodes = subst (λ (n : Nodes). Represents planned first link n) (sym c.self.view_is) was in
+    let is : Represents began planned first link nodes = subst (λ (n : Nodes). Represents began planned first link n) (sym c.self.view_is) was in
     let waits = c.hit_radio.ensures.arrives link.damage is.damage in
     let arrives : radio_of c.radio-frame.result ≡ radio_after link.damage Up link.ue.last.sent =
     sym (radio_same c.radio-frame.result) ∙ c.radio-frame.ensures ∙ waits.1 ∙ ap (radio_after link.damage Up) (radio_same c.sent.result ∙ c.sent.ensures ∙ is.ue.shows.radio) in
     let hit : Nodes = record nodes { damage = c.hit_radio.new.self } in
-    let stood : Represents planned first link hit = with_damage planned first link nodes link.damage c.hit_radio.new.self is waits.0 in
-    subst (λ (r : Option Radio). LeadsTo planned first (NodeBReports link (UplinkFrame r)) (record hit { node_b = c.step.new.self }) c.args.report.now c.step.new.report) arrives
-    (node_b_next planned first link hit (UplinkFrame (radio_of c.radio-frame.result)) c.step.new.self c.args.report.now c.step.new.report stood (c.step.ensures.step link.node_b.state is.node_b.stands) c.step.ensures.most)
+    let stood : Represents began planned first link hit = with_damage began planned first link nodes link.damage c.hit_radio.new.self is waits.0 in
+    subst (λ (r : Option Radio). LeadsTo began planned first (NodeBReports link (UplinkFrame r)) (record hit { node_b = c.step.new.self }) c.args.report.now c.step.new.report) arrives
+    (node_b_next began planned first link hit (UplinkFrame (radio_of c.radio-frame.result)) c.step.new.self c.args.report.now c.step.new.report stood (c.step.ensures.step planned link.node_b.state refl is.node_b.stands) c.step.ensures.most)
+
+pub returns-clause-next : goal.returns-clause-next
+returns-clause-next c = λ second was.
+    let planned = c.args.accepted.now in
+    let nodes : Nodes = the_view c.self.inside in
+    let has : HasNext planned second nodes = subst (λ (n : Nodes). HasNext planned second n) (sym c.self.view_is) was in
+    let hit : Nodes = record nodes { damage = c.hit_radio.new.self } in
+    node_b_follows planned second hit c.step.new.self c.step.ensures.next (damage_follows planned second nodes c.hit_radio.new.self c.hit_radio.ensures.opened has)

@@ -1,4 +1,4 @@
-use Rattle.std.proofs.Common.{◌∙◌, arith, ap, sym, subst}
+use Rattle.std.proofs.Common.{◌∙◌, arith, refl, ap, sym, subst}
 use Rattle.dch_types.specs.declared.channel.Dir.{Dir}
 use Rattle.dch_types.specs.declared.channel.Side.{Side}
 use Rattle.dch_types.specs.Limits.{IsSide}
@@ -8,11 +8,12 @@ use Rattle.dch_damage.specs.Damage.{Flip as Flips, Lose as Loses, LoseIub as Los
 use Rattle.dch_ue.specs.State.{BlockedCombination as UeBlocked, OfferedUnit as UeOffered}
 use Rattle.dch_rnc.specs.State.{BlockedCombination as RncBlocked, OfferedUnit as RncOffered}
 use Rattle.dch_link.specs.Events.{Happens}
-use Rattle.dch_link.specs.Standing.{LeadsTo, MayCome, Represents, event_of}
+use Rattle.dch_link.specs.Standing.{HasNext, LeadsTo, MayCome, Represents, event_of}
 use Rattle.dch_link.specs.Values.{Nodes}
 use Rattle.dch_link.specs.contracts.link.Link.{the_view}
 use Rattle.dch_link.specs.declared.event.LinkEvent.{LinkEvent}
 use Rattle.dch_link.specs.declared.event.LinkEvent.TheVariants.{Unit as Offered, Block}
+use Rattle.dch_link.proofs.Following.{rnc_follows, ue_follows}
 use Rattle.dch_link.proofs.Nexts.{damage_next, rnc_next, ue_next}
 use Rattle.dch_link.proofs.link.Link.take_event.Goals as goal
 
@@ -29,65 +30,93 @@ spoil-requires c =
     omega (arith, set_small (side_of config c.in-Spoil.dir) c.in-Spoil.set good (subst (λ (e : LinkEvent). MayCome c.args.accepted.now e) c.in-Spoil.is c.requires.event))
 
 pub returns-in-Up-clause-happens : goal.returns-in-Up-clause-happens
-returns-in-Up-clause-happens c = λ first link was.
+returns-in-Up-clause-happens c = λ began first link was.
     let planned = c.args.accepted.now in
     let nodes : Nodes = the_view c.self.inside in
-    let is : Represents planned first link nodes = subst (λ (n : Nodes). Represents planned first link n) (sym c.self.view_is) was in
-    subst (λ (e : LinkEvent). LeadsTo planned first (Happens link (event_of e)) (record nodes { ue = c.step.new.self }) c.args.report.now c.step.new.report) (sym (c.in-Unit.is ∙ ap (λ (d : Dir). Offered d c.in-Unit.bearer c.in-Unit.octets c.in-Unit.bits) c.in-Up.is))
-    (ue_next planned first link nodes (UeOffered c.in-Unit.bearer c.in-Unit.octets.now c.in-Unit.bits.now) c.step.new.self c.args.report.now c.step.new.report is c.step.ensures.opened (c.step.ensures.step link.ue.state is.ue.stands) c.step.ensures.most)
+    let is : Represents began planned first link nodes = subst (λ (n : Nodes). Represents began planned first link n) (sym c.self.view_is) was in
+    subst (λ (e : LinkEvent). LeadsTo began planned first (Happens link (event_of e)) (record nodes { ue = c.step.new.self }) c.args.report.now c.step.new.report) (sym (c.in-Unit.is ∙ ap (λ (d : Dir). Offered d c.in-Unit.bearer c.in-Unit.octets c.in-Unit.bits) c.in-Up.is))
+    (ue_next began planned first link nodes (UeOffered c.in-Unit.bearer c.in-Unit.octets.now c.in-Unit.bits.now) c.step.new.self c.args.report.now c.step.new.report is c.step.ensures.opened (c.step.ensures.step planned link.ue.state refl is.ue.stands) c.step.ensures.most)
 
 pub returns-in-Down-clause-happens : goal.returns-in-Down-clause-happens
-returns-in-Down-clause-happens c = λ first link was.
+returns-in-Down-clause-happens c = λ began first link was.
     let planned = c.args.accepted.now in
     let nodes : Nodes = the_view c.self.inside in
-    let is : Represents planned first link nodes = subst (λ (n : Nodes). Represents planned first link n) (sym c.self.view_is) was in
-    subst (λ (e : LinkEvent). LeadsTo planned first (Happens link (event_of e)) (record nodes { rnc = c.step-in-Down.new.self }) c.args.report.now c.step-in-Down.new.report) (sym (c.in-Unit.is ∙ ap (λ (d : Dir). Offered d c.in-Unit.bearer c.in-Unit.octets c.in-Unit.bits) c.in-Down.is))
-    (rnc_next planned first link nodes (RncOffered c.in-Unit.bearer c.in-Unit.octets.now c.in-Unit.bits.now) c.step-in-Down.new.self c.args.report.now c.step-in-Down.new.report is (c.step-in-Down.ensures.step link.rnc.state is.rnc.stands) c.step-in-Down.ensures.most)
+    let is : Represents began planned first link nodes = subst (λ (n : Nodes). Represents began planned first link n) (sym c.self.view_is) was in
+    subst (λ (e : LinkEvent). LeadsTo began planned first (Happens link (event_of e)) (record nodes { rnc = c.step-in-Down.new.self }) c.args.report.now c.step-in-Down.new.report) (sym (c.in-Unit.is ∙ ap (λ (d : Dir). Offered d c.in-Unit.bearer c.in-Unit.octets c.in-Unit.bits) c.in-Down.is))
+    (rnc_next began planned first link nodes (RncOffered c.in-Unit.bearer c.in-Unit.octets.now c.in-Unit.bits.now) c.step-in-Down.new.self c.args.report.now c.step-in-Down.new.report is (c.step-in-Down.ensures.step planned link.rnc.state refl is.rnc.stands) c.step-in-Down.ensures.most)
 
 pub returns-in-Up-dir-clause-happens : goal.returns-in-Up-dir-clause-happens
-returns-in-Up-dir-clause-happens c = λ first link was.
+returns-in-Up-dir-clause-happens c = λ began first link was.
     let planned = c.args.accepted.now in
     let nodes : Nodes = the_view c.self.inside in
-    let is : Represents planned first link nodes = subst (λ (n : Nodes). Represents planned first link n) (sym c.self.view_is) was in
-    subst (λ (e : LinkEvent). LeadsTo planned first (Happens link (event_of e)) (record nodes { ue = c.step-in-Up-dir.new.self }) c.args.report.now c.step-in-Up-dir.new.report) (sym (c.in-Block.is ∙ ap (λ (d : Dir). Block d c.in-Block.combination c.in-Block.on) c.in-Up-dir.is))
-    (ue_next planned first link nodes (UeBlocked c.in-Block.combination c.in-Block.on) c.step-in-Up-dir.new.self c.args.report.now c.step-in-Up-dir.new.report is c.step-in-Up-dir.ensures.opened (c.step-in-Up-dir.ensures.step link.ue.state is.ue.stands) c.step-in-Up-dir.ensures.most)
+    let is : Represents began planned first link nodes = subst (λ (n : Nodes). Represents began planned first link n) (sym c.self.view_is) was in
+    subst (λ (e : LinkEvent). LeadsTo began planned first (Happens link (event_of e)) (record nodes { ue = c.step-in-Up-dir.new.self }) c.args.report.now c.step-in-Up-dir.new.report) (sym (c.in-Block.is ∙ ap (λ (d : Dir). Block d c.in-Block.combination c.in-Block.on) c.in-Up-dir.is))
+    (ue_next began planned first link nodes (UeBlocked c.in-Block.combination c.in-Block.on) c.step-in-Up-dir.new.self c.args.report.now c.step-in-Up-dir.new.report is c.step-in-Up-dir.ensures.opened (c.step-in-Up-dir.ensures.step planned link.ue.state refl is.ue.stands) c.step-in-Up-dir.ensures.most)
 
 pub returns-in-Down-dir-clause-happens : goal.returns-in-Down-dir-clause-happens
-returns-in-Down-dir-clause-happens c = λ first link was.
+returns-in-Down-dir-clause-happens c = λ began first link was.
     let planned = c.args.accepted.now in
     let nodes : Nodes = the_view c.self.inside in
-    let is : Represents planned first link nodes = subst (λ (n : Nodes). Represents planned first link n) (sym c.self.view_is) was in
-    subst (λ (e : LinkEvent). LeadsTo planned first (Happens link (event_of e)) (record nodes { rnc = c.step-in-Down-dir.new.self }) c.args.report.now c.step-in-Down-dir.new.report) (sym (c.in-Block.is ∙ ap (λ (d : Dir). Block d c.in-Block.combination c.in-Block.on) c.in-Down-dir.is))
-    (rnc_next planned first link nodes (RncBlocked c.in-Block.combination c.in-Block.on) c.step-in-Down-dir.new.self c.args.report.now c.step-in-Down-dir.new.report is (c.step-in-Down-dir.ensures.step link.rnc.state is.rnc.stands) c.step-in-Down-dir.ensures.most)
+    let is : Represents began planned first link nodes = subst (λ (n : Nodes). Represents began planned first link n) (sym c.self.view_is) was in
+    subst (λ (e : LinkEvent). LeadsTo began planned first (Happens link (event_of e)) (record nodes { rnc = c.step-in-Down-dir.new.self }) c.args.report.now c.step-in-Down-dir.new.report) (sym (c.in-Block.is ∙ ap (λ (d : Dir). Block d c.in-Block.combination c.in-Block.on) c.in-Down-dir.is))
+    (rnc_next began planned first link nodes (RncBlocked c.in-Block.combination c.in-Block.on) c.step-in-Down-dir.new.self c.args.report.now c.step-in-Down-dir.new.report is (c.step-in-Down-dir.ensures.step planned link.rnc.state refl is.rnc.stands) c.step-in-Down-dir.ensures.most)
 
 pub returns-in-Flip-clause-happens : goal.returns-in-Flip-clause-happens
-returns-in-Flip-clause-happens c = λ first link was.
+returns-in-Flip-clause-happens c = λ began first link was.
     let planned = c.args.accepted.now in
     let nodes : Nodes = the_view c.self.inside in
-    let is : Represents planned first link nodes = subst (λ (n : Nodes). Represents planned first link n) (sym c.self.view_is) was in
-    subst (λ (e : LinkEvent). LeadsTo planned first (Happens link (event_of e)) (record nodes { damage = c.flip.new.self }) c.args.report.now c.args.report.now) (sym (c.in-Flip.is))
-    (damage_next planned first link nodes (Flips c.in-Flip.dir c.in-Flip.tfci c.in-Flip.place) c.flip.new.self c.args.report.now is (c.flip.ensures.waits link.damage is.damage))
+    let is : Represents began planned first link nodes = subst (λ (n : Nodes). Represents began planned first link n) (sym c.self.view_is) was in
+    subst (λ (e : LinkEvent). LeadsTo began planned first (Happens link (event_of e)) (record nodes { damage = c.flip.new.self }) c.args.report.now c.args.report.now) (sym (c.in-Flip.is))
+    (damage_next began planned first link nodes (Flips c.in-Flip.dir c.in-Flip.tfci c.in-Flip.place) c.flip.new.self c.args.report.now is (c.flip.ensures.waits link.damage is.damage))
 
 pub returns-in-Lose-clause-happens : goal.returns-in-Lose-clause-happens
-returns-in-Lose-clause-happens c = λ first link was.
+returns-in-Lose-clause-happens c = λ began first link was.
     let planned = c.args.accepted.now in
     let nodes : Nodes = the_view c.self.inside in
-    let is : Represents planned first link nodes = subst (λ (n : Nodes). Represents planned first link n) (sym c.self.view_is) was in
-    subst (λ (e : LinkEvent). LeadsTo planned first (Happens link (event_of e)) (record nodes { damage = c.lose.new.self }) c.args.report.now c.args.report.now) (sym (c.in-Lose.is))
-    (damage_next planned first link nodes (Loses c.in-Lose.dir) c.lose.new.self c.args.report.now is (c.lose.ensures.waits link.damage is.damage))
+    let is : Represents began planned first link nodes = subst (λ (n : Nodes). Represents began planned first link n) (sym c.self.view_is) was in
+    subst (λ (e : LinkEvent). LeadsTo began planned first (Happens link (event_of e)) (record nodes { damage = c.lose.new.self }) c.args.report.now c.args.report.now) (sym (c.in-Lose.is))
+    (damage_next began planned first link nodes (Loses c.in-Lose.dir) c.lose.new.self c.args.report.now is (c.lose.ensures.waits link.damage is.damage))
 
 pub returns-in-LoseIub-clause-happens : goal.returns-in-LoseIub-clause-happens
-returns-in-LoseIub-clause-happens c = λ first link was.
+returns-in-LoseIub-clause-happens c = λ began first link was.
     let planned = c.args.accepted.now in
     let nodes : Nodes = the_view c.self.inside in
-    let is : Represents planned first link nodes = subst (λ (n : Nodes). Represents planned first link n) (sym c.self.view_is) was in
-    subst (λ (e : LinkEvent). LeadsTo planned first (Happens link (event_of e)) (record nodes { damage = c.lose_iub.new.self }) c.args.report.now c.args.report.now) (sym (c.in-LoseIub.is))
-    (damage_next planned first link nodes (LosesIub c.in-LoseIub.dir c.in-LoseIub.set) c.lose_iub.new.self c.args.report.now is (c.lose_iub.ensures.waits link.damage is.damage))
+    let is : Represents began planned first link nodes = subst (λ (n : Nodes). Represents began planned first link n) (sym c.self.view_is) was in
+    subst (λ (e : LinkEvent). LeadsTo began planned first (Happens link (event_of e)) (record nodes { damage = c.lose_iub.new.self }) c.args.report.now c.args.report.now) (sym (c.in-LoseIub.is))
+    (damage_next began planned first link nodes (LosesIub c.in-LoseIub.dir c.in-LoseIub.set) c.lose_iub.new.self c.args.report.now is (c.lose_iub.ensures.waits link.damage is.damage))
 
 pub returns-in-Spoil-clause-happens : goal.returns-in-Spoil-clause-happens
-returns-in-Spoil-clause-happens c = λ first link was.
+returns-in-Spoil-clause-happens c = λ began first link was.
     let planned = c.args.accepted.now in
     let nodes : Nodes = the_view c.self.inside in
-    let is : Represents planned first link nodes = subst (λ (n : Nodes). Represents planned first link n) (sym c.self.view_is) was in
-    subst (λ (e : LinkEvent). LeadsTo planned first (Happens link (event_of e)) (record nodes { damage = c.spoil.new.self }) c.args.report.now c.args.report.now) (sym (c.in-Spoil.is))
-    (damage_next planned first link nodes (Spoils c.in-Spoil.dir c.in-Spoil.set c.in-Spoil.octet c.in-Spoil.mask) c.spoil.new.self c.args.report.now is (c.spoil.ensures.waits link.damage is.damage))
+    let is : Represents began planned first link nodes = subst (λ (n : Nodes). Represents began planned first link n) (sym c.self.view_is) was in
+    subst (λ (e : LinkEvent). LeadsTo began planned first (Happens link (event_of e)) (record nodes { damage = c.spoil.new.self }) c.args.report.now c.args.report.now) (sym (c.in-Spoil.is))
+    (damage_next began planned first link nodes (Spoils c.in-Spoil.dir c.in-Spoil.set c.in-Spoil.octet c.in-Spoil.mask) c.spoil.new.self c.args.report.now is (c.spoil.ensures.waits link.damage is.damage))
+
+pub returns-in-Up-clause-next : goal.returns-in-Up-clause-next
+returns-in-Up-clause-next c = λ second was.
+    let planned = c.args.accepted.now in
+    let nodes : Nodes = the_view c.self.inside in
+    let has : HasNext planned second nodes = subst (λ (n : Nodes). HasNext planned second n) (sym c.self.view_is) was in
+    ue_follows planned second nodes c.step.new.self c.step.ensures.next has
+
+pub returns-in-Down-clause-next : goal.returns-in-Down-clause-next
+returns-in-Down-clause-next c = λ second was.
+    let planned = c.args.accepted.now in
+    let nodes : Nodes = the_view c.self.inside in
+    let has : HasNext planned second nodes = subst (λ (n : Nodes). HasNext planned second n) (sym c.self.view_is) was in
+    rnc_follows planned second nodes c.step-in-Down.new.self c.step-in-Down.ensures.next has
+
+pub returns-in-Up-dir-clause-next : goal.returns-in-Up-dir-clause-next
+returns-in-Up-dir-clause-next c = λ second was.
+    let planned = c.args.accepted.now in
+    let nodes : Nodes = the_view c.self.inside in
+    let has : HasNext planned second nodes = subst (λ (n : Nodes). HasNext planned second n) (sym c.self.view_is) was in
+    ue_follows planned second nodes c.step-in-Up-dir.new.self c.step-in-Up-dir.ensures.next has
+
+pub returns-in-Down-dir-clause-next : goal.returns-in-Down-dir-clause-next
+returns-in-Down-dir-clause-next c = λ second was.
+    let planned = c.args.accepted.now in
+    let nodes : Nodes = the_view c.self.inside in
+    let has : HasNext planned second nodes = subst (λ (n : Nodes). HasNext planned second n) (sym c.self.view_is) was in
+    rnc_follows planned second nodes c.step-in-Down-dir.new.self c.step-in-Down-dir.ensures.next has

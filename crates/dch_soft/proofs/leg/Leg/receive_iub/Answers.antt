@@ -1,4 +1,4 @@
-use Rattle.std.proofs.Common.{◌≡◌, ◌∙◌, List, ℕ, Option, Some, None, ap, sym, subst}
+use Rattle.std.proofs.Common.{◌≡◌, ◌∙◌, List, ℕ, Option, Some, None, refl, ap, sym, subst}
 use Rattle.dch_types.specs.declared.channel.Dir.TheVariants.{Down}
 use Rattle.dch_nodeb.specs.State.{IubFrame}
 use Rattle.dch_txframes.specs.Lending.{octets_of}
@@ -40,7 +40,7 @@ returns-in-Some-clause-receives c = λ first leg was.
     let hit : LegParts = record it { damage = c.hit_iub.new.self } in
     let stood : RepresentsLeg planned first leg hit = with_damage planned first leg it leg.damage c.hit_iub.new.self is waits.0 in
     subst (λ (o : Option (List ℕ)). LegLeadsTo planned first (λ next lines. MayGoDown set o leg next lines) (record hit { node_b = c.step.new.self }) c.args.report.now c.step.new.report) arrives
-    (leg_goes planned first leg hit (IubFrame set c.in-Some.frame.now) c.step.new.self c.args.report.now c.step.new.report stood (c.step.ensures.step leg.node_b.state is.node_b.stands) c.step.ensures.most)
+    (leg_goes planned first leg hit (IubFrame set c.in-Some.frame.now) c.step.new.self c.args.report.now c.step.new.report stood (c.step.ensures.step planned leg.node_b.state refl is.node_b.stands) c.step.ensures.most)
 
 pub returns-in_default-clause-receives : goal.returns-in_default-clause-receives
 returns-in_default-clause-receives c = λ first leg was.

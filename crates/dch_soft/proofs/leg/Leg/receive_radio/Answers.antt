@@ -1,4 +1,4 @@
-use Rattle.std.proofs.Common.{◌≡◌, ◌∙◌, Option, ap, sym, subst}
+use Rattle.std.proofs.Common.{◌≡◌, ◌∙◌, Option, refl, ap, sym, subst}
 use Rattle.dch_types.specs.declared.channel.Dir.TheVariants.{Up}
 use Rattle.dch_node.specs.Values.{Radio}
 use Rattle.dch_nodeb.specs.State.{UplinkFrame}
@@ -41,4 +41,4 @@ returns-clause-receives c = λ first leg was.
     let hit : LegParts = record it { damage = c.hit_radio.new.self } in
     let stood : RepresentsLeg planned first leg hit = with_damage planned first leg it leg.damage c.hit_radio.new.self is waits.0 in
     subst (λ (r : Option Radio). LegLeadsTo planned first (LegGoes leg (UplinkFrame r)) (record hit { node_b = c.step.new.self }) c.args.report.now c.step.new.report) arrives
-    (leg_goes planned first leg hit (UplinkFrame (radio_of c.radio-frame.result)) c.step.new.self c.args.report.now c.step.new.report stood (c.step.ensures.step leg.node_b.state is.node_b.stands) c.step.ensures.most)
+    (leg_goes planned first leg hit (UplinkFrame (radio_of c.radio-frame.result)) c.step.new.self c.args.report.now c.step.new.report stood (c.step.ensures.step planned leg.node_b.state refl is.node_b.stands) c.step.ensures.most)

@@ -1,4 +1,4 @@
-use Rattle.std.proofs.Common.{sym, subst}
+use Rattle.std.proofs.Common.{refl, sym, subst}
 use Rattle.dch_nodeb.specs.State.{DownlinkDue}
 use Rattle.dch_soft.specs.Standing.{RepresentsLeg}
 use Rattle.dch_soft.specs.Values.{LegParts}
@@ -11,4 +11,4 @@ returns-clause-transmits c = λ first leg was.
     let planned = c.args.accepted.now in
     let it : LegParts = the_view c.self.inside in
     let is : RepresentsLeg planned first leg it = subst (λ (l : LegParts). RepresentsLeg planned first leg l) (sym c.self.view_is) was in
-    leg_goes planned first leg it DownlinkDue c.step.new.self c.args.report.now c.step.new.report is (c.step.ensures.step leg.node_b.state is.node_b.stands) c.step.ensures.most
+    leg_goes planned first leg it DownlinkDue c.step.new.self c.args.report.now c.step.new.report is (c.step.ensures.step planned leg.node_b.state refl is.node_b.stands) c.step.ensures.most

@@ -1,4 +1,4 @@
-use Rattle.std.proofs.Common.{◌≡◌, ◌≤◌, ◌∙◌, ℕ, List, length, take, sym, subst}
+use Rattle.std.proofs.Common.{◌≡◌, ◌≤◌, ◌∙◌, ℕ, List, length, take, refl, sym, subst}
 use Rattle.std.specs.Vec.{with_items}
 use Rattle.std.proofs.lemmas.List.{with_items_is}
 use Rattle.dch_types.specs.declared.channel.Side.{Side}
@@ -52,7 +52,7 @@ returns-in-Some-clause-gives c = λ first soft was.
     let combined : IsCombinedFrame planned.config set (frames_of parts.combiner set) cfn frame =
     subst (λ (l : List ℕ). IsCombinedFrame planned.config set (frames_of parts.combiner set) cfn (take len l)) (sym lent) c.in-Some.ensures.gives.frame in
     gives_frame planned first soft parts cfn set frame c.give.new.self (length (with_items c.self.inside.out c.give.new.out).items) c.step.new.self c.args.report.now c.put_iub.new.report c.step.new.report is combined c.give.ensures.empty
-    c.give.ensures.others c.put_iub.ensures.reported (c.step.ensures.step soft.rnc.state is.rnc.stands) c.step.ensures.most
+    c.give.ensures.others c.put_iub.ensures.reported (c.step.ensures.step planned soft.rnc.state refl is.rnc.stands) c.step.ensures.most
 
 pub returns-in_default-clause-opened : goal.returns-in_default-clause-opened
 returns-in_default-clause-opened c =

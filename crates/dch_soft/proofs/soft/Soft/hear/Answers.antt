@@ -1,4 +1,4 @@
-use Rattle.std.proofs.Common.{◌≡◌, ◌∙◌, ◌++◌, List, [], length, ap, sym, subst}
+use Rattle.std.proofs.Common.{◌≡◌, ◌∙◌, ◌++◌, List, [], length, refl, ap, sym, subst}
 use Rattle.std.specs.Vec.{with_items}
 use Rattle.std.proofs.lemmas.List.{with_items_is}
 use Rattle.dch_node.specs.Lines.{text_of}
@@ -62,7 +62,7 @@ returns-clause-hears c = λ first soft was.
     let hit : Parts = record parts { legs = (with_items c.self.inside.legs new).items } in
     let stood : Represents planned first soft hit =
     subst (λ (l : List LegParts). Represents planned first soft (record parts { legs = l })) (sym front) (stands_with_legs planned first soft parts new is arrive.0 long) in
-    let led = ue_next planned first soft hit (DownlinkFrame (radio_of c.lowest_radio-frame.result)) c.step.new.self c.args.report.now c.step.new.report stood c.step.ensures.opened (c.step.ensures.step soft.ue.state is.ue.stands) c.step.ensures.most in (
+    let led = ue_next planned first soft hit (DownlinkFrame (radio_of c.lowest_radio-frame.result)) c.step.new.self c.args.report.now c.step.new.report stood c.step.ensures.opened (c.step.ensures.step planned soft.ue.state refl is.ue.stands) c.step.ensures.most in (
       led.next,
       (
         record {
@@ -82,5 +82,5 @@ returns-clause-same c =
     let planned = c.args.accepted.now in
     let parts : Parts = the_view c.self.inside in
     let opened : IsSoftOf planned parts = subst (λ (p : Parts). IsSoftOf planned p) (sym c.self.view_is) c.requires.opened in
-    let stepped = c.step.ensures.step opened.soft.ue.state opened.stands.ue.stands in
+    let stepped = c.step.ensures.step planned opened.soft.ue.state refl opened.stands.ue.stands in
     went_on c.args.report.now c.step.new.report [] (subst (λ (o : Output). c.step.new.report.text ≡ c.args.report.now.text ++ text_of o.lines) stepped.step.1 stepped.reported) c.step.ensures.most ∙ sym (added-none c.args.report.now)

@@ -1,4 +1,4 @@
-use Rattle.std.proofs.Common.{sym, subst}
+use Rattle.std.proofs.Common.{refl, sym, subst}
 use Rattle.dch_rnc.specs.State.{Tick}
 use Rattle.dch_soft.specs.Stages.{AtStage}
 use Rattle.dch_soft.specs.declared.stage.Stage.{Stage}
@@ -14,7 +14,7 @@ returns-in-RncTick-clause-passes c = λ first soft was.
     let parts : Parts = the_view c.self.inside in
     let is : Represents planned first soft parts = subst (λ (p : Parts). Represents planned first soft p) (sym c.self.view_is) was in
     subst (λ (s : Stage). LeadsTo planned first (AtStage s soft) (record parts { rnc = c.step.new.self }) c.args.report.now c.step.new.report) (sym c.in-RncTick.is)
-    (rnc_next planned first soft parts Tick c.step.new.self c.args.report.now c.step.new.report is (c.step.ensures.step soft.rnc.state is.rnc.stands) c.step.ensures.most)
+    (rnc_next planned first soft parts Tick c.step.new.self c.args.report.now c.step.new.report is (c.step.ensures.step planned soft.rnc.state refl is.rnc.stands) c.step.ensures.most)
 
 pub returns-in-RncTick-clause-opened : goal.returns-in-RncTick-clause-opened
 returns-in-RncTick-clause-opened c =

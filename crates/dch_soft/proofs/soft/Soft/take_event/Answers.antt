@@ -1,4 +1,4 @@
-use Rattle.std.proofs.Common.{◌∙◌, length, arith, ap, sym, subst}
+use Rattle.std.proofs.Common.{◌∙◌, length, arith, refl, ap, sym, subst}
 use Rattle.std.proofs.lemmas.List.{length-set}
 use Rattle.dch_types.specs.declared.channel.Dir.{Dir}
 use Rattle.dch_ue.specs.State.{BlockedCombination as UeBlocked, OfferedUnit as UeOffered}
@@ -19,7 +19,7 @@ returns-in-Up-clause-happens c = λ first soft was.
     let parts : Parts = the_view c.self.inside in
     let is : Represents planned first soft parts = subst (λ (p : Parts). Represents planned first soft p) (sym c.self.view_is) was in
     subst (λ (e : SoftEvent). LeadsTo planned first (Happens soft (event_of e)) (record parts { ue = c.step.new.self }) c.args.report.now c.step.new.report) (sym (c.in-Unit.is ∙ ap (λ (d : Dir). Offered d c.in-Unit.bearer c.in-Unit.octets c.in-Unit.bits) c.in-Up.is))
-    (ue_next planned first soft parts (UeOffered c.in-Unit.bearer c.in-Unit.octets.now c.in-Unit.bits.now) c.step.new.self c.args.report.now c.step.new.report is c.step.ensures.opened (c.step.ensures.step soft.ue.state is.ue.stands) c.step.ensures.most)
+    (ue_next planned first soft parts (UeOffered c.in-Unit.bearer c.in-Unit.octets.now c.in-Unit.bits.now) c.step.new.self c.args.report.now c.step.new.report is c.step.ensures.opened (c.step.ensures.step planned soft.ue.state refl is.ue.stands) c.step.ensures.most)
 
 pub returns-in-Down-clause-happens : goal.returns-in-Down-clause-happens
 returns-in-Down-clause-happens c = λ first soft was.
@@ -27,7 +27,7 @@ returns-in-Down-clause-happens c = λ first soft was.
     let parts : Parts = the_view c.self.inside in
     let is : Represents planned first soft parts = subst (λ (p : Parts). Represents planned first soft p) (sym c.self.view_is) was in
     subst (λ (e : SoftEvent). LeadsTo planned first (Happens soft (event_of e)) (record parts { rnc = c.step-in-Down.new.self }) c.args.report.now c.step-in-Down.new.report) (sym (c.in-Unit.is ∙ ap (λ (d : Dir). Offered d c.in-Unit.bearer c.in-Unit.octets c.in-Unit.bits) c.in-Down.is))
-    (rnc_next planned first soft parts (RncOffered c.in-Unit.bearer c.in-Unit.octets.now c.in-Unit.bits.now) c.step-in-Down.new.self c.args.report.now c.step-in-Down.new.report is (c.step-in-Down.ensures.step soft.rnc.state is.rnc.stands) c.step-in-Down.ensures.most)
+    (rnc_next planned first soft parts (RncOffered c.in-Unit.bearer c.in-Unit.octets.now c.in-Unit.bits.now) c.step-in-Down.new.self c.args.report.now c.step-in-Down.new.report is (c.step-in-Down.ensures.step planned soft.rnc.state refl is.rnc.stands) c.step-in-Down.ensures.most)
 
 pub returns-in-Up-dir-clause-happens : goal.returns-in-Up-dir-clause-happens
 returns-in-Up-dir-clause-happens c = λ first soft was.
@@ -35,7 +35,7 @@ returns-in-Up-dir-clause-happens c = λ first soft was.
     let parts : Parts = the_view c.self.inside in
     let is : Represents planned first soft parts = subst (λ (p : Parts). Represents planned first soft p) (sym c.self.view_is) was in
     subst (λ (e : SoftEvent). LeadsTo planned first (Happens soft (event_of e)) (record parts { ue = c.step-in-Up-dir.new.self }) c.args.report.now c.step-in-Up-dir.new.report) (sym (c.in-Block.is ∙ ap (λ (d : Dir). Block d c.in-Block.combination c.in-Block.on) c.in-Up-dir.is))
-    (ue_next planned first soft parts (UeBlocked c.in-Block.combination c.in-Block.on) c.step-in-Up-dir.new.self c.args.report.now c.step-in-Up-dir.new.report is c.step-in-Up-dir.ensures.opened (c.step-in-Up-dir.ensures.step soft.ue.state is.ue.stands) c.step-in-Up-dir.ensures.most)
+    (ue_next planned first soft parts (UeBlocked c.in-Block.combination c.in-Block.on) c.step-in-Up-dir.new.self c.args.report.now c.step-in-Up-dir.new.report is c.step-in-Up-dir.ensures.opened (c.step-in-Up-dir.ensures.step planned soft.ue.state refl is.ue.stands) c.step-in-Up-dir.ensures.most)
 
 pub returns-in-Down-dir-clause-happens : goal.returns-in-Down-dir-clause-happens
 returns-in-Down-dir-clause-happens c = λ first soft was.
@@ -43,7 +43,7 @@ returns-in-Down-dir-clause-happens c = λ first soft was.
     let parts : Parts = the_view c.self.inside in
     let is : Represents planned first soft parts = subst (λ (p : Parts). Represents planned first soft p) (sym c.self.view_is) was in
     subst (λ (e : SoftEvent). LeadsTo planned first (Happens soft (event_of e)) (record parts { rnc = c.step-in-Down-dir.new.self }) c.args.report.now c.step-in-Down-dir.new.report) (sym (c.in-Block.is ∙ ap (λ (d : Dir). Block d c.in-Block.combination c.in-Block.on) c.in-Down-dir.is))
-    (rnc_next planned first soft parts (RncBlocked c.in-Block.combination c.in-Block.on) c.step-in-Down-dir.new.self c.args.report.now c.step-in-Down-dir.new.report is (c.step-in-Down-dir.ensures.step soft.rnc.state is.rnc.stands) c.step-in-Down-dir.ensures.most)
+    (rnc_next planned first soft parts (RncBlocked c.in-Block.combination c.in-Block.on) c.step-in-Down-dir.new.self c.args.report.now c.step-in-Down-dir.new.report is (c.step-in-Down-dir.ensures.step planned soft.rnc.state refl is.rnc.stands) c.step-in-Down-dir.ensures.most)
 
 pub index_mut-requires : goal.index_mut-requires
 index_mut-requires c =

@@ -1,4 +1,4 @@
-use Rattle.std.proofs.Common.{◌∙◌, ap, sym, subst}
+use Rattle.std.proofs.Common.{◌∙◌, refl, ap, sym, subst}
 use Rattle.dch_script.specs.Held.{Held as Text}
 use Rattle.dch_txframes.specs.Reports.{added}
 use Rattle.dch_ue.specs.State.{Tick}
@@ -23,7 +23,7 @@ returns-clause-passes c = λ first soft was.
     let mid : SoftState = came.0 in
     let parts : Parts = the_view c.self.inside in
     let is : Represents planned first mid parts = subst (λ (p : Parts). Represents planned first mid p) (sym c.self.view_is) came.1.1 in
-    let led = ue_next planned first mid parts Tick c.step.new.self c.hear.new.report c.step.new.report is c.step.ensures.opened (c.step.ensures.step mid.ue.state is.ue.stands) c.step.ensures.most in
+    let led = ue_next planned first mid parts Tick c.step.new.self c.hear.new.report c.step.new.report is c.step.ensures.opened (c.step.ensures.step planned mid.ue.state refl is.ue.stands) c.step.ensures.most in
     record {
       next = led.next;
       lines = led.lines;
