@@ -1,6 +1,12 @@
+pub mod Cfns
+pub mod Changing
 pub mod Passing
+pub mod Ready
+pub mod RunLines
+pub mod Said
 pub mod Senders
 pub mod Showing
 pub mod Stages
 pub mod Staying
 pub mod Taking
+pub mod Walking

@@ -12,12 +12,12 @@ use Rattle.dch_link.specs.Standing.{Represents}
 use Rattle.dch_link.specs.Values.{Nodes}
 use Rattle.dch_link.specs.declared.stage.Stage.{Stage}
 use Rattle.dch_link.specs.declared.stage.Stage.TheVariants.{RncTick}
-use Rattle.dch_linkcmd.specs.Rules.{PassesStage}
+use Rattle.dch_linkcmd.specs.Rules.{MayChange, PassesNext, PassesStage}
 use Rattle.dch_linkcmd.specs.Run.{Run, passed, passed_by}
 use Rattle.dch_linkcmd.specs.Standing.{Handler, RepresentsRun, Shows}
 
 -- the text of a stage is added
-passes_by : (run : Run) (old : Handler) (nodes : Nodes) (before after : Held) → RepresentsRun run old → (shows : Shows old.accepted run.first old.quiet (AtStage old.stage run.link) nodes before after) → (next : Run) → next ≡ passed run shows.next → Adds (PassesStage run next) before after
+passes_by : (run : Run) (old : Handler) (nodes : Nodes) (before after : Held) → RepresentsRun run old → (shows : Shows run.began old.accepted run.first old.quiet (AtStage old.stage run.link) nodes before after) → (next : Run) → next ≡ passed run shows.next → Adds (PassesStage run next) before after
 passes_by run old nodes before after is shows next same = record {
   more = shown run.quiet (text_of shows.lines);
   handles = record {
@@ -30,36 +30,46 @@ passes_by run old nodes before after is shows next same = record {
   added = shows.reported ∙ ap (λ q. record { text = before.text ++ shown q (text_of shows.lines); most = before.most }) (sym is.quiet);
 }
 
-pub passes_some : (run : Run) (old new : Handler) (stage : Stage) (before after : Held) → RepresentsRun run old → Shows old.accepted run.first old.quiet (AtStage old.stage run.link) new.link before after → next_stage old.stage ≡ Some stage
-    → new.accepted ≡ old.accepted → new.quiet ≡ old.quiet → new.stage ≡ stage → new.left ≡ old.left → new.frames ≡ old.frames → (next : Run) × RepresentsRun next new × Adds (PassesStage run next) before after
-passes_some run old new stage before after is shows then accepted quiet at left frames =
+pub passes_some : (run : Run) (old new : Handler) (stage : Stage) (before after : Held) → RepresentsRun run old → Shows run.began old.accepted run.first old.quiet (AtStage old.stage run.link) new.link before after → next_stage old.stage ≡ Some stage
+    → new.accepted ≡ old.accepted → new.later ≡ old.later → new.quiet ≡ old.quiet → new.stage ≡ stage → new.left ≡ old.left → new.frames ≡ old.frames → (next : Run) × RepresentsRun next new × Adds (PassesStage run next) before after
+passes_some run old new stage before after is shows then accepted later quiet at left frames =
     let next : Run = record run { link = shows.next; stage = stage } in
     let same : next ≡ passed run shows.next = ap (passed_by run shows.next) (sym (ap next_stage is.stage ∙ then)) in (
       next,
       record {
+        second = is.second ∙ sym later;
         quiet = is.quiet ∙ sym quiet;
         stage = sym at;
         left = is.left ∙ sym left;
         frames = is.frames ∙ sym frames;
-        stands = subst (λ (p : Planned). Represents p run.first shows.next new.link) (sym accepted) shows.stands;
+        stands = subst (λ (p : Planned). Represents run.began p run.first shows.next new.link) (sym accepted) shows.stands;
       },
       passes_by run old new.link before after is shows next same,
     )
 
 -- after the last stage the radio frame is over
-pub passes_none : (run : Run) (old new : Handler) (mid : Nodes) (before after : Held) → RepresentsRun run old → Shows old.accepted run.first old.quiet (AtStage old.stage run.link) mid before after → next_stage old.stage ≡ None
-    → ((first : ℕ) (link : LinkState) → Represents old.accepted first link mid → Represents old.accepted first (record link { damage = [] }) new.link)
-    → new.accepted ≡ old.accepted → new.quiet ≡ old.quiet → new.stage ≡ RncTick → new.left ≡ old.left - 1 → new.frames ≡ old.frames + 1 → (next : Run) × RepresentsRun next new × Adds (PassesStage run next) before after
-passes_none run old new mid before after is shows then clear accepted quiet at left frames =
+pub passes_none : (run : Run) (old new : Handler) (mid : Nodes) (before after : Held) → RepresentsRun run old → Shows run.began old.accepted run.first old.quiet (AtStage old.stage run.link) mid before after → next_stage old.stage ≡ None
+    → ((began : Planned) (first : ℕ) (link : LinkState) → Represents began old.accepted first link mid → Represents began old.accepted first (record link { damage = [] }) new.link)
+    → new.accepted ≡ old.accepted → new.later ≡ old.later → new.quiet ≡ old.quiet → new.stage ≡ RncTick → new.left ≡ old.left - 1 → new.frames ≡ old.frames + 1 → (next : Run) × RepresentsRun next new × Adds (PassesStage run next) before after
+passes_none run old new mid before after is shows then clear accepted later quiet at left frames =
     let next : Run = record run { link = record shows.next { damage = [] }; stage = RncTick; left = run.left - 1; frames = run.frames + 1 } in
     let same : next ≡ passed run shows.next = ap (passed_by run shows.next) (sym (ap next_stage is.stage ∙ then)) in (
       next,
       record {
+        second = is.second ∙ sym later;
         quiet = is.quiet ∙ sym quiet;
         stage = sym at;
         left = ap (λ n. n - 1) is.left ∙ sym left;
         frames = ap (λ n. n + 1) is.frames ∙ sym frames;
-        stands = subst (λ (p : Planned). Represents p run.first (record shows.next { damage = [] }) new.link) (sym accepted) (clear run.first shows.next shows.stands);
+        stands = subst (λ (p : Planned). Represents run.began p run.first (record shows.next { damage = [] }) new.link) (sym accepted) (clear run.began run.first shows.next shows.stands);
       },
       passes_by run old mid before after is shows next same,
     )
+
+-- behind what may change before it
+pub passes_next : (run mid next : Run) (before after : Held) → MayChange run mid → Adds (PassesStage mid next) before after → Adds (PassesNext run next) before after
+passes_next run mid next before after changes adds = record {
+  more = adds.more;
+  handles = record { mid = mid; changes = changes; passes = adds.handles };
+  added = adds.added;
+}

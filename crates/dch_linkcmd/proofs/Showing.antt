@@ -10,9 +10,9 @@ use Rattle.dch_link.specs.Values.{Nodes}
 use Rattle.dch_linkcmd.specs.Standing.{Shows}
 
 -- the text was made in room of its own, and the lines that show no frame were taken over
-pub shows_other : (planned : Planned) (first : ℕ) (quiet : Bool) (Does : LinkState → List Line → Type 0) (nodes : Nodes) (step stepped before after : Held) (text : List ℕ) → LeadsTo planned first Does nodes step stepped
-    → step.text ≡ [] → text ≡ stepped.text → after ≡ record before { text = before.text ++ shown true text } → quiet ≡ true → Shows planned first quiet Does nodes before after
-shows_other planned first quiet Does nodes step stepped before after text leads empty same taken is = record {
+pub shows_other : (began planned : Planned) (first : ℕ) (quiet : Bool) (Does : LinkState → List Line → Type 0) (nodes : Nodes) (step stepped before after : Held) (text : List ℕ) → LeadsTo began planned first Does nodes step stepped
+    → step.text ≡ [] → text ≡ stepped.text → after ≡ record before { text = before.text ++ shown true text } → quiet ≡ true → Shows began planned first quiet Does nodes before after
+shows_other began planned first quiet Does nodes step stepped before after text leads empty same taken is = record {
   next = leads.next;
   lines = leads.lines;
   does = leads.does;
@@ -24,8 +24,8 @@ shows_other planned first quiet Does nodes step stepped before after text leads 
 }
 
 -- all lines are shown
-pub shows_all : (planned : Planned) (first : ℕ) (quiet : Bool) (Does : LinkState → List Line → Type 0) (nodes : Nodes) (before after : Held) → LeadsTo planned first Does nodes before after → quiet ≡ false → Shows planned first quiet Does nodes before after
-shows_all planned first quiet Does nodes before after leads is = record {
+pub shows_all : (began planned : Planned) (first : ℕ) (quiet : Bool) (Does : LinkState → List Line → Type 0) (nodes : Nodes) (before after : Held) → LeadsTo began planned first Does nodes before after → quiet ≡ false → Shows began planned first quiet Does nodes before after
+shows_all began planned first quiet Does nodes before after leads is = record {
   next = leads.next;
   lines = leads.lines;
   does = leads.does;

@@ -6,7 +6,7 @@ use Rattle.dch_link.specs.declared.stage.Stage.{Stage}
 use Rattle.dch_link.specs.declared.stage.Stage.TheVariants.{RncTick, IubDown, RadioDown, UeTick, RadioUp, IubUp}
 use Rattle.dch_linkcmd.specs.Run.{steps_left}
 
-some_same : (one other : Stage) → Some one ≡ Some other → one ≡ other
+pub some_same : (one other : Stage) → Some one ≡ Some other → one ≡ other
 some_same one other same = cc
 
 on_next : (stage one next : Stage) → stages_left one + 1 ≡ stages_left stage → Some one ≡ Some next → stages_left next + 1 ≡ stages_left stage

@@ -7,7 +7,7 @@ use Rattle.dch_node.specs.Lines.{text_of}
 use Rattle.dch_nodecmd.specs.Shown.{shown}
 use Rattle.dch_link.specs.Standing.{Represents}
 use Rattle.dch_linkcmd.specs.LineEvents.{Frames, OneEvent, Said, Says}
-use Rattle.dch_linkcmd.specs.Rules.{PassesStage, TakesLine}
+use Rattle.dch_linkcmd.specs.Rules.{PassesNext, TakesLine}
 use Rattle.dch_linkcmd.specs.Run.{Run, config_of}
 use Rattle.dch_linkcmd.specs.Standing.{Handler, RepresentsRun}
 use Rattle.dch_linkcmd.specs.Taking.{TakesEvent}
@@ -18,17 +18,18 @@ says_here run handler line said is says = subst (λ (p : Planned). Says p.config
 
 -- something has happened
 pub took_event : (run : Run) (old new : Handler) (line : List ℕ) (before after : Held) → RepresentsRun run old → TakesEvent old.accepted line old.quiet old.link new.link before after
-    → new.accepted ≡ old.accepted → new.quiet ≡ old.quiet → new.stage ≡ old.stage → new.left ≡ old.left → new.frames ≡ old.frames → (next : Run) × RepresentsRun next new × Adds (TakesLine run line next) before after
-took_event run old new line before after is takes accepted quiet stage left frames =
-    let shows = takes.happens run.first run.link is.stands in
+    → new.accepted ≡ old.accepted → new.later ≡ old.later → new.quiet ≡ old.quiet → new.stage ≡ old.stage → new.left ≡ old.left → new.frames ≡ old.frames → (next : Run) × RepresentsRun next new × Adds (TakesLine run line next) before after
+took_event run old new line before after is takes accepted later quiet stage left frames =
+    let shows = takes.happens run.began run.first run.link is.stands in
     let next : Run = record run { link = shows.next } in (
       next,
       record {
+        second = is.second ∙ sym later;
         quiet = is.quiet ∙ sym quiet;
         stage = is.stage ∙ sym stage;
         left = is.left ∙ sym left;
         frames = is.frames ∙ sym frames;
-        stands = subst (λ (p : Planned). Represents p run.first shows.next new.link) (sym accepted) shows.stands;
+        stands = subst (λ (p : Planned). Represents run.began p run.first shows.next new.link) (sym accepted) shows.stands;
       },
       record {
         more = shown run.quiet (text_of shows.lines);
@@ -42,7 +43,7 @@ took_event run old new line before after is takes accepted quiet stage left fram
     )
 
 -- radio frames were asked for, and the first stage has passed
-pub asked_frames : (run : Run) (old : Handler) (line : List ℕ) (count : ℕ) (next : Run) (before after : Held) → RepresentsRun run old → Says old.accepted.config line (Frames count) → Adds (PassesStage (record run { left = count }) next) before after → Adds (TakesLine run line next) before after
+pub asked_frames : (run : Run) (old : Handler) (line : List ℕ) (count : ℕ) (next : Run) (before after : Held) → RepresentsRun run old → Says old.accepted.config line (Frames count) → Adds (PassesNext (record run { left = count }) next) before after → Adds (TakesLine run line next) before after
 asked_frames run old line count next before after is says adds = record {
   more = adds.more;
   handles = record { said = Frames count; says = says_here run old line (Frames count) is says; takes = adds.handles };

@@ -4,5 +4,6 @@ pub mod Overlong
 pub mod Reading
 pub mod Rules
 pub mod Run
+pub mod RunLines
 pub mod Standing
 pub mod Taking

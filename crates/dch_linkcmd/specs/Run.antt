@@ -6,20 +6,24 @@ use Rattle.dch_link.specs.Link.{LinkState, active, opened_link}
 use Rattle.dch_link.specs.Passing.{next_stage, stages_left}
 use Rattle.dch_link.specs.declared.stage.Stage.{Stage}
 use Rattle.dch_link.specs.declared.stage.Stage.TheVariants.{RncTick}
+use Rattle.dch_nodecmd.specs.declared.later.Later.{Later}
 
--- the nodes and the damage, the CFN of the first radio frame, and whether the lines of frames are left out; the next stage of a radio frame,
--- how many radio frames are left of a line, with the one that is on, and how many have passed
+-- the nodes and the damage, the configuration of their opening and the CFN of the first radio frame, the second configuration where one is
+-- still to come, and whether the lines of frames are left out; the next stage of a radio frame, how many radio frames are left of a line, with
+-- the one that is on, and how many have passed
 pub record Run : Type 0 where
   pub link : LinkState
+  pub began : Planned
   pub first : ℕ
+  pub second : Option Later
   pub quiet : Bool
   pub stage : Stage
   pub left : ℕ
   pub frames : ℕ
 
 -- before the first line
-abbrev pub opened_run : Planned → ℕ → Bool → Run
-opened_run planned first quiet = record { link = opened_link planned first; first = first; quiet = quiet; stage = RncTick; left = 0; frames = 0 }
+abbrev pub opened_run : Planned → Option Later → ℕ → Bool → Run
+opened_run began second first quiet = record { link = opened_link began first; began = began; first = first; second = second; quiet = quiet; stage = RncTick; left = 0; frames = 0 }
 
 -- the configuration that is active
 abbrev pub config_of : Run → Config

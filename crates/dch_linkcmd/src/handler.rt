@@ -1,13 +1,17 @@
-ghost use Rattle.std.specs.Prelude.{◌≡◌, ◌<◌, ◌≤◌, ◌+◌, ◌%◌, ℕ, [], length, IfOk, IfErr, Err};
+ghost use Rattle.std.specs.Prelude.{◌≡◌, ◌<◌, ◌≤◌, ◌+◌, ◌%◌, ℕ, [], true, false, length, IfOk, IfErr, IfSome, Err};
+ghost use Rattle.dch_accept.specs.Plans.{Planned};
 ghost use Rattle.dch_script.specs.Meaning.{meaning_in};
 ghost use Rattle.dch_script.specs.declared.event.Command.TheVariants.{Link as LinkLines};
 ghost use Rattle.dch_lines.specs.Semantics.{Adds, Leads};
-ghost use Rattle.dch_link.specs.Standing.{HaveHistories, IsLinkOf};
+ghost use Rattle.dch_link.specs.Link.{opened_link};
+ghost use Rattle.dch_link.specs.Standing.{HasNext, HaveHistories, IsLinkOf, Represents};
+ghost use Rattle.dch_nodecmd.specs.Standing.{CanFollow};
+ghost use Rattle.dch_nodecmd.specs.declared.later.Later.{Later as Coming};
 ghost use Rattle.dch_linkcmd.specs.Counting.{counts_of};
 ghost use Rattle.dch_linkcmd.specs.Overlong.{link_refuses_long};
-ghost use Rattle.dch_linkcmd.specs.Rules.{PassesStage, link_lines};
+ghost use Rattle.dch_linkcmd.specs.Rules.{Begins, MayChange, PassesNext, PassesStage, link_lines};
 ghost use Rattle.dch_linkcmd.specs.Run.{Run, opened_run, steps_left};
-ghost use Rattle.dch_linkcmd.specs.Standing.{HasStageRoom, IsReady, RepresentsRun, stage_bytes};
+ghost use Rattle.dch_linkcmd.specs.Standing.{HasStageRoom, IsEnough, IsPrepared, IsReady, RepresentsRun, most_bytes, stage_bytes};
 ghost use Rattle.dch_linkcmd.specs.Taking.{Tells};
 ghost use Rattle.dch_texts.specs.declared.texts.TheConstants.{OCTETS};
 
@@ -18,17 +22,20 @@ use dch_bits::{Bit, NoMemory};
 use dch_lines::{LineFault, LineHandler};
 use dch_link::{CHECKS, Link, STAGES, Stage};
 use dch_nodeb::NodeB;
+use dch_nodecmd::Later;
 use dch_rnc::Rnc;
 use dch_script::{Line, LineError, Report};
 use dch_texts::{OCTETS, UNIT_BITS};
 use dch_ue::Ue;
 use std::alloc::Global;
 use std::marker::Model;
+use std::mem;
 
 /// The handler of the command `link`, which takes each line as something that happens between two radio frames, or as radio frames,
 /// stage by stage. All memory is taken at opening.
 pub struct LinkHandler {
     accepted: Accepted,
+    later: Option<Later>,
     link: Link,
     octets: Vec<u8>,
     filter: Filter,
@@ -36,6 +43,7 @@ pub struct LinkHandler {
     left: u32,
     frames: u64,
     lines: u64,
+    most: usize,
 }
 
 // By hand, so that whoever holds one drops it by one call.
@@ -43,6 +51,7 @@ impl Drop for LinkHandler {
     fn drop(self) {
         let LinkHandler {
             accepted: _accepted,
+            later: _later,
             link: _link,
             octets: _octets,
             filter: _filter,
@@ -50,6 +59,7 @@ impl Drop for LinkHandler {
             left: _left,
             frames: _frames,
             lines: _lines,
+            most: _most,
         } = self;
     }
 }
@@ -61,36 +71,41 @@ impl Model for LinkHandler {
 
     ghost Value = { Handler };
 
-    ghost view = { λ h. record { accepted = h.accepted; link = h.link; quiet = h.filter.quiet; step = h.filter.step; stage = h.stage; left = h.left; frames = h.frames; lines = h.lines } };
+    ghost view = { λ h. record { accepted = h.accepted; later = h.later; link = h.link; quiet = h.filter.quiet; stage = h.stage; left = h.left; frames = h.frames; lines = h.lines; most = h.most; step = h.filter.step } };
 
     ghost invariant = { λ h. length h.octets.items ≡ OCTETS };
 }
 
 impl LinkHandler {
-    /// Opens the nodes for a configuration, whose first radio frame has this CFN. With `quiet` the lines of frames are left out of the
-    /// text.
+    /// Opens the nodes for a configuration, and for a second one where one is to come, in which every bearer goes on. The first radio frame
+    /// has this CFN. With `quiet` the lines of frames are left out of the text.
     pub fn open(
         alloc: Global,
         accepted: Accepted,
+        later: Option<Later>,
         first_cfn: u8,
         quiet: bool,
     ) -> Result<LinkHandler, NoMemory>
-        requires { first_cfn % 8 ≡ 0 }
+        requires cfn { first_cfn % 8 ≡ 0 }
+        requires follows { IfSome later (CanFollow accepted) }
         ensures ready { IfOk result IsReady }
-        ensures stands { IfOk result (RepresentsRun (opened_run accepted first_cfn quiet)) }
-        ensures new { IfOk result (λ handler. (handler.accepted ≡ accepted) × (handler.lines ≡ 0)) }
+        ensures stands { IfOk result (RepresentsRun (opened_run accepted later first_cfn quiet)) }
+        ensures new { IfOk result (λ handler. (handler.accepted ≡ accepted) × (handler.later ≡ later) × (handler.lines ≡ 0)) }
+        ensures most { IfOk result (λ handler. handler.most ≡ most_bytes accepted later) }
     {
+        let most = most_of(&accepted, &later);
         let Ok(octets) = vec![in alloc; 0; OCTETS] else {
             return Err(NoMemory);
         };
-        let Ok(filter) = Filter::open(alloc, &accepted, quiet) else {
+        let Ok(filter) = Filter::open(alloc, most, quiet) else {
             return Err(NoMemory);
         };
-        let Ok(link) = Link::open(alloc, &accepted, first_cfn) else {
+        let Ok(link) = open_link(alloc, &accepted, &later, first_cfn) else {
             return Err(NoMemory);
         };
         Ok(LinkHandler {
             accepted,
+            later,
             link,
             octets,
             filter,
@@ -98,15 +113,17 @@ impl LinkHandler {
             left: 0,
             frames: 0,
             lines: 0,
+            most,
         })
     }
 
     /// The nodes, after the work. Each stands for what happened to it in the run.
     pub fn into_nodes(self) -> (Ue, NodeB, Rnc)
-        ensures { (run : Run) → RepresentsRun run self → HaveHistories self.accepted run.first run.link result.0 result.1 result.2 }
+        ensures { (run : Run) → RepresentsRun run self → HaveHistories run.began self.accepted run.first run.link result.0 result.1 result.2 }
     {
         let LinkHandler {
             accepted: _accepted,
+            later: _later,
             link,
             octets: _octets,
             filter: _filter,
@@ -114,20 +131,59 @@ impl LinkHandler {
             left: _left,
             frames: _frames,
             lines: _lines,
+            most: _most,
         } = self;
         link.into_nodes()
     }
 
-    /// Passes the next stage of a radio frame, after the last of which the next radio frame is on.
+    /// Passes the next stage of a radio frame, in the second configuration where that becomes active with it.
     fn pass(&mut self, report: &mut Report)
         requires ready { IsReady self.old }
         requires left { 0 < self.old.left }
-        requires room { length report.old.text + stage_bytes self.old.accepted.config ≤ report.old.most }
-        ensures passes { Leads RepresentsRun self.old self.new (λ old new. Adds (PassesStage old new) report.old report.new) }
+        requires room { length report.old.text + self.old.most ≤ report.old.most }
+        ensures passes { Leads RepresentsRun self.old self.new (λ old new. Adds (PassesNext old new) report.old report.new) }
         ensures ready { IsReady self.new }
-        ensures accepted { self.new.accepted ≡ self.old.accepted }
         ensures lines { self.new.lines ≡ self.old.lines }
         ensures remaining { steps_left self.new.stage self.new.left + 1 ≡ steps_left self.old.stage self.old.left }
+        ensures text_most { self.new.most ≡ self.old.most }
+        ensures most { report.new.most ≡ report.old.most }
+        ensures fits { length report.new.text ≤ report.new.most }
+    {
+        self.change(report);
+        self.pass_stage(report);
+    }
+
+    /// The second configuration becomes active where the radio frame begins from which it is to be active.
+    fn change(&mut self, report: &mut Report)
+        requires ready { IsReady self.old }
+        requires room { length report.old.text + self.old.most ≤ report.old.most }
+        ensures changes { Leads RepresentsRun self.old self.new MayChange }
+        ensures ready { IsReady self.new }
+        ensures stage { self.new.stage ≡ self.old.stage }
+        ensures left { self.new.left ≡ self.old.left }
+        ensures lines { self.new.lines ≡ self.old.lines }
+        ensures most { self.new.most ≡ self.old.most }
+        ensures same { report.new ≡ report.old }
+    {
+        if !is_due(&self.later, self.stage, self.frames) {
+            return;
+        }
+        if let Some(mut later) = self.later.take() {
+            mem::swap(&mut self.accepted, &mut later.accepted);
+            self.link.change(&self.accepted, report);
+        }
+    }
+
+    /// Passes a stage of a radio frame, after the last of which the next radio frame is on.
+    fn pass_stage(&mut self, report: &mut Report)
+        requires ready { IsReady self.old }
+        requires left { 0 < self.old.left }
+        requires room { length report.old.text + self.old.most ≤ report.old.most }
+        ensures passes { Leads RepresentsRun self.old self.new (λ old new. Adds (PassesStage old new) report.old report.new) }
+        ensures ready { IsReady self.new }
+        ensures lines { self.new.lines ≡ self.old.lines }
+        ensures remaining { steps_left self.new.stage self.new.left + 1 ≡ steps_left self.old.stage self.old.left }
+        ensures text_most { self.new.most ≡ self.old.most }
         ensures most { report.new.most ≡ report.old.most }
         ensures fits { length report.new.text ≤ report.new.most }
     {
@@ -145,6 +201,53 @@ impl LinkHandler {
     }
 }
 
+/// The most bytes of the text of a stage, under each of the configurations.
+fn most_of(accepted: &Accepted, later: &Option<Later>) -> usize
+    ensures value { result ≡ most_bytes accepted.now later.now }
+    ensures enough { IsEnough accepted.now later.now result }
+{
+    // A good configuration has at most 16 bearers.
+    let _config = accepted.config();
+    let most = accepted.step_bytes() + CHECKS;
+    match later {
+        Some(later) => {
+            let _config = later.accepted.config();
+            most.max(later.accepted.step_bytes() + CHECKS)
+        }
+        None => most,
+    }
+}
+
+/// Opens the nodes for one configuration or two.
+fn open_link(
+    alloc: Global,
+    accepted: &Accepted,
+    later: &Option<Later>,
+    first_cfn: u8,
+) -> Result<Link, NoMemory>
+    requires cfn { first_cfn % 8 ≡ 0 }
+    requires follows { IfSome later.now (CanFollow accepted.now) }
+    ensures opened { IfOk result (IsLinkOf accepted.now) }
+    ensures next { IfOk result (λ link. IfSome later.now (IsPrepared accepted.now link)) }
+    ensures stands { IfOk result (Represents accepted.now accepted.now first_cfn (opened_link accepted.now first_cfn)) }
+{
+    match later {
+        Some(later) => Link::open_both(alloc, accepted, &later.accepted, first_cfn),
+        None => Link::open(alloc, accepted, first_cfn),
+    }
+}
+
+/// Whether a second configuration is to come, and this stage begins the radio frame from which it is active.
+fn is_due(later: &Option<Later>, stage: Stage, frames: u64) -> bool
+    ensures due { result ≡ true → (coming : Coming) × Begins later.now stage frames coming }
+    ensures undue { result ≡ false → (coming : Coming) → ¬ Begins later.now stage frames coming }
+{
+    match later {
+        Some(later) => stage.is_first() && u64::from(later.frame) == frames,
+        None => false,
+    }
+}
+
 /// Takes a line. Answers how many radio frames it asks for, if it asks for any; otherwise what it says has happened. `octets` is room
 /// for the octets of a unit.
 fn take(
@@ -157,12 +260,14 @@ fn take(
 ) -> Result<Option<u32>, LineError>
     requires octets { length octets.old ≡ OCTETS }
     requires opened { IsLinkOf accepted.now link.old }
-    requires step { HasStageRoom accepted.now.config filter.old.quiet filter.old.step }
+    requires step { HasStageRoom (stage_bytes accepted.now.config) filter.old.quiet filter.old.step }
     requires room { length report.old.text + stage_bytes accepted.now.config ≤ report.old.most }
     ensures ok { IfOk result (λ count. Tells accepted.now line.now count filter.old.quiet link.old link.new report.old report.new) }
     ensures err { IfErr result (λ why. meaning_in LinkLines accepted.now.config line.now ≡ Err why) }
     ensures same { IfErr result (λ _. (link.new ≡ link.old) × (report.new ≡ report.old)) }
     ensures opened { IsLinkOf accepted.now link.new }
+    ensures next { (second : Planned) → HasNext accepted.now second link.old → HasNext accepted.now second link.new }
+    ensures cfn { link.new.ue.cfn ≡ link.old.ue.cfn }
     ensures filter { filter.new ≡ filter.old }
     ensures most { report.new.most ≡ report.old.most }
     ensures fits { length report.new.text ≤ report.new.most }
@@ -185,7 +290,7 @@ impl LineHandler for LinkHandler {
 
     ghost represents = { RepresentsRun };
 
-    ghost most = { λ h. stage_bytes h.accepted.config };
+    ghost most = { λ h. h.most };
 
     ghost remaining = { λ h. steps_left h.stage h.left };
 
@@ -233,7 +338,7 @@ impl LineHandler for LinkHandler {
     }
 
     fn most(&self) -> usize {
-        self.accepted.step_bytes() + CHECKS
+        self.most
     }
 
     ghost overlong = { link_refuses_long };

@@ -1,2 +1,3 @@
 pub mod NoTrace
+pub mod Taking
 pub mod Texts

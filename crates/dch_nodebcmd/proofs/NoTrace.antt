@@ -12,7 +12,7 @@ use Rattle.dch_node.proofs.IubFrames.{one_number}
 use Rattle.dch_nodeb.specs.State.{Event, IubFrame, State}
 use Rattle.dch_nodeb.specs.Steps.{IsArrival}
 use Rattle.dch_nodebcmd.specs.Lasting.{node_b_lasting}
-use Rattle.dch_nodebcmd.specs.NoTrace.{BringsRefused}
+use Rattle.dch_nodebcmd.specs.NoTrace.{BringsRefused, BringsRefusedAfter}
 use Rattle.dch_nodebcmd.specs.Rules.{node_b_lines, node_b_rules}
 use Rattle.dch_nodecmd.specs.NoTrace.{ChangesNothing, LeavesNoTrace}
 use Rattle.dch_nodecmd.specs.Run.{Run}
@@ -38,7 +38,7 @@ refused_nothing run line set error brings = record {
       arrival_refused old new set (octets_of brings.hex) error output (rw same brings.cause) step;
 }
 
-pub no_trace : (run new : Run State Event) (before after : List (List ℕ)) (line text : List ℕ) (set : ℕ) (error : IubError) → BringsRefused run line set error → HandlesLines node_b_lines run (before ++ line ∷ after) new text
+pub no_trace : (run new : Run State Event) (before after : List (List ℕ)) (line text : List ℕ) (set : ℕ) (error : IubError) → BringsRefusedAfter run before line set error → HandlesLines node_b_lines run (before ++ line ∷ after) new text
     → LeavesNoTrace node_b_rules run new before after (IubBad Down set (refusal_number error) ∷ []) text
 no_trace run new before after line text set error brings handles =
-    leaves_none node_b_rules run new before after line text (IubBad Down set (refusal_number error) ∷ []) node_b_lasting (refused_nothing run line set error brings) handles
+    leaves_none node_b_rules run new before after line text (IubBad Down set (refusal_number error) ∷ []) node_b_lasting (λ mid more handled. refused_nothing mid line set error (brings mid more handled)) handles

@@ -1,12 +1,11 @@
-ghost use Rattle.std.specs.Prelude.{◌≡◌, Some, length, IfOk, IfErr};
+ghost use Rattle.std.specs.Prelude.{◌≡◌, length, IfOk, IfErr};
 ghost use Rattle.dch_script.specs.Good.{IsOfNodeB, IsWithin};
-ghost use Rattle.dch_script.specs.ParsedLine.{change, parsed_of};
-ghost use Rattle.dch_script.specs.declared.event.LineError.TheVariants.{When};
-ghost use Rattle.dch_nodeb.specs.Standing.{MayCome, event_of as happening};
-ghost use Rattle.dch_nodebcmd.specs.LineEvents.{event_of};
+ghost use Rattle.dch_script.specs.ParsedLine.{parsed_of};
+ghost use Rattle.dch_nodeb.specs.Standing.{MayCome};
+ghost use Rattle.dch_nodebcmd.specs.Reading.{IsReadAs, IsSaid};
 ghost use Rattle.dch_nodebcmd.specs.Rules.{node_b_rules};
 ghost use Rattle.dch_nodebcmd.specs.declared.reading.TheConstants.{TFCI_BITS};
-ghost use Rattle.dch_nodecmd.specs.NodeRules.{IsMalformed, SaysEvent};
+ghost use Rattle.dch_nodecmd.specs.NodeRules.{IsMalformed};
 ghost use Rattle.dch_texts.specs.declared.texts.TheConstants.{CELLS, OCTETS};
 
 use dch_accept::{Accepted, FrameView};
@@ -18,7 +17,7 @@ use dch_texts::{read_cells, read_octets, read_tfci};
 /// The TFCI bits of an uplink radio frame.
 pub const TFCI_BITS: usize = 30;
 
-/// Reads what a line says to the Node B. Its octets, bits and cells are read into the rooms. `When` where it says `change`.
+/// Reads what a line says to the Node B. Its octets, bits and cells are read into the rooms.
 pub fn read_line<'a>(
     accepted: &Accepted,
     line: &[u8],
@@ -29,12 +28,12 @@ pub fn read_line<'a>(
     requires octets { length octets.old ≡ OCTETS }
     requires tfci { length tfci.old ≡ TFCI_BITS }
     requires cells { length cells.old ≡ CELLS }
-    ensures says { IfOk result (λ happens. SaysEvent node_b_rules accepted.now.config line.now (happening happens)) }
-    ensures comes { IfOk result (λ happens. MayCome accepted.now happens) }
-    ensures err { IfErr result (λ why. IsMalformed node_b_rules accepted.now.config line.now why) }
+    ensures says { IfOk result (IsReadAs accepted.now line.now) }
+    ensures comes { IfOk result (MayCome accepted.now) }
+    ensures err { IfErr result (IsMalformed node_b_rules accepted.now.config line.now) }
 {
     match parse_in(Command::NodeB, accepted.config(), line) {
-        Ok(event) => read_event(accepted, event, octets, tfci, cells),
+        Ok(event) => Ok(read_event(accepted, event, octets, tfci, cells)),
         Err(why) => Err(why),
     }
 }
@@ -46,22 +45,21 @@ fn read_event<'a>(
     octets: &'a mut [u8],
     tfci: &'a mut [Bit],
     cells: &'a mut [Trit],
-) -> Result<NodeBEvent<'a>, LineError>
+) -> NodeBEvent<'a>
     requires good { IsOfNodeB accepted.now.config (parsed_of event) }
     requires within { IsWithin (parsed_of event) }
     requires octets { length octets.old ≡ OCTETS }
     requires tfci { length tfci.old ≡ TFCI_BITS }
     requires cells { length cells.old ≡ CELLS }
-    ensures says { IfOk result (λ happens. event_of (parsed_of event.entry) ≡ Some (happening happens)) }
-    ensures comes { IfOk result (λ happens. MayCome accepted.now happens) }
-    ensures err { IfErr result (λ why. (parsed_of event.entry ≡ change) × (why ≡ When)) }
+    ensures says { IsSaid accepted.now (parsed_of event.entry) result }
+    ensures comes { MayCome accepted.now result }
 {
     match event {
         Event::Iub { set, hex } => {
             let frame = read_octets(hex, octets);
-            Ok(NodeBEvent::Iub { set, frame })
+            NodeBEvent::Iub { set, frame }
         }
-        Event::Down => Ok(NodeBEvent::Down),
+        Event::Down => NodeBEvent::Down,
         Event::Phy {
             tfci: bits,
             cells: letters,
@@ -70,10 +68,10 @@ fn read_event<'a>(
                 tfci: read_tfci(bits, tfci),
                 cells: read_cells(letters, cells),
             };
-            Ok(NodeBEvent::Phy { frame: Some(frame) })
+            NodeBEvent::Phy { frame: Some(frame) }
         }
-        Event::PhyNone => Ok(NodeBEvent::Phy { frame: None }),
-        Event::Change => Err(LineError::When),
+        Event::PhyNone => NodeBEvent::Phy { frame: None },
+        Event::Change => NodeBEvent::Change,
         _ => unreachable!(),
     }
 }

@@ -12,7 +12,9 @@ use Rattle.dch_nodecmd.specs.Shown.{shown}
 -- two runs whose later steps go on from the same, in which as many radio frames have passed
 pub record IsSameRun {S E : Type 0} (rules : NodeRules S E) (run other : Run S E) : Type 0 where
   pub node : rules.kept other.node ≡ rules.kept run.node
+  pub began : other.began ≡ run.began
   pub first : other.first ≡ run.first
+  pub second : other.second ≡ run.second
   pub quiet : other.quiet ≡ run.quiet
   pub frames : frames_in rules other.events ≡ frames_in rules run.events
 
@@ -24,6 +26,10 @@ pub record ChangesNothing {S E : Type 0} (rules : NodeRules S E) (planned : Plan
   pub says : SaysEvent rules planned.config line event
   pub uncounted : rules.frames event ≡ 0
   pub answered : (old new : S) (output : Output) → rules.planned old ≡ planned → rules.steps old event new output → (rules.kept new ≡ rules.kept old) × (output.lines ≡ lines)
+
+-- wherever lines lead, a line changes nothing then
+abbrev pub ChangesNothingAfter : {S E : Type 0} → NodeRules S E → Run S E → List (List ℕ) → List ℕ → List Line → Type 0
+ChangesNothingAfter {S} {E} rules run before line lines = (mid : Run S E) (text : List ℕ) → HandlesLines (node_lines rules) run before mid text → ChangesNothing rules (rules.planned mid.node) line lines
 
 -- without such a line the others do the same, and their text is the same, less its lines
 pub record LeavesNoTrace {S E : Type 0} (rules : NodeRules S E) (run new : Run S E) (before after : List (List ℕ)) (lines : List Line) (text : List ℕ) : Type 0 where

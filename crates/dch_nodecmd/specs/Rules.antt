@@ -1,13 +1,15 @@
 -- The rules of a command with one node: each line is one event of the node.
-use Rattle.std.specs.Prelude.{◌≡◌, ◌++◌, ℕ, List, [], ◌∷◌, codes, decimal}
+use Rattle.std.specs.Prelude.{◌≡◌, ◌⊎◌, ◌++◌, ℕ, List, [], ◌∷◌, None, codes, decimal}
 use Rattle.dch_types.specs.declared.config.Config.{Config}
 use Rattle.dch_script.specs.declared.event.LineError.{LineError}
+use Rattle.dch_script.specs.declared.event.LineError.TheVariants.{When}
 use Rattle.dch_lines.specs.Semantics.{Semantics, one_step}
 use Rattle.dch_node.specs.Lines.{text_of}
 use Rattle.dch_node.specs.Values.{Output}
-use Rattle.dch_nodecmd.specs.NodeRules.{IsMalformed, NodeRules, SaysEvent}
-use Rattle.dch_nodecmd.specs.Run.{Run, frames_in}
+use Rattle.dch_nodecmd.specs.NodeRules.{AsksChange, IsMalformed, NodeRules, SaysEvent}
+use Rattle.dch_nodecmd.specs.Run.{IsDue, Run, frames_in}
 use Rattle.dch_nodecmd.specs.Shown.{shown}
+use Rattle.dch_nodecmd.specs.declared.later.Later.{Later}
 
 -- the configuration that is active
 abbrev pub config_of : {S E : Type 0} → NodeRules S E → Run S E → Config
@@ -21,15 +23,31 @@ pub record TakesEvent {S E : Type 0} (rules : NodeRules S E) (old : Run S E) (ev
   pub goes_on : new ≡ record old { node = node; events = old.events ++ event ∷ []; lines = old.lines ++ output.lines; last = output }
   pub shows : text ≡ shown old.quiet (text_of output.lines)
 
--- a good line is one event
-pub record TakesLine {S E : Type 0} (rules : NodeRules S E) (old : Run S E) (line : List ℕ) (new : Run S E) (text : List ℕ) : Type 0 where
+-- a line says an event
+pub record TakesSaid {S E : Type 0} (rules : NodeRules S E) (old : Run S E) (line : List ℕ) (new : Run S E) (text : List ℕ) : Type 0 where
   pub event : E
   pub says : SaysEvent rules (config_of rules old) line event
   pub takes : TakesEvent rules old event new text
 
--- another line is malformed
+-- a change of the configuration that is due, after which none is to come
+pub record MakesChange {S E : Type 0} (rules : NodeRules S E) (old new : Run S E) (text : List ℕ) : Type 0 where
+  pub later : Later
+  pub due : IsDue old.second (frames_in rules old.events) later
+  pub takes : TakesEvent rules (record old { second = None }) (rules.change later.accepted) new text
+
+-- a good line says an event, or asks for a change that is due
+abbrev pub TakesLine : {S E : Type 0} → NodeRules S E → Run S E → List ℕ → Run S E → List ℕ → Type 0
+TakesLine rules old line new text = TakesSaid rules old line new text ⊎ (AsksChange rules (config_of rules old) line × MakesChange rules old new text)
+
+-- a line asks for a change that is not due
+pub record IsUntimely {S E : Type 0} (rules : NodeRules S E) (run : Run S E) (line : List ℕ) (why : LineError) : Type 0 where
+  pub asks : AsksChange rules (config_of rules run) line
+  pub undue : (later : Later) → ¬ IsDue run.second (frames_in rules run.events) later
+  pub shown : why ≡ When
+
+-- another line is malformed, or untimely
 abbrev pub RefusesLine : {S E : Type 0} → NodeRules S E → Run S E → List ℕ → LineError → Type 0
-RefusesLine rules run line why = IsMalformed rules (config_of rules run) line why
+RefusesLine rules run line why = IsMalformed rules (config_of rules run) line why ⊎ IsUntimely rules run line why
 
 -- the last line of a run whose lines were all good, in which so many radio frames have passed
 unfoldable pub closing : ℕ → List ℕ

@@ -1,14 +1,21 @@
-ghost use Rattle.std.specs.Prelude.{◌≡◌, ◌<◌, ◌≤◌, ◌+◌, ◌%◌, length, refl, IfErr, IfOk};
+ghost use Rattle.std.specs.Prelude.{◌≡◌, ◌≤◌, ◌+◌, ◌%◌, [], true, false, length, refl, IfErr, IfOk, IfSome, OnOk};
+ghost use Rattle.dch_accept.specs.Plans.{Planned};
 ghost use Rattle.dch_accept.specs.Reports.{step_bytes};
+ghost use Rattle.dch_lines.specs.Semantics.{Adds, Leads};
+ghost use Rattle.dch_lines.specs.declared.stop.LineFault.TheVariants.{Malformed};
+ghost use Rattle.dch_script.specs.declared.event.LineError.TheVariants.{When};
 ghost use Rattle.dch_nodecmd.specs.NodeRules.{IsMalformed};
 ghost use Rattle.dch_nodecmd.specs.Overlong.{refuses_long};
-ghost use Rattle.dch_nodecmd.specs.Rules.{closing, node_lines};
-ghost use Rattle.dch_nodecmd.specs.Run.{Run, opened_run};
-ghost use Rattle.dch_nodecmd.specs.Standing.{HasStepRoom, IsReady, RepresentsHistory, RepresentsRun, ShowsBy};
+ghost use Rattle.dch_nodecmd.specs.Rules.{MakesChange, closing, node_lines};
+ghost use Rattle.dch_nodecmd.specs.Run.{IsDue, Run, opened_run};
+ghost use Rattle.dch_nodecmd.specs.Standing.{CanFollow, HasStepRoom, IsEnough, IsReady, RepresentsHistory, RepresentsRun, ShowsAs, frames_of, most_bytes};
 ghost use Rattle.dch_nodecmd.specs.declared.handler.TheConstants.{MOST_TEXT};
+ghost use Rattle.dch_nodecmd.specs.declared.later.Later.{Later as Coming};
 
+use crate::later::Later;
 use crate::node::CommandNode;
 use crate::shown::put_other_lines;
+use crate::taken::Taken;
 use dch_accept::Accepted;
 use dch_bits::NoMemory;
 use dch_lines::{LineFault, LineHandler};
@@ -23,9 +30,11 @@ pub const MOST_TEXT: usize = 44_000_000;
 #[derive(Drop)]
 pub struct NodeHandler<N: CommandNode> {
     accepted: Accepted,
+    later: Option<Later>,
     node: N,
     quiet: bool,
     frames: u64,
+    most: usize,
     step: Report,
 }
 
@@ -34,37 +43,40 @@ impl<N: CommandNode> Model for NodeHandler<N> {
 
     ghost Value = { Handler N };
 
-    ghost view = { λ h. record { accepted = h.accepted; node = h.node; quiet = h.quiet; frames = h.frames; step = h.step } };
+    ghost view = { λ h. record { accepted = h.accepted; later = h.later; node = h.node; quiet = h.quiet; frames = h.frames; most = h.most; step = h.step } };
 }
 
 impl<N: CommandNode + Drop> NodeHandler<N> {
-    /// Opens a node for a configuration, whose first radio frame has this CFN. With `quiet` the lines of frames are left out of
-    /// the text.
+    /// Opens a node for a configuration, and for a second one where one is to come, in which every bearer goes on. The first radio frame has
+    /// this CFN. With `quiet` the lines of frames are left out of the text.
     pub fn open(
         alloc: Global,
         accepted: Accepted,
+        later: Option<Later>,
         first_cfn: u8,
         quiet: bool,
     ) -> Result<NodeHandler<N>, NoMemory>
-        requires { first_cfn % 8 ≡ 0 }
-        ensures ready { IfOk result (IsReady N.is_opened) }
-        ensures stands { IfOk result (RepresentsRun N.rules N.represents N.shows (opened_run N.rules accepted first_cfn quiet)) }
-        ensures new { IfOk result (λ handler. (handler.accepted ≡ accepted) × (handler.quiet ≡ quiet) × (handler.frames ≡ 0)) }
-        ensures most { IfOk result (λ handler. step_bytes handler.accepted.config ≤ MOST_TEXT) }
+        requires cfn { first_cfn % 8 ≡ 0 }
+        requires follows { IfSome later (CanFollow accepted) }
+        ensures ready { IfOk result (IsReady N.rules N.is_opened N.has_next N.represents N.shows) }
+        ensures stands { IfOk result (RepresentsRun N.rules N.represents N.shows (opened_run N.rules accepted later first_cfn quiet)) }
+        ensures new { IfOk result (λ handler. (handler.accepted ≡ accepted) × (handler.later ≡ later) × (handler.quiet ≡ quiet) × (handler.frames ≡ 0)) }
+        ensures most { IfOk result (λ handler. (handler.most ≡ most_bytes accepted later) × (handler.most ≤ MOST_TEXT)) }
     {
-        // A good configuration has at most 16 bearers.
-        let _config = accepted.config();
-        let Ok(step) = open_step(alloc, &accepted, quiet) else {
+        let most = most_of(&accepted, &later);
+        let Ok(step) = open_step(alloc, most, quiet) else {
             return Err(NoMemory);
         };
-        let Ok(node) = N::open(alloc, &accepted, first_cfn) else {
+        let Ok(node) = open_node(alloc, &accepted, &later, first_cfn) else {
             return Err(NoMemory);
         };
         Ok(NodeHandler {
             accepted,
+            later,
             node,
             quiet,
             frames: 0,
+            most,
             step,
         })
     }
@@ -72,19 +84,91 @@ impl<N: CommandNode + Drop> NodeHandler<N> {
     /// The node, after the work. It stands for what happened in the run.
     pub fn into_node(self) -> N
         ensures node { result ≡ self.node }
-        ensures opened { IsReady N.is_opened self → N.is_opened self.accepted result }
-        ensures history { (run : Run N.State N.Event) → RepresentsRun N.rules N.represents N.shows run self → RepresentsHistory N.rules N.represents N.shows self.accepted run.first run.events run.lines result }
+        ensures opened { IsReady N.rules N.is_opened N.has_next N.represents N.shows self → N.is_opened self.accepted result }
+        ensures history { (run : Run N.State N.Event) → RepresentsRun N.rules N.represents N.shows run self → RepresentsHistory N.rules N.represents N.shows run.began self.accepted run.first run.events run.lines result }
     {
         self.node
     }
 }
 
-/// Room for the text of a step, which is wanted with `quiet`.
-fn open_step(alloc: Global, accepted: &Accepted, quiet: bool) -> Result<Report, NoMemory>
-    ensures { IfOk result (HasStepRoom accepted.now.config quiet) }
+/// The most bytes of the text of a step, under each of the configurations.
+fn most_of(accepted: &Accepted, later: &Option<Later>) -> usize
+    ensures value { result ≡ most_bytes accepted.now later.now }
+    ensures enough { IsEnough accepted.now later.now result }
+    ensures few { result ≤ MOST_TEXT }
 {
-    let most = if quiet { accepted.step_bytes() } else { 0 };
-    Report::open(alloc, most)
+    // A good configuration has at most 16 bearers.
+    let _config = accepted.config();
+    let most = accepted.step_bytes();
+    match later {
+        Some(later) => {
+            let _config = later.accepted.config();
+            most.max(later.accepted.step_bytes())
+        }
+        None => most,
+    }
+}
+
+/// Room for the text of a step, which is wanted with `quiet`.
+fn open_step(alloc: Global, most: usize, quiet: bool) -> Result<Report, NoMemory>
+    ensures { IfOk result (HasStepRoom most quiet) }
+{
+    Report::open(alloc, if quiet { most } else { 0 })
+}
+
+/// Opens a node for one configuration or two.
+fn open_node<N: CommandNode>(
+    alloc: Global,
+    accepted: &Accepted,
+    later: &Option<Later>,
+    first_cfn: u8,
+) -> Result<N, NoMemory>
+    requires cfn { first_cfn % 8 ≡ 0 }
+    requires follows { IfSome later.now (CanFollow accepted.now) }
+    ensures opened { IfOk result (N.is_opened accepted.now) }
+    ensures next { IfOk result (λ node. IfSome later.now (λ later. N.has_next accepted.now later.accepted node)) }
+    ensures stands { IfOk result (RepresentsHistory N.rules N.represents N.shows accepted.now accepted.now first_cfn [] []) }
+{
+    match later {
+        Some(later) => N::open_both(alloc, accepted, &later.accepted, first_cfn),
+        None => N::open(alloc, accepted, first_cfn),
+    }
+}
+
+impl<N: CommandNode> NodeHandler<N> {
+    /// Makes the second configuration active, where that is due.
+    fn change(&mut self, report: &mut Report) -> Result<(), LineFault>
+        requires stands { IsReady N.rules N.is_opened N.has_next N.represents N.shows self.old }
+        requires room { length report.old.text + self.old.most ≤ report.old.most }
+        ensures ok { OnOk result (Leads (RepresentsRun N.rules N.represents N.shows) self.old self.new (λ run next. Adds (MakesChange N.rules run next) report.old report.new)) }
+        ensures err { IfErr result (λ fault. (fault ≡ Malformed When) × ((later : Coming) → ¬ IsDue self.old.later self.old.frames later)) }
+        ensures same { IfErr result (λ _. (self.new ≡ self.old) × (report.new ≡ report.old)) }
+        ensures room { report.new.most ≡ report.old.most }
+        ensures fits { OnOk result (length report.new.text ≤ report.new.most) }
+        ensures stands { IsReady N.rules N.is_opened N.has_next N.represents N.shows self.new }
+        ensures most { self.new.most ≡ self.old.most }
+        ensures frames { self.new.frames ≡ self.old.frames }
+    {
+        if !is_due(&self.later, self.frames) {
+            return Err(LineFault::Malformed(LineError::When));
+        }
+        if let Some(later) = self.later.take() {
+            self.accepted = later.into_accepted();
+            self.node.change(&self.accepted, report);
+        }
+        Ok(())
+    }
+}
+
+/// Whether a second configuration is to come, and is due after so many radio frames.
+fn is_due(later: &Option<Later>, frames: u64) -> bool
+    ensures due { result ≡ true → (coming : Coming) × IsDue later.now frames coming }
+    ensures undue { result ≡ false → (coming : Coming) → ¬ IsDue later.now frames coming }
+{
+    match later {
+        Some(later) => u64::from(later.frame) == frames,
+        None => false,
+    }
 }
 
 impl<N: CommandNode> LineHandler for NodeHandler<N> {
@@ -94,11 +178,11 @@ impl<N: CommandNode> LineHandler for NodeHandler<N> {
 
     ghost represents = { RepresentsRun N.rules N.represents N.shows };
 
-    ghost most = { λ h. step_bytes h.accepted.config };
+    ghost most = { λ h. h.most };
 
     ghost remaining = { λ _. 0 };
 
-    ghost stands = { IsReady N.is_opened };
+    ghost stands = { IsReady N.rules N.is_opened N.has_next N.represents N.shows };
 
     ghost handled = { λ h. h.frames };
 
@@ -111,10 +195,11 @@ impl<N: CommandNode> LineHandler for NodeHandler<N> {
             &mut self.step,
             report,
         ) {
-            Ok(frames) => {
+            Ok(Taken::Event(frames)) => {
                 self.frames += frames;
                 Ok(())
             }
+            Ok(Taken::Change) => self.change(report),
             Err(why) => Err(LineFault::Malformed(why)),
         }
     }
@@ -131,7 +216,7 @@ impl<N: CommandNode> LineHandler for NodeHandler<N> {
     }
 
     fn most(&self) -> usize {
-        self.accepted.step_bytes()
+        self.most
     }
 
     ghost overlong = { refuses_long N.rules };
@@ -140,7 +225,7 @@ impl<N: CommandNode> LineHandler for NodeHandler<N> {
 }
 
 /// Takes a line as an event, and adds to the report what is shown of the lines of the step, for which `step` has room where
-/// they are not all shown. Answers how many radio frames the event stands for.
+/// they are not all shown.
 fn take<N: CommandNode>(
     accepted: &Accepted,
     line: &[u8],
@@ -148,15 +233,16 @@ fn take<N: CommandNode>(
     node: &mut N,
     step: &mut Report,
     report: &mut Report,
-) -> Result<u64, LineError>
+) -> Result<Taken, LineError>
     requires opened { N.is_opened accepted.now node.old }
-    requires step { HasStepRoom accepted.now.config quiet step.old }
+    requires step { HasStepRoom (step_bytes accepted.now.config) quiet step.old }
     requires room { length report.old.text + step_bytes accepted.now.config ≤ report.old.most }
-    ensures ok { IfOk result (λ count. ShowsBy N.rules N.represents N.shows accepted.now quiet line.now count node.old node.new report.old.text report.new.text) }
-    ensures at_most { IfOk result (λ count. count ≤ 1) }
+    ensures ok { IfOk result (ShowsAs N.rules N.represents N.shows accepted.now quiet line.now node.old node.new report.old report.new) }
+    ensures at_most { IfOk result (λ taken. frames_of taken ≤ 1) }
     ensures err { IfErr result (IsMalformed N.rules accepted.now.config line.now) }
     ensures same { IfErr result (λ _. (node.new ≡ node.old) × (report.new ≡ report.old)) }
     ensures opened { N.is_opened accepted.now node.new }
+    ensures next { (second : Planned) → N.has_next accepted.now second node.old → N.has_next accepted.now second node.new }
     ensures step { step.new ≡ step.old }
     ensures most { report.new.most ≡ report.old.most }
     ensures fits { IfOk result (λ _. length report.new.text ≤ report.new.most) }
@@ -165,11 +251,11 @@ fn take<N: CommandNode>(
         return node.take_line(accepted, line, report);
     }
     match node.take_line(accepted, line, step) {
-        Ok(frames) => {
+        Ok(Taken::Event(frames)) => {
             put_other_lines(step.bytes(), report);
             step.clear();
-            Ok(frames)
+            Ok(Taken::Event(frames))
         }
-        Err(why) => Err(why),
+        other => other,
     }
 }

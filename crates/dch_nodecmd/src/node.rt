@@ -1,10 +1,12 @@
-ghost use Rattle.std.specs.Prelude.{◌≡◌, ◌≤◌, ◌+◌, ◌%◌, [], length, IfErr, IfOk};
+ghost use Rattle.std.specs.Prelude.{◌≡◌, ◌≤◌, ◌+◌, ◌%◌, ℕ, [], length, IfErr, IfOk};
+ghost use Rattle.dch_config.specs.Changes.{KeepsBearer};
 ghost use Rattle.dch_accept.specs.Plans.{Planned};
 ghost use Rattle.dch_accept.specs.Reports.{step_bytes};
 ghost use Rattle.dch_node.specs.Values.{Output};
 ghost use Rattle.dch_nodecmd.specs.NodeRules.{AreLasting, IsMalformed, NodeRules};
-ghost use Rattle.dch_nodecmd.specs.Standing.{RepresentsHistory, StepsBy};
+ghost use Rattle.dch_nodecmd.specs.Standing.{CanChange, Changes, RepresentsHistory, TakesAs, frames_of};
 
+use crate::taken::Taken;
 use dch_accept::Accepted;
 use dch_bits::NoMemory;
 use dch_script::{LineError, Report};
@@ -21,10 +23,13 @@ pub trait CommandNode {
     /// What the lines say, and what the node does.
     ghost rules: { NodeRules State Event };
 
-    /// A node was opened for a configuration.
+    /// A node was opened for a configuration, or that one is active since a change.
     ghost is_opened: { Planned → Self → Type 0 };
 
-    /// The states that a node stands for that was opened for a configuration.
+    /// A node of a configuration holds its parts for a second one.
+    ghost has_next: { Planned → Planned → Self → Type 0 };
+
+    /// The states that a node stands for where a configuration is active.
     ghost represents: { Planned → State → Self → Type 0 };
 
     /// A node shows what the last step sent.
@@ -34,29 +39,52 @@ pub trait CommandNode {
     fn open(alloc: Global, accepted: &Accepted, first_cfn: u8) -> Result<Self, NoMemory>
         requires { first_cfn % 8 ≡ 0 }
         ensures opened { IfOk result (is_opened accepted.now) }
-        ensures stands { IfOk result (RepresentsHistory rules represents shows accepted.now first_cfn [] []) };
+        ensures stands { IfOk result (RepresentsHistory rules represents shows accepted.now accepted.now first_cfn [] []) };
 
-    /// Takes a line as an event, and reports what the step does. Answers how many radio frames of 10 ms the event stands for. A
-    /// malformed line changes nothing.
+    /// Takes all memory for a configuration and for a second one, in which every bearer goes on. The first radio frame has this CFN.
+    fn open_both(
+        alloc: Global,
+        first: &Accepted,
+        second: &Accepted,
+        first_cfn: u8,
+    ) -> Result<Self, NoMemory>
+        requires cfn { first_cfn % 8 ≡ 0 }
+        requires kept { (b : ℕ) → KeepsBearer first.now.config second.now.config b }
+        ensures opened { IfOk result (is_opened first.now) }
+        ensures next { IfOk result (has_next first.now second.now) }
+        ensures stands { IfOk result (RepresentsHistory rules represents shows first.now first.now first_cfn [] []) };
+
+    /// Takes a line as an event, and reports what the step does; a line that asks for a change does nothing yet. A malformed line changes
+    /// nothing.
     fn take_line(
         &mut self,
         accepted: &Accepted,
         line: &[u8],
         report: &mut Report,
-    ) -> Result<u64, LineError>
+    ) -> Result<Taken, LineError>
         requires opened { is_opened accepted.now self.old }
         requires room { length report.old.text + step_bytes accepted.now.config ≤ report.old.most }
-        ensures ok { IfOk result (λ count. StepsBy rules represents shows accepted.now line.now count self.old self.new report.old.text report.new.text) }
-        ensures at_most { IfOk result (λ count. count ≤ 1) }
+        ensures ok { IfOk result (TakesAs rules represents shows accepted.now line.now self.old self.new report.old report.new) }
+        ensures at_most { IfOk result (λ taken. frames_of taken ≤ 1) }
         ensures err { IfErr result (IsMalformed rules accepted.now.config line.now) }
         ensures same { IfErr result (λ _. (self.new ≡ self.old) × (report.new ≡ report.old)) }
         ensures opened { is_opened accepted.now self.new }
+        ensures next { (second : Planned) → has_next accepted.now second self.old → has_next accepted.now second self.new }
         ensures most { report.new.most ≡ report.old.most }
         ensures few { IfOk result (λ _. length report.new.text ≤ length report.old.text + step_bytes accepted.now.config) };
 
-    /// Its configuration is the one of each state that it stands for.
+    /// Makes the second configuration active, and reports what the step does.
+    fn change(&mut self, accepted: &Accepted, report: &mut Report)
+        requires opened { CanChange rules is_opened has_next represents accepted.now self.old }
+        requires room { length report.old.text + step_bytes accepted.now.config ≤ report.old.most }
+        ensures steps { Changes rules represents has_next shows accepted.now self.old self.new report.old.text report.new.text }
+        ensures opened { is_opened accepted.now self.new }
+        ensures most { report.new.most ≡ report.old.most }
+        ensures few { length report.new.text ≤ length report.old.text + step_bytes accepted.now.config };
+
+    /// The configuration of each state that it stands for is the one that is active.
     ghost active: { (planned : Planned) (state : State) (node : Self) → represents planned state node → rules.planned state ≡ planned };
 
-    /// The configuration stays from the opening on over the steps, which go on from what is kept.
+    /// The configuration stays from the opening on over the steps, but for a change; they go on from what is kept.
     ghost lasting: { AreLasting rules };
 }

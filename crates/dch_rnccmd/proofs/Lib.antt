@@ -1,2 +1,3 @@
 pub mod NoTrace
 pub mod Senders
+pub mod Taking

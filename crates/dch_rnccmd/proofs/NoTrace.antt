@@ -12,7 +12,7 @@ use Rattle.dch_node.proofs.IubFrames.{one_number}
 use Rattle.dch_rnc.specs.State.{Event, IubFrame, State}
 use Rattle.dch_rnc.specs.Steps.{IsArrival}
 use Rattle.dch_rnccmd.specs.Lasting.{rnc_lasting}
-use Rattle.dch_rnccmd.specs.NoTrace.{BringsRefused}
+use Rattle.dch_rnccmd.specs.NoTrace.{BringsRefused, BringsRefusedAfter}
 use Rattle.dch_rnccmd.specs.Rules.{kept_of, rnc_lines, rnc_rules}
 use Rattle.dch_nodecmd.specs.NoTrace.{ChangesNothing, LeavesNoTrace}
 use Rattle.dch_nodecmd.specs.Run.{Run}
@@ -38,7 +38,7 @@ refused_nothing run line set error brings = record {
       arrival_refused old new set (octets_of brings.hex) error output (rw same brings.cause) step;
 }
 
-pub no_trace : (run new : Run State Event) (before after : List (List ℕ)) (line text : List ℕ) (set : ℕ) (error : IubError) → BringsRefused run line set error → HandlesLines rnc_lines run (before ++ line ∷ after) new text
+pub no_trace : (run new : Run State Event) (before after : List (List ℕ)) (line text : List ℕ) (set : ℕ) (error : IubError) → BringsRefusedAfter run before line set error → HandlesLines rnc_lines run (before ++ line ∷ after) new text
     → LeavesNoTrace rnc_rules run new before after (IubBad Up set (refusal_number error) ∷ []) text
 no_trace run new before after line text set error brings handles =
-    leaves_none rnc_rules run new before after line text (IubBad Up set (refusal_number error) ∷ []) rnc_lasting (refused_nothing run line set error brings) handles
+    leaves_none rnc_rules run new before after line text (IubBad Up set (refusal_number error) ∷ []) rnc_lasting (λ mid more handled. refused_nothing mid line set error (brings mid more handled)) handles

@@ -1,4 +1,5 @@
 pub mod Lasting
 pub mod LineEvents
 pub mod NoTrace
+pub mod Reading
 pub mod Rules

@@ -1,17 +1,19 @@
-ghost use Rattle.std.specs.Prelude.{◌≡◌, ◌≤◌, ◌+◌, length, IfErr, IfOk};
+ghost use Rattle.std.specs.Prelude.{◌≡◌, ◌≤◌, ◌+◌, length, IfErr, IfOk, IfNone, IfSome};
+ghost use Rattle.dch_accept.specs.Plans.{Planned};
 ghost use Rattle.dch_accept.specs.Reports.{step_bytes};
-ghost use Rattle.dch_rnc.specs.Opened.{IsNodeOf};
-ghost use Rattle.dch_rnc.specs.Standing.{Represents, Shows, event_of};
+ghost use Rattle.dch_rnc.specs.Opened.{HasNext, IsNodeOf};
+ghost use Rattle.dch_rnc.specs.Standing.{Represents, Shows};
 ghost use Rattle.dch_rnccmd.specs.Lasting.{rnc_lasting};
-ghost use Rattle.dch_rnccmd.specs.Rules.{frame_count, rnc_rules};
+ghost use Rattle.dch_rnccmd.specs.Reading.{IsCounted};
+ghost use Rattle.dch_rnccmd.specs.Rules.{rnc_rules};
 ghost use Rattle.dch_nodecmd.specs.NodeRules.{IsMalformed};
-ghost use Rattle.dch_nodecmd.specs.Standing.{StepsBy};
+ghost use Rattle.dch_nodecmd.specs.Standing.{TakesAs, frames_of as frames_taken};
 ghost use Rattle.dch_texts.specs.declared.texts.TheConstants.{OCTETS, UNIT_BITS};
 
 use crate::reading::read_line;
 use dch_accept::Accepted;
 use dch_bits::{Bit, NoMemory};
-use dch_nodecmd::CommandNode;
+use dch_nodecmd::{CommandNode, Taken};
 use dch_rnc::{Rnc, RncEvent};
 use dch_script::{LineError, Report};
 use dch_texts::{OCTETS, UNIT_BITS};
@@ -58,6 +60,8 @@ impl CommandNode for RncLines {
 
     ghost is_opened = { IsNodeOf };
 
+    ghost has_next = { HasNext };
+
     ghost represents = { Represents };
 
     ghost shows = { Shows };
@@ -68,12 +72,23 @@ impl CommandNode for RncLines {
         Ok(RncLines { node, octets, bits })
     }
 
+    fn open_both(
+        alloc: Global,
+        first: &Accepted,
+        second: &Accepted,
+        first_cfn: u8,
+    ) -> Result<RncLines, NoMemory> {
+        let (octets, bits) = open_rooms(alloc)?;
+        let node = Rnc::open_both(alloc, first, second, first_cfn)?;
+        Ok(RncLines { node, octets, bits })
+    }
+
     fn take_line(
         &mut self,
         accepted: &Accepted,
         line: &[u8],
         report: &mut Report,
-    ) -> Result<u64, LineError> {
+    ) -> Result<Taken, LineError> {
         take(
             accepted,
             line,
@@ -82,6 +97,10 @@ impl CommandNode for RncLines {
             &mut self.node,
             report,
         )
+    }
+
+    fn change(&mut self, accepted: &Accepted, report: &mut Report) {
+        self.node.step(accepted, RncEvent::Change, report);
     }
 
     ghost active = { λ planned state node stands. stands.at.active };
@@ -107,35 +126,41 @@ fn take(
     bits: &mut [Bit],
     node: &mut Rnc,
     report: &mut Report,
-) -> Result<u64, LineError>
+) -> Result<Taken, LineError>
     requires octets { length octets.old ≡ OCTETS }
     requires bits { length bits.old ≡ UNIT_BITS }
     requires opened { IsNodeOf accepted.now node.old }
     requires room { length report.old.text + step_bytes accepted.now.config ≤ report.old.most }
-    ensures ok { IfOk result (λ count. StepsBy rnc_rules Represents Shows accepted.now line.now count node.old node.new report.old.text report.new.text) }
-    ensures at_most { IfOk result (λ count. count ≤ 1) }
+    ensures ok { IfOk result (TakesAs rnc_rules Represents Shows accepted.now line.now node.old node.new report.old report.new) }
+    ensures at_most { IfOk result (λ taken. frames_taken taken ≤ 1) }
     ensures err { IfErr result (IsMalformed rnc_rules accepted.now.config line.now) }
     ensures same { IfErr result (λ _. (node.new ≡ node.old) × (report.new ≡ report.old)) }
     ensures opened { IsNodeOf accepted.now node.new }
+    ensures next { (second : Planned) → HasNext accepted.now second node.old → HasNext accepted.now second node.new }
     ensures most { report.new.most ≡ report.old.most }
     ensures few { IfOk result (λ _. length report.new.text ≤ length report.old.text + step_bytes accepted.now.config) }
 {
     match read_line(accepted, line, octets, bits) {
-        Ok(event) => {
-            node.step(accepted, event, report);
-            Ok(frames_of(event))
-        }
+        Ok(event) => match frames_of(event) {
+            Some(frames) => {
+                node.step(accepted, event, report);
+                Ok(Taken::Event(frames))
+            }
+            None => Ok(Taken::Change),
+        },
         Err(why) => Err(why),
     }
 }
 
-/// How many radio frames of 10 ms an event stands for.
-fn frames_of(event: RncEvent<'_>) -> u64
-    ensures value { result ≡ frame_count (event_of event.entry) }
-    ensures few { result ≤ 1 }
+/// How many radio frames of 10 ms an event stands for. None for a change.
+fn frames_of(event: RncEvent<'_>) -> Option<u64>
+    ensures some { IfSome result (IsCounted event.entry) }
+    ensures few { IfSome result (λ count. count ≤ 1) }
+    ensures none { IfNone result (event.entry ≡ RncEvent.Change) }
 {
     match event {
-        RncEvent::Unit { .. } | RncEvent::Block { .. } | RncEvent::Iub { .. } => 0,
-        RncEvent::Tick => 1,
+        RncEvent::Unit { .. } | RncEvent::Block { .. } | RncEvent::Iub { .. } => Some(0),
+        RncEvent::Tick => Some(1),
+        RncEvent::Change => None,
     }
 }

@@ -1,12 +1,12 @@
-ghost use Rattle.std.specs.Prelude.{◌≡◌, Some, length, IfOk, IfErr};
+ghost use Rattle.std.specs.Prelude.{◌≡◌, length, IfOk, IfErr};
 ghost use Rattle.dch_types.specs.declared.channel.Dir.TheVariants.{Down};
 ghost use Rattle.dch_script.specs.Good.{IsOfRnc, IsUnit, IsWithin};
-ghost use Rattle.dch_script.specs.ParsedLine.{change, parsed_of};
-ghost use Rattle.dch_script.specs.declared.event.LineError.TheVariants.{When};
+ghost use Rattle.dch_script.specs.ParsedLine.{parsed_of};
 ghost use Rattle.dch_rnc.specs.Standing.{MayCome, event_of as happening};
-ghost use Rattle.dch_rnccmd.specs.LineEvents.{event_of, unit_event};
+ghost use Rattle.dch_rnccmd.specs.LineEvents.{unit_event};
+ghost use Rattle.dch_rnccmd.specs.Reading.{IsReadAs, IsSaid};
 ghost use Rattle.dch_rnccmd.specs.Rules.{rnc_rules};
-ghost use Rattle.dch_nodecmd.specs.NodeRules.{IsMalformed, SaysEvent};
+ghost use Rattle.dch_nodecmd.specs.NodeRules.{IsMalformed};
 ghost use Rattle.dch_texts.specs.declared.texts.TheConstants.{OCTETS, UNIT_BITS};
 
 use dch_accept::Accepted;
@@ -15,7 +15,7 @@ use dch_rnc::RncEvent;
 use dch_script::{Command, Event, LineError, parse_in};
 use dch_texts::{read_octets, read_unit};
 
-/// Reads what a line says to the network controller. Its octets and bits are read into the rooms. `When` where it says `change`.
+/// Reads what a line says to the network controller. Its octets and bits are read into the rooms.
 pub fn read_line<'a>(
     accepted: &Accepted,
     line: &[u8],
@@ -24,12 +24,12 @@ pub fn read_line<'a>(
 ) -> Result<RncEvent<'a>, LineError>
     requires octets { length octets.old ≡ OCTETS }
     requires bits { length bits.old ≡ UNIT_BITS }
-    ensures says { IfOk result (λ happens. SaysEvent rnc_rules accepted.now.config line.now (happening happens)) }
-    ensures comes { IfOk result (λ happens. MayCome accepted.now happens) }
-    ensures err { IfErr result (λ why. IsMalformed rnc_rules accepted.now.config line.now why) }
+    ensures says { IfOk result (IsReadAs accepted.now line.now) }
+    ensures comes { IfOk result (MayCome accepted.now) }
+    ensures err { IfErr result (IsMalformed rnc_rules accepted.now.config line.now) }
 {
     match parse_in(Command::Rnc, accepted.config(), line) {
-        Ok(event) => read_event(accepted, event, octets, bits),
+        Ok(event) => Ok(read_event(accepted, event, octets, bits)),
         Err(why) => Err(why),
     }
 }
@@ -40,31 +40,30 @@ fn read_event<'a>(
     event: Event<'_>,
     octets: &'a mut [u8],
     bits: &'a mut [Bit],
-) -> Result<RncEvent<'a>, LineError>
+) -> RncEvent<'a>
     requires good { IsOfRnc accepted.now.config (parsed_of event) }
     requires within { IsWithin (parsed_of event) }
     requires octets { length octets.old ≡ OCTETS }
     requires bits { length bits.old ≡ UNIT_BITS }
-    ensures says { IfOk result (λ happens. event_of accepted.now.config (parsed_of event.entry) ≡ Some (happening happens)) }
-    ensures comes { IfOk result (λ happens. MayCome accepted.now happens) }
-    ensures err { IfErr result (λ why. (parsed_of event.entry ≡ change) × (why ≡ When)) }
+    ensures says { IsSaid accepted.now (parsed_of event.entry) result }
+    ensures comes { MayCome accepted.now result }
 {
     match event {
-        Event::Unit { bearer, text, .. } => Ok(offer(accepted, bearer, text, octets, bits)),
-        Event::Block { combination, .. } => Ok(RncEvent::Block {
+        Event::Unit { bearer, text, .. } => offer(accepted, bearer, text, octets, bits),
+        Event::Block { combination, .. } => RncEvent::Block {
             combination,
             on: true,
-        }),
-        Event::Free { combination, .. } => Ok(RncEvent::Block {
+        },
+        Event::Free { combination, .. } => RncEvent::Block {
             combination,
             on: false,
-        }),
+        },
         Event::Iub { set, hex } => {
             let frame = read_octets(hex, octets);
-            Ok(RncEvent::Iub { set, frame })
+            RncEvent::Iub { set, frame }
         }
-        Event::Tick => Ok(RncEvent::Tick),
-        Event::Change => Err(LineError::When),
+        Event::Tick => RncEvent::Tick,
+        Event::Change => RncEvent::Change,
         _ => unreachable!(),
     }
 }
@@ -80,7 +79,7 @@ fn offer<'a>(
     requires unit { IsUnit accepted.now.config Down bearer text.now }
     requires octets { length octets.old ≡ OCTETS }
     requires bits { length bits.old ≡ UNIT_BITS }
-    ensures says { happening result ≡ unit_event accepted.now.config bearer text.now }
+    ensures says { happening accepted.now result ≡ unit_event accepted.now.config bearer text.now }
     ensures comes { MayCome accepted.now result }
 {
     let (octets, bits) = read_unit(accepted.config(), bearer, text, octets, bits);

@@ -1,5 +1,5 @@
 -- What the lines of a script carry.
-use Rattle.std.proofs.Common.{◌≡◌, ◌%◌, ◌<◌, ◌^◌, ℕ, List, Bool, length, arith, refl, sym, subst}
+use Rattle.std.proofs.Common.{◌≡◌, ◌%◌, ◌<◌, ◌^◌, ℕ, List, Bool, None, length, arith, refl, sym, subst}
 use Rattle.dch_types.specs.declared.channel.Dir.TheVariants.{Up, Down}
 use Rattle.dch_accept.specs.Plans.{IsPlanned, Planned}
 use Rattle.dch_lines.specs.LineTexts.{HandlesLines}
@@ -20,9 +20,9 @@ use Rattle.dch_runlaw.proofs.HeadlineHandedUp.{am_rows, tm_rows_down, tm_rows_up
 use Rattle.dch_runlaw.proofs.HeadlineSilence.{silent, silent_on}
 
 -- the lines of a script carry the units of the bearers
-pub carried : (planned : Planned) (first : ℕ) (quiet : Bool) (script : List (List ℕ)) (new : Run) (text : List ℕ) → IsPlanned planned → first % 8 ≡ 0 → HandlesLines link_lines (opened_run planned first quiet) script new text → Carries planned first quiet script text
+pub carried : (planned : Planned) (first : ℕ) (quiet : Bool) (script : List (List ℕ)) (new : Run) (text : List ℕ) → IsPlanned planned → first % 8 ≡ 0 → HandlesLines link_lines (opened_run planned None first quiet) script new text → Carries planned first quiet script text
 carried planned first quiet script new text good begins handles =
-    let is : IsRunOf (opened_run planned first quiet) script new text = lines_run (opened_run planned first quiet) script new text (record { stage = refl; left = refl }) handles in
+    let is : IsRunOf (opened_run planned None first quiet) script new text = lines_run (opened_run planned None first quiet) script new text (record { stage = refl; left = refl; alone = refl }) handles in
     let run : Runs (opened_link planned first) is.events new.link is.reported = is.run in
     let read : IsRead new.link text = subst (IsRead new.link) (sym is.shows) (run_shown quiet planned first is.events new.link is.reported run good.good) in
     let tells : TellsFalse is.reported text = subst (TellsFalse is.reported) (sym is.shows) (run_false quiet planned first is.events new.link is.reported run good.good) in

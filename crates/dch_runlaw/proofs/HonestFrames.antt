@@ -116,15 +116,15 @@ frame_goes planned up down g old new lines f up_fits down_fits s = record {
     run : Runs g.H n (AtRnc RncTicks ∷ AtUe (DownlinkFrame (radio_after old.damage Down f.down_output.sent)) ∷ AtUe UeTicks ∷ []) n3
     run = record {
       next = n1;
-      first = record { output = f.rnc_output; step = ticks0; reported = refl; ue = refl; ue_lines = refl; down = λ i. refl; up = λ i. refl };
+      first = record { within = tt; output = f.rnc_output; step = ticks0; reported = refl; ue = refl; ue_lines = refl; down = λ i. refl; up = λ i. refl };
       holds = g.build n1 (phase_holds g.UpFits g.UpHolds (up_frames planned up) c (n1.up up) (old.ue.state.layer.given up).blocks g.up_joins up1) (on_holds g.DownFits g.DownHolds (n1.down down) (r0.layer.given down).blocks g.down_joins down1);
       later = record {
         next = n2;
-        first = record { output = f.kept_output; step = f.keeps; reported = refl; rnc = refl; rnc_lines = refl; up = λ i. refl; down = λ i. refl };
+        first = record { within = tt; output = f.kept_output; step = f.keeps; reported = refl; rnc = refl; rnc_lines = refl; up = λ i. refl; down = λ i. refl };
         holds = g.build n2 (phase_holds g.UpFits g.UpHolds (up_frames planned up) c (n2.up up) (f.kept.layer.given up).blocks g.up_joins up2) (on_holds g.DownFits g.DownHolds (n2.down down) (r0.layer.given down).blocks g.down_joins down2);
         later = record {
           next = n3;
-          first = record { output = f.ue_output; step = f.ue_ticks; reported = refl; rnc = refl; rnc_lines = refl; up = λ i. refl; down = λ i. refl };
+          first = record { within = tt; output = f.ue_output; step = f.ue_ticks; reported = refl; rnc = refl; rnc_lines = refl; up = λ i. refl; down = λ i. refl };
           holds = g.build n3 (on_holds g.UpFits g.UpHolds (n3.up up) (new.ue.state.layer.given up).blocks g.up_joins up3) (phase_holds g.DownFits g.DownHolds (down_frames planned down) ((c + 1) % 256) (n3.down down) (f.rnc.layer.given down).blocks g.down_joins down3);
           later = refl;
         };

@@ -13,6 +13,7 @@ use Rattle.dch_link.specs.Courses.{Course}
 use Rattle.dch_link.specs.Events.{BlockedCombination, Damages, Event as LinkEvent, Happens, OfferedUnit}
 use Rattle.dch_link.specs.Link.{LinkState, opened_link}
 use Rattle.dch_link.specs.Stages.{RncGoes, UeGoes}
+use Rattle.dch_link.specs.Within.{RncWithin, UeWithin}
 use Rattle.dch_runlaw.specs.Runs.{Between, Event, Frame, Runs, Steps}
 use Rattle.dch_runlaw.proofs.Keeping.{but_rnc, but_ue, rnc_lines, rnc_step, ue_lines, ue_step}
 use Rattle.dch_layerlaw.specs.Worlds.{no_log}
@@ -24,14 +25,15 @@ use Rattle.dch_runlaw.proofs.HonestStanding.{Onward, Setting, Stand, down_frames
 use Rattle.dch_runlaw.proofs.HonestStaying.{AreFor, event_for}
 
 -- a step of the terminal that neither gives nor takes
-ue_quiet : (planned : Planned) (up down : ℕ) (g : Setting planned up down) (old new : LinkState) (e : UeEvent) (s : Stand planned up down g old) → UeGoes old e new → AreFor planned new
+ue_quiet : (planned : Planned) (up down : ℕ) (g : Setting planned up down) (old new : LinkState) (e : UeEvent) (s : Stand planned up down g old) → UeWithin e → UeGoes old e new → AreFor planned new
     → ((i : ℕ) → given_by_ue old.ue.state e new.ue.state i ≡ []) → ((i : ℕ) → new.ue.state.readings i ≡ Nothing) → new.ue.state.cfn ≡ old.ue.state.cfn → ((i : ℕ) → new.ue.state.layer.given i ≡ old.ue.state.layer.given i) → Onward planned up down g (nodes_of planned up down g old s) new
-ue_quiet planned up down g old new e s goes are none taken cfn given = record {
+ue_quiet planned up down g old new e s within goes are none taken cfn given = record {
   stand = stand;
   events = AtUe e ∷ [];
   run = record {
     next = nodes_of planned up down g new stand;
     first = record {
+      within = within;
       output = new.ue.last;
       step = ue_step old new e goes;
       reported = ue_lines old new e goes;
@@ -60,14 +62,15 @@ ue_quiet planned up down g old new e s goes are none taken cfn given = record {
     }
 
 -- and one of the network controller
-rnc_quiet : (planned : Planned) (up down : ℕ) (g : Setting planned up down) (old new : LinkState) (e : RncEvent) (s : Stand planned up down g old) → RncGoes old e new → AreFor planned new
+rnc_quiet : (planned : Planned) (up down : ℕ) (g : Setting planned up down) (old new : LinkState) (e : RncEvent) (s : Stand planned up down g old) → RncWithin e → RncGoes old e new → AreFor planned new
     → ((i : ℕ) → given_by_rnc old.rnc.state e new.rnc.state i ≡ []) → ((i : ℕ) → new.rnc.state.readings i ≡ Nothing) → new.rnc.state.cfn ≡ old.rnc.state.cfn → ((i : ℕ) → new.rnc.state.layer.given i ≡ old.rnc.state.layer.given i) → Onward planned up down g (nodes_of planned up down g old s) new
-rnc_quiet planned up down g old new e s goes are none taken cfn given = record {
+rnc_quiet planned up down g old new e s within goes are none taken cfn given = record {
   stand = stand;
   events = AtRnc e ∷ [];
   run = record {
     next = nodes_of planned up down g new stand;
     first = record {
+      within = within;
       output = new.rnc.last;
       step = rnc_step old new e goes;
       reported = rnc_lines old new e goes;
@@ -117,16 +120,16 @@ waiting planned up down g old new s ue node_b rnc are = record {
 between_goes : (planned : Planned) (up down : ℕ) (g : Setting planned up down) (old : LinkState) (event : LinkEvent) (new : LinkState) (lines : List Line) → Happens old event new lines → AreFor planned new → (s : Stand planned up down g old) → Onward planned up down g (nodes_of planned up down g old s) new
 between_goes planned up down g old (OfferedUnit Up b octets bits) new lines h are s =
     let state = (ue_step old new (UeOffered b octets bits) h.0).state in
-    ue_quiet planned up down g old new (UeOffered b octets bits) s h.0 are (λ i. refl) (λ i. ap (λ (x : UeState). x.readings i) state) (ap (λ (x : UeState). x.cfn) state) (λ i. ap (λ (x : UeState). x.layer.given i) state)
+    ue_quiet planned up down g old new (UeOffered b octets bits) s tt h.0 are (λ i. refl) (λ i. ap (λ (x : UeState). x.readings i) state) (ap (λ (x : UeState). x.cfn) state) (λ i. ap (λ (x : UeState). x.layer.given i) state)
 between_goes planned up down g old (OfferedUnit Down b octets bits) new lines h are s =
     let state = (rnc_step old new (RncOffered b octets bits) h.0).state in
-    rnc_quiet planned up down g old new (RncOffered b octets bits) s h.0 are (λ i. refl) (λ i. ap (λ (x : RncState). x.readings i) state) (ap (λ (x : RncState). x.cfn) state) (λ i. ap (λ (x : RncState). x.layer.given i) state)
+    rnc_quiet planned up down g old new (RncOffered b octets bits) s tt h.0 are (λ i. refl) (λ i. ap (λ (x : RncState). x.readings i) state) (ap (λ (x : RncState). x.cfn) state) (λ i. ap (λ (x : RncState). x.layer.given i) state)
 between_goes planned up down g old (BlockedCombination Up c on) new lines h are s =
     let state = (ue_step old new (UeBlocked c on) h.0).0 in
-    ue_quiet planned up down g old new (UeBlocked c on) s h.0 are (λ i. refl) (λ i. ap (λ (x : UeState). x.readings i) state) (ap (λ (x : UeState). x.cfn) state) (λ i. ap (λ (x : UeState). x.layer.given i) state)
+    ue_quiet planned up down g old new (UeBlocked c on) s tt h.0 are (λ i. refl) (λ i. ap (λ (x : UeState). x.readings i) state) (ap (λ (x : UeState). x.cfn) state) (λ i. ap (λ (x : UeState). x.layer.given i) state)
 between_goes planned up down g old (BlockedCombination Down c on) new lines h are s =
     let state = (rnc_step old new (RncBlocked c on) h.0).0 in
-    rnc_quiet planned up down g old new (RncBlocked c on) s h.0 are (λ i. refl) (λ i. ap (λ (x : RncState). x.readings i) state) (ap (λ (x : RncState). x.cfn) state) (λ i. ap (λ (x : RncState). x.layer.given i) state)
+    rnc_quiet planned up down g old new (RncBlocked c on) s tt h.0 are (λ i. refl) (λ i. ap (λ (x : RncState). x.readings i) state) (ap (λ (x : RncState). x.cfn) state) (λ i. ap (λ (x : RncState). x.layer.given i) state)
 between_goes planned up down g old (Damages d) new lines h are s =
     waiting planned up down g old new s (ap (λ (x : LinkState). x.ue) h.0) (ap (λ (x : LinkState). x.node_b) h.0) (ap (λ (x : LinkState). x.rnc) h.0) are
 

@@ -90,7 +90,7 @@ set_next planned up down g old new lines f us rs n s up_fits are same l t (Some 
   events = t.events ++ AtRnc (IubFrame s octets) ∷ [];
   run = runs-append g.H n here there t.events (AtRnc (IubFrame s octets) ∷ []) t.run (record {
     next = there;
-    first = record { output = m.output; step = m.step; reported = below_more f.taken rs m.output.lines s (ap (λ (x : Taken). x.lines) m.is); ue = refl; ue_lines = refl; down = λ i. refl; up = λ i. refl };
+    first = record { within = tt; output = m.output; step = m.step; reported = below_more f.taken rs m.output.lines s (ap (λ (x : Taken). x.lines) m.is); ue = refl; ue_lines = refl; down = λ i. refl; up = λ i. refl };
     holds = g.build there up_holds (phase_holds g.DownFits g.DownHolds (down_frames planned down) ((old.rnc.state.cfn + 1) % 256) (dl down) (f.rnc.layer.given down).blocks g.down_joins down_now);
     later = refl;
   });

@@ -13,6 +13,7 @@ use Rattle.dch_link.specs.Courses.{Course}
 use Rattle.dch_link.specs.Events.{BlockedCombination, Damages, Event as LinkEvent, Happens, OfferedUnit}
 use Rattle.dch_link.specs.Link.{LinkState}
 use Rattle.dch_link.specs.Stages.{RncGoes, UeGoes}
+use Rattle.dch_link.specs.Within.{RncWithin, UeWithin}
 use Rattle.dch_runlaw.specs.Frames.{IsFrame, MayArrive, MayBeTaken, Taken}
 use Rattle.dch_runlaw.specs.Runs.{Between, Event, Frame, Steps}
 use Rattle.dch_runlaw.proofs.Keeping.{but_rnc, but_ue, rnc_step, ue_step}
@@ -50,10 +51,10 @@ left_cfn old new lines f = ap (λ (x : NodeBState). x.cfn) f.down.state ∙ (fed
 -- the network controller
 taken_planned : (planned : Planned) (s : ℕ) (o : Option (List ℕ)) (near : Layer) (old new : RncState) (taken : Taken) (lines : List Line) → MayBeTaken planned s o near old new taken lines → new.planned ≡ old.planned
 taken_planned planned s None near old new taken lines m = ap (λ (x : RncState). x.planned) m.0
-taken_planned planned s (Some octets) near old new taken lines m = rnc_stays old (IubFrameUp s octets) new m.output m.step
+taken_planned planned s (Some octets) near old new taken lines m = rnc_stays old (IubFrameUp s octets) new m.output tt m.step
 
 pub rncs_planned : (old new : LinkState) (lines : List Line) (f : IsFrame old new lines) (s : ℕ) → s ≤ 8 → (f.rncs s).planned ≡ old.rnc.state.planned
-rncs_planned old new lines f zero l = ap (λ (x : RncState). x.planned) f.rnc_first ∙ rnc_stays old.rnc.state RncTicks f.rnc f.rnc_output f.rnc_ticks
+rncs_planned old new lines f zero l = ap (λ (x : RncState). x.planned) f.rnc_first ∙ rnc_stays old.rnc.state RncTicks f.rnc f.rnc_output tt f.rnc_ticks
 rncs_planned old new lines f (suc s) l =
     let next : s + 1 ≡ suc s = omega arith in
     subst (λ k. (f.rncs k).planned ≡ old.rnc.state.planned) next
@@ -62,31 +63,31 @@ rncs_planned old new lines f (suc s) l =
 -- over a radio frame
 pub frame_for : (planned : Planned) (old new : LinkState) (lines : List Line) → IsFrame old new lines → AreFor planned old → AreFor planned new
 frame_for planned old new lines f are = record {
-  ue = ue_stays f.kept UeTicks new.ue.state f.ue_output f.ue_ticks ∙ ue_stays old.ue.state (DownlinkFrame (radio_after old.damage Down f.down_output.sent)) f.kept f.kept_output f.keeps ∙ are.ue;
+  ue = ue_stays f.kept UeTicks new.ue.state f.ue_output tt f.ue_ticks ∙ ue_stays old.ue.state (DownlinkFrame (radio_after old.damage Down f.down_output.sent)) f.kept f.kept_output tt f.keeps ∙ are.ue;
   node_b = ap (λ (x : NodeBState). x.planned) f.up.state ∙ left_planned old new lines f ∙ are.node_b;
   rnc = ap (λ (x : RncState). x.planned) f.rnc_last ∙ rncs_planned old new lines f 8 (omega arith) ∙ are.rnc;
 }
 
 -- and over an event
-ue_for : (planned : Planned) (old new : LinkState) (event : UeEvent) → UeGoes old event new → AreFor planned old → AreFor planned new
-ue_for planned old new event goes are = record {
-  ue = ue_stays old.ue.state event new.ue.state new.ue.last (ue_step old new event goes) ∙ are.ue;
+ue_for : (planned : Planned) (old new : LinkState) (event : UeEvent) → UeWithin event → UeGoes old event new → AreFor planned old → AreFor planned new
+ue_for planned old new event within goes are = record {
+  ue = ue_stays old.ue.state event new.ue.state new.ue.last within (ue_step old new event goes) ∙ are.ue;
   node_b = ap (λ (c : Course NodeBState NodeBEvent). c.state.planned) (but_ue old new event goes).node_b ∙ are.node_b;
   rnc = ap (λ (c : Course RncState RncEvent). c.state.planned) (but_ue old new event goes).rnc ∙ are.rnc;
 }
 
-rnc_for : (planned : Planned) (old new : LinkState) (event : RncEvent) → RncGoes old event new → AreFor planned old → AreFor planned new
-rnc_for planned old new event goes are = record {
+rnc_for : (planned : Planned) (old new : LinkState) (event : RncEvent) → RncWithin event → RncGoes old event new → AreFor planned old → AreFor planned new
+rnc_for planned old new event within goes are = record {
   ue = ap (λ (c : Course UeState UeEvent). c.state.planned) (but_rnc old new event goes).ue ∙ are.ue;
   node_b = ap (λ (c : Course NodeBState NodeBEvent). c.state.planned) (but_rnc old new event goes).node_b ∙ are.node_b;
-  rnc = rnc_stays old.rnc.state event new.rnc.state new.rnc.last (rnc_step old new event goes) ∙ are.rnc;
+  rnc = rnc_stays old.rnc.state event new.rnc.state new.rnc.last within (rnc_step old new event goes) ∙ are.rnc;
 }
 
 between_for : (planned : Planned) (old : LinkState) (event : LinkEvent) (new : LinkState) (lines : List Line) → Happens old event new lines → AreFor planned old → AreFor planned new
-between_for planned old (OfferedUnit Up b octets bits) new lines h are = ue_for planned old new (UeOffered b octets bits) h.0 are
-between_for planned old (OfferedUnit Down b octets bits) new lines h are = rnc_for planned old new (RncOffered b octets bits) h.0 are
-between_for planned old (BlockedCombination Up c on) new lines h are = ue_for planned old new (UeBlocked c on) h.0 are
-between_for planned old (BlockedCombination Down c on) new lines h are = rnc_for planned old new (RncBlocked c on) h.0 are
+between_for planned old (OfferedUnit Up b octets bits) new lines h are = ue_for planned old new (UeOffered b octets bits) tt h.0 are
+between_for planned old (OfferedUnit Down b octets bits) new lines h are = rnc_for planned old new (RncOffered b octets bits) tt h.0 are
+between_for planned old (BlockedCombination Up c on) new lines h are = ue_for planned old new (UeBlocked c on) tt h.0 are
+between_for planned old (BlockedCombination Down c on) new lines h are = rnc_for planned old new (RncBlocked c on) tt h.0 are
 between_for planned old (Damages d) new lines h are = record {
   ue = ap (λ (x : LinkState). x.ue.state.planned) h.0 ∙ are.ue;
   node_b = ap (λ (x : LinkState). x.node_b.state.planned) h.0 ∙ are.node_b;

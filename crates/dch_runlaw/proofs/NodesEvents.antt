@@ -5,10 +5,11 @@ use Rattle.dch_types.specs.declared.channel.Dir.TheVariants.{Up, Down}
 use Rattle.dch_types.specs.declared.config.Config.{Config}
 use Rattle.dch_accept.specs.Plans.{Planned}
 use Rattle.dch_node.specs.Values.{Output}
-use Rattle.dch_ue.specs.State.{Event as UeEvent, OfferedUnit as UeOffered, BlockedCombination as UeBlocked, DownlinkFrame, Tick as UeTicks, State as UeState}
+use Rattle.dch_ue.specs.State.{Event as UeEvent, OfferedUnit as UeOffered, BlockedCombination as UeBlocked, Change as UeChange, DownlinkFrame, Tick as UeTicks, State as UeState}
 use Rattle.dch_ue.specs.Steps.{Steps as UeSteps}
-use Rattle.dch_rnc.specs.State.{Event as RncEvent, OfferedUnit as RncOffered, BlockedCombination as RncBlocked, IubFrame, Tick as RncTicks, State as RncState}
+use Rattle.dch_rnc.specs.State.{Event as RncEvent, OfferedUnit as RncOffered, BlockedCombination as RncBlocked, Change as RncChange, IubFrame, Tick as RncTicks, State as RncState}
 use Rattle.dch_rnc.specs.Steps.{IsReadFrame, IsRefusedFrame, Steps as RncSteps}
+use Rattle.dch_link.specs.Within.{RncWithin, UeWithin}
 use Rattle.dch_layerlaw.specs.History.{IsAmBearer, IsHistory, IsWholeHistory}
 use Rattle.dch_layerlaw.specs.TmHistory.{IsTmBearer, IsTmHistory, IsTmSome}
 use Rattle.dch_layerlaw.specs.UmHistory.{Any as AnyWorld, IsKnownHistory, IsUmBearer, IsUmHistory}
@@ -21,21 +22,23 @@ use Rattle.dch_layerlaw.proofs.UmRuns.{um_history}
 use Rattle.dch_runlaw.specs.Nodes.{Any, AreFaithful, AreWhole, AtRnc, AtUe, Event, Happens, Nodes, Runs, opened_nodes, world_of}
 use Rattle.dch_runlaw.proofs.NodesSteps.{rnc_lifts, ue_lifts}
 
--- a step of a node keeps its configuration
-pub ue_stays : (old : UeState) (e : UeEvent) (new : UeState) (output : Output) → UeSteps old e new output → new.planned ≡ old.planned
-ue_stays old (UeOffered b octets bits) new output step = ap (λ (x : UeState). x.planned) step.state
-ue_stays old (UeBlocked c on) new output step = ap (λ (x : UeState). x.planned) step.0
-ue_stays old (DownlinkFrame frame) new output step = ap (λ (x : UeState). x.planned) step.0
-ue_stays old UeTicks new output step = ap (λ (x : UeState). x.planned) step.state
+-- a step of a node keeps its configuration, but for a change
+pub ue_stays : (old : UeState) (e : UeEvent) (new : UeState) (output : Output) → UeWithin e → UeSteps old e new output → new.planned ≡ old.planned
+ue_stays old (UeOffered b octets bits) new output within step = ap (λ (x : UeState). x.planned) step.state
+ue_stays old (UeBlocked c on) new output within step = ap (λ (x : UeState). x.planned) step.0
+ue_stays old (DownlinkFrame frame) new output within step = ap (λ (x : UeState). x.planned) step.0
+ue_stays old UeTicks new output within step = ap (λ (x : UeState). x.planned) step.state
+ue_stays old (UeChange second) new output within step = absurd within
 
-pub rnc_stays : (old : RncState) (e : RncEvent) (new : RncState) (output : Output) → RncSteps old e new output → new.planned ≡ old.planned
-rnc_stays old (RncOffered b octets bits) new output step = ap (λ (x : RncState). x.planned) step.state
-rnc_stays old (RncBlocked c on) new output step = ap (λ (x : RncState). x.planned) step.0
-rnc_stays old (IubFrame set octets) new output step = ⊎_elim
+pub rnc_stays : (old : RncState) (e : RncEvent) (new : RncState) (output : Output) → RncWithin e → RncSteps old e new output → new.planned ≡ old.planned
+rnc_stays old (RncOffered b octets bits) new output within step = ap (λ (x : RncState). x.planned) step.state
+rnc_stays old (RncBlocked c on) new output within step = ap (λ (x : RncState). x.planned) step.0
+rnc_stays old (IubFrame set octets) new output within step = ⊎_elim
     (λ (f : IsReadFrame old.planned old set octets new output). ap (λ (x : RncState). x.planned) f.state)
     (λ (r : IsRefusedFrame old.planned old set octets new output). ap (λ (x : RncState). x.planned) r.state)
     step
-rnc_stays old RncTicks new output step = ap (λ (x : RncState). x.planned) step.state
+rnc_stays old RncTicks new output within step = ap (λ (x : RncState). x.planned) step.state
+rnc_stays old (RncChange second) new output within step = absurd within
 
 -- both nodes have a configuration
 pub record Have (planned : Planned) (nodes : Nodes) : Type 0 where
@@ -43,8 +46,8 @@ pub record Have (planned : Planned) (nodes : Nodes) : Type 0 where
   pub rnc : nodes.rnc.planned ≡ planned
 
 pub still_have : (planned : Planned) (old : Nodes) (e : Event) (new : Nodes) → Happens old e new → Have planned old → Have planned new
-still_have planned old (AtUe e) new s h = record { ue = ue_stays old.ue e new.ue s.output s.step ∙ h.ue; rnc = ap (λ (x : RncState). x.planned) s.rnc ∙ h.rnc }
-still_have planned old (AtRnc e) new s h = record { ue = ap (λ (x : UeState). x.planned) s.ue ∙ h.ue; rnc = rnc_stays old.rnc e new.rnc s.output s.step ∙ h.rnc }
+still_have planned old (AtUe e) new s h = record { ue = ue_stays old.ue e new.ue s.output s.within s.step ∙ h.ue; rnc = ap (λ (x : RncState). x.planned) s.rnc ∙ h.rnc }
+still_have planned old (AtRnc e) new s h = record { ue = ap (λ (x : UeState). x.planned) s.ue ∙ h.ue; rnc = rnc_stays old.rnc e new.rnc s.output s.within s.step ∙ h.rnc }
 
 -- an event, and a run
 record Goes (config : Config) (old new : Nodes) : Type 0 where

@@ -20,9 +20,9 @@ use Rattle.dch_node.specs.Values.{Output}
 use Rattle.dch_layer.specs.Layers.{ticks}
 use Rattle.dch_layer2.specs.Reading.{Bad, Nothing, Read, Reading}
 use Rattle.dch_link.specs.Checks.{good_in}
-use Rattle.dch_ue.specs.State.{Event as UeEvent, OfferedUnit as UeOffered, BlockedCombination as UeBlocked, DownlinkFrame, Tick as UeTicks, State as UeState}
+use Rattle.dch_ue.specs.State.{Event as UeEvent, OfferedUnit as UeOffered, BlockedCombination as UeBlocked, Change as UeChange, DownlinkFrame, Tick as UeTicks, State as UeState}
 use Rattle.dch_ue.specs.Steps.{IsReading, IsTick as IsUeTick}
-use Rattle.dch_rnc.specs.State.{Event as RncEvent, OfferedUnit as RncOffered, BlockedCombination as RncBlocked, IubFrame, Tick as RncTicks, State as RncState, set_readings}
+use Rattle.dch_rnc.specs.State.{Event as RncEvent, OfferedUnit as RncOffered, BlockedCombination as RncBlocked, Change as RncChange, IubFrame, Tick as RncTicks, State as RncState, set_readings}
 use Rattle.dch_rnc.specs.Steps.{IsReadFrame, IsRefusedFrame, IsTick as IsRncTick, sent_line, sent_lines}
 use Rattle.dch_layerlaw.specs.Doings.{Blocks, Doing, Offers, Says, Starts, Ticks}
 use Rattle.dch_layerlaw.specs.Lines.{lines_of}
@@ -151,6 +151,7 @@ ue_at old (DownlinkFrame frame) new s = single old.ue.planned.config Up Down (wo
   back_log = none_down old new (DownlinkFrame frame) s (λ i. ap (λ (x : UeState). x.readings i) s.step.0);
 })
 ue_at old UeTicks new s = ue_tick_lifts old.ue.planned old new s s.step refl
+ue_at old (UeChange second) new s = absurd s.within
 
 pub ue_lifts : (planned : Planned) (old : Nodes) (e : UeEvent) (new : Nodes) → old.ue.planned ≡ planned → StepsUe old e new → Lifts planned.config Up Down (world_of old) (world_of new)
 ue_lifts planned old e new active s = subst (λ (p : Planned). Lifts p.config Up Down (world_of old) (world_of new)) active (ue_at old e new s)
@@ -285,6 +286,7 @@ rnc_at old (RncBlocked c on) new s = single old.rnc.planned.config Down Up (turn
 })
 rnc_at old (IubFrame set octets) new s = ⊎_elim (rnc_frame old.rnc.planned old set octets new s) (rnc_refused old.rnc.planned old set octets new s) s.step
 rnc_at old RncTicks new s = rnc_tick_lifts old.rnc.planned old new s s.step refl
+rnc_at old (RncChange second) new s = absurd s.within
 
 pub rnc_lifts : (planned : Planned) (old : Nodes) (e : RncEvent) (new : Nodes) → old.rnc.planned ≡ planned → StepsRnc old e new → Lifts planned.config Down Up (turned (world_of old)) (turned (world_of new))
 rnc_lifts planned old e new active s = subst (λ (p : Planned). Lifts p.config Down Up (turned (world_of old)) (turned (world_of new))) active (rnc_at old e new s)

@@ -12,6 +12,7 @@ use Rattle.dch_link.specs.declared.stage.Stage.{Stage}
 use Rattle.dch_link.specs.declared.stage.Stage.TheVariants.{RncTick}
 use Rattle.dch_linkcmd.specs.Rules.{PassesStage, link_lines}
 use Rattle.dch_linkcmd.specs.Run.{Run, passed, passed_by}
+use Rattle.dch_linkcmd.proofs.Staying.{only_stage, pass_second}
 use Rattle.dch_runlaw.specs.Frames.{IsFrame, stage_at}
 use Rattle.dch_runlaw.specs.Runs.{PassesFrame}
 use Rattle.dch_runlaw.proofs.Eight.{by_eight}
@@ -32,6 +33,7 @@ pub record GoesOn (count : ℕ) (old new : Run) (text : List ℕ) : Type 0 where
   pub last : runs count ≡ new
   pub goes : (k : ℕ) → k < count → Goes (runs k) (links k) (lines k) (runs (k + 1))
   pub quiet : new.quiet ≡ old.quiet
+  pub second : new.second ≡ old.second
   pub shows : text ≡ shown old.quiet (text_of (joined lines count))
 
 passed_quiet : (run : Run) (link : LinkState) (next : Option Stage) → (passed_by run link next).quiet ≡ run.quiet
@@ -68,6 +70,7 @@ no_stage run = record {
   last = refl;
   goes = λ k none. absurd (omega (arith, none));
   quiet = refl;
+  second = refl;
   shows = sym (shown-none run.quiet);
 }
 
@@ -100,6 +103,7 @@ one_more n old mid new front last on passes =
             (subst (λ (l : List Line). Goes (on.runs k) (on.links k) l (on.runs (k + 1))) (sym (until_before n k on.lines passes.lines (omega (arith, before_it.1)))) (on.goes k (omega (arith, before_it.1))))))
       ];
       quiet = ap (λ (r : Run). r.quiet) passes.goes_on ∙ passed_quiet mid passes.link (next_stage mid.stage) ∙ on.quiet;
+      second = pass_second mid new last passes ∙ on.second;
       shows =
           let next : n + 1 ≡ suc n = omega arith in
           let both : joined lines (n + 1) ≡ joined on.lines n ++ passes.lines =
@@ -112,18 +116,19 @@ one_more n old mid new front last on passes =
           ∙ ap (λ (l : List Line). shown old.quiet (text_of l)) (sym both);
     }
 
--- the first stage of a line, and those that are left then
-pub all_stages : (n : ℕ) (old mid new : Run) (front last : List ℕ) → PassesStage old mid front → Resumes link_lines n mid new last → GoesOn (1 + n) old new (front ++ last)
-all_stages zero old mid new front last passes resumes =
+-- the first stage of a line, and those that are left then, where no second configuration is to come
+pub all_stages : (n : ℕ) (old mid new : Run) (front last : List ℕ) → old.second ≡ None → PassesStage old mid front → Resumes link_lines n mid new last → GoesOn (1 + n) old new (front ++ last)
+all_stages zero old mid new front last none passes resumes =
     subst (λ (t : List ℕ). GoesOn 1 old new (front ++ t)) (sym resumes.1)
     (subst (λ (r : Run). GoesOn 1 old r (front ++ [])) (sym resumes.0)
     (subst (λ (t : List ℕ). GoesOn 1 old mid t) (sym (append-nil front)) (one_more 0 old old mid [] front (no_stage old) passes)))
-all_stages (suc n) old mid new front last passes (near, (first, (step, (resumes, resumed, whole)))) =
+all_stages (suc n) old mid new front last none passes (near, (first, (step, (resumes, resumed, whole)))) =
     let both : front ++ last ≡ (front ++ first) ++ step = ap (λ (t : List ℕ). front ++ t) whole ∙ sym (append_assoc front first step) in
     let count : (1 + n) + 1 ≡ 1 + suc n = omega arith in
+    let before : GoesOn (1 + n) old near (front ++ first) = all_stages n old mid near front first none passes resumes in
     subst (λ (t : List ℕ). GoesOn (1 + suc n) old new t) (sym both)
     (subst (λ (m : ℕ). GoesOn m old new ((front ++ first) ++ step)) count
-    (one_more (1 + n) old near new (front ++ first) step (all_stages n old mid near front first passes resumes) resumed))
+    (one_more (1 + n) old near new (front ++ first) step before (only_stage near new step (before.second ∙ none) resumed)))
 
 -- the twenty stages
 by_nineteen : (P : ℕ → Type 0) → ((s : ℕ) → s < 8 → P (1 + s)) → P 0 → P 9 → P 10 → P 11 → ((s : ℕ) → s < 7 → P (12 + s)) → (k : ℕ) → k < 19 → P k

@@ -1,11 +1,7 @@
 -- The lines of a script as events and radio frames of a run.
 use Rattle.std.proofs.Common.{◌≡◌, ◌<◌, ◌≤◌, ◌+◌, ◌-◌, ◌*◌, ◌∙◌, ◌++◌, ℕ, zero, suc, List, [], ◌∷◌, Some, Bool, true, false, append_assoc, append-nil, arith, refl, ap, sym, subst, inl, inr}
-use Rattle.std.specs.Prelude.{Ok}
 use Rattle.std.proofs.lemmas.Bool.Decides.{eqb_tells}
 use Rattle.dch_types.specs.declared.config.Config.{Config}
-use Rattle.dch_script.specs.ParsedLine.{ParsedLine, code, unit, block, free, flip, lose, lose_iub, spoil, frame, iub, phy, phy_none, down, tick, change}
-use Rattle.dch_script.specs.declared.event.Command.TheVariants.{Link}
-use Rattle.dch_script.proofs.Judged.{meaning_keeps}
 use Rattle.dch_lines.specs.LineTexts.{HandlesLine, HandlesLines, is_empty}
 use Rattle.dch_lines.specs.Semantics.{LineSteps, Resumes}
 use Rattle.dch_node.specs.Lines.{Line, joined, text_of}
@@ -13,10 +9,11 @@ use Rattle.dch_nodecmd.specs.Shown.{shown}
 use Rattle.dch_link.specs.Link.{LinkState}
 use Rattle.dch_link.specs.Passing.{next_stage}
 use Rattle.dch_link.specs.declared.stage.Stage.TheVariants.{IubDown, RncTick}
-use Rattle.dch_linkcmd.specs.LineEvents.{Frames, OneEvent, Said, Says, said_by}
-use Rattle.dch_linkcmd.specs.Rules.{Takes, link_lines}
+use Rattle.dch_linkcmd.specs.LineEvents.{Frames, OneEvent, Said, Says}
+use Rattle.dch_linkcmd.specs.Rules.{PassesStage, Takes, link_lines}
 use Rattle.dch_linkcmd.specs.Run.{Run, config_of, passed_by, steps_left}
-use Rattle.dch_linkcmd.proofs.Staying.{link_lines_stay}
+use Rattle.dch_linkcmd.proofs.Said.{some_frames}
+use Rattle.dch_linkcmd.proofs.Staying.{line_stays, only_stage}
 use Rattle.dch_runlaw.specs.Runs.{Between, Event, Runs}
 use Rattle.dch_runlaw.specs.Scripts.{AreSaid, IsAtRest, IsRunOf, LineSays, radio_frames}
 use Rattle.dch_runlaw.proofs.Eight.{joined-split}
@@ -68,29 +65,6 @@ frames_pass (suc count) old runs links lines begun first goes =
       left = let less : (old.left - 1) - count ≡ old.left - suc count = omega arith in rest.left ∙ ap (λ (r : Run). r.left - count) one.over ∙ less;
     })
 
--- a line that asks for radio frames asks for at least one
-some_parsed : (config : Config) (parsed : ParsedLine) (count : ℕ) → said_by config parsed ≡ Some (Frames count) → parsed ≡ frame count
-some_parsed config (unit dir b text) count is = cc
-some_parsed config (block dir c) count is = cc
-some_parsed config (free dir c) count is = cc
-some_parsed config (flip dir tfci place) count is = cc
-some_parsed config (lose dir) count is = cc
-some_parsed config (lose_iub dir set) count is = cc
-some_parsed config (spoil dir set octet mask) count is = cc
-some_parsed config (frame n) count is = cc
-some_parsed config (code coding crc bits) count is = cc
-some_parsed config (iub set octets) count is = cc
-some_parsed config down count is = cc
-some_parsed config (phy tfci cells) count is = cc
-some_parsed config phy_none count is = cc
-some_parsed config tick count is = cc
-some_parsed config change count is = cc
-
-some_frames : (config : Config) (line : List ℕ) (count : ℕ) → Says config line (Frames count) → 1 ≤ count
-some_frames config line count says =
-    let parsed : says.parsed ≡ frame count = some_parsed config says.parsed count says.is in
-    (meaning_keeps Link config line (frame count) (says.is_parsed ∙ ap Ok parsed)).0
-
 -- what a line does
 pub record LineOver (old : Run) (line : List ℕ) (new : Run) (text : List ℕ) : Type 0 where
   pub events : List Event
@@ -106,7 +80,7 @@ no_steps run rests = rw rests.left refl
 
 step_over : (old : Run) (line : List ℕ) (new : Run) (text : List ℕ) → IsAtRest old → is_empty line ≡ false → (said : Said) → Says (config_of old) line said → (mid : Run) (first rest : List ℕ) → Takes said old mid first → Resumes link_lines (steps_left mid.stage mid.left) mid new rest → text ≡ first ++ rest → LineOver old line new text
 step_over old line new text rests words (OneEvent event) says mid first rest takes resumes whole =
-    let after : IsAtRest mid = record { stage = ap (λ (r : Run). r.stage) takes.goes_on ∙ rests.stage; left = ap (λ (r : Run). r.left) takes.goes_on ∙ rests.left } in
+    let after : IsAtRest mid = record { stage = ap (λ (r : Run). r.stage) takes.goes_on ∙ rests.stage; left = ap (λ (r : Run). r.left) takes.goes_on ∙ rests.left; alone = ap (λ (r : Run). r.second) takes.goes_on ∙ rests.alone } in
     let done : (new ≡ mid) × (rest ≡ []) = subst (λ n. Resumes link_lines n mid new rest) (no_steps mid after) resumes in
     let same : new ≡ record old { link = takes.link } = done.0 ∙ takes.goes_on in
     record {
@@ -128,10 +102,11 @@ step_over old line new text rests words (OneEvent event) says mid first rest tak
 step_over old line new text rests words (Frames count) says mid first rest takes resumes whole =
     let begun : Run = record old { left = count } in
     let some : 1 ≤ count = some_frames (config_of old) line count says in
-    let on : mid ≡ record begun { link = takes.link; stage = IubDown 0 } = takes.goes_on ∙ ap (λ stage. passed_by begun takes.link (next_stage stage)) rests.stage in
+    let only : PassesStage begun mid first = only_stage begun mid first rests.alone takes in
+    let on : mid ≡ record begun { link = only.link; stage = IubDown 0 } = only.goes_on ∙ ap (λ stage. passed_by begun only.link (next_stage stage)) rests.stage in
     let many : steps_left mid.stage mid.left ≡ 20 * (count - 1) + 19 = ap (λ (r : Run). steps_left r.stage r.left) on ∙ left_of count some in
     let all : 1 + steps_left mid.stage mid.left ≡ 20 * count = omega (arith, many, some) in
-    let goes : GoesOn (20 * count) begun new (first ++ rest) = subst (λ n. GoesOn n begun new (first ++ rest)) all (all_stages (steps_left mid.stage mid.left) begun mid new first rest takes resumes) in
+    let goes : GoesOn (20 * count) begun new (first ++ rest) = subst (λ n. GoesOn n begun new (first ++ rest)) all (all_stages (steps_left mid.stage mid.left) begun mid new first rest rests.alone only resumes) in
     let over : FramesOver count begun (goes.runs (20 * count)) (joined goes.lines (20 * count)) = frames_pass count begun goes.runs goes.links goes.lines rests.stage goes.first goes.goes in
     record {
       events = radio_frames count;
@@ -140,7 +115,7 @@ step_over old line new text rests words (Frames count) says mid first rest takes
       run = subst (λ (r : Run). Runs old.link (radio_frames count) r.link (joined goes.lines (20 * count))) goes.last over.run;
       shows = whole ∙ goes.shows;
       quiet = goes.quiet;
-      rests = subst IsAtRest goes.last (record { stage = over.stage; left = let none : count - count ≡ 0 = omega arith in over.left ∙ none });
+      rests = subst IsAtRest goes.last (record { stage = over.stage; left = let none : count - count ≡ 0 = omega arith in over.left ∙ none; alone = ap (λ (r : Run). r.second) goes.last ∙ goes.second ∙ rests.alone });
     }
   where
     left_of : (count : ℕ) → 1 ≤ count → steps_left (IubDown 0) count ≡ 20 * (count - 1) + 19
@@ -181,7 +156,7 @@ lines_run old [] new text rests handles = record {
 lines_run old (line ∷ lines) new text rests (mid, (first, (rest, (handles, more, whole)))) =
     let one : LineOver old line mid first = line_over old line mid first rests handles in
     let others : IsRunOf mid lines new rest = lines_run mid lines new rest one.rests more in
-    let config : config_of mid ≡ config_of old = link_lines_stay old mid (line ∷ []) first (mid, (first, ([], (handles, (refl, refl), sym (append-nil first))))) in
+    let config : config_of mid ≡ config_of old = (line_stays old mid line first rests.alone handles).config in
     record {
       events = one.events ++ others.events;
       said = record { own = one.events; rest = others.events; first = one.said; later = subst (λ config. AreSaid config lines others.events) config others.said; all = refl };

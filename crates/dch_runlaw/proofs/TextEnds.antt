@@ -11,11 +11,12 @@ use Rattle.dch_layer2.specs.Coming.{came_of}
 use Rattle.dch_layer2.specs.Reading.{Bad as BadReading, Nothing, Read, Reading, reads, reads_below}
 use Rattle.dch_node.specs.Lines.{Line, Phy}
 use Rattle.dch_node.specs.Values.{Output}
-use Rattle.dch_ue.specs.State.{BlockedCombination as UeBlocked, DownlinkFrame, Event as UeEvent, OfferedUnit as UeOffered, State as UeState, Tick as UeTicks}
+use Rattle.dch_ue.specs.State.{BlockedCombination as UeBlocked, Change as UeChange, DownlinkFrame, Event as UeEvent, OfferedUnit as UeOffered, State as UeState, Tick as UeTicks}
 use Rattle.dch_ue.specs.Steps.{Steps as UeSteps}
-use Rattle.dch_rnc.specs.State.{BlockedCombination as RncBlocked, Event as RncEvent, IubFrame, OfferedUnit as RncOffered, State as RncState, Tick as RncTicks, set_readings}
+use Rattle.dch_rnc.specs.State.{BlockedCombination as RncBlocked, Change as RncChange, Event as RncEvent, IubFrame, OfferedUnit as RncOffered, State as RncState, Tick as RncTicks, set_readings}
 use Rattle.dch_rnc.specs.Steps.{IsArrival, Steps as RncSteps, sent_line, sent_lines}
 use Rattle.dch_link.specs.Checks.{AreChecked, IsChecked}
+use Rattle.dch_link.specs.Within.{RncWithin, UeWithin}
 use Rattle.dch_runlaw.specs.TextDiffering.{AreLow}
 use Rattle.dch_layerlaw.specs.Directions.{lines_on}
 use Rattle.dch_layerlaw.specs.Rows.{AreSmall}
@@ -76,12 +77,14 @@ ue_own old UeTicks new output step =
     let config : Config = old.planned.config in
     subst (IsOwn Down config) (sym step.reported)
     (own_append Down config _ (Phy Up step.radio.tfci step.radio.cells ∷ []) (all_own config Down new.readings (length config.downlink.side.channels) (ticks config old.layer)) (record { goes = (refl, tt); low = (tt, tt); small = λ few. (tt, tt) }))
+ue_own old (UeChange second) new output step = subst (λ (o : Output). IsOwn Down old.planned.config o.lines) (sym step.quiet) (none_own Down old.planned.config)
 
-pub ue_stays : (old : UeState) (e : UeEvent) (new : UeState) (output : Output) → UeSteps old e new output → new.planned ≡ old.planned
-ue_stays old (UeOffered b octets bits) new output step = ap (λ (s : UeState). s.planned) step.state
-ue_stays old (UeBlocked c on) new output step = ap (λ (s : UeState). s.planned) step.0
-ue_stays old (DownlinkFrame frame) new output step = ap (λ (s : UeState). s.planned) step.0
-ue_stays old UeTicks new output step = ap (λ (s : UeState). s.planned) step.state
+pub ue_stays : (old : UeState) (e : UeEvent) (new : UeState) (output : Output) → UeWithin e → UeSteps old e new output → new.planned ≡ old.planned
+ue_stays old (UeOffered b octets bits) new output within step = ap (λ (s : UeState). s.planned) step.state
+ue_stays old (UeBlocked c on) new output within step = ap (λ (s : UeState). s.planned) step.0
+ue_stays old (DownlinkFrame frame) new output within step = ap (λ (s : UeState). s.planned) step.0
+ue_stays old UeTicks new output within step = ap (λ (s : UeState). s.planned) step.state
+ue_stays old (UeChange second) new output within step = absurd within
 
 -- the network controller
 arrival_own : (planned : Planned) (old : RncState) (set : ℕ) (octets : List ℕ) (new : RncState) (output : Output) → IsArrival planned old set octets new output → IsOwn Up planned.config output.lines
@@ -97,12 +100,14 @@ rnc_own old (RncOffered b octets bits) new output step = subst (λ (o : Output).
 rnc_own old (RncBlocked c on) new output step = subst (λ (o : Output). IsOwn Up old.planned.config o.lines) (sym step.1) (none_own Up old.planned.config)
 rnc_own old (IubFrame set octets) new output step = arrival_own old.planned old set octets new output step
 rnc_own old RncTicks new output step = subst (IsOwn Up old.planned.config) (sym step.reported) (sent_own Up old.planned.config output.iub 8)
+rnc_own old (RncChange second) new output step = subst (λ (o : Output). IsOwn Up old.planned.config o.lines) (sym step.quiet) (none_own Up old.planned.config)
 
-pub rnc_stays : (old : RncState) (e : RncEvent) (new : RncState) (output : Output) → RncSteps old e new output → new.planned ≡ old.planned
-rnc_stays old (RncOffered b octets bits) new output step = ap (λ (s : RncState). s.planned) step.state
-rnc_stays old (RncBlocked c on) new output step = ap (λ (s : RncState). s.planned) step.0
-rnc_stays old (IubFrame set octets) new output step = arrival_stays old.planned old set octets new output step
-rnc_stays old RncTicks new output step = ap (λ (s : RncState). s.planned) step.state
+pub rnc_stays : (old : RncState) (e : RncEvent) (new : RncState) (output : Output) → RncWithin e → RncSteps old e new output → new.planned ≡ old.planned
+rnc_stays old (RncOffered b octets bits) new output within step = ap (λ (s : RncState). s.planned) step.state
+rnc_stays old (RncBlocked c on) new output within step = ap (λ (s : RncState). s.planned) step.0
+rnc_stays old (IubFrame set octets) new output within step = arrival_stays old.planned old set octets new output step
+rnc_stays old RncTicks new output within step = ap (λ (s : RncState). s.planned) step.state
+rnc_stays old (RncChange second) new output within step = absurd within
 
 -- lines that tell of channels whose blocks differ
 pub record IsCheck (count : ℕ) (lines : List Line) : Type 0 where

@@ -48,7 +48,7 @@ take_told planned s (Some octets) near old new taken lines m =
     record {
       up = λ b. ap (lines_on Up b) m.reported ∙ on-append Up b m.output.lines m.checks ∙ ap₂ (λ x y. x ++ y) (on_is Up b m.output.lines own.goes) (check.off Up b) ∙ append-nil (lines_of b m.output.lines) ∙ sym (ap (λ (t : Taken). lines_of b t.lines) m.is);
       down = λ b. ap (lines_on Down b) m.reported ∙ on-append Down b m.output.lines m.checks ∙ ap₂ (λ x y. x ++ y) (off_is Up Down b m.output.lines refl own.goes) (check.off Down b);
-      stays = rnc_stays old (IubFrame s octets) new m.output m.step;
+      stays = rnc_stays old (IubFrame s octets) new m.output tt m.step;
       small = λ few. subst AreSmall (sym m.reported) (small_append m.output.lines m.checks (own.small few) check.small);
       low = λ few. subst AreLow (sym m.reported) (low_append m.output.lines m.checks own.low (check.low few));
     }
@@ -119,7 +119,7 @@ frame_told old new lines f = record {
       (low_append f.ue_output.lines f.checks ue.low (check.low few.downlink)))
       (radio_low f.up_output.lines up_radio))
       (first_low f.rnc_lines 8 (λ s l. (take s l).low few.uplink)));
-  ue_stays = ue_stays f.kept UeTicks new.ue.state f.ue_output f.ue_ticks ∙ kept_stays;
+  ue_stays = ue_stays f.kept UeTicks new.ue.state f.ue_output tt f.ue_ticks ∙ kept_stays;
   rnc_stays = ap (λ (r : RncState). r.planned) f.rnc_last ∙ first_stays f.rncs 8 (λ s l. (take s l).stays) ∙ opens;
 }
   where
@@ -145,10 +145,10 @@ frame_told old new lines f = record {
     check = checks Down (λ i. good_in (new.ue.state.readings i)) (λ i. (f.rnc.layer.given i).blocks) (length old.rnc.state.planned.config.downlink.side.channels) f.checks f.compared
 
     kept_stays : f.kept.planned ≡ old.ue.state.planned
-    kept_stays = ue_stays old.ue.state (DownlinkFrame (radio_after old.damage Down f.down_output.sent)) f.kept f.kept_output f.keeps
+    kept_stays = ue_stays old.ue.state (DownlinkFrame (radio_after old.damage Down f.down_output.sent)) f.kept f.kept_output tt f.keeps
 
     opens : (f.rncs 0).planned ≡ old.rnc.state.planned
-    opens = ap (λ (r : RncState). r.planned) f.rnc_first ∙ rnc_stays old.rnc.state RncTicks f.rnc f.rnc_output f.rnc_ticks
+    opens = ap (λ (r : RncState). r.planned) f.rnc_first ∙ rnc_stays old.rnc.state RncTicks f.rnc f.rnc_output tt f.rnc_ticks
 
     takes_stay : (s : ℕ) → s < 8 → (f.rncs s).planned ≡ old.rnc.state.planned
     takes_stay s l = first_stays f.rncs s (λ k q. (take k (omega (arith, l, q))).stays) ∙ opens

@@ -5,7 +5,7 @@ use Rattle.dch_accept.specs.Plans.{Planned}
 use Rattle.dch_rxframes.specs.RxFrames.{RxFrames}
 use Rattle.dch_node.specs.Lines.{Line, Took, Full, Wrong, Bad, Reserved, NoBearer, Nobody, PduBad, Outside, Overlong, Got, GotBits, Iub, IubBad, Phy, PhyNone, BadTti, Differs, joined}
 use Rattle.dch_node.specs.Values.{Output, Radio}
-use Rattle.dch_nodeb.specs.State.{DownlinkDue, Event as NodeBEvent, IubFrame, State as NodeBState, UplinkFrame}
+use Rattle.dch_nodeb.specs.State.{Change, DownlinkDue, Event as NodeBEvent, IubFrame, State as NodeBState, UplinkFrame}
 use Rattle.dch_nodeb.specs.Steps.{DeliversSet, IsArrival, Steps as NodeBSteps, radio_line}
 use Rattle.dch_runlaw.specs.Frames.{MayArrive}
 use Rattle.dch_runlaw.specs.TextDiffering.{AreLow, IsLow}
@@ -116,6 +116,7 @@ pub node_b_radio : (old : NodeBState) (e : NodeBEvent) (new : NodeBState) (outpu
 node_b_radio old (IubFrame set octets) new output step = arrival_radio old.planned old set octets new output step
 node_b_radio old DownlinkDue new output step = subst AreRadio (sym step.reported) (sent_radio output.sent)
 node_b_radio old (UplinkFrame frame) new output step = subst AreRadio (sym step.reported) (sets_radio step.lines 8 (λ s l. set_radio old.planned step.rx_frames s (step.lines s) (output.iub s) (step.sets s l)))
+node_b_radio old (Change second) new output step = subst (λ (o : Output). AreRadio o.lines) (sym step.quiet) tt
 
 pub fed_radio : (s : ℕ) (o : Option (List ℕ)) (old new : NodeBState) (lines : List Line) → MayArrive s o old new lines → AreRadio lines
 fed_radio s None old new lines m = subst AreRadio (sym m.1) tt

@@ -14,6 +14,7 @@ use Rattle.dch_link.specs.Courses.{Course}
 use Rattle.dch_link.specs.Events.{BlockedCombination, Damages, Event as LinkEvent, Happens, OfferedUnit}
 use Rattle.dch_link.specs.Link.{LinkState, opened_link}
 use Rattle.dch_link.specs.Stages.{RncReports, UeReports}
+use Rattle.dch_link.specs.Within.{RncWithin, UeWithin}
 use Rattle.dch_runlaw.specs.Frames.{lines_below}
 use Rattle.dch_runlaw.specs.Runs.{Between, Event, Frame, Runs, Steps}
 use Rattle.dch_runlaw.proofs.Keeping.{but_rnc, but_ue, rnc_lines, rnc_step, ue_lines, ue_step}
@@ -40,12 +41,12 @@ stays dir b old new lines e f = ap (lines_of b) e ∙ sym (append-nil (lines_of 
 grows : (dir : Dir) (b : ℕ) (old new said lines : List Line) → new ≡ old ++ said → lines_on dir b lines ≡ lines_of b said → lines_of b new ≡ lines_of b old ++ lines_on dir b lines
 grows dir b old new said lines e f = ap (lines_of b) e ∙ lines-append b old said ∙ ap (λ l. lines_of b old ++ l) (sym f)
 
--- a step of the terminal, or of the network controller
-ue_told : (old new : LinkState) (e : UeEvent) (lines : List Line) → UeReports old e new lines → IsTold old new lines
-ue_told old new e lines step =
+-- a step of the terminal, or of the network controller, but a change
+ue_told : (old new : LinkState) (e : UeEvent) (lines : List Line) → UeWithin e → UeReports old e new lines → IsTold old new lines
+ue_told old new e lines within step =
     let same = but_ue old new e step.0 in
     let own : IsOwn Down old.ue.state.planned.config new.ue.last.lines = ue_own old.ue.state e new.ue.state new.ue.last (ue_step old new e step.0) in
-    let keeps : new.ue.state.planned ≡ old.ue.state.planned = ue_stays old.ue.state e new.ue.state new.ue.last (ue_step old new e step.0) in
+    let keeps : new.ue.state.planned ≡ old.ue.state.planned = ue_stays old.ue.state e new.ue.state new.ue.last within (ue_step old new e step.0) in
     subst (IsTold old new) (sym step.1) (record {
       up = λ b. stays Up b old.rnc.lines new.rnc.lines new.ue.last.lines (ap (λ (c : Course RncState RncEvent). c.lines) same.rnc) (off_is Down Up b new.ue.last.lines refl own.goes);
       down = λ b. grows Down b old.ue.lines new.ue.lines new.ue.last.lines new.ue.last.lines (ue_lines old new e step.0) (on_is Down b new.ue.last.lines own.goes);
@@ -55,11 +56,11 @@ ue_told old new e lines step =
       rnc_stays = ap (λ (c : Course RncState RncEvent). c.state.planned) same.rnc;
     })
 
-rnc_told : (old new : LinkState) (e : RncEvent) (lines : List Line) → RncReports old e new lines → IsTold old new lines
-rnc_told old new e lines step =
+rnc_told : (old new : LinkState) (e : RncEvent) (lines : List Line) → RncWithin e → RncReports old e new lines → IsTold old new lines
+rnc_told old new e lines within step =
     let same = but_rnc old new e step.0 in
     let own : IsOwn Up old.rnc.state.planned.config new.rnc.last.lines = rnc_own old.rnc.state e new.rnc.state new.rnc.last (rnc_step old new e step.0) in
-    let keeps : new.rnc.state.planned ≡ old.rnc.state.planned = rnc_stays old.rnc.state e new.rnc.state new.rnc.last (rnc_step old new e step.0) in
+    let keeps : new.rnc.state.planned ≡ old.rnc.state.planned = rnc_stays old.rnc.state e new.rnc.state new.rnc.last within (rnc_step old new e step.0) in
     subst (IsTold old new) (sym step.1) (record {
       up = λ b. grows Up b old.rnc.lines new.rnc.lines new.rnc.last.lines new.rnc.last.lines (rnc_lines old new e step.0) (on_is Up b new.rnc.last.lines own.goes);
       down = λ b. stays Down b old.ue.lines new.ue.lines new.rnc.last.lines (ap (λ (c : Course UeState UeEvent). c.lines) same.ue) (off_is Up Down b new.rnc.last.lines refl own.goes);
@@ -80,10 +81,10 @@ nothing_told link = record {
 }
 
 between_told : (old : LinkState) (e : LinkEvent) (new : LinkState) (lines : List Line) → Happens old e new lines → IsTold old new lines
-between_told old (OfferedUnit Up b octets bits) new lines step = ue_told old new (UeOffered b octets bits) lines step
-between_told old (OfferedUnit Down b octets bits) new lines step = rnc_told old new (RncOffered b octets bits) lines step
-between_told old (BlockedCombination Up c on) new lines step = ue_told old new (UeBlocked c on) lines step
-between_told old (BlockedCombination Down c on) new lines step = rnc_told old new (RncBlocked c on) lines step
+between_told old (OfferedUnit Up b octets bits) new lines step = ue_told old new (UeOffered b octets bits) lines tt step
+between_told old (OfferedUnit Down b octets bits) new lines step = rnc_told old new (RncOffered b octets bits) lines tt step
+between_told old (BlockedCombination Up c on) new lines step = ue_told old new (UeBlocked c on) lines tt step
+between_told old (BlockedCombination Down c on) new lines step = rnc_told old new (RncBlocked c on) lines tt step
 between_told old (Damages damage) new lines step =
     let t = nothing_told old in
     subst (IsTold old new) (sym step.1) (subst (λ (l : LinkState). IsTold old l []) (sym step.0) (record { up = t.up; down = t.down; small = λ few. tt; low = λ few. tt; ue_stays = refl; rnc_stays = refl }))

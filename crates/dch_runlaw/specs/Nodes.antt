@@ -9,11 +9,12 @@ use Rattle.dch_accept.specs.Plans.{Planned}
 use Rattle.dch_node.specs.Lines.{Line}
 use Rattle.dch_node.specs.Values.{Output}
 use Rattle.dch_layer.specs.Layers.{Layer}
-use Rattle.dch_ue.specs.State.{Event as UeEvent, OfferedUnit as UeOffered, BlockedCombination as UeBlocked, DownlinkFrame, Tick as UeTicks, State as UeState, opened_state as opened_ue}
+use Rattle.dch_ue.specs.State.{Event as UeEvent, OfferedUnit as UeOffered, BlockedCombination as UeBlocked, Change as UeChange, DownlinkFrame, Tick as UeTicks, State as UeState, opened_state as opened_ue}
 use Rattle.dch_ue.specs.Steps.{Steps as UeSteps}
-use Rattle.dch_rnc.specs.State.{Event as RncEvent, OfferedUnit as RncOffered, BlockedCombination as RncBlocked, IubFrame, Tick as RncTicks, State as RncState, opened_state as opened_rnc}
+use Rattle.dch_rnc.specs.State.{Event as RncEvent, OfferedUnit as RncOffered, BlockedCombination as RncBlocked, Change as RncChange, IubFrame, Tick as RncTicks, State as RncState, opened_state as opened_rnc}
 use Rattle.dch_rnc.specs.Steps.{Steps as RncSteps}
 use Rattle.dch_link.specs.Checks.{good_in}
+use Rattle.dch_link.specs.Within.{RncWithin, UeWithin}
 use Rattle.dch_layerlaw.specs.Worlds.{IsFaithful, IsFront, Log, World, no_log, turned}
 use Rattle.dch_layerlaw.specs.History.{IsHistory, IsWholeHistory}
 use Rattle.dch_layerlaw.specs.UmHistory.{IsKnownHistory}
@@ -47,15 +48,18 @@ given_by_ue old UeTicks new i = given_at old.planned.config.uplink.side old.cfn 
 given_by_ue old (UeOffered b octets bits) new i = []
 given_by_ue old (UeBlocked c on) new i = []
 given_by_ue old (DownlinkFrame frame) new i = []
+given_by_ue old (UeChange planned) new i = []
 
 abbrev pub given_by_rnc : RncState → RncEvent → RncState → ℕ → List (List Bit)
 given_by_rnc old RncTicks new i = given_at old.planned.config.downlink.side old.cfn new.layer i
 given_by_rnc old (RncOffered b octets bits) new i = []
 given_by_rnc old (RncBlocked c on) new i = []
 given_by_rnc old (IubFrame set octets) new i = []
+given_by_rnc old (RncChange planned) new i = []
 
--- a step of the terminal: the network controller stays, uplink channels are given blocks, and blocks are taken of downlink channels
+-- a step of the terminal, in the configuration that is active: the network controller stays, uplink channels are given blocks, and blocks are taken of downlink channels
 pub record StepsUe (old : Nodes) (event : UeEvent) (new : Nodes) : Type 0 where
+  pub within : UeWithin event
   pub output : Output
   pub step : UeSteps old.ue event new.ue output
   pub reported : new.ue_lines ≡ old.ue_lines ++ output.lines
@@ -64,8 +68,9 @@ pub record StepsUe (old : Nodes) (event : UeEvent) (new : Nodes) : Type 0 where
   pub up : (i : ℕ) → new.up i ≡ record { given = (old.up i).given ++ given_by_ue old.ue event new.ue i; taken = (old.up i).taken }
   pub down : (i : ℕ) → new.down i ≡ record { given = (old.down i).given; taken = (old.down i).taken ++ good_in (new.ue.readings i) }
 
--- a step of the network controller: the terminal stays, downlink channels are given blocks, and blocks are taken of uplink channels
+-- a step of the network controller, in the configuration that is active: the terminal stays, downlink channels are given blocks, and blocks are taken of uplink channels
 pub record StepsRnc (old : Nodes) (event : RncEvent) (new : Nodes) : Type 0 where
+  pub within : RncWithin event
   pub output : Output
   pub step : RncSteps old.rnc event new.rnc output
   pub reported : new.rnc_lines ≡ old.rnc_lines ++ output.lines

@@ -1,5 +1,5 @@
 -- What lines of `link` make of three nodes: a run of what they say.
-use Rattle.std.specs.Prelude.{◌≡◌, ◌++◌, ℕ, zero, suc, List, [], ◌∷◌, MatchBool}
+use Rattle.std.specs.Prelude.{◌≡◌, ◌++◌, ℕ, zero, suc, List, [], ◌∷◌, None, MatchBool}
 use Rattle.dch_types.specs.declared.config.Config.{Config}
 use Rattle.dch_lines.specs.LineTexts.{is_empty}
 use Rattle.dch_node.specs.Lines.{Line, text_of}
@@ -40,10 +40,11 @@ abbrev pub AreSaid : Config → List (List ℕ) → List Event → Type 0
 AreSaid config [] events = events ≡ []
 AreSaid config (line ∷ lines) events = SaysFirst config line (AreSaid config lines) events
 
--- between two lines no radio frame is on
+-- between two lines no radio frame is on; and no second configuration is to come
 pub record IsAtRest (run : Run) : Type 0 where
   pub stage : run.stage ≡ RncTick
   pub left : run.left ≡ 0
+  pub alone : run.second ≡ None
 
 -- the lines lead the nodes through a run of what they say, and this is shown of its lines
 pub record IsRunOf (old : Run) (lines : List (List ℕ)) (new : Run) (text : List ℕ) : Type 0 where

@@ -1,11 +1,11 @@
-ghost use Rattle.std.specs.Prelude.{◌≡◌, ◌%◌, Bool, ℕ, List};
+ghost use Rattle.std.specs.Prelude.{◌≡◌, ◌%◌, Bool, ℕ, List, None};
 ghost use Rattle.dch_accept.specs.Plans.{IsPlanned, Planned};
 ghost use Rattle.dch_lines.specs.LineTexts.{HandlesLines};
 ghost use Rattle.dch_linkcmd.specs.Rules.{link_lines};
 ghost use Rattle.dch_linkcmd.specs.Run.{Run, opened_run};
 ghost use Rattle.dch_runlaw.specs.Headline.{Carries};
 
-/// A law: lines of `link` behind a configuration that keeps its limits lead three nodes through a run, radio frame by radio frame, and the text
+/// A law: lines of `link` behind one configuration that keeps its limits lead three nodes through a run, radio frame by radio frame, and the text
 /// that they add is that of its lines. Where no damage has an effect, no line tells of trouble, and all is handed up that was sent whole in TTIs
 /// that have ended.
 ///
@@ -17,5 +17,5 @@ ghost use Rattle.dch_runlaw.specs.Headline.{Carries};
 /// units, in order, each at most once.
 pub fn headline_law()
     ensures { (planned : Planned) (first : ℕ) (quiet : Bool) (script : List (List ℕ)) (new : Run) (text : List ℕ) → IsPlanned planned → first % 8 ≡ 0 →
-        HandlesLines link_lines (opened_run planned first quiet) script new text → Carries planned first quiet script text }
+        HandlesLines link_lines (opened_run planned None first quiet) script new text → Carries planned first quiet script text }
 {}

@@ -164,8 +164,8 @@ ticks_in planned legs k old new lines good passes a = record {
   cfn = ap (λ (s : SoftState). s.cfn) goes.is ∙ ap (λ (s : SoftState). s.cfn) comes.is;
   rnc_active = ap (λ (s : SoftState). s.rnc.state.planned) goes.is ∙ ap (λ (s : SoftState). s.rnc.state.planned) comes.is;
   legs = ap (λ (s : SoftState). s.legs) goes.is ∙ ap (λ (s : SoftState). s.legs) comes.is;
-  stands = ue_stands planned mid.ue.state UeTicks new.ue.state new.ue.last good (ue_step mid new UeTicks goes)
-      (ue_stands planned old.ue.state (DownlinkFrame passes.hears.heard) mid.ue.state mid.ue.last good (ue_step old mid (DownlinkFrame passes.hears.heard) comes) a.ue);
+  stands = ue_stands planned mid.ue.state UeTicks new.ue.state new.ue.last good tt (ue_step mid new UeTicks goes)
+      (ue_stands planned old.ue.state (DownlinkFrame passes.hears.heard) mid.ue.state mid.ue.last good tt (ue_step old mid (DownlinkFrame passes.hears.heard) comes) a.ue);
   ue_cfn = ap (λ (s : UeState). s.cfn) tick.state ∙ ap next_cfn mid_cfn;
   mid = (has_read planned new.ue.state.readings mid.ue.state.layer).layer;
   given = λ i. keeps.given i ∙ ap (λ (s : UeState). s.layer.given i) kept.0;
@@ -299,7 +299,7 @@ combine_late k set s = (late_set (nat_lt s set) (nat_lt set s), late_over (nat_l
 -- a stage
 pub agree_stage : (planned : Planned) (legs k set : ℕ) (stage : Stage) (old new : SoftState) (lines : List Line) → IsPlanned planned → AtStage stage old new lines → Agree planned legs k (phase_of k set stage) old → Agree planned legs k (exit_of k set stage) new
 agree_stage planned legs k set RncTick old new lines good passes a =
-    agree_stays planned legs k Before Before old new (rnc_goes_stays k RncTicks old new passes.0) (same_stands planned old new (ap (λ (s : SoftState). s.ue) passes.0.is) a.ue) tt (λ c. refl) (λ c. refl) a
+    agree_stays planned legs k Before Before old new (rnc_goes_stays k RncTicks old new tt passes.0) (same_stands planned old new (ap (λ (s : SoftState). s.ue) passes.0.is) a.ue) tt (λ c. refl) (λ c. refl) a
 agree_stage planned legs k set (IubDown leg s) old new lines good passes a =
     agree_stays planned legs k Before Before old new (iub_down_stays k leg s (old.rnc.last.iub s) old new lines passes) (same_stands planned old new (ap (λ (s : SoftState). s.ue) passes.is) a.ue) tt (λ c. refl) (λ c. refl) a
 agree_stage planned legs k set (RadioDown leg) old new lines good passes a =
@@ -351,9 +351,9 @@ agree_framed planned legs k soft a = record {
 
 -- what happens between two radio frames
 between_stands : (planned : Planned) (old : SoftState) (event : Event) (new : SoftState) (lines : List Line) → IsPlanned planned → Happens old event new lines → UeStands planned old.ue.state → UeStands planned new.ue.state
-between_stands planned old (OfferedUnit Up b octets bits) new lines good happens s = ue_stands planned old.ue.state (UeOffered b octets bits) new.ue.state new.ue.last good (ue_step old new (UeOffered b octets bits) happens.0) s
+between_stands planned old (OfferedUnit Up b octets bits) new lines good happens s = ue_stands planned old.ue.state (UeOffered b octets bits) new.ue.state new.ue.last good tt (ue_step old new (UeOffered b octets bits) happens.0) s
 between_stands planned old (OfferedUnit Down b octets bits) new lines good happens s = same_stands planned old new (ap (λ (x : SoftState). x.ue) happens.0.is) s
-between_stands planned old (BlockedCombination Up c on) new lines good happens s = ue_stands planned old.ue.state (UeBlocked c on) new.ue.state new.ue.last good (ue_step old new (UeBlocked c on) happens.0) s
+between_stands planned old (BlockedCombination Up c on) new lines good happens s = ue_stands planned old.ue.state (UeBlocked c on) new.ue.state new.ue.last good tt (ue_step old new (UeBlocked c on) happens.0) s
 between_stands planned old (BlockedCombination Down c on) new lines good happens s = same_stands planned old new (ap (λ (x : SoftState). x.ue) happens.0.is) s
 between_stands planned old (Damages leg damage) new lines good happens s = same_stands planned old new (ap (λ (x : SoftState). x.ue) happens.0) s
 

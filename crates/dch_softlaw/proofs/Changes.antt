@@ -17,6 +17,7 @@ use Rattle.dch_rnc.specs.Steps.{Steps as RncSteps}
 use Rattle.dch_link.specs.Courses.{Course}
 use Rattle.dch_soft.specs.Events.{BlockedCombination, Damages, Event, Happens, OfferedUnit, damaged}
 use Rattle.dch_soft.specs.Legs.{LegGoes, LegState, MayGoDown, ReceivesIub, Transmits, iub_from}
+use Rattle.dch_link.specs.Within.{RncWithin}
 use Rattle.dch_soft.specs.Soft.{SoftState, given, over, uplink_of, with_frame, with_leg}
 use Rattle.dch_soft.specs.Stages.{AtLeg, AtStage, GivesFrame, MayTake, RncGoes, TakesFrame, UeGoes, WhereOver}
 use Rattle.dch_soft.specs.declared.stage.Stage.{Stage}
@@ -135,7 +136,7 @@ set_same set old new is = record {
 set_taken : (set : ℕ) (octets : List ℕ) (old new : SoftState) → RncGoes (given old set) (IubFrameUp set octets) new → IsSetChange set old new
 set_taken set octets old new goes = record {
   ue = ap (λ (s : SoftState). s.ue) goes.is;
-  rnc_active = rnc_stays old.rnc.state (IubFrameUp set octets) new.rnc.state new.rnc.last (rnc_step (given old set) new (IubFrameUp set octets) goes);
+  rnc_active = rnc_stays old.rnc.state (IubFrameUp set octets) new.rnc.state new.rnc.last tt (rnc_step (given old set) new (IubFrameUp set octets) goes);
   count = ap (λ (s : SoftState). s.count) goes.is;
   cfn = ap (λ (s : SoftState). s.cfn) goes.is;
   legs = ap (λ (s : SoftState). s.legs) goes.is;
@@ -185,10 +186,10 @@ set_stays k set old new c = same_ends k old new c.count c.cfn c.rnc_active c.ue 
 pub other_leg_stays : (k leg : ℕ) (state : LegState) (old new : SoftState) → k ≢ leg → IsLegChange leg state old new → Stays k old new
 other_leg_stays k leg state old new apart c = same_ends k old new c.count c.cfn (ap (λ (r : Course RncState RncEvent). r.state.planned) c.rnc) c.ue (c.others k apart)
 
-pub rnc_goes_stays : (k : ℕ) (event : RncEvent) (old new : SoftState) → RncGoes old event new → Stays k old new
-rnc_goes_stays k event old new goes =
+pub rnc_goes_stays : (k : ℕ) (event : RncEvent) (old new : SoftState) → RncWithin event → RncGoes old event new → Stays k old new
+rnc_goes_stays k event old new within goes =
     same_ends k old new (ap (λ (s : SoftState). s.count) goes.is) (ap (λ (s : SoftState). s.cfn) goes.is)
-    (rnc_stays old.rnc.state event new.rnc.state new.rnc.last (rnc_step old new event goes)) (ap (λ (s : SoftState). s.ue) goes.is) (ap (λ (s : SoftState). s.legs k) goes.is)
+    (rnc_stays old.rnc.state event new.rnc.state new.rnc.last within (rnc_step old new event goes)) (ap (λ (s : SoftState). s.ue) goes.is) (ap (λ (s : SoftState). s.legs k) goes.is)
 
 -- the Node B of a leg takes a downlink Iub frame, or sends its downlink radio frame
 record KeepsUplink (old new : NodeBState) : Type 0 where
@@ -262,17 +263,17 @@ between_stays k old (OfferedUnit Up b octets bits) new lines happens =
     let step : UeSteps old.ue.state (UeOffered b octets bits) new.ue.state new.ue.last = ue_step old new (UeOffered b octets bits) happens.0 in
     ue_stays k (UeOffered b octets bits) old new happens.0 (ap (λ (s : UeState). s.planned) step.state) (ap (λ (s : UeState). s.cfn) step.state)
     (record { given = λ j. ap (λ (s : UeState). s.layer.given j) step.state; running = ap (λ (s : UeState). s.layer.running) step.state })
-between_stays k old (OfferedUnit Down b octets bits) new lines happens = rnc_goes_stays k (RncOffered b octets bits) old new happens.0
+between_stays k old (OfferedUnit Down b octets bits) new lines happens = rnc_goes_stays k (RncOffered b octets bits) old new tt happens.0
 between_stays k old (BlockedCombination Up c on) new lines happens =
     let step : UeSteps old.ue.state (UeBlocked c on) new.ue.state new.ue.last = ue_step old new (UeBlocked c on) happens.0 in
     ue_stays k (UeBlocked c on) old new happens.0 (ap (λ (s : UeState). s.planned) step.0) (ap (λ (s : UeState). s.cfn) step.0)
     (record { given = λ j. ap (λ (s : UeState). s.layer.given j) step.0; running = ap (λ (s : UeState). s.layer.running) step.0 })
-between_stays k old (BlockedCombination Down c on) new lines happens = rnc_goes_stays k (RncBlocked c on) old new happens.0
+between_stays k old (BlockedCombination Down c on) new lines happens = rnc_goes_stays k (RncBlocked c on) old new tt happens.0
 between_stays k old (Damages leg damage) new lines happens = damage_stays k leg (damaged (old.legs leg) damage) old new refl happens.0
 
 -- a stage leaves how many legs there are, and the configuration
 pub stage_steady : (stage : Stage) (old new : SoftState) (lines : List Line) → AtStage stage old new lines → (new.count ≡ old.count) × (new.rnc.state.planned ≡ old.rnc.state.planned)
-stage_steady RncTick old new lines passes = let r = rnc_goes_stays 0 RncTicks old new passes.0 in (r.count, r.rnc_active)
+stage_steady RncTick old new lines passes = let r = rnc_goes_stays 0 RncTicks old new tt passes.0 in (r.count, r.rnc_active)
 stage_steady (IubDown leg set) old new lines passes = (ap (λ (s : SoftState). s.count) passes.is, ap (λ (s : SoftState). s.rnc.state.planned) passes.is)
 stage_steady (RadioDown leg) old new lines passes = (ap (λ (s : SoftState). s.count) passes.is, ap (λ (s : SoftState). s.rnc.state.planned) passes.is)
 stage_steady UeTick old new lines passes = (

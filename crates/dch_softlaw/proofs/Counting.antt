@@ -88,7 +88,7 @@ stays_keep : (planned : Planned) (k i : ℕ) (stage : Stage) (old new : SoftStat
 stays_keep planned k i stage old new r = record { cfn = r.cfn; given = λ some. r.ue_layer.given i }
 
 keeps : (planned : Planned) (legs k set i : ℕ) (stage : Stage) (old new : SoftState) (lines : List Line) → IsPlanned planned → i < length (up_side planned).channels → AtStage stage old new lines → Agree planned legs k (phase_of k set stage) old → Keeps planned i stage old new
-keeps planned legs k set i RncTick old new lines good inside passes a = stays_keep planned k i RncTick old new (rnc_goes_stays k RncTicks old new passes.0)
+keeps planned legs k set i RncTick old new lines good inside passes a = stays_keep planned k i RncTick old new (rnc_goes_stays k RncTicks old new tt passes.0)
 keeps planned legs k set i (IubDown leg s) old new lines good inside passes a = stays_keep planned k i (IubDown leg s) old new (iub_down_stays k leg s (old.rnc.last.iub s) old new lines passes)
 keeps planned legs k set i (RadioDown leg) old new lines good inside passes a = stays_keep planned k i (RadioDown leg) old new (radio_down_stays k leg old new lines passes)
 keeps planned legs k set i UeTick old new lines good inside passes a =

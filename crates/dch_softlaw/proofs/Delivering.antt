@@ -315,7 +315,7 @@ came_radio planned legs k set leg old new lines good small passes gets a = elim 
 -- a stage
 came_stage : (planned : Planned) (legs k set : ℕ) (stage : Stage) (old new : SoftState) (lines : List Line) → IsPlanned planned → set < 8 → AtStage stage old new lines → Gets k set stage old new → Agree planned legs k (phase_of k set stage) old
     → Came planned k set (phase_of k set stage) old → Came planned k set (exit_of k set stage) new
-came_stage planned legs k set RncTick old new lines good small passes gets a c = came_before planned k set old new (rnc_goes_stays k RncTicks old new passes.0) c
+came_stage planned legs k set RncTick old new lines good small passes gets a c = came_before planned k set old new (rnc_goes_stays k RncTicks old new tt passes.0) c
 came_stage planned legs k set (IubDown leg s) old new lines good small passes gets a c = came_before planned k set old new (iub_down_stays k leg s (old.rnc.last.iub s) old new lines passes) c
 came_stage planned legs k set (RadioDown leg) old new lines good small passes gets a c = came_before planned k set old new (radio_down_stays k leg old new lines passes) c
 came_stage planned legs k set UeTick old new lines good small passes gets a c = record {

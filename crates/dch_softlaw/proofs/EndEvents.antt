@@ -11,6 +11,7 @@ use Rattle.dch_layerlaw.specs.History.{IsAmBearer}
 use Rattle.dch_layerlaw.specs.Lines.{lines_of}
 use Rattle.dch_layerlaw.proofs.Bearers.{is_am_bearer}
 use Rattle.dch_link.specs.Courses.{Course}
+use Rattle.dch_link.specs.Within.{RncWithin, UeWithin}
 use Rattle.dch_soft.specs.Events.{BlockedCombination, Damages, Event, Happens, OfferedUnit}
 use Rattle.dch_soft.specs.Passing.{next_stage}
 use Rattle.dch_soft.specs.Soft.{SoftState, given, over, uplink_of}
@@ -49,8 +50,9 @@ any_each nodes [] = tt
 any_each nodes (x ∷ happened) = (tt, any_each (after nodes x) happened)
 
 -- one event at the terminal, or at the network controller
-ue_happens : (old new : SoftState) (event : UeEvent) (nodes : Nodes) → UeGoes old event new → AreOf old nodes → NodesHappen nodes (AtUe event) (after nodes (EventAtUe event new.ue))
-ue_happens old new event nodes goes are = record {
+ue_happens : (old new : SoftState) (event : UeEvent) (nodes : Nodes) → UeWithin event → UeGoes old event new → AreOf old nodes → NodesHappen nodes (AtUe event) (after nodes (EventAtUe event new.ue))
+ue_happens old new event nodes within goes are = record {
+  within = within;
   output = new.ue.last;
   step = subst (λ (s : UeState). UeSteps s event new.ue.state new.ue.last) (sym are.ue) (ue_step old new event goes);
   reported = ue_lines old new event goes ∙ ap (λ (l : List Line). l ++ new.ue.last.lines) (sym are.ue_lines);
@@ -60,8 +62,9 @@ ue_happens old new event nodes goes are = record {
   down = λ i. refl;
 }
 
-rnc_happens : (old new : SoftState) (event : RncEvent) (nodes : Nodes) → RncGoes old event new → AreOf old nodes → NodesHappen nodes (AtRnc event) (after nodes (EventAtRnc event new.rnc))
-rnc_happens old new event nodes goes are = record {
+rnc_happens : (old new : SoftState) (event : RncEvent) (nodes : Nodes) → RncWithin event → RncGoes old event new → AreOf old nodes → NodesHappen nodes (AtRnc event) (after nodes (EventAtRnc event new.rnc))
+rnc_happens old new event nodes within goes are = record {
+  within = within;
   output = new.rnc.last;
   step = subst (λ (s : RncState). RncSteps s event new.rnc.state new.rnc.last) (sym are.rnc) (rnc_step old new event goes);
   reported = rnc_lines old new event goes ∙ ap (λ (l : List Line). l ++ new.rnc.last.lines) (sym are.rnc_lines);
@@ -123,17 +126,17 @@ same_ue old new same = ap (λ (c : Course UeState UeEvent). c.events) same ∙ s
 same_rnc : (old new : SoftState) → new.rnc ≡ old.rnc → new.rnc.events ≡ old.rnc.events ++ []
 same_rnc old new same = ap (λ (c : Course RncState RncEvent). c.events) same ∙ sym (append-nil old.rnc.events)
 
-at_ue : (old new : SoftState) (event : UeEvent) (nodes : Nodes) → UeGoes old event new → AreOf old nodes → Leads old nodes (EventAtUe event new.ue ∷ []) new
-at_ue old new event nodes goes are = record {
-  all = (ue_happens old new event nodes goes are, tt);
+at_ue : (old new : SoftState) (event : UeEvent) (nodes : Nodes) → UeWithin event → UeGoes old event new → AreOf old nodes → Leads old nodes (EventAtUe event new.ue ∷ []) new
+at_ue old new event nodes within goes are = record {
+  all = (ue_happens old new event nodes within goes are, tt);
   are = ue_are old new event nodes goes are;
   ue = ap (λ (c : Course UeState UeEvent). c.events) (ap (λ (s : SoftState). s.ue) goes.is ∙ goes.goes.is);
   rnc = same_rnc old new (ap (λ (s : SoftState). s.rnc) goes.is);
 }
 
-at_rnc : (old new : SoftState) (event : RncEvent) (nodes : Nodes) → RncGoes old event new → AreOf old nodes → Leads old nodes (EventAtRnc event new.rnc ∷ []) new
-at_rnc old new event nodes goes are = record {
-  all = (rnc_happens old new event nodes goes are, tt);
+at_rnc : (old new : SoftState) (event : RncEvent) (nodes : Nodes) → RncWithin event → RncGoes old event new → AreOf old nodes → Leads old nodes (EventAtRnc event new.rnc ∷ []) new
+at_rnc old new event nodes within goes are = record {
+  all = (rnc_happens old new event nodes within goes are, tt);
   are = rnc_are old new event nodes goes are;
   ue = same_ue old new (ap (λ (s : SoftState). s.ue) goes.is);
   rnc = ap (λ (c : Course RncState RncEvent). c.events) (ap (λ (s : SoftState). s.rnc) goes.is ∙ goes.goes.is);
@@ -153,10 +156,10 @@ leads_on old mid new nodes xs ys first later = record {
 
 -- between two radio frames
 between_leads : (old : SoftState) (event : Event) (new : SoftState) (lines : List Line) (nodes : Nodes) → Happens old event new lines → AreOf old nodes → Leads old nodes (between event new) new
-between_leads old (OfferedUnit Up b octets bits) new lines nodes happens are = at_ue old new (UeOffered b octets bits) nodes happens.0 are
-between_leads old (OfferedUnit Down b octets bits) new lines nodes happens are = at_rnc old new (RncOffered b octets bits) nodes happens.0 are
-between_leads old (BlockedCombination Up c on) new lines nodes happens are = at_ue old new (UeBlocked c on) nodes happens.0 are
-between_leads old (BlockedCombination Down c on) new lines nodes happens are = at_rnc old new (RncBlocked c on) nodes happens.0 are
+between_leads old (OfferedUnit Up b octets bits) new lines nodes happens are = at_ue old new (UeOffered b octets bits) nodes tt happens.0 are
+between_leads old (OfferedUnit Down b octets bits) new lines nodes happens are = at_rnc old new (RncOffered b octets bits) nodes tt happens.0 are
+between_leads old (BlockedCombination Up c on) new lines nodes happens are = at_ue old new (UeBlocked c on) nodes tt happens.0 are
+between_leads old (BlockedCombination Down c on) new lines nodes happens are = at_rnc old new (RncBlocked c on) nodes tt happens.0 are
 between_leads old (Damages leg damage) new lines nodes happens are = at_none old new nodes (ap (λ (s : SoftState). s.ue) happens.0) (ap (λ (s : SoftState). s.rnc) happens.0) are
 
 -- in a stage
@@ -165,17 +168,17 @@ combined_leads None set old new lines nodes gives are = at_none old new nodes (a
 combined_leads (Some cfn) set old new lines nodes (inl none) are = at_none old new nodes (ap (λ (s : SoftState). s.ue) none.stays.0) (ap (λ (s : SoftState). s.rnc) none.stays.0) are
 combined_leads (Some cfn) set old new lines nodes (inr frame) are =
     let leads : Leads (given old set) nodes (EventAtRnc (IubFrameUp set frame.octets) new.rnc ∷ []) new =
-    at_rnc (given old set) new (IubFrameUp set frame.octets) nodes frame.comes (record { ue = are.ue; rnc = are.rnc; ue_lines = are.ue_lines; rnc_lines = are.rnc_lines }) in
+    at_rnc (given old set) new (IubFrameUp set frame.octets) nodes tt frame.comes (record { ue = are.ue; rnc = are.rnc; ue_lines = are.ue_lines; rnc_lines = are.rnc_lines }) in
     record { all = leads.all; are = leads.are; ue = leads.ue; rnc = leads.rnc }
 
 stage_leads : (stage : Stage) (old new : SoftState) (lines : List Line) (nodes : Nodes) (passes : AtStage stage old new lines) → AreOf old nodes → Leads old nodes (in_stage stage old new lines passes) new
-stage_leads RncTick old new lines nodes passes are = at_rnc old new RncTicks nodes passes.0 are
+stage_leads RncTick old new lines nodes passes are = at_rnc old new RncTicks nodes tt passes.0 are
 stage_leads (IubDown leg set) old new lines nodes passes are = at_none old new nodes (ap (λ (s : SoftState). s.ue) passes.is) (ap (λ (s : SoftState). s.rnc) passes.is) are
 stage_leads (RadioDown leg) old new lines nodes passes are = at_none old new nodes (ap (λ (s : SoftState). s.ue) passes.is) (ap (λ (s : SoftState). s.rnc) passes.is) are
 stage_leads UeTick old new lines nodes passes are =
     let event : UeEvent = DownlinkFrame passes.hears.heard in
-    let first : Leads old nodes (EventAtUe event passes.mid.ue ∷ []) passes.mid = at_ue old passes.mid event nodes passes.hears.comes are in
-    let later : Leads passes.mid (after nodes (EventAtUe event passes.mid.ue)) (EventAtUe UeTicks new.ue ∷ []) new = at_ue passes.mid new UeTicks (after nodes (EventAtUe event passes.mid.ue)) passes.ticks.0 first.are in
+    let first : Leads old nodes (EventAtUe event passes.mid.ue ∷ []) passes.mid = at_ue old passes.mid event nodes tt passes.hears.comes are in
+    let later : Leads passes.mid (after nodes (EventAtUe event passes.mid.ue)) (EventAtUe UeTicks new.ue ∷ []) new = at_ue passes.mid new UeTicks (after nodes (EventAtUe event passes.mid.ue)) tt passes.ticks.0 first.are in
     leads_on old passes.mid new nodes (EventAtUe event passes.mid.ue ∷ []) (EventAtUe UeTicks new.ue ∷ []) first later
 stage_leads (RadioUp leg) old new lines nodes passes are = at_none old new nodes (ap (λ (s : SoftState). s.ue) passes.is) (ap (λ (s : SoftState). s.rnc) passes.is) are
 stage_leads (IubUp set leg) old new lines nodes passes are =

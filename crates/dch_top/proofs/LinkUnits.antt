@@ -1,7 +1,8 @@
 -- A run of `link` that went well carries the units of the bearers.
-use Rattle.std.proofs.Common.{◌≡◌, ◌%◌, ◌*◌, ℕ, List, Bool, arith, refl, sym, subst, ⊎_elim}
+use Rattle.std.proofs.Common.{◌≡◌, ◌%◌, ◌*◌, ℕ, List, Bool, Option, arith, refl, sym, subst, ⊎_elim}
 use Rattle.dch_io.specs.Ends.{End}
-use Rattle.dch_accept.specs.Plans.{Planned}
+use Rattle.dch_check.specs.declared.both.Configurations.{Configurations}
+use Rattle.dch_check.specs.declared.both.Second.{Second}
 use Rattle.dch_script.specs.Lines.{lines_of}
 use Rattle.dch_check.specs.ConfigSection.{script_of}
 use Rattle.dch_lines.specs.LineTexts.{HandlesLines}
@@ -15,12 +16,13 @@ use Rattle.dch_words.specs.declared.arguments.Subcommand.TheVariants.{Link}
 use Rattle.dch_runlaw.proofs.Headline.{carried}
 use Rattle.dch_top.specs.Benches.{Nodes}
 use Rattle.dch_top.specs.Configured.{EndsLate, FollowsScript, outcome_status}
-use Rattle.dch_top.specs.LinkRuns.{RunsLink}
+use Rattle.dch_top.specs.LinkRuns.{RunsLink, run_of}
 use Rattle.dch_top.specs.LinkUnits.{CarriesUnits}
+use Rattle.dch_top.specs.NodeRuns.{later_of}
 use Rattle.dch_top.specs.Ran.{Runs}
 use Rattle.dch_top.specs.declared.command.Status.{Status}
 use Rattle.dch_top.specs.declared.command.Status.TheVariants.{Ok as Well}
-use Rattle.dch_top.specs.declared.front.FrontKind.TheVariants.{Whole}
+use Rattle.dch_top.specs.declared.front.FrontKind.TheVariants.{Both}
 
 pub only_well : (outcome : Outcome) → Well ≡ outcome_status outcome → outcome ≡ Done
 only_well Done same = refl
@@ -33,13 +35,13 @@ only_well TookTooMuch same = cc
 link_carries : (start : ℕ) (quiet : Bool) (source sink : End) (nodes : Nodes) → RunsLink start quiet source sink nodes Well → CarriesUnits start quiet source sink
 link_carries start quiet source sink nodes runs = ⊎_elim (λ early. absurd early) (λ late. well late.0 late.1.0) runs.runs.answers
   where
-    opened : Planned → Run
-    opened accepted = opened_run accepted (8 * start) quiet
+    opened : Configurations → Run
+    opened accepted = run_of start quiet accepted
 
-    well : (after : Run) → EndsLate Whole link_lines opened source sink runs.runs.taken runs.runs.written after Well → CarriesUnits start quiet source sink
+    well : (after : Run) → EndsLate Both link_lines opened source sink runs.runs.taken runs.runs.written after Well → CarriesUnits start quiet source sink
     well after late =
         let done : late.outcome ≡ Done = only_well late.outcome late.same in
-        let follows : FollowsScript Whole link_lines opened source sink runs.runs.taken runs.runs.written after Done = subst (FollowsScript Whole link_lines opened source sink runs.runs.taken runs.runs.written after) done late.follows in
+        let follows : FollowsScript Both link_lines opened source sink runs.runs.taken runs.runs.written after Done = subst (FollowsScript Both link_lines opened source sink runs.runs.taken runs.runs.written after) done late.follows in
         let handles : HandlesLines link_lines (opened follows.accepted) (lines_of (script_of runs.runs.taken)) after follows.answers.text =
         subst (λ (bytes : List ℕ). HandlesLines link_lines (opened follows.accepted) (lines_of bytes) after follows.answers.text) (sym follows.script) follows.answers.handles in
         let begins : (8 * start) % 8 ≡ 0 = omega arith in
@@ -53,7 +55,8 @@ link_carries start quiet source sink nodes runs = ⊎_elim (λ early. absurd ear
           text = follows.answers.text;
           frames = after.frames;
           all = follows.answers.all;
-          carries = carried follows.accepted (8 * start) quiet (lines_of (script_of runs.runs.taken)) after follows.answers.text follows.is.plans begins handles;
+          carries = λ none. carried follows.accepted.first (8 * start) quiet (lines_of (script_of runs.runs.taken)) after follows.answers.text follows.is.plans begins
+              (subst (λ (s : Option Second). HandlesLines link_lines (opened_run follows.accepted.first (later_of s) (8 * start) quiet) (lines_of (script_of runs.runs.taken)) after follows.answers.text) none handles);
         }
 
 -- what a run of the words for it does

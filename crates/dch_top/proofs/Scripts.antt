@@ -6,7 +6,7 @@ use Rattle.std.proofs.KnownBytes.{Appends-nil, Consumes-trans}
 use Rattle.std.proofs.lemmas.Bool.{false≢true}
 use Rattle.std.proofs.lemmas.List.{length-drop, length-take-le, nil_from_length}
 use Rattle.dch_io.specs.Ends.{End, Fails, span}
-use Rattle.dch_accept.specs.Plans.{Planned}
+use Rattle.dch_check.specs.declared.both.Configurations.{Configurations}
 use Rattle.dch_script.specs.Lines.{lines_of}
 use Rattle.dch_script.specs.declared.event.LineError.{LineError}
 use Rattle.dch_check.specs.ConfigSection.{configuration_of, is_complete, script_of, settled}
@@ -22,7 +22,7 @@ use Rattle.dch_lines.specs.Semantics.{Semantics}
 use Rattle.dch_lines.specs.declared.stop.Outcome.{Outcome}
 use Rattle.dch_lines.specs.declared.stop.Outcome.TheVariants.{Ok as Done, Refused as MetMalformed, ReadFault as FailedReading, WriteFault as FailedWriting, NoMemory as Lacking, TooLong as TookTooMuch}
 use Rattle.dch_top.specs.Checked.{fault_status}
-use Rattle.dch_top.specs.Configured.{FollowsBehind, FollowsRest, FollowsScript, IsConfigured, IsPlannedAs, RunsConfigured, EndsUnopened, StopsBehind, opened_begin, outcome_status, script_begin}
+use Rattle.dch_top.specs.Configured.{FollowsBehind, FollowsRest, FollowsScript, IsConfigured, ArePlannedAs, RunsConfigured, EndsUnopened, StopsBehind, opened_begin, outcome_status, script_begin}
 use Rattle.dch_top.specs.Untouched.{IsUntouched}
 use Rattle.dch_top.specs.declared.command.Status.{Status}
 use Rattle.dch_top.specs.declared.command.Status.TheVariants.{Ok as Well, NoMemory}
@@ -121,7 +121,7 @@ pending_length : (room : List ℕ) (from to : ℕ) → from ≤ to → to ≤ le
 pending_length room from to ordered inside = length-take-le (to - from) (drop from room) (omega (arith, length-drop from room, ordered, inside))
 
 -- the line `---` came, and the lines behind it were followed
-follows_whole : {S : Type 0} {kind : FrontKind} (semantics : Semantics S) (opened : Planned → S) (a b c k l : Option (List ℕ)) (f g h i j : ℕ) (room : List ℕ) (front : TakenConfig) (accepted : Planned) (after : S) (outcome : Outcome) → (is : IsTakenConfig (span a b f g) room front) → IsPlannedAs kind (settled front.section) accepted
+follows_whole : {S : Type 0} {kind : FrontKind} (semantics : Semantics S) (opened : Configurations → S) (a b c k l : Option (List ℕ)) (f g h i j : ℕ) (room : List ℕ) (front : TakenConfig) (accepted : Configurations) (after : S) (outcome : Outcome) → (is : IsTakenConfig (span a b f g) room front) → ArePlannedAs kind (settled front.section) accepted
     → (whole : IsComplete front room is.taken) → (run : FollowsInput semantics (span b c g h) (span k l i j) (opened_begin front (opened accepted)) after (slice_range room front.pending.from front.pending.to) outcome)
     → FollowsScript kind semantics opened (span a c f h) (span k l i j) (is.taken ++ run.taken) run.written after outcome
 follows_whole {S} {kind} semantics opened a b c k l f g h i j room front accepted after outcome is good whole run =
@@ -136,7 +136,7 @@ follows_whole {S} {kind} semantics opened a b c k l f g h i j room front accepte
     record {
       ended = inl (complete_more is.taken run.taken whole.done);
       accepted = accepted;
-      is = subst (λ t. IsPlannedAs kind t accepted) (is.text ∙ sym more) good;
+      is = subst (λ t. ArePlannedAs kind t accepted) (is.text ∙ sym more) good;
       part = part;
       later = run.taken;
       script = script ∙ ap (λ p. p ++ run.taken) (sym whole.behind);
@@ -150,7 +150,7 @@ none_taken None taken takes = absurd takes
 none_taken (Some rest) taken takes = nil_from_length taken (omega (arith, ap length takes, length-append taken rest))
 
 -- the input ended with the configuration, and no line follows
-follows_last : {S : Type 0} {kind : FrontKind} (semantics : Semantics S) (opened : Planned → S) (a b k l now : Option (List ℕ)) (f g i j : ℕ) (room : List ℕ) (front : TakenConfig) (accepted : Planned) (after : S) (outcome : Outcome) → (is : IsTakenConfig (span a b f g) room front) → IsPlannedAs kind (settled front.section) accepted
+follows_last : {S : Type 0} {kind : FrontKind} (semantics : Semantics S) (opened : Configurations → S) (a b k l now : Option (List ℕ)) (f g i j : ℕ) (room : List ℕ) (front : TakenConfig) (accepted : Configurations) (after : S) (outcome : Outcome) → (is : IsTakenConfig (span a b f g) room front) → ArePlannedAs kind (settled front.section) accepted
     → IsEnded front (span a b f g) is.taken → (run : FollowsInput semantics (span (Some []) now 0 0) (span k l i j) (opened_begin front (opened accepted)) after (slice_range room front.pending.from front.pending.to) outcome)
     → FollowsScript kind semantics opened (span a b f g) (span k l i j) is.taken run.written after outcome
 follows_last {S} {kind} semantics opened a b k l now f g i j room front accepted after outcome is good ended run =
@@ -163,7 +163,7 @@ follows_last {S} {kind} semantics opened a b k l now f g i j room front accepted
     record {
       ended = inr ended.end;
       accepted = accepted;
-      is = subst (λ t. IsPlannedAs kind t accepted) is.text good;
+      is = subst (λ t. ArePlannedAs kind t accepted) is.text good;
       part = part;
       later = run.taken;
       script = none ∙ sym (ap (λ p. p ++ run.taken) empty ∙ none_taken now run.taken run.takes);
@@ -181,7 +181,7 @@ of_true A B true is x = x
 of_true A B false is x = absurd (false≢true is)
 
 -- a run with an accepted configuration
-pub runs_opened : {S : Type 0} {kind : FrontKind} (semantics : Semantics S) (opened : Planned → S) (Holds : S → Type 0) (a b c k l : Option (List ℕ)) (f g h i j : ℕ) (room : List ℕ) (front : TakenConfig) (accepted : Planned) (after : S) (outcome : Outcome) → IsTakenConfig (span a b f g) room front → IsPlannedAs kind (settled front.section) accepted
+pub runs_opened : {S : Type 0} {kind : FrontKind} (semantics : Semantics S) (opened : Configurations → S) (Holds : S → Type 0) (a b c k l : Option (List ℕ)) (f g h i j : ℕ) (room : List ℕ) (front : TakenConfig) (accepted : Configurations) (after : S) (outcome : Outcome) → IsTakenConfig (span a b f g) room front → ArePlannedAs kind (settled front.section) accepted
     → FollowsBehind semantics (span b c g h) (span k l i j) front (opened accepted) after (slice_range room front.pending.from front.pending.to) outcome → outcome ≢ Lacking → Holds after → RunsConfigured kind semantics opened Holds (span a c f h) (span k l i j) (outcome_status outcome)
 runs_opened {S} {kind} semantics opened Holds a b c k l f g h i j room front accepted after outcome is good follows enough holds = by front.pending.at_end refl
   where
@@ -208,14 +208,14 @@ runs_opened {S} {kind} semantics opened Holds a b c k l f g h i j room front acc
         })
 
 -- a run that ended before the line `open`
-pub runs_unopened : {S : Type 0} {kind : FrontKind} (semantics : Semantics S) (opened : Planned → S) (Holds : S → Type 0) (source sink : End) (status : Status) → EndsUnopened kind source sink status → RunsConfigured kind semantics opened Holds source sink status
+pub runs_unopened : {S : Type 0} {kind : FrontKind} (semantics : Semantics S) (opened : Configurations → S) (Holds : S → Type 0) (source sink : End) (status : Status) → EndsUnopened kind source sink status → RunsConfigured kind semantics opened Holds source sink status
 runs_unopened semantics opened Holds source sink status not = record { taken = not.taken; written = not.written; takes = not.takes; writes = not.writes; answers = inl not.answers }
 
 pub not_well : {kind : FrontKind} (source sink : End) (status : Status) → EndsUnopened kind source sink status → status ≢ Well
 not_well source sink status not same = rw same at not.answers
 
 -- another thing holds of the command's state afterwards
-pub runs_with : {S : Type 0} {kind : FrontKind} (semantics : Semantics S) (opened : Planned → S) (Holds Then : S → Type 0) (source sink : End) (status : Status) → ((after : S) → Holds after → Then after) → RunsConfigured kind semantics opened Holds source sink status → RunsConfigured kind semantics opened Then source sink status
+pub runs_with : {S : Type 0} {kind : FrontKind} (semantics : Semantics S) (opened : Configurations → S) (Holds Then : S → Type 0) (source sink : End) (status : Status) → ((after : S) → Holds after → Then after) → RunsConfigured kind semantics opened Holds source sink status → RunsConfigured kind semantics opened Then source sink status
 runs_with semantics opened Holds Then source sink status on runs = record {
   taken = runs.taken;
   written = runs.written;
@@ -244,7 +244,7 @@ ill_status Lacking ill well = cc
 ill_status TookTooMuch ill well = cc
 
 -- the lines behind an accepted configuration ended the run, and not well
-pub runs_ill : {S : Type 0} {kind : FrontKind} (semantics : Semantics S) (opened : Planned → S) (a b c k l : Option (List ℕ)) (f g h i j : ℕ) (room : List ℕ) (front : TakenConfig) (accepted : Planned) (status : Status) → IsTakenConfig (span a b f g) room front → IsPlannedAs kind (settled front.section) accepted
+pub runs_ill : {S : Type 0} {kind : FrontKind} (semantics : Semantics S) (opened : Configurations → S) (a b c k l : Option (List ℕ)) (f g h i j : ℕ) (room : List ℕ) (front : TakenConfig) (accepted : Configurations) (status : Status) → IsTakenConfig (span a b f g) room front → ArePlannedAs kind (settled front.section) accepted
     → ((status ≡ NoMemory) × IsUntouched (span b c g h) (span k l i j)) ⊎ StopsBehind semantics (span b c g h) (span k l i j) front (opened accepted) (slice_range room front.pending.from front.pending.to) status
     → RunsConfigured kind semantics opened (λ after. Unit {0}) (span a c f h) (span k l i j) status × (status ≢ Well)
 runs_ill {S} {kind} semantics opened a b c k l f g h i j room front accepted status is good stops = ⊎_elim none some stops
@@ -262,13 +262,13 @@ sink_from : (P : End → Type 0) (k m l : Option (List ℕ)) (i n j : ℕ) → m
 sink_from P k m l i n j unwritten faultless holds = rw (← unwritten, ← faultless) holds
 
 -- a run whose configuration was taken, and whose lines were followed
-pub runs_configured : {S : Type 0} {kind : FrontKind} (semantics : Semantics S) (opened : Planned → S) (Holds : S → Type 0) (a b c k m l : Option (List ℕ)) (f g h i n j : ℕ) (room : List ℕ) (front : TakenConfig) (accepted : Planned) (after : S) (outcome : Outcome) → IsConfigured kind (span a b f g) (span k m i n) room front accepted
+pub runs_configured : {S : Type 0} {kind : FrontKind} (semantics : Semantics S) (opened : Configurations → S) (Holds : S → Type 0) (a b c k m l : Option (List ℕ)) (f g h i n j : ℕ) (room : List ℕ) (front : TakenConfig) (accepted : Configurations) (after : S) (outcome : Outcome) → IsConfigured kind (span a b f g) (span k m i n) room front accepted
     → FollowsBehind semantics (span b c g h) (span m l n j) front (opened accepted) after (slice_range room front.pending.from front.pending.to) outcome → outcome ≢ Lacking → Holds after → RunsConfigured kind semantics opened Holds (span a c f h) (span k l i j) (outcome_status outcome)
 runs_configured {S} {kind} semantics opened Holds a b c k m l f g h i n j room front accepted after outcome is follows enough holds =
     sink_from (λ sink. RunsConfigured kind semantics opened Holds (span a c f h) sink (outcome_status outcome)) k m l i n j is.unwritten is.faultless
     (runs_opened semantics opened Holds a b c m l f g h n j room front accepted after outcome is.whole is.is follows enough holds)
 
-pub stops_configured : {S : Type 0} {kind : FrontKind} (semantics : Semantics S) (opened : Planned → S) (a b c k m l : Option (List ℕ)) (f g h i n j : ℕ) (room : List ℕ) (front : TakenConfig) (accepted : Planned) (status : Status) → IsConfigured kind (span a b f g) (span k m i n) room front accepted
+pub stops_configured : {S : Type 0} {kind : FrontKind} (semantics : Semantics S) (opened : Configurations → S) (a b c k m l : Option (List ℕ)) (f g h i n j : ℕ) (room : List ℕ) (front : TakenConfig) (accepted : Configurations) (status : Status) → IsConfigured kind (span a b f g) (span k m i n) room front accepted
     → ((status ≡ NoMemory) × IsUntouched (span b c g h) (span m l n j)) ⊎ StopsBehind semantics (span b c g h) (span m l n j) front (opened accepted) (slice_range room front.pending.from front.pending.to) status
     → RunsConfigured kind semantics opened (λ after. Unit {0}) (span a c f h) (span k l i j) status × (status ≢ Well)
 stops_configured {S} {kind} semantics opened a b c k m l f g h i n j room front accepted status is stops =

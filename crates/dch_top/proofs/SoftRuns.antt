@@ -2,7 +2,7 @@
 use Rattle.std.proofs.Common.{◌≡◌, ◌∙◌, ◌*◌, ◌++◌, ℕ, List, Bool, Some, length, ap, refl, subst, ⊎_elim, inr}
 use Rattle.std.proofs.lemmas.List.{length-map}
 use Rattle.dch_io.specs.Ends.{End}
-use Rattle.dch_accept.specs.Plans.{Planned}
+use Rattle.dch_check.specs.declared.both.Configurations.{Configurations}
 use Rattle.dch_script.specs.Lines.{lines_of}
 use Rattle.dch_lines.specs.declared.stop.Outcome.TheVariants.{Ok as Done}
 use Rattle.dch_rnc.specs.Values.{Node as Rnc}
@@ -19,9 +19,9 @@ use Rattle.dch_top.proofs.LinkUnits.{only_well}
 use Rattle.dch_top.proofs.SoftStays.{soft_lines_stay}
 
 -- there are as many legs afterwards as at opening
-count_stays : (count start : ℕ) (quiet : Bool) (source sink : End) (taken written : List ℕ) (after : Run) → EndsLate Single soft_lines (λ accepted. opened_run accepted (8 * start) count quiet) source sink taken written after Well → after.soft.count ≡ count
+count_stays : (count start : ℕ) (quiet : Bool) (source sink : End) (taken written : List ℕ) (after : Run) → EndsLate Single soft_lines (λ accepted. opened_run accepted.first (8 * start) count quiet) source sink taken written after Well → after.soft.count ≡ count
 count_stays count start quiet source sink taken written after late =
-    let opened : Planned → Run = λ accepted. opened_run accepted (8 * start) count quiet in
+    let opened : Configurations → Run = λ accepted. opened_run accepted.first (8 * start) count quiet in
     let done = only_well late.outcome late.same in
     let follows : FollowsScript Single soft_lines opened source sink taken written after Done = subst (FollowsScript Single soft_lines opened source sink taken written after) done late.follows in
     (soft_lines_stay (opened follows.accepted) after (lines_of (follows.part ++ follows.later)) follows.answers.text follows.answers.handles).count

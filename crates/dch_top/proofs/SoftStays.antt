@@ -1,12 +1,13 @@
 -- The configuration and the count of the legs stay over the lines of `soft`.
-use Rattle.std.proofs.Common.{◌≡◌, ◌∙◌, ℕ, zero, suc, List, [], ◌∷◌, Bool, true, false, refl, ap, ⊎_elim}
+use Rattle.std.proofs.Common.{◌≡◌, ◌≢◌, ◌∙◌, ℕ, zero, suc, List, [], ◌∷◌, Bool, true, false, refl, ap, ⊎_elim}
 use Rattle.std.specs.Prelude.{Option, Some, None}
+use Rattle.dch_accept.specs.Plans.{Planned}
 use Rattle.dch_lines.specs.LineTexts.{HandlesLine, HandlesLines, is_empty}
 use Rattle.dch_lines.specs.Semantics.{LineSteps, Resumes}
 use Rattle.dch_node.specs.Lines.{Line}
 use Rattle.dch_types.specs.declared.channel.Dir.TheVariants.{Up, Down}
 use Rattle.dch_ue.specs.State.{Event as UeEvent}
-use Rattle.dch_rnc.specs.State.{BlockedCombination, Event as RncEvent, IubFrame, OfferedUnit, Tick}
+use Rattle.dch_rnc.specs.State.{BlockedCombination, Change, Event as RncEvent, IubFrame, OfferedUnit, Tick}
 use Rattle.dch_rnccmd.specs.Lasting.{rnc_lasting}
 use Rattle.dch_soft.specs.Events.{BlockedCombination as Blocks, Damages, Event, Happens, OfferedUnit as Offers}
 use Rattle.dch_soft.specs.Legs.{LegState, iub_from}
@@ -36,10 +37,11 @@ alike_same old new is = record { count = ap (λ (s : SoftState). s.count) is; ac
 ue_goes : (old new : SoftState) (event : UeEvent) → UeGoes old event new → IsAlike old new
 ue_goes old new event goes = record { count = ap (λ (s : SoftState). s.count) goes.is; active = ap active goes.is }
 
-rnc_goes : (old new : SoftState) (event : RncEvent) → RncGoes old event new → IsAlike old new
-rnc_goes old new event goes = record {
+-- over an event of the network controller that is no change of its configuration
+rnc_goes : (old new : SoftState) (event : RncEvent) → ((planned : Planned) → event ≢ Change planned) → RncGoes old event new → IsAlike old new
+rnc_goes old new event plain goes = record {
   count = ap (λ (s : SoftState). s.count) goes.is;
-  active = ap active goes.is ∙ ap (λ course. course.state.planned) goes.goes.is ∙ rnc_lasting.stays old.rnc.state goes.goes.state event goes.goes.output goes.goes.step;
+  active = ap active goes.is ∙ ap (λ course. course.state.planned) goes.goes.is ∙ rnc_lasting.stays old.rnc.state goes.goes.state event goes.goes.output plain goes.goes.step;
 }
 
 at_leg : (k : ℕ) (Does : LegState → LegState → List Line → Type 0) (old new : SoftState) (lines : List Line) → AtLeg k Does old new lines → IsAlike old new
@@ -51,7 +53,7 @@ may_take cfn set leg (Some octets) old new lines takes =
     ⊎_elim (λ taken. record { count = ap (λ (s : SoftState). s.count) taken.is; active = ap active taken.is }) (λ refused. alike_same old new refused.same) takes
 
 gives_frame : (cfn set : ℕ) (old new : SoftState) (lines : List Line) → GivesFrame cfn set old new lines → IsAlike old new
-gives_frame cfn set old new lines gives = ⊎_elim (λ none. alike_same old new none.stays.0) (λ combined. of_given (rnc_goes (given old set) new (IubFrame set combined.octets) combined.comes)) gives
+gives_frame cfn set old new lines gives = ⊎_elim (λ none. alike_same old new none.stays.0) (λ combined. of_given (rnc_goes (given old set) new (IubFrame set combined.octets) (λ planned same. cc) combined.comes)) gives
   where
     of_given : IsAlike (given old set) new → IsAlike old new
     of_given alike = record { count = alike.count; active = alike.active }
@@ -61,7 +63,7 @@ where_over None Does old new lines alike stays = alike_same old new stays.0
 where_over (Some c) Does old new lines alike does = alike c does
 
 stage_stays : (stage : Stage) (old new : SoftState) (lines : List Line) → AtStage stage old new lines → IsAlike old new
-stage_stays RncTick old new lines passes = rnc_goes old new Tick passes.0
+stage_stays RncTick old new lines passes = rnc_goes old new Tick (λ planned same. cc) passes.0
 stage_stays (IubDown leg set) old new lines passes = at_leg leg _ old new lines passes
 stage_stays (RadioDown leg) old new lines passes = at_leg leg _ old new lines passes
 stage_stays UeTick old new lines passes = alike_on old passes.mid new (ue_goes old passes.mid _ passes.hears.comes) (ue_goes passes.mid new _ passes.ticks.0)
@@ -72,9 +74,9 @@ stage_stays (Combine set) old new lines passes = where_over (over (uplink_of old
 
 event_stays : (old new : SoftState) (event : Event) (lines : List Line) → Happens old event new lines → IsAlike old new
 event_stays old new (Offers Up b octets bits) lines happens = ue_goes old new _ happens.0
-event_stays old new (Offers Down b octets bits) lines happens = rnc_goes old new (OfferedUnit b octets bits) happens.0
+event_stays old new (Offers Down b octets bits) lines happens = rnc_goes old new (OfferedUnit b octets bits) (λ planned same. cc) happens.0
 event_stays old new (Blocks Up c on) lines happens = ue_goes old new _ happens.0
-event_stays old new (Blocks Down c on) lines happens = rnc_goes old new (BlockedCombination c on) happens.0
+event_stays old new (Blocks Down c on) lines happens = rnc_goes old new (BlockedCombination c on) (λ planned same. cc) happens.0
 event_stays old new (Damages leg damage) lines happens = record { count = ap (λ (s : SoftState). s.count) happens.0; active = ap active happens.0 }
 
 -- over a stage of a run

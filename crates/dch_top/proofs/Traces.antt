@@ -1,8 +1,8 @@
 -- A run of a command with one node, and its lines without one that leaves no trace.
-use Rattle.std.proofs.Common.{◌≡◌, ◌∙◌, ◌*◌, ◌++◌, ℕ, List, [], ◌∷◌, Bool, ap, sym, subst, append_assoc, ⊎_elim}
+use Rattle.std.proofs.Common.{◌≡◌, ◌∙◌, ◌++◌, ℕ, List, [], ◌∷◌, Bool, ap, sym, subst, append_assoc, ⊎_elim}
 use Rattle.std.specs.Prelude.{codes}
 use Rattle.dch_io.specs.Ends.{End}
-use Rattle.dch_accept.specs.Plans.{Planned}
+use Rattle.dch_check.specs.declared.both.Configurations.{Configurations}
 use Rattle.dch_script.specs.Lines.{lines_of, rest_of}
 use Rattle.dch_lines.specs.LineTexts.{HandlesLines}
 use Rattle.dch_lines.specs.declared.stop.Outcome.TheVariants.{Ok as Done}
@@ -10,13 +10,13 @@ use Rattle.dch_node.specs.Lines.{Line, text_of}
 use Rattle.dch_nodecmd.specs.NodeRules.{NodeRules}
 use Rattle.dch_nodecmd.specs.NoTrace.{LeavesNoTrace as LinesLeaveNone}
 use Rattle.dch_nodecmd.specs.Rules.{closing, node_lines}
-use Rattle.dch_nodecmd.specs.Run.{Run, frames_in, opened_run}
+use Rattle.dch_nodecmd.specs.Run.{Run, frames_in}
 use Rattle.dch_nodecmd.specs.Shown.{shown}
 use Rattle.dch_top.specs.Benches.{Nodes}
-use Rattle.dch_top.specs.Configured.{EndsLate, FollowsScript, IsPlannedAs}
-use Rattle.dch_top.specs.NodeRuns.{RunsNode}
+use Rattle.dch_top.specs.Configured.{EndsLate, FollowsScript, ArePlannedAs}
+use Rattle.dch_top.specs.NodeRuns.{RunsNode, run_of}
 use Rattle.dch_top.specs.declared.command.Status.TheVariants.{Ok as Well}
-use Rattle.dch_top.specs.declared.front.FrontKind.TheVariants.{Whole}
+use Rattle.dch_top.specs.declared.front.FrontKind.TheVariants.{Both}
 use Rattle.dch_top.proofs.LinkUnits.{only_well}
 use Rattle.dch_top.specs.Traces.{Answers, HasLine, IsAnswer, LeavesNoTrace}
 
@@ -24,13 +24,13 @@ use Rattle.dch_top.specs.Traces.{Answers, HasLine, IsAnswer, LeavesNoTrace}
 pub answered : {S E : Type 0} (rules : NodeRules S E) (Holds : Nodes → Run S E → Type 0) (start : ℕ) (quiet : Bool) (source sink : End) (nodes : Nodes) → RunsNode rules Holds start quiet source sink nodes Well → Answers rules start quiet source sink
 answered {S} {E} rules Holds start quiet source sink nodes runs = ⊎_elim (λ early. absurd early) (λ late. well late.0 late.1.0) runs.runs.answers
   where
-    opened : Planned → Run S E
-    opened accepted = opened_run rules accepted (8 * start) quiet
+    opened : Configurations → Run S E
+    opened accepted = run_of rules start quiet accepted
 
-    well : (after : Run S E) → EndsLate Whole (node_lines rules) opened source sink runs.runs.taken runs.runs.written after Well → Answers rules start quiet source sink
+    well : (after : Run S E) → EndsLate Both (node_lines rules) opened source sink runs.runs.taken runs.runs.written after Well → Answers rules start quiet source sink
     well after late =
         let done : late.outcome ≡ Done = only_well late.outcome late.same in
-        let follows : FollowsScript Whole (node_lines rules) opened source sink runs.runs.taken runs.runs.written after Done = subst (FollowsScript Whole (node_lines rules) opened source sink runs.runs.taken runs.runs.written after) done late.follows in
+        let follows : FollowsScript Both (node_lines rules) opened source sink runs.runs.taken runs.runs.written after Done = subst (FollowsScript Both (node_lines rules) opened source sink runs.runs.taken runs.runs.written after) done late.follows in
         record {
           taken = runs.runs.taken;
           written = runs.runs.written;
@@ -50,11 +50,11 @@ answered {S} {E} rules Holds start quiet source sink nodes runs = ⊎_elim (λ e
 -- lines that leave no trace leave none in the answer
 pub traceless : {S E : Type 0} (rules : NodeRules S E) (start : ℕ) (quiet : Bool) (input shorter written : List ℕ) (before after : List (List ℕ)) (line : List ℕ) (lines : List Line) (answer : IsAnswer rules start quiet input written)
     → HasLine before line after input shorter
-    → (HandlesLines (node_lines rules) (opened_run rules answer.accepted (8 * start) quiet) (before ++ line ∷ after) answer.new answer.text
-    → LinesLeaveNone rules (opened_run rules answer.accepted (8 * start) quiet) answer.new before after lines answer.text)
+    → (HandlesLines (node_lines rules) (run_of rules start quiet answer.accepted) (before ++ line ∷ after) answer.new answer.text
+    → LinesLeaveNone rules (run_of rules start quiet answer.accepted) answer.new before after lines answer.text)
     → LeavesNoTrace rules start quiet shorter lines written
 traceless {S} {E} rules start quiet input shorter written before after line lines answer has leaves =
-    let run : Run S E = opened_run rules answer.accepted (8 * start) quiet in
+    let run : Run S E = run_of rules start quiet answer.accepted in
     let none = leaves (subst (λ (l : List (List ℕ)). HandlesLines (node_lines rules) run l answer.new answer.text) has.lines answer.handles) in
     let own : List ℕ = shown quiet (text_of lines) in
     let last : List ℕ = closing (frames_in rules answer.new.events) in
@@ -67,7 +67,7 @@ traceless {S} {E} rules start quiet input shorter written before after line line
       whole = answer.all ∙ ap (λ (l : List ℕ). codes "open\n" ++ l ++ last) whole ∙ joined (codes "open\n") none.front own none.back last;
       without = record {
         accepted = answer.accepted;
-        is = subst (λ (text : List ℕ). IsPlannedAs Whole text answer.accepted) (sym has.same) answer.is;
+        is = subst (λ (text : List ℕ). ArePlannedAs Both text answer.accepted) (sym has.same) answer.is;
         ended = has.ended;
         new = none.other;
         text = none.front ++ none.back;

@@ -1,12 +1,13 @@
 -- What a command with a configuration in front of its lines answers, by the bytes that it took and wrote.
-use Rattle.std.specs.Prelude.{◌≡◌, ◌≢◌, ◌<◌, ◌≤◌, ◌⊎◌, ◌+◌, ◌-◌, ℕ, List, [], ◌++◌, Bool, false, MatchBool, length, take, Option, Some, Result, Ok, Err, codes, if◌then◌else◌}
+use Rattle.std.specs.Prelude.{◌≡◌, ◌≢◌, ◌<◌, ◌≤◌, ◌⊎◌, ◌+◌, ◌-◌, ℕ, List, [], ◌++◌, Bool, false, MatchBool, length, take, Option, Some, IfSome, Result, Ok, Err, codes, if◌then◌else◌}
 use Rattle.std.specs.Io.KnownBytes.{Consumes, Appends}
 use Rattle.dch_io.specs.Ends.{End, Fails, IsCutShort, span}
 use Rattle.dch_io.specs.declared.feed.TheConstants.{LIMIT}
-use Rattle.dch_accept.specs.Plans.{IsPlanned, Planned}
+use Rattle.dch_accept.specs.Plans.{IsPlanned}
 use Rattle.dch_script.specs.Lines.{lines_of}
 use Rattle.dch_check.specs.ConfigSection.{configuration_of, is_complete, script_of, settled}
 use Rattle.dch_check.specs.TakenConfigs.{IsTakenConfig, lines_before}
+use Rattle.dch_check.specs.declared.both.Configurations.{Configurations}
 use Rattle.dch_check.specs.declared.taken_config.TakenConfig.{TakenConfig}
 use Rattle.dch_lines.specs.Followed.{AnswersTaken, FollowsInput}
 use Rattle.dch_lines.specs.Processor.{Progress}
@@ -59,16 +60,17 @@ script_begin taken state = record {
   nonempty_lines = 0;
 }
 
--- a text in front of lines is accepted, and this is the configuration with the plans of its rate matching
-pub record IsPlannedAs (kind : FrontKind) (text : List ℕ) (accepted : Planned) : Type 0 where
+-- a text in front of lines is accepted, and these are the configurations with the plans of their rate matching
+pub record ArePlannedAs (kind : FrontKind) (text : List ℕ) (accepted : Configurations) : Type 0 where
   pub judged : AdmitsFront kind text accepted
-  pub plans : IsPlanned accepted
+  pub plans : IsPlanned accepted.first
+  pub later : IfSome accepted.second (λ second. IsPlanned second.accepted)
 
--- the configuration is complete and accepted, and the lines behind it are followed from the state in which the command is opened for it
-pub record FollowsScript {S : Type 0} (kind : FrontKind) (semantics : Semantics S) (opened : Planned → S) (source sink : End) (taken written : List ℕ) (after : S) (outcome : Outcome) : Type 0 where
+-- what stands in front is complete and accepted, and the lines behind it are followed from the state in which the command is opened for it
+pub record FollowsScript {S : Type 0} (kind : FrontKind) (semantics : Semantics S) (opened : Configurations → S) (source sink : End) (taken written : List ℕ) (after : S) (outcome : Outcome) : Type 0 where
   pub ended : HasEnded source taken
-  pub accepted : Planned
-  pub is : IsPlannedAs kind (configuration_of taken) accepted
+  pub accepted : Configurations
+  pub is : ArePlannedAs kind (configuration_of taken) accepted
   pub part : List ℕ
   pub later : List ℕ
   pub script : script_of taken ≡ part ++ later
@@ -84,14 +86,14 @@ outcome_status Lacking = NoMemory
 outcome_status TookTooMuch = TooLong
 
 -- how a run ends with the line `open`; no line wants memory
-pub record EndsLate {S : Type 0} (kind : FrontKind) (semantics : Semantics S) (opened : Planned → S) (source sink : End) (taken written : List ℕ) (after : S) (status : Status) : Type 0 where
+pub record EndsLate {S : Type 0} (kind : FrontKind) (semantics : Semantics S) (opened : Configurations → S) (source sink : End) (taken written : List ℕ) (after : S) (status : Status) : Type 0 where
   pub outcome : Outcome
   pub follows : FollowsScript kind semantics opened source sink taken written after outcome
   pub same : status ≡ outcome_status outcome
   pub enough : outcome ≢ Lacking
 
 -- the source gave some bytes, and the sink took the answer to them; where the line `open` was written this holds of the command's state afterwards
-pub record RunsConfigured {S : Type 0} (kind : FrontKind) (semantics : Semantics S) (opened : Planned → S) (Holds : S → Type 0) (source sink : End) (status : Status) : Type 0 where
+pub record RunsConfigured {S : Type 0} (kind : FrontKind) (semantics : Semantics S) (opened : Configurations → S) (Holds : S → Type 0) (source sink : End) (status : Status) : Type 0 where
   pub taken : List ℕ
   pub written : List ℕ
   pub takes : Consumes source.before source.now taken
@@ -106,15 +108,15 @@ pub record EndsUnopened (kind : FrontKind) (source sink : End) (status : Status)
   pub writes : Appends sink.before sink.now written
   pub answers : EndsEarly kind source sink taken written status
 
--- the configuration was taken and accepted, and nothing is written
-pub record IsConfigured (kind : FrontKind) (source sink : End) (room : List ℕ) (front : TakenConfig) (accepted : Planned) : Type 0 where
+-- what stands in front was taken and accepted, and nothing is written
+pub record IsConfigured (kind : FrontKind) (source sink : End) (room : List ℕ) (front : TakenConfig) (accepted : Configurations) : Type 0 where
   pub whole : IsTakenConfig source room front
-  pub is : IsPlannedAs kind (settled front.section) accepted
+  pub is : ArePlannedAs kind (settled front.section) accepted
   pub unwritten : sink.now ≡ sink.before
   pub faultless : sink.faults_now ≡ sink.faults_before
 
 -- what taking a configuration does
-abbrev pub TakesConfiguration : FrontKind → End → End → List ℕ → Result (TakenConfig × Planned) Status → Type 0
+abbrev pub TakesConfiguration : FrontKind → End → End → List ℕ → Result (TakenConfig × Configurations) Status → Type 0
 TakesConfiguration kind source sink room (Ok taken) = IsConfigured kind source sink room taken.0 taken.1
 TakesConfiguration kind source sink room (Err status) = EndsUnopened kind source sink status
 

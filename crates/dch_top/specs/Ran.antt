@@ -3,7 +3,7 @@ use Rattle.std.specs.Prelude.{◌≡◌, ◌⊎◌, ℕ, List, [], All, IsOk, tr
 use Rattle.std.specs.declared.alloc.Global.{Global}
 use Rattle.std.specs.Io.KnownBytes.{Appends}
 use Rattle.dch_io.specs.Ends.{End, Fails, IsCutShort}
-use Rattle.dch_types.specs.declared.config.Config.{Config}
+use Rattle.dch_check.specs.declared.both.Configurations.{Configurations}
 use Rattle.dch_script.specs.Code.{meaning}
 use Rattle.dch_words.specs.Parses.{IsCommand, Parses}
 use Rattle.dch_words.specs.declared.arguments.Subcommand.{Subcommand}
@@ -22,7 +22,7 @@ use Rattle.dch_top.specs.EncodeText.{encoding}
 use Rattle.dch_top.specs.GenRuns.{RunsGen}
 use Rattle.dch_top.specs.LinkRuns.{AreLinkLines, RunsLink}
 use Rattle.dch_top.specs.NodeBRuns.{RunsNodeB}
-use Rattle.dch_top.specs.NodeRuns.{AreEvents}
+use Rattle.dch_top.specs.NodeRuns.{AreNodeLines}
 use Rattle.dch_top.specs.PairRuns.{RunsPair}
 use Rattle.dch_top.specs.RncRuns.{RunsRnc}
 use Rattle.dch_top.specs.SoftRuns.{AreSoftLines, RunsSoft}
@@ -31,7 +31,7 @@ use Rattle.dch_top.specs.Untouched.{IsUntouched}
 use Rattle.dch_top.specs.declared.command.Status.{Status}
 use Rattle.dch_top.specs.declared.command.Status.TheVariants.{Ok, Refused, Usage, ReadFault, WriteFault, NoMemory, TooLong}
 use Rattle.dch_top.specs.declared.front.FrontKind.{FrontKind}
-use Rattle.dch_top.specs.declared.front.FrontKind.TheVariants.{Whole, Single}
+use Rattle.dch_top.specs.declared.front.FrontKind.TheVariants.{Single, Both}
 
 -- the work of `encode` before its first line
 abbrev pub beginning : Progress (Unit {0})
@@ -100,13 +100,13 @@ AreGood lines = All (λ line. (is_empty line ≡ true) ⊎ IsOk (meaning line)) 
 -- what stands in front of the lines of a command
 abbrev pub front_kind : Subcommand → FrontKind
 front_kind Soft = Single
-front_kind _ = Whole
+front_kind _ = Both
 
--- each of the lines is empty or says something to the nodes of a command
-abbrev pub AreEventsFor : Subcommand → Arguments → Config → List (List ℕ) → Type 0
-AreEventsFor NodeB arguments config lines = AreEvents node_b_rules config lines
-AreEventsFor Rnc arguments config lines = AreEvents rnc_rules config lines
-AreEventsFor Ue arguments config lines = AreEvents ue_rules config lines
-AreEventsFor Link arguments config lines = AreLinkLines config lines
-AreEventsFor Soft arguments config lines = AreSoftLines arguments.count config lines
-AreEventsFor _ arguments config lines = ⊥
+-- each of the lines is empty or says something to the nodes of a command, where those before it lead
+abbrev pub AreEventsFor : Subcommand → Arguments → Configurations → List (List ℕ) → Type 0
+AreEventsFor NodeB arguments accepted lines = AreNodeLines node_b_rules accepted lines
+AreEventsFor Rnc arguments accepted lines = AreNodeLines rnc_rules accepted lines
+AreEventsFor Ue arguments accepted lines = AreNodeLines ue_rules accepted lines
+AreEventsFor Link arguments accepted lines = AreLinkLines accepted lines
+AreEventsFor Soft arguments accepted lines = AreSoftLines arguments.count accepted.first.config lines
+AreEventsFor _ arguments accepted lines = ⊥

@@ -22,7 +22,7 @@ use Rattle.dch_top.specs.declared.front.FrontKind.TheVariants.{Single}
 
 -- the lines behind the configuration, which stands alone, are those of nodes with so many legs that were opened for it
 abbrev pub RunsLines : ℕ → ℕ → Bool → (Run → Type 0) → End → End → Status → Type 0
-RunsLines legs start quiet Holds source sink status = RunsConfigured Single soft_lines (λ accepted. opened_run accepted (8 * start) legs quiet) Holds source sink status
+RunsLines legs start quiet Holds source sink status = RunsConfigured Single soft_lines (λ accepted. opened_run accepted.first (8 * start) legs quiet) Holds source sink status
 
 -- each of the nodes stands for just what happened at it in a run
 abbrev pub HaveRunHistories : Ue → List LegParts → Rnc → Run → Type 0
@@ -43,7 +43,7 @@ pub record HoldsSoft (count : ℕ) (nodes : Nodes) (run : Run) : Type 0 where
   pub histories : HaveRunHistories ue legs rnc run
 
 abbrev pub RunsSoft : ℕ → ℕ → Bool → End → End → Nodes → Status → Type 0
-RunsSoft legs start quiet source sink nodes status = RunsWith Single soft_lines (λ accepted. opened_run accepted (8 * start) legs quiet) (HoldsSoft legs) source sink nodes status
+RunsSoft legs start quiet source sink nodes status = RunsWith Single soft_lines (λ accepted. opened_run accepted.first (8 * start) legs quiet) (HoldsSoft legs) source sink nodes status
 
 -- each of the lines is empty or says something to the nodes where there are so many legs
 abbrev pub AreSoftLines : ℕ → Config → List (List ℕ) → Type 0

@@ -1,27 +1,28 @@
 -- What a command with one node writes for an input, with and without one of its lines.
-use Rattle.std.specs.Prelude.{◌≡◌, ◌*◌, ℕ, List, [], ◌∷◌, ◌++◌, Bool, codes}
+use Rattle.std.specs.Prelude.{◌≡◌, ℕ, List, [], ◌∷◌, ◌++◌, Bool, codes}
 use Rattle.std.specs.Io.KnownBytes.{Consumes, Appends}
 use Rattle.dch_io.specs.Ends.{End}
-use Rattle.dch_accept.specs.Plans.{Planned}
+use Rattle.dch_check.specs.declared.both.Configurations.{Configurations}
 use Rattle.dch_script.specs.Lines.{lines_of, rest_of}
 use Rattle.dch_check.specs.ConfigSection.{configuration_of, script_of}
 use Rattle.dch_lines.specs.LineTexts.{HandlesLines}
 use Rattle.dch_node.specs.Lines.{Line, text_of}
 use Rattle.dch_nodecmd.specs.NodeRules.{NodeRules}
 use Rattle.dch_nodecmd.specs.Rules.{closing, node_lines}
-use Rattle.dch_nodecmd.specs.Run.{Run, frames_in, opened_run}
+use Rattle.dch_nodecmd.specs.Run.{Run, frames_in}
 use Rattle.dch_nodecmd.specs.Shown.{shown}
-use Rattle.dch_top.specs.Configured.{IsPlannedAs}
-use Rattle.dch_top.specs.declared.front.FrontKind.TheVariants.{Whole}
+use Rattle.dch_top.specs.Configured.{ArePlannedAs}
+use Rattle.dch_top.specs.NodeRuns.{run_of}
+use Rattle.dch_top.specs.declared.front.FrontKind.TheVariants.{Both}
 
--- the answer to an input of good lines behind an accepted configuration, from the line `open` to the line that counts the radio frames
+-- the answer to an input of good lines behind accepted configurations, from the line `open` to the line that counts the radio frames
 pub record IsAnswer {S E : Type 0} (rules : NodeRules S E) (start : ℕ) (quiet : Bool) (input written : List ℕ) : Type 0 where
-  pub accepted : Planned
-  pub is : IsPlannedAs Whole (configuration_of input) accepted
+  pub accepted : Configurations
+  pub is : ArePlannedAs Both (configuration_of input) accepted
   pub ended : rest_of (script_of input) ≡ []
   pub new : Run S E
   pub text : List ℕ
-  pub handles : HandlesLines (node_lines rules) (opened_run rules accepted (8 * start) quiet) (lines_of (script_of input)) new text
+  pub handles : HandlesLines (node_lines rules) (run_of rules start quiet accepted) (lines_of (script_of input)) new text
   pub all : written ≡ codes "open\n" ++ text ++ closing (frames_in rules new.events)
 
 -- the source gave an input, and the sink took the answer to it
@@ -32,7 +33,7 @@ pub record Answers {S E : Type 0} (rules : NodeRules S E) (start : ℕ) (quiet :
   pub writes : Appends sink.before sink.now written
   pub answer : IsAnswer rules start quiet taken written
 
--- an input has a line between others, and another one has the same configuration and just the others
+-- an input has a line between others, and another one has the same configurations and just the others
 pub record HasLine (before : List (List ℕ)) (line : List ℕ) (after : List (List ℕ)) (input shorter : List ℕ) : Type 0 where
   pub lines : lines_of (script_of input) ≡ before ++ line ∷ after
   pub others : lines_of (script_of shorter) ≡ before ++ after

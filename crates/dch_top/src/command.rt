@@ -2,9 +2,9 @@ ghost use Rattle.std.specs.Prelude.{◌≡◌, ◌≤◌, ◌⊎◌, ℕ, List, 
 ghost use Rattle.dch_io.specs.Causes.{Rose};
 ghost use Rattle.dch_io.specs.Ends.{end_of};
 ghost use Rattle.dch_script.specs.Lines.{lines_of, rest_of};
-ghost use Rattle.dch_accept.specs.Plans.{Planned};
 ghost use Rattle.dch_check.specs.ConfigSection.{configuration_of, script_of};
 ghost use Rattle.dch_check.specs.Both.{AreAccepted, RefusesBoth};
+ghost use Rattle.dch_check.specs.declared.both.Configurations.{Configurations};
 ghost use Rattle.dch_words.specs.Parses.{AreLegs};
 ghost use Rattle.dch_words.specs.declared.arguments.Subcommand.TheVariants.{Check, Encode, Gen, Link, Pair, Soft};
 ghost use Rattle.dch_words.specs.declared.arguments.Arguments.{Arguments};
@@ -83,8 +83,8 @@ pub fn run<S: Source, K: Sink>(
     ensures write_fault { result ≡ Status.WriteFault → Rose (K.faults sink.old) (K.faults sink.new) }
     ensures usage { result ≡ Status.Usage → IsNoCommand words.now }
 
-    // A run of the three nodes that went well hands up the units of the bearers in order, as far as they came without a gap, whatever damage came
-    // between the nodes.
+    // A run of the three nodes under one configuration that went well hands up the units of the bearers in order, as far as they came without a
+    // gap, whatever damage came between the nodes.
     ensures headline { (arguments : Arguments) → Says words.now arguments → arguments.subcommand ≡ Link → result ≡ Status.Ok
         → CarriesUnits arguments.start arguments.quiet (end_of S.left S.faults source.old source.new) (end_of K.taken K.faults sink.old sink.new) }
 
@@ -94,8 +94,8 @@ pub fn run<S: Source, K: Sink>(
         → (result ≡ Status.Ok) ⊎ (result ≡ Status.NoMemory)) }
 
     // So are the lines of a command with nodes behind an accepted configuration.
-    ensures events { (arguments : Arguments) → Says words.now arguments → IfSome (S.left source.old) (λ input. (accepted : Planned) → AdmitsFront (front_kind arguments.subcommand) (configuration_of input) accepted
-        → AreEventsFor arguments.subcommand arguments accepted.config (lines_of (script_of input)) → rest_of (script_of input) ≡ [] → length input ≤ LIMIT
+    ensures events { (arguments : Arguments) → Says words.now arguments → IfSome (S.left source.old) (λ input. (accepted : Configurations) → AdmitsFront (front_kind arguments.subcommand) (configuration_of input) accepted
+        → AreEventsFor arguments.subcommand arguments accepted (lines_of (script_of input)) → rest_of (script_of input) ≡ [] → length input ≤ LIMIT
         → ¬ Rose (S.faults source.old) (S.faults source.new) → ¬ Rose (K.faults sink.old) (K.faults sink.new)
         → (result ≡ Status.Ok) ⊎ (result ≡ Status.NoMemory)) }
 

@@ -10,22 +10,21 @@ ghost use Rattle.dch_top.specs.Configured.{FollowsRest, FollowsTo, TakesConfigur
 use crate::check::status_of;
 use crate::command::Status;
 use crate::front::{FrontKind, judge_front};
-use dch_accept::Accepted;
 use dch_bits::NoMemory;
-use dch_check::{TakenConfig, Verdict, take_config};
+use dch_check::{Configurations, Judgement, TakenConfig, take_config};
 use dch_io::{CleanSource, Pending, Sink, Source, write_all};
 use dch_lines::{LineHandler, LineProcessor, Outcome, follow_input};
 use std::alloc::Global;
 
-/// Takes the configuration at the front of an input, and accepts it. Otherwise the line that refuses it is written. The kind tells what may
-/// stand there.
+/// Takes what stands in front of the lines of an input, one configuration or two, and accepts it. Otherwise the line that refuses it is
+/// written. The kind tells what may stand there.
 pub fn take_configuration<S: Source, K: Sink>(
     alloc: Global,
     source: &mut S,
     sink: &mut K,
     piece: &mut [u8],
     kind: FrontKind,
-) -> Result<(TakenConfig, Accepted), Status>
+) -> Result<(TakenConfig, Configurations), Status>
     requires { length piece.old ≡ PIECE }
     ensures { TakesConfiguration kind (end_of S.left S.faults source.old source.new) (end_of K.taken K.faults sink.old sink.new) piece.new result }
 {
@@ -34,8 +33,8 @@ pub fn take_configuration<S: Source, K: Sink>(
         Err(fault) => return Err(status_of(fault)),
     };
     match judge_front(alloc, front.section.text(), kind) {
-        Ok(Verdict::Accepted(accepted)) => Ok((front, accepted)),
-        Ok(Verdict::Refused(line)) => match write_all(sink, line.as_bytes()) {
+        Ok(Judgement::Accepted(accepted)) => Ok((front, accepted)),
+        Ok(Judgement::Refused(line)) => match write_all(sink, line.as_bytes()) {
             Ok(()) => Err(Status::Refused),
             Err(_failed) => Err(Status::WriteFault),
         },

@@ -8,6 +8,8 @@ use crate::bench::Bench;
 use crate::command::Status;
 use crate::configured::{follow_script, take_configuration};
 use crate::front::FrontKind;
+use crate::node_run::later_of;
+use dch_check::Configurations;
 use dch_io::{Sink, Source, new_piece};
 use dch_linkcmd::LinkHandler;
 use dch_nodeb::NodeB;
@@ -15,8 +17,8 @@ use dch_rnc::Rnc;
 use dch_ue::Ue;
 use std::alloc::Global;
 
-/// Runs `link`: a network controller, a Node B and a terminal run together, by the lines behind a configuration. They start at a CFN of
-/// 8 times `start`; with `quiet` the lines of frames are left out.
+/// Runs `link`: a network controller, a Node B and a terminal run together, by the lines behind one configuration or two. They start at a
+/// CFN of 8 times `start`; with `quiet` the lines of frames are left out.
 pub fn link<S: Source, K: Sink>(
     alloc: Global,
     start: u8,
@@ -69,11 +71,12 @@ fn run_link_pieces<S: Source, K: Sink>(
     requires piece { length piece.old ≡ PIECE }
     ensures { GivesNodes start quiet (end_of S.left S.faults source.old source.new) (end_of K.taken K.faults sink.old sink.new) result }
 {
-    let (front, accepted) = match take_configuration(alloc, source, sink, piece, FrontKind::Whole) {
+    let (front, accepted) = match take_configuration(alloc, source, sink, piece, FrontKind::Both) {
         Ok(taken) => taken,
         Err(status) => return Err(status),
     };
-    let Ok(handler) = LinkHandler::open(alloc, accepted, 8 * start, quiet) else {
+    let Configurations { first, second } = accepted;
+    let Ok(handler) = LinkHandler::open(alloc, first, later_of(second), 8 * start, quiet) else {
         return Err(Status::NoMemory);
     };
     match follow_script(alloc, source, sink, piece, &front, handler) {

@@ -10,7 +10,7 @@ use dch_io::{Sink, Source};
 use dch_nodebcmd::NodeBLines;
 use std::alloc::Global;
 
-/// Runs `nodeb`: a Node B of one cell takes the lines behind a configuration as events. It starts at a CFN of 8 times `start`;
+/// Runs `nodeb`: a Node B of one cell takes the lines behind one configuration or two as events. It starts at a CFN of 8 times `start`;
 /// with `quiet` the lines of frames are left out.
 pub fn node_b<S: Source, K: Sink>(
     alloc: Global,

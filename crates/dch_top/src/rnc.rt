@@ -10,7 +10,7 @@ use dch_io::{Sink, Source};
 use dch_rnccmd::RncLines;
 use std::alloc::Global;
 
-/// Runs `rnc`: a network controller takes the lines behind a configuration as events. It starts at a CFN of 8 times `start`;
+/// Runs `rnc`: a network controller takes the lines behind one configuration or two as events. It starts at a CFN of 8 times `start`;
 /// with `quiet` the lines of frames are left out.
 pub fn rnc<S: Source, K: Sink>(
     alloc: Global,

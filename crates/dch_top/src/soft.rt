@@ -9,6 +9,7 @@ use crate::bench::Bench;
 use crate::command::Status;
 use crate::configured::{follow_script, take_configuration};
 use crate::front::FrontKind;
+use dch_check::Configurations;
 use dch_io::{Sink, Source, new_piece};
 use dch_rnc::Rnc;
 use dch_soft::Leg;
@@ -81,8 +82,12 @@ fn run_soft_pieces<S: Source, K: Sink>(
         Ok(taken) => taken,
         Err(status) => return Err(status),
     };
+    let Configurations {
+        first,
+        second: _second,
+    } = accepted;
     let legs = arguments.count as u8;
-    let Ok(handler) = SoftHandler::open(alloc, accepted, 8 * arguments.start, legs, arguments.quiet)
+    let Ok(handler) = SoftHandler::open(alloc, first, 8 * arguments.start, legs, arguments.quiet)
     else {
         return Err(Status::NoMemory);
     };

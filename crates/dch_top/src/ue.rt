@@ -10,7 +10,7 @@ use dch_io::{Sink, Source};
 use dch_uecmd::UeLines;
 use std::alloc::Global;
 
-/// Runs `ue`: a terminal takes the lines behind a configuration as events. It starts at a CFN of 8 times `start`;
+/// Runs `ue`: a terminal takes the lines behind one configuration or two as events. It starts at a CFN of 8 times `start`;
 /// with `quiet` the lines of frames are left out.
 pub fn ue<S: Source, K: Sink>(
     alloc: Global,

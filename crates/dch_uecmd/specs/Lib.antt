@@ -1,3 +1,4 @@
 pub mod Lasting
 pub mod LineEvents
+pub mod Reading
 pub mod Rules

@@ -2,7 +2,7 @@
 use Rattle.std.specs.Prelude.{ℕ}
 use Rattle.dch_script.specs.declared.event.Command.TheVariants.{Ue}
 use Rattle.dch_lines.specs.Semantics.{Semantics}
-use Rattle.dch_ue.specs.State.{Event, OfferedUnit, BlockedCombination, DownlinkFrame, Tick, State, no_readings, opened_state}
+use Rattle.dch_ue.specs.State.{Event, OfferedUnit, BlockedCombination, DownlinkFrame, Tick, Change, State, no_readings, opened_state}
 use Rattle.dch_ue.specs.Steps.{Steps}
 use Rattle.dch_uecmd.specs.LineEvents.{event_of}
 use Rattle.dch_nodecmd.specs.NodeRules.{NodeRules}
@@ -15,13 +15,24 @@ frame_count (OfferedUnit bearer octets bits) = 0
 frame_count (BlockedCombination combination on) = 0
 frame_count (DownlinkFrame frame) = 0
 frame_count Tick = 1
+frame_count (Change planned) = 0
 
 -- what of a state later steps go on from: all but what the last step read
 abbrev pub kept_of : State → State
 kept_of state = record state { readings = no_readings }
 
 abbrev pub ue_rules : NodeRules State Event
-ue_rules = record { command = Ue; planned = λ s. s.planned; kept = kept_of; opened = opened_state; steps = Steps; event_of = event_of; frames = frame_count }
+ue_rules = record {
+  command = Ue;
+  planned = λ s. s.planned;
+  cfn = λ s. s.cfn;
+  kept = kept_of;
+  opened = opened_state;
+  steps = Steps;
+  event_of = event_of;
+  change = Change;
+  frames = frame_count;
+}
 
 abbrev pub ue_lines : Semantics (Run State Event)
 ue_lines = node_lines ue_rules

@@ -1,17 +1,19 @@
-ghost use Rattle.std.specs.Prelude.{◌≡◌, ◌≤◌, ◌+◌, length, IfErr, IfOk};
+ghost use Rattle.std.specs.Prelude.{◌≡◌, ◌≤◌, ◌+◌, length, IfErr, IfOk, IfNone, IfSome};
+ghost use Rattle.dch_accept.specs.Plans.{Planned};
 ghost use Rattle.dch_accept.specs.Reports.{step_bytes};
-ghost use Rattle.dch_ue.specs.Opened.{IsNodeOf};
-ghost use Rattle.dch_ue.specs.Standing.{Represents, Shows, event_of};
+ghost use Rattle.dch_ue.specs.Opened.{HasNext, IsNodeOf};
+ghost use Rattle.dch_ue.specs.Standing.{Represents, Shows};
 ghost use Rattle.dch_uecmd.specs.Lasting.{ue_lasting};
-ghost use Rattle.dch_uecmd.specs.Rules.{frame_count, ue_rules};
+ghost use Rattle.dch_uecmd.specs.Reading.{IsCounted};
+ghost use Rattle.dch_uecmd.specs.Rules.{ue_rules};
 ghost use Rattle.dch_nodecmd.specs.NodeRules.{IsMalformed};
-ghost use Rattle.dch_nodecmd.specs.Standing.{StepsBy};
+ghost use Rattle.dch_nodecmd.specs.Standing.{TakesAs, frames_of as frames_taken};
 ghost use Rattle.dch_texts.specs.declared.texts.TheConstants.{CELLS, OCTETS};
 
 use crate::reading::read_line;
 use dch_accept::Accepted;
 use dch_bits::{Bit, NoMemory, Trit};
-use dch_nodecmd::CommandNode;
+use dch_nodecmd::{CommandNode, Taken};
 use dch_script::{LineError, Report};
 use dch_texts::{CELLS, OCTETS, UNIT_BITS};
 use dch_ue::{Ue, UeEvent};
@@ -58,6 +60,8 @@ impl CommandNode for UeLines {
 
     ghost is_opened = { IsNodeOf };
 
+    ghost has_next = { HasNext };
+
     ghost represents = { Represents };
 
     ghost shows = { Shows };
@@ -72,12 +76,27 @@ impl CommandNode for UeLines {
         })
     }
 
+    fn open_both(
+        alloc: Global,
+        first: &Accepted,
+        second: &Accepted,
+        first_cfn: u8,
+    ) -> Result<UeLines, NoMemory> {
+        let (octets, cells) = open_rooms(alloc)?;
+        let node = Ue::open_both(alloc, first, second, first_cfn)?;
+        Ok(UeLines {
+            node,
+            octets,
+            cells,
+        })
+    }
+
     fn take_line(
         &mut self,
         accepted: &Accepted,
         line: &[u8],
         report: &mut Report,
-    ) -> Result<u64, LineError> {
+    ) -> Result<Taken, LineError> {
         take(
             accepted,
             line,
@@ -86,6 +105,10 @@ impl CommandNode for UeLines {
             &mut self.node,
             report,
         )
+    }
+
+    fn change(&mut self, accepted: &Accepted, report: &mut Report) {
+        self.node.step(accepted, UeEvent::Change, report);
     }
 
     ghost active = { λ planned state node stands. stands.at.active };
@@ -111,36 +134,42 @@ fn take(
     cells: &mut [Trit],
     node: &mut Ue,
     report: &mut Report,
-) -> Result<u64, LineError>
+) -> Result<Taken, LineError>
     requires octets { length octets.old ≡ OCTETS }
     requires cells { length cells.old ≡ CELLS }
     requires opened { IsNodeOf accepted.now node.old }
     requires room { length report.old.text + step_bytes accepted.now.config ≤ report.old.most }
-    ensures ok { IfOk result (λ count. StepsBy ue_rules Represents Shows accepted.now line.now count node.old node.new report.old.text report.new.text) }
-    ensures at_most { IfOk result (λ count. count ≤ 1) }
+    ensures ok { IfOk result (TakesAs ue_rules Represents Shows accepted.now line.now node.old node.new report.old report.new) }
+    ensures at_most { IfOk result (λ taken. frames_taken taken ≤ 1) }
     ensures err { IfErr result (IsMalformed ue_rules accepted.now.config line.now) }
     ensures same { IfErr result (λ _. (node.new ≡ node.old) × (report.new ≡ report.old)) }
     ensures opened { IsNodeOf accepted.now node.new }
+    ensures next { (second : Planned) → HasNext accepted.now second node.old → HasNext accepted.now second node.new }
     ensures most { report.new.most ≡ report.old.most }
     ensures few { IfOk result (λ _. length report.new.text ≤ length report.old.text + step_bytes accepted.now.config) }
 {
     let mut bits = [Bit::Zero; UNIT_BITS];
     match read_line(accepted, line, octets, &mut bits, cells) {
-        Ok(event) => {
-            node.step(accepted, event, report);
-            Ok(frames_of(event))
-        }
+        Ok(event) => match frames_of(event) {
+            Some(frames) => {
+                node.step(accepted, event, report);
+                Ok(Taken::Event(frames))
+            }
+            None => Ok(Taken::Change),
+        },
         Err(why) => Err(why),
     }
 }
 
-/// How many radio frames of 10 ms an event stands for.
-fn frames_of(event: UeEvent<'_>) -> u64
-    ensures value { result ≡ frame_count (event_of event.entry) }
-    ensures few { result ≤ 1 }
+/// How many radio frames of 10 ms an event stands for. None for a change.
+fn frames_of(event: UeEvent<'_>) -> Option<u64>
+    ensures some { IfSome result (IsCounted event.entry) }
+    ensures few { IfSome result (λ count. count ≤ 1) }
+    ensures none { IfNone result (event.entry ≡ UeEvent.Change) }
 {
     match event {
-        UeEvent::Unit { .. } | UeEvent::Block { .. } | UeEvent::Phy { .. } => 0,
-        UeEvent::Tick => 1,
+        UeEvent::Unit { .. } | UeEvent::Block { .. } | UeEvent::Phy { .. } => Some(0),
+        UeEvent::Tick => Some(1),
+        UeEvent::Change => None,
     }
 }

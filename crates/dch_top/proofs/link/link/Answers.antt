@@ -1,8 +1,7 @@
-use Rattle.std.proofs.Common.{◌*◌, ◌∙◌, [], ◌∷◌, Some, ap, refl}
+use Rattle.std.proofs.Common.{◌∙◌, [], ◌∷◌, Some, ap, refl}
 use Rattle.dch_linkcmd.specs.Rules.{link_lines}
-use Rattle.dch_linkcmd.specs.Run.{opened_run}
 use Rattle.dch_top.specs.Benches.{Nodes}
-use Rattle.dch_top.specs.LinkRuns.{HaveRunHistories, HoldsLink}
+use Rattle.dch_top.specs.LinkRuns.{HaveRunHistories, HoldsLink, run_of}
 use Rattle.dch_top.specs.NodeRuns.{IfWell}
 use Rattle.dch_top.specs.declared.command.Status.TheVariants.{Ok as Well}
 use Rattle.dch_top.proofs.Scripts.{runs_with}
@@ -10,7 +9,7 @@ use Rattle.dch_top.proofs.link.link.Goals as goal
 
 pub returns-in-Ok : goal.returns-in-Ok
 returns-in-Ok g c = record {
-  runs = runs_with link_lines (λ accepted. opened_run accepted (8 * c.args.start) c.args.quiet) (HaveRunHistories c.in-Ok.ue c.in-Ok.node_b c.in-Ok.rnc) (IfWell HoldsLink c.hold_rnc.new.self Well) _ _ Well
+  runs = runs_with link_lines (run_of c.args.start c.args.quiet) (HaveRunHistories c.in-Ok.ue c.in-Ok.node_b c.in-Ok.rnc) (IfWell HoldsLink c.hold_rnc.new.self Well) _ _ Well
       (λ after stands. record {
         ue = c.in-Ok.ue;
         node_b = c.in-Ok.node_b;

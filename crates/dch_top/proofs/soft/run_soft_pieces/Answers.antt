@@ -1,6 +1,7 @@
 use Rattle.std.proofs.Common.{◌*◌, inl, refl, sym, subst}
 use Rattle.std.proofs.KnownBytes.{Appends-nil, Consumes-nil}
 use Rattle.dch_accept.specs.Plans.{Planned}
+use Rattle.dch_check.specs.declared.both.Configurations.{Configurations}
 use Rattle.dch_lines.specs.declared.stop.Outcome.TheVariants.{Ok as Done}
 use Rattle.dch_soft.specs.Standing.{HaveHistories}
 use Rattle.dch_softcmd.specs.Rules.{soft_lines}
@@ -12,7 +13,7 @@ use Rattle.dch_top.proofs.soft.run_soft_pieces.Goals as goal
 
 pub returns-in-Ok-follow_script : goal.returns-in-Ok-follow_script
 returns-in-Ok-follow_script g c =
-    let opened : Planned → Run = λ accepted. opened_run accepted (8 * c.args.arguments.start) c.args.arguments.count c.args.arguments.quiet in
+    let opened : Configurations → Run = λ accepted. opened_run accepted.first (8 * c.args.arguments.start) c.args.arguments.count c.args.arguments.quiet in
     let nodes = c.into_nodes.result in
     let followed = c.in-Ok-follow_script.ensures (opened c.in-Ok.taken.1) c.in-Ok-open.ensures.stands in
     let holds : HaveRunHistories nodes.0 nodes.1.items nodes.2 followed.0 =
@@ -21,11 +22,11 @@ returns-in-Ok-follow_script g c =
 
 pub returns : goal.returns
 returns g c =
-    let opened : Planned → Run = λ accepted. opened_run accepted (8 * c.args.arguments.start) c.args.arguments.count c.args.arguments.quiet in
+    let opened : Configurations → Run = λ accepted. opened_run accepted.first (8 * c.args.arguments.start) c.args.arguments.count c.args.arguments.quiet in
     let stops = c.in-Err-follow_script.ensures (opened c.in-Ok.taken.1) c.in-Ok-open.ensures.stands in
     stops_configured soft_lines opened _ _ _ _ _ _ _ _ _ _ _ _ c.take_configuration.new.piece c.in-Ok.taken.0 c.in-Ok.taken.1 c.in-Err-follow_script.status c.in-Ok.ensures stops
 
 pub returns-in_default : goal.returns-in_default
 returns-in_default g c =
-    let opened : Planned → Run = λ accepted. opened_run accepted (8 * c.args.arguments.start) c.args.arguments.count c.args.arguments.quiet in
+    let opened : Configurations → Run = λ accepted. opened_run accepted.first (8 * c.args.arguments.start) c.args.arguments.count c.args.arguments.quiet in
     stops_configured soft_lines opened _ _ _ _ _ _ _ _ _ _ _ _ c.take_configuration.new.piece c.in-Ok.taken.0 c.in-Ok.taken.1 NoMemory c.in-Ok.ensures (inl (refl, (Consumes-nil _, Appends-nil _)))

@@ -1,10 +1,10 @@
-use Rattle.std.proofs.Common.{◌*◌, [], ◌∷◌}
+use Rattle.std.proofs.Common.{[], ◌∷◌}
 use Rattle.dch_types.specs.declared.channel.Dir.TheVariants.{Up}
 use Rattle.dch_node.specs.IubFrames.{refusal_number}
 use Rattle.dch_node.specs.Lines.{IubBad}
 use Rattle.dch_rnccmd.specs.Rules.{rnc_rules}
 use Rattle.dch_rnccmd.proofs.NoTrace.{no_trace}
-use Rattle.dch_nodecmd.specs.Run.{opened_run}
+use Rattle.dch_top.specs.NodeRuns.{run_of}
 use Rattle.dch_top.specs.RncRuns.{HoldsRnc}
 use Rattle.dch_top.proofs.Traces.{answered, traceless}
 use Rattle.dch_top.proofs.trace_laws.rnc_trace_law.Goals as goal
@@ -14,5 +14,5 @@ returns c = record {
   answers = answered rnc_rules HoldsRnc;
   no_trace = λ start quiet input shorter written before after line set error answer has brings.
       traceless rnc_rules start quiet input shorter written before after line (IubBad Up set (refusal_number error) ∷ []) answer has
-      (no_trace (opened_run rnc_rules answer.accepted (8 * start) quiet) answer.new before after line answer.text set error brings);
+      (no_trace (run_of rnc_rules start quiet answer.accepted) answer.new before after line answer.text set error brings);
 }

@@ -3,7 +3,7 @@ use Rattle.dch_script.specs.Held.{Held}
 use Rattle.dch_lines.specs.Semantics.{Adds}
 use Rattle.dch_link.specs.Standing.{Represents}
 use Rattle.dch_link.specs.Values.{Nodes}
-use Rattle.dch_linkcmd.specs.Rules.{PassesStage}
+use Rattle.dch_linkcmd.specs.Rules.{PassesNext}
 use Rattle.dch_linkcmd.specs.Run.{Run}
 use Rattle.dch_linkcmd.specs.Standing.{Handler, RepresentsRun}
 use Rattle.dch_linkcmd.specs.Taking.{AsksFrames, TakesEvent, Tells}
@@ -19,7 +19,7 @@ returns-in-Ok-None-clause-ok c = λ run was.
     let new : Handler = record old { link = c.take.new.link; quiet = c.take.new.filter.quiet; step = c.take.new.filter.step } in
     let takes : TakesEvent old.accepted c.args.line.now old.quiet old.link c.take.new.link c.args.report.now c.take.new.report =
     subst (λ (o : Option ℕ). Tells old.accepted c.args.line.now o old.quiet old.link c.take.new.link c.args.report.now c.take.new.report) c.in-Ok-None.field-0-is c.in-Ok-None.ensures.ok in
-    took_event run old new c.args.line.now c.args.report.now c.take.new.report is takes refl (ap (λ (f : Filter). f.quiet) c.take.ensures.filter) refl refl refl
+    took_event run old new c.args.line.now c.args.report.now c.take.new.report is takes refl refl (ap (λ (f : Filter). f.quiet) c.take.ensures.filter) refl refl refl
 
 pub returns-in-Ok-Some-clause-ok : goal.returns-in-Ok-Some-clause-ok
 returns-in-Ok-Some-clause-ok c = λ run was.
@@ -29,7 +29,7 @@ returns-in-Ok-Some-clause-ok c = λ run was.
     let asks : AsksFrames old.accepted c.args.line.now count old.link c.take.new.link c.args.report.now c.take.new.report =
     subst (λ (o : Option ℕ). Tells old.accepted c.args.line.now o old.quiet old.link c.take.new.link c.args.report.now c.take.new.report) c.in-Ok-Some.field-0-is c.in-Ok-Some.ensures.ok in
     let asked : Run = record run { left = count } in
-    let stands : Represents old.accepted run.first run.link c.take.new.link = subst (λ (n : Nodes). Represents old.accepted run.first run.link n) (sym asks.same) is.stands in
-    let passes = c.pass.ensures.passes asked (record { quiet = is.quiet ∙ sym (ap (λ (f : Filter). f.quiet) c.take.ensures.filter); stage = is.stage; left = refl; frames = is.frames; stands = stands }) in
-    let adds : Adds (PassesStage asked passes.0) c.args.report.now c.pass.new.report = subst (λ (r : Held). Adds (PassesStage asked passes.0) r c.pass.new.report) asks.unsaid passes.2 in
+    let stands : Represents run.began old.accepted run.first run.link c.take.new.link = subst (λ (n : Nodes). Represents run.began old.accepted run.first run.link n) (sym asks.same) is.stands in
+    let passes = c.pass.ensures.passes asked (record { second = is.second; quiet = is.quiet ∙ sym (ap (λ (f : Filter). f.quiet) c.take.ensures.filter); stage = is.stage; left = refl; frames = is.frames; stands = stands }) in
+    let adds : Adds (PassesNext asked passes.0) c.args.report.now c.pass.new.report = subst (λ (r : Held). Adds (PassesNext asked passes.0) r c.pass.new.report) asks.unsaid passes.2 in
     (passes.0, passes.1, asked_frames run old c.args.line.now count passes.0 c.args.report.now c.pass.new.report is asks.says adds)

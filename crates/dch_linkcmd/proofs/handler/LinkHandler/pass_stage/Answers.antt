@@ -1,0 +1,51 @@
+use Rattle.std.proofs.Common.{◌≡◌, ◌<◌, ◌+◌, ◌-◌, ◌%◌, ◌∙◌, arith, refl, ap, sym, subst}
+use Rattle.dch_link.specs.Passing.{IsStage}
+use Rattle.dch_link.specs.declared.stage.Stage.TheVariants.{RncTick}
+use Rattle.dch_linkcmd.specs.Run.{steps_left}
+use Rattle.dch_linkcmd.specs.Standing.{Handler, IsReady, RepresentsRun}
+use Rattle.dch_linkcmd.specs.contracts.handler.LinkHandler.{the_view}
+use Rattle.dch_linkcmd.specs.declared.filter.Filter.{Filter}
+use Rattle.dch_linkcmd.proofs.Cfns.{cfn_none, cfn_some}
+use Rattle.dch_linkcmd.proofs.Passing.{passes_none, passes_some}
+use Rattle.dch_linkcmd.proofs.Ready.{ready_on}
+use Rattle.dch_linkcmd.proofs.Stages.{steps_next}
+use Rattle.dch_linkcmd.proofs.handler.LinkHandler.pass_stage.Goals as goal
+
+pub returns-in-Some-clause-passes : goal.returns-in-Some-clause-passes
+returns-in-Some-clause-passes c = λ run was.
+    let old : Handler = the_view c.self.inside in
+    let is : RepresentsRun run old = subst (λ (h : Handler). RepresentsRun run h) (sym c.self.view_is) was in
+    let new : Handler = record old { link = c.pass.new.link; quiet = c.pass.new.self.quiet; step = c.pass.new.self.step; stage = c.in-Some.stage } in
+    passes_some run old new c.in-Some.stage c.args.report.now c.pass.new.report is (c.pass.ensures.shows run.began run.first run.link is.stands) (sym c.next.ensures.value ∙ c.in-Some.is) refl refl (ap (λ (f : Filter). f.quiet) c.pass.ensures.filter) refl refl refl
+
+pub returns-in-Some-clause-remaining : goal.returns-in-Some-clause-remaining
+returns-in-Some-clause-remaining c =
+    let old : Handler = the_view c.self.inside in
+    let left : 0 < old.left = subst (λ (h : Handler). 0 < h.left) (sym c.self.view_is) c.requires.left in
+    let stage : IsStage old.stage = subst (λ (h : Handler). IsStage h.stage) (sym c.self.view_is) c.requires.ready.stage in
+    steps_next old.stage c.in-Some.stage old.left left stage (sym c.next.ensures.value ∙ c.in-Some.is) ∙ ap (λ (h : Handler). steps_left h.stage h.left) c.self.view_is
+
+pub returns-in-None-clause-passes : goal.returns-in-None-clause-passes
+returns-in-None-clause-passes c = λ run was.
+    let old : Handler = the_view c.self.inside in
+    let is : RepresentsRun run old = subst (λ (h : Handler). RepresentsRun run h) (sym c.self.view_is) was in
+    let new : Handler = record old { link = c.end_frame.new.self; quiet = c.pass.new.self.quiet; step = c.pass.new.self.step; stage = RncTick; left = old.left - 1; frames = old.frames + 1 } in
+    passes_none run old new c.pass.new.link c.args.report.now c.pass.new.report is (c.pass.ensures.shows run.began run.first run.link is.stands) (sym c.next.ensures.value ∙ c.in-None.is) c.end_frame.ensures.clear refl refl (ap (λ (f : Filter). f.quiet) c.pass.ensures.filter) refl refl refl
+
+pub returns-in-Some-clause-ready : goal.returns-in-Some-clause-ready
+returns-in-Some-clause-ready c =
+    let old : Handler = the_view c.self.inside in
+    let ready : IsReady old = subst IsReady (sym c.self.view_is) c.requires.ready in
+    let cfn = ap (λ n. n % 8) c.pass.ensures.cfn ∙ cfn_some old.stage c.in-Some.stage old.link.ue.cfn old.frames (sym c.next.ensures.value ∙ c.in-Some.is) ready.cfn in
+    ready_on old c.pass.new.link c.pass.new.self.quiet c.in-Some.stage old.left old.frames old.lines c.pass.new.self.step ready c.pass.ensures.opened c.pass.ensures.next
+    (ap (λ (f : Filter). f.quiet) c.pass.ensures.filter) (ap (λ (f : Filter). f.step) c.pass.ensures.filter) c.in-Some.ensures.stage cfn ready.left ready.lines ready.few
+
+pub returns-in-None-clause-ready : goal.returns-in-None-clause-ready
+returns-in-None-clause-ready c =
+    let old : Handler = the_view c.self.inside in
+    let ready : IsReady old = subst IsReady (sym c.self.view_is) c.requires.ready in
+    let left : 0 < old.left = subst (λ (h : Handler). 0 < h.left) (sym c.self.view_is) c.requires.left in
+    let cfn = ap (λ n. n % 8) (c.end_frame.ensures.cfn ∙ c.pass.ensures.cfn) ∙ cfn_none old.stage old.link.ue.cfn old.frames (sym c.next.ensures.value ∙ c.in-None.is) ready.cfn in
+    ready_on old c.end_frame.new.self c.pass.new.self.quiet RncTick (old.left - 1) (old.frames + 1) old.lines c.pass.new.self.step ready c.end_frame.ensures.opened
+    (λ second has. c.end_frame.ensures.next second (c.pass.ensures.next second has))
+    (ap (λ (f : Filter). f.quiet) c.pass.ensures.filter) (ap (λ (f : Filter). f.step) c.pass.ensures.filter) tt cfn (omega (arith, ready.left)) ready.lines (omega (arith, ready.few, left))
