@@ -65,6 +65,15 @@ class Configuration:
     payload_check: bool
     channels: dict  # by direction
     bearers: list
+    later: tuple | None = None  # the radio frame from which a second configuration is active, and that one
+
+    def at(self, tick):
+        """The configuration that is active in a radio frame, counted from 0."""
+        return self.later[1] if self.later and tick >= self.later[0] else self
+
+    def parts(self):
+        """The configuration, and the second one where there is one."""
+        return [self, self.later[1]] if self.later else [self]
 
     def sets(self, way):
         """The frame sets of a direction."""
@@ -82,20 +91,23 @@ class Configuration:
         return [bearer for bearer in self.bearers if bearer.channels.get(way) == channel]
 
 
-def read_input(path):
-    """The configuration and the lines of the script, as numbered pairs, of an input of `dch`."""
+def read_input(path, both=False):
+    """The configuration and the lines of the script, as numbered pairs, of an input of `dch`. With `both` a second configuration may follow the first."""
     lines = read_text(path).split('\n')
     end = lines.index('---') if '---' in lines else len(lines)
     second = next((number for number, line in enumerate(lines[:end], 1) if line.startswith('--- ')), None)
-    if second:
-        raise BadInput(f'{path}, line {second}: the tools read one configuration, and here a second one begins')
+    if second and not both:
+        raise BadInput(f'{path}, line {second}: this tool reads one configuration, and here a second one begins')
     try:
-        table = tomllib.loads('\n'.join(lines[:end]))
+        tables = [tomllib.loads('\n'.join(part)) for part in ([lines[:second - 1], lines[second:end]] if second else [lines[:end]])]
     except tomllib.TOMLDecodeError as fault:
         raise BadInput(f'{path}: the configuration is no TOML: {fault}') from None
     script = [(end + 2 + i, line) for i, line in enumerate(lines[end + 1:]) if line]
     try:
-        return configuration_of(table), checked(script, script, SCRIPT_LINE, path)
+        found = [configuration_of(table) for table in tables]
+        if second:
+            found[0].later = int(lines[second - 1][4:]), found[1]
+        return found[0], checked(script, script, SCRIPT_LINE, path)
     except (KeyError, TypeError, ValueError, AttributeError) as fault:
         raise BadInput(f'{path}: this is no configuration of dch ({fault!r}); dch check tells more') from None
 
@@ -339,10 +351,11 @@ def read_status(octets):
 
 @dataclass
 class Event:
-    """A line of a script or of a report, and the number of radio frames of 10 ms before it."""
+    """A line of a script or of a report, the number of radio frames of 10 ms before it, and the configuration that is active then."""
     tick: int
     words: list
     from_script: bool
+    configuration: Configuration
 
 
 def command_of(report):
@@ -360,10 +373,14 @@ def command_of(report):
 def events_of(configuration, script, report):
     """The command, and what it was told and what it answered, in order of time."""
     command = command_of(report)
-    told = [Event(tick, words, True) for tick, words in ticks_of_script(script)]
-    answered = [Event(tick, words, False) for tick, words in ticks_of_report(configuration, command, report)]
+    told, active = [], configuration
+    for tick, words in ticks_of_script(script):
+        # A node alone goes over to a second configuration by a line of its script.
+        active = configuration.at(tick) if command == 'link' or words == ['change'] else active
+        told.append(Event(tick, words, True, active))
+    answered = [Event(tick, words, False, configuration.at(tick)) for tick, words in ticks_of_report(configuration, command, report)]
     for event in told + answered:
-        check_numbers(configuration, command, event)
+        check_numbers(event.configuration, command, event)
     return command, sorted(told + answered, key=lambda event: event.tick)
 
 
