@@ -159,7 +159,7 @@ sim_happens config out into b up down (Far doings) w new p is s safe faithful d 
       kept = λ f. none-flipped t.events (t.kept (subst (λ x. IsFront x.taken x.given) (back_after config into out (turned w) (turned new) doings up d) f.out));
     }
 
-sim_runs : (config : Config) (out into : Dir) (b up down : ℕ) (events : List OneEvent) (w new : World) (p : Pair) → IsAmBearer config out into b up down → Sim config out into b up down w p → AlwaysSafe (rules_in config b) p → Runs config out into (AreFaithful up down) w events new → Simulated config out into b up down new p ⊥
+pub sim_runs : (config : Config) (out into : Dir) (b up down : ℕ) (events : List OneEvent) (w new : World) (p : Pair) → IsAmBearer config out into b up down → Sim config out into b up down w p → AlwaysSafe (rules_in config b) p → Runs config out into (AreFaithful up down) w events new → Simulated config out into b up down new p ⊥
 sim_runs config out into b up down [] w new p is s safe d = record { events = []; sim = subst (λ x. Sim config out into b up down x p) (sym d) s; kept = λ f. absurd f }
 sim_runs config out into b up down (event ∷ events) w new p is s safe d =
     let t = sim_happens config out into b up down event w d.next p is s safe d.holds d.first in
@@ -167,7 +167,7 @@ sim_runs config out into b up down (event ∷ events) w new p is s safe d =
     record { events = t.events ++ u.events; sim = subst (Sim config out into b up down new) (sym (after-append (rules_in config b) p t.events u.events)) u.sim; kept = λ f. absurd f }
 
 -- where nothing was lost after each event
-whole_runs : (config : Config) (out into : Dir) (b up down : ℕ) (events : List OneEvent) (w new : World) (p : Pair) → IsAmBearer config out into b up down → Sim config out into b up down w p → AlwaysSafe (rules_in config b) p → Runs config out into (AreWholeSoFar up down) w events new → Simulated config out into b up down new p (Unit {0})
+pub whole_runs : (config : Config) (out into : Dir) (b up down : ℕ) (events : List OneEvent) (w new : World) (p : Pair) → IsAmBearer config out into b up down → Sim config out into b up down w p → AlwaysSafe (rules_in config b) p → Runs config out into (AreWholeSoFar up down) w events new → Simulated config out into b up down new p (Unit {0})
 whole_runs config out into b up down [] w new p is s safe d = record { events = []; sim = subst (λ x. Sim config out into b up down x p) (sym d) s; kept = λ _. tt }
 whole_runs config out into b up down (event ∷ events) w new p is s safe d =
     let faithful : AreFaithful up down d.next = record { out = front_sub (d.next.out up).taken (d.next.out up).given d.holds.out; back = front_sub (d.next.back down).taken (d.next.back down).given d.holds.back } in
@@ -176,7 +176,7 @@ whole_runs config out into b up down (event ∷ events) w new p is s safe d =
     record { events = t.events ++ u.events; sim = subst (Sim config out into b up down new) (sym (after-append (rules_in config b) p t.events u.events)) u.sim; kept = λ _. none_lost-append t.events u.events (t.kept d.holds) (u.kept tt) }
 
 -- at opening
-begins : (config : Config) (out into : Dir) (b up down : ℕ) → IsAmBearer config out into b up down → Sim config out into b up down (opened_world config out into) (opened (rules_in config b) (pdu_octets config out b) (pdu_octets config into b))
+pub begins : (config : Config) (out into : Dir) (b up down : ℕ) → IsAmBearer config out into b up down → Sim config out into b up down (opened_world config out into) (opened (rules_in config b) (pdu_octets config out b) (pdu_octets config into b))
 begins config out into b up down is = record {
   pair = record {
     near = record { bearing = ap (opened_mode config out b) is.mode; lines = refl };
@@ -201,7 +201,7 @@ wires-length skip d [] (y ∷ ys) h = absurd h
 wires-length skip d (b ∷ line) [] h = absurd h
 wires-length skip d (b ∷ line) (y ∷ ys) h = ap (λ n. suc n) (wires-length skip d line ys h.1)
 
-are_left : (config : Config) (dir : Dir) (b i : ℕ) (log : Log) (line : List Block) → Flow config dir b i log line → AreLeft config dir b i log line
+pub are_left : (config : Config) (dir : Dir) (b i : ℕ) (log : Log) (line : List Block) → Flow config dir b i log line → AreLeft config dir b i log line
 are_left config dir b i log line f = λ rest e.
     wires-length (field_bits (ct_of config dir b)) (pdu_octets config dir b - 2) line (behind (mine config dir b i log.taken) (mine config dir b i log.given)) f.wires
     ∙ ap length (ap (λ l. behind (mine config dir b i log.taken) (mine config dir b i l)) e ∙ ap (behind (mine config dir b i log.taken)) (filter-append (is_mine config dir b i) log.taken rest) ∙ behind_own (mine config dir b i log.taken) (mine config dir b i rest))

@@ -6,6 +6,7 @@ pub mod Giving
 pub mod Turns
 pub mod Steps
 pub mod Histories
+pub mod Parts
 pub mod Firsts
 pub mod Um
 pub mod UmRuns

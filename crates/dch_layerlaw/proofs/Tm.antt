@@ -23,7 +23,7 @@ use Rattle.dch_node.specs.Lines.{GotBits, Line}
 use Rattle.dch_layerlaw.specs.Lines.{lines_of}
 use Rattle.dch_layer.specs.Starting.{IsStart, asked_in, count_on}
 use Rattle.dch_layerlaw.specs.TmHistory.{IsTmCarried, IsTmHistory, IsTmSome, bits_lines, unit_in, units_in}
-use Rattle.dch_layerlaw.specs.Worlds.{IsFaithful, IsSublist, World}
+use Rattle.dch_layerlaw.specs.Worlds.{IsFaithful, IsSublist, Log, World}
 use Rattle.dch_layerlaw.proofs.Histories.{taken_mine}
 use Rattle.dch_layerlaw.proofs.Steps.{answer_line}
 use Rattle.dch_layerlaw.proofs.Turns.{start_mine}
@@ -179,22 +179,45 @@ sub_map f [] ys h = tt
 sub_map f (x ∷ xs) [] h = absurd h
 sub_map f (x ∷ xs) (y ∷ ys) h = ⊎_elim (λ (p : (x ≡ y) × IsSublist xs ys). inl (ap f p.0, sub_map f xs ys p.1)) (λ (p : IsSublist (x ∷ xs) ys). inr (sub_map f (x ∷ xs) ys p)) h
 
-pub tm_some : (config : Config) (out : Dir) (b i : ℕ) (w : World) → IsTmHistory config out b i w → IsFaithful (w.out i) → IsTmSome config out b w.near.layer w.far.said
-tm_some config out b i w h faithful = record {
-  waiting = h.near.waiting;
-  accepted = h.near.accepted;
-  bearing = h.near.bearing;
-  handed = units_in config out b i (w.out i).taken;
-  lines = h.far.lines;
-  some = subst (λ l. IsSublist (units_in config out b i (w.out i).taken) l) (sym h.near.given) (sub_more (units_in config out b i (w.out i).taken) (units_in config out b i (w.out i).given) h.near.waiting.units (sub_map (unit_in config out b) (filter (is_mine config out b i) (w.out i).taken) (filter (is_mine config out b i) (w.out i).given) (sub_filter (is_mine config out b i) (w.out i).taken (w.out i).given faithful)));
-}
+pub sub_units : (config : Config) (out : Dir) (b i : ℕ) (log : Log) → IsFaithful log → IsSublist (units_in config out b i log.taken) (units_in config out b i log.given)
+sub_units config out b i log faithful = sub_map (unit_in config out b) (filter (is_mine config out b i) log.taken) (filter (is_mine config out b i) log.given) (sub_filter (is_mine config out b i) log.taken log.given faithful)
 
-pub tm_carried : (config : Config) (out : Dir) (b i : ℕ) (w : World) (running : List (List Bit)) → IsTmHistory config out b i w → (w.out i).given ≡ (w.out i).taken ++ running → IsTmCarried config out b i w.near.layer w.far.said running
-tm_carried config out b i w running h e = record {
-  waiting = h.near.waiting;
-  accepted = h.near.accepted;
-  bearing = h.near.bearing;
-  handed = units_in config out b i (w.out i).taken;
-  lines = h.far.lines;
-  all = h.near.given ∙ ap (λ l. l ++ h.near.waiting.units) (ap (units_in config out b i) e ∙ tm_units-append config out b i (w.out i).taken running) ∙ append_assoc (units_in config out b i (w.out i).taken) (units_in config out b i running) h.near.waiting.units;
-}
+sub_above : (ys us vs : List (List Bit)) → IsSublist ys vs → IsSublist ys (us ++ vs)
+sub_above [] us vs k = tt
+sub_above (y ∷ ys) [] vs k = k
+sub_above (y ∷ ys) (u ∷ us) vs k = inr (sub_above (y ∷ ys) us vs k)
+
+sub-append : (xs ys us vs : List (List Bit)) → IsSublist xs us → IsSublist ys vs → IsSublist (xs ++ ys) (us ++ vs)
+sub-append [] ys us vs h k = sub_above ys us vs k
+sub-append (x ∷ xs) ys [] vs h k = absurd h
+sub-append (x ∷ xs) ys (u ∷ us) vs h k = ⊎_elim (λ (p : (x ≡ u) × IsSublist xs us). inl (p.0, sub-append xs ys us vs p.1 k)) (λ (p : IsSublist (x ∷ xs) us). inr (sub-append (x ∷ xs) ys us vs p k)) h
+
+pub tm_some : (config : Config) (out : Dir) (b i : ℕ) (g t : List (List Bit)) (w : World) → IsTmHistory config out b i g t w → IsSublist t g → IsFaithful (w.out i) → IsTmSome config out b w.near.layer w.far.said
+tm_some config out b i g t w h before faithful =
+    let came = t ++ units_in config out b i (w.out i).taken in
+    let sent = g ++ units_in config out b i (w.out i).given in
+    record {
+      waiting = h.near.waiting;
+      accepted = h.near.accepted;
+      bearing = h.near.bearing;
+      handed = came;
+      lines = h.far.lines;
+      some = subst (λ l. IsSublist came l) (sym h.near.given) (sub_more came sent h.near.waiting.units (sub-append t (units_in config out b i (w.out i).taken) g (units_in config out b i (w.out i).given) before (sub_units config out b i (w.out i) faithful)));
+    }
+
+pub tm_all_came : (config : Config) (out : Dir) (b i : ℕ) (g t : List (List Bit)) (w : World) (running : List (List Bit)) → IsTmHistory config out b i g t w → g ≡ t → (w.out i).given ≡ (w.out i).taken ++ running → IsTmCarried config out b i w.near.layer w.far.said running
+tm_all_came config out b i g t w running h before e =
+    let own = units_in config out b i (w.out i).taken in
+    let left = units_in config out b i running in
+    let all : g ++ units_in config out b i (w.out i).given ≡ (t ++ own) ++ left = ap₂ (λ x l. x ++ units_in config out b i l) before e ∙ ap (λ l. t ++ l) (tm_units-append config out b i (w.out i).taken running) ∙ sym (append_assoc t own left) in
+    record {
+      waiting = h.near.waiting;
+      accepted = h.near.accepted;
+      bearing = h.near.bearing;
+      handed = t ++ own;
+      lines = h.far.lines;
+      all = h.near.given ∙ ap (λ l. l ++ h.near.waiting.units) all ∙ append_assoc (t ++ own) left h.near.waiting.units;
+    }
+
+pub tm_carried : (config : Config) (out : Dir) (b i : ℕ) (w : World) (running : List (List Bit)) → IsTmHistory config out b i [] [] w → (w.out i).given ≡ (w.out i).taken ++ running → IsTmCarried config out b i w.near.layer w.far.said running
+tm_carried config out b i w running h e = tm_all_came config out b i [] [] w running h refl e

@@ -14,13 +14,13 @@ use Rattle.dch_rlcum.proofs.Handed.{known_handed, pdus_read}
 use Rattle.dch_layerlaw.specs.History.{is_mine}
 use Rattle.dch_layer.specs.UnitLines.{unit_lines}
 use Rattle.dch_layerlaw.specs.UmHistory.{IsKnownHistory, IsUmHistory, arriving, lines_all, lines_one, pdu_in, pdus_in, receives_one}
-use Rattle.dch_layerlaw.specs.Worlds.{IsFaithful, IsSublist, World}
+use Rattle.dch_layerlaw.specs.Worlds.{IsFaithful, IsSublist, Log, World}
 use Rattle.dch_layerlaw.proofs.Names.{other_number, same_number}
 use Rattle.dch_layerlaw.proofs.Sublists.{sub_filter}
 use Rattle.dch_layerlaw.proofs.Taking.{units-append}
 
 -- some of these PDUs, in order
-abbrev SomeOf : List (List ℕ) → List (List ℕ) → Type 0
+abbrev pub SomeOf : List (List ℕ) → List (List ℕ) → Type 0
 SomeOf [] ys = Unit {0}
 SomeOf (x ∷ xs) [] = ⊥
 SomeOf (x ∷ xs) (y ∷ ys) = ((x ≡ y) × SomeOf xs ys) ⊎ SomeOf (x ∷ xs) ys
@@ -96,15 +96,34 @@ found dir b pdu units k before (p ∷ ps) (x ∷ came) r read h = ⊎_elim
           ∙ sym (ap (λ t. unit_lines dir b (handed_up pdu (joined units) k r (record { pdu = p; arrived = t; before = before } ∷ sent_from (put k true f.arrives) (k + 1) t ps))) (put_here k true f.arrives));
     }
 
-pub known_history : (config : Config) (out : Dir) (b i : ℕ) (w : World) → IsUmHistory config out b i w → IsFaithful (w.out i) → IsKnownHistory config out b i w
-known_history config out b i w h faithful =
+-- the PDUs of a part, and those of two parts
+pub some_in : (config : Config) (out : Dir) (b i : ℕ) (log : Log) → IsFaithful log → SomeOf (pdus_in config out b i log.taken) (pdus_in config out b i log.given)
+some_in config out b i log faithful = some_map (pdu_in config out b) (filter (is_mine config out b i) log.taken) (filter (is_mine config out b i) log.given) (sub_filter (is_mine config out b i) log.taken log.given faithful)
+
+some_more : (ys us vs : List (List ℕ)) → SomeOf ys vs → SomeOf ys (us ++ vs)
+some_more [] us vs k = tt
+some_more (y ∷ ys) [] vs k = k
+some_more (y ∷ ys) (u ∷ us) vs k = inr (some_more (y ∷ ys) us vs k)
+
+some-append : (xs ys us vs : List (List ℕ)) → SomeOf xs us → SomeOf ys vs → SomeOf (xs ++ ys) (us ++ vs)
+some-append [] ys us vs h k = some_more ys us vs k
+some-append (x ∷ xs) ys [] vs h k = absurd h
+some-append (x ∷ xs) ys (u ∷ us) vs h k = ⊎_elim (λ (q : (x ≡ u) × SomeOf xs us). inl (q.0, some-append xs ys us vs q.1 k)) (λ (q : SomeOf (x ∷ xs) us). inr (some-append (x ∷ xs) ys us vs q k)) h
+
+pub known_history : (config : Config) (out : Dir) (b i : ℕ) (g t : List (List ℕ)) (w : World) → IsUmHistory config out b i g t w → SomeOf t g → IsFaithful (w.out i) → IsKnownHistory config out b i g t w
+known_history config out b i g t w h before faithful =
     let s = h.near.sends in
+    let came = t ++ pdus_in config out b i (w.out i).taken in
     let read = pdus_read s.sending.pdu s.sending.mark_start s.accepted s.cuts h.near.sender.from h.near.sender.most h.near.units h.near.sender.rising in
-    let some : SomeOf (pdus_in config out b i (w.out i).taken) (pdus_in config out b i (w.out i).given) = some_map (pdu_in config out b) (filter (is_mine config out b i) (w.out i).taken) (filter (is_mine config out b i) (w.out i).given) (sub_filter (is_mine config out b i) (w.out i).taken (w.out i).given faithful) in
-    let f = found out b s.sending.pdu s.accepted 0 true (pdus (s.sending.pdu - 1) s.sending.mark_start (sizes s.accepted) s.cuts) (pdus_in config out b i (w.out i).taken) opened_receiving read (subst (SomeOf (pdus_in config out b i (w.out i).taken)) h.near.given some) in
+    let some : SomeOf came (g ++ pdus_in config out b i (w.out i).given) = some-append t (pdus_in config out b i (w.out i).taken) g (pdus_in config out b i (w.out i).given) before (some_in config out b i (w.out i) faithful) in
+    let f = found out b s.sending.pdu s.accepted 0 true (pdus (s.sending.pdu - 1) s.sending.mark_start (sizes s.accepted) s.cuts) came opened_receiving read (subst (SomeOf came) h.near.given some) in
     record {
       near = h.near;
       arrives = f.arrives;
       came = f.came_is;
       lines = λ few. h.far.lines ∙ f.lines ∙ ap (unit_lines out b) (known_handed s.sending.pdu s.sending.mark_start s.accepted s.cuts f.arrives h.near.sender.from h.near.sender.most h.near.units h.near.sender.rising few);
     }
+
+-- over two parts
+pub known_over : (first second : Config) (out : Dir) (b i j : ℕ) (mid w : World) → IsUmHistory second out b j (pdus_in first out b i (mid.out i).given) (pdus_in first out b i (mid.out i).taken) w → IsFaithful (mid.out i) → IsFaithful (w.out j) → IsKnownHistory second out b j (pdus_in first out b i (mid.out i).given) (pdus_in first out b i (mid.out i).taken) w
+known_over first second out b i j mid w h before faithful = known_history second out b j (pdus_in first out b i (mid.out i).given) (pdus_in first out b i (mid.out i).taken) w h (some_in first out b i (mid.out i) before) faithful

@@ -1,5 +1,5 @@
 -- An unacknowledged bearer of which all blocks came but those on their way.
-use Rattle.std.proofs.Common.{◌≡◌, ◌+◌, ◌-◌, ℕ, zero, suc, List, [], ◌∷◌, ◌++◌, Bool, true, false, cond, Ok, length, map, take, arith, refl, sym, ap, ap₂, ◌∙◌}
+use Rattle.std.proofs.Common.{◌≡◌, ◌+◌, ◌-◌, ℕ, zero, suc, List, [], ◌∷◌, ◌++◌, Bool, true, false, cond, Ok, length, map, take, arith, refl, sym, ap, ap₂, ◌∙◌, append_assoc}
 use Rattle.std.specs.Prelude.{filter, nat_lt}
 use Rattle.std.specs.List.{list_any}
 use Rattle.std.proofs.lemmas.Bool.{le-ltb}
@@ -59,13 +59,14 @@ got_all dir b ps at (u ∷ us) are = either (list_any (has_end (at + length u)) 
     (λ e. rw e (ap₂ (λ x l. x ∷ l) (ap (λ t. cond t (Overlong dir b) (Got dir b u)) (le-ltb 1500 (length u) are.1.0)) (got_all dir b ps (at + length u) us are.1.1)))
     (λ e. rw e (got_all dir b ps (at + length u) us are.1.1))
 
-pub um_carried : (config : Config) (out : Dir) (b i : ℕ) (w : World) (running : List (List Bit)) → IsUmHistory config out b i w → (w.out i).given ≡ (w.out i).taken ++ running → IsUmCarried config out b i w.near.layer w.far.said running
-um_carried config out b i w running h e =
+pub um_all_came : (config : Config) (out : Dir) (b i : ℕ) (g t : List (List ℕ)) (w : World) (running : List (List Bit)) → IsUmHistory config out b i g t w → g ≡ t → (w.out i).given ≡ (w.out i).taken ++ running → IsUmCarried config out b i w.near.layer w.far.said running
+um_all_came config out b i g t w running h before e =
     let s = h.near.sends in
-    let came = pdus_in config out b i (w.out i).taken in
+    let own = pdus_in config out b i (w.out i).taken in
+    let came = t ++ own in
     let n : ℕ = length came in
     let ps : List Pdu = pdus (s.sending.pdu - 1) s.sending.mark_start (sizes s.accepted) s.cuts in
-    let all : texts s.sending.pdu s.sending.mark_start s.accepted s.cuts ≡ came ++ pdus_in config out b i running = sym h.near.given ∙ ap (pdus_in config out b i) e ∙ pdus-append config out b i (w.out i).taken running in
+    let all : texts s.sending.pdu s.sending.mark_start s.accepted s.cuts ≡ came ++ pdus_in config out b i running = sym h.near.given ∙ ap₂ (λ x l. x ++ pdus_in config out b i l) before e ∙ ap (λ l. t ++ l) (pdus-append config out b i (w.out i).taken running) ∙ sym (append_assoc t own (pdus_in config out b i running)) in
     let many : length (texts s.sending.pdu s.sending.mark_start s.accepted s.cuts) ≡ length s.cuts = length-texts s.sending.pdu s.accepted 0 ps ∙ length-pdus (s.sending.pdu - 1) s.sending.mark_start (sizes s.accepted) first_front s.cuts in
     let first : came ≡ take n (texts s.sending.pdu s.sending.mark_start s.accepted s.cuts) = sym (take_at came (pdus_in config out b i running) n refl) ∙ ap (take n) (sym all) in
     let read = pdus_read s.sending.pdu s.sending.mark_start s.accepted s.cuts h.near.sender.from h.near.sender.most h.near.units h.near.sender.rising in
@@ -82,3 +83,6 @@ um_carried config out b i w running h e =
           ∙ first_known s.sending.pdu s.sending.mark_start s.accepted s.cuts (λ j. nat_lt j n) n h.near.sender.from h.near.sender.most h.near.units h.near.sender.rising (first_below n))
           ∙ got_all out b (take n (pdus_of s)) 0 s.accepted h.near.units;
     }
+
+pub um_carried : (config : Config) (out : Dir) (b i : ℕ) (w : World) (running : List (List Bit)) → IsUmHistory config out b i [] [] w → (w.out i).given ≡ (w.out i).taken ++ running → IsUmCarried config out b i w.near.layer w.far.said running
+um_carried config out b i w running h e = um_all_came config out b i [] [] w running h refl e

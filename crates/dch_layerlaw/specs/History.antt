@@ -1,5 +1,5 @@
 -- When an acknowledged bearer of two ends is the pair of a history (TS 25.322 11.3).
-use Rattle.std.specs.Prelude.{◌≡◌, ◌≤◌, ◌++◌, ◌==◌, ℕ, List, Bool, true, false, Some, filter, length}
+use Rattle.std.specs.Prelude.{◌≡◌, ◌≤◌, ◌++◌, ◌==◌, ℕ, List, [], ◌∷◌, Bool, true, false, Some, filter, length}
 use Rattle.dch_types.specs.declared.channel.Dir.{Dir}
 use Rattle.dch_types.specs.declared.bearer.Mode.TheVariants.{Am}
 use Rattle.dch_types.specs.declared.config.Config.{Config}
@@ -8,7 +8,7 @@ use Rattle.dch_bits.specs.declared.bit.Bit.{Bit}
 use Rattle.dch_mac.specs.declared.answer.Demux.{Demux}
 use Rattle.dch_mac.specs.declared.answer.Demux.TheVariants.{To, Reserved, NoBearer, Nobody}
 use Rattle.dch_mac.specs.Receivers.{receiver}
-use Rattle.dch_amlaw.specs.Pair.{At, Block, End, IsSafe, Pair, after, opened}
+use Rattle.dch_amlaw.specs.Pair.{At, Block, End, Far, IsSafe, Lose, Near, Pair, after, opened}
 use Rattle.dch_amwhole.specs.Lossless.{AreWhole, NoneLost}
 use Rattle.dch_layerlaw.specs.Lines.{lines_of}
 use Rattle.dch_layer.specs.UnitLines.{unit_lines}
@@ -54,6 +54,30 @@ pub record IsHistory (config : Config) (out into : Dir) (b : ℕ) (w : World) : 
   pub events : List At
   pub pair : ArePair out into b w (pair_after config out into b events)
   pub safe : IsSafe (rules_in config b) (pair_after config out into b events)
+
+-- all blocks on their way to an end are lost
+abbrev pub near_lost : List Block → List At
+near_lost [] = []
+near_lost (block ∷ line) = Near Lose ∷ near_lost line
+
+abbrev pub far_lost : List Block → List At
+far_lost [] = []
+far_lost (block ∷ line) = Far Lose ∷ far_lost line
+
+-- and so at both ends
+abbrev pub all_lost : Pair → List At
+all_lost p = near_lost p.back ++ far_lost p.out
+
+-- the events of two parts: what is in flight after the first part is lost
+abbrev pub events_over : Config → Dir → Dir → ℕ → List At → List At → List At
+events_over config out into b earlier later = earlier ++ (all_lost (pair_after config out into b earlier) ++ later)
+
+-- over two parts, the first of which led to a world: there is a history that led there, and the whole history goes on from it
+pub record IsHistoryOver (config : Config) (out into : Dir) (b : ℕ) (mid w : World) : Type 0 where
+  pub before : IsHistory config out into b mid
+  pub later : List At
+  pub pair : ArePair out into b w (pair_after config out into b (events_over config out into b before.events later))
+  pub safe : IsSafe (rules_in config b) (pair_after config out into b (events_over config out into b before.events later))
 
 -- a block of a channel is for bearer b
 abbrev pub is_to : ℕ → Demux → Bool

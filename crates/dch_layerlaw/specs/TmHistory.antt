@@ -25,24 +25,25 @@ unit_in config dir b block = drop (field_bits (ct_of config dir b)) block
 abbrev pub units_in : Config → Dir → ℕ → ℕ → List (List Bit) → List (List Bit)
 units_in config dir b i blocks = map (unit_in config dir b) (filter (is_mine config dir b i) blocks)
 
--- a transparent bearer that sends on a channel: the units accepted are those of the blocks that it gave, and those that wait
-pub record IsTmSender (config : Config) (dir : Dir) (b i : ℕ) (side : Side) (log : Log) : Type 0 where
+-- a transparent bearer that sends on a channel, and gave these units before, in another configuration: the units accepted are those, those of the
+-- blocks that it gave, and those that wait
+pub record IsTmSender (config : Config) (dir : Dir) (b i : ℕ) (before : List (List Bit)) (side : Side) (log : Log) : Type 0 where
   pub waiting : Waiting
   pub accepted : List (List Bit)
   pub bearing : side.layer.bearings b ≡ Transparent waiting accepted
-  pub given : accepted ≡ units_in config dir b i log.given ++ waiting.units
+  pub given : accepted ≡ (before ++ units_in config dir b i log.given) ++ waiting.units
 
--- and one that receives on it: what was reported is the units of the blocks that were taken
-pub record IsTmReceiver (config : Config) (dir : Dir) (b i : ℕ) (side : Side) (log : Log) : Type 0 where
+-- and one that receives on it, and took these units before: what was reported is these, and the units of the blocks that were taken
+pub record IsTmReceiver (config : Config) (dir : Dir) (b i : ℕ) (before : List (List Bit)) (side : Side) (log : Log) : Type 0 where
   pub waiting : Waiting
   pub accepted : List (List Bit)
   pub bearing : side.layer.bearings b ≡ Transparent waiting accepted
-  pub lines : lines_of b side.said ≡ bits_lines dir b (units_in config dir b i log.taken)
+  pub lines : lines_of b side.said ≡ bits_lines dir b (before ++ units_in config dir b i log.taken)
 
 -- the one at the near end, the other at the far end
-pub record IsTmHistory (config : Config) (out : Dir) (b i : ℕ) (w : World) : Type 0 where
-  pub near : IsTmSender config out b i w.near (w.out i)
-  pub far : IsTmReceiver config out b i w.far (w.out i)
+pub record IsTmHistory (config : Config) (out : Dir) (b i : ℕ) (given taken : List (List Bit)) (w : World) : Type 0 where
+  pub near : IsTmSender config out b i given w.near (w.out i)
+  pub far : IsTmReceiver config out b i taken w.far (w.out i)
 
 -- a transparent bearer that sends on this channel from the near end
 pub record IsTmBearer (config : Config) (out : Dir) (b i : ℕ) : Type 0 where

@@ -47,25 +47,25 @@ pdu_in config dir b block = octets_of (drop (field_bits (ct_of config dir b)) bl
 abbrev pub pdus_in : Config → Dir → ℕ → ℕ → List (List Bit) → List (List ℕ)
 pdus_in config dir b i blocks = map (pdu_in config dir b) (filter (is_mine config dir b i) blocks)
 
--- an unacknowledged bearer that sends on a channel
-pub record IsUmSender (config : Config) (dir : Dir) (b i : ℕ) (side : Side) (log : Log) : Type 0 where
+-- an unacknowledged bearer that sends on a channel, and gave these PDUs before, in another configuration
+pub record IsUmSender (config : Config) (dir : Dir) (b i : ℕ) (before : List (List ℕ)) (side : Side) (log : Log) : Type 0 where
   pub sends : Sends
   pub receiving : Receiving
   pub bearing : side.layer.bearings b ≡ Unacknowledged sends receiving
   pub sender : IsSenderOf sends.accepted sends.cuts sends.sending
   pub units : AreUnits sends.accepted
-  pub given : pdus_in config dir b i log.given ≡ texts sends.sending.pdu sends.sending.mark_start sends.accepted sends.cuts
+  pub given : before ++ pdus_in config dir b i log.given ≡ texts sends.sending.pdu sends.sending.mark_start sends.accepted sends.cuts
 
--- and one that receives on it: what it is and what was reported is what the PDUs that were taken do
-pub record IsUmReceiver (config : Config) (dir : Dir) (b i : ℕ) (side : Side) (log : Log) : Type 0 where
+-- and one that receives on it, and took these PDUs before: what it is and what was reported is what all PDUs that were taken do
+pub record IsUmReceiver (config : Config) (dir : Dir) (b i : ℕ) (before : List (List ℕ)) (side : Side) (log : Log) : Type 0 where
   pub sends : Sends
-  pub bearing : side.layer.bearings b ≡ Unacknowledged sends (receives (pdus_in config dir b i log.taken) opened_receiving)
-  pub lines : lines_of b side.said ≡ lines_all dir b (pdus_in config dir b i log.taken) opened_receiving
+  pub bearing : side.layer.bearings b ≡ Unacknowledged sends (receives (before ++ pdus_in config dir b i log.taken) opened_receiving)
+  pub lines : lines_of b side.said ≡ lines_all dir b (before ++ pdus_in config dir b i log.taken) opened_receiving
 
 -- the one at the near end, the other at the far end
-pub record IsUmHistory (config : Config) (out : Dir) (b i : ℕ) (w : World) : Type 0 where
-  pub near : IsUmSender config out b i w.near (w.out i)
-  pub far : IsUmReceiver config out b i w.far (w.out i)
+pub record IsUmHistory (config : Config) (out : Dir) (b i : ℕ) (given taken : List (List ℕ)) (w : World) : Type 0 where
+  pub near : IsUmSender config out b i given w.near (w.out i)
+  pub far : IsUmReceiver config out b i taken w.far (w.out i)
 
 -- an unacknowledged bearer that sends on this channel from the near end
 pub record IsUmBearer (config : Config) (out : Dir) (b i : ℕ) : Type 0 where
@@ -108,9 +108,10 @@ pub record IsUmCarried (config : Config) (dir : Dir) (b i : ℕ) (from : Layer) 
   pub count : came + length (filter (is_mine config dir b i) running) ≡ length sends.cuts
   pub lines : lines_of b said ≡ got_lines dir b (marked_units (take came (pdus_of sends)) 0 sends.accepted)
 
--- some of the sender's PDUs were taken, in order; where fewer than 128 successive ones are lost, all lines on the bearer are the units that are known
-pub record IsKnownHistory (config : Config) (out : Dir) (b i : ℕ) (w : World) : Type 0 where
-  pub near : IsUmSender config out b i w.near (w.out i)
+-- where PDUs of the bearer were given and taken in another configuration before: some of all the sender's PDUs were taken, in order; where fewer
+-- than 128 successive ones are lost, all lines on the bearer are the units that are known
+pub record IsKnownHistory (config : Config) (out : Dir) (b i : ℕ) (given taken : List (List ℕ)) (w : World) : Type 0 where
+  pub near : IsUmSender config out b i given w.near (w.out i)
   pub arrives : ℕ → Bool
-  pub came : arriving arrives 0 (texts near.sends.sending.pdu near.sends.sending.mark_start near.sends.accepted near.sends.cuts) ≡ pdus_in config out b i (w.out i).taken
+  pub came : arriving arrives 0 (texts near.sends.sending.pdu near.sends.sending.mark_start near.sends.accepted near.sends.cuts) ≡ taken ++ pdus_in config out b i (w.out i).taken
   pub lines : AreFewLost 0 (sent_by near.sends arrives) → lines_of b w.far.said ≡ unit_lines out b (known_units (sent_by near.sends arrives) 0 near.sends.accepted)

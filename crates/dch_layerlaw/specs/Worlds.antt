@@ -4,7 +4,7 @@ use Rattle.dch_bits.specs.declared.bit.Bit.{Bit}
 use Rattle.dch_types.specs.declared.channel.Dir.{Dir}
 use Rattle.dch_types.specs.declared.config.Config.{Config}
 use Rattle.dch_node.specs.Lines.{Line}
-use Rattle.dch_layer.specs.Layers.{Layer, opened_layer}
+use Rattle.dch_layer.specs.Layers.{Layer, changed_layer, opened_layer}
 use Rattle.dch_layerlaw.specs.Doings.{Doing, Does, given_by, taken_by}
 
 -- blocks without bits are left out
@@ -105,3 +105,22 @@ pub record AreFaithful (up down : ℕ) (w : World) : Type 0 where
 pub record AreWholeSoFar (up down : ℕ) (w : World) : Type 0 where
   pub out : IsFront (w.out up).taken (w.out up).given
   pub back : IsFront (w.back down).taken (w.back down).given
+
+-- an end goes on in another configuration: its channels run their idle formats in it, no combination is blocked, and the bearers stay
+abbrev pub changed_side : Config → Dir → Side → Side
+changed_side config dir old = record { layer = changed_layer config dir old.layer; said = old.said }
+
+-- another configuration becomes active at both ends. In it nothing has gone over any channel yet
+pub record HasChanged (config : Config) (out into : Dir) (old new : World) : Type 0 where
+  pub near : new.near ≡ changed_side config out old.near
+  pub far : new.far ≡ changed_side config into old.far
+  pub out_log : (i : ℕ) → new.out i ≡ no_log
+  pub back_log : (i : ℕ) → new.back i ≡ no_log
+
+-- two parts of a run from opening, in each of which something holds after each event, and the change between them
+pub record RunsInTwo (first second : Config) (out into : Dir) (Before Behind : World → Type 0) (earlier later : List At) (new : World) : Type 0 where
+  pub mid : World
+  pub next : World
+  pub before : Runs first out into Before (opened_world first out into) earlier mid
+  pub changes : HasChanged second out into mid next
+  pub behind : Runs second out into Behind next later new

@@ -13,6 +13,7 @@ pub mod NodesTaken
 pub mod NodesLifting
 pub mod NodesSteps
 pub mod NodesEvents
+pub mod NodesParts
 pub mod HonestPhases
 pub mod HonestChannels
 pub mod HonestSteps

@@ -59,11 +59,11 @@ goes planned old (AtUe e) new h s = let l = ue_lifts planned old e new h.ue s in
 goes planned old (AtRnc e) new h s = let l = rnc_lifts planned old e new h.rnc s in record { event = Far l.doings; happens = l.all }
 
 -- where what holds of the nodes after each event says something of the two layers 2
-record RunsOn (config : Config) (Holds : World → Type 0) (old new : Nodes) : Type 0 where
-  events : List At
-  run : WorldRuns config Up Down Holds (world_of old) events (world_of new)
+pub record RunsOn (config : Config) (Holds : World → Type 0) (old new : Nodes) : Type 0 where
+  pub events : List At
+  pub run : WorldRuns config Up Down Holds (world_of old) events (world_of new)
 
-runs_on : (planned : Planned) (Is : Nodes → Type 0) (Holds : World → Type 0) → ((nodes : Nodes) → Is nodes → Holds (world_of nodes)) → (events : List Event) (old new : Nodes) → Have planned old → Runs Is old events new → RunsOn planned.config Holds old new
+pub runs_on : (planned : Planned) (Is : Nodes → Type 0) (Holds : World → Type 0) → ((nodes : Nodes) → Is nodes → Holds (world_of nodes)) → (events : List Event) (old new : Nodes) → Have planned old → Runs Is old events new → RunsOn planned.config Holds old new
 runs_on planned Is Holds f [] old new h e = record { events = []; run = ap world_of e }
 runs_on planned Is Holds f (e ∷ events) old new h r =
     let g = goes planned old e r.next h r.first in
@@ -84,7 +84,7 @@ nodes_whole_history planned ue_first rnc_first b up down events nodes is run =
 any_run : (planned : Planned) (ue_first rnc_first : ℕ) (events : List Event) (nodes : Nodes) → Runs Any (opened_nodes planned ue_first rnc_first) events nodes → RunsOn planned.config AnyWorld (opened_nodes planned ue_first rnc_first) nodes
 any_run planned ue_first rnc_first events nodes run = runs_on planned Any AnyWorld (λ n holds. tt) events (opened_nodes planned ue_first rnc_first) nodes (record { ue = refl; rnc = refl }) run
 
-abbrev flipped : At → At
+abbrev pub flipped : At → At
 flipped (Near doings) = Far doings
 flipped (Far doings) = Near doings
 
@@ -92,43 +92,43 @@ happens_turned : (config : Config) (out into : Dir) (w new : World) (e : At) →
 happens_turned config out into w new (Near doings) h = h
 happens_turned config out into w new (Far doings) h = h
 
-run_turned : (config : Config) (out into : Dir) (events : List At) (w new : World) → WorldRuns config out into AnyWorld w events new → WorldRuns config into out AnyWorld (turned w) (map flipped events) (turned new)
+pub run_turned : (config : Config) (out into : Dir) (events : List At) (w new : World) → WorldRuns config out into AnyWorld w events new → WorldRuns config into out AnyWorld (turned w) (map flipped events) (turned new)
 run_turned config out into [] w new r = ap turned r
 run_turned config out into (e ∷ events) w new r = record { next = turned r.next; first = happens_turned config out into w r.next e r.first; holds = tt; later = run_turned config out into events r.next new r.later }
 
 -- bearers that are not acknowledged, in each direction
-pub um_up_history : (planned : Planned) (ue_first rnc_first b up : ℕ) (events : List Event) (nodes : Nodes) → IsUmBearer planned.config Up b up → Runs Any (opened_nodes planned ue_first rnc_first) events nodes → IsUmHistory planned.config Up b up (world_of nodes)
+pub um_up_history : (planned : Planned) (ue_first rnc_first b up : ℕ) (events : List Event) (nodes : Nodes) → IsUmBearer planned.config Up b up → Runs Any (opened_nodes planned ue_first rnc_first) events nodes → IsUmHistory planned.config Up b up [] [] (world_of nodes)
 um_up_history planned ue_first rnc_first b up events nodes is run =
     let r = any_run planned ue_first rnc_first events nodes run in
     um_history planned.config Up Down b up r.events (world_of nodes) is r.run
 
-pub um_down_history : (planned : Planned) (ue_first rnc_first b down : ℕ) (events : List Event) (nodes : Nodes) → IsUmBearer planned.config Down b down → Runs Any (opened_nodes planned ue_first rnc_first) events nodes → IsUmHistory planned.config Down b down (turned (world_of nodes))
+pub um_down_history : (planned : Planned) (ue_first rnc_first b down : ℕ) (events : List Event) (nodes : Nodes) → IsUmBearer planned.config Down b down → Runs Any (opened_nodes planned ue_first rnc_first) events nodes → IsUmHistory planned.config Down b down [] [] (turned (world_of nodes))
 um_down_history planned ue_first rnc_first b down events nodes is run =
     let r = any_run planned ue_first rnc_first events nodes run in
     um_history planned.config Down Up b down (map flipped r.events) (turned (world_of nodes)) is (run_turned planned.config Up Down r.events (world_of (opened_nodes planned ue_first rnc_first)) (world_of nodes) r.run)
 
-pub tm_up_history : (planned : Planned) (ue_first rnc_first b up : ℕ) (events : List Event) (nodes : Nodes) → IsTmBearer planned.config Up b up → Runs Any (opened_nodes planned ue_first rnc_first) events nodes → IsTmHistory planned.config Up b up (world_of nodes)
+pub tm_up_history : (planned : Planned) (ue_first rnc_first b up : ℕ) (events : List Event) (nodes : Nodes) → IsTmBearer planned.config Up b up → Runs Any (opened_nodes planned ue_first rnc_first) events nodes → IsTmHistory planned.config Up b up [] [] (world_of nodes)
 tm_up_history planned ue_first rnc_first b up events nodes is run =
     let r = any_run planned ue_first rnc_first events nodes run in
     tm_history planned.config Up Down b up r.events (world_of nodes) is r.run
 
-pub tm_down_history : (planned : Planned) (ue_first rnc_first b down : ℕ) (events : List Event) (nodes : Nodes) → IsTmBearer planned.config Down b down → Runs Any (opened_nodes planned ue_first rnc_first) events nodes → IsTmHistory planned.config Down b down (turned (world_of nodes))
+pub tm_down_history : (planned : Planned) (ue_first rnc_first b down : ℕ) (events : List Event) (nodes : Nodes) → IsTmBearer planned.config Down b down → Runs Any (opened_nodes planned ue_first rnc_first) events nodes → IsTmHistory planned.config Down b down [] [] (turned (world_of nodes))
 tm_down_history planned ue_first rnc_first b down events nodes is run =
     let r = any_run planned ue_first rnc_first events nodes run in
     tm_history planned.config Down Up b down (map flipped r.events) (turned (world_of nodes)) is (run_turned planned.config Up Down r.events (world_of (opened_nodes planned ue_first rnc_first)) (world_of nodes) r.run)
 
-pub um_up : (planned : Planned) (ue_first rnc_first b up : ℕ) (events : List Event) (nodes : Nodes) → IsUmBearer planned.config Up b up → Runs Any (opened_nodes planned ue_first rnc_first) events nodes → IsFaithful (nodes.up up) → IsKnownHistory planned.config Up b up (world_of nodes)
+pub um_up : (planned : Planned) (ue_first rnc_first b up : ℕ) (events : List Event) (nodes : Nodes) → IsUmBearer planned.config Up b up → Runs Any (opened_nodes planned ue_first rnc_first) events nodes → IsFaithful (nodes.up up) → IsKnownHistory planned.config Up b up [] [] (world_of nodes)
 um_up planned ue_first rnc_first b up events nodes is run faithful =
-    known_history planned.config Up b up (world_of nodes) (um_up_history planned ue_first rnc_first b up events nodes is run) faithful
+    known_history planned.config Up b up [] [] (world_of nodes) (um_up_history planned ue_first rnc_first b up events nodes is run) tt faithful
 
-pub um_down : (planned : Planned) (ue_first rnc_first b down : ℕ) (events : List Event) (nodes : Nodes) → IsUmBearer planned.config Down b down → Runs Any (opened_nodes planned ue_first rnc_first) events nodes → IsFaithful (nodes.down down) → IsKnownHistory planned.config Down b down (turned (world_of nodes))
+pub um_down : (planned : Planned) (ue_first rnc_first b down : ℕ) (events : List Event) (nodes : Nodes) → IsUmBearer planned.config Down b down → Runs Any (opened_nodes planned ue_first rnc_first) events nodes → IsFaithful (nodes.down down) → IsKnownHistory planned.config Down b down [] [] (turned (world_of nodes))
 um_down planned ue_first rnc_first b down events nodes is run faithful =
-    known_history planned.config Down b down (turned (world_of nodes)) (um_down_history planned ue_first rnc_first b down events nodes is run) faithful
+    known_history planned.config Down b down [] [] (turned (world_of nodes)) (um_down_history planned ue_first rnc_first b down events nodes is run) tt faithful
 
 pub tm_up : (planned : Planned) (ue_first rnc_first b up : ℕ) (events : List Event) (nodes : Nodes) → IsTmBearer planned.config Up b up → Runs Any (opened_nodes planned ue_first rnc_first) events nodes → IsFaithful (nodes.up up) → IsTmSome planned.config Up b nodes.ue.layer nodes.rnc_lines
 tm_up planned ue_first rnc_first b up events nodes is run faithful =
-    tm_some planned.config Up b up (world_of nodes) (tm_up_history planned ue_first rnc_first b up events nodes is run) faithful
+    tm_some planned.config Up b up [] [] (world_of nodes) (tm_up_history planned ue_first rnc_first b up events nodes is run) tt faithful
 
 pub tm_down : (planned : Planned) (ue_first rnc_first b down : ℕ) (events : List Event) (nodes : Nodes) → IsTmBearer planned.config Down b down → Runs Any (opened_nodes planned ue_first rnc_first) events nodes → IsFaithful (nodes.down down) → IsTmSome planned.config Down b nodes.rnc.layer nodes.ue_lines
 tm_down planned ue_first rnc_first b down events nodes is run faithful =
-    tm_some planned.config Down b down (turned (world_of nodes)) (tm_down_history planned ue_first rnc_first b down events nodes is run) faithful
+    tm_some planned.config Down b down [] [] (turned (world_of nodes)) (tm_down_history planned ue_first rnc_first b down events nodes is run) tt faithful

@@ -1,4 +1,5 @@
--- The terminal and the network controller, in any interleaving, and what went over the channels between them.
+-- The terminal and the network controller, in any interleaving, and what went over the channels between them, in one part or in two: before and
+-- after another configuration becomes active at both.
 use Rattle.std.specs.Prelude.{◌≡◌, ◌++◌, ℕ, List, [], ◌∷◌, if◌then◌else◌}
 use Rattle.dch_bits.specs.declared.bit.Bit.{Bit}
 use Rattle.dch_types.specs.declared.channel.Dir.TheVariants.{Up, Down}
@@ -16,8 +17,8 @@ use Rattle.dch_rnc.specs.Steps.{Steps as RncSteps}
 use Rattle.dch_link.specs.Checks.{good_in}
 use Rattle.dch_link.specs.Within.{RncWithin, UeWithin}
 use Rattle.dch_layerlaw.specs.Worlds.{IsFaithful, IsFront, Log, World, no_log, turned}
-use Rattle.dch_layerlaw.specs.History.{IsHistory, IsWholeHistory}
-use Rattle.dch_layerlaw.specs.UmHistory.{IsKnownHistory}
+use Rattle.dch_layerlaw.specs.History.{IsHistory, IsHistoryOver, IsWholeHistory}
+use Rattle.dch_layerlaw.specs.UmHistory.{IsKnownHistory, pdus_in}
 use Rattle.dch_layerlaw.specs.TmHistory.{IsTmSome}
 
 -- the two nodes, all lines that each has reported, and for each channel the blocks that were given to it and those that were taken of it
@@ -57,7 +58,7 @@ given_by_rnc old (RncBlocked c on) new i = []
 given_by_rnc old (IubFrame set octets) new i = []
 given_by_rnc old (RncChange planned) new i = []
 
--- a step of the terminal, in the configuration that is active: the network controller stays, uplink channels are given blocks, and blocks are taken of downlink channels
+-- a step of the terminal within a part, in the configuration that is active: the network controller stays, uplink channels are given blocks, and blocks are taken of downlink channels
 pub record StepsUe (old : Nodes) (event : UeEvent) (new : Nodes) : Type 0 where
   pub within : UeWithin event
   pub output : Output
@@ -68,7 +69,7 @@ pub record StepsUe (old : Nodes) (event : UeEvent) (new : Nodes) : Type 0 where
   pub up : (i : ℕ) → new.up i ≡ record { given = (old.up i).given ++ given_by_ue old.ue event new.ue i; taken = (old.up i).taken }
   pub down : (i : ℕ) → new.down i ≡ record { given = (old.down i).given; taken = (old.down i).taken ++ good_in (new.ue.readings i) }
 
--- a step of the network controller, in the configuration that is active: the terminal stays, downlink channels are given blocks, and blocks are taken of uplink channels
+-- a step of the network controller within a part, in the configuration that is active: the terminal stays, downlink channels are given blocks, and blocks are taken of uplink channels
 pub record StepsRnc (old : Nodes) (event : RncEvent) (new : Nodes) : Type 0 where
   pub within : RncWithin event
   pub output : Output
@@ -95,6 +96,26 @@ abbrev pub Runs : (Nodes → Type 0) → Nodes → List Event → Nodes → Type
 Runs Holds old [] new = new ≡ old
 Runs Holds old (event ∷ events) new = HappensFirst Holds (λ next. Runs Holds next events new) old event
 
+-- another configuration becomes active at both nodes, at one after the other with no other event of them between. Neither sees the other's change,
+-- so no matter which is first. In it nothing has gone over any channel yet
+pub record Changes (second : Planned) (old new : Nodes) : Type 0 where
+  pub ue_output : Output
+  pub rnc_output : Output
+  pub ue : UeSteps old.ue (UeChange second) new.ue ue_output
+  pub rnc : RncSteps old.rnc (RncChange second) new.rnc rnc_output
+  pub ue_reported : new.ue_lines ≡ old.ue_lines ++ ue_output.lines
+  pub rnc_reported : new.rnc_lines ≡ old.rnc_lines ++ rnc_output.lines
+  pub up : (i : ℕ) → new.up i ≡ no_log
+  pub down : (i : ℕ) → new.down i ≡ no_log
+
+-- events in two parts, from opening: in each part something holds after each event, and the changes are between them
+pub record RunsInTwo (first second : Planned) (Before Behind : Nodes → Type 0) (ue_first rnc_first : ℕ) (earlier later : List Event) (new : Nodes) : Type 0 where
+  pub mid : Nodes
+  pub next : Nodes
+  pub before : Runs Before (opened_nodes first ue_first rnc_first) earlier mid
+  pub changes : Changes second mid next
+  pub behind : Runs Behind next later new
+
 -- any two nodes
 abbrev pub Any : Nodes → Type 0
 Any nodes = Unit {0}
@@ -109,6 +130,11 @@ pub record AreWhole (up down : ℕ) (nodes : Nodes) : Type 0 where
   pub up_is : IsFront (nodes.up up).taken (nodes.up up).given
   pub down_is : IsFront (nodes.down down).taken (nodes.down down).given
 
+-- nothing is in flight on them: all that was given was taken
+pub record AreAllTaken (up down : ℕ) (nodes : Nodes) : Type 0 where
+  pub up_is : (nodes.up up).given ≡ (nodes.up up).taken
+  pub down_is : (nodes.down down).given ≡ (nodes.down down).taken
+
 -- the two layers 2
 abbrev pub world_of : Nodes → World
 world_of nodes = record { near = record { layer = nodes.ue.layer; said = nodes.ue_lines }; far = record { layer = nodes.rnc.layer; said = nodes.rnc_lines }; out = nodes.up; back = nodes.down }
@@ -117,16 +143,29 @@ world_of nodes = record { near = record { layer = nodes.ue.layer; said = nodes.u
 abbrev pub IsAmHistory : Planned → ℕ → Nodes → Type 0
 IsAmHistory planned b nodes = IsHistory planned.config Up Down b (world_of nodes)
 
+-- and over two parts, the first of which led to two nodes: the history that led there, the loss of all that was in flight, and what came then
+abbrev pub IsAmHistoryOver : Planned → ℕ → Nodes → Nodes → Type 0
+IsAmHistoryOver second b mid nodes = IsHistoryOver second.config Up Down b (world_of mid) (world_of nodes)
+
 -- and nothing is lost in it
 abbrev pub IsWholeAmHistory : Planned → ℕ → ℕ → ℕ → Nodes → Type 0
 IsWholeAmHistory planned b up down nodes = IsWholeHistory planned.config Up Down b up down (world_of nodes)
 
 -- what is known of an unacknowledged bearer's uplink, and of its downlink
 abbrev pub IsUpKnown : Planned → ℕ → ℕ → Nodes → Type 0
-IsUpKnown planned b up nodes = IsKnownHistory planned.config Up b up (world_of nodes)
+IsUpKnown planned b up nodes = IsKnownHistory planned.config Up b up [] [] (world_of nodes)
 
 abbrev pub IsDownKnown : Planned → ℕ → ℕ → Nodes → Type 0
-IsDownKnown planned b down nodes = IsKnownHistory planned.config Down b down (turned (world_of nodes))
+IsDownKnown planned b down nodes = IsKnownHistory planned.config Down b down [] [] (turned (world_of nodes))
+
+-- and over two parts, where it had one channel in the first part and has another one
+abbrev pub IsUpKnownOver : Planned → Planned → ℕ → ℕ → ℕ → Nodes → Nodes → Type 0
+IsUpKnownOver first second b up up_later mid nodes =
+    IsKnownHistory second.config Up b up_later (pdus_in first.config Up b up (mid.up up).given) (pdus_in first.config Up b up (mid.up up).taken) (world_of nodes)
+
+abbrev pub IsDownKnownOver : Planned → Planned → ℕ → ℕ → ℕ → Nodes → Nodes → Type 0
+IsDownKnownOver first second b down down_later mid nodes =
+    IsKnownHistory second.config Down b down_later (pdus_in first.config Down b down (mid.down down).given) (pdus_in first.config Down b down (mid.down down).taken) (turned (world_of nodes))
 
 -- what is handed up of a transparent bearer's uplink, or of its downlink, is some of the units that were accepted, in order
 abbrev pub IsUpSome : Planned → ℕ → Nodes → Type 0
