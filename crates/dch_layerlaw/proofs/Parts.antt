@@ -14,7 +14,7 @@ use Rattle.dch_layer.specs.Bearings.{bearer_in, pdu_octets, rules_in}
 use Rattle.dch_layer.proofs.Changing.{kept_octets, kept_rules}
 use Rattle.dch_layer.proofs.Good.{there}
 use Rattle.dch_amwhole.specs.Lossless.{NoneLost}
-use Rattle.dch_layerlaw.specs.History.{ArePair, IsAmBearer, IsHistory, IsHistoryOver, IsWholeHistory, all_lost, events_over, far_lost, near_lost, pair_after}
+use Rattle.dch_layerlaw.specs.History.{ArePair, IsAmBearer, IsHistoryOver, IsWholeHistory, all_lost, events_over, far_lost, near_lost, pair_after}
 use Rattle.dch_layerlaw.specs.Lines.{lines_of}
 use Rattle.dch_layerlaw.specs.Worlds.{AreFaithful, AreWholeSoFar, At as OneEvent, HasChanged, Log, RunsInTwo, World, opened_world}
 use Rattle.dch_layerlaw.proofs.Catching.{AlwaysSafe}
@@ -109,10 +109,6 @@ over_parts first second out into b up down up2 down2 earlier later w keeps is on
 
     all : pair_after second out into b (events_over second out into b t.events u.events) ≡ after (rules_in second b) (emptied p) u.events
     all = after-append (rules_in second b) start t.events (all_lost p ++ u.events) ∙ after-append (rules_in second b) p (all_lost p) u.events ∙ ap (λ q. after (rules_in second b) q u.events) (lost_is (rules_in second b) p)
-
--- the whole history is one
-pub one_history : (config : Config) (out into : Dir) (b : ℕ) (mid w : World) → IsHistoryOver config out into b mid w → IsHistory config out into b w
-one_history config out into b mid w h = record { events = events_over config out into b h.before.events h.later; pair = h.pair; safe = h.safe }
 
 -- where all that was given was taken, nothing is in flight
 none_long : (line : List Block) → length line ≡ 0 → line ≡ []

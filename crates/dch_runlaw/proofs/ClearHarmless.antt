@@ -46,6 +46,11 @@ still_none old new (BlockedCombination Up c on) lines happens harmless none = (b
 still_none old new (BlockedCombination Down c on) lines happens harmless none = (but_rnc old new (RncBlocked c on) happens.0).damage ∙ none
 still_none old new (Damages damage) lines happens harmless none = absurd harmless
 
+pub none_left : (events : List Event) (old new : LinkState) (lines : List Line) → Runs old events new lines → old.damage ≡ [] → AreHarmless events → new.damage ≡ []
+none_left [] old new lines run none harmless = ap (λ (l : LinkState). l.damage) run.0 ∙ none
+none_left (Between event ∷ events) old new lines run none harmless = none_left events run.next new run.rest run.later (still_none old run.next event run.own run.step harmless.0 none) harmless.1
+none_left (Frame ∷ events) old new lines run none harmless = none_left events run.next new run.rest run.later run.step.damage harmless
+
 pub clear_from : (events : List Event) (old new : LinkState) (lines : List Line) (run : Runs old events new lines) → old.damage ≡ [] → AreHarmless events → IsClear events old new lines run
 clear_from [] old new lines run none harmless = tt
 clear_from (Between event ∷ events) old new lines run none harmless =

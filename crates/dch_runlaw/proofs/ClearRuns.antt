@@ -1,5 +1,5 @@
 -- Runs of three nodes in which no damage has an effect.
-use Rattle.std.proofs.Common.{◌≡◌, ◌<◌, ◌%◌, ◌∙◌, ℕ, List, [], ◌∷◌, length, true, false, arith, refl, sym, subst}
+use Rattle.std.proofs.Common.{◌≡◌, ◌<◌, ◌%◌, ◌∙◌, ℕ, List, [], ◌∷◌, length, true, false, arith, sym, subst}
 use Rattle.dch_types.specs.declared.channel.Side.{Side}
 use Rattle.dch_types.specs.declared.channel.Dir.{Dir}
 use Rattle.dch_types.specs.declared.channel.Dir.TheVariants.{Down, Up}
@@ -9,13 +9,16 @@ use Rattle.dch_types.specs.Timing.{starts}
 use Rattle.dch_accept.specs.Plans.{IsPlanned, Planned}
 use Rattle.dch_node.specs.Lines.{Line}
 use Rattle.dch_nodeb.proofs.Steady.{starts-eighth}
-use Rattle.dch_link.specs.Link.{LinkState, opened_link}
+use Rattle.dch_link.specs.Link.{LinkState}
 use Rattle.dch_runlaw.specs.Frames.{IsFrame}
 use Rattle.dch_runlaw.specs.Runs.{Between, Event, Frame, Runs, Steps}
 use Rattle.dch_runlaw.specs.Clear.{IsClear, EventClear}
 use Rattle.dch_runlaw.specs.HonestFits.{EventFits, FrameFits, IsUndamaged, IsUndamagedOn}
 use Rattle.dch_runlaw.specs.SizedLinks.{IsSized, LineSized}
 use Rattle.dch_runlaw.specs.ClearSound.{AreSound}
+use Rattle.dch_runlaw.specs.Parts.{Begins}
+use Rattle.dch_runlaw.proofs.Begun.{Begun, begun}
+use Rattle.dch_runlaw.proofs.SizedRuns.{is_sized}
 use Rattle.dch_runlaw.proofs.ClearBetween.{between, stay_down, stay_up}
 use Rattle.dch_runlaw.proofs.ClearDownFrame.{DownFrame, DownStand, down_frame, down_side, frames_on}
 use Rattle.dch_runlaw.proofs.ClearFrameLines.{frame_sound}
@@ -64,46 +67,45 @@ sound_from planned (event ∷ events) old new lines run good clear sized d u =
     let one : EventDone planned old event run.next run.own run.step = event_done planned old event run.next run.own run.step good clear.0 sized.0 d u in
     subst AreSound (sym run.reported) (sound-append run.own run.rest one.sound (sound_from planned events run.next new run.rest run.later good clear.1 sized.1 one.down_stand one.up_stand))
 
--- at opening all TTIs start
+-- where a part begins all TTIs start
 all_start : (side : Side) (first j : ℕ) → IsSide side → j < length side.channels → first % 8 ≡ 0 → starts (frames_on side j) first ≡ false → ⊥
 all_start side first j good inside eighth off = let both : false ≡ true = sym off ∙ starts-eighth (frames_on side j) first (good.channels j inside).frames eighth in cc
 
 zero_of : (first f : ℕ) → first % 8 ≡ 0 → IsFrames f → first % f ≡ 0
 zero_of first f eighth is = by_four f (λ f. first % f ≡ 0) is (omega arith) (omega (arith, eighth)) (omega (arith, eighth)) eighth
 
-opened_down : (planned : Planned) (first : ℕ) → IsPlanned planned → first % 8 ≡ 0 → DownStand planned (opened_link planned first)
-opened_down planned first good eighth = record {
-  active = record { ue = refl; node_b = refl; rnc = refl };
-  node_b_cfn = refl;
-  ue_cfn = refl;
-  runs = λ j inside off. absurd (all_start (down_side planned) first j good.good.downlink.side inside eighth off);
-  formats = λ j inside off. absurd (all_start (down_side planned) first j good.good.downlink.side inside eighth off);
-  half = λ i inside some. absurd (omega (arith, some, zero_of first (frames_on (down_side planned) i) eighth (good.good.downlink.side.channels i inside).frames));
+begun_down : (planned : Planned) (start : LinkState) → IsPlanned planned → Begun planned start → start.rnc.state.cfn % 8 ≡ 0 → DownStand planned start
+begun_down planned start good b eighth = record {
+  active = record { ue = b.fresh.are.ue; node_b = b.fresh.are.node_b; rnc = b.fresh.are.rnc };
+  node_b_cfn = b.fresh.node_b_cfn;
+  ue_cfn = b.fresh.ue_cfn;
+  runs = λ j inside off. absurd (all_start (down_side planned) start.rnc.state.cfn j good.good.downlink.side inside eighth off);
+  formats = λ j inside off. absurd (all_start (down_side planned) start.rnc.state.cfn j good.good.downlink.side inside eighth off);
+  half = λ i inside some. absurd (omega (arith, some, zero_of start.rnc.state.cfn (frames_on (down_side planned) i) eighth (good.good.downlink.side.channels i inside).frames));
 }
 
-opened_up : (planned : Planned) (first : ℕ) → IsPlanned planned → first % 8 ≡ 0 → UpStand planned (opened_link planned first)
-opened_up planned first good eighth = record {
-  formats = λ j inside off. absurd (all_start (up_side planned) first j good.good.uplink.side inside eighth off);
-  half = λ i inside some. absurd (omega (arith, some, zero_of first (frames_on (up_side planned) i) eighth (good.good.uplink.side.channels i inside).frames));
+begun_up : (planned : Planned) (start : LinkState) → IsPlanned planned → start.rnc.state.cfn % 8 ≡ 0 → UpStand planned start
+begun_up planned start good eighth = record {
+  formats = λ j inside off. absurd (all_start (up_side planned) start.rnc.state.cfn j good.good.uplink.side inside eighth off);
+  half = λ i inside some. absurd (omega (arith, some, zero_of start.rnc.state.cfn (frames_on (up_side planned) i) eighth (good.good.uplink.side.channels i inside).frames));
 }
 
 -- of every channel just what was given is taken
-pub clear_on : (planned : Planned) (first : ℕ) (dir : Dir) (i : ℕ) (events : List Event) (new : LinkState) (lines : List Line) (run : Runs (opened_link planned first) events new lines)
-    → IsPlanned planned → first % 8 ≡ 0 → IsClear events (opened_link planned first) new lines run → IsSized planned events (opened_link planned first) new lines run
-    → i < length (side_of planned.config dir).channels → IsUndamagedOn planned dir i events (opened_link planned first) new lines run
-clear_on planned first dir i events new lines run good eighth clear sized inside =
-    undamaged_from planned dir i events (opened_link planned first) new lines run good inside clear sized (opened_down planned first good eighth) (opened_up planned first good eighth)
+pub clear_on : (planned : Planned) (dir : Dir) (i : ℕ) (events : List Event) (start new : LinkState) (lines : List Line) (run : Runs start events new lines) → IsPlanned planned → Begins planned start → start.rnc.state.cfn % 8 ≡ 0 → IsClear events start new lines run
+    → i < length (side_of planned.config dir).channels → IsUndamagedOn planned dir i events start new lines run
+clear_on planned dir i events start new lines run good begins eighth clear inside =
+    let b : Begun planned start = begun planned start good begins in
+    undamaged_from planned dir i events start new lines run good inside clear (is_sized planned events start new lines run good b.both) (begun_down planned start good b eighth) (begun_up planned start good eighth)
 
-pub clear_undamaged : (planned : Planned) (first up down : ℕ) (events : List Event) (new : LinkState) (lines : List Line) (run : Runs (opened_link planned first) events new lines)
-    → IsPlanned planned → first % 8 ≡ 0 → IsClear events (opened_link planned first) new lines run → IsSized planned events (opened_link planned first) new lines run
-    → up < length planned.config.uplink.side.channels → down < length planned.config.downlink.side.channels → IsUndamaged planned up down events (opened_link planned first) new lines run
-clear_undamaged planned first up down events new lines run good eighth clear sized inside within = record {
-  up_is = clear_on planned first Up up events new lines run good eighth clear sized inside;
-  down_is = clear_on planned first Down down events new lines run good eighth clear sized within;
+pub clear_undamaged : (planned : Planned) (up down : ℕ) (events : List Event) (start new : LinkState) (lines : List Line) (run : Runs start events new lines) → IsPlanned planned → Begins planned start → start.rnc.state.cfn % 8 ≡ 0 → IsClear events start new lines run
+    → up < length planned.config.uplink.side.channels → down < length planned.config.downlink.side.channels → IsUndamaged planned up down events start new lines run
+clear_undamaged planned up down events start new lines run good begins eighth clear inside within = record {
+  up_is = clear_on planned Up up events start new lines run good begins eighth clear inside;
+  down_is = clear_on planned Down down events start new lines run good begins eighth clear within;
 }
 
 -- without a line of trouble
-pub clear_sound : (planned : Planned) (first : ℕ) (events : List Event) (new : LinkState) (lines : List Line) (run : Runs (opened_link planned first) events new lines)
-    → IsPlanned planned → first % 8 ≡ 0 → IsClear events (opened_link planned first) new lines run → IsSized planned events (opened_link planned first) new lines run → AreSound lines
-clear_sound planned first events new lines run good eighth clear sized =
-    sound_from planned events (opened_link planned first) new lines run good clear sized (opened_down planned first good eighth) (opened_up planned first good eighth)
+pub clear_sound : (planned : Planned) (events : List Event) (start new : LinkState) (lines : List Line) (run : Runs start events new lines) → IsPlanned planned → Begins planned start → start.rnc.state.cfn % 8 ≡ 0 → IsClear events start new lines run → AreSound lines
+clear_sound planned events start new lines run good begins eighth clear =
+    let b : Begun planned start = begun planned start good begins in
+    sound_from planned events start new lines run good clear (is_sized planned events start new lines run good b.both) (begun_down planned start good b eighth) (begun_up planned start good eighth)

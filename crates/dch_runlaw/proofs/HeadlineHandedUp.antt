@@ -5,20 +5,20 @@ use Rattle.dch_types.specs.declared.channel.Dir.{Dir}
 use Rattle.dch_types.specs.declared.channel.Dir.TheVariants.{Up, Down}
 use Rattle.dch_accept.specs.Plans.{Planned}
 use Rattle.dch_node.specs.Lines.{Got, Line, Overlong}
-use Rattle.dch_amlaw.specs.Pair.{Pair}
+use Rattle.dch_amlaw.specs.Pair.{At, Pair}
 use Rattle.dch_amlaw.proofs.Short.{AreShort, BothRead, always_short}
 use Rattle.dch_layer.specs.Bearings.{pdu_octets, rules_in}
 use Rattle.dch_layer.specs.UnitLines.{unit_lines}
-use Rattle.dch_layerlaw.specs.History.{IsAmBearer, pair_after}
+use Rattle.dch_layerlaw.specs.History.{IsAmBearer, events_over, pair_after}
 use Rattle.dch_layerlaw.specs.Lines.{lines_of}
 use Rattle.dch_layerlaw.specs.Rows.{gots, rows_of}
 use Rattle.dch_layerlaw.specs.UmHistory.{got_lines}
 use Rattle.dch_layerlaw.proofs.Bearers.{is_am_bearer}
 use Rattle.dch_layerlaw.proofs.Small.{gots_bits, gots_units}
 use Rattle.dch_link.specs.Link.{LinkState}
-use Rattle.dch_runlaw.specs.HonestBearers.{HasHistory, HasKnownDown, HasKnownUp, HasTmSomeDown, HasTmSomeUp, IsAcknowledged, IsTransparent, IsUnacknowledged}
+use Rattle.dch_runlaw.specs.HonestBearers.{HasHistory, HasHistoryOver, HasKnownDown, HasKnownDownOver, HasKnownUp, HasKnownUpOver, HasTmSomeDown, HasTmSomeUp, IsAcknowledged, IsTransparent, IsUnacknowledged}
 use Rattle.dch_runlaw.specs.TextTold.{IsRead}
-use Rattle.dch_runlaw.specs.HeadlineHandedUp.{HandsUp, HandsUpKnownDown, HandsUpKnownUp, HandsUpSome}
+use Rattle.dch_runlaw.specs.HeadlineHandedUp.{HandsUp, HandsUpKnownDown, HandsUpKnownDownOver, HandsUpKnownUp, HandsUpKnownUpOver, HandsUpOver, HandsUpSome}
 
 pub low : (n b : ℕ) → b < n → n ≤ 16 → b < 2 ^ 64
 low n b there few = omega (arith, there, few)
@@ -41,6 +41,20 @@ am_rows planned b up down link text is has read =
       down = read.down b few ∙ ap (λ (l : List Line). rows_of (gots Down b l)) (ap (lines_of b) (sym has.are.ue_lines) ∙ has.history.pair.near.lines ∙ got_short Down b p.near.entity.receiver.reading.units short.near) ∙ ap rows_of (gots_units Down b p.near.entity.receiver.reading.units);
     }
 
+-- over two parts
+pub am_rows_over : (second : Planned) (b up down : ℕ) (last link : LinkState) (text : List ℕ) → IsAcknowledged second b up down → HasHistoryOver second b last link → IsRead link text → HandsUpOver second b last link text
+am_rows_over second b up down last link text is has read =
+    let events : List At = events_over second.config Up Down b has.history.before.events has.history.later in
+    let p : Pair = pair_after second.config Up Down b events in
+    let bearer : IsAmBearer second.config Up Down b up down = is_am_bearer second.config b up down is.good is.there is.mode is.up_is is.down_is in
+    let short : BothRead p = always_short (rules_in second.config b) (pdu_octets second.config Up b) (pdu_octets second.config Down b) events bearer.window in
+    let few : b < 2 ^ 64 = low (length second.config.bearers) b is.there is.good.few in
+    record {
+      units = has;
+      up = read.up b few ∙ ap (λ (l : List Line). rows_of (gots Up b l)) (ap (lines_of b) (sym has.are.rnc_lines) ∙ has.history.pair.far.lines ∙ got_short Up b p.far.entity.receiver.reading.units short.far) ∙ ap rows_of (gots_units Up b p.far.entity.receiver.reading.units);
+      down = read.down b few ∙ ap (λ (l : List Line). rows_of (gots Down b l)) (ap (lines_of b) (sym has.are.ue_lines) ∙ has.history.pair.near.lines ∙ got_short Down b p.near.entity.receiver.reading.units short.near) ∙ ap rows_of (gots_units Down b p.near.entity.receiver.reading.units);
+    }
+
 -- those of an unacknowledged one
 pub um_rows_up : (planned : Planned) (b i : ℕ) (link : LinkState) (text : List ℕ) → IsUnacknowledged planned Up b i → HasKnownUp planned b i link → IsRead link text → HandsUpKnownUp planned b i link text
 um_rows_up planned b i link text is has read = record {
@@ -52,6 +66,19 @@ pub um_rows_down : (planned : Planned) (b i : ℕ) (link : LinkState) (text : Li
 um_rows_down planned b i link text is has read = record {
   units = has;
   rows_are = λ few. read.down b (low (length planned.config.bearers) b is.there is.good.few) ∙ ap (λ (l : List Line). rows_of (gots Down b l)) (ap (lines_of b) (sym has.are.ue_lines) ∙ has.known.lines few);
+}
+
+-- over two parts
+pub um_rows_up_over : (planned second : Planned) (b i later : ℕ) (last link : LinkState) (text : List ℕ) → IsUnacknowledged second Up b later → HasKnownUpOver planned second b i later last link → IsRead link text → HandsUpKnownUpOver planned second b i later last link text
+um_rows_up_over planned second b i later last link text is has read = record {
+  units = has;
+  rows_are = λ few. read.up b (low (length second.config.bearers) b is.there is.good.few) ∙ ap (λ (l : List Line). rows_of (gots Up b l)) (ap (lines_of b) (sym has.are.rnc_lines) ∙ has.known.lines few);
+}
+
+pub um_rows_down_over : (planned second : Planned) (b i later : ℕ) (last link : LinkState) (text : List ℕ) → IsUnacknowledged second Down b later → HasKnownDownOver planned second b i later last link → IsRead link text → HandsUpKnownDownOver planned second b i later last link text
+um_rows_down_over planned second b i later last link text is has read = record {
+  units = has;
+  rows_are = λ few. read.down b (low (length second.config.bearers) b is.there is.good.few) ∙ ap (λ (l : List Line). rows_of (gots Down b l)) (ap (lines_of b) (sym has.are.ue_lines) ∙ has.known.lines few);
 }
 
 -- and those of a transparent one

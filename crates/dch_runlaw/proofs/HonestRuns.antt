@@ -11,7 +11,7 @@ use Rattle.dch_rnc.specs.State.{BlockedCombination as RncBlocked, Event as RncEv
 use Rattle.dch_link.specs.Checks.{good_in}
 use Rattle.dch_link.specs.Courses.{Course}
 use Rattle.dch_link.specs.Events.{BlockedCombination, Damages, Event as LinkEvent, Happens, OfferedUnit}
-use Rattle.dch_link.specs.Link.{LinkState, opened_link}
+use Rattle.dch_link.specs.Link.{LinkState}
 use Rattle.dch_link.specs.Stages.{RncGoes, UeGoes}
 use Rattle.dch_link.specs.Within.{RncWithin, UeWithin}
 use Rattle.dch_runlaw.specs.Runs.{Between, Event, Frame, Runs, Steps}
@@ -19,6 +19,7 @@ use Rattle.dch_runlaw.proofs.Keeping.{but_rnc, but_ue, rnc_lines, rnc_step, ue_l
 use Rattle.dch_layerlaw.specs.Worlds.{no_log}
 use Rattle.dch_runlaw.specs.Nodes.{AtRnc, AtUe, given_by_rnc, given_by_ue}
 use Rattle.dch_runlaw.specs.HonestFits.{EventFits, RunFits}
+use Rattle.dch_runlaw.proofs.Begun.{Fresh}
 use Rattle.dch_runlaw.proofs.HonestFrames.{frame_goes}
 use Rattle.dch_runlaw.proofs.HonestPhases.{Phase, phase_holds}
 use Rattle.dch_runlaw.proofs.HonestStanding.{Onward, Setting, Stand, down_frames, nodes_of, runs-append, up_frames}
@@ -149,14 +150,14 @@ run_goes planned up down g (event ∷ events) old new lines run up_fits down_fit
       run = runs-append g.H (nodes_of planned up down g old s) (nodes_of planned up down g run.next a.stand) (nodes_of planned up down g new b.stand) a.events b.events a.run b.run;
     }
 
--- at opening
-abbrev pub opened_stand : (planned : Planned) (up down first : ℕ) (g : Setting planned up down) → Stand planned up down g (opened_link planned first)
-opened_stand planned up down first g = record {
+-- where a part begins nothing has gone over a channel
+abbrev pub fresh_stand : (planned : Planned) (up down : ℕ) (g : Setting planned up down) (link : LinkState) → Fresh planned link → Stand planned up down g link
+fresh_stand planned up down g link f = record {
   ul = λ i. no_log;
   dl = λ i. no_log;
-  are = record { ue = refl; node_b = refl; rnc = refl };
-  ue_cfn = refl;
-  node_b_cfn = refl;
-  up_phase = record { on = λ _. record { ended = []; is = refl; holds = g.up_joins.none }; over = λ _. g.up_joins.none };
-  down_phase = record { on = λ _. record { ended = []; is = refl; holds = g.down_joins.none }; over = λ _. g.down_joins.none };
+  are = f.are;
+  ue_cfn = f.ue_cfn;
+  node_b_cfn = f.node_b_cfn;
+  up_phase = record { on = λ _. record { ended = []; is = sym (f.ue_none up); holds = g.up_joins.none }; over = λ _. g.up_joins.none };
+  down_phase = record { on = λ _. record { ended = []; is = sym (f.rnc_none down); holds = g.down_joins.none }; over = λ _. g.down_joins.none };
 }

@@ -28,15 +28,17 @@ use Rattle.dch_nodeb.specs.Steps.{IsRadio, IsRadioFrame}
 use Rattle.dch_nodeb.proofs.Steady.{tells}
 use Rattle.dch_ue.specs.State.{State as UeState, frames_now}
 use Rattle.dch_ue.specs.Steps.{IsReading}
-use Rattle.dch_link.specs.Link.{LinkState, opened_link}
+use Rattle.dch_link.specs.Link.{LinkState}
 use Rattle.dch_runlaw.specs.Frames.{IsFrame}
 use Rattle.dch_runlaw.specs.Runs.{Between, Event, Frame, Runs}
+use Rattle.dch_runlaw.specs.Parts.{Begins}
+use Rattle.dch_runlaw.proofs.Begun.{begun, begun_agree}
 use Rattle.dch_runlaw.proofs.ClearBetween.{Same, between}
 use Rattle.dch_runlaw.proofs.ClearDown.{AnyLast, AnyStep}
 use Rattle.dch_runlaw.proofs.ClearSent.{IsSentRadio, all_sent, heard_as}
 use Rattle.dch_runlaw.proofs.ClearTtis.{Half, half_more, half_next, over_or_on}
 use Rattle.dch_runlaw.specs.Intervals.{AllArrive, AreGood, ArrivesAsSent, DownAsGiven, InFrames, Tti}
-use Rattle.dch_runlaw.proofs.IntervalAgree.{Agree, Parts, down_side, opened_agree, parts, runs_agree, stays}
+use Rattle.dch_runlaw.proofs.IntervalAgree.{Agree, Parts, down_side, parts, runs_agree, stays}
 use Rattle.dch_runlaw.proofs.IntervalCounting.{Stayed, Watch, starts_zero, stayed}
 use Rattle.dch_runlaw.proofs.IntervalWhole.{given_still}
 
@@ -220,9 +222,9 @@ last_reads planned old new lines f i good inside a arrives on all =
       | inr more ↦ absurd (omega (arith, more.0, all))
     ]
 
-pub down_interval : (planned : Planned) (first i : ℕ) (events : List Event) (mid new : LinkState) (lines : List Line) → Runs (opened_link planned first) events mid lines → IsPlanned planned → i < length planned.config.downlink.side.channels
+pub down_interval : (planned : Planned) (i : ℕ) (events : List Event) (start mid new : LinkState) (lines : List Line) → IsPlanned planned → Begins planned start → Runs start events mid lines → i < length planned.config.downlink.side.channels
     → (t : Tti (channel_at planned.config.downlink.side i).frames mid new) → AllArrive Down (channel_at planned.config.downlink.side i).frames mid new t → DownAsGiven planned i (channel_at planned.config.downlink.side i).frames mid new t
-down_interval planned first i events mid new lines run good inside t arrive = record {
+down_interval planned i events start mid new lines good begins run inside t arrive = record {
   given = new.node_b.state.given i;
   stays = all.inside;
   held = back.held;
@@ -237,7 +239,7 @@ down_interval planned first i events mid new lines run good inside t arrive = re
     is = (good.good.downlink.side.channels i inside).frames
 
     a : Agree planned mid
-    a = runs_agree planned events (opened_link planned first) mid lines run good (opened_agree planned first good)
+    a = runs_agree planned events start mid lines run good (begun_agree planned start good (begun planned start good begins))
 
     b : Agree planned t.last
     b = runs_agree planned t.events mid t.last t.lines t.run good a

@@ -1,5 +1,5 @@
 -- What the Node B sends of a set whose TTI ends with radio frames that all arrived as they were sent.
-use Rattle.std.proofs.Common.{◌≡◌, ◌<◌, ◌+◌, ◌%◌, ◌∙◌, ◌++◌, ℕ, zero, suc, List, [], ◌∷◌, length, true, false, Option, Some, append_assoc, arith, refl, sym, ap, subst, inl, inr}
+use Rattle.std.proofs.Common.{◌≡◌, ◌<◌, ◌+◌, ◌%◌, ◌∙◌, ◌++◌, ℕ, zero, suc, List, [], ◌∷◌, length, true, false, Option, Some, arith, refl, sym, ap, subst, inl, inr}
 use Rattle.std.specs.Prelude.{◌==◌, ◌⊎◌}
 use Rattle.dch_types.specs.declared.channel.Dir.TheVariants.{Up}
 use Rattle.dch_types.specs.declared.channel.Side.{Side}
@@ -20,30 +20,21 @@ use Rattle.dch_layer.specs.Layers.{Given, Layer}
 use Rattle.dch_layer2.specs.Joined.{CarriesGiven, joined_bits}
 use Rattle.dch_nodeb.specs.Steps.{DeliversSet}
 use Rattle.dch_nodeb.proofs.Steady.{set_frames-member, starts-eighth, tells}
-use Rattle.dch_link.specs.Link.{LinkState, opened_link}
+use Rattle.dch_link.specs.Link.{LinkState}
 use Rattle.dch_runlaw.specs.Frames.{IsFrame}
 use Rattle.dch_runlaw.specs.Runs.{Event, Frame, Runs, Steps}
 use Rattle.dch_runlaw.specs.SizedLinks.{IsSized}
 use Rattle.dch_runlaw.specs.Sized.{AreAllWhole}
+use Rattle.dch_runlaw.specs.Parts.{Begins}
+use Rattle.dch_runlaw.proofs.Begun.{Begun, begun, begun_agree}
+use Rattle.dch_runlaw.proofs.RunningOver.{runs_on}
 use Rattle.dch_runlaw.proofs.SizedRuns.{is_sized}
 use Rattle.dch_runlaw.proofs.ClearSent.{heard_as}
 use Rattle.dch_runlaw.proofs.ClearTtis.{over_or_on}
 use Rattle.dch_runlaw.specs.Intervals.{AllArrive, AreGood, Tti, UpAsGiven}
-use Rattle.dch_runlaw.proofs.IntervalAgree.{Agree, Parts, opened_agree, parts, runs_agree}
+use Rattle.dch_runlaw.proofs.IntervalAgree.{Agree, Parts, parts, runs_agree}
 use Rattle.dch_runlaw.proofs.IntervalCounting.{Watch, stayed, starts_zero}
 use Rattle.dch_runlaw.proofs.IntervalUp.{InRunning, UpOn, frames_of, last_sent, run_formats, run_on, up_side, up_watch}
-
--- one run after another
-join : (a b : List Event) (old mid new : LinkState) (xs ys : List Line) → Runs old a mid xs → Runs mid b new ys → Runs old (a ++ b) new (xs ++ ys)
-join [] b old mid new xs ys first second = subst (λ (l : List Line). Runs old b new (l ++ ys)) (sym first.1) (subst (λ (m : LinkState). Runs m b new ys) first.0 second)
-join (event ∷ a) b old mid new xs ys first second = record {
-  next = first.next;
-  own = first.own;
-  rest = first.rest ++ ys;
-  step = first.step;
-  later = join a b first.next mid new first.rest ys first.later second;
-  reported = ap (λ (l : List Line). l ++ ys) first.reported ∙ append_assoc first.own first.rest ys;
-}
 
 -- so after the last radio frame of a run each uplink channel has as many bits as its format
 whole_last : (planned : Planned) (events : List Event) (old last new : LinkState) (lines own : List Line) → Runs old events last lines → Steps last Frame new own
@@ -107,13 +98,13 @@ set_up planned cfn frames reader layer set lines iub good heard over were (inr (
 abbrev no_watch : (planned : Planned) (frames : ℕ) → Watch planned frames ℕ
 no_watch planned frames = record { value = λ link. 0; frame_value = λ old new lines f. 0; same = λ old new r. refl; after = λ old new lines f a. refl; before = λ old new lines f a off. refl }
 
-opened_formats : (planned : Planned) (first : ℕ) → IsPlanned planned → first % 8 ≡ 0 → InRunning planned (opened_link planned first)
-opened_formats planned first good eighth = λ j inside off.
-    absurd (let both : false ≡ true = sym off ∙ starts-eighth (frames_of planned j) first (good.good.uplink.side.channels j inside).frames eighth in cc)
+begun_formats : (planned : Planned) (start : LinkState) → IsPlanned planned → start.rnc.state.cfn % 8 ≡ 0 → InRunning planned start
+begun_formats planned start good eighth = λ j inside off.
+    absurd (let both : false ≡ true = sym off ∙ starts-eighth (frames_of planned j) start.rnc.state.cfn (good.good.uplink.side.channels j inside).frames eighth in cc)
 
-pub up_interval : (planned : Planned) (first set : ℕ) (events : List Event) (mid new : LinkState) (lines : List Line) → Runs (opened_link planned first) events mid lines → IsPlanned planned → first % 8 ≡ 0 → set < 8
+pub up_interval : (planned : Planned) (set : ℕ) (events : List Event) (start mid new : LinkState) (lines : List Line) → IsPlanned planned → Begins planned start → start.rnc.state.cfn % 8 ≡ 0 → Runs start events mid lines → set < 8
     → (t : Tti (set_frames planned.config.uplink.side set) mid new) → AllArrive Up (set_frames planned.config.uplink.side set) mid new t → UpAsGiven planned set (set_frames planned.config.uplink.side set) mid new t
-up_interval planned first set events mid new lines run good eighth small t arrive = record {
+up_interval planned set events start mid new lines good begins eighth run small t arrive = record {
   given = λ i. new.ue.state.layer.given i;
   stays = λ i inside member. (stayed planned frames Given (up_watch planned i frames good (same i inside member)) mid new t good is a).inside;
   octets = done.octets;
@@ -136,8 +127,14 @@ up_interval planned first set events mid new lines run good eighth small t arriv
     same : (i : ℕ) → i < length side.channels → (channel_at side i).set ≡ set → frames ≡ frames_of planned i
     same i inside member = set_same side set i good.good.uplink.side inside member
 
+    at_start : Begun planned start
+    at_start = begun planned start good begins
+
+    first : Agree planned start
+    first = begun_agree planned start good at_start
+
     a : Agree planned mid
-    a = runs_agree planned events (opened_link planned first) mid lines run good (opened_agree planned first good)
+    a = runs_agree planned events start mid lines run good first
 
     b : Agree planned t.last
     b = runs_agree planned t.events mid t.last t.lines t.run good a
@@ -155,7 +152,7 @@ up_interval planned first set events mid new lines run good eighth small t arriv
     rx_cfn = p.receives.kept.last ∙ p.node_b_cfn
 
     formats : InRunning planned mid
-    formats = run_formats planned events (opened_link planned first) mid lines run good (opened_agree planned first good) (opened_formats planned first good eighth)
+    formats = run_formats planned events start mid lines run good first (begun_formats planned start good eighth)
 
     last_formats : InRunning planned t.last
     last_formats = run_formats planned t.events mid t.last t.lines t.run good a formats
@@ -171,8 +168,8 @@ up_interval planned first set events mid new lines run good eighth small t arriv
 
     wholes : AreAllWhole side new.ue.state.layer
     wholes =
-        whole_last planned (events ++ t.events) (opened_link planned first) t.last new (lines ++ t.lines) t.last_lines (join events t.events (opened_link planned first) mid t.last lines t.lines run t.run) t.step
-        (λ all whole. is_sized planned first ((events ++ t.events) ++ (Frame ∷ [])) new all whole good)
+        whole_last planned (events ++ t.events) start t.last new (lines ++ t.lines) t.last_lines (runs_on events t.events start mid t.last lines t.lines run t.run) t.step
+        (λ all whole. is_sized planned ((events ++ t.events) ++ (Frame ∷ [])) start new all whole good at_start.both)
 
     on : (i : ℕ) → i < length side.channels → (channel_at side i).set ≡ set → UpOn planned i t.last
     on i inside member = run_on planned t.events mid t.last t.lines t.run i good inside a formats arrive.0

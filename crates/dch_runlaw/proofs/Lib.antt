@@ -1,14 +1,15 @@
 pub mod Eight
 pub mod Frames
 pub mod Keeping
+pub mod Changing
 pub mod Passing
-pub mod Scripts
 pub mod Shown
 pub mod SizedSums
 pub mod SizedBlocks
 pub mod SizedStarts
 pub mod SizedEnds
 pub mod SizedRuns
+pub mod Begun
 pub mod NodesTaken
 pub mod NodesLifting
 pub mod NodesSteps
@@ -24,6 +25,9 @@ pub mod HonestSets
 pub mod HonestFrames
 pub mod HonestRuns
 pub mod HonestHanded
+pub mod HonestKept
+pub mod HonestOver
+pub mod Handed
 pub mod ClearBetween
 pub mod ClearBlocks
 pub mod ClearClean
@@ -43,6 +47,7 @@ pub mod ClearUpFrame
 pub mod ClearUpSets
 pub mod IntervalAgree
 pub mod IntervalCounting
+pub mod CountedFrames
 pub mod IntervalDown
 pub mod IntervalSets
 pub mod IntervalUp
@@ -66,6 +71,8 @@ pub mod TextRadio
 pub mod TextEnds
 pub mod TextFrames
 pub mod TextTold
+pub mod RunningOver
+pub mod Scripts
 pub mod HeadlineHandedUp
 pub mod HeadlineSilence
 pub mod Headline

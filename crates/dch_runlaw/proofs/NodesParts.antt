@@ -13,13 +13,13 @@ use Rattle.dch_layerlaw.specs.History.{IsAmBearer}
 use Rattle.dch_layerlaw.specs.TmHistory.{IsTmBearer, IsTmCarried, IsTmSome, units_in}
 use Rattle.dch_layerlaw.specs.UmHistory.{Any as AnyWorld, IsUmBearer, IsUmCarried, pdus_in}
 use Rattle.dch_layerlaw.specs.Worlds.{AreFaithful as AreWorldFaithful, AreWholeSoFar, HasChanged, IsFaithful, RunsInTwo as WorldsInTwo, World, turned}
-use Rattle.dch_layerlaw.proofs.Parts.{one_history, over_parts, whole_parts}
+use Rattle.dch_layerlaw.proofs.Parts.{over_parts, whole_parts}
 use Rattle.dch_layerlaw.proofs.Tm.{sub_units, tm_all_came, tm_some}
 use Rattle.dch_layerlaw.proofs.TmRuns.{tm_over}
 use Rattle.dch_layerlaw.proofs.UmKnown.{known_over}
 use Rattle.dch_layerlaw.proofs.UmRuns.{um_over}
 use Rattle.dch_layerlaw.proofs.UmWhole.{um_all_came}
-use Rattle.dch_runlaw.specs.Nodes.{Any, AreAllTaken, AreFaithful, AreWhole, Changes, Event, IsAmHistory, IsAmHistoryOver, IsDownKnownOver, IsUpKnownOver, IsWholeAmHistory, Nodes, RunsInTwo, opened_nodes, world_of}
+use Rattle.dch_runlaw.specs.Nodes.{Any, AreAllTaken, AreFaithful, AreWhole, Changes, Event, IsAmHistoryOver, IsDownKnownOver, IsUpKnownOver, IsWholeAmHistory, Nodes, RunsInTwo, opened_nodes, world_of}
 use Rattle.dch_runlaw.proofs.NodesEvents.{Have, RunsOn, flipped, run_turned, runs_on}
 
 -- both layers 2 changed
@@ -66,9 +66,6 @@ pub two_history : (first second : Planned) (ue_first rnc_first b up down up_late
 two_history first second ue_first rnc_first b up down up_later down_later earlier later nodes keeps is on run =
     let l = lifted first second (AreFaithful up down) (AreFaithful up_later down_later) (AreWorldFaithful up down) (AreWorldFaithful up_later down_later) ue_first rnc_first earlier later nodes (λ n holds. record { out = holds.up_is; back = holds.down_is }) (λ n holds. record { out = holds.up_is; back = holds.down_is }) run in
     over_parts first.config second.config Up Down b up down up_later down_later l.before.events l.behind.events (world_of nodes) keeps is on (in_two first second (AreWorldFaithful up down) (AreWorldFaithful up_later down_later) ue_first rnc_first run.mid run.next nodes l)
-
-pub over_history : (second : Planned) (b : ℕ) (mid nodes : Nodes) → IsAmHistoryOver second b mid nodes → IsAmHistory second b nodes
-over_history second b mid nodes h = one_history second.config Up Down b (world_of mid) (world_of nodes) h
 
 pub two_whole : (first second : Planned) (ue_first rnc_first b up down up_later down_later : ℕ) (earlier later : List Event) (nodes : Nodes) → KeepsBearer first.config second.config b → IsAmBearer first.config Up Down b up down → IsAmBearer second.config Up Down b up_later down_later → (run : RunsInTwo first second (AreWhole up down) (AreWhole up_later down_later) ue_first rnc_first earlier later nodes) → AreAllTaken up down run.mid → IsWholeAmHistory second b up_later down_later nodes
 two_whole first second ue_first rnc_first b up down up_later down_later earlier later nodes keeps is on run taken =

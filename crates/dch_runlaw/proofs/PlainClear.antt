@@ -1,10 +1,8 @@
 -- A run in which no damage has an effect writes plain lines alone.
-use Rattle.std.proofs.Common.{◌≡◌, ◌<◌, ◌%◌, ℕ, List, [], ◌∷◌, Some, true, length, refl, subst}
+use Rattle.std.proofs.Common.{◌≡◌, ◌<◌, ◌%◌, ◌++◌, ℕ, List, [], ◌∷◌, Some, true, length, refl, subst, inl}
 use Rattle.dch_types.specs.declared.bearer.Mode.{Mode}
 use Rattle.dch_types.specs.declared.bearer.Mode.TheVariants.{Am, Tm, Um}
-use Rattle.dch_types.specs.declared.channel.Dir.{Dir}
 use Rattle.dch_types.specs.declared.channel.Dir.TheVariants.{Up, Down}
-use Rattle.dch_types.specs.Parts.{side_of}
 use Rattle.dch_config.specs.Good.{IsGood}
 use Rattle.dch_accept.specs.Plans.{IsPlanned, Planned}
 use Rattle.dch_node.specs.Lines.{Line, Took, Full, Wrong, Bad, Reserved, NoBearer, Nobody, PduBad, Outside, Overlong, Got, GotBits, Iub, IubBad, Phy, PhyNone, BadTti, Differs}
@@ -15,10 +13,9 @@ use Rattle.dch_runlaw.specs.Runs.{Between, Event, Frame, Runs}
 use Rattle.dch_layerlaw.specs.Lines.{lines_of}
 use Rattle.dch_layerlaw.proofs.Bearers.{is_am_bearer}
 use Rattle.dch_runlaw.specs.Nodes.{world_of}
-use Rattle.dch_runlaw.specs.HonestBearers.{IsAcknowledged, IsTransparent, IsUnacknowledged, down_way, up_way}
-use Rattle.dch_runlaw.specs.HonestFits.{IsUndamagedOn}
-use Rattle.dch_runlaw.proofs.HonestHanded.{tm_undamaged_down, tm_undamaged_up, um_undamaged_down, um_undamaged_up, undamaged_history}
-use Rattle.dch_runlaw.proofs.SizedRuns.{is_sized}
+use Rattle.dch_runlaw.specs.HonestBearers.{down_way, up_way}
+use Rattle.dch_runlaw.specs.Parts.{Begins}
+use Rattle.dch_runlaw.proofs.Handed.{IsHanded, TakesAll, handed}
 use Rattle.dch_runlaw.specs.Clear.{IsClear}
 use Rattle.dch_runlaw.specs.ClearSound.{AreSound, is_sound}
 use Rattle.dch_runlaw.proofs.ClearRuns.{clear_on, clear_sound}
@@ -54,9 +51,12 @@ plain_lines : (lines : List Line) → AreSound lines → AreMild lines → ArePl
 plain_lines [] sound mild = tt
 plain_lines (line ∷ lines) sound mild = (plain_line line sound.0 mild.0, plain_lines lines sound.1 mild.1)
 
+pub plain-append : (xs ys : List Line) → ArePlain xs → ArePlain ys → ArePlain (xs ++ ys)
+plain-append [] ys first later = later
+plain-append (x ∷ xs) ys first later = (first.0, plain-append xs ys first.1 later)
+
 -- of every channel just what was given is taken
-takes_all : (planned : Planned) (events : List Event) (old new : LinkState) (lines : List Line) (run : Runs old events new lines)
-    → ((dir : Dir) (i : ℕ) → i < length (side_of planned.config dir).channels → IsUndamagedOn planned dir i events old new lines run) → RunTakes planned events old new lines run
+takes_all : (planned : Planned) (events : List Event) (old new : LinkState) (lines : List Line) (run : Runs old events new lines) → TakesAll planned events old new lines run → RunTakes planned events old new lines run
 takes_all planned [] old new lines run all = tt
 takes_all planned (Between event ∷ events) old new lines run all = (tt, takes_all planned events run.next new run.rest run.later (λ dir i inside. (all dir i inside).1))
 takes_all planned (Frame ∷ events) old new lines run all = (
@@ -64,51 +64,43 @@ takes_all planned (Frame ∷ events) old new lines run all = (
   takes_all planned events run.next new run.rest run.later (λ dir i inside. (all dir i inside).1),
 )
 
+pub level_over : (planned : Planned) (events : List Event) (old new : LinkState) (lines : List Line) (run : Runs old events new lines) → IsGood planned.config → TakesAll planned events old new lines run → Level planned old → Level planned new
+level_over planned events old new lines run good all v = run_level planned events old new lines run good (takes_all planned events old new lines run all) v
+
+-- all lines on a bearer
+both_mild : (planned : Planned) (new : LinkState) (b : ℕ) → IsGood planned.config → IsHanded planned new → b < length planned.config.bearers → (bearer_in planned.config b).mode ≡ Am → (AreMild (lines_of b new.ue.lines)) × (AreMild (lines_of b new.rnc.lines))
+both_mild planned new b good handed l mode =
+    let both : HasBoth planned.config b = has_both planned.config b good l mode in
+    let h = handed.acknowledged b both.up both.down (record { good = good; there = l; mode = mode; up_is = both.up_is; down_is = both.down_is }) in
+    let mild : BothMild b (world_of h.nodes) = am_mild planned.config Up Down b both.up both.down (world_of h.nodes) (is_am_bearer planned.config b both.up both.down good l mode both.up_is both.down_is) h.history in
+    (subst (λ (x : List Line). AreMild (lines_of b x)) h.are.ue_lines mild.near, subst (λ (x : List Line). AreMild (lines_of b x)) h.are.rnc_lines mild.far)
+
+up_mild : (planned : Planned) (new : LinkState) (b i : ℕ) (mode : Mode) → IsGood planned.config → IsHanded planned new → (bearer_in planned.config b).mode ≡ mode → channel_of planned.config Up b ≡ Some i → AreMild (lines_of b new.rnc.lines)
+up_mild planned new b i Am good handed e on = (both_mild planned new b good handed (there planned.config Up b i on) e).1
+up_mild planned new b i Um good handed e on =
+    um_mild planned.config Up b i new.ue.state.layer new.rnc.lines (up_way planned i new) (handed.unacknowledged_up b i (record { good = good; there = there planned.config Up b i on; mode = e; channel = on }))
+up_mild planned new b i Tm good handed e on =
+    tm_mild planned.config Up b i new.ue.state.layer new.rnc.lines (up_way planned i new) (handed.transparent_up b i (record { good = good; there = there planned.config Up b i on; mode = e; channel = on }))
+
+down_mild : (planned : Planned) (new : LinkState) (b i : ℕ) (mode : Mode) → IsGood planned.config → IsHanded planned new → (bearer_in planned.config b).mode ≡ mode → channel_of planned.config Down b ≡ Some i → AreMild (lines_of b new.ue.lines)
+down_mild planned new b i Am good handed e on = (both_mild planned new b good handed (there planned.config Down b i on) e).0
+down_mild planned new b i Um good handed e on =
+    um_mild planned.config Down b i new.rnc.state.layer new.ue.lines (down_way planned i new) (handed.unacknowledged_down b i (record { good = good; there = there planned.config Down b i on; mode = e; channel = on }))
+down_mild planned new b i Tm good handed e on =
+    tm_mild planned.config Down b i new.rnc.state.layer new.ue.lines (down_way planned i new) (handed.transparent_down b i (record { good = good; there = there planned.config Down b i on; mode = e; channel = on }))
+
+-- the lines of a part
+pub part_plain : (planned : Planned) (events : List Event) (start new : LinkState) (lines : List Line) (run : Runs start events new lines) → IsPlanned planned → Begins planned start → start.rnc.state.cfn % 8 ≡ 0 → IsClear events start new lines run → Level planned new → IsHanded planned new → ArePlain lines
+part_plain planned events start new lines run good begins eighth clear level handed = plain_lines lines
+    (clear_sound planned events start new lines run good begins eighth clear)
+    (run_mild events start new lines run
+    (all_mild planned.config Down new.ue.lines level.ue_known (λ b has. down_mild planned new b has.channel (bearer_in planned.config b).mode good.good handed refl has.is))
+    (all_mild planned.config Up new.rnc.lines level.rnc_known (λ b has. up_mild planned new b has.channel (bearer_in planned.config b).mode good.good handed refl has.is)))
+
 -- the law
 pub clear_plain : (planned : Planned) (first : ℕ) (events : List Event) (new : LinkState) (lines : List Line) (run : Runs (opened_link planned first) events new lines) → IsPlanned planned → first % 8 ≡ 0 → IsClear events (opened_link planned first) new lines run → ArePlain lines
-clear_plain planned first events new lines run good eighth clear = plain_lines lines
-    (clear_sound planned first events new lines run good eighth clear (is_sized planned first events new lines run good))
-    (run_mild events (opened_link planned first) new lines run
-    (all_mild planned.config Down new.ue.lines level.ue_known (λ b has. down_mild b has.channel (bearer_in planned.config b).mode refl has.is))
-    (all_mild planned.config Up new.rnc.lines level.rnc_known (λ b has. up_mild b has.channel (bearer_in planned.config b).mode refl has.is)))
-  where
-    config_good : IsGood planned.config
-    config_good = good.good
-
-    undamaged : (dir : Dir) (i : ℕ) → i < length (side_of planned.config dir).channels → IsUndamagedOn planned dir i events (opened_link planned first) new lines run
-    undamaged dir i inside = clear_on planned first dir i events new lines run good eighth clear (is_sized planned first events new lines run good) inside
-
-    level : Level planned new
-    level = run_level planned events (opened_link planned first) new lines run config_good (takes_all planned events (opened_link planned first) new lines run undamaged) (opened_level planned first)
-
-    both_mild : (b : ℕ) → b < length planned.config.bearers → (bearer_in planned.config b).mode ≡ Am → (AreMild (lines_of b new.ue.lines)) × (AreMild (lines_of b new.rnc.lines))
-    both_mild b l mode =
-        let both : HasBoth planned.config b = has_both planned.config b config_good l mode in
-        let up_inside : both.up < length planned.config.uplink.side.channels = (config_good.bearers b l).up.there both.up both.up_is in
-        let down_inside : both.down < length planned.config.downlink.side.channels = (config_good.bearers b l).down.there both.down both.down_is in
-        let is : IsAcknowledged planned b both.up both.down = record { good = config_good; there = l; mode = mode; up_is = both.up_is; down_is = both.down_is } in
-        let h = undamaged_history planned first b both.up both.down events new lines run is (record { up_is = undamaged Up both.up up_inside; down_is = undamaged Down both.down down_inside }) in
-        let mild : BothMild b (world_of h.nodes) = am_mild planned.config Up Down b both.up both.down (world_of h.nodes) (is_am_bearer planned.config b both.up both.down config_good l mode both.up_is both.down_is) h.history in
-        (subst (λ (x : List Line). AreMild (lines_of b x)) h.are.ue_lines mild.near, subst (λ (x : List Line). AreMild (lines_of b x)) h.are.rnc_lines mild.far)
-
-    up_mild : (b i : ℕ) (mode : Mode) → (bearer_in planned.config b).mode ≡ mode → channel_of planned.config Up b ≡ Some i → AreMild (lines_of b new.rnc.lines)
-    up_mild b i Am e on = (both_mild b (there planned.config Up b i on) e).1
-    up_mild b i Um e on =
-        let is : IsUnacknowledged planned Up b i = record { good = config_good; there = there planned.config Up b i on; mode = e; channel = on } in
-        let inside : i < length planned.config.uplink.side.channels = (config_good.bearers b is.there).up.there i on in
-        um_mild planned.config Up b i new.ue.state.layer new.rnc.lines (up_way planned i new) (um_undamaged_up planned first b i events new lines run is (undamaged Up i inside))
-    up_mild b i Tm e on =
-        let is : IsTransparent planned Up b i = record { good = config_good; there = there planned.config Up b i on; mode = e; channel = on } in
-        let inside : i < length planned.config.uplink.side.channels = (config_good.bearers b is.there).up.there i on in
-        tm_mild planned.config Up b i new.ue.state.layer new.rnc.lines (up_way planned i new) (tm_undamaged_up planned first b i events new lines run is (undamaged Up i inside))
-
-    down_mild : (b i : ℕ) (mode : Mode) → (bearer_in planned.config b).mode ≡ mode → channel_of planned.config Down b ≡ Some i → AreMild (lines_of b new.ue.lines)
-    down_mild b i Am e on = (both_mild b (there planned.config Down b i on) e).0
-    down_mild b i Um e on =
-        let is : IsUnacknowledged planned Down b i = record { good = config_good; there = there planned.config Down b i on; mode = e; channel = on } in
-        let inside : i < length planned.config.downlink.side.channels = (config_good.bearers b is.there).down.there i on in
-        um_mild planned.config Down b i new.rnc.state.layer new.ue.lines (down_way planned i new) (um_undamaged_down planned first b i events new lines run is (undamaged Down i inside))
-    down_mild b i Tm e on =
-        let is : IsTransparent planned Down b i = record { good = config_good; there = there planned.config Down b i on; mode = e; channel = on } in
-        let inside : i < length planned.config.downlink.side.channels = (config_good.bearers b is.there).down.there i on in
-        tm_mild planned.config Down b i new.rnc.state.layer new.ue.lines (down_way planned i new) (tm_undamaged_down planned first b i events new lines run is (undamaged Down i inside))
+clear_plain planned first events new lines run good eighth clear =
+    let opened : LinkState = opened_link planned first in
+    let begins : Begins planned opened = inl (record { first = first; is = refl }) in
+    let all : TakesAll planned events opened new lines run = λ dir i inside. clear_on planned dir i events opened new lines run good begins eighth clear inside in
+    part_plain planned events opened new lines run good begins eighth clear (level_over planned events opened new lines run good.good all (opened_level planned first)) (handed planned first events new lines run all)

@@ -19,7 +19,12 @@ use Rattle.dch_nodeb.specs.Steps.{IsReception}
 use Rattle.dch_rnc.specs.State.{State as RncState, set_readings}
 use Rattle.dch_rnc.specs.Steps.{IsReadFrame, IsRefusedFrame, IsTick as IsRncTick, sent_line, sent_lines}
 use Rattle.dch_link.specs.Checks.{good_in}
+use Rattle.dch_link.specs.Changing.{Changes}
 use Rattle.dch_link.specs.Link.{LinkState, opened_link}
+use Rattle.dch_runlaw.specs.Parts.{KeepsAll}
+use Rattle.dch_runlaw.proofs.Begun.{Fresh, changed_fresh, opened_fresh}
+use Rattle.dch_runlaw.proofs.Changing.{IsChanged, changed_is}
+use Rattle.dch_runlaw.proofs.HonestKept.{known_kept}
 use Rattle.dch_runlaw.proofs.HonestSteps.{set_none}
 use Rattle.dch_runlaw.specs.Frames.{IsFrame, MayBeTaken, Taken, lines_below}
 use Rattle.dch_layerlaw.proofs.Names.{number_same}
@@ -47,16 +52,27 @@ pub record Level (planned : Planned) (link : LinkState) : Type 0 where
   pub ue_known : AreKnown planned.config Down link.ue.lines
   pub rnc_known : AreKnown planned.config Up link.rnc.lines
 
-pub opened_level : (planned : Planned) (first : ℕ) → Level planned (opened_link planned first)
-opened_level planned first = record {
-  are = record { ue = refl; node_b = refl; rnc = refl };
-  ue_cfn = refl;
-  node_b_cfn = refl;
-  ue_reach = λ i. tt;
-  rnc_reach = λ i. tt;
-  ue_known = tt;
-  rnc_known = tt;
+pub begun_level : (planned : Planned) (start : LinkState) → Fresh planned start → AreKnown planned.config Down start.ue.lines → AreKnown planned.config Up start.rnc.lines → Level planned start
+begun_level planned start f ue rnc = record {
+  are = f.are;
+  ue_cfn = f.ue_cfn;
+  node_b_cfn = f.node_b_cfn;
+  ue_reach = λ i. subst (AllReach planned.config Up i) (sym (f.ue_none i)) tt;
+  rnc_reach = λ i. subst (AllReach planned.config Down i) (sym (f.rnc_none i)) tt;
+  ue_known = ue;
+  rnc_known = rnc;
 }
+
+-- at opening, and where another configuration becomes active in which every bearer goes on
+pub opened_level : (planned : Planned) (first : ℕ) → Level planned (opened_link planned first)
+opened_level planned first = begun_level planned (opened_link planned first) (opened_fresh planned first) tt tt
+
+pub changed_level : (planned second : Planned) (old new : LinkState) → KeepsAll planned second → Changes second old new → Level planned old → Level second new
+changed_level planned second old new kept changes v =
+    let is : IsChanged second old new = changed_is second old new changes in
+    begun_level second new (changed_fresh second old new is v.ue_cfn v.node_b_cfn)
+    (known_kept planned.config second.config Down new.ue.lines kept (subst (AreKnown planned.config Down) (sym is.ue_said) v.ue_known))
+    (known_kept planned.config second.config Up new.rnc.lines kept (subst (AreKnown planned.config Up) (sym is.rnc_said) v.rnc_known))
 
 -- the lines on Iub frames that are sent
 line_known : (planned : Planned) (s : ℕ) (o : Option (List ℕ)) → AreKnown planned.config Up (sent_line s o)

@@ -1,15 +1,18 @@
 -- What a bearing keeps by the mode of its bearer, and the size of the blocks that it builds.
-use Rattle.std.proofs.Common.{◌≡◌, ◌≢◌, ◌<◌, ◌≤◌, ◌+◌, ◌-◌, ◌*◌, ℕ, zero, suc, List, [], ◌∷◌, ◌++◌, cond, Option, Some, None, Result, Ok, Err, length, take, arith, refl, sym, ap, ◌∙◌, subst, length-append}
+use Rattle.std.proofs.Common.{◌≡◌, ◌≢◌, ◌<◌, ◌≤◌, ◌+◌, ◌-◌, ◌*◌, ℕ, zero, suc, List, [], ◌∷◌, ◌++◌, cond, Option, Some, None, Result, Ok, Err, length, take, arith, refl, sym, ap, ◌∙◌, subst, ⊎_elim, length-append}
 use Rattle.std.specs.Prelude.{◌==◌, min, nat_lt}
 use Rattle.std.specs.List.{prefix_len}
+use Rattle.std.proofs.lemmas.Bool.{cases_lt}
 use Rattle.std.proofs.lemmas.Bool.Decides.{nat_tests}
 use Rattle.dch_bits.specs.declared.bit.Bit.{Bit}
 use Rattle.dch_bits.specs.declared.offer.Offer.{Offer}
 use Rattle.dch_bits.specs.declared.offer.Offer.TheVariants.{Accepted, Full, WrongSize}
 use Rattle.dch_types.specs.declared.channel.Dir.{Dir}
+use Rattle.dch_types.specs.declared.bearer.Bearer.{Bearer}
 use Rattle.dch_types.specs.declared.bearer.Mode.{Mode}
 use Rattle.dch_types.specs.declared.bearer.Mode.TheVariants.{Tm, Um, Am}
 use Rattle.dch_types.specs.declared.config.Config.{Config}
+use Rattle.dch_config.specs.Changes.{KeepsBearer}
 use Rattle.dch_config.specs.Good.{IsGood}
 use Rattle.dch_filling.specs.Filling.{AreSome}
 use Rattle.dch_filling.proofs.Fronts.{some_more}
@@ -28,6 +31,7 @@ use Rattle.dch_layer.specs.Bearings.{Bearing, Sends, Transparent, Unacknowledged
 use Rattle.dch_layer.specs.Building.{Builds, Gives}
 use Rattle.dch_layer.specs.Hearing.{hears, hears_um}
 use Rattle.dch_layer.specs.Octets.{bits_of, block_of, field_for, octets_of}
+use Rattle.dch_layer.proofs.Changing.{kept_octets}
 use Rattle.dch_layer.proofs.Good.{am_fits, no_field, um_fits}
 use Rattle.dch_layer2.specs.Sharing.{HasBits, HaveBits}
 use Rattle.dch_layer2.proofs.Bits.{given_bits, heard_bits, offered_bits, opened_bits, ticked_bits}
@@ -205,3 +209,32 @@ pub gives_sized : (config : Config) (out : Dir) (b i n : ℕ) (old new : Bearing
 gives_sized config out b i n (Transparent w us) new blocks good on f l g = front_sized config out b n w us w.units new blocks refl f.bits.units (no_field config out b (Some i) good on f.mode) l g
 gives_sized config out b i n (Unacknowledged s r) new blocks good on f l g = pdus_sized config out b i n (Unacknowledged s r) new blocks good on (λ t. let x : ◌≡◌ {A = Mode} Um Tm = sym f.mode.0 ∙ t in absurd (cc)) g f.mode
 gives_sized config out b i n (Acknowledged s r) new blocks good on f l g = pdus_sized config out b i n (Acknowledged s r) new blocks good on (λ t. let x : ◌≡◌ {A = Mode} Am Tm = sym f.mode ∙ t in absurd (cc)) g f.mode
+
+-- where another configuration becomes active, in which a bearer is kept, it fits there
+none_at : (config : Config) (xs : List Bearer) (b : ℕ) → length xs ≤ b → (bearer_in (record config { bearers = xs }) b).mode ≡ Am
+none_at config [] b l = refl
+none_at config (x ∷ xs) zero l = absurd (omega (arith, l))
+none_at config (x ∷ xs) (suc b) l = none_at config xs b (omega (arith, l))
+
+kept_none : (first second : Config) (b : ℕ) → KeepsBearer first second b → length first.bearers ≤ b → length second.bearers ≤ b
+kept_none first second b keeps l = ⊎_elim (λ (k : b < length second.bearers). (let there : b < length first.bearers = keeps.there.1 k in absurd (omega (arith, l, there)))) (λ (k : length second.bearers ≤ b). k) (cases_lt b (length second.bearers))
+
+kept_mode : (first second : Config) (b : ℕ) → KeepsBearer first second b → (bearer_in second b).mode ≡ (bearer_in first b).mode
+kept_mode first second b keeps = ⊎_elim
+    (λ (l : b < length first.bearers). sym (keeps.same l).alike.mode)
+    (λ (l : length first.bearers ≤ b). none_at second second.bearers b (kept_none first second b keeps l) ∙ sym (none_at first first.bearers b l))
+    (cases_lt b (length first.bearers))
+
+kept_pdus : (first second : Config) (out : Dir) (b : ℕ) → KeepsBearer first second b → (bearer_in first b).mode ≡ Um → pdu_octets second out b ≡ pdu_octets first out b
+kept_pdus first second out b keeps mode = ⊎_elim
+    (λ (l : b < length first.bearers). kept_octets first second out b (keeps.same l) (λ t. let x : ◌≡◌ {A = Mode} Um Tm = sym mode ∙ t in absurd (cc)))
+    (λ (l : length first.bearers ≤ b). (let x : ◌≡◌ {A = Mode} Am Um = sym (none_at first first.bearers b l) ∙ mode in absurd (cc)))
+    (cases_lt b (length first.bearers))
+
+kept_of : (first second : Config) (out : Dir) (b : ℕ) (bearing : Bearing) → KeepsBearer first second b → IsOfMode first out b bearing → IsOfMode second out b bearing
+kept_of first second out b (Transparent w us) keeps f = kept_mode first second b keeps ∙ f
+kept_of first second out b (Unacknowledged s r) keeps f = (kept_mode first second b keeps ∙ f.0, (f.1.0 ∙ sym (kept_pdus first second out b keeps f.0), f.1.1))
+kept_of first second out b (Acknowledged s r) keeps f = kept_mode first second b keeps ∙ f
+
+pub kept_fits : (first second : Config) (out : Dir) (b : ℕ) (bearing : Bearing) → KeepsBearer first second b → Fits first out b bearing → Fits second out b bearing
+kept_fits first second out b bearing keeps f = record { mode = kept_of first second out b bearing keeps f.mode; bits = f.bits }

@@ -17,10 +17,12 @@ use Rattle.dch_link.specs.Stages.{RncGoes, UeGoes}
 use Rattle.dch_link.specs.Within.{RncWithin, UeWithin}
 use Rattle.dch_runlaw.specs.Frames.{IsFrame, MayBeTaken, Taken}
 use Rattle.dch_runlaw.specs.Runs.{Between, Event, Frame, Runs, Steps}
+use Rattle.dch_runlaw.specs.Parts.{KeepsAll}
+use Rattle.dch_runlaw.proofs.Changing.{IsChanged}
 use Rattle.dch_runlaw.proofs.Keeping.{but_rnc, but_ue, rnc_step, ue_step}
 use Rattle.dch_runlaw.specs.SizedLinks.{IsSized, LineSized}
 use Rattle.dch_runlaw.proofs.SizedEnds.{below_stand, blocks_stand, offers_stand, ticks_stand}
-use Rattle.dch_runlaw.proofs.SizedStarts.{Stands, opened_stands, start_stands}
+use Rattle.dch_runlaw.proofs.SizedStarts.{Stands, changed_stands, opened_stands, start_stands}
 
 -- an end in its configuration
 pub record UeStands (planned : Planned) (s : UeState) : Type 0 where
@@ -76,9 +78,9 @@ rnc_stands planned old RncTicks new output good within step s = record {
 rnc_stands planned old (RncChange second) new output good within step s = absurd within
 
 -- both ends
-record Both (planned : Planned) (link : LinkState) : Type 0 where
-  ue : UeStands planned link.ue.state
-  rnc : RncStands planned link.rnc.state
+pub record Both (planned : Planned) (link : LinkState) : Type 0 where
+  pub ue : UeStands planned link.ue.state
+  pub rnc : RncStands planned link.rnc.state
 
 both_ue : (planned : Planned) (old new : LinkState) (event : UeEvent) → IsPlanned planned → UeWithin event → UeGoes old event new → Both planned old → Both planned new
 both_ue planned old new event good within goes h = record {
@@ -128,15 +130,25 @@ done planned old Frame new lines step good h =
       sized = (rnc.layer.given.sized, ue.layer.given.sized, ue.layer.given.whole, rnc.layer.given.whole);
     }
 
-all_sized : (planned : Planned) (events : List Event) (old new : LinkState) (lines : List Line) (run : Runs old events new lines) → IsPlanned planned → Both planned old → IsSized planned events old new lines run
-all_sized planned [] old new lines run good h = tt
-all_sized planned (event ∷ events) old new lines run good h =
+pub is_sized : (planned : Planned) (events : List Event) (old new : LinkState) (lines : List Line) (run : Runs old events new lines) → IsPlanned planned → Both planned old → IsSized planned events old new lines run
+is_sized planned [] old new lines run good h = tt
+is_sized planned (event ∷ events) old new lines run good h =
     let a : Done planned old event run.next run.own run.step = done planned old event run.next run.own run.step good h in
-    (a.sized, all_sized planned events run.next new run.rest run.later good a.stand)
+    (a.sized, is_sized planned events run.next new run.rest run.later good a.stand)
 
--- every run from opening
-pub is_sized : (planned : Planned) (first : ℕ) (events : List Event) (new : LinkState) (lines : List Line) (run : Runs (opened_link planned first) events new lines) → IsPlanned planned → IsSized planned events (opened_link planned first) new lines run
-is_sized planned first events new lines run good = all_sized planned events (opened_link planned first) new lines run good (record {
+pub run_both : (planned : Planned) (events : List Event) (old new : LinkState) (lines : List Line) → Runs old events new lines → IsPlanned planned → Both planned old → Both planned new
+run_both planned [] old new lines run good h = subst (Both planned) (sym run.0) h
+run_both planned (event ∷ events) old new lines run good h = run_both planned events run.next new run.rest run.later good (done planned old event run.next run.own run.step good h).stand
+
+-- at opening, and where another configuration becomes active in which every bearer goes on
+pub opened_both : (planned : Planned) (first : ℕ) → IsPlanned planned → Both planned (opened_link planned first)
+opened_both planned first good = record {
   ue = record { planned_is = refl; layer = opened_stands planned.config Up good.good };
   rnc = record { planned_is = refl; layer = opened_stands planned.config Down good.good };
-})
+}
+
+pub changed_both : (planned second : Planned) (old new : LinkState) → IsPlanned second → KeepsAll planned second → IsChanged second old new → Both planned old → Both second new
+changed_both planned second old new good kept is h = record {
+  ue = subst (UeStands second) (sym is.ue) (record { planned_is = refl; layer = changed_stands planned.config second.config Up old.ue.state.layer good.good kept h.ue.layer });
+  rnc = subst (RncStands second) (sym is.rnc) (record { planned_is = refl; layer = changed_stands planned.config second.config Down old.rnc.state.layer good.good kept h.rnc.layer });
+}

@@ -12,6 +12,7 @@ use Rattle.dch_types.specs.declared.config.Config.{Config}
 use Rattle.dch_types.specs.Limits.{idle_format, is_idle}
 use Rattle.dch_types.specs.Parts.{channel_at, format_at, format_number, side_of}
 use Rattle.dch_config.specs.Bearers.{names}
+use Rattle.dch_config.specs.Changes.{KeepsBearer}
 use Rattle.dch_config.specs.Good.{IsGood}
 use Rattle.dch_accept.specs.Blocks.{bits_of}
 use Rattle.dch_select.specs.declared.head.Head.{Head}
@@ -20,7 +21,7 @@ use Rattle.dch_select.specs.Candidates.{IsCandidate, IsServed, StartsIdle}
 use Rattle.dch_select.specs.Offered.{ahead, fits, given, head_at, offered, waiting}
 use Rattle.dch_layer.specs.Bearings.{Bearing, channel_of, head_of}
 use Rattle.dch_layer.specs.Building.{Gives}
-use Rattle.dch_layer.specs.Layers.{Given, Layer, opened_layer}
+use Rattle.dch_layer.specs.Layers.{Given, Layer, changed_layer, opened_layer}
 use Rattle.dch_layer.specs.Starting.{IsStart, asked_in, blocks_for, count_on, in_turn, is_on, joined, of_priority}
 use Rattle.dch_layer.proofs.Good.{there}
 use Rattle.dch_bound.proofs.Blocks.{side_good}
@@ -29,7 +30,7 @@ use Rattle.dch_layer2.proofs.Openings.{idle_is_idle}
 use Rattle.dch_layer2.proofs.Sums.{both_true, either, number_same}
 use Rattle.dch_layer2.proofs.Turns.{joined-append}
 use Rattle.dch_runlaw.specs.Sized.{AreGiven, AreSized}
-use Rattle.dch_runlaw.proofs.SizedBlocks.{Fits, gives_count, gives_fits, gives_sized, opened_fits}
+use Rattle.dch_runlaw.proofs.SizedBlocks.{Fits, gives_count, gives_fits, gives_sized, opened_fits, kept_fits}
 use Rattle.dch_runlaw.proofs.SizedSums.{all_give, sum_on, sum_on-append}
 
 -- blocks of a size, and how many they are
@@ -152,6 +153,13 @@ pub record Stands (config : Config) (out : Dir) (layer : Layer) : Type 0 where
 
 pub opened_stands : (config : Config) (out : Dir) → IsGood config → Stands config out (opened_layer config out)
 opened_stands config out good = record { fit = opened_fits config out; given = record { sized = λ i l. tt; whole = λ i l. sym (idle_none config out i good l) } }
+
+-- where another configuration becomes active, in which every bearer goes on
+pub changed_stands : (first second : Config) (out : Dir) (layer : Layer) → IsGood second → ((b : ℕ) → KeepsBearer first second b) → Stands first out layer → Stands second out (changed_layer second out layer)
+changed_stands first second out layer good kept s = record {
+  fit = λ b. kept_fits first second out b (layer.bearings b) (kept b) (s.fit b);
+  given = record { sized = λ i l. tt; whole = λ i l. sym (idle_none second out i good l) };
+}
 
 record Held (config : Config) (out : Dir) (i : ℕ) (g : Given) : Type 0 where
   sized : AreSized (format_at (channel_at (side_of config out) i) g.format).size g.blocks

@@ -17,11 +17,13 @@ use Rattle.dch_link.specs.Stages.{RncReports, UeReports}
 use Rattle.dch_link.specs.Within.{RncWithin, UeWithin}
 use Rattle.dch_runlaw.specs.Frames.{lines_below}
 use Rattle.dch_runlaw.specs.Runs.{Between, Event, Frame, Runs, Steps}
+use Rattle.dch_runlaw.specs.Parts.{GoesOver}
+use Rattle.dch_runlaw.proofs.Changing.{IsChanged, changed_is}
 use Rattle.dch_runlaw.proofs.Keeping.{but_rnc, but_ue, rnc_lines, rnc_step, ue_lines, ue_step}
 use Rattle.dch_runlaw.specs.TextDiffering.{false_rows, falses}
 use Rattle.dch_layerlaw.specs.Directions.{lines_on}
 use Rattle.dch_layerlaw.specs.Lines.{lines_of}
-use Rattle.dch_layerlaw.specs.Rows.{got_rows, gots, rows_of}
+use Rattle.dch_layerlaw.specs.Rows.{AreSmall, got_rows, gots, rows_of}
 use Rattle.dch_runlaw.specs.TextTold.{AreFewBearers, AreFewChannels, IsRead, IsTold, ShowsUnits, TellsFalse}
 use Rattle.dch_runlaw.proofs.TextDiffering.{rows_false}
 use Rattle.dch_layerlaw.proofs.Taking.{lines-append}
@@ -104,8 +106,8 @@ step_told old Frame new lines step =
     }
 
 -- one part behind another
-after : (dir : Dir) (b : ℕ) (old next new xs ys : List Line) → lines_of b next ≡ lines_of b old ++ lines_on dir b xs → lines_of b new ≡ lines_of b next ++ lines_on dir b ys → lines_of b new ≡ lines_of b old ++ lines_on dir b (xs ++ ys)
-after dir b old next new xs ys e f = f ∙ ap (λ l. l ++ lines_on dir b ys) e ∙ append_assoc (lines_of b old) (lines_on dir b xs) (lines_on dir b ys) ∙ ap (λ l. lines_of b old ++ l) (sym (on-append dir b xs ys))
+behind : (dir : Dir) (b : ℕ) (old next new xs ys : List Line) → lines_of b next ≡ lines_of b old ++ lines_on dir b xs → lines_of b new ≡ lines_of b next ++ lines_on dir b ys → lines_of b new ≡ lines_of b old ++ lines_on dir b (xs ++ ys)
+behind dir b old next new xs ys e f = f ∙ ap (λ l. l ++ lines_on dir b ys) e ∙ append_assoc (lines_of b old) (lines_on dir b xs) (lines_on dir b ys) ∙ ap (λ l. lines_of b old ++ l) (sym (on-append dir b xs ys))
 
 bearers_stay : (old new : LinkState) → new.ue.state.planned ≡ old.ue.state.planned → new.rnc.state.planned ≡ old.rnc.state.planned → AreFewBearers old → AreFewBearers new
 bearers_stay old new e f few = record {
@@ -121,8 +123,8 @@ channels_stay old new f few = record {
 
 both_told : (old next new : LinkState) (xs ys : List Line) → IsTold old next xs → IsTold next new ys → IsTold old new (xs ++ ys)
 both_told old next new xs ys first later = record {
-  up = λ b. after Up b old.rnc.lines next.rnc.lines new.rnc.lines xs ys (first.up b) (later.up b);
-  down = λ b. after Down b old.ue.lines next.ue.lines new.ue.lines xs ys (first.down b) (later.down b);
+  up = λ b. behind Up b old.rnc.lines next.rnc.lines new.rnc.lines xs ys (first.up b) (later.up b);
+  down = λ b. behind Down b old.ue.lines next.ue.lines new.ue.lines xs ys (first.down b) (later.down b);
   small = λ few. small_append xs ys (first.small few) (later.small (bearers_stay old next first.ue_stays first.rnc_stays few));
   low = λ few. low_append xs ys (first.low few) (later.low (channels_stay old next first.rnc_stays few));
   ue_stays = later.ue_stays ∙ first.ue_stays;
@@ -134,23 +136,33 @@ run_told old [] new lines run = subst (IsTold old new) (sym run.1) (subst (λ (l
 run_told old (event ∷ events) new lines run =
     subst (IsTold old new) (sym run.reported) (both_told old run.next new run.own run.rest (step_told old event run.next run.own run.step) (run_told run.next events new run.rest run.later))
 
--- from opening
-few_bearers : (planned : Planned) (first : ℕ) → IsGood planned.config → AreFewBearers (opened_link planned first)
-few_bearers planned first good = record { ue = good.few; rnc = good.few }
+-- where the configuration of both ends is a good one
+pub few_bearers : (planned : Planned) (link : LinkState) → IsGood planned.config → link.ue.state.planned ≡ planned → link.rnc.state.planned ≡ planned → AreFewBearers link
+few_bearers planned link good ue rnc = record {
+  ue = subst (λ (p : Planned). length p.config.bearers ≤ 16) (sym ue) good.few;
+  rnc = subst (λ (p : Planned). length p.config.bearers ≤ 16) (sym rnc) good.few;
+}
 
-few_channels : (planned : Planned) (first : ℕ) → IsGood planned.config → AreFewChannels (opened_link planned first)
-few_channels planned first good = record { uplink = good.uplink.side.few; downlink = good.downlink.side.few }
+few_channels : (planned : Planned) (link : LinkState) → IsGood planned.config → link.rnc.state.planned ≡ planned → AreFewChannels link
+few_channels planned link good rnc = record {
+  uplink = subst (λ (p : Planned). length p.config.uplink.side.channels ≤ 8) (sym rnc) good.uplink.side.few;
+  downlink = subst (λ (p : Planned). length p.config.downlink.side.channels ≤ 8) (sym rnc) good.downlink.side.few;
+}
 
-pub run_shown : (quiet : Bool) (planned : Planned) (first : ℕ) (events : List Event) (new : LinkState) (lines : List Line) → Runs (opened_link planned first) events new lines → IsGood planned.config → IsRead new (shown quiet (text_of lines))
-run_shown quiet planned first events new lines run good =
-    let t = run_told (opened_link planned first) events new lines run in
-    let few = few_bearers planned first good in
+-- what is shown of lines, where those on units are what both ends have reported
+pub lines_shown : (quiet : Bool) (lines : List Line) (link : LinkState) → AreSmall lines → ((b : ℕ) → lines_of b link.rnc.lines ≡ lines_on Up b lines) → ((b : ℕ) → lines_of b link.ue.lines ≡ lines_on Down b lines) → IsRead link (shown quiet (text_of lines))
+lines_shown quiet lines link small up down =
     let all = shown_rows quiet lines in
     record {
       whole = all.1;
-      up = λ b low. ap (got_rows Up b) all.0 ∙ seen_got quiet Up b lines ∙ rows_got Up b lines low (t.small few) ∙ ap rows_of (gots_on Up b lines ∙ ap (gots Up b) (sym (t.up b)));
-      down = λ b low. ap (got_rows Down b) all.0 ∙ seen_got quiet Down b lines ∙ rows_got Down b lines low (t.small few) ∙ ap rows_of (gots_on Down b lines ∙ ap (gots Down b) (sym (t.down b)));
+      up = λ b low. ap (got_rows Up b) all.0 ∙ seen_got quiet Up b lines ∙ rows_got Up b lines low small ∙ ap rows_of (gots_on Up b lines ∙ ap (gots Up b) (sym (up b)));
+      down = λ b low. ap (got_rows Down b) all.0 ∙ seen_got quiet Down b lines ∙ rows_got Down b lines low small ∙ ap rows_of (gots_on Down b lines ∙ ap (gots Down b) (sym (down b)));
     }
+
+pub run_shown : (quiet : Bool) (planned : Planned) (first : ℕ) (events : List Event) (new : LinkState) (lines : List Line) → Runs (opened_link planned first) events new lines → IsGood planned.config → IsRead new (shown quiet (text_of lines))
+run_shown quiet planned first events new lines run good =
+    let t : IsTold (opened_link planned first) new lines = run_told (opened_link planned first) events new lines run in
+    lines_shown quiet lines new (t.small (few_bearers planned (opened_link planned first) good refl refl)) t.up t.down
 
 pub units_shown : (quiet : Bool) (lines : List Line) → ShowsUnits quiet lines
 units_shown quiet lines =
@@ -160,11 +172,23 @@ units_shown quiet lines =
       same = λ dir b. ap (got_rows dir b) all.0 ∙ seen_got quiet dir b lines ∙ ap (got_rows dir b) (sym (text_rows lines).0);
     }
 
-pub run_false : (quiet : Bool) (planned : Planned) (first : ℕ) (events : List Event) (new : LinkState) (lines : List Line) → Runs (opened_link planned first) events new lines → IsGood planned.config → TellsFalse lines (shown quiet (text_of lines))
-run_false quiet planned first events new lines run good = record {
+pub over_shown : (quiet : Bool) (planned second : Planned) (first : ℕ) (before after : List Event) (start new : LinkState) (xs ys : List Line) → GoesOver planned second first before xs start → Runs start after new ys → IsGood planned.config → IsGood second.config
+    → IsRead new (shown quiet (text_of (xs ++ ys)))
+over_shown quiet planned second first before after start new xs ys o run good later =
+    let is : IsChanged second o.last start = changed_is second o.last start o.changes in
+    let one : IsTold (opened_link planned first) o.last xs = run_told (opened_link planned first) before o.last xs o.run in
+    let two : IsTold start new ys = run_told start after new ys run in
+    let few : AreFewBearers start = few_bearers second start later (ap (λ (x : UeState). x.planned) is.ue) (ap (λ (x : RncState). x.planned) is.rnc) in
+    lines_shown quiet (xs ++ ys) new (small_append xs ys (one.small (few_bearers planned (opened_link planned first) good refl refl)) (two.small few))
+    (λ b. behind Up b [] start.rnc.lines new.rnc.lines xs ys (ap (lines_of b) is.rnc_said ∙ one.up b) (two.up b))
+    (λ b. behind Down b [] start.ue.lines new.ue.lines xs ys (ap (lines_of b) is.ue_said ∙ one.down b) (two.down b))
+
+-- what is shown of a part of a run
+pub run_false : (quiet : Bool) (planned : Planned) (events : List Event) (start new : LinkState) (lines : List Line) → Runs start events new lines → IsGood planned.config → start.rnc.state.planned ≡ planned → TellsFalse lines (shown quiet (text_of lines))
+run_false quiet planned events start new lines run good active = record {
   are = are;
   told = λ dir i low. listed dir i (rows (shown quiet (text_of lines))) lines (are dir i low);
 }
   where
     are : (dir : Dir) (i : ℕ) → i < 2 ^ 64 → false_rows dir i (rows (shown quiet (text_of lines))) ≡ rows_of (falses dir i lines)
-    are dir i low = ap (false_rows dir i) (shown_rows quiet lines).0 ∙ seen_false quiet dir i lines ∙ rows_false dir i lines low ((run_told (opened_link planned first) events new lines run).low (few_channels planned first good))
+    are dir i low = ap (false_rows dir i) (shown_rows quiet lines).0 ∙ seen_false quiet dir i lines ∙ rows_false dir i lines low ((run_told start events new lines run).low (few_channels planned start good active))

@@ -1,25 +1,26 @@
--- TTIs that are received undamaged, in whatever run of three nodes that were opened for a configuration.
+-- TTIs that are received undamaged, in whatever part of a run of three nodes.
 use Rattle.std.specs.Prelude.{◌<◌, ℕ, List, length}
 use Rattle.dch_types.specs.declared.channel.Dir.TheVariants.{Up, Down}
 use Rattle.dch_types.specs.Parts.{channel_at}
 use Rattle.dch_types.specs.Timing.{set_frames}
 use Rattle.dch_accept.specs.Plans.{Planned}
 use Rattle.dch_node.specs.Lines.{Line}
-use Rattle.dch_link.specs.Link.{LinkState, opened_link}
+use Rattle.dch_link.specs.Link.{LinkState}
 use Rattle.dch_runlaw.specs.Runs.{Event, Runs}
 use Rattle.dch_runlaw.specs.Intervals.{AllArrive, DownAsGiven, Tti, UpAsGiven}
 
--- where all radio frames of a downlink channel's TTI arrive as the Node B sent them, the terminal reads just the blocks that it sent, all good
-abbrev pub ReceivesDown : Planned → ℕ → Type 0
-ReceivesDown planned first =
-    (i : ℕ) (events : List Event) (mid new : LinkState) (lines : List Line) → Runs (opened_link planned first) events mid lines → i < length planned.config.downlink.side.channels
+-- where all radio frames of a downlink channel's TTI arrive as the Node B sent them, the terminal reads just the blocks that it sent, all good: in
+-- every run from the beginning of a part on
+abbrev pub ReceivesDown : Planned → LinkState → Type 0
+ReceivesDown planned start =
+    (i : ℕ) (events : List Event) (mid new : LinkState) (lines : List Line) → Runs start events mid lines → i < length planned.config.downlink.side.channels
     → (t : Tti (channel_at planned.config.downlink.side i).frames mid new) → AllArrive Down (channel_at planned.config.downlink.side i).frames mid new t
     → DownAsGiven planned i (channel_at planned.config.downlink.side i).frames mid new t
 
 -- where all radio frames of the TTI of a set of uplink channels arrive as the terminal sent them, the Node B hands on just the blocks that it
 -- sent, all good
-abbrev pub ReceivesUp : Planned → ℕ → Type 0
-ReceivesUp planned first =
-    (set : ℕ) (events : List Event) (mid new : LinkState) (lines : List Line) → Runs (opened_link planned first) events mid lines → set < 8
+abbrev pub ReceivesUp : Planned → LinkState → Type 0
+ReceivesUp planned start =
+    (set : ℕ) (events : List Event) (mid new : LinkState) (lines : List Line) → Runs start events mid lines → set < 8
     → (t : Tti (set_frames planned.config.uplink.side set) mid new) → AllArrive Up (set_frames planned.config.uplink.side set) mid new t
     → UpAsGiven planned set (set_frames planned.config.uplink.side set) mid new t

@@ -14,7 +14,7 @@ use Rattle.dch_layer.specs.Layers.{Layer}
 use Rattle.dch_link.specs.Link.{LinkState}
 use Rattle.dch_layerlaw.specs.TmHistory.{IsTmCarried, IsTmSome}
 use Rattle.dch_layerlaw.specs.UmHistory.{IsUmCarried}
-use Rattle.dch_runlaw.specs.Nodes.{IsAmHistory, IsDownKnown, IsUpKnown, IsWholeAmHistory, Nodes}
+use Rattle.dch_runlaw.specs.Nodes.{IsAmHistory, IsAmHistoryOver, IsDownKnown, IsDownKnownOver, IsUpKnown, IsUpKnownOver, IsWholeAmHistory, Nodes}
 
 -- an acknowledged bearer of a good configuration, with its two channels
 pub record IsAcknowledged (planned : Planned) (b up down : ℕ) : Type 0 where
@@ -51,6 +51,14 @@ pub record HasHistory (planned : Planned) (b : ℕ) (link : LinkState) : Type 0 
   pub are : AreOf link nodes
   pub history : IsAmHistory planned b nodes
 
+-- or, behind a first part that led to a last state, in one that goes on from there when all that was in flight is lost
+pub record HasHistoryOver (second : Planned) (b : ℕ) (last link : LinkState) : Type 0 where
+  pub mid : Nodes
+  pub are_mid : AreOf last mid
+  pub nodes : Nodes
+  pub are : AreOf link nodes
+  pub history : IsAmHistoryOver second b mid nodes
+
 -- the blocks that a channel was given for a TTI that has not ended, before the radio frame of a CFN
 abbrev pub on_way : Side → ℕ → Layer → ℕ → List (List Bit)
 on_way side cfn layer i = if starts (channel_at side i).frames cfn then [] else (layer.given i).blocks
@@ -80,6 +88,21 @@ pub record HasKnownDown (planned : Planned) (b down : ℕ) (link : LinkState) : 
   pub nodes : Nodes
   pub are : AreOf link nodes
   pub known : IsDownKnown planned b down nodes
+
+-- and where a second configuration became active behind a first part, whose last state is known, too
+pub record HasKnownUpOver (planned second : Planned) (b up up_later : ℕ) (last link : LinkState) : Type 0 where
+  pub mid : Nodes
+  pub are_mid : AreOf last mid
+  pub nodes : Nodes
+  pub are : AreOf link nodes
+  pub known : IsUpKnownOver planned second b up up_later mid nodes
+
+pub record HasKnownDownOver (planned second : Planned) (b down down_later : ℕ) (last link : LinkState) : Type 0 where
+  pub mid : Nodes
+  pub are_mid : AreOf last mid
+  pub nodes : Nodes
+  pub are : AreOf link nodes
+  pub known : IsDownKnownOver planned second b down down_later mid nodes
 
 -- handed up of an unacknowledged bearer are the accepted units, in order, whose end mark was sent in TTIs that have ended
 abbrev pub HasUmUp : Planned → ℕ → ℕ → LinkState → Type 0

@@ -1,6 +1,6 @@
 pub mod Frames
 pub mod Runs
-pub mod Scripts
+pub mod Parts
 pub mod Sized
 pub mod SizedEnds
 pub mod SizedLinks
@@ -11,6 +11,7 @@ pub mod HonestBearers
 pub mod Clear
 pub mod ClearSound
 pub mod Intervals
+pub mod Scripts
 pub mod Plain
 pub mod TextDiffering
 pub mod TextTold

@@ -1,12 +1,18 @@
--- What lines of `link` make of three nodes: a run of what they say.
-use Rattle.std.specs.Prelude.{◌≡◌, ◌++◌, ℕ, zero, suc, List, [], ◌∷◌, None, MatchBool}
+-- What lines of `link` make of three nodes: a run of what they say, in one part or in two.
+use Rattle.std.specs.Prelude.{◌≡◌, ◌≤◌, ◌+◌, ◌++◌, ◌⊎◌, ℕ, zero, suc, List, [], ◌∷◌, Option, None, Some, MatchBool}
 use Rattle.dch_types.specs.declared.config.Config.{Config}
 use Rattle.dch_lines.specs.LineTexts.{is_empty}
 use Rattle.dch_node.specs.Lines.{Line, text_of}
 use Rattle.dch_nodecmd.specs.Shown.{shown}
+use Rattle.dch_nodecmd.specs.RunLines.{coming}
+use Rattle.dch_nodecmd.specs.declared.later.Later.{Later}
+use Rattle.dch_link.specs.Changing.{Changes}
+use Rattle.dch_link.specs.Link.{LinkState}
 use Rattle.dch_link.specs.declared.stage.Stage.TheVariants.{RncTick}
 use Rattle.dch_linkcmd.specs.LineEvents.{Frames, OneEvent, Said, Says}
 use Rattle.dch_linkcmd.specs.Run.{Run, config_of}
+use Rattle.dch_linkcmd.specs.RunLines.{active_behind}
+use Rattle.dch_runlaw.specs.Intervals.{frames_in}
 use Rattle.dch_runlaw.specs.Runs.{Between, Event, Frame, Runs}
 
 -- so many radio frames
@@ -28,30 +34,60 @@ pub record SaysEvents (config : Config) (line : List ℕ) (events : List Event) 
 abbrev pub LineSays : Config → List ℕ → List Event → Type 0
 LineSays config line events = MatchBool (is_empty line) (events ≡ []) (SaysEvents config line events)
 
--- a line, and the others
-pub record SaysFirst (config : Config) (line : List ℕ) (Rest : List Event → Type 0) (events : List Event) : Type 0 where
+-- a line, and the others, by the radio frames that have passed then
+pub record SaysFirst (config : Config) (frames : ℕ) (line : List ℕ) (Rest : ℕ → List Event → Type 0) (events : List Event) : Type 0 where
   pub own : List Event
   pub rest : List Event
   pub first : LineSays config line own
-  pub later : Rest rest
+  pub later : Rest (frames + frames_in own) rest
   pub all : events ≡ own ++ rest
 
-abbrev pub AreSaid : Config → List (List ℕ) → List Event → Type 0
-AreSaid config [] events = events ≡ []
-AreSaid config (line ∷ lines) events = SaysFirst config line (AreSaid config lines) events
+-- each line is read in the configuration that is active when so many radio frames have passed
+abbrev pub AreSaid : (ℕ → Config) → ℕ → List (List ℕ) → List Event → Type 0
+AreSaid at frames [] events = events ≡ []
+AreSaid at frames (line ∷ lines) events = SaysFirst (at frames) frames line (λ now rest. AreSaid at now lines rest) events
 
--- between two lines no radio frame is on; and no second configuration is to come
+-- a run in the configuration that is active, where a second one may be still to come when so many radio frames have passed: all radio frames of
+-- the run are before that from which it is active
+pub record StaysFirst (second : Option Later) (frames : ℕ) (old : LinkState) (events : List Event) (new : LinkState) (lines : List Line) (left : Option Later) : Type 0 where
+  pub run : Runs old events new lines
+  pub soon : (later : Later) → second ≡ Some later → frames + frames_in events ≤ later.frame
+  pub still : left ≡ second
+
+-- a run in two parts: the second configuration becomes active just before the radio frame of its number
+pub record ChangesWithin (second : Option Later) (frames : ℕ) (old : LinkState) (events : List Event) (new : LinkState) (lines : List Line) (left : Option Later) : Type 0 where
+  pub later : Later
+  pub was : second ≡ Some later
+  pub before : List Event
+  pub after : List Event
+  pub all : events ≡ before ++ (Frame ∷ after)
+  pub now : frames + frames_in before ≡ later.frame
+  pub last : LinkState
+  pub start : LinkState
+  pub early : List Line
+  pub late : List Line
+  pub run : Runs old before last early
+  pub changes : Changes later.accepted last start
+  pub rest : Runs start (Frame ∷ after) new late
+  pub reported : lines ≡ early ++ late
+  pub none : left ≡ None
+
+abbrev pub RunsOver : Option Later → ℕ → LinkState → List Event → LinkState → List Line → Option Later → Type 0
+RunsOver second frames old events new lines left = StaysFirst second frames old events new lines left ⊎ ChangesWithin second frames old events new lines left
+
+-- between two lines no radio frame is on, and that from which a second configuration is active has not passed
 pub record IsAtRest (run : Run) : Type 0 where
   pub stage : run.stage ≡ RncTick
   pub left : run.left ≡ 0
-  pub alone : run.second ≡ None
+  pub soon : (later : Later) → run.second ≡ Some later → run.frames ≤ later.frame
 
 -- the lines lead the nodes through a run of what they say, and this is shown of its lines
 pub record IsRunOf (old : Run) (lines : List (List ℕ)) (new : Run) (text : List ℕ) : Type 0 where
   pub events : List Event
-  pub said : AreSaid (config_of old) lines events
+  pub said : AreSaid (active_behind (config_of old) (coming old.second)) old.frames lines events
   pub reported : List Line
-  pub run : Runs old.link events new.link reported
+  pub run : RunsOver old.second old.frames old.link events new.link reported new.second
+  pub frames : new.frames ≡ old.frames + frames_in events
   pub shows : text ≡ shown old.quiet (text_of reported)
   pub quiet : new.quiet ≡ old.quiet
   pub rests : IsAtRest new

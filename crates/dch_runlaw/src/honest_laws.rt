@@ -6,17 +6,18 @@ ghost use Rattle.dch_config.specs.Good.{IsGood};
 ghost use Rattle.dch_accept.specs.Plans.{Planned};
 ghost use Rattle.dch_node.specs.Lines.{Differs, Line};
 ghost use Rattle.dch_link.specs.Link.{LinkState, opened_link};
+ghost use Rattle.dch_runlaw.specs.Parts.{Begins};
 ghost use Rattle.dch_runlaw.specs.Runs.{Event, Runs};
 ghost use Rattle.dch_runlaw.specs.HonestBearers.{HasHistory, HasKnownDown, HasKnownUp, HasTmDown, HasTmSomeDown, HasTmSomeUp, HasTmUp, HasUmDown, HasUmUp, HasWholeHistory, IsAcknowledged, IsTransparent, IsUnacknowledged};
 ghost use Rattle.dch_runlaw.specs.HonestFits.{IsHonest, IsUndamaged, IsUndamagedOn};
 ghost use Rattle.dch_runlaw.specs.HonestSilent.{IsSilent, Lacks};
 
-/// A law: where no line of a run of three nodes says of a channel that a block was taken as good that was not given, in each radio frame
-/// that ends a TTI of it what was taken of it is some of what was given for it, in order.
+/// A law: where no line of a part of a run of three nodes says of a channel that a block was taken as good that was not given, in each radio
+/// frame that ends a TTI of it what was taken of it is some of what was given for it, in order.
 pub fn honest_law()
-    ensures { (planned : Planned) (first : ℕ) (dir : Dir) (i : ℕ) (events : List Event) (new : LinkState) (lines : List Line) (run : Runs (opened_link planned first) events new lines) →
-        IsGood planned.config → i < length (side_of planned.config dir).channels → Lacks lines (Differs dir i) →
-        IsHonest planned dir i events (opened_link planned first) new lines run }
+    ensures { (planned : Planned) (dir : Dir) (i : ℕ) (events : List Event) (start new : LinkState) (lines : List Line) (run : Runs start events new lines) →
+        IsGood planned.config → Begins planned start → i < length (side_of planned.config dir).channels → Lacks lines (Differs dir i) →
+        IsHonest planned dir i events start new lines run }
 {}
 
 /// A law: in a run of three nodes, radio frame by radio frame and with any damage between them, no line says of the two channels of an

@@ -7,6 +7,7 @@ mod headline_laws;
 mod honest_laws;
 mod interval_laws;
 mod nodes_laws;
+mod over_laws;
 mod plain_laws;
 mod sized_laws;
 mod text_laws;
@@ -21,7 +22,8 @@ pub use honest_laws::{
 };
 pub use interval_laws::interval_law;
 pub use nodes_laws::{nodes_law, tm_nodes_law, um_nodes_law, whole_nodes_law};
+pub use over_laws::{link_over_law, tm_over_law, um_over_law};
 pub use plain_laws::plain_law;
 pub use sized_laws::{end_law, sized_law};
 pub use text_laws::{false_law, read_law, shown_read_law, told_law};
-pub use undamaged_laws::{harmless_run_law, undamaged_run_law};
+pub use undamaged_laws::{harmless_run_law, undamaged_over_law, undamaged_run_law};

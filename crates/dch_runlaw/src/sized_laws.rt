@@ -6,7 +6,8 @@ ghost use Rattle.dch_config.specs.Good.{IsGood};
 ghost use Rattle.dch_accept.specs.Plans.{IsPlanned, Planned};
 ghost use Rattle.dch_layer.specs.Layers.{Layer, opened_layer};
 ghost use Rattle.dch_node.specs.Lines.{Line};
-ghost use Rattle.dch_link.specs.Link.{LinkState, opened_link};
+ghost use Rattle.dch_link.specs.Link.{LinkState};
+ghost use Rattle.dch_runlaw.specs.Parts.{Begins};
 ghost use Rattle.dch_runlaw.specs.Runs.{Event as LinkEvent, Runs};
 ghost use Rattle.dch_runlaw.specs.SizedEnds.{Event, Reaches};
 ghost use Rattle.dch_runlaw.specs.SizedLinks.{IsSized};
@@ -19,8 +20,8 @@ pub fn end_law()
     ensures { (config : Config) (out into : Dir) (events : List Event) (layer : Layer) → IsGood config → Reaches config out into (opened_layer config out) events layer → AreGiven (side_of config out) layer }
 {}
 
-/// A law. In every run of three nodes from opening with an accepted configuration, with any damage: after each start of TTIs the blocks of
-/// every channel of both ends have the size of their format, and bits, and all together they are as many bits as the format has.
+/// A law. In every part of a run of three nodes with an accepted configuration, from opening or from a change on, with any damage: after each
+/// start of TTIs the blocks of every channel of both ends have the size of their format, and bits, and all together they are as many bits as the format has.
 pub fn sized_law()
-    ensures { (planned : Planned) (first : ℕ) (events : List LinkEvent) (new : LinkState) (lines : List Line) (run : Runs (opened_link planned first) events new lines) → IsPlanned planned → IsSized planned events (opened_link planned first) new lines run }
+    ensures { (planned : Planned) (events : List LinkEvent) (start new : LinkState) (lines : List Line) (run : Runs start events new lines) → IsPlanned planned → Begins planned start → IsSized planned events start new lines run }
 {}

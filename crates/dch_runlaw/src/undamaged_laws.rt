@@ -1,7 +1,8 @@
-ghost use Rattle.std.specs.Prelude.{◌≡◌, ◌%◌, ℕ, List};
+ghost use Rattle.std.specs.Prelude.{◌≡◌, ◌%◌, ◌++◌, ℕ, List};
 ghost use Rattle.dch_accept.specs.Plans.{IsPlanned, Planned};
 ghost use Rattle.dch_runlaw.specs.Clear.{AreHarmless, IsClear};
 ghost use Rattle.dch_link.specs.Link.{LinkState, opened_link};
+ghost use Rattle.dch_runlaw.specs.Parts.{GoesOver, KeepsAll};
 ghost use Rattle.dch_runlaw.specs.Runs.{Event, Runs};
 ghost use Rattle.dch_node.specs.Lines.{Line};
 ghost use Rattle.dch_runlaw.specs.Undamaged.{CarriesAll};
@@ -14,8 +15,18 @@ pub fn undamaged_run_law()
         IsPlanned planned → first % 8 ≡ 0 → IsClear events (opened_link planned first) new lines run → CarriesAll planned new lines }
 {}
 
+/// A law: so it is where a second configuration, in which every bearer goes on, becomes active behind a first part of the run, at a CFN that is a
+/// multiple of 8. All TTIs have ended then, so that nothing is in flight.
+pub fn undamaged_over_law()
+    ensures { (planned second : Planned) (first : ℕ) (before after : List Event) (start new : LinkState) (early late : List Line) (over : GoesOver planned second first before early start) (run : Runs start after new late) →
+        IsPlanned planned → IsPlanned second → KeepsAll planned second → first % 8 ≡ 0 → start.rnc.state.cfn % 8 ≡ 0 →
+        IsClear before (opened_link planned first) over.last early over.run → IsClear after start new late run → CarriesAll second new (early ++ late) }
+{}
+
 /// A law: so it is where no event of the run does damage.
 pub fn harmless_run_law()
-    ensures { (planned : Planned) (first : ℕ) (events : List Event) (new : LinkState) (lines : List Line) → Runs (opened_link planned first) events new lines →
+    ensures alone { (planned : Planned) (first : ℕ) (events : List Event) (new : LinkState) (lines : List Line) → Runs (opened_link planned first) events new lines →
         IsPlanned planned → first % 8 ≡ 0 → AreHarmless events → CarriesAll planned new lines }
+    ensures over { (planned second : Planned) (first : ℕ) (before after : List Event) (start new : LinkState) (early late : List Line) → GoesOver planned second first before early start → Runs start after new late →
+        IsPlanned planned → IsPlanned second → KeepsAll planned second → first % 8 ≡ 0 → start.rnc.state.cfn % 8 ≡ 0 → AreHarmless before → AreHarmless after → CarriesAll second new (early ++ late) }
 {}

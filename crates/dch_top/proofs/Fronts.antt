@@ -1,5 +1,5 @@
 -- What stands in front of lines is accepted as one thing at most, and isn't refused then.
-use Rattle.std.proofs.Common.{◌≡◌, ◌∙◌, ◌≤◌, ℕ, List, Option, None, Some, IfSome, ap, refl, sym, subst, lit<, true≢false}
+use Rattle.std.proofs.Common.{◌≡◌, ◌∙◌, ℕ, List, Option, None, Some, IfSome, ap, refl, sym, subst, lit<, true≢false}
 use Rattle.dch_types.specs.declared.config.Config.{Config}
 use Rattle.dch_accept.specs.Answers.{count_of}
 use Rattle.dch_accept.specs.Plans.{Planned}

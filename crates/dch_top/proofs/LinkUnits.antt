@@ -1,19 +1,24 @@
 -- A run of `link` that went well carries the units of the bearers.
-use Rattle.std.proofs.Common.{◌≡◌, ◌%◌, ◌*◌, ℕ, List, Bool, Option, arith, refl, sym, subst, ⊎_elim}
+use Rattle.std.proofs.Common.{◌≡◌, ◌%◌, ◌*◌, ℕ, List, Bool, Option, None, Some, arith, refl, sym, subst, ⊎_elim}
+use Rattle.std.specs.Prelude.{IfSome}
+use Rattle.dch_accept.specs.Plans.{IsPlanned, Planned}
 use Rattle.dch_io.specs.Ends.{End}
 use Rattle.dch_check.specs.declared.both.Configurations.{Configurations}
 use Rattle.dch_check.specs.declared.both.Second.{Second}
 use Rattle.dch_script.specs.Lines.{lines_of}
-use Rattle.dch_check.specs.ConfigSection.{script_of}
+use Rattle.dch_check.specs.ConfigSection.{configuration_of, script_of}
 use Rattle.dch_lines.specs.LineTexts.{HandlesLines}
 use Rattle.dch_lines.specs.declared.stop.Outcome.{Outcome}
 use Rattle.dch_lines.specs.declared.stop.Outcome.TheVariants.{Ok as Done, Refused as MetMalformed, ReadFault as FailedReading, WriteFault as FailedWriting, NoMemory as Lacking, TooLong as TookTooMuch}
 use Rattle.dch_linkcmd.specs.Rules.{link_lines}
-use Rattle.dch_linkcmd.specs.Run.{Run, opened_run}
+use Rattle.dch_linkcmd.specs.Run.{Run}
+use Rattle.dch_nodecmd.specs.Standing.{CanFollow}
 use Rattle.dch_words.specs.declared.arguments.Arguments.{Arguments}
 use Rattle.dch_words.specs.declared.arguments.Subcommand.{Subcommand}
 use Rattle.dch_words.specs.declared.arguments.Subcommand.TheVariants.{Link}
+use Rattle.dch_runlaw.specs.Headline.{IsLater}
 use Rattle.dch_runlaw.proofs.Headline.{carried}
+use Rattle.dch_top.proofs.Fronts.{second_follows}
 use Rattle.dch_top.specs.Benches.{Nodes}
 use Rattle.dch_top.specs.Configured.{EndsLate, FollowsScript, outcome_status}
 use Rattle.dch_top.specs.LinkRuns.{RunsLink, run_of}
@@ -31,6 +36,11 @@ only_well FailedReading same = cc
 only_well FailedWriting same = cc
 only_well Lacking same = cc
 only_well TookTooMuch same = cc
+
+-- a second configuration keeps its limits, and can follow the first one
+laters : (first : Planned) (second : Option Second) → IfSome second (λ s. IsPlanned s.accepted) → IfSome (later_of second) (CanFollow first) → IfSome (later_of second) (IsLater first)
+laters first None good follows = tt
+laters first (Some second) good follows = record { good = good; follows = follows }
 
 link_carries : (start : ℕ) (quiet : Bool) (source sink : End) (nodes : Nodes) → RunsLink start quiet source sink nodes Well → CarriesUnits start quiet source sink
 link_carries start quiet source sink nodes runs = ⊎_elim (λ early. absurd early) (λ late. well late.0 late.1.0) runs.runs.answers
@@ -55,8 +65,8 @@ link_carries start quiet source sink nodes runs = ⊎_elim (λ early. absurd ear
           text = follows.answers.text;
           frames = after.frames;
           all = follows.answers.all;
-          carries = λ none. carried follows.accepted.first (8 * start) quiet (lines_of (script_of runs.runs.taken)) after follows.answers.text follows.is.plans begins
-              (subst (λ (s : Option Second). HandlesLines link_lines (opened_run follows.accepted.first (later_of s) (8 * start) quiet) (lines_of (script_of runs.runs.taken)) after follows.answers.text) none handles);
+          carries = carried follows.accepted.first (later_of follows.accepted.second) (8 * start) quiet (lines_of (script_of runs.runs.taken)) after follows.answers.text follows.is.plans
+              (laters follows.accepted.first follows.accepted.second follows.is.later (second_follows (configuration_of runs.runs.taken) follows.accepted follows.is.judged)) begins handles;
         }
 
 -- what a run of the words for it does

@@ -36,9 +36,7 @@ use Rattle.dch_rnccmd.specs.Lasting.{rnc_lasting}
 use Rattle.dch_rnccmd.specs.Rules.{rnc_rules}
 use Rattle.dch_uecmd.specs.Lasting.{ue_lasting}
 use Rattle.dch_uecmd.specs.Rules.{ue_rules}
-use Rattle.dch_script.specs.Meaning.{meaning_in}
 use Rattle.dch_script.specs.Soft.{soft_meaning}
-use Rattle.dch_script.specs.declared.event.Command.TheVariants.{Link as LinkLines}
 use Rattle.dch_linkcmd.specs.Overlong.{link_refuses_long}
 use Rattle.dch_linkcmd.specs.Rules.{link_lines}
 use Rattle.dch_linkcmd.specs.Run.{Run as LinkRun}

@@ -83,8 +83,8 @@ pub fn run<S: Source, K: Sink>(
     ensures write_fault { result ≡ Status.WriteFault → Rose (K.faults sink.old) (K.faults sink.new) }
     ensures usage { result ≡ Status.Usage → IsNoCommand words.now }
 
-    // A run of the three nodes under one configuration that went well hands up the units of the bearers in order, as far as they came without a
-    // gap, whatever damage came between the nodes.
+    // A run of the three nodes that went well hands up the units of the bearers in order, as far as they came without a gap, whatever damage came
+    // between the nodes, also where they went over to a second configuration.
     ensures headline { (arguments : Arguments) → Says words.now arguments → arguments.subcommand ≡ Link → result ≡ Status.Ok
         → CarriesUnits arguments.start arguments.quiet (end_of S.left S.faults source.old source.new) (end_of K.taken K.faults sink.old sink.new) }
 
