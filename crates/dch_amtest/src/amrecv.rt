@@ -1,4 +1,4 @@
-ghost use Rattle.std.specs.Prelude.{◌≡◌, ◌≤◌, ◌<◌, length};
+ghost use Rattle.std.specs.Prelude.{◌≡◌, ◌≤◌, ◌<◌, IfOk, length};
 ghost use Rattle.dch_amrecv.specs.Standing.{IsSame};
 
 use dch_amrecv::{AmRecv, MrwTaken, Taken};
@@ -27,7 +27,7 @@ fn rules(missing: bool) -> AmRules
 }
 
 /// What a receiver answers to a PDU.
-#[derive(Clone, Copy, Debug, PartialEq, Eq)]
+#[derive(Clone, Copy, PartialEq)]
 enum Answer {
     Data(Taken),
     Move(MrwTaken),
@@ -110,25 +110,50 @@ fn unit(receiver: &mut AmRecv) -> Option<(usize, u8, u8)>
     }
 }
 
+// A receiver of PDUs of 18 octets, whose statuses have as many.
+fn open(alloc: Global, missing: bool) -> Result<AmRecv, NoMemory>
+    ensures comes { IfOk result (λ v. v.pdu ≡ 18) }
+    ensures goes { IfOk result (λ v. v.reply ≡ 18) }
+{
+    AmRecv::open(alloc, 18, 18, rules(missing))
+}
+
+fn answers_round_the_window(receiver: &mut AmRecv) -> bool
+    requires { receiver.old.pdu ≡ 18 }
+{
+    feed(receiver, &plain(127)) == Answer::Data(Taken::Kept)
+        && feed(receiver, &plain(128)) == Answer::Data(Taken::Outside)
+        && feed(receiver, &plain(4095)) == Answer::Data(Taken::Duplicate)
+}
+
 #[test]
 fn numbers_round_the_window(rt: HostRuntime) -> Result<(), Fail> {
-    let mut receiver = AmRecv::open(rt.alloc(), 18, 18, rules(true))?;
-    assert!(rt; feed(&mut receiver, &plain(127)) == Answer::Data(Taken::Kept));
-    assert!(rt; feed(&mut receiver, &plain(128)) == Answer::Data(Taken::Outside));
-    assert!(rt; feed(&mut receiver, &plain(4095)) == Answer::Data(Taken::Duplicate));
+    let mut receiver = open(rt.alloc(), true)?;
+    let answered = answers_round_the_window(&mut receiver);
     receiver.close();
+    assert!(rt; answered);
     Ok(())
+}
+
+// PDUs 0 and 3 are kept.
+fn tells_two_missing(receiver: &mut AmRecv) -> bool
+    requires comes { receiver.old.pdu ≡ 18 }
+    requires goes { receiver.old.reply ≡ 18 }
+{
+    feed(receiver, &plain(0));
+    let nothing = told(receiver) == None;
+    feed(receiver, &plain(3));
+    receiver.tick();
+    let two = told(receiver) == Some(padded(&[0x03, 0x10, 0x01, 0x12, 0x00, 0x40]));
+    nothing && two && told(receiver) == None
 }
 
 #[test]
 fn a_status_of_two_missing_pdus(rt: HostRuntime) -> Result<(), Fail> {
-    let mut receiver = AmRecv::open(rt.alloc(), 18, 18, rules(true))?;
-    feed(&mut receiver, &plain(0));
-    assert!(rt; told(&mut receiver) == None);
-    feed(&mut receiver, &plain(3));
-    receiver.tick();
-    assert!(rt; told(&mut receiver) == Some(padded(&[0x03, 0x10, 0x01, 0x12, 0x00, 0x40])));
-    assert!(rt; told(&mut receiver) == None);
+    let mut receiver = open(rt.alloc(), true)?;
+    let two = tells_two_missing(&mut receiver);
+    receiver.close();
+    assert!(rt; two);
     Ok(())
 }
 
@@ -138,30 +163,59 @@ fn late() -> [u8; 18] {
     ]
 }
 
+// The MRW is answered as this, and then this is told.
+fn obeys(receiver: &mut AmRecv, taken: MrwTaken, status: [u8; 18]) -> bool
+    requires comes { receiver.old.pdu ≡ 18 }
+    requires goes { receiver.old.reply ≡ 18 }
+    ensures { IsSame receiver.old receiver.new }
+{
+    let obeyed = feed(receiver, &mrw(0, 1)) == Answer::Move(taken);
+    let said = told(receiver) == Some(status);
+    obeyed && said
+}
+
+fn obeys_once(receiver: &mut AmRecv) -> bool
+    requires comes { receiver.old.pdu ≡ 18 }
+    requires goes { receiver.old.reply ≡ 18 }
+{
+    let first = padded(&[0x07, 0x10, 0x00, 0x00]);
+    let second = padded(&[0x07, 0x00, 0x01, 0x20, 0x01]);
+    obeys(receiver, MrwTaken::Obeyed, first)
+        && feed(receiver, &late()) == Answer::Data(Taken::Kept)
+        && unit(receiver) == None
+        && obeys(receiver, MrwTaken::Old, second)
+        && told(receiver) == None
+}
+
 #[test]
 fn an_mrw_is_obeyed_once(rt: HostRuntime) -> Result<(), Fail> {
-    let mut receiver = AmRecv::open(rt.alloc(), 18, 18, rules(false))?;
-    assert!(rt; feed(&mut receiver, &mrw(0, 1)) == Answer::Move(MrwTaken::Obeyed));
-    assert!(rt; told(&mut receiver) == Some(padded(&[0x07, 0x10, 0x00, 0x00])));
-    assert!(rt; feed(&mut receiver, &late()) == Answer::Data(Taken::Kept));
-    assert!(rt; unit(&mut receiver) == None);
-    assert!(rt; feed(&mut receiver, &mrw(0, 1)) == Answer::Move(MrwTaken::Old));
-    assert!(rt; told(&mut receiver) == Some(padded(&[0x07, 0x00, 0x01, 0x20, 0x01])));
-    assert!(rt; told(&mut receiver) == None);
+    let mut receiver = open(rt.alloc(), false)?;
+    let obeyed = obeys_once(&mut receiver);
+    receiver.close();
+    assert!(rt; obeyed);
     Ok(())
 }
 
 // The first three units after these PDUs.
-fn units_of(alloc: Global, pdus: &[[u8; 18]]) -> Result<[Option<(usize, u8, u8)>; 3], NoMemory> {
-    let mut receiver = AmRecv::open(alloc, 18, 18, rules(false))?;
+fn units_of(receiver: &mut AmRecv, pdus: &[[u8; 18]]) -> [Option<(usize, u8, u8)>; 3]
+    requires { receiver.old.pdu ≡ 18 }
+{
     for p in pdus {
-        feed(&mut receiver, p);
+        feed(receiver, p);
     }
-    Ok([
-        unit(&mut receiver),
-        unit(&mut receiver),
-        unit(&mut receiver),
-    ])
+    [unit(receiver), unit(receiver), unit(receiver)]
+}
+
+// Whether these units are handed up after these PDUs.
+fn hands_up(alloc: Global, pdus: &[[u8; 18]], units: &[Option<(usize, u8, u8)>; 3]) -> bool {
+    match open(alloc, false) {
+        Ok(mut receiver) => {
+            let handed = units_of(&mut receiver, pdus);
+            receiver.close();
+            handed == *units
+        }
+        Err(NoMemory) => false,
+    }
 }
 
 // The ends of two units, and the first 12 octets of the next one.
@@ -176,51 +230,45 @@ fn three_units() -> [u8; 18] {
     padded(&[0x80, 0x01, 0x03, 0x07, 0x0d, 0xfe, 1, 2, 2, 3, 3, 3])
 }
 
-#[test]
-fn units_in_order_once_the_gap_fills(rt: HostRuntime) -> Result<(), Fail> {
-    let gap = [unit_of(2, 6), unit_of(1, 5), unit_of(2, 9)];
-    assert!(rt; units_of(rt.alloc(), &gap)? == [None, None, None]);
-    let filled = [unit_of(2, 6), unit_of(1, 5), unit_of(2, 9), unit_of(0, 4)];
-    assert!(rt;
-        units_of(rt.alloc(), &filled)? == [Some((3, 4, 4)), Some((3, 5, 5)), Some((3, 6, 6))]
-    );
-    let just_full = [plain(0), padded(&[0x80, 0x09, 0x01, 0xfe])];
-    assert!(rt; units_of(rt.alloc(), &just_full)? == [Some((16, 7, 7)), None, None]);
-    Ok(())
+fn fills_a_gap(alloc: Global) -> bool {
+    let pdus = [unit_of(2, 6), unit_of(1, 5), unit_of(2, 9), unit_of(0, 4)];
+    hands_up(alloc, &pdus[..3], &[None, None, None])
+        && hands_up(
+            alloc,
+            &pdus,
+            &[Some((3, 4, 4)), Some((3, 5, 5)), Some((3, 6, 6))],
+        )
+}
+
+fn ends_in_the_next_pdu(alloc: Global) -> bool {
+    let pdus = [plain(0), padded(&[0x80, 0x09, 0x01, 0xfe])];
+    hands_up(alloc, &pdus, &[Some((16, 7, 7)), None, None])
 }
 
 #[test]
-fn units_behind_a_discard(rt: HostRuntime) -> Result<(), Fail> {
-    let greater_place = [mrw(0, 2), mrw(0, 1), three_units()];
-    assert!(rt; units_of(rt.alloc(), &greater_place)? == [Some((3, 3, 3)), None, None]);
-    let behind_all_marks = [mrw(0, 15), two_ends(), padded(&[0x80, 0x09, 0x03, 0xfe, 4])];
-    assert!(rt; units_of(rt.alloc(), &behind_all_marks)? == [Some((13, 3, 4)), None, None]);
-    let unit_in_progress = [plain(0), mrw(1, 0), unit_of(1, 5)];
-    assert!(rt; units_of(rt.alloc(), &unit_in_progress)? == [Some((3, 5, 5)), None, None]);
-    Ok(())
+fn units_in_order(rt: HostRuntime) {
+    assert!(rt; fills_a_gap(rt.alloc()));
+    assert!(rt; ends_in_the_next_pdu(rt.alloc()));
 }
 
-// The unit of twelve PDUs of 126 octets and so many octets more.
-fn long_unit(alloc: Global, last: u8) -> Result<Option<(usize, u8, u8)>, NoMemory>
-    requires { last < 100 }
-{
-    let mut receiver = AmRecv::open(alloc, 126, 18, rules(false))?;
-    let mut p = [7; 126];
-    p[0] = 0x80;
-    for sn in 0..12u8 {
-        p[1] = 8 * sn;
-        feed(&mut receiver, &p);
-    }
-    p[1] = 8 * 12 + 1;
-    p[2] = 2 * last + 1;
-    p[3] = 0xfe;
-    feed(&mut receiver, &p);
-    Ok(unit(&mut receiver))
+fn goes_to_the_greater_place(alloc: Global) -> bool {
+    let pdus = [mrw(0, 2), mrw(0, 1), three_units()];
+    hands_up(alloc, &pdus, &[Some((3, 3, 3)), None, None])
+}
+
+fn goes_behind_all_marks(alloc: Global) -> bool {
+    let pdus = [mrw(0, 15), two_ends(), padded(&[0x80, 0x09, 0x03, 0xfe, 4])];
+    hands_up(alloc, &pdus, &[Some((13, 3, 4)), None, None])
+}
+
+fn drops_a_unit_in_progress(alloc: Global) -> bool {
+    let pdus = [plain(0), mrw(1, 0), unit_of(1, 5)];
+    hands_up(alloc, &pdus, &[Some((3, 5, 5)), None, None])
 }
 
 #[test]
-fn the_longest_unit(rt: HostRuntime) -> Result<(), Fail> {
-    assert!(rt; long_unit(rt.alloc(), 12)? == Some((1500, 7, 7)));
-    assert!(rt; long_unit(rt.alloc(), 13)? == Some((0, 0, 0)));
-    Ok(())
+fn units_behind_a_discard(rt: HostRuntime) {
+    assert!(rt; goes_to_the_greater_place(rt.alloc()));
+    assert!(rt; goes_behind_all_marks(rt.alloc()));
+    assert!(rt; drops_a_unit_in_progress(rt.alloc()));
 }

@@ -6,7 +6,6 @@ use dch_bits::{NoMemory, Offer};
 use dch_rlcpdu::{AmView, read_am};
 use dch_types::AmRules;
 use std::alloc::Global;
-use std::test::Fail;
 
 /// What is done at a sender whose PDUs have 18 octets, and what comes of it.
 #[derive(Clone, Copy)]
@@ -145,18 +144,30 @@ fn goes(sender: &mut AmSend, step: Step) -> bool
     }
 }
 
-// The first step that has another result; the number of steps where none has.
-fn goes_until(alloc: Global, buffer: u16, rules: AmRules, steps: &[Step]) -> Result<usize, NoMemory>
-    requires { rules.window ≤ 2048 }
+// Whether each step has its result.
+fn all_go(sender: &mut AmSend, steps: &[Step]) -> bool
+    requires { sender.old.outgoing.size ≡ 18 }
 {
-    let mut sender = AmSend::open(alloc, 18, buffer, rules)?;
-    for (i, step) in steps.iter().enumerate() {
-        if !goes(&mut sender, *step) {
-            return Ok(i);
+    for step in steps {
+        if !goes(sender, *step) {
+            return false;
         }
     }
-    sender.close();
-    Ok(steps.len())
+    true
+}
+
+// Whether there is a sender with so many blocks at which each step has its result.
+fn run(alloc: Global, buffer: u16, rules: AmRules, steps: &[Step]) -> bool
+    requires { rules.window ≤ 2048 }
+{
+    match AmSend::open(alloc, 18, buffer, rules) {
+        Ok(mut sender) => {
+            let gone = all_go(&mut sender, steps);
+            sender.close();
+            gone
+        }
+        Err(NoMemory) => false,
+    }
 }
 
 fn padding_and_its_discard() -> [Step; 12] {
@@ -187,16 +198,9 @@ fn just_full_and_its_discard() -> [Step; 5] {
 }
 
 #[test]
-fn units_and_their_discard(rt: HostRuntime) -> Result<(), Fail> {
-    assert_eq!(rt;
-        goes_until(rt.alloc(), 64, rules(), &padding_and_its_discard())?,
-        12
-    );
-    assert_eq!(rt;
-        goes_until(rt.alloc(), 64, rules(), &just_full_and_its_discard())?,
-        5
-    );
-    Ok(())
+fn units_and_their_discard(rt: HostRuntime) {
+    assert!(rt; run(rt.alloc(), 64, rules(), &padding_and_its_discard()));
+    assert!(rt; run(rt.alloc(), 64, rules(), &just_full_and_its_discard()));
 }
 
 // Of PDUs 0 to 3 in flight a status names 1 and 2 as missing.
@@ -229,10 +233,9 @@ fn owed_poll() -> [Step; 7] {
 }
 
 #[test]
-fn statuses_and_owed_polls(rt: HostRuntime) -> Result<(), Fail> {
-    assert_eq!(rt; goes_until(rt.alloc(), 64, rules(), &statuses())?, 7);
-    assert_eq!(rt; goes_until(rt.alloc(), 64, rules(), &owed_poll())?, 7);
-    Ok(())
+fn statuses_and_owed_polls(rt: HostRuntime) {
+    assert!(rt; run(rt.alloc(), 64, rules(), &statuses()));
+    assert!(rt; run(rt.alloc(), 64, rules(), &owed_poll()));
 }
 
 // A unit that fills two blocks and eight PDUs ends in the ninth.
@@ -249,45 +252,34 @@ fn full_buffer() -> [Step; 7] {
 }
 
 #[test]
-fn blocks_are_held_until_the_acknowledgement(rt: HostRuntime) -> Result<(), Fail> {
-    assert_eq!(rt; goes_until(rt.alloc(), 2, rules(), &full_buffer())?, 7);
-    Ok(())
+fn blocks_are_held_until_the_acknowledgement(rt: HostRuntime) {
+    assert!(rt; run(rt.alloc(), 2, rules(), &full_buffer()));
 }
 
-// Four units wait, and the PDUs begin with these octets, where one polls at every so many PDUs, at every so many units and at so
-// many hundredths of the window.
-fn polls(
-    alloc: Global,
-    poll_pdus: u16,
-    poll_units: u16,
-    poll_window: u8,
-    second: [u8; 4],
-    third: [u8; 4],
-) -> Result<usize, NoMemory> {
+// Four units wait, and the second octets of the second and the third PDU are these, where one polls at every so many PDUs, at
+// every so many units and at so many hundredths of the window.
+fn polls(alloc: Global, pdus: u16, units: u16, window: u8, second: u8, third: u8) -> bool {
     let mut rules = rules();
-    rules.poll_pdus = poll_pdus;
-    rules.poll_units = poll_units;
-    rules.poll_window = poll_window;
+    rules.poll_pdus = pdus;
+    rules.poll_units = units;
+    rules.poll_window = window;
     let steps = [
         Step::Offer(15, Offer::Accepted),
         Step::Offer(15, Offer::Accepted),
         Step::Offer(15, Offer::Accepted),
         Step::Offer(15, Offer::Accepted),
         Step::Build([0x80, 0x01, 0x1e, 7]),
-        Step::Build(second),
-        Step::Build(third),
+        Step::Build([0x80, second, 0x1e, 7]),
+        Step::Build([0x80, third, 0x1e, 7]),
         Step::Build([0x80, 0x1d, 0x1e, 7]),
     ];
-    goes_until(alloc, 64, rules, &steps)
+    run(alloc, 64, rules, &steps)
 }
 
 #[test]
-fn polls_of_each_rule(rt: HostRuntime) -> Result<(), Fail> {
-    let (second, third) = ([0x80, 0x09, 0x1e, 7], [0x80, 0x11, 0x1e, 7]);
-    let (second_polls, third_polls) = ([0x80, 0x0d, 0x1e, 7], [0x80, 0x15, 0x1e, 7]);
-    assert_eq!(rt; polls(rt.alloc(), 0, 0, 0, second, third)?, 8);
-    assert_eq!(rt; polls(rt.alloc(), 3, 0, 0, second, third_polls)?, 8);
-    assert_eq!(rt; polls(rt.alloc(), 0, 2, 0, second_polls, third)?, 8);
-    assert_eq!(rt; polls(rt.alloc(), 0, 0, 2, second, third_polls)?, 8);
-    Ok(())
+fn polls_of_each_rule(rt: HostRuntime) {
+    assert!(rt; polls(rt.alloc(), 0, 0, 0, 0x09, 0x11));
+    assert!(rt; polls(rt.alloc(), 3, 0, 0, 0x09, 0x15));
+    assert!(rt; polls(rt.alloc(), 0, 2, 0, 0x0d, 0x11));
+    assert!(rt; polls(rt.alloc(), 0, 0, 2, 0x09, 0x15));
 }

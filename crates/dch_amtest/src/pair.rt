@@ -7,7 +7,7 @@ use std::alloc::Global;
 use std::test::Fail;
 
 // PDUs of 18 octets, which have room for a unit of 15 octets and its mark.
-fn setup(discard_age: u16) -> PairSetup
+pub fn setup(discard_age: u16) -> PairSetup
     ensures first { result.first_pdu ≡ 18 }
     ensures second { result.second_pdu ≡ 18 }
     ensures window { result.rules.window ≤ 2048 }

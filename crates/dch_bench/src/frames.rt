@@ -1,11 +1,11 @@
-ghost use Rattle.dch_phytest.specs.Trips.{IsTripOf};
+ghost use Rattle.dch_roundtrip.specs.Trips.{IsTripOf};
 
 use crate::fault::Fault;
 use crate::work::{Mode, Speed, Unit, nanos_of};
 use dch_accept::Accepted;
 use dch_bits::NoMemory;
 use dch_genaccept::accept_gen;
-use dch_phytest::{DownlinkEnds, Ends, RadioChannel, RoundTrip, UplinkEnds};
+use dch_roundtrip::{DownlinkEnds, Ends, RoundTrip, UplinkEnds};
 use dch_types::Dir;
 use std::alloc::Global;
 use std::io;
@@ -19,6 +19,9 @@ const GREATEST: u16 = 35;
 const FEW: u32 = 8;
 
 const MANY: u32 = 400;
+
+/// Of how many cells one is inverted in the frames that are sent once.
+const DAMAGED: usize = 37;
 
 /// Prints lines about the radio frames of both directions, in the configuration of `gen`.
 pub fn run_frames<R: Print + Clock>(rt: &R, alloc: Global, mode: Mode) -> Result<(), Fault> {
@@ -95,20 +98,22 @@ fn report_trip<R: Print + Clock, E: Ends + Drop>(
 ) -> Result<(), Fault>
     requires { IsTripOf E.dir E.opened E.loaded accepted.now trip.old }
 {
-    let once = pass(rt, accepted, trip, FEW)?;
+    let once = pass(rt, accepted, trip, FEW, DAMAGED)?;
     match mode {
         Mode::Once => once.report(rt, name)?,
-        Mode::Measure => pass(rt, accepted, trip, MANY)?.report_speeds(rt, name)?,
+        Mode::Measure => pass(rt, accepted, trip, MANY, 0)?.report_speeds(rt, name)?,
     }
     Ok(())
 }
 
-/// Sends so many radio frames from one end to the other, and reads each TTI that ends.
+/// Sends so many radio frames from one end to the other, with one cell in so many inverted (none for 0), and reads each TTI
+/// that ends.
 fn pass<C: Clock, E: Ends + Drop>(
     clock: &C,
     accepted: &Accepted,
     trip: &mut RoundTrip<E>,
     frames: u32,
+    every: usize,
 ) -> io::Result<Passed>
     requires { IsTripOf E.dir E.opened E.loaded accepted.now trip.old }
     ensures { IsTripOf E.dir E.opened E.loaded accepted.now trip.new }
@@ -119,7 +124,7 @@ fn pass<C: Clock, E: Ends + Drop>(
         let start = Instant::now(clock)?;
         let sent = trip.send(accepted, cfn, GREATEST);
         let between = Instant::now(clock)?;
-        trip.arrive(accepted, cfn, RadioChannel::Flipped(0));
+        trip.arrive(accepted, cfn, every);
         let is_back = trip.is_back(accepted, cfn);
         let end = Instant::now(clock)?;
         if let Some(cells) = sent

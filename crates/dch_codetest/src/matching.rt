@@ -1,13 +1,14 @@
 ghost use Rattle.std.specs.Prelude.{IfOk, IfSome};
 ghost use Rattle.dch_types.specs.Limits.{IsUplink, IsDownlink};
+ghost use Rattle.dch_config.specs.Good.{IsGood};
 ghost use Rattle.dch_match.specs.Patterns.{IsWellFormed};
 
-use dch_accept::Accepted;
+use crate::texts::{packets_side, reference_side, speech_side, tiny_side};
 use dch_bits::NoMemory;
+use dch_config::read;
 use dch_match::{Kind, Pattern, UplinkPlan, Walk, downlink, frame, keeps, kept, origin, uplink};
-use dch_samples::{SampleError, flexible_speech, packets, reference, speech, tiny_codes};
-use dch_types::{Downlink, Uplink};
-use std::alloc::Global;
+use dch_types::{Config, Downlink, Uplink};
+use std::alloc::{AllocError, Global};
 
 /// The start of the error counter.
 fn e_ini(kind: &Kind) -> u64 {
@@ -235,7 +236,7 @@ fn are_repeated(alloc: Global, config: &Downlink, copies: u32) -> Result<bool, N
     Ok(pattern.len == 150 && are_copies(&pattern, copies) && is_walked(&pattern))
 }
 
-/// A configuration.
+/// A configuration of which both directions have the same channels.
 #[derive(Clone, Copy)]
 enum Sample {
     Reference,
@@ -274,74 +275,61 @@ fn downlink_is_right(alloc: Global, sample: Sample, config: &Downlink) -> Result
     }
 }
 
-/// Whether a configuration is accepted, and its amounts and patterns are those of its tables. It is held here alone, and no
-/// error is answered while it is held: both would make a test dear to prove.
-fn is_right(alloc: Global, sample: Sample, opened: Result<Accepted, SampleError>) -> bool {
-    match opened {
-        Ok(accepted) => {
-            let config = accepted.config();
-            uplink_is_right(sample, &config.uplink)
-                && matches!(downlink_is_right(alloc, sample, &config.downlink), Ok(true))
-        }
+/// The greatest uplink frame, the channels of both directions, and the bits of a slot, the codes and the positions of the downlink.
+fn parts(sample: Sample) -> (u16, &'static str, u16, u8, &'static str) {
+    match sample {
+        Sample::Reference => (600, reference_side(), 28, 1, "fixed"),
+        Sample::Speech => (600, speech_side(), 34, 1, "fixed"),
+        Sample::FlexibleSpeech => (600, speech_side(), 34, 1, "flexible"),
+        Sample::Packets => (9600, packets_side(), 608, 1, "fixed"),
+        Sample::FlexiblePackets => (9600, packets_side(), 608, 1, "flexible"),
+        Sample::ThreeCodes => (150, tiny_side(), 10, 3, "fixed"),
+        Sample::OneCode => (150, tiny_side(), 10, 1, "flexible"),
+    }
+}
+
+fn text(alloc: Global, sample: Sample) -> Result<String, AllocError> {
+    let (largest, side, slot_bits, codes, positions) = parts(sample);
+    format!(in alloc;
+        "[iub]\npayload_check = false\nqe = 0\n[uplink]\nlargest = {largest}\npl = 100\n{side}
+[downlink]\nslot_bits = {slot_bits}\ncodes = {codes}\nsf = 8\npositions = \"{positions}\"\n{side}"
+    )
+}
+
+/// Whether the amounts and patterns of a configuration are those of its tables.
+fn is_right(alloc: Global, sample: Sample, config: &Config) -> bool
+    requires { IsGood config.now }
+{
+    uplink_is_right(sample, &config.uplink)
+        && matches!(downlink_is_right(alloc, sample, &config.downlink), Ok(true))
+}
+
+/// Whether a text is a configuration, and that is right. No error is answered while it is held, which would be dear to prove.
+fn reads(alloc: Global, sample: Sample, text: &str) -> bool {
+    match read(alloc, text.as_bytes()) {
+        Ok(config) => is_right(alloc, sample, &config),
+        Err(_) => false,
+    }
+}
+
+fn is_sample_right(alloc: Global, sample: Sample) -> bool {
+    match text(alloc, sample) {
+        Ok(text) => reads(alloc, sample, &text),
         Err(_) => false,
     }
 }
 
 #[test]
-fn reference_channel(rt: HostRuntime) {
-    assert!(rt; is_right(rt.alloc(), Sample::Reference, reference(rt.alloc())));
-}
-
-#[test]
-fn speech_in_three_classes(rt: HostRuntime) {
-    assert!(rt; is_right(rt.alloc(), Sample::Speech, speech(rt.alloc())));
-}
-
-#[test]
-fn speech_at_flexible_positions(rt: HostRuntime) {
-    assert!(rt;
-        is_right(
-            rt.alloc(),
-            Sample::FlexibleSpeech,
-            flexible_speech(rt.alloc())
-        )
-    );
-}
-
-#[test]
-fn speech_and_packets(rt: HostRuntime) {
-    assert!(rt; is_right(rt.alloc(), Sample::Packets, packets(rt.alloc(), true)));
-}
-
-#[test]
-fn packets_at_flexible_positions(rt: HostRuntime) {
-    assert!(rt;
-        is_right(
-            rt.alloc(),
-            Sample::FlexiblePackets,
-            packets(rt.alloc(), false)
-        )
-    );
-}
-
-#[test]
-fn nothing_to_send_and_three_copies(rt: HostRuntime) {
-    assert!(rt;
-        is_right(
-            rt.alloc(),
-            Sample::ThreeCodes,
-            tiny_codes(rt.alloc(), 3, true)
-        )
-    );
-}
-
-#[test]
-fn one_copy_at_flexible_positions(rt: HostRuntime) {
-    assert!(rt;
-        is_right(
-            rt.alloc(),
-            Sample::OneCode,
-            tiny_codes(rt.alloc(), 1, false)
-        )
-    );
+fn amounts_and_patterns(rt: HostRuntime) {
+    for sample in [
+        Sample::Reference,
+        Sample::Speech,
+        Sample::FlexibleSpeech,
+        Sample::Packets,
+        Sample::FlexiblePackets,
+        Sample::ThreeCodes,
+        Sample::OneCode,
+    ] {
+        assert!(rt; is_sample_right(rt.alloc(), sample));
+    }
 }

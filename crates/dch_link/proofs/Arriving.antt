@@ -1,5 +1,5 @@
 -- What arrives of frames, and that it fits where it goes.
-use Rattle.std.proofs.Common.{◌≡◌, ◌<◌, ◌∙◌, ℕ, suc, List, [], ◌∷◌, length, if◌then◌else◌, Bool, true, false, arith, refl, ap, Option, Some, None}
+use Rattle.std.proofs.Common.{◌≡◌, ◌<◌, ◌≤◌, ◌∙◌, ℕ, suc, List, [], ◌∷◌, length, if◌then◌else◌, Bool, true, false, refl, sym, subst, ap, Option, Some, None}
 use Rattle.std.specs.Borrow.{Bor}
 use Rattle.dch_bits.specs.declared.bit.Bit.{Bit}
 use Rattle.dch_types.specs.declared.channel.Dir.{Dir}
@@ -14,7 +14,7 @@ use Rattle.dch_txframes.specs.Lending.{octets_of, radio_of}
 use Rattle.dch_damage.specs.Damage.{Damage, each_changed, flips, iub_after, is_lost, radio_after}
 use Rattle.dch_damage.specs.Lending.{octets_of as octets_hit, radio_of as radio_hit}
 use Rattle.dch_damage.specs.Opened.{HasIubRoom, HasRadioRoom, IsDamageOf}
-use Rattle.dch_damage.specs.Tables.{Tables}
+use Rattle.dch_damage.specs.Tables.{Tables, radio_at, set_at}
 use Rattle.dch_damage.specs.Turns.{turned_bit, turned_cell}
 use Rattle.dch_link.specs.Fitting.{MayFitIub, MayFitRadio}
 
@@ -30,13 +30,14 @@ radio_same (Some frame) = refl
 -- the tables have room for what fits a configuration
 pub iub_room : (planned : Planned) (tables : Tables) (dir : Dir) (set : ℕ) (octets : Option (List ℕ)) → IsDamageOf planned tables → set < 8 → MayFitIub planned dir set octets → HasIubRoom tables dir set octets
 iub_room planned tables dir set None is few fits = tt
-iub_room planned tables dir set (Some octets) is few fits = omega (arith, is.iub dir set few fits.numbers fits.formats, fits.long)
+iub_room planned tables dir set (Some octets) is few fits =
+    subst (λ (n : ℕ). n ≤ length (set_at tables dir set).masks) (sym fits.long) (is.iub dir set few fits.numbers fits.formats)
 
 pub radio_room : (planned : Planned) (tables : Tables) (dir : Dir) (radio : Option Radio) → IsDamageOf planned tables → MayFitRadio planned dir radio → HasRadioRoom tables dir radio
 radio_room planned tables dir None is fits = tt
 radio_room planned tables dir (Some radio) is fits = record {
-  tfci = omega (arith, (is.radio dir).tfci, fits.tfci);
-  cells = omega (arith, (is.radio dir).cells fits.combination fits.listed, fits.cells);
+  tfci = subst (λ (n : ℕ). n ≤ length (radio_at tables dir).tfci) (sym fits.tfci) (is.radio dir).tfci;
+  cells = subst (λ (n : ℕ). n ≤ length (radio_at tables dir).cells) (sym fits.cells) ((is.radio dir).cells fits.combination fits.listed);
 }
 
 -- an Iub frame that arrives is one of a set that there is

@@ -2,8 +2,6 @@
 #![tactic(auto)]
 
 #[cfg(test)]
-mod filling;
-#[cfg(test)]
 mod pool;
 #[cfg(test)]
 mod rlcpdu;

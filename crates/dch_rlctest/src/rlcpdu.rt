@@ -1,8 +1,4 @@
-use dch_rlcpdu::{AmView, Body, PduError, read_am, read_um, write_am, write_um};
-
-fn unit() -> [u8; 10] {
-    [0, 1, 2, 3, 4, 5, 6, 7, 8, 9]
-}
+use dch_rlcpdu::{PduError, read_am, read_um};
 
 // One unit of ten octets without acknowledgement, its start and its end marked, and padding.
 fn marked() -> [u8; 18] {
@@ -16,56 +12,6 @@ fn polling() -> [u8; 18] {
     [
         0x80, 0x05, 0x15, 0xfe, 0, 1, 2, 3, 4, 5, 6, 7, 8, 9, 0, 0, 0, 0,
     ]
-}
-
-fn um_of_unit() -> [u8; 18] {
-    let mut out = [0xff; 18];
-    write_um(0, &[124, 10, 127], &unit(), &mut out);
-    out
-}
-
-fn am_of_unit() -> [u8; 18] {
-    let mut out = [0xff; 18];
-    write_am(0, true, &[10, 127], &unit(), &mut out);
-    out
-}
-
-#[test]
-fn pdus_as_they_are_written(rt: HostRuntime) {
-    assert!(rt; um_of_unit() == marked());
-    assert!(rt; am_of_unit() == polling());
-}
-
-// One unit stands in it, and it is this one.
-fn holds(body: &Body, unit: &[u8]) -> bool {
-    body.ends() == 1 && body.piece(0) == unit && body.piece(1).is_empty()
-}
-
-fn um_holds(p: &[u8], unit: &[u8]) -> bool {
-    match read_um(p) {
-        Ok(view) => view.sn == 0 && view.body.starts() && holds(&view.body, unit),
-        Err(_) => false,
-    }
-}
-
-fn am_holds(p: &[u8], unit: &[u8]) -> bool {
-    match read_am(p) {
-        Ok(
-            AmView::Payload {
-                sn,
-                poll,
-                body,
-                piggyback: None,
-            },
-        ) => sn == 0 && poll && holds(&body, unit),
-        _ => false,
-    }
-}
-
-#[test]
-fn the_unit_of_a_pdu(rt: HostRuntime) {
-    assert!(rt; um_holds(&marked(), &unit()));
-    assert!(rt; am_holds(&polling(), &unit()));
 }
 
 fn refusal(p: &[u8]) -> Option<PduError> {
@@ -161,30 +107,4 @@ fn acknowledged_pdus_read_and_refused(rt: HostRuntime) {
         assert!(rt; refusal_am(&pdu_of(front)) == expected);
     }
     assert!(rt; refusal_am(&[0x10, 0, 0]) == Some(PduError::Sufi));
-}
-
-// The number of fields of a piggybacked status.
-fn riding(p: &[u8]) -> Option<usize> {
-    match read_am(p) {
-        Ok(
-            AmView::Payload {
-                piggyback: Some(status),
-                ..
-            },
-        ) => Some(status.fields()),
-        _ => None,
-    }
-}
-
-fn reset_ack(p: &[u8]) -> Option<(bool, u32)> {
-    match read_am(p) {
-        Ok(AmView::ResetAck { rsn, hfni }) => Some((rsn, hfni)),
-        _ => None,
-    }
-}
-
-#[test]
-fn statuses_and_resets(rt: HostRuntime) {
-    assert!(rt; riding(&[0x80, 0x01, 0xfc, 0x82, 0x00, 0x70]) == Some(1));
-    assert!(rt; reset_ack(&[0x28, 0, 0, 0x10]) == Some((true, 1)));
 }

@@ -1,6 +1,0 @@
-use Rattle.dch_amentity.specs.Standing.{size_in}
-use Rattle.dch_amentity.proofs.Sizes.{read_small}
-use Rattle.dch_amtest.proofs.amentity.hear.Goals as goal
-
-pub receive-requires-clause-small : goal.receive-requires-clause-small
-receive-requires-clause-small c = read_small c.args.p.now c.in-Ok.view (size_in c.args.entity.now) c.in-Ok.ensures.text c.requires
