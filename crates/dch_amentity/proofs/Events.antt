@@ -7,7 +7,7 @@ use Rattle.dch_am.specs.Receiver.{Receiver}
 use Rattle.dch_am.specs.Rules.{Rules, rules_of}
 use Rattle.dch_amrecv.specs.Holding.{Holding}
 use Rattle.dch_amrecv.specs.Standing.{Stands, given_after}
-use Rattle.dch_units.specs.Taking.{handed_of}
+use Rattle.dch_sar.specs.Taking.{handed_of}
 use Rattle.dch_amentity.specs.Standing.{Represents, Running}
 
 -- one event more

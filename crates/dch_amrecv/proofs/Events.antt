@@ -14,9 +14,9 @@ use Rattle.dch_am.specs.Receiver.{Receiver, after_highest, after_pdu, body_of, e
 use Rattle.dch_am.specs.Moves.{after_move as moves_after, after_move_in, answer_to, moved, trimmed, with_ack, with_move}
 use Rattle.dch_am.specs.Telling.{tick_receiver}
 use Rattle.dch_am.proofs.Lists.{Is, run_in}
-use Rattle.dch_window.specs.Places.{front, is_kept, put}
-use Rattle.dch_window.proofs.Putting.{length-put}
-use Rattle.dch_inorder.specs.Lines.{greater, passed, run_on, with_body}
+use Rattle.dch_amrecv.specs.Places.{front, is_kept, put}
+use Rattle.dch_amrecv.proofs.Putting.{length-put}
+use Rattle.dch_amrecv.specs.Lines.{greater, passed, run_on, with_body}
 use Rattle.dch_amrecv.specs.Holding.{Holding, after_answer, after_control, after_move, after_tick, after_unit, answer, control_answer, move_answer, moved_on, opened, with_ack as holds_ack, with_owed}
 use Rattle.dch_am.specs.Rules.{rules_of}
 use Rattle.dch_amrecv.specs.Standing.{IsPast, IsSame, Stands, came, live, place, sent_ack}

@@ -9,7 +9,7 @@ use Rattle.dch_rlcpdu.specs.declared.handed.Handed.TheVariants.{Whole, Overlong}
 use Rattle.dch_am.specs.declared.answers.MrwTaken.{MrwTaken}
 use Rattle.dch_am.specs.declared.answers.MrwTaken.TheVariants.{Nothing, Obeyed, Old, Outside}
 use Rattle.dch_am.specs.Receiver.{Receiver}
-use Rattle.dch_units.specs.Taking.{handed_of, written}
+use Rattle.dch_sar.specs.Taking.{handed_of, written}
 use Rattle.dch_amrecv.specs.Holding.{Holding, after_move, after_unit, is_settled, with_mrw_ack}
 use Rattle.dch_amrecv.specs.Standing.{Stands, given_after}
 use Rattle.dch_amrecv.proofs.Events.{unit_stands}

@@ -1,3 +1,12 @@
+pub mod Putting
+pub mod Fronts
+pub mod Finding
+pub mod Seeing
+pub mod Blocks
+pub mod Storing
+pub mod Texts
+pub mod Ordered
+pub mod Bodies
 pub mod Runs
 pub mod Latest
 pub mod Whole

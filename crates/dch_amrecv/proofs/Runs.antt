@@ -5,7 +5,7 @@ use Rattle.std.proofs.lemmas.Bool.{cond_both}
 use Rattle.std.proofs.lemmas.Bool.Decides.{nat_tests}
 use Rattle.std.proofs.lemmas.List.{drop-set-lt, length-take-le, drop_more, take_more, take_more_set}
 use Rattle.dch_am.specs.Status.{fits, most, runs, runs_from}
-use Rattle.dch_window.specs.Places.{laid}
+use Rattle.dch_amrecv.specs.Places.{laid}
 
 pub laid_front : {A : Type 0} (n : ℕ) (xs ys : List A) → n ≤ length xs → n ≤ length ys → take n (laid xs ys) ≡ take n xs
 laid_front zero xs ys a b = refl

@@ -7,9 +7,9 @@ use Rattle.dch_am.specs.Bodies.{Body}
 use Rattle.dch_am.specs.Numbers.{has, below, top, run_of}
 use Rattle.dch_am.specs.Receiver.{Receiver, after_highest, body_of, expected, got, numbers, read_on}
 use Rattle.dch_am.proofs.Lists.{Is, has-append, has-below, run_le, run_in, run_reaches}
-use Rattle.dch_window.specs.Places.{front, is_kept, put}
-use Rattle.dch_window.proofs.Fronts.{front_le}
-use Rattle.dch_inorder.specs.Lines.{Kept, run_on}
+use Rattle.dch_amrecv.specs.Places.{front, is_kept, put}
+use Rattle.dch_amrecv.proofs.Fronts.{front_le}
+use Rattle.dch_amrecv.specs.Lines.{Kept, run_on}
 use Rattle.dch_amrecv.specs.Standing.{AreUnits, IsPast, came, live, place}
 use Rattle.dch_amrecv.proofs.Whole.{units_run, trim_run}
 

@@ -8,7 +8,7 @@ use Rattle.dch_am.specs.Receiver.{Receiver, after_highest, expected, got}
 use Rattle.dch_am.specs.Status.{MrwAck, fields_of, missing, most, runs, runs_from, status_of, wrapped_pair}
 use Rattle.dch_am.specs.Telling.{after_telling as after_told, due_of, is_due as is_told, plain_due as plain_told, telling, tells_now}
 use Rattle.dch_status.specs.Fields.{status_fields, mrw_status_fields}
-use Rattle.dch_window.specs.Places.{is_kept, vacant}
+use Rattle.dch_amrecv.specs.Places.{is_kept, vacant}
 use Rattle.dch_amrecv.specs.Holding.{Holding, after_telling, fields_told, gaps, is_due, lsn_told, numbered, pairs_told, plain_due, some_ack}
 use Rattle.dch_am.specs.Rules.{rules_of}
 use Rattle.dch_amrecv.specs.Standing.{Stands, said, sent_ack}

@@ -5,8 +5,9 @@ use Rattle.std.proofs.lemmas.Bool.{eq-eqb, eqb-true, eqb-false}
 use Rattle.std.proofs.lemmas.List.{drop-append-le}
 use Rattle.dch_am.specs.Bodies.{Body, Reading, ended as end_unit, read_body, read_full, read_pieces, read_rest}
 use Rattle.dch_am.specs.Receiver.{body_of, dead_pieces, read_one, read_run, read_trimmed}
-use Rattle.dch_units.specs.Taking.{Waiting, added, dropped, ended, ended_units, took_full, took_one, took_pieces}
-use Rattle.dch_inorder.specs.Lines.{took_run, trim_left}
+use Rattle.dch_sar.specs.Taking.{Waiting, added, dropped, ended, ended_units, took_full}
+use Rattle.dch_amrecv.specs.Reading.{took_one, took_pieces}
+use Rattle.dch_amrecv.specs.Lines.{took_run, trim_left}
 use Rattle.dch_amrecv.specs.Standing.{AreUnits, IsPast, live, place}
 
 take_again : (n : ℕ) (xs ys : List ℕ) → take n (take n xs ++ ys) ≡ take n (xs ++ ys)

@@ -9,8 +9,8 @@ use Rattle.dch_am.specs.Bodies.{Body}
 use Rattle.dch_am.specs.Numbers.{ahead}
 use Rattle.dch_am.specs.Status.{most, runs}
 use Rattle.dch_status.specs.Fields.{Field, mrw_ack_fields, mrw_status_fields, status_fields}
-use Rattle.dch_inorder.specs.Lines.{Kept, nothing, passed, run_on, with_body, handed}
-use Rattle.dch_window.specs.Places.{front, is_kept, put, vacant}
+use Rattle.dch_amrecv.specs.Lines.{Kept, nothing, passed, run_on, with_body, handed}
+use Rattle.dch_amrecv.specs.Places.{front, is_kept, put, vacant}
 
 -- the rules, the octets of the PDUs that come and go, the expected number, what is kept, an MRW_ACK that is owed (its number and its place),
 -- whether a status is owed, and the ticks until one may be written and until the next one is owed

@@ -1,3 +1,8 @@
+pub mod Places
+pub mod Stored
+pub mod Kept
+pub mod Lines
+pub mod Reading
 pub mod Holding
 pub mod Standing
 pub mod Moves

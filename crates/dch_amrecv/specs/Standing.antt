@@ -6,7 +6,7 @@ use Rattle.dch_am.specs.Numbers.{has, wrapped}
 use Rattle.dch_am.specs.Status.{MrwAck, Told, fields_of}
 use Rattle.dch_am.specs.Receiver.{Receiver, after_highest, body_of, expected, got}
 use Rattle.dch_status.specs.Fields.{Field}
-use Rattle.dch_units.specs.Taking.{Waiting}
+use Rattle.dch_sar.specs.Taking.{Waiting}
 use Rattle.dch_amrecv.specs.Holding.{Holding}
 
 -- the place i, none behind the last

@@ -1,5 +1,5 @@
 ghost use Rattle.std.specs.Prelude.{◌≡◌, ◌+◌, ◌*◌, ◌<◌, ◌≤◌, ◌==◌, [], ◌∷◌, All, IfOk, Some, length, take, true};
-ghost use Rattle.dch_units.specs.Taking.{handed_of, written};
+ghost use Rattle.dch_sar.specs.Taking.{handed_of, written};
 ghost use Rattle.dch_am.specs.Contents.{body_in};
 ghost use Rattle.dch_amrecv.specs.Holding.{after_answer, after_move, after_telling, after_tick, after_unit, answer, fields_told, is_due, lsn_told, move_answer, opened, pairs_told, plain_due};
 ghost use Rattle.dch_am.specs.Status.{fits};
@@ -7,10 +7,10 @@ ghost use Rattle.dch_status.specs.Reading.{status_of};
 ghost use Rattle.dch_status.specs.Writing.{IsText};
 ghost use Rattle.dch_amrecv.specs.Texts.{text_told};
 
+use crate::buffer::RxBuffer;
 use crate::telling::{most, number};
 use dch_am::{MrwTaken, Taken};
 use dch_bits::NoMemory;
-use dch_inorder::Line;
 use dch_rlcpdu::{Body, Handed};
 use dch_status::{write_ack, write_mrw_ack, write_mrw_status};
 use dch_types::AmRules;
@@ -24,7 +24,7 @@ pub struct Holder {
     pdu: usize,
     reply: usize,
     next: u16,
-    line: Line,
+    buffer: RxBuffer,
     ack: Option<(u16, u8)>,
     owed: bool,
     prohibit: u16,
@@ -37,9 +37,9 @@ impl Model for Holder {
 
     ghost Value = { Holding };
 
-    ghost view = { λ h. record { rules = h.rules; pdu = h.pdu; reply = h.reply; next = h.next; kept = h.line; ack = h.ack; owed = h.owed; prohibit = h.prohibit; period = h.period } };
+    ghost view = { λ h. record { rules = h.rules; pdu = h.pdu; reply = h.reply; next = h.next; kept = h.buffer.kept; ack = h.ack; owed = h.owed; prohibit = h.prohibit; period = h.period } };
 
-    ghost invariant = { λ h. (h.next < 4096) × (h.line.capacity ≡ h.rules.window) × (h.rules.window ≤ 2048) × (h.pdu ≤ 126) × (6 ≤ h.reply) × (h.reply ≤ 126) × IfSome h.ack (λ a. (a.0 < 4096) × (a.1 < 16)) };
+    ghost invariant = { λ h. (h.next < 4096) × (h.buffer.kept.capacity ≡ h.rules.window) × (h.rules.window ≤ 2048) × (h.pdu ≤ 126) × (6 ≤ h.reply) × (h.reply ≤ 126) × IfSome h.ack (λ a. (a.0 < 4096) × (a.1 < 16)) × (h.buffer.pdu ≡ h.pdu) };
 }
 
 impl Holder {
@@ -51,14 +51,14 @@ impl Holder {
         requires window { rules.window ≤ 2048 }
         ensures { IfOk result (λ h. h ≡ opened rules pdu reply) }
     {
-        let line = Line::open(alloc, rules.window as usize)?;
+        let buffer = RxBuffer::open(alloc, rules.window as usize, pdu)?;
         let period = rules.status_period;
         Ok(Holder {
             rules,
             pdu,
             reply,
             next: 0,
-            line,
+            buffer,
             ack: None,
             owed: false,
             prohibit: 0,
@@ -70,7 +70,7 @@ impl Holder {
     pub fn settled(&self) -> bool
         ensures { result ≡ (length self.now.kept.units.waiting == 0) }
     {
-        self.line.settled()
+        self.buffer.settled()
     }
 
     /// Takes a PDU.
@@ -82,16 +82,16 @@ impl Holder {
         ensures after { self.new ≡ after_answer result sn poll (body_in body.now) self.old }
     {
         let ahead = (sn + 4096 - self.next) % 4096;
-        if ahead >= 4096 - self.rules.window || self.line.has(ahead as usize) {
+        if ahead >= 4096 - self.rules.window || self.buffer.has(ahead as usize) {
             self.owed = self.owed || poll;
             return Taken::Duplicate;
         }
         if ahead >= self.rules.window {
             return Taken::Outside;
         }
-        let missing = self.rules.missing && self.line.len() < ahead as usize;
+        let missing = self.rules.missing && self.buffer.len() < ahead as usize;
         self.owed = self.owed || (poll || missing);
-        let run = self.line.keep(ahead as usize, body);
+        let run = self.buffer.keep(ahead as usize, body);
         self.next = ((self.next as usize + run % 4096) % 4096) as u16;
         Taken::Kept
     }
@@ -110,7 +110,7 @@ impl Holder {
         }
         let mut answer = MrwTaken::Old;
         if ahead < 4096 - self.rules.window {
-            let run = self.line.pass(ahead as usize, n);
+            let run = self.buffer.pass(ahead as usize, n);
             self.next = ((self.next as usize + (ahead as usize + run % 4096)) % 4096) as u16;
             answer = MrwTaken::Obeyed;
         }
@@ -126,7 +126,7 @@ impl Holder {
         ensures unit { out.new ≡ written self.old.kept.units.waiting out.old }
         ensures rest { self.new ≡ after_unit self.old }
     {
-        self.line.next_unit(out)
+        self.buffer.next_unit(out)
     }
 
     /// A status or an MRW_ACK is due.
@@ -141,7 +141,7 @@ impl Holder {
         ensures { self.new ≡ opened self.old.rules self.old.pdu self.old.reply }
     {
         self.next = 0;
-        self.line.clear();
+        self.buffer.clear();
         self.ack = None;
         self.owed = false;
         self.prohibit = 0;
@@ -213,10 +213,10 @@ impl Holder {
         ensures lsn { result.1 ≡ lsn_told bits self.now }
         ensures number { result.1 < 4096 }
     {
-        let total = self.line.gaps(pairs);
+        let total = self.buffer.gaps(pairs);
         let count = most(bits, total);
         number(&mut pairs[..count], self.next);
-        let ahead = if count == total { self.line.len() } else { 0 };
+        let ahead = if count == total { self.buffer.len() } else { 0 };
         (count, ((self.next as usize + ahead % 4096) % 4096) as u16)
     }
 }

@@ -5,7 +5,7 @@ ghost use Rattle.dch_am.specs.Moves.{after_control as after_moves, control_answe
 ghost use Rattle.dch_am.specs.Receiver.{Receiver, after_pdu, opened_receiver, taken};
 ghost use Rattle.dch_am.specs.Telling.{after_telling as after_told, is_due as is_told, tells_now, tick_receiver};
 ghost use Rattle.dch_am.specs.Contents.{body_in};
-ghost use Rattle.dch_units.specs.Taking.{handed_of, written};
+ghost use Rattle.dch_sar.specs.Taking.{handed_of, written};
 ghost use Rattle.dch_status.specs.Reading.{status_of};
 ghost use Rattle.dch_amrecv.specs.Holding.{after_unit, is_due, is_settled, opened, with_mrw_ack, with_owed};
 ghost use Rattle.dch_am.specs.Rules.{rules_of};

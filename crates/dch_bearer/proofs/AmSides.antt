@@ -21,7 +21,7 @@ use Rattle.dch_amentity.specs.Answers.{is_outside, is_unknown, received}
 use Rattle.dch_amentity.specs.Standing.{AreSizes, IsSame, Represents, Running, is_settled, size_of, waiting_in}
 use Rattle.dch_amentity.specs.declared.answers.Received.{Received}
 use Rattle.dch_pair.proofs.Peers.{handed_to}
-use Rattle.dch_units.specs.Taking.{handed_of}
+use Rattle.dch_sar.specs.Taking.{handed_of}
 use Rattle.dch_node.specs.Lines.{Line, Outside}
 use Rattle.dch_layer.specs.Hearing.{lines_by, new_units}
 use Rattle.dch_layer.specs.UnitLines.{line_if, unit_line, unit_lines}

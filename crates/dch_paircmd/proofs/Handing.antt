@@ -13,7 +13,7 @@ use Rattle.dch_reset.specs.State.{HandUp, State, step}
 use Rattle.dch_rlcpdu.specs.declared.handed.Handed.{Handed}
 use Rattle.dch_rlcpdu.specs.declared.handed.Handed.TheVariants.{Whole, Overlong}
 use Rattle.dch_script.specs.Held.{Held}
-use Rattle.dch_units.specs.Taking.{handed_of, written}
+use Rattle.dch_sar.specs.Taking.{handed_of, written}
 use Rattle.dch_paircmd.specs.Texts.{end_text, handed_text, octets_text, units_text}
 
 take_front : (u xs : List ℕ) → take (length u) (u ++ xs) ≡ u

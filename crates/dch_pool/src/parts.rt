@@ -40,7 +40,7 @@ fn write_from(region: &mut [u8], from: usize, octets: &[u8])
 }
 
 /// So many numbers from 0 on.
-pub fn numbers(alloc: Global, count: usize) -> Result<Vec<usize>, NoMemory>
+pub fn numbers(alloc: Global, count: u32) -> Result<Vec<u32>, NoMemory>
     ensures { IfOk result (λ v. v.items ≡ range_with_len 0 count) }
 {
     let mut numbers = Vec::new(alloc);

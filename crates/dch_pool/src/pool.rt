@@ -1,5 +1,7 @@
-ghost use Rattle.std.specs.Prelude.{◌≡◌, ◌≤◌, ◌+◌, length, replicate, None, IfOk, MatchOption};
-ghost use Rattle.dch_pool.specs.Blocks.{spare_of, IsLent, octets_of, written, without, Takes};
+ghost use Rattle.std.specs.Prelude.{◌≡◌, ◌≤◌, ◌+◌, ℕ, List, length, replicate, None, IfOk, MatchOption};
+ghost use Rattle.std.specs.Borrow.{sem};
+ghost use Rattle.dch_pool.specs.Blocks.{spare_of, IsLent, octets_of, with_octets, written, without, Takes};
+ghost use Rattle.dch_pool.specs.Lending.{LendsBlock, with_written};
 
 use crate::parts::{clear, marks, numbers, octets, overwrite, part};
 use dch_bits::NoMemory;
@@ -11,7 +13,7 @@ pub struct Pool {
     size: usize,
     region: Vec<u8>,
     lent: Vec<bool>,
-    spare: Vec<usize>,
+    spare: Vec<u32>,
 }
 
 impl Model for Pool {
@@ -28,7 +30,7 @@ impl Model for Pool {
 
 /// A block that is lent. It is not dropped, but given back.
 pub struct Block {
-    number: usize,
+    number: u32,
 }
 
 impl Model for Block {
@@ -44,9 +46,12 @@ impl Pool {
     pub fn open(alloc: Global, blocks: usize, size: usize) -> Result<Pool, NoMemory>
         ensures { IfOk result (λ pool. pool ≡ record { size = size; contents = replicate blocks None }) }
     {
+        let Ok(count) = u32::try_from(blocks) else {
+            return Err(NoMemory);
+        };
         let region = octets(alloc, blocks, size)?;
         let lent = marks(alloc, blocks)?;
-        let spare = numbers(alloc, blocks)?;
+        let spare = numbers(alloc, count)?;
         Ok(Pool {
             size,
             region,
@@ -62,8 +67,8 @@ impl Pool {
         let Some(number) = self.spare.pop() else {
             return None;
         };
-        self.lent[number] = true;
-        clear(&mut self.region, self.size, number);
+        self.lent[number as usize] = true;
+        clear(&mut self.region, self.size, number as usize);
         Some(Block { number })
     }
 
@@ -73,7 +78,7 @@ impl Pool {
         ensures { self.new ≡ without self.old block }
     {
         let Block { number } = block;
-        self.lent[number] = false;
+        self.lent[number as usize] = false;
         self.spare.push(number).unwrap();
     }
 
@@ -82,7 +87,19 @@ impl Pool {
         requires { IsLent self.now block.now }
         ensures { result.now ≡ octets_of self.now block.now }
     {
-        part(&self.region, self.size, block.number)
+        part(&self.region, self.size, block.number as usize)
+    }
+
+    /// Lends the octets of a block of this pool to be written. The other blocks stay.
+    pub fn bytes_mut(&mut self, block: &Block) -> &mut [u8]
+        requires { IsLent self.old block.now }
+        ensures* writes_back { sem 𝓛 (LendsBlock self.entry block.now result) }
+        ensures value { result.now ≡ octets_of self.old block.now }
+        ensures size { length result.now ≡ self.old.size }
+        ensures alone { (octets : List ℕ) → length octets ≡ self.old.size → with_written self.old block.now octets ≡ with_octets self.old block.now octets }
+    {
+        let at = block.number as usize * self.size;
+        self.region.slice_mut(at..at + self.size)
     }
 
     /// Writes octets to a block of this pool, from place `at` of it on. Its other octets stay, and so do the other blocks.
@@ -91,7 +108,8 @@ impl Pool {
         requires inside { at + length octets.now ≤ self.old.size }
         ensures { self.new ≡ written self.old block.now at octets.now }
     {
-        overwrite(&mut self.region, self.size, block.number, at, octets);
+        let number = block.number as usize;
+        overwrite(&mut self.region, self.size, number, at, octets);
     }
 
     /// How many blocks are spare.

@@ -7,7 +7,7 @@ ghost use Rattle.dch_amentity.specs.Answers.{received, waiting};
 ghost use Rattle.dch_held.specs.Held.{capped};
 ghost use Rattle.dch_resetlaw.specs.Ends.{is_asked, is_heard};
 ghost use Rattle.dch_rlcpdu.specs.Am.{am_reading};
-ghost use Rattle.dch_units.specs.Taking.{handed_of, written};
+ghost use Rattle.dch_sar.specs.Taking.{handed_of, written};
 ghost use Rattle.dch_reset.specs.Answers.{answer, answer_read, came_read, data_answer, entity_answer, is_unread, unless_pending};
 ghost use Rattle.dch_reset.specs.Standing.{AreSizes, IsSame, Represents, is_due, is_settled, size_in, size_of, waiting_in};
 ghost use Rattle.dch_reset.specs.State.{Build, Come, HandUp, IsTold, IsWritten, Offer as Offers, Reset, State, Tick, came, opened_state, restarted, step, taken_by, turn, writes};

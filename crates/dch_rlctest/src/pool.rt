@@ -7,11 +7,15 @@ fn two_blocks_are_lent_and_given_back(rt: HostRuntime) -> Result<(), Fail> {
     let first = pool.take().expect(&rt, "a block");
     let second = pool.take().expect(&rt, "another block");
     assert!(rt; pool.spare() == 0);
-    let (front, back) = (b"abc", b"xyz");
-    pool.write(&first, 0, front);
-    pool.write(&second, 61, back);
-    assert!(rt; pool.bytes(&first).starts_with(b"abc\0"));
-    assert!(rt; pool.bytes(&second).ends_with(b"\0xyz"));
+    pool.bytes_mut(&first).fill(0x3c);
+    pool.bytes_mut(&second).fill(0xa5);
+    assert!(rt; pool.bytes(&first) == [0x3c; 64].as_slice());
+    pool.bytes_mut(&first).fill(0x0f);
+    assert!(rt; pool.bytes(&second) == [0xa5; 64].as_slice());
+    if let Some(third) = pool.take() {
+        pool.give(third);
+        panic!(rt; "a third block");
+    }
     pool.give(first);
     assert!(rt; pool.spare() == 1);
     pool.give(second);

@@ -6,8 +6,13 @@ use Rattle.dch_filling.specs.Filling.{total, AreSome}
 use Rattle.dch_rlcum.specs.declared.send.Place.{Place}
 use Rattle.dch_rlcum.specs.Queue.{units_at, IsPlace, IsQueue}
 use Rattle.dch_rlcum.specs.Sending.{blocks, blocks_of, carried_by, held_by, room_of, units_after, with_unit, Sending, Units}
-use Rattle.dch_rlcum.proofs.Cuts.{pushed}
 use Rattle.dch_rlcum.proofs.Walking.{left_blocks, left_octets}
+
+pushed : (ns : List ℕ) (n capacity : ℕ) → length ns < capacity → keep_last capacity (ns ++ n ∷ []) ≡ ns ++ n ∷ []
+pushed ns n capacity room = ap (λ k. drop k (ns ++ n ∷ [])) (none (length-append ns (n ∷ [])))
+  where
+    none : length (ns ++ n ∷ []) ≡ length ns + 1 → length (ns ++ n ∷ []) - capacity ≡ 0
+    none size = omega arith
 
 -- where the units behind the PDU begin, and how many octets it carries
 pub record Builds (s : Sending) (place : Place) (count : ℕ) : Type 0 where

@@ -2,7 +2,6 @@ pub mod Available
 pub mod Bodies
 pub mod Building
 pub mod Chained
-pub mod Cuts
 pub mod Ends
 pub mod Following
 pub mod Handed

@@ -1,20 +1,7 @@
--- How a receiver keeps its units: the octets of those that wait, and of the one in progress behind them, in one row.
-use Rattle.std.specs.Prelude.{◌≡◌, ◌+◌, ◌≤◌, ℕ, List, [], ◌∷◌, Bool, length, take, drop}
+-- How a receiver keeps its units: those that wait, and the one in progress, are put together by a reassembler.
+use Rattle.std.specs.Prelude.{ℕ, Bool}
+use Rattle.dch_sar.specs.Taking.{Waiting}
 use Rattle.dch_rlcum.specs.Receiving.{Receiving}
 
-abbrev pub total : List ℕ → ℕ
-total [] = 0
-total (n ∷ ns) = n + total ns
-
--- units of these sizes, cut from the row
-abbrev pub cut : List ℕ → List ℕ → List (List ℕ)
-cut [] octets = []
-cut (n ∷ ns) octets = take n octets ∷ cut ns (drop n octets)
-
-abbrev pub receiving : ℕ → Bool → List ℕ → List ℕ → Receiving
-receiving expected known sizes octets = record { expected = expected; known = known; part = drop (total sizes) octets; waiting = cut sizes octets }
-
--- the row has the waiting units and so many octets of the one in progress
-pub record IsStored (sizes octets : List ℕ) (part : ℕ) : Type 0 where
-  pub whole : total sizes + part ≡ length octets
-  pub small : part ≤ 1501
+abbrev pub receiving : ℕ → Bool → Waiting → Receiving
+receiving expected known u = record { expected = expected; known = known; part = u.part; waiting = u.waiting }

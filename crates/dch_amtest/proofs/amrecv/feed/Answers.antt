@@ -1,5 +1,5 @@
 use Rattle.std.proofs.Common.{arith}
-use Rattle.dch_window.proofs.Texts.{payload_size}
+use Rattle.dch_amrecv.proofs.Texts.{payload_size}
 use Rattle.dch_amtest.proofs.amrecv.feed.Goals as goal
 
 pub pdu-requires-clause-small : goal.pdu-requires-clause-small

@@ -1,7 +1,7 @@
 use Rattle.std.proofs.Common.{◌≡◌, ◌∙◌, None, sym}
 use Rattle.dch_amentity.specs.Standing.{size_of, waiting_in}
 use Rattle.dch_pair.proofs.Peers.{none_waits, one_handed}
-use Rattle.dch_units.specs.Taking.{handed_of}
+use Rattle.dch_sar.specs.Taking.{handed_of}
 use Rattle.dch_bearer.proofs.AmSides.{last_handed, sizes_on, some_waits}
 use Rattle.dch_bearer.proofs.Lines.{going_room, going_step}
 use Rattle.dch_bearer.proofs.am.hand_up.Goals as goal

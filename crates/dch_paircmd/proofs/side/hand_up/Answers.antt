@@ -1,6 +1,6 @@
 use Rattle.std.proofs.Common.{◌≡◌, ◌∙◌, None, sym}
 use Rattle.dch_reset.specs.Standing.{waiting_in}
-use Rattle.dch_units.specs.Taking.{handed_of}
+use Rattle.dch_sar.specs.Taking.{handed_of}
 use Rattle.dch_paircmd.proofs.Handing.{going_room, going_step, last_handed, one_handed, sizes_on}
 use Rattle.dch_paircmd.proofs.side.hand_up.Goals as goal
 

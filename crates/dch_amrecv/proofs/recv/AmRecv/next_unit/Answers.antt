@@ -1,5 +1,5 @@
 use Rattle.std.proofs.Common.{◌∙◌, ap, drop, refl, subst, sym}
-use Rattle.dch_units.specs.Taking.{handed_of, written}
+use Rattle.dch_sar.specs.Taking.{handed_of, written}
 use Rattle.dch_amrecv.specs.Holding.{Holding, after_unit}
 use Rattle.dch_amrecv.specs.Standing.{IsSame}
 use Rattle.dch_amrecv.proofs.Handing.{handed_cut, next_stands, none_same, written_cut}

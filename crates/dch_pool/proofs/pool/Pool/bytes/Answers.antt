@@ -5,16 +5,14 @@ use Rattle.dch_pool.specs.Held.{contents_of}
 use Rattle.dch_pool.proofs.Contents.{lent-marked, Holds-marked, octets_of-Holds, lent-within}
 use Rattle.dch_pool.proofs.Marks.{marked-inside}
 use Rattle.dch_pool.proofs.pool.Pool.bytes.Goals as goal
-use Rattle.dch_pool.proofs.pool.Pool.bytes.Goals.{After-block}
-
-marked : (c : After-block) → get_or c.self.inside.lent.items c.block.inside.number false ≡ true
-marked c = lent-marked c.self.inside.size c.self.inside.region.items c.self.inside.lent.items c.block.inside.number c.self.view_is c.block.view_is c.requires
 
 pub part-requires : goal.part-requires
 part-requires c =
+    let marked : get_or c.self.inside.lent.items c.block.inside.number false ≡ true =
+    lent-marked c.self.inside.size c.self.inside.region.items c.self.inside.lent.items c.block.inside.number c.self.view_is c.block.view_is c.requires in
     rw c.deref.ensures.value
     (lent-within c.self.inside.size _ c.self.inside.region.items c.self.inside.lent.items _ c.block.inside.number c.self.invariant
-    (marked-inside c.self.inside.lent.items c.block.inside.number (marked c)))
+    (marked-inside c.self.inside.lent.items c.block.inside.number marked))
 
 pub returns : goal.returns
 returns c =

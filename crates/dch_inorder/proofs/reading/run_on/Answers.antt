@@ -1,9 +1,0 @@
-use Rattle.std.proofs.Common.{◌∙◌, ap, drop}
-use Rattle.dch_window.specs.Places.{front}
-use Rattle.dch_inorder.proofs.Ordered.{front_end}
-use Rattle.dch_inorder.proofs.reading.run_on.Goals as goal
-
-pub returns-clause-gap : goal.returns-clause-gap
-returns-clause-gap c =
-    ap (λ k. front k.places) c.read_on-todo.ensures.same
-    ∙ (ap (λ n. front (drop n c.args.window.now.items)) c.front-run.ensures.value ∙ front_end c.args.window.now.items)

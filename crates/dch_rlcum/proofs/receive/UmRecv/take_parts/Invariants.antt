@@ -1,6 +1,0 @@
-use Rattle.dch_rlcpdu.specs.Parts.{parts_of}
-use Rattle.dch_rlcum.proofs.Parts.{Taken}
-use Rattle.dch_rlcum.proofs.receive.UmRecv.take_parts.Given as goal
-
-abbrev pub invariant-loop-i : goal.invariant-loop-i
-invariant-loop-i l = Taken (parts_of l.body) l.i l.fn.self l.self
