@@ -1,10 +1,13 @@
 -- PDUs in flight, place by place.
-use Rattle.std.proofs.Common.{◌≡◌, ◌+◌, ◌<◌, ◌≤◌, ℕ, zero, suc, List, [], ◌∷◌, Bool, true, false, cond, length, set, drop, arith, refl, sym, ap, ◌∙◌, subst, ⊎_elim}
-use Rattle.std.specs.Prelude.{min, nat_lt}
-use Rattle.std.proofs.lemmas.Bool.{both_ways, cases_lt, le-ltb, lt-ltb}
-use Rattle.std.proofs.lemmas.List.{drop_more}
+use Rattle.std.proofs.Common.{◌≡◌, ◌≢◌, ◌+◌, ◌-◌, ◌<◌, ◌≤◌, ℕ, zero, suc, List, [], ◌∷◌, ◌++◌, Bool, true, false, cond, not, ◌&&◌, ◌||◌, length, set, drop, arith, refl, sym, ap, ◌∙◌, subst, ⊎_elim, get_or-set_other, get_or-set_same, length-append}
+use Rattle.std.specs.Prelude.{nat_lt, ◌==◌}
+use Rattle.std.proofs.Math.ListN.{length-set}
+use Rattle.std.proofs.lemmas.Bool.{and_parts, both_ways, cases_eq, cases_lt, eqb-true, false_from_ne_true, ltb-false, ltb-true, not-true, or_cases, or_parts}
+use Rattle.std.proofs.lemmas.Bool.Decides.{nat_tests}
+use Rattle.std.proofs.lemmas.List.{drop_more, get_or-drop, get_or_append_left}
+use Rattle.circular_buffer.specs.Buffer.{Buffer, buffer}
 use Rattle.dch_flight.specs.declared.flown.Flown.{Flown}
-use Rattle.dch_flight.specs.Flights.{at, blank, acknowledged, unwanted, changed_below, first_wanted, front_acked, wanted_in, IsBounded, IsFirstWanted, IsTight}
+use Rattle.dch_flight.specs.Flights.{at, blank, acknowledged, unwanted, changed_below, first_wanted, front_acked, lowered, wanted_in, IsCounted, IsFirstWanted, IsFlight, IsFrom}
 
 -- one place more is changed
 pub changed_next : (change : Flown → Flown) (i : ℕ) (flown : List Flown) → i < length flown → set (changed_below change i flown) i (change (at (changed_below change i flown) i)) ≡ changed_below change (i + 1) flown
@@ -30,10 +33,7 @@ wanted_before change less (suc to) [] i e = e
 wanted_before change less (suc to) (f ∷ flown) zero e = less f e
 wanted_before change less (suc to) (f ∷ flown) (suc i) e = wanted_before change less to flown i e
 
-bounded : (change : Flown → Flown) → ((f : Flown) → (change f).wanted ≡ true → f.wanted ≡ true) → (to : ℕ) (flown : List Flown) (low high : ℕ) → IsBounded flown low high → IsBounded (changed_below change to flown) low high
-bounded change less to flown low high b = record { wanted = λ i e. b.wanted i (wanted_before change less to flown i e) }
-
-acknowledged_less : (f : Flown) → (acknowledged f).wanted ≡ true → f.wanted ≡ true
+pub acknowledged_less : (f : Flown) → (acknowledged f).wanted ≡ true → f.wanted ≡ true
 acknowledged_less f e = either f.named e
   where
     either : (b : Bool) → (cond b f (record f { acked = true; wanted = false })).wanted ≡ true → f.wanted ≡ true
@@ -42,12 +42,6 @@ acknowledged_less f e = either f.named e
 
 unwanted_less : (f : Flown) → (unwanted f).wanted ≡ true → f.wanted ≡ true
 unwanted_less f e = absurd (cc)
-
-pub acknowledged_bounded : (to : ℕ) (flown now : List Flown) (low high : ℕ) → now ≡ changed_below acknowledged to flown → IsBounded flown low high → IsBounded now low high
-acknowledged_bounded to flown now low high e b = subst (λ xs. IsBounded xs low high) (sym e) (bounded acknowledged acknowledged_less to flown low high b)
-
-pub unwanted_bounded : (to : ℕ) (flown now : List Flown) (low high : ℕ) → now ≡ changed_below unwanted to flown → IsBounded flown low high → IsBounded now low high
-unwanted_bounded to flown now low high e b = subst (λ xs. IsBounded xs low high) (sym e) (bounded unwanted unwanted_less to flown low high b)
 
 -- the first that is wanted
 pub first_is : (flown : List Flown) (k : ℕ) → IsFirstWanted flown k → k ≡ first_wanted flown
@@ -73,32 +67,10 @@ wanted_here flown i l e = ap wanted_in (drop_more flown i blank l) ∙ ap (λ b.
 pub wanted_not : (flown : List Flown) (i : ℕ) → i < length flown → (at flown i).wanted ≡ false → wanted_in (drop i flown) ≡ wanted_in (drop (i + 1) flown)
 wanted_not flown i l e = ap wanted_in (drop_more flown i blank l) ∙ ap (λ b. cond b (suc (wanted_in (drop (i + 1) flown))) (wanted_in (drop (i + 1) flown))) e
 
--- where all that are wanted stand from one place to before another
-is_not : (b : Bool) → (b ≡ true → ⊥) → b ≡ false
-is_not true ne = absurd (ne refl)
-is_not false ne = refl
-
-wanted_low : (flown : List Flown) (k : ℕ) → ((j : ℕ) → j < k → (at flown j).wanted ≡ false) → wanted_in (drop k flown) ≡ wanted_in flown
-wanted_low flown zero none = refl
-wanted_low [] (suc k) none = refl
-wanted_low (f ∷ flown) (suc k) none = wanted_low flown k (λ j l. none (suc j) (omega arith)) ∙ ap (λ b. cond b (suc (wanted_in flown)) (wanted_in flown)) (sym (none 0 (omega arith)))
-
 wanted_none : (flown : List Flown) → ((j : ℕ) → (at flown j).wanted ≡ false) → wanted_in flown ≡ 0
 wanted_none [] none = refl
 wanted_none (f ∷ flown) none = ap (λ b. cond b (suc (wanted_in flown)) (wanted_in flown)) (none 0) ∙ wanted_none flown (λ j. none (suc j))
 
-wanted_high : (flown : List Flown) (k : ℕ) → ((j : ℕ) → k ≤ j → (at flown j).wanted ≡ false) → wanted_in (drop k flown) ≡ 0
-wanted_high flown zero none = wanted_none flown (λ j. none j (omega arith))
-wanted_high [] (suc k) none = refl
-wanted_high (f ∷ flown) (suc k) none = wanted_high flown k (λ j l. none (suc j) (omega arith))
-
-pub wanted_from : (flown : List Flown) (low high : ℕ) → IsBounded flown low high → wanted_in (drop low flown) ≡ wanted_in flown
-wanted_from flown low high is = wanted_low flown low (λ j l. is_not (at flown j).wanted (λ e. omega (arith, (is.wanted j e).0)))
-
-pub wanted_to : (flown : List Flown) (low high k : ℕ) → min high (length flown) ≤ k → IsBounded flown low high → wanted_in (drop k flown) ≡ 0
-wanted_to flown low high k past is = wanted_high flown k (λ j l. is_not (at flown j).wanted (λ e. omega (arith, l, past, (is.wanted j e).1, inside flown j e)))
-
--- one is wanted exactly between tight bounds
 wanted_some : (flown : List Flown) (k : ℕ) → (at flown k).wanted ≡ true → 0 < wanted_in flown
 wanted_some [] k e = absurd (cc)
 wanted_some (f ∷ flown) zero e = rw e (omega arith)
@@ -108,25 +80,202 @@ wanted_some (f ∷ flown) (suc k) e = go f.wanted (wanted_some flown k e)
     go true l = omega arith
     go false l = l
 
-not_wanted : (flown : List Flown) (low high j : ℕ) → IsBounded flown low high → (low ≤ j → j < high → ⊥) → (at flown j).wanted ≡ false
-not_wanted flown low high j is out = is_not (at flown j).wanted (λ e. out (is.wanted j e).0 (is.wanted j e).1)
+-- no more are wanted than there are
+pub wanted_few : (flown : List Flown) → wanted_in flown ≤ length flown
+wanted_few [] = omega arith
+wanted_few (f ∷ flown) = go f.wanted (wanted_few flown)
+  where
+    go : (b : Bool) → wanted_in flown ≤ length flown → cond b (suc (wanted_in flown)) (wanted_in flown) ≤ suc (length flown)
+    go true l = omega arith
+    go false l = omega arith
 
-pub wanted_tight : (flown : List Flown) (low high : ℕ) → IsTight flown low high → nat_lt low high ≡ nat_lt 0 (wanted_in flown)
-wanted_tight flown low high is = ⊎_elim
-    (λ (l : low < high). lt-ltb low high l ∙ sym (lt-ltb 0 (wanted_in flown) (wanted_some flown low (is.first l))))
-    (λ (l : high ≤ low). le-ltb low high l ∙ sym (le-ltb 0 (wanted_in flown) (omega (arith, wanted_none flown (λ j. not_wanted flown low high j is.bounded (λ a b. omega (arith, l, a, b)))))))
-    (cases_lt low high)
+-- where one place is changed, what was wanted there is what is wanted there now
+pub counted_set : (flown : List Flown) (i : ℕ) (f : Flown) → i < length flown → cond (at flown i).wanted 1 0 + wanted_in (set flown i f) ≡ cond f.wanted 1 0 + wanted_in flown
+counted_set [] i f l = absurd (omega arith)
+counted_set (x ∷ flown) zero f l = go x.wanted f.wanted
+  where
+    go : (a b : Bool) → cond a 1 0 + cond b (suc (wanted_in flown)) (wanted_in flown) ≡ cond b 1 0 + cond a (suc (wanted_in flown)) (wanted_in flown)
+    go true true = omega arith
+    go true false = omega arith
+    go false true = omega arith
+    go false false = omega arith
+counted_set (x ∷ flown) (suc i) f l = go x.wanted (counted_set flown i f (omega arith))
+  where
+    go : (a : Bool) → cond (at flown i).wanted 1 0 + wanted_in (set flown i f) ≡ cond f.wanted 1 0 + wanted_in flown → cond (at flown i).wanted 1 0 + cond a (suc (wanted_in (set flown i f))) (wanted_in (set flown i f)) ≡ cond f.wanted 1 0 + cond a (suc (wanted_in flown)) (wanted_in flown)
+    go true e = omega (arith, e)
+    go false e = omega (arith, e)
 
-pub first_tight : (flown : List Flown) (low high : ℕ) → low < high → IsTight flown low high → IsFirstWanted flown low
-first_tight flown low high l is = record {
-  before = λ i less. not_wanted flown low high i is.bounded (λ a b. omega (arith, less, a));
-  here = λ within. is.first l;
-  within = omega (arith, inside flown low (is.first l));
+-- what holds of each place of a PDU that is wanted
+wanted_all : (P : ℕ → Type 0) (flown : List Flown) (i : ℕ) (f : Flown) → P i → ((j : ℕ) → (at flown j).wanted ≡ true → P j) → (j : ℕ) → (at (set flown i f) j).wanted ≡ true → P j
+wanted_all P [] i f p given j e = given j e
+wanted_all P (x ∷ flown) zero f p given zero e = p
+wanted_all P (x ∷ flown) zero f p given (suc j) e = given (suc j) e
+wanted_all P (x ∷ flown) (suc i) f p given zero e = given zero e
+wanted_all P (x ∷ flown) (suc i) f p given (suc j) e = wanted_all (λ k. P (suc k)) flown i f p (λ k w. given (suc k) w) j e
+
+-- the same, where the one that is changed is wanted only if it was
+wanted_old : (flown : List Flown) (i : ℕ) (f : Flown) → (f.wanted ≡ true → (at flown i).wanted ≡ true) → (j : ℕ) → (at (set flown i f) j).wanted ≡ true → (at flown j).wanted ≡ true
+wanted_old [] i f less j e = e
+wanted_old (x ∷ flown) zero f less zero e = less e
+wanted_old (x ∷ flown) zero f less (suc j) e = e
+wanted_old (x ∷ flown) (suc i) f less zero e = e
+wanted_old (x ∷ flown) (suc i) f less (suc j) e = wanted_old flown i f less j e
+
+-- what leaves the count where one isn't wanted any more
+pub gone_set : (flown : List Flown) (i : ℕ) (f : Flown) → i < length flown → (f.wanted ≡ true → (at flown i).wanted ≡ true) → cond ((at flown i).wanted && not f.wanted) 1 0 + wanted_in (set flown i f) ≡ wanted_in flown
+gone_set flown i f l less = go (at flown i).wanted f.wanted less (counted_set flown i f l)
+  where
+    go : (a b : Bool) → (b ≡ true → a ≡ true) → cond a 1 0 + wanted_in (set flown i f) ≡ cond b 1 0 + wanted_in flown → cond (a && not b) 1 0 + wanted_in (set flown i f) ≡ wanted_in flown
+    go true true h e = omega (arith, e)
+    go true false h e = omega (arith, e)
+    go false true h e = absurd (both_ways false refl (h refl))
+    go false false h e = omega (arith, e)
+
+-- the first that is wanted, by a count
+pub counted_first : (flown : List Flown) (low count : ℕ) → 0 < count → IsCounted flown low count → IsFirstWanted flown low
+counted_first flown low count some is = record {
+  before = λ i less. false_from_ne_true (at flown i).wanted (λ e. omega (arith, less, is.below.from i e));
+  here = λ within. is.first some;
+  within = omega (arith, inside flown low (is.first some));
 }
 
-pub none_tight : (flown : List Flown) (low high : ℕ) → high ≤ low → IsTight flown low high → IsFirstWanted flown (length flown)
-none_tight flown low high l is = record {
-  before = λ i less. not_wanted flown low high i is.bounded (λ a b. omega (arith, l, a, b));
+pub counted_none : (flown : List Flown) (low count : ℕ) → count ≡ 0 → IsCounted flown low count → IsFirstWanted flown (length flown)
+counted_none flown low count none is = record {
+  before = λ i less. false_from_ne_true (at flown i).wanted (λ e. omega (arith, none, is.count_is, wanted_some flown i e));
   here = λ within. absurd (omega (arith, within));
   within = omega arith;
 }
+
+-- a search for the first
+pub none_from : (flown : List Flown) (count : ℕ) → count ≡ wanted_in flown → count ≡ 0 → IsCounted flown 0 count
+none_from flown count e none = record { below = record { from = λ i w. omega arith }; count_is = e; first = λ some. absurd (omega (arith, some, none)) }
+
+pub found_from : (flown : List Flown) (count i : ℕ) → count ≡ wanted_in flown → ((j : ℕ) → j < i → (at flown j).wanted ≡ false) → (at flown i).wanted ≡ true → IsCounted flown i count
+found_from flown count i e before here = record {
+  below = record { from = λ j w. ⊎_elim (λ (l : j < i). absurd (both_ways (at flown j).wanted (before j l) w)) (λ (l : i ≤ j). l) (cases_lt j i) };
+  count_is = e;
+  first = λ some. here;
+}
+
+pub exhausted : (flown : List Flown) → ((j : ℕ) → j < length flown → (at flown j).wanted ≡ false) → wanted_in flown ≡ 0
+exhausted flown none = wanted_none flown (λ j. false_from_ne_true (at flown j).wanted (λ e. both_ways (at flown j).wanted (none j (inside flown j e)) e))
+
+-- one that is named is wanted since
+pub flight_named : (flight : Buffer Flown) (low count i : ℕ) (f : Flown) → i < length flight.items → (not (at flight.items i).wanted && f.wanted) ≡ true → IsFlight flight low count → IsFlight (buffer (set flight.items i f) flight.capacity) (lowered low count i) (count + 1)
+flight_named flight low count i f l newly is = record {
+  counted = record {
+    below = record { from = from };
+    count_is = omega (arith, is.counted.count_is, counted_set flight.items i f l, ap (λ b. cond {A = ℕ} b 1 0) was, ap (λ b. cond {A = ℕ} b 1 0) now);
+    first = λ some. first ((count == 0) || nat_lt i low) refl;
+  };
+  few = omega (arith, is.few, length-set flight.items i f);
+  small = is.small;
+}
+  where
+    parts : (not (at flight.items i).wanted ≡ true) × (f.wanted ≡ true)
+    parts = and_parts (not (at flight.items i).wanted) f.wanted newly
+
+    was : (at flight.items i).wanted ≡ false
+    was = not-true (at flight.items i).wanted parts.0
+
+    now : f.wanted ≡ true
+    now = parts.1
+
+    here : (at (set flight.items i f) i).wanted ≡ true
+    here = ap (λ (x : Flown). x.wanted) (get_or-set_same flight.items i f blank l) ∙ now
+
+    below : (b : Bool) → ((count == 0) || nat_lt i low) ≡ b → (j : ℕ) → (at flight.items j).wanted ≡ true → cond b i low ≤ j
+    below true e j w = ⊎_elim
+        (λ (h : (count == 0) ≡ true). absurd (omega (arith, eqb-true count 0 h, is.counted.count_is, wanted_some flight.items j w)))
+        (λ (h : nat_lt i low ≡ true). omega (arith, ltb-true i low h, is.counted.below.from j w))
+        (or_cases (count == 0) (nat_lt i low) e)
+    below false e j w = is.counted.below.from j w
+
+    lower : (b : Bool) → ((count == 0) || nat_lt i low) ≡ b → cond b i low ≤ i
+    lower true e = omega arith
+    lower false e = ltb-false i low (or_parts (count == 0) (nat_lt i low) e).1
+
+    from : (j : ℕ) → (at (set flight.items i f) j).wanted ≡ true → lowered low count i ≤ j
+    from = wanted_all (λ j. lowered low count i ≤ j) flight.items i f (lower ((count == 0) || nat_lt i low) refl) (below ((count == 0) || nat_lt i low) refl)
+
+    first : (b : Bool) → ((count == 0) || nat_lt i low) ≡ b → (at (set flight.items i f) (cond b i low)).wanted ≡ true
+    first true e = here
+    first false e = other (omega (arith, some, is.counted.count_is))
+      where
+        some : 0 < count
+        some = pos count (or_parts (count == 0) (nat_lt i low) e).0
+          where
+            pos : (n : ℕ) → (n == 0) ≡ false → 0 < n
+            pos n q = grind (arith, nat_tests)
+
+        apart : low ≡ i → ⊥
+        apart q = both_ways (at flight.items i).wanted was (subst (λ k. (at flight.items k).wanted ≡ true) q (is.counted.first some))
+
+        other : 0 < count → (at (set flight.items i f) low).wanted ≡ true
+        other h = ap (λ (x : Flown). x.wanted) (get_or-set_other flight.items i low f blank apart) ∙ is.counted.first h
+
+-- one that was wanted or isn't is as it was
+pub flight_set : (flight : Buffer Flown) (low count i : ℕ) (f : Flown) → i < length flight.items → f.wanted ≡ (at flight.items i).wanted → IsFlight flight low count → IsFlight (buffer (set flight.items i f) flight.capacity) low count
+flight_set flight low count i f l e is = record {
+  counted = record {
+    below = record { from = λ j w. is.counted.below.from j (wanted_old flight.items i f (λ h. sym e ∙ h) j w) };
+    count_is = omega (arith, is.counted.count_is, counted_set flight.items i f l, ap (λ b. cond {A = ℕ} b 1 0) e);
+    first = λ some. wanted_new (is.counted.first some);
+  };
+  few = omega (arith, is.few, length-set flight.items i f);
+  small = is.small;
+}
+  where
+    wanted_new : (at flight.items low).wanted ≡ true → (at (set flight.items i f) low).wanted ≡ true
+    wanted_new w = ⊎_elim
+        (λ (q : low ≡ i). subst (λ k. (at (set flight.items i f) k).wanted ≡ true) (sym q) (ap (λ (x : Flown). x.wanted) (get_or-set_same flight.items i f blank l) ∙ (e ∙ subst (λ k. (at flight.items k).wanted ≡ true) q w)))
+        (λ (q : low ≢ i). ap (λ (x : Flown). x.wanted) (get_or-set_other flight.items i low f blank q) ∙ w)
+        (cases_eq low i)
+
+-- a name that makes nothing wanted
+pub flight_as : (flight : Buffer Flown) (low count i : ℕ) (f : Flown) → i < length flight.items → ((at flight.items i).wanted ≡ true → f.wanted ≡ true) → (not (at flight.items i).wanted && f.wanted) ≡ false → IsFlight flight low count → IsFlight (buffer (set flight.items i f) flight.capacity) low count
+flight_as flight low count i f l more none is = flight_set flight low count i f l (go (at flight.items i).wanted f.wanted more none) is
+  where
+    go : (a b : Bool) → (a ≡ true → b ≡ true) → (not a && b) ≡ false → b ≡ a
+    go true b h e = h refl
+    go false true h e = absurd (both_ways true e refl)
+    go false false h e = refl
+
+-- one that isn't wanted any more
+pub gone_from : (flown : List Flown) (low i : ℕ) (f : Flown) → f.wanted ≡ false → IsFrom flown low → IsFrom (set flown i f) low
+gone_from flown low i f e is = record { from = λ j w. is.from j (wanted_old flown i f (λ h. absurd (both_ways f.wanted e h)) j w) }
+
+pub acknowledged_from : (to : ℕ) (flown : List Flown) (low : ℕ) → IsFrom flown low → IsFrom (changed_below acknowledged to flown) low
+acknowledged_from to flown low is = record { from = λ i e. is.from i (wanted_before acknowledged acknowledged_less to flown i e) }
+
+pub unwanted_from : (to : ℕ) (flown : List Flown) (low : ℕ) → IsFrom flown low → IsFrom (changed_below unwanted to flown) low
+unwanted_from to flown low is = record { from = λ i e. is.from i (wanted_before unwanted unwanted_less to flown i e) }
+
+pub left_from : (count : ℕ) (flown : List Flown) (low : ℕ) → IsFrom flown low → IsFrom (drop count flown) (low - count)
+left_from count flown low is = record { from = λ i e. omega (arith, is.from (count + i) (ap (λ (x : Flown). x.wanted) (sym (get_or-drop count flown i blank)) ∙ e)) }
+
+-- one more that isn't wanted
+pub flight_push : (flight : Buffer Flown) (low count : ℕ) (f : Flown) → length flight.items < flight.capacity → f.wanted ≡ false → IsFlight flight low count → IsFlight (buffer (flight.items ++ f ∷ []) flight.capacity) low count
+flight_push flight low count f room e is = record {
+  counted = record {
+    below = record { from = λ j w. is.counted.below.from j (old flight.items j w) };
+    count_is = is.counted.count_is ∙ sym (more flight.items);
+    first = λ some. let w : (at flight.items low).wanted ≡ true = is.counted.first some in ap (λ (x : Flown). x.wanted) (get_or_append_left flight.items (f ∷ []) blank low (inside flight.items low w)) ∙ w;
+  };
+  few = omega (arith, room, length-append flight.items (f ∷ []));
+  small = is.small;
+}
+  where
+    old : (xs : List Flown) (j : ℕ) → (at (xs ++ f ∷ []) j).wanted ≡ true → (at xs j).wanted ≡ true
+    old [] zero w = absurd (both_ways f.wanted e w)
+    old [] (suc j) w = w
+    old (x ∷ xs) zero w = w
+    old (x ∷ xs) (suc j) w = old xs j w
+
+    more : (xs : List Flown) → wanted_in (xs ++ f ∷ []) ≡ wanted_in xs
+    more [] = ap (λ b. cond {A = ℕ} b 1 0) e
+    more (x ∷ xs) = ap (λ n. cond x.wanted (suc n) n) (more xs)
+
+-- a ring with no more PDUs, of which the wanted are counted anew
+pub flight_less : (flight now : Buffer Flown) (low count first many : ℕ) → now.capacity ≡ flight.capacity → length now.items ≤ length flight.items → IsCounted now.items first many → IsFlight flight low count → IsFlight now first many
+flight_less flight now low count first many room fewer counted is = record { counted = counted; few = omega (arith, is.few, room, fewer); small = omega (arith, is.small, room) }

@@ -1,5 +1,6 @@
 -- The PDUs of a sender that are in flight (TS 25.322 9.4, 11.5.3): those from the lowest number that is not acknowledged on.
-use Rattle.std.specs.Prelude.{◌≡◌, ◌+◌, ◌≤◌, ◌<◌, ◌&&◌, ◌||◌, ℕ, zero, suc, List, [], ◌∷◌, Bool, true, false, not, length, max, min, nat_lt, nat_le, slice_index_or, if◌then◌else◌}
+use Rattle.std.specs.Prelude.{◌≡◌, ◌+◌, ◌≤◌, ◌<◌, ◌==◌, ◌&&◌, ◌||◌, ℕ, zero, suc, List, [], ◌∷◌, Bool, true, false, not, length, nat_lt, nat_le, slice_index_or, if◌then◌else◌}
+use Rattle.circular_buffer.specs.Buffer.{Buffer}
 use Rattle.dch_flight.specs.declared.flown.Flown.{Flown}
 
 -- no PDU
@@ -61,15 +62,22 @@ abbrev pub front_acked : List Flown → ℕ
 front_acked [] = 0
 front_acked (f ∷ flown) = if f.acked then suc (front_acked flown) else 0
 
--- every PDU that is wanted stands from one place to before another
-pub record IsBounded (flown : List Flown) (low high : ℕ) : Type 0 where
-  pub wanted : (i : ℕ) → (at flown i).wanted ≡ true → (low ≤ i) × (i < high)
+-- no PDU before a place is wanted
+pub record IsFrom (flown : List Flown) (low : ℕ) : Type 0 where
+  pub from : (i : ℕ) → (at flown i).wanted ≡ true → low ≤ i
 
--- the first place is that of one that is wanted, or none is
-pub record IsTight (flown : List Flown) (low high : ℕ) : Type 0 where
-  pub bounded : IsBounded flown low high
-  pub first : low < high → (at flown low).wanted ≡ true
+-- so many are wanted, and where some are this is the first
+pub record IsCounted (flown : List Flown) (low count : ℕ) : Type 0 where
+  pub below : IsFrom flown low
+  pub count_is : count ≡ wanted_in flown
+  pub first : 0 < count → (at flown low).wanted ≡ true
 
--- the bounds with those of one more that is wanted
-abbrev pub wider : ℕ → ℕ → ℕ → ℕ → ℕ × ℕ
-wider low high from to = if nat_lt low high then (min low from, max high to) else (from, to)
+-- the place of the first with that of one more that is wanted
+abbrev pub lowered : ℕ → ℕ → ℕ → ℕ
+lowered low count i = if (count == 0) || nat_lt i low then i else low
+
+-- the ring and what is counted of it
+pub record IsFlight (flight : Buffer Flown) (low count : ℕ) : Type 0 where
+  pub counted : IsCounted flight.items low count
+  pub few : length flight.items ≤ flight.capacity
+  pub small : flight.capacity ≤ 65535

@@ -1,6 +1,6 @@
-ghost use Rattle.std.specs.Prelude.{◌≡◌, ◌+◌, ◌-◌, ◌<◌, ◌≤◌, ◌++◌, ℕ, [], ◌∷◌, false, true, IfOk, length, drop, min, nat_lt, slice_set};
+ghost use Rattle.std.specs.Prelude.{◌≡◌, ◌+◌, ◌<◌, ◌≤◌, ◌++◌, [], ◌∷◌, false, IfOk, length, drop, min, nat_lt, slice_set, if◌then◌else◌};
 ghost use Rattle.circular_buffer.specs.Buffer.{buffer};
-ghost use Rattle.dch_flight.specs.Flights.{at, named_from, unnamed, acknowledged, unwanted, built, changed_below, first_wanted, front_acked, wanted_in, IsFirstWanted, IsBounded, IsTight, wider};
+ghost use Rattle.dch_flight.specs.Flights.{at, named_from, unnamed, acknowledged, unwanted, built, changed_below, first_wanted, front_acked, lowered, wanted_in, IsCounted, IsFirstWanted, IsFrom};
 
 use crate::flown::Flown;
 use crate::places::{acknowledge_at, at_place, build_at, name_at, unname_at, unwant_at};
@@ -9,37 +9,36 @@ use dch_bits::NoMemory;
 use std::alloc::Global;
 use std::marker::Model;
 
-/// The PDUs in flight, the one of the lowest open number first. Those that are wanted stand from `low` to before `high`, and the one at
-/// `low` is wanted. Where none is, `high` is at most `low`.
+/// The PDUs in flight, the one of the lowest open number first. So many of them are wanted as `count` says, the first of them at `low`.
 #[derive(Drop)]
 pub struct Flight {
     ring: HeapCircularBuffer<Flown>,
     low: usize,
-    high: usize,
+    count: usize,
 }
 
 impl Model for Flight {
     ghost use Rattle.circular_buffer.specs.Buffer.{Buffer};
     ghost use Rattle.dch_flight.specs.declared.flown.Flown.{Flown};
-    ghost use Rattle.dch_flight.specs.Flights.{IsTight};
+    ghost use Rattle.dch_flight.specs.Flights.{IsFlight};
 
     ghost Value = { Buffer Flown };
 
     ghost view = { λ f. f.ring };
 
-    ghost invariant = { λ f. IsTight f.ring.items f.low f.high };
+    ghost invariant = { λ f. IsFlight f.ring f.low f.count };
 }
 
 impl Flight {
     /// Room for so many PDUs, of which none is in flight. All memory is taken here.
-    pub fn open(alloc: Global, window: usize) -> Result<Flight, NoMemory>
+    pub fn open(alloc: Global, window: u16) -> Result<Flight, NoMemory>
         ensures { IfOk result (λ f. f ≡ buffer [] window) }
     {
-        let ring = HeapCircularBuffer::with_capacity(alloc, window)?;
+        let ring = HeapCircularBuffer::with_capacity(alloc, window as usize)?;
         Ok(Flight {
             ring,
             low: 0,
-            high: 0,
+            count: 0,
         })
     }
 
@@ -72,9 +71,9 @@ impl Flight {
         requires { i < length self.old.items }
         ensures { self.new ≡ buffer (slice_set self.old.items i (named_from from i (at self.old.items i))) self.old.capacity }
     {
-        let end = self.ring.len().min(i + 1);
         if name_at(&mut self.ring, i, from) {
-            (self.low, self.high) = widened(self.low, self.high, i, end);
+            self.low = lowered(self.low, self.count, i);
+            self.count += 1;
         }
     }
 
@@ -91,8 +90,9 @@ impl Flight {
         requires { i < length self.old.items }
         ensures { self.new ≡ buffer (slice_set self.old.items i (built (at self.old.items i))) self.old.capacity }
     {
-        build_at(&mut self.ring, i);
-        (self.low, self.high) = tightened(&self.ring, self.low, self.high);
+        let was = build_at(&mut self.ring, i);
+        self.count -= one(was);
+        self.low = first_from(&self.ring, self.low, self.count);
     }
 
     /// The PDUs before a place are acknowledged, but for those that are named missing.
@@ -100,8 +100,9 @@ impl Flight {
         requires { to ≤ length self.old.items }
         ensures { self.new ≡ buffer (changed_below acknowledged to self.old.items) self.old.capacity }
     {
-        acknowledge_below(&mut self.ring, to);
-        (self.low, self.high) = tightened(&self.ring, self.low, self.high);
+        let gone = acknowledge_below(&mut self.ring, to);
+        self.count -= gone;
+        self.low = first_from(&self.ring, self.low, self.count);
     }
 
     /// The PDUs before a place aren't wanted any more.
@@ -109,8 +110,9 @@ impl Flight {
         requires { to ≤ length self.old.items }
         ensures { self.new ≡ buffer (changed_below unwanted to self.old.items) self.old.capacity }
     {
-        unwant_below(&mut self.ring, to);
-        (self.low, self.high) = tightened(&self.ring, self.low, self.high);
+        let gone = unwant_below(&mut self.ring, to);
+        self.count -= gone;
+        self.low = first_from(&self.ring, self.low, self.count);
     }
 
     /// The first PDU that is wanted; their number where none is.
@@ -118,7 +120,7 @@ impl Flight {
         ensures place { IsFirstWanted self.now.items result }
         ensures first { result ≡ first_wanted self.now.items }
     {
-        if self.low < self.high {
+        if self.count > 0 {
             self.low
         } else {
             self.ring.len()
@@ -129,14 +131,14 @@ impl Flight {
     pub fn is_wanted(&self) -> bool
         ensures { result ≡ nat_lt 0 (wanted_in self.now.items) }
     {
-        self.low < self.high
+        self.count > 0
     }
 
     /// How many PDUs are wanted, at most so many.
     pub fn wanted(&self, most: usize) -> usize
         ensures { result ≡ min most (wanted_in self.now.items) }
     {
-        wanted(&self.ring, self.low, self.high, most)
+        self.count.min(most)
     }
 
     /// How many PDUs from a place on are acknowledged, up to the first that isn't.
@@ -158,86 +160,82 @@ impl Flight {
         requires { count ≤ length self.old.items }
         ensures { self.new ≡ buffer (drop count self.old.items) self.old.capacity }
     {
+        let gone = wanted_before(&self.ring, count);
         let kept = self.ring.len() - count;
         self.ring.truncate_front(kept);
-        (self.low, self.high) = tightened(
-            &self.ring,
-            self.low.saturating_sub(count),
-            self.high.saturating_sub(count),
-        );
+        self.count -= gone;
+        self.low = first_from(&self.ring, self.low.saturating_sub(count), self.count);
     }
 }
 
-/// The bounds with those of one PDU more that is wanted.
-fn widened(low: usize, high: usize, from: usize, to: usize) -> (usize, usize)
-    ensures { result ≡ wider low high from to }
+/// One or none.
+fn one(is: bool) -> usize
+    ensures value { result ≡ (if is then 1 else 0) }
+    ensures few { result ≤ 1 }
 {
-    if low < high {
-        (low.min(from), high.max(to))
-    } else {
-        (from, to)
-    }
+    if is { 1 } else { 0 }
 }
 
-/// The bounds from the first PDU on that is wanted, where all that are stand from one place to before another.
-fn tightened(ring: &HeapCircularBuffer<Flown>, low: usize, high: usize) -> (usize, usize)
-    requires { IsBounded ring.now.items low high }
-    ensures { IsTight ring.now.items result.0 result.1 }
+/// The place of the first PDU that is wanted, where there are so many and one more is.
+fn lowered(low: usize, count: usize, i: usize) -> usize
+    ensures { result ≡ lowered low count i }
 {
-    let first = first_wanted(ring, low, high);
-    if first < ring.len() {
-        (first, high)
-    } else {
-        (0, 0)
-    }
+    if count == 0 || i < low { i } else { low }
 }
 
-/// The first PDU that is wanted, where all that are stand from one place to before another.
-fn first_wanted(ring: &HeapCircularBuffer<Flown>, low: usize, high: usize) -> usize
-    requires { IsBounded ring.now.items low high }
-    ensures { IsFirstWanted ring.now.items result }
+/// The place of the first PDU that is wanted, where so many are and none before a place.
+fn first_from(ring: &HeapCircularBuffer<Flown>, low: usize, count: usize) -> usize
+    requires low { IsFrom ring.now.items low }
+    requires count { count ≡ wanted_in ring.now.items }
+    ensures { IsCounted ring.now.items result count }
 {
-    let end = high.min(ring.len());
-    for i in low..end {
+    if count == 0 {
+        return 0;
+    }
+    for i in low..ring.len() {
         if at_place(ring, i).wanted {
             return i;
         }
     }
-    ring.len()
+    0
 }
 
-/// How many PDUs are wanted, at most so many, where all that are stand from one place to before another.
-fn wanted(ring: &HeapCircularBuffer<Flown>, low: usize, high: usize, most: usize) -> usize
-    requires { IsBounded ring.now.items low high }
-    ensures { result ≡ min most (wanted_in ring.now.items) }
+/// How many PDUs before a place are wanted.
+fn wanted_before(ring: &HeapCircularBuffer<Flown>, to: usize) -> usize
+    requires { to ≤ length ring.now.items }
+    ensures { result + wanted_in (drop to ring.now.items) ≡ wanted_in ring.now.items }
 {
-    let past = high.min(ring.len());
     let mut count = 0;
-    for i in low..past {
-        if count >= most {
-            return most;
-        }
+    for i in 0..to {
         if at_place(ring, i).wanted {
             count += 1;
         }
     }
-    count.min(most)
+    count
 }
 
-fn acknowledge_below(ring: &mut HeapCircularBuffer<Flown>, to: usize)
+/// The PDUs before a place are acknowledged, but for those that are named. Answers how many of them aren't wanted any more.
+fn acknowledge_below(ring: &mut HeapCircularBuffer<Flown>, to: usize) -> usize
     requires { to ≤ length ring.old.items }
-    ensures { ring.new ≡ buffer (changed_below acknowledged to ring.old.items) ring.old.capacity }
+    ensures gone { result + wanted_in ring.new.items ≡ wanted_in ring.old.items }
+    ensures after { ring.new ≡ buffer (changed_below acknowledged to ring.old.items) ring.old.capacity }
 {
+    let mut gone = 0;
     for i in 0..to {
-        acknowledge_at(ring, i);
+        gone += one(acknowledge_at(ring, i));
     }
+    gone
 }
 
-fn unwant_below(ring: &mut HeapCircularBuffer<Flown>, to: usize)
+/// The PDUs before a place aren't wanted. Answers how many of them were.
+fn unwant_below(ring: &mut HeapCircularBuffer<Flown>, to: usize) -> usize
     requires { to ≤ length ring.old.items }
-    ensures { ring.new ≡ buffer (changed_below unwanted to ring.old.items) ring.old.capacity }
+    ensures gone { result + wanted_in ring.new.items ≡ wanted_in ring.old.items }
+    ensures after { ring.new ≡ buffer (changed_below unwanted to ring.old.items) ring.old.capacity }
 {
+    let mut gone = 0;
     for i in 0..to {
-        unwant_at(ring, i);
+        gone += one(unwant_at(ring, i));
     }
+    gone
 }

@@ -1,4 +1,4 @@
-ghost use Rattle.std.specs.Prelude.{◌≡◌, ◌<◌, length, slice_set};
+ghost use Rattle.std.specs.Prelude.{◌≡◌, ◌<◌, ◌&&◌, not, length, slice_set};
 ghost use Rattle.circular_buffer.specs.Buffer.{buffer};
 ghost use Rattle.dch_flight.specs.Flights.{at, named_from, unnamed, acknowledged, unwanted, built};
 
@@ -13,18 +13,19 @@ pub fn at_place(ring: &HeapCircularBuffer<Flown>, i: usize) -> Flown
     *ring.get(i).unwrap()
 }
 
-/// It is named missing, and wanted unless it is acknowledged or stands before a place. Answers whether it is wanted now.
+/// It is named missing, and wanted unless it is acknowledged or stands before a place. Answers whether it is wanted since.
 pub fn name_at(ring: &mut HeapCircularBuffer<Flown>, i: usize, from: usize) -> bool
     requires { i < length ring.old.items }
-    ensures wanted { result ≡ (named_from from i (at ring.old.items i)).wanted }
+    ensures newly { result ≡ (not (at ring.old.items i).wanted && (named_from from i (at ring.old.items i)).wanted) }
     ensures after { ring.new ≡ buffer (slice_set ring.old.items i (named_from from i (at ring.old.items i))) ring.old.capacity }
 {
     let Some(flown) = ring.get_mut(i) else {
         return false;
     };
+    let was = flown.wanted;
     flown.named = true;
     flown.wanted = flown.wanted || (!flown.acked && from <= i);
-    flown.wanted
+    !was && flown.wanted
 }
 
 /// It isn't named any more.
@@ -37,36 +38,48 @@ pub fn unname_at(ring: &mut HeapCircularBuffer<Flown>, i: usize)
     }
 }
 
-/// It is acknowledged, unless it is named missing.
-pub fn acknowledge_at(ring: &mut HeapCircularBuffer<Flown>, i: usize)
+/// It is acknowledged, unless it is named missing. Answers whether it was wanted and isn't any more.
+pub fn acknowledge_at(ring: &mut HeapCircularBuffer<Flown>, i: usize) -> bool
     requires { i < length ring.old.items }
-    ensures { ring.new ≡ buffer (slice_set ring.old.items i (acknowledged (at ring.old.items i))) ring.old.capacity }
+    ensures gone { result ≡ ((at ring.old.items i).wanted && not (acknowledged (at ring.old.items i)).wanted) }
+    ensures after { ring.new ≡ buffer (slice_set ring.old.items i (acknowledged (at ring.old.items i))) ring.old.capacity }
 {
-    if let Some(flown) = ring.get_mut(i) {
-        if !flown.named {
-            flown.acked = true;
-            flown.wanted = false;
-        }
-    }
-}
-
-/// It isn't wanted.
-pub fn unwant_at(ring: &mut HeapCircularBuffer<Flown>, i: usize)
-    requires { i < length ring.old.items }
-    ensures { ring.new ≡ buffer (slice_set ring.old.items i (unwanted (at ring.old.items i))) ring.old.capacity }
-{
-    if let Some(flown) = ring.get_mut(i) {
+    let Some(flown) = ring.get_mut(i) else {
+        return false;
+    };
+    let was = flown.wanted;
+    if !flown.named {
+        flown.acked = true;
         flown.wanted = false;
     }
+    was && !flown.wanted
 }
 
-/// It is built once more. More than 255 times are not counted.
-pub fn build_at(ring: &mut HeapCircularBuffer<Flown>, i: usize)
+/// It isn't wanted. Answers whether it was.
+pub fn unwant_at(ring: &mut HeapCircularBuffer<Flown>, i: usize) -> bool
     requires { i < length ring.old.items }
-    ensures { ring.new ≡ buffer (slice_set ring.old.items i (built (at ring.old.items i))) ring.old.capacity }
+    ensures gone { result ≡ (at ring.old.items i).wanted }
+    ensures after { ring.new ≡ buffer (slice_set ring.old.items i (unwanted (at ring.old.items i))) ring.old.capacity }
 {
-    if let Some(flown) = ring.get_mut(i) {
-        flown.wanted = false;
-        flown.builds = flown.builds.saturating_add(1);
-    }
+    let Some(flown) = ring.get_mut(i) else {
+        return false;
+    };
+    let was = flown.wanted;
+    flown.wanted = false;
+    was
+}
+
+/// It is built once more. More than 255 times are not counted. Answers whether it was wanted.
+pub fn build_at(ring: &mut HeapCircularBuffer<Flown>, i: usize) -> bool
+    requires { i < length ring.old.items }
+    ensures gone { result ≡ (at ring.old.items i).wanted }
+    ensures after { ring.new ≡ buffer (slice_set ring.old.items i (built (at ring.old.items i))) ring.old.capacity }
+{
+    let Some(flown) = ring.get_mut(i) else {
+        return false;
+    };
+    let was = flown.wanted;
+    flown.wanted = false;
+    flown.builds = flown.builds.saturating_add(1);
+    was
 }

@@ -1,6 +1,7 @@
 -- The units that a sender of the acknowledged mode holds, place by place (TS 25.322 9.4, 11.3.2).
 use Rattle.std.specs.Prelude.{◌≡◌, ◌+◌, ◌-◌, ◌/◌, ◌^◌, ◌≤◌, ◌++◌, ℕ, List, [], ◌∷◌, Bool, not, nat_lt, length, take, drop, min, slice_index_or}
 use Rattle.circular_buffer.specs.Buffer.{Buffer}
+use Rattle.dch_held.specs.declared.unit.Stored.{Stored}
 use Rattle.dch_held.specs.declared.unit.Unit.{Unit as OneUnit}
 
 pub record Held : Type 0 where
@@ -15,6 +16,31 @@ pub record Held : Type 0 where
 -- no unit
 abbrev pub no_unit : OneUnit
 no_unit = record { blocks = 0; age = 0 }
+
+abbrev pub none_stored : Stored
+none_stored = record { blocks = 0; at = 0 }
+
+-- a unit as it is kept, at a tick. Ages end at 65,535
+abbrev pub seen : ℕ → Stored → OneUnit
+seen now u = record { blocks = u.blocks; age = min 65535 (now - u.at) }
+
+-- all units at a tick
+abbrev pub all_seen : ℕ → List Stored → List OneUnit
+all_seen now [] = []
+all_seen now (u ∷ us) = seen now u ∷ all_seen now us
+
+-- none was accepted later
+abbrev pub AreBefore : ℕ → List Stored → Type 0
+AreBefore now [] = Unit {0}
+AreBefore now (u ∷ us) = (u.at ≤ now) × AreBefore now us
+
+-- the same ages at the tick 65,535
+abbrev pub rebased : ℕ → Stored → Stored
+rebased now u = record u { at = 65535 - min 65535 (now - u.at) }
+
+abbrev pub all_rebased : ℕ → List Stored → List Stored
+all_rebased now [] = []
+all_rebased now (u ∷ us) = rebased now u ∷ all_rebased now us
 
 -- the unit at a place
 abbrev pub unit_at : List OneUnit → ℕ → OneUnit

@@ -11,8 +11,8 @@ ghost use Rattle.dch_am.specs.Sender.{Sender, after_offer, blocks, first_open, h
 ghost use Rattle.dch_held.specs.Held.{age_at, aged, blocks_for, capped, discarding, has_room, left, nothing, restarted, sizes_of, ticked, total, unit_at, with_pdu, with_unit};
 ghost use Rattle.dch_held.specs.Holding.{AreAcknowledged, Holds, IsTicked, released};
 
-use crate::places::{age_all, blocks_for, blocks_in, capped_sum, ended_in, push_unit, unit_at};
-use crate::unit::Unit;
+use crate::places::{blocks_for, blocks_in, capped_sum, ended_in};
+use crate::units::Units;
 use circular_buffer::HeapCircularBuffer;
 use dch_bits::NoMemory;
 use std::alloc::Global;
@@ -21,7 +21,7 @@ use std::marker::Model;
 /// The units that a sender holds, the oldest first: those whose end mark, and all PDUs before it, are not acknowledged yet.
 #[derive(Drop)]
 pub struct Held {
-    units: HeapCircularBuffer<Unit>,
+    units: Units,
     ends: HeapCircularBuffer<u8>,
     blocks: usize,
     passed: usize,
@@ -54,7 +54,7 @@ impl Held {
     fn empty(alloc: Global, buffer: u16, window: u16) -> Result<Held, NoMemory>
         ensures empty { IfOk result (λ h. h ≡ nothing buffer window) }
     {
-        let units = HeapCircularBuffer::with_capacity(alloc, buffer as usize)?;
+        let units = Units::open(alloc, buffer)?;
         let ends = HeapCircularBuffer::with_capacity(alloc, window as usize)?;
         Ok(Held {
             units,
@@ -104,7 +104,7 @@ impl Held {
         ensures after { self.new ≡ with_unit octets self.old }
     {
         let blocks = blocks_for(octets);
-        push_unit(&mut self.units, Unit { blocks, age: 0 });
+        self.units.push(blocks);
         self.blocks += blocks as usize;
     }
 
@@ -160,7 +160,7 @@ impl Held {
     fn grow_older(&mut self)
         ensures after { self.new ≡ ticked self.old }
     {
-        age_all(&mut self.units);
+        self.units.tick();
     }
 
     /// The units in front, up to a place, are discarded. They are held until their PDUs are acknowledged.
@@ -215,7 +215,7 @@ impl Held {
         requires { i < length self.now.units }
         ensures { result ≡ age_at self.now i }
     {
-        unit_at(&self.units, i).age
+        self.units.at(i).age
     }
 
     /// How many units in front are discarded.

@@ -4,6 +4,7 @@
 mod held;
 mod places;
 mod unit;
+mod units;
 
 pub use held::Held;
 pub use unit::Unit;

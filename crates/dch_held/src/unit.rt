@@ -4,3 +4,10 @@ pub struct Unit {
     pub blocks: u8,
     pub age: u16,
 }
+
+/// The same as it is kept, with the tick at which it was accepted.
+#[derive(Clone, Copy)]
+pub struct Stored {
+    pub blocks: u8,
+    pub at: u32,
+}

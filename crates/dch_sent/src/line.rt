@@ -74,7 +74,7 @@ impl Line {
         ensures empty { IfOk result (λ l. l ≡ opened_line (rules_of buffer rules)) }
         ensures history { IfOk result (λ l. Stands (rules_of buffer rules) l opened_sender) }
     {
-        let flight = Flight::open(alloc, rules.window as usize)?;
+        let flight = Flight::open(alloc, rules.window)?;
         Ok(Line {
             flight,
             rules,

@@ -1,8 +1,18 @@
-use Rattle.std.proofs.Common.{ap}
+use Rattle.std.proofs.Common.{◌-◌, ap, arith, length, subst, sym}
 use Rattle.circular_buffer.specs.Buffer.{Buffer}
 use Rattle.dch_flight.specs.declared.flown.Flown.{Flown}
-use Rattle.dch_flight.proofs.Changes.{acknowledged_bounded}
+use Rattle.dch_flight.specs.Flights.{IsFrom, acknowledged}
+use Rattle.dch_flight.proofs.Changes.{acknowledged_from, flight_less, length-changed}
 use Rattle.dch_flight.proofs.flight.Flight.acknowledge.Goals as goal
 
-pub tightened-requires : goal.tightened-requires
-tightened-requires c = acknowledged_bounded c.args.to c.self.inside.ring.items c.acknowledge_below.new.ring.items c.self.inside.low c.self.inside.high (ap (λ (b : Buffer Flown). b.items) c.acknowledge_below.ensures) c.self.invariant.bounded
+pub overflow_sub-self : goal.overflow_sub-self
+overflow_sub-self c = omega (arith, c.acknowledge_below-gone.ensures.gone, c.self.invariant.counted.count_is)
+
+pub first_from-self-inside-requires-clause-low : goal.first_from-self-inside-requires-clause-low
+first_from-self-inside-requires-clause-low c = subst (λ (b : Buffer Flown). IsFrom b.items c.self.inside.low) (sym c.acknowledge_below-gone.ensures.after) (acknowledged_from c.args.to c.self.inside.ring.items c.self.inside.low c.self.invariant.counted.below)
+
+pub first_from-self-inside-requires-clause-count : goal.first_from-self-inside-requires-clause-count
+first_from-self-inside-requires-clause-count c = omega (arith, c.acknowledge_below-gone.ensures.gone, c.self.invariant.counted.count_is)
+
+pub invariant_of-self : goal.invariant_of-self
+invariant_of-self c = flight_less c.self.inside.ring c.acknowledge_below-gone.new.ring c.self.inside.low c.self.inside.count c.first_from-self-inside.result (c.self.inside.count - c.acknowledge_below-gone.result) (ap (λ (b : Buffer Flown). b.capacity) c.acknowledge_below-gone.ensures.after) (omega (arith, ap (λ (b : Buffer Flown). length b.items) c.acknowledge_below-gone.ensures.after, length-changed acknowledged c.args.to c.self.inside.ring.items)) c.first_from-self-inside.ensures c.self.invariant

@@ -1,8 +1,18 @@
-use Rattle.std.proofs.Common.{ap}
+use Rattle.std.proofs.Common.{◌-◌, ap, arith, length, subst, sym}
 use Rattle.circular_buffer.specs.Buffer.{Buffer}
 use Rattle.dch_flight.specs.declared.flown.Flown.{Flown}
-use Rattle.dch_flight.proofs.Changes.{unwanted_bounded}
+use Rattle.dch_flight.specs.Flights.{IsFrom, unwanted}
+use Rattle.dch_flight.proofs.Changes.{unwanted_from, flight_less, length-changed}
 use Rattle.dch_flight.proofs.flight.Flight.unwant.Goals as goal
 
-pub tightened-requires : goal.tightened-requires
-tightened-requires c = unwanted_bounded c.args.to c.self.inside.ring.items c.unwant_below.new.ring.items c.self.inside.low c.self.inside.high (ap (λ (b : Buffer Flown). b.items) c.unwant_below.ensures) c.self.invariant.bounded
+pub overflow_sub-self : goal.overflow_sub-self
+overflow_sub-self c = omega (arith, c.unwant_below-gone.ensures.gone, c.self.invariant.counted.count_is)
+
+pub first_from-self-inside-requires-clause-low : goal.first_from-self-inside-requires-clause-low
+first_from-self-inside-requires-clause-low c = subst (λ (b : Buffer Flown). IsFrom b.items c.self.inside.low) (sym c.unwant_below-gone.ensures.after) (unwanted_from c.args.to c.self.inside.ring.items c.self.inside.low c.self.invariant.counted.below)
+
+pub first_from-self-inside-requires-clause-count : goal.first_from-self-inside-requires-clause-count
+first_from-self-inside-requires-clause-count c = omega (arith, c.unwant_below-gone.ensures.gone, c.self.invariant.counted.count_is)
+
+pub invariant_of-self : goal.invariant_of-self
+invariant_of-self c = flight_less c.self.inside.ring c.unwant_below-gone.new.ring c.self.inside.low c.self.inside.count c.first_from-self-inside.result (c.self.inside.count - c.unwant_below-gone.result) (ap (λ (b : Buffer Flown). b.capacity) c.unwant_below-gone.ensures.after) (omega (arith, ap (λ (b : Buffer Flown). length b.items) c.unwant_below-gone.ensures.after, length-changed unwanted c.args.to c.self.inside.ring.items)) c.first_from-self-inside.ensures c.self.invariant
