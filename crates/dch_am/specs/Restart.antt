@@ -27,7 +27,7 @@ whole_of part q = if q.owed || is_empty part then q.units else drop 1 q.units
 
 -- a sender that holds these units, accepted at these ticks, has built nothing, and has discarded so many units before
 abbrev pub fresh_sender : List (List ℕ) → List ℕ → ℕ → ℕ → Sender
-fresh_sender units at ticks before = record { accepted = units; unsent = record { owed = false; units = units }; bodies = []; cuts = []; acked = []; requested = []; builds = 0; timer = 0; polled = None; owed = false; ticks = ticks; accepted_at = at; sendings = []; discard = None; dropped = 0; gone = []; gone_before = before }
+fresh_sender units at ticks before = record { accepted = units; unsent = record { owed = false; units = units }; bodies = []; cuts = []; acked = []; requested = []; builds = 0; poll_timer = 0; polled = None; owed = false; ticks = ticks; accepted_at = at; sendings = []; discard = None; dropped = 0; discarded_units = []; discarded_before = before }
 
 -- it begins anew with the units of which nothing was built. Their ages go on
 abbrev pub restarted_sender : Sender → Sender

@@ -15,9 +15,9 @@ use Rattle.dch_am.specs.declared.answers.MrwTaken.TheVariants.{Nothing, Obeyed, 
 use Rattle.dch_am.specs.Bodies.{Body}
 use Rattle.dch_am.specs.Contents.{body_in}
 use Rattle.dch_am.specs.Entities.{pdu_of, receiver_by}
-use Rattle.dch_am.specs.Moves.{after_control, after_move, after_move_in, move_in, moved, trimmed, with_ack, with_move}
+use Rattle.dch_am.specs.Moves.{after_control, after_move, after_move_in, move_in, obeyed_mrw, trimmed, with_ack, with_move}
 use Rattle.dch_am.specs.Numbers.{ahead, below, has, run_of, top}
-use Rattle.dch_am.specs.Receiver.{Receiver, after_pdu, expected, got, numbers, opened_receiver, read_on, taken, with_pdu}
+use Rattle.dch_am.specs.Receiver.{Receiver, after_pdu, vr_r, got, numbers, opened_receiver, read_on, taken, with_pdu}
 use Rattle.dch_am.specs.Rules.{Rules}
 use Rattle.dch_am.proofs.Lists.{Is, has-append, has-below, run_grows, top_above, top_least}
 use Rattle.dch_amlaw.proofs.Hands.{passed_le}
@@ -41,28 +41,28 @@ more_passed passed later ns x le h = has-append x (below later) ns ∙ ⊎_elim 
 
 -- a PDU is kept
 kept : (rules : Rules) (r : Receiver) (ahead_by : ℕ) (poll : Bool) (body : Body) → ahead_by < rules.window → body_bytes body ≤ 1116 → IsBoundedReceiver rules.window r →
-    Takes rules.window r (read_on (with_pdu rules r (expected r + ahead_by) poll body) (expected r)) 1116
+    Takes rules.window r (read_on (with_pdu rules r (vr_r r + ahead_by) poll body) (vr_r r)) 1116
 kept rules r ahead_by poll body near light is =
-    let k : ℕ = expected r + ahead_by in
+    let k : ℕ = vr_r r + ahead_by in
     let now : Receiver = with_pdu rules r k poll body in
-    let d : ℕ = expected now - expected r in
-    let grow : expected r ≤ expected now = grows (got r) (got now) (one_more r.passed k (numbers r.arrived)) in
-    let place : expected r + d ≡ expected now = omega arith in
-    let on : GoesOn r.reading (read_on now (expected r)).reading (run_bytes now.arrived (expected r) d) = run_on r.trim now.arrived r.reading (expected r) d in
-    let high : top (numbers now.arrived) ≤ expected r + rules.window = omega (arith, is.inside, near) in
-    let moves : run_bytes now.arrived (expected r) d + run_bytes now.arrived (expected r + d) rules.window ≡ run_bytes now.arrived (expected r) rules.window = run_moves now.arrived (expected r) d rules.window high in
-    let at : run_bytes now.arrived (expected r + d) rules.window ≡ run_bytes now.arrived (expected now) rules.window = ap (λ n. run_bytes now.arrived n rules.window) place in
+    let d : ℕ = vr_r now - vr_r r in
+    let grow : vr_r r ≤ vr_r now = grows (got r) (got now) (one_more r.passed k (numbers r.arrived)) in
+    let place : vr_r r + d ≡ vr_r now = omega arith in
+    let on : GoesOn r.reading (read_on now (vr_r r)).reading (run_bytes now.arrived (vr_r r) d) = run_on r.trim now.arrived r.reading (vr_r r) d in
+    let high : top (numbers now.arrived) ≤ vr_r r + rules.window = omega (arith, is.inside, near) in
+    let moves : run_bytes now.arrived (vr_r r) d + run_bytes now.arrived (vr_r r + d) rules.window ≡ run_bytes now.arrived (vr_r r) rules.window = run_moves now.arrived (vr_r r) d rules.window high in
+    let at : run_bytes now.arrived (vr_r r + d) rules.window ≡ run_bytes now.arrived (vr_r now) rules.window = ap (λ n. run_bytes now.arrived n rules.window) place in
     record {
       more = on.more;
       units = on.units;
-      paid = omega (arith, on.paid, moves, at, put_le k body r.arrived (expected r) rules.window, light);
+      paid = omega (arith, on.paid, moves, at, put_le k body r.arrived (vr_r r) rules.window, light);
       bounded = record { light = All-cons IsLight (k, body) r.arrived light is.light; inside = omega (arith, high, grow) };
     }
 
-near_by : (rules : Rules) (r : Receiver) (sn : ℕ) → taken rules r sn ≡ Kept → ahead (expected r) sn < rules.window
-near_by rules r sn is = go (nat_le (4096 - rules.window) (ahead (expected r) sn) || has (expected r + ahead (expected r) sn) (got r)) (nat_le rules.window (ahead (expected r) sn)) refl is
+near_by : (rules : Rules) (r : Receiver) (sn : ℕ) → taken rules r sn ≡ Kept → ahead (vr_r r) sn < rules.window
+near_by rules r sn is = go (nat_le (4096 - rules.window) (ahead (vr_r r) sn) || has (vr_r r + ahead (vr_r r) sn) (got r)) (nat_le rules.window (ahead (vr_r r) sn)) refl is
   where
-    go : (c e : Bool) → nat_le rules.window (ahead (expected r) sn) ≡ e → cond c Duplicate (cond e Outside Kept) ≡ Kept → ahead (expected r) sn < rules.window
+    go : (c e : Bool) → nat_le rules.window (ahead (vr_r r) sn) ≡ e → cond c Duplicate (cond e Outside Kept) ≡ Kept → ahead (vr_r r) sn < rules.window
     go true e h q = absurd (cc)
     go false true h q = absurd (cc)
     go false false h q = leb-false _ _ h
@@ -71,31 +71,31 @@ pub pdu_taken : (rules : Rules) (r : Receiver) (sn : ℕ) (poll : Bool) (body : 
 pdu_taken rules r sn poll body light is = go (taken rules r sn) refl
   where
     go : (t : Taken) → taken rules r sn ≡ t → Takes rules.window r (after_pdu rules t r sn poll body) 1116
-    go Kept e = kept rules r (ahead (expected r) sn) poll body (near_by rules r sn e) light is
+    go Kept e = kept rules r (ahead (vr_r r) sn) poll body (near_by rules r sn e) light is
     go Duplicate e = record { more = []; units = sym (append-nil r.reading.units); paid = omega arith; bounded = record { light = is.light; inside = is.inside } }
     go Outside e = keeps rules.window r 1116 is
 
 -- an MRW is obeyed
-obeyed : (window : ℕ) (r : Receiver) (ahead_by sn n : ℕ) → IsBoundedReceiver window r → Takes window r (with_ack (read_on (with_move r (expected r + ahead_by) n) (expected r + ahead_by)) sn n) 0
+obeyed : (window : ℕ) (r : Receiver) (ahead_by sn n : ℕ) → IsBoundedReceiver window r → Takes window r (with_ack (read_on (with_move r (vr_r r + ahead_by) n) (vr_r r + ahead_by)) sn n) 0
 obeyed window r ahead_by sn n is =
-    let k : ℕ = expected r + ahead_by in
+    let k : ℕ = vr_r r + ahead_by in
     let now : Receiver = with_move r k n in
-    let d : ℕ = expected now - k in
-    let grow : expected r ≤ expected now = grows (got r) (got now) (λ x h. more_passed r.passed (max r.passed k) (numbers r.arrived) x (omega arith) h) in
-    let reach : k ≤ expected now = omega (arith, passed_le now) in
-    let place : expected r + (ahead_by + d) ≡ expected now = omega arith in
+    let d : ℕ = vr_r now - k in
+    let grow : vr_r r ≤ vr_r now = grows (got r) (got now) (λ x h. more_passed r.passed (max r.passed k) (numbers r.arrived) x (omega arith) h) in
+    let reach : k ≤ vr_r now = omega (arith, passed_le now) in
+    let place : vr_r r + (ahead_by + d) ≡ vr_r now = omega arith in
     let on : GoesOn (record { units = r.reading.units; part = [] }) (read_on now k).reading (run_bytes r.arrived k d) = run_on (trimmed r.trim k n) r.arrived (record { units = r.reading.units; part = [] }) k d in
-    let moves : run_bytes r.arrived (expected r) (ahead_by + d) + run_bytes r.arrived (expected r + (ahead_by + d)) window ≡ run_bytes r.arrived (expected r) window = run_moves r.arrived (expected r) (ahead_by + d) window is.inside in
-    let at : run_bytes r.arrived (expected r + (ahead_by + d)) window ≡ run_bytes r.arrived (expected now) window = ap (λ m. run_bytes r.arrived m window) place in
+    let moves : run_bytes r.arrived (vr_r r) (ahead_by + d) + run_bytes r.arrived (vr_r r + (ahead_by + d)) window ≡ run_bytes r.arrived (vr_r r) window = run_moves r.arrived (vr_r r) (ahead_by + d) window is.inside in
+    let at : run_bytes r.arrived (vr_r r + (ahead_by + d)) window ≡ run_bytes r.arrived (vr_r now) window = ap (λ m. run_bytes r.arrived m window) place in
     record {
       more = on.more;
       units = on.units;
-      paid = omega (arith, on.paid, moves, at, run_split r.arrived (expected r) ahead_by d);
+      paid = omega (arith, on.paid, moves, at, run_split r.arrived (vr_r r) ahead_by d);
       bounded = record { light = is.light; inside = omega (arith, is.inside, grow) };
     }
 
 pub move_taken : (window : ℕ) (r : Receiver) (t : MrwTaken) (sn n : ℕ) → IsBoundedReceiver window r → Takes window r (after_move t r sn n) 0
-move_taken window r Obeyed sn n is = obeyed window r (ahead (expected r) sn) sn n is
+move_taken window r Obeyed sn n is = obeyed window r (ahead (vr_r r) sn) sn n is
 move_taken window r Old sn n is = record { more = []; units = sym (append-nil r.reading.units); paid = omega arith; bounded = record { light = is.light; inside = is.inside } }
 move_taken window r (Beyond i) sn n is = keeps window r 0 is
 move_taken window r Nothing sn n is = keeps window r 0 is
@@ -105,7 +105,7 @@ control_taken rules r fields is = go (move_in fields)
   where
     go : (o : Option (ℕ × ℕ)) → Takes rules.window r (after_move_in rules r o) 0
     go None = keeps rules.window r 0 is
-    go (Some p) = move_taken rules.window r (moved rules r p.0) p.0 p.1 is
+    go (Some p) = move_taken rules.window r (obeyed_mrw rules r p.0) p.0 p.1 is
 
 -- what a PDU holds is light
 abbrev pub IsLightView : Result AmView PduError → Type 0
@@ -130,7 +130,7 @@ receiver_opened rules = record { light = All-nil IsLight; inside = omega arith }
 
 -- how much can come of it
 pub receiver_most : (window : ℕ) (r : Receiver) → IsBoundedReceiver window r → receiver_bytes window r ≤ 3009 + window * 1116
-receiver_most window r is = omega (arith, part_most r.reading.part, run_light r.arrived (expected r) window is.light)
+receiver_most window r is = omega (arith, part_most r.reading.part, run_light r.arrived (vr_r r) window is.light)
   where
     part_most : (part : List ℕ) → part_bytes part ≤ 3009
     part_most [] = omega arith

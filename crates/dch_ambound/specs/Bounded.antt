@@ -4,7 +4,7 @@ use Rattle.std.specs.Prelude.{◌≡◌, ◌+◌, ◌++◌, ◌≤◌, ℕ, List
 use Rattle.std.specs.List.{All}
 use Rattle.dch_am.specs.Bodies.{Body}
 use Rattle.dch_am.specs.Numbers.{top}
-use Rattle.dch_am.specs.Receiver.{Receiver, expected, numbers}
+use Rattle.dch_am.specs.Receiver.{Receiver, vr_r, numbers}
 use Rattle.dch_ambound.specs.Bytes.{body_bytes, receiver_bytes, units_bytes}
 
 -- a PDU with its number, that brings no more bytes than 124 octets do
@@ -14,7 +14,7 @@ IsLight p = body_bytes p.1 ≤ 1116
 -- such PDUs alone came to a receiver, and none beyond its window
 pub record IsBoundedReceiver (window : ℕ) (r : Receiver) : Type 0 where
   pub light : All IsLight r.arrived
-  pub inside : top (numbers r.arrived) ≤ expected r + window
+  pub inside : top (numbers r.arrived) ≤ vr_r r + window
 
 -- a receiver after an event: units that ended follow, and what is told of them and what can still come is no more than before and so
 -- many bytes

@@ -3,7 +3,7 @@
 use Rattle.std.specs.Prelude.{◌+◌, ◌*◌, ℕ, List, [], ◌∷◌, Bool, true, false, length, min, nat_lt, if◌then◌else◌}
 use Rattle.dch_types.specs.Sums.{total}
 use Rattle.dch_am.specs.Bodies.{Body}
-use Rattle.dch_am.specs.Receiver.{Receiver, body_of, expected}
+use Rattle.dch_am.specs.Receiver.{Receiver, body_of, vr_r}
 
 -- of a unit that ended, and of several. For one without octets a dot would stand
 abbrev pub unit_bytes : List ℕ → ℕ
@@ -38,4 +38,4 @@ run_bytes arrived from n = total (λ i. body_bytes (body_of arrived (from + i)))
 
 -- of a receiver with this window
 abbrev pub receiver_bytes : ℕ → Receiver → ℕ
-receiver_bytes window r = part_bytes r.reading.part + run_bytes r.arrived (expected r) window
+receiver_bytes window r = part_bytes r.reading.part + run_bytes r.arrived (vr_r r) window

@@ -8,17 +8,17 @@ use Rattle.dch_am.specs.Status.{Status, wrapped_pair, wrapped_status, status_of,
 use Rattle.dch_am.specs.Names.{named}
 use Rattle.dch_am.specs.Bodies.{Body, is_left, next_body, ends_of, no_body}
 use Rattle.dch_am.specs.Rules.{Rules}
-use Rattle.dch_am.specs.Sender.{Discard, Sender, opened_sender, next_new, first_open, offered, after_offer}
+use Rattle.dch_am.specs.Sender.{Discard, Sender, opened_sender, vt_s, vt_a, offered, after_offer}
 use Rattle.dch_bits.specs.declared.offer.Offer.{Offer}
 use Rattle.dch_bits.specs.declared.offer.Offer.TheVariants.{Accepted, Full, WrongSize}
 use Rattle.dch_am.specs.Building.{Choice, Again, New, Last, NoPdu, choice, after_poll, again, anew, once_more, body_at}
 use Rattle.dch_am.specs.Acknowledging.{read_from, unwrap, now_acked, floor, ended_by, told, ended_at, ends_discard, after_ack}
 use Rattle.dch_amlaw.proofs.Heard.{reaches, is_outside, after_status, told_outside, after_inside, after_told}
 use Rattle.dch_am.specs.Discards.{place_from, can_take, discards_at, discards, after_tick, tick_sender, after_mrw}
-use Rattle.dch_am.specs.Receiver.{Receiver, opened_receiver, numbers, got, after_highest, expected, taken, after_pdu, read_on, with_pdu}
+use Rattle.dch_am.specs.Receiver.{Receiver, opened_receiver, numbers, got, vr_h, vr_r, taken, after_pdu, read_on, with_pdu}
 use Rattle.dch_am.specs.declared.answers.Taken.TheVariants.{Kept, Duplicate, Outside}
 use Rattle.dch_am.specs.declared.answers.MrwTaken.TheVariants.{Obeyed, Old, Outside as Beyond}
-use Rattle.dch_am.specs.Moves.{moved, after_move, with_move, with_ack}
+use Rattle.dch_am.specs.Moves.{obeyed_mrw, after_move, with_move, with_ack}
 use Rattle.dch_am.specs.Telling.{telling, after_telling}
 use Rattle.dch_amlaw.specs.Pair.{Block, Payload, Mrw, Report}
 use Rattle.dch_am.proofs.Lists.{Is, has-append, has-less, has-below, in_range, run_le, run_in, run_not_above, lowest_in, ahead_exact, ahead_behind}
@@ -31,7 +31,7 @@ use Rattle.dch_am.proofs.Reading.{cut_next, cut_unit, cut_begins}
 abbrev pub payloads : List Block → List ℕ
 payloads [] = []
 payloads (Payload k poll body ∷ line) = k ∷ payloads line
-payloads (Mrw k n upto ∷ line) = k ∷ payloads line
+payloads (Mrw k n end_of_discard ∷ line) = k ∷ payloads line
 payloads (Report t ∷ line) = payloads line
 
 abbrev pub tells_of : Told → List Status
@@ -42,7 +42,7 @@ tells_of (AckAndStatus a t) = as_status a.number ∷ t ∷ []
 abbrev pub reports : List Block → List Status
 reports [] = []
 reports (Payload k poll body ∷ line) = reports line
-reports (Mrw k n upto ∷ line) = reports line
+reports (Mrw k n end_of_discard ∷ line) = reports line
 reports (Report t ∷ line) = tells_of t ++ reports line
 
 -- an MRW_ACK that is owed counts as behind all that is in flight
@@ -52,13 +52,13 @@ pending (Some a) = as_status a.number ∷ []
 
 -- the last unit of a discard has its end mark at this place
 abbrev pub HasPlace : List Body → ℕ → ℕ → ℕ → Type 0
-HasPlace bodies k n upto = (i : ℕ) × (upto ≡ i + 1) × (place_from bodies 0 i ≡ Some (k, n))
+HasPlace bodies k n end_of_discard = (i : ℕ) × (end_of_discard ≡ i + 1) × (place_from bodies 0 i ≡ Some (k, n))
 
 -- each PDU in flight has the body of its number
 abbrev pub LineIs : List Body → List Block → Type 0
 LineIs bodies [] = Unit {0}
 LineIs bodies (Payload k poll body ∷ line) = (k < length bodies) × (body ≡ get_or bodies k no_body) × LineIs bodies line
-LineIs bodies (Mrw k n upto ∷ line) = HasPlace bodies k n upto × LineIs bodies line
+LineIs bodies (Mrw k n end_of_discard ∷ line) = HasPlace bodies k n end_of_discard × LineIs bodies line
 LineIs bodies (Report t ∷ line) = LineIs bodies line
 
 abbrev pub ArrivedIs : List Body → List (ℕ × Body) → Type 0
@@ -68,7 +68,7 @@ ArrivedIs bodies (p ∷ ps) = (p.0 < length bodies) × (p.1 ≡ get_or bodies p.
 -- a running discard lies between the lowest open number and the next new one
 abbrev pub DiscardIs : List Body → ℕ → Option Discard → Type 0
 DiscardIs bodies lowest_open None = Unit {0}
-DiscardIs bodies lowest_open (Some d) = (lowest_open ≤ d.k) × (d.k < length bodies) × HasPlace bodies d.k d.n d.upto
+DiscardIs bodies lowest_open (Some d) = (lowest_open ≤ d.k) × (d.k < length bodies) × HasPlace bodies d.k d.n d.end_of_discard
 
 -- a number has arrived or been passed
 abbrev pub Came : List ℕ → ℕ → ℕ → Type 0
@@ -76,7 +76,7 @@ Came came to x = Is x (below to ++ came)
 
 pub record Direction (bearer : Rules) (s : Sender) (r : Receiver) (came : List ℕ) (to : ℕ) (line : List Block) (told_line : List Status) : Type 0 where
   pub flow : Flow bearer.window s.acked s.requested (length s.bodies) (got r) (payloads line) (told_line ++ pending r.ack)
-  pub discard_is : DiscardIs s.bodies (first_open s) s.discard
+  pub discard_is : DiscardIs s.bodies (vt_a s) s.discard
   pub line_is : LineIs s.bodies line
   pub arrived_is : ArrivedIs s.bodies r.arrived
   pub come_in : (x : ℕ) → Came came to x → Is x (got r)
@@ -131,13 +131,13 @@ place_below (c ∷ bodies) k i p e = go (nat_lt i (ends_of c)) e (λ q. place_be
     go true q rest = let e : k ≡ p.0 = ap (λ (x : ℕ × ℕ). x.0) (same_pair (k, cond (c.full && (i == 0)) 0 (i + 1)) p q) in omega arith
     go false q rest = omega (arith, rest q)
 
-pub has_place_more : (bodies : List Body) (b : Body) (k n upto : ℕ) → HasPlace bodies k n upto → HasPlace (bodies ++ b ∷ []) k n upto
-has_place_more bodies b k n upto h = (h.0, h.1, place_more bodies b 0 h.0 (k, n) h.2)
+pub has_place_more : (bodies : List Body) (b : Body) (k n end_of_discard : ℕ) → HasPlace bodies k n end_of_discard → HasPlace (bodies ++ b ∷ []) k n end_of_discard
+has_place_more bodies b k n end_of_discard h = (h.0, h.1, place_more bodies b 0 h.0 (k, n) h.2)
 
 line_more : (bodies : List Body) (b : Body) (line : List Block) → LineIs bodies line → LineIs (bodies ++ b ∷ []) line
 line_more bodies b [] f = tt
 line_more bodies b (Payload k p body ∷ line) f = (omega (arith, f.0, length-append bodies (b ∷ [])), f.1 ∙ at_front bodies b k f.0, line_more bodies b line f.2)
-line_more bodies b (Mrw k n upto ∷ line) f = (has_place_more bodies b k n upto f.0, line_more bodies b line f.1)
+line_more bodies b (Mrw k n end_of_discard ∷ line) f = (has_place_more bodies b k n end_of_discard f.0, line_more bodies b line f.1)
 line_more bodies b (Report t ∷ line) f = line_more bodies b line f
 
 arrived_more : (bodies : List Body) (b : Body) (arrived : List (ℕ × Body)) → ArrivedIs bodies arrived → ArrivedIs (bodies ++ b ∷ []) arrived
@@ -146,7 +146,7 @@ arrived_more bodies b (p ∷ ps) f = (omega (arith, f.0, length-append bodies (b
 
 discard_more : (bodies : List Body) (b : Body) (low same : ℕ) (d : Option Discard) → same ≡ low → DiscardIs bodies low d → DiscardIs (bodies ++ b ∷ []) same d
 discard_more bodies b low same None e f = tt
-discard_more bodies b low same (Some d) e f = (omega (arith, f.0), omega (arith, f.1, length-append bodies (b ∷ [])), has_place_more bodies b d.k d.n d.upto f.2)
+discard_more bodies b low same (Some d) e f = (omega (arith, f.0), omega (arith, f.1, length-append bodies (b ∷ [])), has_place_more bodies b d.k d.n d.end_of_discard f.2)
 
 -- Offers.
 offer_by : (bearer : Rules) (s : Sender) (r : Receiver) (came : List ℕ) (to : ℕ) (line : List Block) (ts : List Status) (unit : List ℕ) (o : Offer) → offered bearer s unit ≡ o → Direction bearer s r came to line ts → Direction bearer (after_offer o s unit) r came to line ts
@@ -172,21 +172,21 @@ direction_offers bearer s r came to line ts unit d = offer_by bearer s r came to
 -- What a choice may be.
 abbrev pub Good : Rules → Sender → Choice → Type 0
 Good bearer s (Again k) = Is k s.requested
-Good bearer s New = next_new s < first_open s + bearer.window
-Good bearer s (Last k) = (first_open s ≤ k) × (k < next_new s)
+Good bearer s New = vt_s s < vt_a s + bearer.window
+Good bearer s (Last k) = (vt_a s ≤ k) × (k < vt_s s)
 Good bearer s NoPdu = Unit {0}
 
-last_good : (s : Sender) → first_open s < next_new s → (first_open s ≤ next_new s - 1) × (next_new s - 1 < next_new s)
+last_good : (s : Sender) → vt_a s < vt_s s → (vt_a s ≤ vt_s s - 1) × (vt_s s - 1 < vt_s s)
 last_good s l = (omega arith, omega arith)
 
 pub choice_good : (bearer : Rules) (s : Sender) → Good bearer s (choice bearer s)
 choice_good bearer s =
-    cond_both (nat_lt (lowest (next_new s) s.requested) (next_new s)) _ _ (Good bearer s)
-    (λ e. lowest_in (next_new s) s.requested (ltb-true _ _ e))
-    (λ _. cond_both (nat_lt (next_new s) (first_open s + bearer.window) && is_left s.unsent) _ _ (Good bearer s)
+    cond_both (nat_lt (lowest (vt_s s) s.requested) (vt_s s)) _ _ (Good bearer s)
+    (λ e. lowest_in (vt_s s) s.requested (ltb-true _ _ e))
+    (λ _. cond_both (nat_lt (vt_s s) (vt_a s + bearer.window) && is_left s.unsent) _ _ (Good bearer s)
     (λ e. ltb-true _ _ (and_parts _ _ e).0)
-    (λ _. cond_both (s.owed && nat_lt (first_open s) (next_new s)) _ _ (Good bearer s)
-    (λ (e : (s.owed && nat_lt (first_open s) (next_new s)) ≡ true). last_good s (ltb-true _ _ (and_parts _ _ e).1))
+    (λ _. cond_both (s.owed && nat_lt (vt_a s) (vt_s s)) _ _ (Good bearer s)
+    (λ (e : (s.owed && nat_lt (vt_a s) (vt_s s)) ≡ true). last_good s (ltb-true _ _ (and_parts _ _ e).1))
     (λ _. tt)))
 
 -- the flow with one more number in the line
@@ -204,7 +204,7 @@ direction_again bearer s r came to line ts k poll q d = record {
   cut = d.cut;
 }
 
-pub direction_last : (bearer : Rules) (s : Sender) (r : Receiver) (came : List ℕ) (to : ℕ) (line : List Block) (ts : List Status) (k : ℕ) (poll : Bool) → (first_open s ≤ k) × (k < next_new s) → Direction bearer s r came to line ts → Direction bearer (after_poll bearer (once_more s) poll) r came to (line ++ Payload k poll (body_at s.bodies k) ∷ []) ts
+pub direction_last : (bearer : Rules) (s : Sender) (r : Receiver) (came : List ℕ) (to : ℕ) (line : List Block) (ts : List Status) (k : ℕ) (poll : Bool) → (vt_a s ≤ k) × (k < vt_s s) → Direction bearer s r came to line ts → Direction bearer (after_poll bearer (once_more s) poll) r came to (line ++ Payload k poll (body_at s.bodies k) ∷ []) ts
 direction_last bearer s r came to line ts k poll q d = record {
   flow = line_flow bearer s.acked s.requested (length s.bodies) (got r) line (ts ++ pending r.ack) (Payload k poll (body_at s.bodies k)) k refl (flow_sends bearer.window s.acked s.requested (length s.bodies) (got r) (payloads line) (ts ++ pending r.ack) k (length s.bodies) s.requested d.flow (omega arith) q.1 d.flow.room q.0 (λ x h. h));
   discard_is = d.discard_is;
@@ -219,11 +219,11 @@ direction_last bearer s r came to line ts k poll q d = record {
 same_low : (acked : List ℕ) (n m : ℕ) → m ≡ suc n → has n acked ≡ false → run_of acked m ≡ run_of acked n
 same_low acked n m e h = ap (run_of acked) e ∙ ap (λ b. grown n b (run_of acked n)) h
 
-pub direction_anew : (bearer : Rules) (octets : ℕ) (s : Sender) (r : Receiver) (came : List ℕ) (to : ℕ) (line : List Block) (ts : List Status) (poll : Bool) → next_new s < first_open s + bearer.window → Direction bearer s r came to line ts → Direction bearer (after_poll bearer (anew octets s) poll) r came to (line ++ Payload (next_new s) poll (body_at (anew octets s).bodies (next_new s)) ∷ []) ts
+pub direction_anew : (bearer : Rules) (octets : ℕ) (s : Sender) (r : Receiver) (came : List ℕ) (to : ℕ) (line : List Block) (ts : List Status) (poll : Bool) → vt_s s < vt_a s + bearer.window → Direction bearer s r came to line ts → Direction bearer (after_poll bearer (anew octets s) poll) r came to (line ++ Payload (vt_s s) poll (body_at (anew octets s).bodies (vt_s s)) ∷ []) ts
 direction_anew bearer octets s r came to line ts poll q d = record {
-  flow = line_flow bearer s.acked s.requested (length (anew octets s).bodies) (got r) line (ts ++ pending r.ack) (Payload (next_new s) poll (body_at (anew octets s).bodies (next_new s))) (next_new s) refl (flow_sends bearer.window s.acked s.requested (length s.bodies) (got r) (payloads line) (ts ++ pending r.ack) (next_new s) (length (anew octets s).bodies) s.requested d.flow (omega (arith, long)) (omega (arith, long)) (omega (arith, long)) (run_le s.acked (length s.bodies)) (λ x h. h));
-  discard_is = discard_more s.bodies b (first_open s) (run_of s.acked (length (s.bodies ++ b ∷ []))) s.discard (same_low s.acked (length s.bodies) (length (s.bodies ++ b ∷ [])) (omega (arith, long)) new_open) d.discard_is;
-  line_is = line_push (anew octets s).bodies line (Payload (next_new s) poll (body_at (anew octets s).bodies (next_new s))) (omega (arith, long), refl, tt) (line_more s.bodies b line d.line_is);
+  flow = line_flow bearer s.acked s.requested (length (anew octets s).bodies) (got r) line (ts ++ pending r.ack) (Payload (vt_s s) poll (body_at (anew octets s).bodies (vt_s s))) (vt_s s) refl (flow_sends bearer.window s.acked s.requested (length s.bodies) (got r) (payloads line) (ts ++ pending r.ack) (vt_s s) (length (anew octets s).bodies) s.requested d.flow (omega (arith, long)) (omega (arith, long)) (omega (arith, long)) (run_le s.acked (length s.bodies)) (λ x h. h));
+  discard_is = discard_more s.bodies b (vt_a s) (run_of s.acked (length (s.bodies ++ b ∷ []))) s.discard (same_low s.acked (length s.bodies) (length (s.bodies ++ b ∷ [])) (omega (arith, long)) new_open) d.discard_is;
+  line_is = line_push (anew octets s).bodies line (Payload (vt_s s) poll (body_at (anew octets s).bodies (vt_s s))) (omega (arith, long), refl, tt) (line_more s.bodies b line d.line_is);
   arrived_is = arrived_more s.bodies b r.arrived d.arrived_is;
   come_in = d.come_in;
   got_in = d.got_in;
@@ -239,26 +239,26 @@ direction_anew bearer octets s r came to line ts poll q d = record {
     new_open : has (length s.bodies) s.acked ≡ false
     new_open = ⊎_elim (λ (h : Is (length s.bodies) s.acked). absurd (omega (arith, d.flow.arrived_sent (length s.bodies) (d.flow.acked_arrived (length s.bodies) h)))) (λ (h : has (length s.bodies) s.acked ≡ false). h) (cases_Bool (has (length s.bodies) s.acked))
 
-pub direction_mrw : (bearer : Rules) (s : Sender) (r : Receiver) (came : List ℕ) (to : ℕ) (line : List Block) (ts : List Status) (x : Discard) → s.discard ≡ Some x → Direction bearer s r came to line ts → Direction bearer (after_mrw bearer s x) r came to (line ++ Mrw x.k x.n x.upto ∷ []) ts
+pub direction_mrw : (bearer : Rules) (s : Sender) (r : Receiver) (came : List ℕ) (to : ℕ) (line : List Block) (ts : List Status) (x : Discard) → s.discard ≡ Some x → Direction bearer s r came to line ts → Direction bearer (after_mrw bearer s x) r came to (line ++ Mrw x.k x.n x.end_of_discard ∷ []) ts
 direction_mrw bearer s r came to line ts x e d = record {
-  flow = line_flow bearer s.acked s.requested (length s.bodies) (got r) line (ts ++ pending r.ack) (Mrw x.k x.n x.upto) x.k refl (flow_sends bearer.window s.acked s.requested (length s.bodies) (got r) (payloads line) (ts ++ pending r.ack) x.k (length s.bodies) s.requested d.flow (omega arith) is.1 d.flow.room is.0 (λ y h. h));
+  flow = line_flow bearer s.acked s.requested (length s.bodies) (got r) line (ts ++ pending r.ack) (Mrw x.k x.n x.end_of_discard) x.k refl (flow_sends bearer.window s.acked s.requested (length s.bodies) (got r) (payloads line) (ts ++ pending r.ack) x.k (length s.bodies) s.requested d.flow (omega arith) is.1 d.flow.room is.0 (λ y h. h));
   discard_is = is;
-  line_is = line_push s.bodies line (Mrw x.k x.n x.upto) (is.2, tt) d.line_is;
+  line_is = line_push s.bodies line (Mrw x.k x.n x.end_of_discard) (is.2, tt) d.line_is;
   arrived_is = d.arrived_is;
   come_in = d.come_in;
   got_in = d.got_in;
   cut = d.cut;
 }
   where
-    is : (first_open s ≤ x.k) × (x.k < length s.bodies) × HasPlace s.bodies x.k x.n x.upto
-    is = subst (DiscardIs s.bodies (first_open s)) e d.discard_is
+    is : (vt_a s ≤ x.k) × (x.k < length s.bodies) × HasPlace s.bodies x.k x.n x.end_of_discard
+    is = subst (DiscardIs s.bodies (vt_a s)) e d.discard_is
 
 -- A tick may begin a discard.
 discards_by : (bearer : Rules) (s : Sender) (r : Receiver) (came : List ℕ) (to : ℕ) (line : List Block) (ts : List Status) (i : ℕ) (p : Option (ℕ × ℕ)) → place_from s.bodies 0 i ≡ p → can_take bearer s i p ≡ true → Direction bearer s r came to line ts → Direction bearer (discards_at s i p) r came to line ts
 discards_by bearer s r came to line ts i None e t d = d
 discards_by bearer s r came to line ts i (Some p) e t d = record {
   flow = flow_wants bearer.window s.acked s.requested (length s.bodies) (got r) (payloads line) (ts ++ pending r.ack) (less s.requested (below p.0)) d.flow (λ x h. (and_parts _ _ (sym (has-less x s.requested (below p.0)) ∙ h)).0);
-  discard_is = (leb-true (first_open s) p.0 (and_parts (nat_le (first_open s) p.0) _ (and_parts (nat_le (first_open s) p.0 && nat_le p.1 15) _ (and_parts (nat_le (first_open s) p.0 && nat_le p.1 15 && nat_le s.dropped i) _ t).0).0).0, omega (arith, place_below s.bodies 0 i p e), (i, refl, e));
+  discard_is = (leb-true (vt_a s) p.0 (and_parts (nat_le (vt_a s) p.0) _ (and_parts (nat_le (vt_a s) p.0 && nat_le p.1 15) _ (and_parts (nat_le (vt_a s) p.0 && nat_le p.1 15 && nat_le s.dropped i) _ t).0).0).0, omega (arith, place_below s.bodies 0 i p e), (i, refl, e));
   line_is = d.line_is;
   arrived_is = d.arrived_is;
   come_in = d.come_in;
@@ -285,11 +285,11 @@ tick_by bearer s r came to line ts (Some x) e d = record {
   cut = d.cut;
 }
   where
-    is : (first_open s ≤ x.k) × (x.k < length s.bodies) × HasPlace s.bodies x.k x.n x.upto
-    is = subst (DiscardIs s.bodies (first_open s)) e d.discard_is
+    is : (vt_a s ≤ x.k) × (x.k < length s.bodies) × HasPlace s.bodies x.k x.n x.end_of_discard
+    is = subst (DiscardIs s.bodies (vt_a s)) e d.discard_is
 
 pub direction_ticks : (bearer : Rules) (s : Sender) (r : Receiver) (came : List ℕ) (to : ℕ) (line : List Block) (ts : List Status) → Direction bearer s r came to line ts → Direction bearer (tick_sender bearer s) r came to line ts
-direction_ticks bearer s r came to line ts d = tick_by bearer (record s { timer = s.timer - 1; owed = s.owed || (s.timer == 1); ticks = s.ticks + 1 }) r came to line ts s.discard refl (record {
+direction_ticks bearer s r came to line ts d = tick_by bearer (record s { poll_timer = s.poll_timer - 1; owed = s.owed || (s.poll_timer == 1); ticks = s.ticks + 1 }) r came to line ts s.discard refl (record {
   flow = d.flow;
   discard_is = d.discard_is;
   line_is = d.line_is;
@@ -347,8 +347,8 @@ direction_loses_pdu bearer s r came to line ts k poll body d = record {
   cut = d.cut;
 }
 
-pub direction_loses_mrw : (bearer : Rules) (s : Sender) (r : Receiver) (came : List ℕ) (to : ℕ) (line : List Block) (ts : List Status) (k n upto : ℕ) → Direction bearer s r came to (Mrw k n upto ∷ line) ts → Direction bearer s r came to line ts
-direction_loses_mrw bearer s r came to line ts k n upto d = record {
+pub direction_loses_mrw : (bearer : Rules) (s : Sender) (r : Receiver) (came : List ℕ) (to : ℕ) (line : List Block) (ts : List Status) (k n end_of_discard : ℕ) → Direction bearer s r came to (Mrw k n end_of_discard ∷ line) ts → Direction bearer s r came to line ts
+direction_loses_mrw bearer s r came to line ts k n end_of_discard d = record {
   flow = flow_loses bearer.window s.acked s.requested (length s.bodies) (got r) (payloads line) (ts ++ pending r.ack) k d.flow;
   discard_is = d.discard_is;
   line_is = d.line_is.1;
@@ -390,10 +390,10 @@ direction_loses_told bearer s r came to line (AckAndStatus a t) ts d = direction
 pub record IsRead (bearer : Rules) (r : Receiver) (k : ℕ) : Type 0 where
   pub again : has k (got r) ≡ true → taken bearer r (wrapped k) ≡ Duplicate
   pub first : has k (got r) ≡ false → taken bearer r (wrapped k) ≡ Kept
-  pub number : has k (got r) ≡ false → expected r + ahead (expected r) (wrapped k) ≡ k
-  pub old : k < expected r → moved bearer r (wrapped k) ≡ Old
-  pub obeyed : expected r ≤ k → moved bearer r (wrapped k) ≡ Obeyed
-  pub exact : expected r ≤ k → expected r + ahead (expected r) (wrapped k) ≡ k
+  pub number : has k (got r) ≡ false → vr_r r + ahead (vr_r r) (wrapped k) ≡ k
+  pub old : k < vr_r r → obeyed_mrw bearer r (wrapped k) ≡ Old
+  pub obeyed : vr_r r ≤ k → obeyed_mrw bearer r (wrapped k) ≡ Obeyed
+  pub exact : vr_r r ≤ k → vr_r r + ahead (vr_r r) (wrapped k) ≡ k
 
 pub pdu_is_read : (bearer : Rules) (acked requested : List ℕ) (next : ℕ) (r : Receiver) (line : List ℕ) (ts : List Status) (k : ℕ) → bearer.window ≤ 2048 → Flow bearer.window acked requested next (got r) (k ∷ line) ts → IsRead bearer r k
 pdu_is_read bearer acked requested next r line ts k small f = record {
@@ -406,7 +406,7 @@ pdu_is_read bearer acked requested next r line ts k small f = record {
 }
   where
     e : ℕ
-    e = expected r
+    e = vr_r r
 
     near : (k < e + bearer.window) × (e ≤ k + bearer.window)
     near = flow_front bearer.window acked requested next (got r) line ts k f
@@ -415,7 +415,7 @@ pdu_is_read bearer acked requested next r line ts k small f = record {
     exact l = ahead_exact e k l (omega (arith, near.0))
 
     is_open : has k (got r) ≡ false → e ≤ k
-    is_open h = run_not_above (got r) (after_highest r) k h
+    is_open h = run_not_above (got r) (vr_h r) k h
 
     duplicate : (nat_le (4096 - bearer.window) (ahead e (wrapped k)) || has (e + ahead e (wrapped k)) (got r)) ≡ true → taken bearer r (wrapped k) ≡ Duplicate
     duplicate q = ap (λ c. cond c Duplicate (cond (nat_le bearer.window (ahead e (wrapped k))) Outside Kept)) q
@@ -472,22 +472,22 @@ direction_arrives bearer s r came to line ts k poll body small d =
     read = pdu_is_read bearer s.acked s.requested (length s.bodies) r (payloads line) (ts ++ pending r.ack) k small d.flow
 
     after_kept : ℕ → Receiver
-    after_kept n = read_on (with_pdu bearer r n poll body) (expected r)
+    after_kept n = read_on (with_pdu bearer r n poll body) (vr_r r)
 
 -- The front MRW comes.
-pub direction_moves : (bearer : Rules) (s : Sender) (r : Receiver) (came : List ℕ) (to : ℕ) (line : List Block) (ts : List Status) (k n upto : ℕ) → bearer.window ≤ 2048 → Direction bearer s r came to (Mrw k n upto ∷ line) ts → Direction bearer s (after_move (moved bearer r (wrapped k)) r (wrapped k) n) came (max to k) line ts
-direction_moves bearer s r came to line ts k n upto small d =
+pub direction_moves : (bearer : Rules) (s : Sender) (r : Receiver) (came : List ℕ) (to : ℕ) (line : List Block) (ts : List Status) (k n end_of_discard : ℕ) → bearer.window ≤ 2048 → Direction bearer s r came to (Mrw k n end_of_discard ∷ line) ts → Direction bearer s (after_move (obeyed_mrw bearer r (wrapped k)) r (wrapped k) n) came (max to k) line ts
+direction_moves bearer s r came to line ts k n end_of_discard small d =
     ⊎_elim
-    (λ (l : k < expected r). subst (λ t. Direction bearer s (after_move t r (wrapped k) n) came (max to k) line ts) (sym (read.old l)) record {
-      flow = flow_tells bearer.window s.acked s.requested (length s.bodies) (got r) (payloads line) ts (as_status (expected r)) (flow_withdraws bearer.window s.acked s.requested (length s.bodies) (got r) (payloads line) ts (pending r.ack) (flow_loses bearer.window s.acked s.requested (length s.bodies) (got r) (payloads line) (ts ++ pending r.ack) k d.flow)) (ack_right (got r));
+    (λ (l : k < vr_r r). subst (λ t. Direction bearer s (after_move t r (wrapped k) n) came (max to k) line ts) (sym (read.old l)) record {
+      flow = flow_tells bearer.window s.acked s.requested (length s.bodies) (got r) (payloads line) ts (as_status (vr_r r)) (flow_withdraws bearer.window s.acked s.requested (length s.bodies) (got r) (payloads line) ts (pending r.ack) (flow_loses bearer.window s.acked s.requested (length s.bodies) (got r) (payloads line) (ts ++ pending r.ack) k d.flow)) (ack_right (got r));
       discard_is = d.discard_is;
       line_is = d.line_is.1;
       arrived_is = d.arrived_is;
-      come_in = λ x q. ⊎_elim (λ (m : x < max to k). ⊎_elim (λ (j : x < to). d.come_in x (in_low to came x j)) (λ (j : to ≤ x). run_in (got r) (after_highest r) x (omega arith)) (cases_lt x to)) (λ m. d.come_in x (in_high to came x m)) (in_parts (max to k) came x q);
+      come_in = λ x q. ⊎_elim (λ (m : x < max to k). ⊎_elim (λ (j : x < to). d.come_in x (in_low to came x j)) (λ (j : to ≤ x). run_in (got r) (vr_h r) x (omega arith)) (cases_lt x to)) (λ m. d.come_in x (in_high to came x m)) (in_parts (max to k) came x q);
       got_in = λ x q. widen x (d.got_in x q);
       cut = d.cut;
     })
-    (λ (l : expected r ≤ k). subst (λ t. Direction bearer s (after_move t r (wrapped k) n) came (max to k) line ts) (sym (read.obeyed l)) (subst (λ m. Direction bearer s (after_obeyed m) came (max to k) line ts) (sym (read.exact l)) record {
+    (λ (l : vr_r r ≤ k). subst (λ t. Direction bearer s (after_move t r (wrapped k) n) came (max to k) line ts) (sym (read.obeyed l)) (subst (λ m. Direction bearer s (after_obeyed m) came (max to k) line ts) (sym (read.exact l)) record {
       flow = flow_tells bearer.window s.acked s.requested (length s.bodies) now (payloads line) ts (as_status (run_of now (top now))) (flow_withdraws bearer.window s.acked s.requested (length s.bodies) now (payloads line) ts (pending r.ack) (flow_arrives bearer.window s.acked s.requested (length s.bodies) (got r) (payloads line) (ts ++ pending r.ack) k now d.flow up (λ x q. ⊎_elim (λ (m : x < max r.passed k). ⊎_elim (λ (j : x < r.passed). inr (in_low r.passed (numbers r.arrived) x j)) (λ (j : r.passed ≤ x). inl (omega arith)) (cases_lt x r.passed)) (λ m. inr (in_high r.passed (numbers r.arrived) x m)) (in_parts (max r.passed k) (numbers r.arrived) x q)))) (ack_right now);
       discard_is = d.discard_is;
       line_is = d.line_is.1;
@@ -496,7 +496,7 @@ direction_moves bearer s r came to line ts k n upto small d =
       got_in = λ x q. ⊎_elim (λ (m : x < max r.passed k). ⊎_elim (λ (j : x < r.passed). widen x (d.got_in x (in_low r.passed (numbers r.arrived) x j))) (λ (j : r.passed ≤ x). in_low (max to k) came x (omega arith)) (cases_lt x r.passed)) (λ m. widen x (d.got_in x (in_high r.passed (numbers r.arrived) x m))) (in_parts (max r.passed k) (numbers r.arrived) x q);
       cut = d.cut;
     }))
-    (cases_lt k (expected r))
+    (cases_lt k (vr_r r))
   where
     read : IsRead bearer r k
     read = pdu_is_read bearer s.acked s.requested (length s.bodies) r (payloads line) (ts ++ pending r.ack) k small d.flow
@@ -551,24 +551,24 @@ wrapped_twice x = omega arith
 
 pub record IsReadStatus (s : Sender) (t : Status) : Type 0 where
   pub inside : is_outside s (wrapped_status t) ≡ false
-  pub names : unwrap (first_open s) (named (wrapped_status t).pairs) ≡ named t.pairs
-  pub lsn : read_from (first_open s) (wrapped_status t).lsn ≡ t.lsn
+  pub names : unwrap (vt_a s) (named (wrapped_status t).pairs) ≡ named t.pairs
+  pub lsn : read_from (vt_a s) (wrapped_status t).lsn ≡ t.lsn
 
 pub status_is_read : (bearer : Rules) (s : Sender) (r : Receiver) (came : List ℕ) (to : ℕ) (line : List Block) (t : Status) (ts : List Status) → bearer.window ≤ 2048 → Direction bearer s r came to line (t ∷ ts) → IsReadStatus s t
 status_is_read bearer s r came to line t ts small d = record {
-  inside = or_from _ _ (le-ltb _ _ (omega (arith, lsn, near.1))) (subst (λ xs. reaches (next_new s) xs ≡ false) (sym names) (none_reach (next_new s) (named t.pairs) (λ x h. (near.2 x h).1)));
+  inside = or_from _ _ (le-ltb _ _ (omega (arith, lsn, near.1))) (subst (λ xs. reaches (vt_s s) xs ≡ false) (sym names) (none_reach (vt_s s) (named t.pairs) (λ x h. (near.2 x h).1)));
   names = names;
   lsn = lsn;
 }
   where
-    near : (first_open s ≤ t.lsn) × (t.lsn ≤ next_new s) × ((x : ℕ) → Is x (named t.pairs) → (first_open s ≤ x) × (x < next_new s))
+    near : (vt_a s ≤ t.lsn) × (t.lsn ≤ vt_s s) × ((x : ℕ) → Is x (named t.pairs) → (vt_a s ≤ x) × (x < vt_s s))
     near = flow_front_status bearer.window s.acked s.requested (length s.bodies) (got r) (payloads line) (ts ++ pending r.ack) t d.flow
 
-    lsn : read_from (first_open s) (wrapped t.lsn) ≡ t.lsn
-    lsn = ap (λ x. first_open s + ahead (first_open s) x) (wrapped_twice t.lsn) ∙ ahead_exact (first_open s) t.lsn near.0 (omega (arith, near.1, d.flow.room))
+    lsn : read_from (vt_a s) (wrapped t.lsn) ≡ t.lsn
+    lsn = ap (λ x. vt_a s + ahead (vt_a s) x) (wrapped_twice t.lsn) ∙ ahead_exact (vt_a s) t.lsn near.0 (omega (arith, near.1, d.flow.room))
 
-    names : unwrap (first_open s) (named (map wrapped_pair t.pairs)) ≡ named t.pairs
-    names = unwrap-named (first_open s) (next_new s) t.pairs (omega (arith, d.flow.room)) near.2
+    names : unwrap (vt_a s) (named (map wrapped_pair t.pairs)) ≡ named t.pairs
+    names = unwrap-named (vt_a s) (vt_s s) t.pairs (omega (arith, d.flow.room)) near.2
 
 ended_is : (bodies : List Body) (low now : ℕ) (d : Option Discard) → DiscardIs bodies low d → DiscardIs bodies now (ended_by now d)
 ended_is bodies low now None f = tt
@@ -577,7 +577,7 @@ ended_is bodies low now (Some d) f = cond_both (nat_lt d.k now) _ _ (DiscardIs b
 told_direction : (bearer : Rules) (s : Sender) (r : Receiver) (came : List ℕ) (to : ℕ) (line : List Block) (t : Status) (ts : List Status) → Direction bearer s r came to line (t ∷ ts) → Direction bearer (told s (named t.pairs) t.lsn) r came to line ts
 told_direction bearer s r came to line t ts d = record {
   flow = flow_told bearer.window s.acked s.requested (length s.bodies) (got r) (payloads line) (ts ++ pending r.ack) t now wanted d.flow acked_is is_open from;
-  discard_is = ended_is s.bodies (first_open s) (run_of now (length s.bodies)) s.discard d.discard_is;
+  discard_is = ended_is s.bodies (vt_a s) (run_of now (length s.bodies)) s.discard d.discard_is;
   line_is = d.line_is;
   arrived_is = d.arrived_is;
   come_in = d.come_in;
@@ -655,7 +655,7 @@ ack_by bearer s r came to line a ts (Some m) e d = subst (λ x. Direction bearer
 direction_ack : (bearer : Rules) (s : Sender) (r : Receiver) (came : List ℕ) (to : ℕ) (line : List Block) (a : MrwAck) (ts : List Status) → bearer.window ≤ 2048 → Direction bearer s r came to line (as_status a.number ∷ ts) → Direction bearer (after_ack s (wrapped_ack a)) r came to line ts
 direction_ack bearer s r came to line a ts small d =
     let near = flow_front_status bearer.window s.acked s.requested (length s.bodies) (got r) (payloads line) (ts ++ pending r.ack) (as_status a.number) d.flow in
-    ack_by bearer s r came to line a ts (ended_at (next_new s) s.discard (wrapped_ack a)) (λ m e. ack_number s.bodies (first_open s) bearer.window s.discard a m small d.discard_is d.flow.room near.0 near.1 e) d
+    ack_by bearer s r came to line a ts (ended_at (vt_s s) s.discard (wrapped_ack a)) (λ m e. ack_number s.bodies (vt_a s) bearer.window s.discard a m small d.discard_is d.flow.room near.0 near.1 e) d
 
 -- What the receiver tells is never Outside, and keeps the direction.
 pub told_inside : (bearer : Rules) (s : Sender) (r : Receiver) (came : List ℕ) (to : ℕ) (line : List Block) (t : Told) (ts : List Status) → bearer.window ≤ 2048 → Direction bearer s r came to line (tells_of t ++ ts) → told_outside s t ≡ false

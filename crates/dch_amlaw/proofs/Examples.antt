@@ -34,7 +34,7 @@ freed : (after bearer (opened bearer 18 18) (lost ++ Far Arrive ∷ Far Build �
 unfolding bearer lost ten
 freed = refl
 
-counted : (after bearer (opened bearer 18 18) lost).near.entity.sender.gone ≡ 0 ∷ []
+counted : (after bearer (opened bearer 18 18) lost).near.entity.sender.discarded_units ≡ 0 ∷ []
 unfolding bearer lost ten
 counted = refl
 

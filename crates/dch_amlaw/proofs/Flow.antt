@@ -6,7 +6,7 @@ use Rattle.dch_am.specs.Numbers.{has, top, run_of}
 use Rattle.dch_am.specs.Status.{Status}
 use Rattle.dch_am.specs.Names.{named}
 use Rattle.dch_am.proofs.Lists.{Is, has-append, run_le, run_in, run_out, run_not_above, run_grows, top_above, top_least}
-use Rattle.dch_amlaw.proofs.Written.{acks, tells, IsRight}
+use Rattle.dch_amlaw.proofs.Written.{acks, reports, IsRight}
 
 -- each number in flight is not below whatever was sent before it, less the window. All that are seen are below the bound
 abbrev pub Follows : ℕ → ℕ → List ℕ → Type 0
@@ -16,7 +16,7 @@ Follows window bound (k ∷ line) = (bound ≤ k + window) × Follows window (ma
 -- no status in flight tells of a number that is acknowledged, or that one ahead of it acknowledges
 abbrev pub Open : (ℕ → Bool) → List Status → Type 0
 Open acked [] = Unit {0}
-Open acked (t ∷ line) = ((x : ℕ) → tells t x ≡ true → acked x ≡ false) × Open (λ x. acks t x || acked x) line
+Open acked (t ∷ line) = ((x : ℕ) → reports t x ≡ true → acked x ≡ false) × Open (λ x. acks t x || acked x) line
 
 -- what each status in flight acknowledges has arrived, and its numbers are sent
 pub record IsSound (arrived : List ℕ) (next : ℕ) (t : Status) : Type 0 where
@@ -55,7 +55,7 @@ open_fewer acked fewer [] sub f = tt
 open_fewer acked fewer (t ∷ line) sub f = ((λ x h. false_from_ne_true _ (λ q. both_ways _ (f.0 x h) (sub x q))), open_fewer (λ x. acks t x || acked x) (λ x. acks t x || fewer x) line (λ x h. ⊎_elim (λ q. or_left _ _ q) (λ q. or_right _ _ (sub x q)) (or_cases _ _ h)) f.1)
 
 -- a status that tells only of what has not arrived
-open_push : (arrived : List ℕ) (next : ℕ) (acked : ℕ → Bool) (line : List Status) (t : Status) → ((x : ℕ) → acked x ≡ true → Is x arrived) → AllSound arrived next line → ((x : ℕ) → tells t x ≡ true → has x arrived ≡ false) → Open acked line → Open acked (line ++ t ∷ [])
+open_push : (arrived : List ℕ) (next : ℕ) (acked : ℕ → Bool) (line : List Status) (t : Status) → ((x : ℕ) → acked x ≡ true → Is x arrived) → AllSound arrived next line → ((x : ℕ) → reports t x ≡ true → has x arrived ≡ false) → Open acked line → Open acked (line ++ t ∷ [])
 open_push arrived next acked [] t in_arrived sound out f = ((λ x h. false_from_ne_true _ (λ q. both_ways _ (out x h) (in_arrived x q))), tt)
 open_push arrived next acked (u ∷ line) t in_arrived sound out f = (f.0, open_push arrived next (λ x. acks u x || acked x) line t (λ x h. ⊎_elim (λ q. sound.0.acks_arrived x q) (λ q. in_arrived x q) (or_cases _ _ h)) sound.1 out f.1)
 

@@ -94,8 +94,8 @@ place_at (b ∷ bodies) from i k n e = go (nat_lt i (ends_of b)) refl e (λ q. p
         let z : i - ends_of b - up_to bodies r.0 ≡ i - (ends_of b + up_to bodies r.0) = omega arith in
         (suc r.0, omega (arith, r.1), record { low = omega (arith, r.2.low); high = omega (arith, r.2.high); at = r.2.at ∙ ap (mark (get_or bodies r.0 no_body).full) z; sent = omega (arith, r.2.sent) })
 
-pub has_place_at : (bodies : List Body) (k n upto : ℕ) (h : HasPlace bodies k n upto) → IsAt bodies k n h.0
-has_place_at bodies k n upto h =
+pub has_place_at : (bodies : List Body) (k n end_of_discard : ℕ) (h : HasPlace bodies k n end_of_discard) → IsAt bodies k n h.0
+has_place_at bodies k n end_of_discard h =
     let p = place_at bodies 0 h.0 k n h.2 in
     let e : p.0 ≡ k = omega (arith, p.1) in
     subst (λ m. IsAt bodies m n h.0) e p.2

@@ -10,10 +10,10 @@ use Rattle.dch_am.specs.Bodies.{Body, Unsent, ends, read_bodies, no_body}
 use Rattle.dch_am.specs.Rules.{Rules}
 use Rattle.dch_am.specs.Sender.{Sender}
 use Rattle.dch_am.specs.Discards.{place_from}
-use Rattle.dch_am.specs.Receiver.{Receiver, opened_receiver, numbers, got, after_highest, expected, taken, after_pdu, with_pdu, read_on, body_of}
+use Rattle.dch_am.specs.Receiver.{Receiver, opened_receiver, numbers, got, vr_h, vr_r, taken, after_pdu, with_pdu, read_on, body_of}
 use Rattle.dch_am.specs.declared.answers.Taken.TheVariants.{Duplicate}
 use Rattle.dch_am.specs.declared.answers.MrwTaken.TheVariants.{Old}
-use Rattle.dch_am.specs.Moves.{moved, after_move, with_move, with_ack, trimmed}
+use Rattle.dch_am.specs.Moves.{obeyed_mrw, after_move, with_move, with_ack, trimmed}
 use Rattle.dch_amlaw.specs.Pair.{Block, Payload, Mrw, run_over, in_span, picked}
 use Rattle.dch_am.proofs.Lists.{Is, run_in, run_out, run_reaches, top_above}
 use Rattle.dch_amlaw.proofs.Flow.{flow_arrived_le_next}
@@ -110,17 +110,17 @@ low_more (p ∷ ps) n m le f = (omega (arith, f.0), low_more ps n m le f.1)
 
 pub record Hands (bodies : List Body) (accepted : List (List ℕ)) (r : Receiver) (past : ℕ) (spans : List (ℕ × ℕ)) : Type 0 where
   pub units : r.reading.units ≡ picked bodies spans 0 accepted
-  pub inside : (i : ℕ) → in_span bodies spans i ≡ true → i < up_to bodies (expected r)
-  pub covered : (i : ℕ) → past ≤ i → i < up_to bodies (expected r) → in_span bodies spans i ≡ true
-  pub low : AllLow spans (expected r)
-  pub stands : Stands bodies r.reading.part r.trim past (expected r)
+  pub inside : (i : ℕ) → in_span bodies spans i ≡ true → i < up_to bodies (vr_r r)
+  pub covered : (i : ℕ) → past ≤ i → i < up_to bodies (vr_r r) → in_span bodies spans i ≡ true
+  pub low : AllLow spans (vr_r r)
+  pub stands : Stands bodies r.reading.part r.trim past (vr_r r)
 
-hands_step : (bodies : List Body) (accepted : List (List ℕ)) (r now : Receiver) (past later g : ℕ) (spans : List (ℕ × ℕ)) → Hands bodies accepted r past spans → g ≡ expected now → past ≤ later → expected r ≤ expected now → up_to bodies (expected r) ≤ up_to bodies (expected now) → now.reading.units ≡ r.reading.units ++ drop (max (up_to bodies (expected r)) later) (take (up_to bodies (expected now)) accepted) → Stands bodies now.reading.part now.trim later (expected now) → Hands bodies accepted now later ((g, later) ∷ spans)
+hands_step : (bodies : List Body) (accepted : List (List ℕ)) (r now : Receiver) (past later g : ℕ) (spans : List (ℕ × ℕ)) → Hands bodies accepted r past spans → g ≡ vr_r now → past ≤ later → vr_r r ≤ vr_r now → up_to bodies (vr_r r) ≤ up_to bodies (vr_r now) → now.reading.units ≡ r.reading.units ++ drop (max (up_to bodies (vr_r r)) later) (take (up_to bodies (vr_r now)) accepted) → Stands bodies now.reading.part now.trim later (vr_r now) → Hands bodies accepted now later ((g, later) ∷ spans)
 hands_step bodies accepted r now past later g spans h e le grow more units stands = subst (λ x. Hands bodies accepted now later ((x, later) ∷ spans)) (sym e) (record {
-  units = units ∙ ap (λ us. us ++ drop (max (up_to bodies (expected r)) later) (take (up_to bodies (expected now)) accepted)) h.units ∙ ap (λ us. picked bodies spans 0 accepted ++ us) (sym (span_whole (max (up_to bodies (expected r)) later) (up_to bodies (expected now)) accepted)) ∙ sym (picked_more bodies spans (expected now) later (up_to bodies (expected r)) past 0 accepted h.inside h.covered le more);
-  inside = λ i q. ⊎_elim (λ (t : (nat_le later i && nat_lt i (up_to bodies (expected now))) ≡ true). ltb-true _ _ (and_parts _ _ t).1) (λ (t : in_span bodies spans i ≡ true). omega (arith, h.inside i t)) (or_cases _ _ q);
+  units = units ∙ ap (λ us. us ++ drop (max (up_to bodies (vr_r r)) later) (take (up_to bodies (vr_r now)) accepted)) h.units ∙ ap (λ us. picked bodies spans 0 accepted ++ us) (sym (span_whole (max (up_to bodies (vr_r r)) later) (up_to bodies (vr_r now)) accepted)) ∙ sym (picked_more bodies spans (vr_r now) later (up_to bodies (vr_r r)) past 0 accepted h.inside h.covered le more);
+  inside = λ i q. ⊎_elim (λ (t : (nat_le later i && nat_lt i (up_to bodies (vr_r now))) ≡ true). ltb-true _ _ (and_parts _ _ t).1) (λ (t : in_span bodies spans i ≡ true). omega (arith, h.inside i t)) (or_cases _ _ q);
   covered = λ i l m. or_left _ _ (and_from _ _ (le-leb _ _ l) (lt-ltb _ _ m));
-  low = (omega arith, low_more spans (expected r) (expected now) grow h.low);
+  low = (omega arith, low_more spans (vr_r r) (vr_r now) grow h.low);
   stands = stands;
 })
 
@@ -142,16 +142,16 @@ body_is : (bodies : List Body) (arrived : List (ℕ × Body)) (k : ℕ) → Arri
 body_is bodies [] k f h = absurd (both_ways false refl h)
 body_is bodies (p ∷ ps) k f h = body_step bodies p ps k (k == p.0) refl f.1 h (λ q. body_is bodies ps k f.2 q)
 
-bodies_are : (bodies : List Body) (r : Receiver) (from j : ℕ) → ArrivedIs bodies r.arrived → r.passed ≤ from → from ≤ j → j < expected r → body_of r.arrived j ≡ get_or bodies j no_body
-bodies_are bodies r from j f le l m = body_is bodies r.arrived j f (⊎_elim (λ (q : j < r.passed). absurd (omega arith)) (λ (q : Is j (numbers r.arrived)). q) (in_parts r.passed (numbers r.arrived) j (run_in (got r) (after_highest r) j m)))
+bodies_are : (bodies : List Body) (r : Receiver) (from j : ℕ) → ArrivedIs bodies r.arrived → r.passed ≤ from → from ≤ j → j < vr_r r → body_of r.arrived j ≡ get_or bodies j no_body
+bodies_are bodies r from j f le l m = body_is bodies r.arrived j f (⊎_elim (λ (q : j < r.passed). absurd (omega arith)) (λ (q : Is j (numbers r.arrived)). q) (in_parts r.passed (numbers r.arrived) j (run_in (got r) (vr_h r) j m)))
 
 -- all passed numbers lie below the missing one
 reaches_to : (n : ℕ) (xs : List ℕ) → n ≤ top (below n ++ xs)
 reaches_to zero xs = omega arith
 reaches_to (suc n) xs = omega (arith, top_above (below (suc n) ++ xs) n (in_low (suc n) xs n (omega arith)))
 
-pub passed_le : (r : Receiver) → r.passed ≤ expected r
-passed_le r = run_reaches (got r) (after_highest r) r.passed (reaches_to r.passed (numbers r.arrived)) (λ x l. in_low r.passed (numbers r.arrived) x l)
+pub passed_le : (r : Receiver) → r.passed ≤ vr_r r
+passed_le r = run_reaches (got r) (vr_h r) r.passed (reaches_to r.passed (numbers r.arrived)) (λ x l. in_low r.passed (numbers r.arrived) x l)
 
 pub same_run : (xs ys : List ℕ) → ((x : ℕ) → Is x xs → Is x ys) → run_of xs (top xs) ≤ run_of ys (top ys)
 same_run xs ys same = ⊎_elim (λ (l : run_of ys (top ys) < run_of xs (top xs)). absurd (bad l)) (λ (l : run_of xs (top xs) ≤ run_of ys (top ys)). l) (cases_lt (run_of ys (top ys)) (run_of xs (top xs)))
@@ -161,10 +161,10 @@ same_run xs ys same = ⊎_elim (λ (l : run_of ys (top ys) < run_of xs (top xs))
         let h : Is (run_of ys (top ys)) ys = same (run_of ys (top ys)) (run_in xs (top xs) (run_of ys (top ys)) l) in
         both_ways _ (run_out ys (top ys) (top_above ys (run_of ys (top ys)) h)) h
 
-pub missing_is : (bearer : Rules) (s : Sender) (r : Receiver) (came : List ℕ) (to : ℕ) (line : List Block) (ts : List Status) → Direction bearer s r came to line ts → run_over came to ≡ expected r
+pub missing_is : (bearer : Rules) (s : Sender) (r : Receiver) (came : List ℕ) (to : ℕ) (line : List Block) (ts : List Status) → Direction bearer s r came to line ts → run_over came to ≡ vr_r r
 missing_is bearer s r came to line ts d = omega (arith, same_run (below to ++ came) (got r) d.come_in, same_run (got r) (below to ++ came) d.got_in)
 
-sent_all : (bearer : Rules) (s : Sender) (r : Receiver) (came : List ℕ) (to : ℕ) (line : List Block) (ts : List Status) → Direction bearer s r came to line ts → expected r ≤ length s.bodies
+sent_all : (bearer : Rules) (s : Sender) (r : Receiver) (came : List ℕ) (to : ℕ) (line : List Block) (ts : List Status) → Direction bearer s r came to line ts → vr_r r ≤ length s.bodies
 sent_all bearer s r came to line ts d = flow_arrived_le_next bearer.window s.acked s.requested (length s.bodies) (got r) (payloads line) (ts ++ pending r.ack) d.flow
 
 -- A PDU arrives.
@@ -172,7 +172,7 @@ pub hands_arrives : (bearer : Rules) (s : Sender) (r : Receiver) (came : List �
 hands_arrives bearer s r came to past spans line ts k poll body small d h =
     ⊎_elim
     (λ (q : has k (got r) ≡ true). subst (λ t. Hands s.bodies s.accepted (after_pdu bearer t r (wrapped k) poll body) past ((run_over (k ∷ came) to, past) ∷ spans)) (sym (read.again q))
-    (hands_step s.bodies s.accepted r (after_pdu bearer Duplicate r (wrapped k) poll body) past past (run_over (k ∷ came) to) spans h (missing_is bearer s (after_pdu bearer Duplicate r (wrapped k) poll body) (k ∷ came) to line ts (subst (λ t. Direction bearer s (after_pdu bearer t r (wrapped k) poll body) (k ∷ came) to line ts) (read.again q) after_d)) (omega arith) (omega arith) (omega arith) (sym (append-nil r.reading.units) ∙ ap (λ us. r.reading.units ++ us) (sym (nothing (max (up_to s.bodies (expected r)) past) (up_to s.bodies (expected r)) (omega arith)))) h.stands))
+    (hands_step s.bodies s.accepted r (after_pdu bearer Duplicate r (wrapped k) poll body) past past (run_over (k ∷ came) to) spans h (missing_is bearer s (after_pdu bearer Duplicate r (wrapped k) poll body) (k ∷ came) to line ts (subst (λ t. Direction bearer s (after_pdu bearer t r (wrapped k) poll body) (k ∷ came) to line ts) (read.again q) after_d)) (omega arith) (omega arith) (omega arith) (sym (append-nil r.reading.units) ∙ ap (λ us. r.reading.units ++ us) (sym (nothing (max (up_to s.bodies (vr_r r)) past) (up_to s.bodies (vr_r r)) (omega arith)))) h.stands))
     (λ (q : has k (got r) ≡ false). subst (λ t. Hands s.bodies s.accepted (after_pdu bearer t r (wrapped k) poll body) past ((run_over (k ∷ came) to, past) ∷ spans)) (sym (read.first q)) (subst (λ n. Hands s.bodies s.accepted (after_kept n) past ((run_over (k ∷ came) to, past) ∷ spans)) (sym (read.number q)) (first (subst (λ n. Direction bearer s (after_kept n) (k ∷ came) to line ts) (read.number q) (subst (λ t. Direction bearer s (after_pdu bearer t r (wrapped k) poll body) (k ∷ came) to line ts) (read.first q) after_d)))))
     (cases_Bool (has k (got r)))
   where
@@ -180,7 +180,7 @@ hands_arrives bearer s r came to past spans line ts k poll body small d h =
     read = pdu_is_read bearer s.acked s.requested (length s.bodies) r (payloads line) (ts ++ pending r.ack) k small d.flow
 
     after_kept : ℕ → Receiver
-    after_kept n = read_on (with_pdu bearer r n poll body) (expected r)
+    after_kept n = read_on (with_pdu bearer r n poll body) (vr_r r)
 
     after_d : Direction bearer s (after_pdu bearer (taken bearer r (wrapped k)) r (wrapped k) poll body) (k ∷ came) to line ts
     after_d = direction_arrives bearer s r came to line ts k poll body small d
@@ -191,10 +191,10 @@ hands_arrives bearer s r came to past spans line ts k poll body small d h =
     first : Direction bearer s (after_kept k) (k ∷ came) to line ts → Hands s.bodies s.accepted (after_kept k) past ((run_over (k ∷ came) to, past) ∷ spans)
     first d' =
         let now = after_kept k in
-        let grow : expected r ≤ expected now = same_run (got r) (got now) (λ x m. ⊎_elim (λ (l : x < r.passed). in_low r.passed (k ∷ numbers r.arrived) x l) (λ (m : Is x (numbers r.arrived)). in_high r.passed (k ∷ numbers r.arrived) x (or_right _ _ m)) (in_parts r.passed (numbers r.arrived) x m)) in
-        let le : expected now ≤ length s.bodies = sent_all bearer s now (k ∷ came) to line ts d' in
-        let run = ran s.bodies s.accepted s.unsent r.trim now.arrived past (expected now - expected r) (expected r) (expected now) r.reading d.cut (omega arith) le (λ j l m. bodies_are s.bodies now (expected r) j d'.arrived_is (passed_le r) l m) h.stands in
-        hands_step s.bodies s.accepted r now past past (run_over (k ∷ came) to) spans h (missing_is bearer s now (k ∷ came) to line ts d') (omega arith) grow (up_to_grows s.bodies (expected r) (expected now) grow) run.units run.stands
+        let grow : vr_r r ≤ vr_r now = same_run (got r) (got now) (λ x m. ⊎_elim (λ (l : x < r.passed). in_low r.passed (k ∷ numbers r.arrived) x l) (λ (m : Is x (numbers r.arrived)). in_high r.passed (k ∷ numbers r.arrived) x (or_right _ _ m)) (in_parts r.passed (numbers r.arrived) x m)) in
+        let le : vr_r now ≤ length s.bodies = sent_all bearer s now (k ∷ came) to line ts d' in
+        let run = ran s.bodies s.accepted s.unsent r.trim now.arrived past (vr_r now - vr_r r) (vr_r r) (vr_r now) r.reading d.cut (omega arith) le (λ j l m. bodies_are s.bodies now (vr_r r) j d'.arrived_is (passed_le r) l m) h.stands in
+        hands_step s.bodies s.accepted r now past past (run_over (k ∷ came) to) spans h (missing_is bearer s now (k ∷ came) to line ts d') (omega arith) grow (up_to_grows s.bodies (vr_r r) (vr_r now) grow) run.units run.stands
 
 -- An MRW comes.
 mark_le : (full : Bool) (a b : ℕ) → a ≤ b → mark full a ≤ mark full b
@@ -205,14 +205,14 @@ mark_le full a b le = go full
     go false = omega arith
 
 -- the trim after an MRW: its own place, or the later one in the same PDU
-trim_after : (bodies : List Body) (part : List ℕ) (trim : Option (ℕ × ℕ)) (past r k n upto : ℕ) → r ≤ k → HasPlace bodies k n upto → Stands bodies part trim past r → Cut bodies [] (trimmed trim k n) (max past upto) k
-trim_after bodies part trim past r k n upto le has st = ⊎_elim
+trim_after : (bodies : List Body) (part : List ℕ) (trim : Option (ℕ × ℕ)) (past r k n end_of_discard : ℕ) → r ≤ k → HasPlace bodies k n end_of_discard → Stands bodies part trim past r → Cut bodies [] (trimmed trim k n) (max past end_of_discard) k
+trim_after bodies part trim past r k n end_of_discard le has st = ⊎_elim
     (λ (a : Aligned bodies part trim past r). alone trim (before trim a.earlier) (omega (arith, a.past_le, up_to_grows bodies r k le)))
     (λ (a : Cut bodies part trim past r). ⊎_elim (λ (l : r < k). alone trim (subst (λ t. Earlier t k) (sym a.trim_is) l) (past_low a l)) (λ (l : k ≤ r). same a (omega arith)) (cases_lt r k))
     st
   where
     is : IsAt bodies k n has.0
-    is = has_place_at bodies k n upto has
+    is = has_place_at bodies k n end_of_discard has
 
     before : (t : Option (ℕ × ℕ)) → Earlier t r → Earlier t k
     before None e = tt
@@ -222,8 +222,8 @@ trim_after bodies part trim past r k n upto le has st = ⊎_elim
     alone_is None e = refl
     alone_is (Some t) e = ap (λ (m : ℕ). Some (k, m)) (cond-false (t.0 == k) (max t.1 n) n (false_from_ne_true _ (λ q. omega (arith, eqb-true t.0 k q))))
 
-    alone : (t : Option (ℕ × ℕ)) → Earlier t k → past ≤ up_to bodies k → Cut bodies [] (trimmed t k n) (max past upto) k
-    alone t e low = let m : upto ≡ max past upto = omega (arith, has.1, is.low) in record { part_is = refl; place = n; trim_is = alone_is t e; has = subst (HasPlace bodies k n) m has }
+    alone : (t : Option (ℕ × ℕ)) → Earlier t k → past ≤ up_to bodies k → Cut bodies [] (trimmed t k n) (max past end_of_discard) k
+    alone t e low = let m : end_of_discard ≡ max past end_of_discard = omega (arith, has.1, is.low) in record { part_is = refl; place = n; trim_is = alone_is t e; has = subst (HasPlace bodies k n) m has }
 
     past_low : Cut bodies part trim past r → r < k → past ≤ up_to bodies k
     past_low a l = let at = has_place_at bodies r a.place past a.has in omega (arith, a.has.1, at.high, up_to_more bodies r at.sent, up_to_grows bodies (r + 1) k (omega arith))
@@ -231,25 +231,25 @@ trim_after bodies part trim past r k n upto le has st = ⊎_elim
     later : (t : Option (ℕ × ℕ)) (m : ℕ) → t ≡ Some (k, m) → trimmed t k n ≡ Some (k, max m n)
     later t m e = ap (λ x. trimmed x k n) e ∙ ap (λ (j : ℕ). Some (k, j)) (cond-true (k == k) (max m n) n (eq-eqb k k refl))
 
-    join : (m i : ℕ) → past ≡ i + 1 → place_from bodies 0 i ≡ Some (k, m) → IsAt bodies k m i → HasPlace bodies k (max m n) (max past upto)
+    join : (m i : ℕ) → past ≡ i + 1 → place_from bodies 0 i ≡ Some (k, m) → IsAt bodies k m i → HasPlace bodies k (max m n) (max past end_of_discard)
     join m i e p at = ⊎_elim
-        (λ (l : i < has.0). let x : n ≡ max m n = omega (arith, at.at, is.at, mark_le (get_or bodies k no_body).full (i - up_to bodies k) (has.0 - up_to bodies k) (omega arith)) in let y : upto ≡ max past upto = omega (arith, has.1) in subst (λ v. HasPlace bodies k v (max past upto)) x (subst (HasPlace bodies k n) y has))
-        (λ (l : has.0 ≤ i). let x : m ≡ max m n = omega (arith, at.at, is.at, mark_le (get_or bodies k no_body).full (has.0 - up_to bodies k) (i - up_to bodies k) (omega arith)) in let y : past ≡ max past upto = omega (arith, has.1) in subst (λ v. HasPlace bodies k v (max past upto)) x (subst (HasPlace bodies k m) y (i, e, p)))
+        (λ (l : i < has.0). let x : n ≡ max m n = omega (arith, at.at, is.at, mark_le (get_or bodies k no_body).full (i - up_to bodies k) (has.0 - up_to bodies k) (omega arith)) in let y : end_of_discard ≡ max past end_of_discard = omega (arith, has.1) in subst (λ v. HasPlace bodies k v (max past end_of_discard)) x (subst (HasPlace bodies k n) y has))
+        (λ (l : has.0 ≤ i). let x : m ≡ max m n = omega (arith, at.at, is.at, mark_le (get_or bodies k no_body).full (has.0 - up_to bodies k) (i - up_to bodies k) (omega arith)) in let y : past ≡ max past end_of_discard = omega (arith, has.1) in subst (λ v. HasPlace bodies k v (max past end_of_discard)) x (subst (HasPlace bodies k m) y (i, e, p)))
         (cases_lt i has.0)
 
-    same : Cut bodies part trim past r → r ≡ k → Cut bodies [] (trimmed trim k n) (max past upto) k
+    same : Cut bodies part trim past r → r ≡ k → Cut bodies [] (trimmed trim k n) (max past end_of_discard) k
     same a e =
         let t : trim ≡ Some (k, a.place) = a.trim_is ∙ ap (λ (j : ℕ). Some (j, a.place)) e in
         let h : HasPlace bodies k a.place past = subst (λ j. HasPlace bodies j a.place past) e a.has in
         record { part_is = refl; place = max a.place n; trim_is = later trim a.place t; has = join a.place h.0 h.1 h.2 (has_place_at bodies k a.place past h) }
 
-pub hands_moves : (bearer : Rules) (s : Sender) (r : Receiver) (came : List ℕ) (to past : ℕ) (spans : List (ℕ × ℕ)) (line : List Block) (ts : List Status) (k n upto : ℕ) → bearer.window ≤ 2048 → Direction bearer s r came to (Mrw k n upto ∷ line) ts → Hands s.bodies s.accepted r past spans → Hands s.bodies s.accepted (after_move (moved bearer r (wrapped k)) r (wrapped k) n) (max past upto) ((run_over came (max to k), max past upto) ∷ spans)
-hands_moves bearer s r came to past spans line ts k n upto small d h =
+pub hands_moves : (bearer : Rules) (s : Sender) (r : Receiver) (came : List ℕ) (to past : ℕ) (spans : List (ℕ × ℕ)) (line : List Block) (ts : List Status) (k n end_of_discard : ℕ) → bearer.window ≤ 2048 → Direction bearer s r came to (Mrw k n end_of_discard ∷ line) ts → Hands s.bodies s.accepted r past spans → Hands s.bodies s.accepted (after_move (obeyed_mrw bearer r (wrapped k)) r (wrapped k) n) (max past end_of_discard) ((run_over came (max to k), max past end_of_discard) ∷ spans)
+hands_moves bearer s r came to past spans line ts k n end_of_discard small d h =
     ⊎_elim
-    (λ (l : k < expected r). subst (λ t. Hands s.bodies s.accepted (after_move t r (wrapped k) n) (max past upto) ((run_over came (max to k), max past upto) ∷ spans)) (sym (read.old l))
-    (hands_step s.bodies s.accepted r (after_move Old r (wrapped k) n) past (max past upto) (run_over came (max to k)) spans h (missing_is bearer s (after_move Old r (wrapped k) n) came (max to k) line ts (subst (λ t. Direction bearer s (after_move t r (wrapped k) n) came (max to k) line ts) (read.old l) after_d)) (omega arith) (omega arith) (omega arith) (sym (append-nil r.reading.units) ∙ ap (λ us. r.reading.units ++ us) (sym (drop_none s.accepted (max (up_to s.bodies (expected r)) (max past upto)) (up_to s.bodies (expected r)) (omega arith)))) (stays l)))
-    (λ (l : expected r ≤ k). subst (λ t. Hands s.bodies s.accepted (after_move t r (wrapped k) n) (max past upto) ((run_over came (max to k), max past upto) ∷ spans)) (sym (read.obeyed l)) (subst (λ m. Hands s.bodies s.accepted (after_obeyed m) (max past upto) ((run_over came (max to k), max past upto) ∷ spans)) (sym (read.exact l)) (obeyed l (subst (λ m. Direction bearer s (after_obeyed m) came (max to k) line ts) (read.exact l) (subst (λ t. Direction bearer s (after_move t r (wrapped k) n) came (max to k) line ts) (read.obeyed l) after_d)))))
-    (cases_lt k (expected r))
+    (λ (l : k < vr_r r). subst (λ t. Hands s.bodies s.accepted (after_move t r (wrapped k) n) (max past end_of_discard) ((run_over came (max to k), max past end_of_discard) ∷ spans)) (sym (read.old l))
+    (hands_step s.bodies s.accepted r (after_move Old r (wrapped k) n) past (max past end_of_discard) (run_over came (max to k)) spans h (missing_is bearer s (after_move Old r (wrapped k) n) came (max to k) line ts (subst (λ t. Direction bearer s (after_move t r (wrapped k) n) came (max to k) line ts) (read.old l) after_d)) (omega arith) (omega arith) (omega arith) (sym (append-nil r.reading.units) ∙ ap (λ us. r.reading.units ++ us) (sym (drop_none s.accepted (max (up_to s.bodies (vr_r r)) (max past end_of_discard)) (up_to s.bodies (vr_r r)) (omega arith)))) (stays l)))
+    (λ (l : vr_r r ≤ k). subst (λ t. Hands s.bodies s.accepted (after_move t r (wrapped k) n) (max past end_of_discard) ((run_over came (max to k), max past end_of_discard) ∷ spans)) (sym (read.obeyed l)) (subst (λ m. Hands s.bodies s.accepted (after_obeyed m) (max past end_of_discard) ((run_over came (max to k), max past end_of_discard) ∷ spans)) (sym (read.exact l)) (obeyed l (subst (λ m. Direction bearer s (after_obeyed m) came (max to k) line ts) (read.exact l) (subst (λ t. Direction bearer s (after_move t r (wrapped k) n) came (max to k) line ts) (read.obeyed l) after_d)))))
+    (cases_lt k (vr_r r))
   where
     read : IsRead bearer r k
     read = pdu_is_read bearer s.acked s.requested (length s.bodies) r (payloads line) (ts ++ pending r.ack) k small d.flow
@@ -257,32 +257,32 @@ hands_moves bearer s r came to past spans line ts k n upto small d h =
     after_obeyed : ℕ → Receiver
     after_obeyed m = with_ack (read_on (with_move r m n) m) (wrapped k) n
 
-    after_d : Direction bearer s (after_move (moved bearer r (wrapped k)) r (wrapped k) n) came (max to k) line ts
-    after_d = direction_moves bearer s r came to line ts k n upto small d
+    after_d : Direction bearer s (after_move (obeyed_mrw bearer r (wrapped k)) r (wrapped k) n) came (max to k) line ts
+    after_d = direction_moves bearer s r came to line ts k n end_of_discard small d
 
-    has_place : HasPlace s.bodies k n upto
+    has_place : HasPlace s.bodies k n end_of_discard
     has_place = d.line_is.0
 
     is : IsAt s.bodies k n has_place.0
-    is = has_place_at s.bodies k n upto has_place
+    is = has_place_at s.bodies k n end_of_discard has_place
 
-    stays : k < expected r → Stands s.bodies r.reading.part r.trim (max past upto) (expected r)
+    stays : k < vr_r r → Stands s.bodies r.reading.part r.trim (max past end_of_discard) (vr_r r)
     stays l =
-        let low : upto ≤ up_to s.bodies (expected r) = omega (arith, has_place.1, is.high, up_to_more s.bodies k is.sent, up_to_grows s.bodies (k + 1) (expected r) (omega arith)) in
+        let low : end_of_discard ≤ up_to s.bodies (vr_r r) = omega (arith, has_place.1, is.high, up_to_more s.bodies k is.sent, up_to_grows s.bodies (k + 1) (vr_r r) (omega arith)) in
         ⊎_elim
-        (λ (a : Aligned s.bodies r.reading.part r.trim past (expected r)). inl record { part_is = a.part_is; past_le = omega (arith, a.past_le); earlier = a.earlier })
-        (λ (a : Cut s.bodies r.reading.part r.trim past (expected r)). let m : past ≡ max past upto = omega (arith, a.has.1, (has_place_at s.bodies (expected r) a.place past a.has).low) in inr record { part_is = a.part_is; place = a.place; trim_is = a.trim_is; has = subst (HasPlace s.bodies (expected r) a.place) m a.has })
+        (λ (a : Aligned s.bodies r.reading.part r.trim past (vr_r r)). inl record { part_is = a.part_is; past_le = omega (arith, a.past_le); earlier = a.earlier })
+        (λ (a : Cut s.bodies r.reading.part r.trim past (vr_r r)). let m : past ≡ max past end_of_discard = omega (arith, a.has.1, (has_place_at s.bodies (vr_r r) a.place past a.has).low) in inr record { part_is = a.part_is; place = a.place; trim_is = a.trim_is; has = subst (HasPlace s.bodies (vr_r r) a.place) m a.has })
         h.stands
 
-    obeyed : expected r ≤ k → Direction bearer s (after_obeyed k) came (max to k) line ts → Hands s.bodies s.accepted (after_obeyed k) (max past upto) ((run_over came (max to k), max past upto) ∷ spans)
+    obeyed : vr_r r ≤ k → Direction bearer s (after_obeyed k) came (max to k) line ts → Hands s.bodies s.accepted (after_obeyed k) (max past end_of_discard) ((run_over came (max to k), max past end_of_discard) ∷ spans)
     obeyed l d' =
         let now = after_obeyed k in
-        let passes : max r.passed k ≤ expected now = passed_le now in
-        let le : expected now ≤ length s.bodies = sent_all bearer s now came (max to k) line ts d' in
-        let run = ran s.bodies s.accepted s.unsent (trimmed r.trim k n) now.arrived (max past upto) (expected now - k) k (expected now) (record { units = r.reading.units; part = [] }) d.cut (omega arith) le (λ j a b. bodies_are s.bodies now k j d'.arrived_is (omega (arith, passed_le r)) a b) (inr (trim_after s.bodies r.reading.part r.trim past (expected r) k n upto l has_place h.stands)) in
-        let grow : expected r ≤ expected now = omega arith in
-        let start : max (up_to s.bodies k) (max past upto) ≡ max (up_to s.bodies (expected r)) (max past upto) = omega (arith, has_place.1, is.low, up_to_grows s.bodies (expected r) k l) in
-        hands_step s.bodies s.accepted r now past (max past upto) (run_over came (max to k)) spans h (missing_is bearer s now came (max to k) line ts d') (omega arith) grow (up_to_grows s.bodies (expected r) (expected now) grow) (run.units ∙ ap (λ m. r.reading.units ++ drop m (take (up_to s.bodies (expected now)) s.accepted)) start) run.stands
+        let passes : max r.passed k ≤ vr_r now = passed_le now in
+        let le : vr_r now ≤ length s.bodies = sent_all bearer s now came (max to k) line ts d' in
+        let run = ran s.bodies s.accepted s.unsent (trimmed r.trim k n) now.arrived (max past end_of_discard) (vr_r now - k) k (vr_r now) (record { units = r.reading.units; part = [] }) d.cut (omega arith) le (λ j a b. bodies_are s.bodies now k j d'.arrived_is (omega (arith, passed_le r)) a b) (inr (trim_after s.bodies r.reading.part r.trim past (vr_r r) k n end_of_discard l has_place h.stands)) in
+        let grow : vr_r r ≤ vr_r now = omega arith in
+        let start : max (up_to s.bodies k) (max past end_of_discard) ≡ max (up_to s.bodies (vr_r r)) (max past end_of_discard) = omega (arith, has_place.1, is.low, up_to_grows s.bodies (vr_r r) k l) in
+        hands_step s.bodies s.accepted r now past (max past end_of_discard) (run_over came (max to k)) spans h (missing_is bearer s now came (max to k) line ts d') (omega arith) grow (up_to_grows s.bodies (vr_r r) (vr_r now) grow) (run.units ∙ ap (λ m. r.reading.units ++ drop m (take (up_to s.bodies (vr_r now)) s.accepted)) start) run.stands
 
 -- The sender builds one more PDU.
 up_to_front : (bodies : List Body) (b : Body) (n : ℕ) → n ≤ length bodies → up_to (bodies ++ b ∷ []) n ≡ up_to bodies n
@@ -296,15 +296,15 @@ picked_front : (bodies : List Body) (b : Body) (spans : List (ℕ × ℕ)) (n i 
 picked_front bodies b spans n i [] le f = refl
 picked_front bodies b spans n i (u ∷ us) le f = ap (λ t. cond t (u ∷ picked (bodies ++ b ∷ []) spans (i + 1) us) (picked (bodies ++ b ∷ []) spans (i + 1) us)) (spans_front bodies b spans n i le f) ∙ ap (λ xs. cond (in_span bodies spans i) (u ∷ xs) xs) (picked_front bodies b spans n (i + 1) us le f)
 
-pub hands_anew : (bodies : List Body) (b : Body) (accepted : List (List ℕ)) (r : Receiver) (past : ℕ) (spans : List (ℕ × ℕ)) → expected r ≤ length bodies → Hands bodies accepted r past spans → Hands (bodies ++ b ∷ []) accepted r past spans
+pub hands_anew : (bodies : List Body) (b : Body) (accepted : List (List ℕ)) (r : Receiver) (past : ℕ) (spans : List (ℕ × ℕ)) → vr_r r ≤ length bodies → Hands bodies accepted r past spans → Hands (bodies ++ b ∷ []) accepted r past spans
 hands_anew bodies b accepted r past spans le h = record {
-  units = h.units ∙ sym (picked_front bodies b spans (expected r) 0 accepted le h.low);
-  inside = λ i q. omega (arith, h.inside i (sym (spans_front bodies b spans (expected r) i le h.low) ∙ q), up_to_front bodies b (expected r) le);
-  covered = λ i l m. spans_front bodies b spans (expected r) i le h.low ∙ h.covered i l (omega (arith, up_to_front bodies b (expected r) le));
+  units = h.units ∙ sym (picked_front bodies b spans (vr_r r) 0 accepted le h.low);
+  inside = λ i q. omega (arith, h.inside i (sym (spans_front bodies b spans (vr_r r) i le h.low) ∙ q), up_to_front bodies b (vr_r r) le);
+  covered = λ i l m. spans_front bodies b spans (vr_r r) i le h.low ∙ h.covered i l (omega (arith, up_to_front bodies b (vr_r r) le));
   low = h.low;
   stands = ⊎_elim
-      (λ (a : Aligned bodies r.reading.part r.trim past (expected r)). inl record { part_is = a.part_is ∙ sym (ap (λ (bs : List Body). (read_bodies empty_reading bs).part) (take-append-le (expected r) bodies (b ∷ []) le)); past_le = omega (arith, a.past_le, up_to_front bodies b (expected r) le); earlier = a.earlier })
-      (λ (a : Cut bodies r.reading.part r.trim past (expected r)). inr record { part_is = a.part_is; place = a.place; trim_is = a.trim_is; has = has_place_more bodies b (expected r) a.place past a.has })
+      (λ (a : Aligned bodies r.reading.part r.trim past (vr_r r)). inl record { part_is = a.part_is ∙ sym (ap (λ (bs : List Body). (read_bodies empty_reading bs).part) (take-append-le (vr_r r) bodies (b ∷ []) le)); past_le = omega (arith, a.past_le, up_to_front bodies b (vr_r r) le); earlier = a.earlier })
+      (λ (a : Cut bodies r.reading.part r.trim past (vr_r r)). inr record { part_is = a.part_is; place = a.place; trim_is = a.trim_is; has = has_place_more bodies b (vr_r r) a.place past a.has })
       h.stands;
 }
 
@@ -322,8 +322,8 @@ hands_unit bodies accepted q u r past spans c h = record {
   stands = h.stands;
 }
   where
-    few : up_to bodies (expected r) ≤ length accepted
-    few = omega (arith, cut_long accepted q bodies (expected r) c, ap length (cut_front accepted q bodies (expected r) c), length-take (up_to bodies (expected r)) accepted)
+    few : up_to bodies (vr_r r) ≤ length accepted
+    few = omega (arith, cut_long accepted q bodies (vr_r r) c, ap length (cut_front accepted q bodies (vr_r r) c), length-take (up_to bodies (vr_r r)) accepted)
 
 pub hands_begins : (bearer : Rules) → Hands [] [] (opened_receiver bearer) 0 []
 hands_begins bearer = record {

@@ -9,8 +9,8 @@ use Rattle.dch_am.specs.Names.{named}
 use Rattle.dch_am.specs.Bodies.{is_empty}
 use Rattle.dch_am.specs.Moves.{move_in}
 use Rattle.dch_am.specs.Status.{Status, wrapped_pair, wrapped_status, wrapped_ack, Told, OnlyAck, OnlyStatus, AckAndStatus, fields_of}
-use Rattle.dch_am.specs.Sender.{Sender, next_new, first_open}
-use Rattle.dch_am.specs.Acknowledging.{read_from, unwrap, told, after_ack, after_acks, first_beyond, offending, first_of_both, all_names, lsn_of, tells, outside_of, status_answer, after_telling_of, after_answer, after_fields}
+use Rattle.dch_am.specs.Sender.{Sender, vt_s, vt_a}
+use Rattle.dch_am.specs.Acknowledging.{read_from, unwrap, told, after_ack, after_acks, first_beyond, offending, first_of_both, all_names, lsn_of, reports, outside_of, status_answer, after_telling_of, after_answer, after_fields}
 use Rattle.dch_amlaw.specs.Pair.{is_refused}
 
 -- some of these are n or more
@@ -20,10 +20,10 @@ reaches n (x ∷ xs) = nat_le n x || reaches n xs
 
 -- a status, in 12 bits, names a number that was never sent or lies below the window
 abbrev pub is_outside : Sender → Status → Bool
-is_outside s t = nat_lt (next_new s) (read_from (first_open s) t.lsn) || reaches (next_new s) (unwrap (first_open s) (named t.pairs))
+is_outside s t = nat_lt (vt_s s) (read_from (vt_a s) t.lsn) || reaches (vt_s s) (unwrap (vt_a s) (named t.pairs))
 
 abbrev pub after_status : Sender → Status → Sender
-after_status s t = told s (unwrap (first_open s) (named t.pairs)) (read_from (first_open s) t.lsn)
+after_status s t = told s (unwrap (vt_a s) (named t.pairs)) (read_from (vt_a s) t.lsn)
 
 abbrev pub told_outside : Sender → Told → Bool
 told_outside s (OnlyAck a) = false
@@ -47,7 +47,7 @@ record IsHeard (base next lsn : ℕ) (names : List ℕ) (fields : List Field) : 
   offends : (window : ℕ) → is_some (offending window base next fields) ≡ (nat_lt next (read_from base lsn) || reaches next names)
   names_are : all_names base next fields ≡ names
   lsn_is : lsn_of base fields ≡ read_from base lsn
-  tells_some : tells fields ≡ true
+  tells_some : reports fields ≡ true
   no_ack : (s : Sender) → after_acks s fields ≡ s
 
 unwrap-append : (base : ℕ) (xs ys : List ℕ) → unwrap base (xs ++ ys) ≡ unwrap base xs ++ unwrap base ys
@@ -138,11 +138,11 @@ record Does (rules : Rules) (s after : Sender) (t : Status) (fields : List Field
   answer : is_refused (status_answer rules s fields) ≡ is_outside after t
   effect : after_fields rules s fields ≡ cond (is_outside after t) s (after_status after t)
 
-does : (rules : Rules) (s after : Sender) (t : Status) (fields : List Field) → after_acks s fields ≡ after → ((window : ℕ) → is_some (offending window (first_open after) (next_new after) fields) ≡ is_outside after t) → all_names (first_open after) (next_new after) fields ≡ unwrap (first_open after) (named t.pairs) → lsn_of (first_open after) fields ≡ read_from (first_open after) t.lsn → tells fields ≡ true → Does rules s after t fields
-does rules s after t fields e offends names lsn some = go (offending rules.window (first_open after) (next_new after) fields) (ap (λ x. outside_of (offending rules.window (first_open x) (next_new x) fields)) e) (offends rules.window)
+does : (rules : Rules) (s after : Sender) (t : Status) (fields : List Field) → after_acks s fields ≡ after → ((window : ℕ) → is_some (offending window (vt_a after) (vt_s after) fields) ≡ is_outside after t) → all_names (vt_a after) (vt_s after) fields ≡ unwrap (vt_a after) (named t.pairs) → lsn_of (vt_a after) fields ≡ read_from (vt_a after) t.lsn → reports fields ≡ true → Does rules s after t fields
+does rules s after t fields e offends names lsn some = go (offending rules.window (vt_a after) (vt_s after) fields) (ap (λ x. outside_of (offending rules.window (vt_a x) (vt_s x) fields)) e) (offends rules.window)
   where
     one : after_telling_of (after_acks s fields) fields ≡ after_status after t
-    one = ap (λ x. after_telling_of x fields) e ∙ ap (λ b. cond b (told after (all_names (first_open after) (next_new after) fields) (lsn_of (first_open after) fields)) after) some ∙ ap (λ xs. told after xs (lsn_of (first_open after) fields)) names ∙ ap (told after (unwrap (first_open after) (named t.pairs))) lsn
+    one = ap (λ x. after_telling_of x fields) e ∙ ap (λ b. cond b (told after (all_names (vt_a after) (vt_s after) fields) (lsn_of (vt_a after) fields)) after) some ∙ ap (λ xs. told after xs (lsn_of (vt_a after) fields)) names ∙ ap (told after (unwrap (vt_a after) (named t.pairs))) lsn
 
     go : (o : Option ℕ) → status_answer rules s fields ≡ outside_of o → is_some o ≡ is_outside after t → Does rules s after t fields
     go None a q = record {
@@ -156,12 +156,12 @@ does rules s after t fields e offends names lsn some = go (offending rules.windo
 
 status_does : (rules : Rules) (s : Sender) (t : Status) → Does rules s s t (status_fields t.pairs t.lsn)
 status_does rules s t =
-    let h = heard (first_open s) (next_new s) t.lsn (length t.pairs) t.pairs (omega arith) in
+    let h = heard (vt_a s) (vt_s s) t.lsn (length t.pairs) t.pairs (omega arith) in
     does rules s s t (status_fields t.pairs t.lsn) (h.no_ack s) h.offends h.names_are h.lsn_is h.tells_some
 
 both_do : (rules : Rules) (s after : Sender) (t : Status) (n sn : ℕ) → after_ack s (record { number = sn; n = n }) ≡ after → Does rules s after t (MrwAckField n sn ∷ status_fields t.pairs t.lsn)
 both_do rules s after t n sn e =
-    let h = heard (first_open after) (next_new after) t.lsn (length t.pairs) t.pairs (omega arith) in
+    let h = heard (vt_a after) (vt_s after) t.lsn (length t.pairs) t.pairs (omega arith) in
     does rules s after t (MrwAckField n sn ∷ status_fields t.pairs t.lsn) (h.no_ack (after_ack s (record { number = sn; n = n })) ∙ e) h.offends h.names_are h.lsn_is h.tells_some
 
 -- on what an honest receiver writes, the answer and the sender after it

@@ -8,14 +8,14 @@ use Rattle.dch_am.specs.Status.{Status, Told, OnlyAck, OnlyStatus, AckAndStatus,
 use Rattle.dch_am.specs.Bodies.{Body, next_body, ends}
 use Rattle.dch_am.specs.Building.{anew, Choice, Again, New, Last, NoPdu, after_choice, body_at, choice, again_polls, anew_polls, once_more_polls}
 use Rattle.dch_am.specs.Rules.{Rules}
-use Rattle.dch_am.specs.Sender.{Discard, Sender, first_open, next_new, offered, after_offer}
+use Rattle.dch_am.specs.Sender.{Discard, Sender, vt_a, vt_s, offered, after_offer}
 use Rattle.dch_bits.specs.declared.offer.Offer.{Offer as OfferAnswer}
 use Rattle.dch_bits.specs.declared.offer.Offer.TheVariants.{Accepted, Full, WrongSize}
 use Rattle.dch_am.specs.Acknowledging.{after_fields, ends_discard, ended_at}
 use Rattle.dch_amlaw.proofs.Heard.{fields_answer, fields_effect, told_outside, told_still, after_inside, after_told}
 use Rattle.dch_am.specs.Discards.{after_moving, can_take, discards_at, discards, after_tick, tick_sender, place_from}
-use Rattle.dch_am.specs.Receiver.{Receiver, got, expected, taken}
-use Rattle.dch_am.specs.Moves.{after_move_in, moved}
+use Rattle.dch_am.specs.Receiver.{Receiver, got, vr_r, taken}
+use Rattle.dch_am.specs.Moves.{after_move_in, obeyed_mrw}
 use Rattle.dch_am.specs.Telling.{tells_now, plain_due, after_telling, tick_receiver}
 use Rattle.dch_am.specs.Entities.{Turn, Tells, Moves, Sends, Rests, receiver_after, sender_after, turn, with_sides}
 use Rattle.dch_am.proofs.Turns.{tells_due, told_due}
@@ -42,9 +42,9 @@ discard_same s None = (refl, refl)
 discard_same s (Some m) = (refl, refl)
 
 inside_same : (s : Sender) (t : Told) → ((after_inside s t).bodies ≡ s.bodies) × ((after_inside s t).accepted ≡ s.accepted)
-inside_same s (OnlyAck a) = discard_same s (ended_at (next_new s) s.discard (wrapped_ack a))
+inside_same s (OnlyAck a) = discard_same s (ended_at (vt_s s) s.discard (wrapped_ack a))
 inside_same s (OnlyStatus t) = (refl, refl)
-inside_same s (AckAndStatus a t) = discard_same s (ended_at (next_new s) s.discard (wrapped_ack a))
+inside_same s (AckAndStatus a t) = discard_same s (ended_at (vt_s s) s.discard (wrapped_ack a))
 
 pub told_same : (s : Sender) (t : Told) → ((after_told s t).bodies ≡ s.bodies) × ((after_told s t).accepted ≡ s.accepted)
 told_same s t = cond_both (told_outside s t) s (after_inside s t) (λ (x : Sender). (x.bodies ≡ s.bodies) × (x.accepted ≡ s.accepted)) (λ _. (refl, refl)) (λ _. inside_same s t)
@@ -80,7 +80,7 @@ hands_told bearer bodies accepted r past spans h = record { units = h.units; ins
 hands_ticks : (bearer : Rules) (bodies : List Body) (accepted : List (List ℕ)) (r : Receiver) (past : ℕ) (spans : List (ℕ × ℕ)) → Hands bodies accepted r past spans → Hands bodies accepted (tick_receiver bearer r) past spans
 hands_ticks bearer bodies accepted r past spans h = record { units = h.units; inside = h.inside; covered = h.covered; low = h.low; stands = h.stands }
 
-pub sent_all : (bearer : Rules) (s : Sender) (r : Receiver) (came : List ℕ) (to : ℕ) (line : List Block) (ts : List Status) → Direction bearer s r came to line ts → expected r ≤ length s.bodies
+pub sent_all : (bearer : Rules) (s : Sender) (r : Receiver) (came : List ℕ) (to : ℕ) (line : List Block) (ts : List Status) → Direction bearer s r came to line ts → vr_r r ≤ length s.bodies
 sent_all bearer s r came to line ts d = flow_arrived_le_next bearer.window s.acked s.requested (length s.bodies) (got r) (payloads line) (ts ++ pending r.ack) d.flow
 
 -- what the near end sends of its own data tells nothing
@@ -88,7 +88,7 @@ past_block : (bearer : Rules) (p : Pair) (b : Block) → reports (b ∷ []) ≡ 
 past_block bearer p b e both = subst (λ ts. Direction bearer p.far.entity.sender p.near.entity.receiver p.near.came p.near.moved_to p.back ts) (sym (reports-append p.out (b ∷ []) ∙ ap (λ ts. reports p.out ++ ts) e ∙ append-nil (reports p.out))) both.back
 
 new_lost : (bearer : Rules) (p : Pair) → Both bearer p → Lost (anew (p.near.octets - 2) p.near.entity.sender) p.out p.far.moved_past p.far.spans
-new_lost bearer p b = lost_body p.near.entity.sender (anew (p.near.octets - 2) p.near.entity.sender) (next_body (p.near.octets - 2) p.near.entity.sender.unsent) p.out p.far.moved_past (expected p.far.entity.receiver) p.far.spans (sent_all bearer p.near.entity.sender p.far.entity.receiver p.far.came p.far.moved_to p.out (reports p.back) b.out) b.out_hands.low refl refl refl refl b.out_lost
+new_lost bearer p b = lost_body p.near.entity.sender (anew (p.near.octets - 2) p.near.entity.sender) (next_body (p.near.octets - 2) p.near.entity.sender.unsent) p.out p.far.moved_past (vr_r p.far.entity.receiver) p.far.spans (sent_all bearer p.near.entity.sender p.far.entity.receiver p.far.came p.far.moved_to p.out (reports p.back) b.out) b.out_hands.low refl refl refl refl b.out_lost
 
 -- the near end's entity is changed, and what it built is sent
 abbrev pub sends : Pair → Sender → Receiver → Option Block → Pair
@@ -99,9 +99,9 @@ body_new : (bodies : List Body) (b : Body) → body_at (bodies ++ b ∷ []) (len
 body_new [] b = refl
 body_new (x ∷ bodies) b = body_new bodies b
 
-anew_direction : (bearer : Rules) (p : Pair) → next_new p.near.entity.sender < first_open p.near.entity.sender + bearer.window → Both bearer p → Direction bearer (after_choice New bearer (p.near.octets - 2) p.near.entity.sender) p.far.entity.receiver p.far.came p.far.moved_to (sent_on p.out (payload_of New bearer p.near)) (reports p.back)
+anew_direction : (bearer : Rules) (p : Pair) → vt_s p.near.entity.sender < vt_a p.near.entity.sender + bearer.window → Both bearer p → Direction bearer (after_choice New bearer (p.near.octets - 2) p.near.entity.sender) p.far.entity.receiver p.far.came p.far.moved_to (sent_on p.out (payload_of New bearer p.near)) (reports p.back)
 anew_direction bearer p good b =
-    subst (λ body. Direction bearer (after_choice New bearer (p.near.octets - 2) p.near.entity.sender) p.far.entity.receiver p.far.came p.far.moved_to (p.out ++ Payload (next_new p.near.entity.sender) (anew_polls bearer (p.near.octets - 2) p.near.entity.sender) body ∷ []) (reports p.back))
+    subst (λ body. Direction bearer (after_choice New bearer (p.near.octets - 2) p.near.entity.sender) p.far.entity.receiver p.far.came p.far.moved_to (p.out ++ Payload (vt_s p.near.entity.sender) (anew_polls bearer (p.near.octets - 2) p.near.entity.sender) body ∷ []) (reports p.back))
     (body_new p.near.entity.sender.bodies (next_body (p.near.octets - 2) p.near.entity.sender.unsent))
     (direction_anew bearer (p.near.octets - 2) p.near.entity.sender p.far.entity.receiver p.far.came p.far.moved_to p.out (reports p.back) (anew_polls bearer (p.near.octets - 2) p.near.entity.sender) good b.out)
 
@@ -117,10 +117,10 @@ both_sends bearer p (Again k) good b = record {
 }
 both_sends bearer p New good b = record {
   out = anew_direction bearer p good b;
-  back = past_block bearer p (Payload (next_new p.near.entity.sender) _ _) refl b;
+  back = past_block bearer p (Payload (vt_s p.near.entity.sender) _ _) refl b;
   out_hands = hands_anew p.near.entity.sender.bodies _ p.near.entity.sender.accepted p.far.entity.receiver p.far.moved_past p.far.spans (sent_all bearer p.near.entity.sender p.far.entity.receiver p.far.came p.far.moved_to p.out (reports p.back) b.out) b.out_hands;
   back_hands = b.back_hands;
-  out_lost = record { known = (new_lost bearer p b).known; past_le = b.out_lost.past_le; line_le = lost_push p.out (Payload (next_new p.near.entity.sender) _ _) p.near.entity.sender.dropped tt b.out_lost.line_le; discard_le = b.out_lost.discard_le };
+  out_lost = record { known = (new_lost bearer p b).known; past_le = b.out_lost.past_le; line_le = lost_push p.out (Payload (vt_s p.near.entity.sender) _ _) p.near.entity.sender.dropped tt b.out_lost.line_le; discard_le = b.out_lost.discard_le };
   back_lost = b.back_lost;
 }
 both_sends bearer p (Last k) good b = record {
@@ -134,17 +134,17 @@ both_sends bearer p (Last k) good b = record {
 both_sends bearer p NoPdu good b = b
 
 -- an MRW
-upto_low : (bearer : Rules) (p : Pair) (d : Discard) → p.near.entity.sender.discard ≡ Some d → Both bearer p → d.upto ≤ p.near.entity.sender.dropped
+upto_low : (bearer : Rules) (p : Pair) (d : Discard) → p.near.entity.sender.discard ≡ Some d → Both bearer p → d.end_of_discard ≤ p.near.entity.sender.dropped
 upto_low bearer p d e b = subst (λ x. DiscardLow x p.near.entity.sender.dropped) e b.out_lost.discard_le
 
 both_moves : (bearer : Rules) (p : Pair) (d : Option Discard) → p.near.entity.sender.discard ≡ d → Both bearer p → Both bearer (sends p (after_moving bearer p.near.entity.sender d) p.near.entity.receiver (mrw_of d))
 both_moves bearer p None e b = b
 both_moves bearer p (Some d) e b = record {
   out = direction_mrw bearer p.near.entity.sender p.far.entity.receiver p.far.came p.far.moved_to p.out (reports p.back) d e b.out;
-  back = past_block bearer p (Mrw d.k d.n d.upto) refl b;
+  back = past_block bearer p (Mrw d.k d.n d.end_of_discard) refl b;
   out_hands = b.out_hands;
   back_hands = b.back_hands;
-  out_lost = record { known = b.out_lost.known; past_le = b.out_lost.past_le; line_le = lost_push p.out (Mrw d.k d.n d.upto) p.near.entity.sender.dropped (upto_low bearer p d e b, tt) b.out_lost.line_le; discard_le = upto_low bearer p d e b };
+  out_lost = record { known = b.out_lost.known; past_le = b.out_lost.past_le; line_le = lost_push p.out (Mrw d.k d.n d.end_of_discard) p.near.entity.sender.dropped (upto_low bearer p d e b, tt) b.out_lost.line_le; discard_le = upto_low bearer p d e b };
   back_lost = b.back_lost;
 }
 
@@ -190,13 +190,13 @@ both_arrives bearer p (Payload k poll body ∷ line) small e b = record {
   out_lost = b.out_lost;
   back_lost = lost_spans p.far.entity.sender line p.near.moved_past p.near.moved_past p.near.spans _ b.back_lost.past_le (lost_line p.far.entity.sender (Payload k poll body ∷ line) line p.near.moved_past p.near.spans (lost_at bearer p (Payload k poll body ∷ line) e b).line_le (lost_at bearer p (Payload k poll body ∷ line) e b));
 }
-both_arrives bearer p (Mrw k n upto ∷ line) small e b = record {
-  out = out_at bearer p (Mrw k n upto ∷ line) e b;
-  back = direction_moves bearer p.far.entity.sender p.near.entity.receiver p.near.came p.near.moved_to line (reports p.out) k n upto small (back_at bearer p (Mrw k n upto ∷ line) e b);
+both_arrives bearer p (Mrw k n end_of_discard ∷ line) small e b = record {
+  out = out_at bearer p (Mrw k n end_of_discard ∷ line) e b;
+  back = direction_moves bearer p.far.entity.sender p.near.entity.receiver p.near.came p.near.moved_to line (reports p.out) k n end_of_discard small (back_at bearer p (Mrw k n end_of_discard ∷ line) e b);
   out_hands = b.out_hands;
-  back_hands = hands_moves bearer p.far.entity.sender p.near.entity.receiver p.near.came p.near.moved_to p.near.moved_past p.near.spans line (reports p.out) k n upto small (back_at bearer p (Mrw k n upto ∷ line) e b) b.back_hands;
+  back_hands = hands_moves bearer p.far.entity.sender p.near.entity.receiver p.near.came p.near.moved_to p.near.moved_past p.near.spans line (reports p.out) k n end_of_discard small (back_at bearer p (Mrw k n end_of_discard ∷ line) e b) b.back_hands;
   out_lost = b.out_lost;
-  back_lost = lost_spans p.far.entity.sender line p.near.moved_past (max p.near.moved_past upto) p.near.spans _ (omega (arith, b.back_lost.past_le, (lost_at bearer p (Mrw k n upto ∷ line) e b).line_le.0)) (lost_line p.far.entity.sender (Mrw k n upto ∷ line) line p.near.moved_past p.near.spans (lost_at bearer p (Mrw k n upto ∷ line) e b).line_le.1 (lost_at bearer p (Mrw k n upto ∷ line) e b));
+  back_lost = lost_spans p.far.entity.sender line p.near.moved_past (max p.near.moved_past end_of_discard) p.near.spans _ (omega (arith, b.back_lost.past_le, (lost_at bearer p (Mrw k n end_of_discard ∷ line) e b).line_le.0)) (lost_line p.far.entity.sender (Mrw k n end_of_discard ∷ line) line p.near.moved_past p.near.spans (lost_at bearer p (Mrw k n end_of_discard ∷ line) e b).line_le.1 (lost_at bearer p (Mrw k n end_of_discard ∷ line) e b));
 }
 both_arrives bearer p (Report t ∷ line) small e b = subst (λ x. Both bearer (heard p line (after_fields bearer p.near.entity.sender (fields_of t)) x)) (sym (ap (after_move_in bearer p.near.entity.receiver) (told_still t))) (subst (λ x. Both bearer (heard p line x p.near.entity.receiver)) (sym (fields_effect bearer p.near.entity.sender t)) (record {
   out = direction_told bearer p.near.entity.sender p.far.entity.receiver p.far.came p.far.moved_to p.out t (reports line) small (out_at bearer p (Report t ∷ line) e b);
@@ -217,13 +217,13 @@ both_loses bearer p (Payload k poll body ∷ line) e b = record {
   out_lost = b.out_lost;
   back_lost = lost_line p.far.entity.sender (Payload k poll body ∷ line) line p.near.moved_past p.near.spans (lost_at bearer p (Payload k poll body ∷ line) e b).line_le (lost_at bearer p (Payload k poll body ∷ line) e b);
 }
-both_loses bearer p (Mrw k n upto ∷ line) e b = record {
-  out = out_at bearer p (Mrw k n upto ∷ line) e b;
-  back = direction_loses_mrw bearer p.far.entity.sender p.near.entity.receiver p.near.came p.near.moved_to line (reports p.out) k n upto (back_at bearer p (Mrw k n upto ∷ line) e b);
+both_loses bearer p (Mrw k n end_of_discard ∷ line) e b = record {
+  out = out_at bearer p (Mrw k n end_of_discard ∷ line) e b;
+  back = direction_loses_mrw bearer p.far.entity.sender p.near.entity.receiver p.near.came p.near.moved_to line (reports p.out) k n end_of_discard (back_at bearer p (Mrw k n end_of_discard ∷ line) e b);
   out_hands = b.out_hands;
   back_hands = b.back_hands;
   out_lost = b.out_lost;
-  back_lost = lost_line p.far.entity.sender (Mrw k n upto ∷ line) line p.near.moved_past p.near.spans (lost_at bearer p (Mrw k n upto ∷ line) e b).line_le.1 (lost_at bearer p (Mrw k n upto ∷ line) e b);
+  back_lost = lost_line p.far.entity.sender (Mrw k n end_of_discard ∷ line) line p.near.moved_past p.near.spans (lost_at bearer p (Mrw k n end_of_discard ∷ line) e b).line_le.1 (lost_at bearer p (Mrw k n end_of_discard ∷ line) e b);
 }
 both_loses bearer p (Report t ∷ line) e b = record {
   out = direction_loses_told bearer p.near.entity.sender p.far.entity.receiver p.far.came p.far.moved_to p.out t (reports line) (out_at bearer p (Report t ∷ line) e b);
@@ -238,7 +238,7 @@ both_ticks : (bearer : Rules) (p : Pair) → Both bearer p → Both bearer (happ
 both_ticks bearer p b = record {
   out = direction_ticks bearer p.near.entity.sender p.far.entity.receiver p.far.came p.far.moved_to p.out (reports p.back) b.out;
   back = record { flow = b.back.flow; discard_is = b.back.discard_is; line_is = b.back.line_is; arrived_is = b.back.arrived_is; come_in = b.back.come_in; got_in = b.back.got_in; cut = b.back.cut };
-  out_hands = hands_at p.near.entity.sender (tick_sender bearer p.near.entity.sender) p.far.entity.receiver p.far.moved_past p.far.spans (tick_same bearer (record p.near.entity.sender { timer = p.near.entity.sender.timer - 1; owed = p.near.entity.sender.owed || (p.near.entity.sender.timer == 1); ticks = p.near.entity.sender.ticks + 1 }) p.near.entity.sender.discard) b.out_hands;
+  out_hands = hands_at p.near.entity.sender (tick_sender bearer p.near.entity.sender) p.far.entity.receiver p.far.moved_past p.far.spans (tick_same bearer (record p.near.entity.sender { poll_timer = p.near.entity.sender.poll_timer - 1; owed = p.near.entity.sender.owed || (p.near.entity.sender.poll_timer == 1); ticks = p.near.entity.sender.ticks + 1 }) p.near.entity.sender.discard) b.out_hands;
   back_hands = hands_ticks bearer p.far.entity.sender.bodies p.far.entity.sender.accepted p.near.entity.receiver p.near.moved_past p.near.spans b.back_hands;
   out_lost = lost_ticks bearer p.near.entity.sender p.far.entity.receiver p.far.came p.far.moved_to p.out (reports p.back) p.far.moved_past p.far.spans b.out b.out_hands b.out_lost;
   back_lost = b.back_lost;
@@ -274,13 +274,13 @@ kept bearer a b line ts d h f = record {
 pdu_inside : (bearer : Rules) (r : Receiver) (k : ℕ) → IsRead bearer r k → is_outside_answer (taken bearer r (wrapped k)) ≡ false
 pdu_inside bearer r k read = ⊎_elim (λ (h : has k (got r) ≡ true). ap is_outside_answer (read.again h)) (λ (h : has k (got r) ≡ false). ap is_outside_answer (read.first h)) (cases_Bool (has k (got r)))
 
-mrw_inside : (bearer : Rules) (r : Receiver) (k : ℕ) → IsRead bearer r k → is_beyond (moved bearer r (wrapped k)) ≡ false
-mrw_inside bearer r k read = ⊎_elim (λ (l : k < expected r). ap is_beyond (read.old l)) (λ (l : expected r ≤ k). ap is_beyond (read.obeyed l)) (cases_lt k (expected r))
+mrw_inside : (bearer : Rules) (r : Receiver) (k : ℕ) → IsRead bearer r k → is_beyond (obeyed_mrw bearer r (wrapped k)) ≡ false
+mrw_inside bearer r k read = ⊎_elim (λ (l : k < vr_r r). ap is_beyond (read.old l)) (λ (l : vr_r r ≤ k). ap is_beyond (read.obeyed l)) (cases_lt k (vr_r r))
 
 pub inside : (bearer : Rules) (p : Pair) (line : List Block) → bearer.window ≤ 2048 → p.back ≡ line → Both bearer p → front_outside bearer p.near line ≡ false
 inside bearer p [] small e b = refl
 inside bearer p (Payload k poll body ∷ line) small e b = pdu_inside bearer p.near.entity.receiver k (pdu_is_read bearer p.far.entity.sender.acked p.far.entity.sender.requested (length p.far.entity.sender.bodies) p.near.entity.receiver (payloads line) (reports p.out ++ pending p.near.entity.receiver.ack) k small (back_at bearer p (Payload k poll body ∷ line) e b).flow)
-inside bearer p (Mrw k n upto ∷ line) small e b = mrw_inside bearer p.near.entity.receiver k (pdu_is_read bearer p.far.entity.sender.acked p.far.entity.sender.requested (length p.far.entity.sender.bodies) p.near.entity.receiver (payloads line) (reports p.out ++ pending p.near.entity.receiver.ack) k small (back_at bearer p (Mrw k n upto ∷ line) e b).flow)
+inside bearer p (Mrw k n end_of_discard ∷ line) small e b = mrw_inside bearer p.near.entity.receiver k (pdu_is_read bearer p.far.entity.sender.acked p.far.entity.sender.requested (length p.far.entity.sender.bodies) p.near.entity.receiver (payloads line) (reports p.out ++ pending p.near.entity.receiver.ack) k small (back_at bearer p (Mrw k n end_of_discard ∷ line) e b).flow)
 inside bearer p (Report t ∷ line) small e b = fields_answer bearer p.near.entity.sender t ∙ told_inside bearer p.near.entity.sender p.far.entity.receiver p.far.came p.far.moved_to p.out t (reports line) small (out_at bearer p (Report t ∷ line) e b)
 
 safe : (bearer : Rules) (p : Pair) → bearer.window ≤ 2048 → Both bearer p → IsSafe bearer p

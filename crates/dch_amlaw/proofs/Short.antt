@@ -2,13 +2,13 @@
 use Rattle.std.proofs.Common.{◌≡◌, ◌+◌, ◌-◌, ◌≤◌, ℕ, zero, suc, List, [], ◌∷◌, ◌++◌, Bool, true, false, ◌||◌, cond, Option, Some, None, length, refl, sym, ◌∙◌, subst}
 use Rattle.std.specs.Prelude.{nat_lt, ◌==◌}
 use Rattle.std.proofs.lemmas.Bool.{ltb-false}
-use Rattle.dch_am.specs.Acknowledging.{after_ack, after_acks, after_answer, after_fields, after_telling_of, all_names, ended_at, ends_discard, lsn_of, status_answer, tells, told}
+use Rattle.dch_am.specs.Acknowledging.{after_ack, after_acks, after_answer, after_fields, after_telling_of, all_names, ended_at, ends_discard, lsn_of, status_answer, reports, told}
 use Rattle.dch_am.specs.Bodies.{Body, is_empty}
 use Rattle.dch_am.specs.Building.{Choice, Again, New, Last, NoPdu, after_choice, choice}
 use Rattle.dch_am.specs.Discards.{after_moving, after_tick, can_take, discards, discards_at, place_from, tick_sender}
 use Rattle.dch_am.specs.Entities.{Turn, Tells, Moves, Sends, Rests, sender_after, turn}
 use Rattle.dch_am.specs.Rules.{Rules}
-use Rattle.dch_am.specs.Sender.{Discard, Sender, after_offer, blocks, first_open, held, next_new}
+use Rattle.dch_am.specs.Sender.{Discard, Sender, after_offer, blocks, vt_a, held, vt_s}
 use Rattle.dch_am.specs.Status.{fields_of}
 use Rattle.dch_am.specs.declared.answers.StatusTaken.{StatusTaken}
 use Rattle.dch_am.specs.declared.answers.StatusTaken.TheVariants.{Taken as Inside, Outside as Unknown}
@@ -49,7 +49,7 @@ ended_same s (Some m) = refl
 
 acks_same : (s : Sender) (fields : List Field) → (after_acks s fields).accepted ≡ s.accepted
 acks_same s [] = refl
-acks_same s (MrwAckField n sn ∷ fields) = acks_same (after_ack s (record { number = sn; n = n })) fields ∙ ended_same s (ended_at (next_new s) s.discard (record { number = sn; n = n }))
+acks_same s (MrwAckField n sn ∷ fields) = acks_same (after_ack s (record { number = sn; n = n })) fields ∙ ended_same s (ended_at (vt_s s) s.discard (record { number = sn; n = n }))
 acks_same s (NoMoreField ∷ fields) = acks_same s fields
 acks_same s (WindowField size ∷ fields) = acks_same s fields
 acks_same s (AckField lsn ∷ fields) = acks_same s fields
@@ -58,9 +58,9 @@ acks_same s (BitmapField first bits ∷ fields) = acks_same s fields
 acks_same s (MrwField last n ∷ fields) = acks_same s fields
 
 telling_same : (s : Sender) (fields : List Field) → (after_telling_of s fields).accepted ≡ s.accepted
-telling_same s fields = go (tells fields)
+telling_same s fields = go (reports fields)
   where
-    go : (b : Bool) → (cond b (told s (all_names (first_open s) (next_new s) fields) (lsn_of (first_open s) fields)) s).accepted ≡ s.accepted
+    go : (b : Bool) → (cond b (told s (all_names (vt_a s) (vt_s s) fields) (lsn_of (vt_a s) fields)) s).accepted ≡ s.accepted
     go true = refl
     go false = refl
 
@@ -88,7 +88,7 @@ tick_by rules s None = discards_same rules s (length s.accepted)
 tick_by rules s (Some d) = refl
 
 pub tick_same : (rules : Rules) (s : Sender) → (tick_sender rules s).accepted ≡ s.accepted
-tick_same rules s = tick_by rules (record s { timer = s.timer - 1; owed = s.owed || (s.timer == 1); ticks = s.ticks + 1 }) s.discard
+tick_same rules s = tick_by rules (record s { poll_timer = s.poll_timer - 1; owed = s.owed || (s.poll_timer == 1); ticks = s.ticks + 1 }) s.discard
 
 short_picked : (bodies : List Body) (spans : List (ℕ × ℕ)) (i : ℕ) (us : List (List ℕ)) → AreShort us → AreShort (picked bodies spans i us)
 short_picked bodies spans i [] f = tt
@@ -112,7 +112,7 @@ pub record BothShort (p : Pair) : Type 0 where
 
 takes_same : (rules : Rules) (e : End) (b : Block) → (takes rules e b).entity.sender.accepted ≡ e.entity.sender.accepted
 takes_same rules e (Payload k poll body) = refl
-takes_same rules e (Mrw k n upto) = refl
+takes_same rules e (Mrw k n end_of_discard) = refl
 takes_same rules e (Report t) = fields_same rules e.entity.sender (fields_of t)
 
 short_arrives : (rules : Rules) (p : Pair) (line : List Block) → BothShort p → BothShort (arrives rules p line)

@@ -5,24 +5,24 @@ use Rattle.dch_am.specs.Numbers.{has, below, run_of, top, wrapped}
 use Rattle.dch_am.specs.Status.{Told, fields_of}
 use Rattle.dch_am.specs.Bodies.{Body, ends}
 use Rattle.dch_am.specs.Rules.{Rules}
-use Rattle.dch_am.specs.Sender.{Discard, next_new, first_open}
+use Rattle.dch_am.specs.Sender.{Discard, vt_s, vt_a}
 use Rattle.dch_am.specs.Building.{Choice, Again, New, Last, NoPdu, body_of_choice, choice, polls_at}
 use Rattle.dch_am.specs.Acknowledging.{status_answer}
-use Rattle.dch_am.specs.Receiver.{expected, taken}
+use Rattle.dch_am.specs.Receiver.{vr_r, taken}
 use Rattle.dch_am.specs.declared.answers.Taken.{Taken}
 use Rattle.dch_am.specs.declared.answers.Taken.TheVariants.{Kept, Duplicate, Outside}
 use Rattle.dch_am.specs.declared.answers.MrwTaken.{MrwTaken}
 use Rattle.dch_am.specs.declared.answers.MrwTaken.TheVariants.{Nothing, Obeyed, Old, Outside as Beyond}
 use Rattle.dch_am.specs.declared.answers.StatusTaken.{StatusTaken}
 use Rattle.dch_am.specs.declared.answers.StatusTaken.TheVariants.{Taken as Inside, Outside as Unknown}
-use Rattle.dch_am.specs.Moves.{moved}
+use Rattle.dch_am.specs.Moves.{obeyed_mrw}
 use Rattle.dch_am.specs.Telling.{tells_now}
 use Rattle.dch_am.specs.Entities.{Come, Entity, Event as EntityEvent, Build as Builds, Offer as Offers, Tick as Ticks, Pdu, DataPdu, StatusPdu, Turn, Tells, Moves, Sends, Rests, opened_entity, step, turn}
 
 -- what a build puts in flight, with its number without wrap
 pub data Block : Type 0 where
   Payload : (number : ℕ) → (poll : Bool) → (body : Body) → Block
-  Mrw : (number : ℕ) → (n : ℕ) → (upto : ℕ) → Block
+  Mrw : (number : ℕ) → (n : ℕ) → (end_of_discard : ℕ) → Block
   Report : (told : Told) → Block
 
 pub record End : Type 0 where
@@ -75,11 +75,11 @@ report_of (Some t) = Some (Report t)
 
 abbrev pub mrw_of : Option Discard → Option Block
 mrw_of None = None
-mrw_of (Some d) = Some (Mrw d.k d.n d.upto)
+mrw_of (Some d) = Some (Mrw d.k d.n d.end_of_discard)
 
 abbrev pub payload_of : Choice → Rules → End → Option Block
 payload_of (Again k) rules e = Some (Payload k (polls_at (Again k) rules (e.octets - 2) e.entity.sender) (body_of_choice (Again k) (e.octets - 2) e.entity.sender))
-payload_of New rules e = Some (Payload (next_new e.entity.sender) (polls_at New rules (e.octets - 2) e.entity.sender) (body_of_choice New (e.octets - 2) e.entity.sender))
+payload_of New rules e = Some (Payload (vt_s e.entity.sender) (polls_at New rules (e.octets - 2) e.entity.sender) (body_of_choice New (e.octets - 2) e.entity.sender))
 payload_of (Last k) rules e = Some (Payload k (polls_at (Last k) rules (e.octets - 2) e.entity.sender) (body_of_choice (Last k) (e.octets - 2) e.entity.sender))
 payload_of NoPdu rules e = None
 
@@ -108,7 +108,7 @@ run_over came to = run_of (below to ++ came) (top (below to ++ came))
 -- a block as the PDU that the other end reads: it sees 12 bits of each number
 abbrev pub pdu_in : Block → Pdu
 pdu_in (Payload k poll body) = DataPdu (wrapped k) poll body None
-pdu_in (Mrw k n upto) = StatusPdu (mrw_fields (wrapped k) n)
+pdu_in (Mrw k n end_of_discard) = StatusPdu (mrw_fields (wrapped k) n)
 pdu_in (Report t) = StatusPdu (fields_of t)
 
 -- an entity that has handed up all units
@@ -121,7 +121,7 @@ taken_in rules e block = all_handed (step rules e.octets e.entity (Come (pdu_in 
 
 abbrev pub takes : Rules → End → Block → End
 takes rules e (Payload k poll body) = record { octets = e.octets; entity = taken_in rules e (Payload k poll body); came = k ∷ e.came; moved_to = e.moved_to; moved_past = e.moved_past; spans = (run_over (k ∷ e.came) e.moved_to, e.moved_past) ∷ e.spans }
-takes rules e (Mrw k n upto) = record { octets = e.octets; entity = taken_in rules e (Mrw k n upto); came = e.came; moved_to = max e.moved_to k; moved_past = max e.moved_past upto; spans = (run_over e.came (max e.moved_to k), max e.moved_past upto) ∷ e.spans }
+takes rules e (Mrw k n end_of_discard) = record { octets = e.octets; entity = taken_in rules e (Mrw k n end_of_discard); came = e.came; moved_to = max e.moved_to k; moved_past = max e.moved_past end_of_discard; spans = (run_over e.came (max e.moved_to k), max e.moved_past end_of_discard) ∷ e.spans }
 takes rules e (Report t) = with_entity e (taken_in rules e (Report t))
 
 abbrev pub arrives : Rules → Pair → List Block → Pair
@@ -171,7 +171,7 @@ is_refused (Unknown i) = true
 -- the answer to a block is Outside
 abbrev pub answers_outside : Rules → End → Block → Bool
 answers_outside rules e (Payload k poll body) = is_outside_answer (taken rules e.entity.receiver (wrapped k))
-answers_outside rules e (Mrw k n upto) = is_beyond (moved rules e.entity.receiver (wrapped k))
+answers_outside rules e (Mrw k n end_of_discard) = is_beyond (obeyed_mrw rules e.entity.receiver (wrapped k))
 answers_outside rules e (Report t) = is_refused (status_answer rules e.entity.sender (fields_of t))
 
 -- the next block to arrive is answered Outside
@@ -198,12 +198,12 @@ picked bodies spans i (u ∷ us) = if in_span bodies spans i then (u ∷ picked 
 
 -- what holds of one direction: of its sender and of its receiver at the other end
 pub record IsKept (rules : Rules) (from to : End) : Type 0 where
-  pub acked_le_expected : first_open from.entity.sender ≤ expected to.entity.receiver
-  pub expected_le_next : expected to.entity.receiver ≤ next_new from.entity.sender
-  pub next_le_window : next_new from.entity.sender ≤ first_open from.entity.sender + rules.window
+  pub acked_le_expected : vt_a from.entity.sender ≤ vr_r to.entity.receiver
+  pub expected_le_next : vr_r to.entity.receiver ≤ vt_s from.entity.sender
+  pub next_le_window : vt_s from.entity.sender ≤ vt_a from.entity.sender + rules.window
   pub acked_arrived : (k : ℕ) → has k from.entity.sender.acked ≡ true → has k (come to) ≡ true
-  pub expected_is : expected to.entity.receiver ≡ gap_free to
-  pub none_lost : (i : ℕ) → i < ends (take (gap_free to) from.entity.sender.bodies) → (in_span from.entity.sender.bodies to.spans i ≡ true) ⊎ (has i from.entity.sender.gone ≡ true)
+  pub expected_is : vr_r to.entity.receiver ≡ gap_free to
+  pub none_lost : (i : ℕ) → i < ends (take (gap_free to) from.entity.sender.bodies) → (in_span from.entity.sender.bodies to.spans i ≡ true) ⊎ (has i from.entity.sender.discarded_units ≡ true)
   pub in_order : to.entity.receiver.reading.units ≡ picked from.entity.sender.bodies to.spans 0 from.entity.sender.accepted
 
 -- what holds after every history

@@ -5,7 +5,7 @@ use Rattle.std.proofs.lemmas.Bool.{both_ways, cases_lt}
 use Rattle.std.proofs.lemmas.Bool.Decides.{nat_tests}
 use Rattle.dch_am.specs.Bodies.{Body}
 use Rattle.dch_am.specs.Numbers.{has, below, top, run_of}
-use Rattle.dch_am.specs.Receiver.{Receiver, after_highest, body_of, expected, got, numbers, read_on}
+use Rattle.dch_am.specs.Receiver.{Receiver, vr_h, body_of, vr_r, got, numbers, read_on}
 use Rattle.dch_am.proofs.Lists.{Is, has-append, has-below, run_le, run_in, run_reaches}
 use Rattle.dch_amrecv.specs.Places.{front, is_kept, put}
 use Rattle.dch_amrecv.proofs.Fronts.{front_le}
@@ -50,7 +50,7 @@ place-drop (suc n) i (p ∷ ps) = let e : suc n + i ≡ suc (n + i) = omega arit
 
 -- what is kept from a number on, of which the run isn't read yet
 pub record Pending (places : List (Option Body)) (from : ℕ) (r : Receiver) : Type 0 where
-  pub highest : after_highest r ≡ from + length places
+  pub highest : vr_h r ≡ from + length places
   pub under : (x : ℕ) → x < from → Is x (got r)
   pub here : (i : ℕ) → place places i ≡ came (has (from + i) (got r)) (body_of r.arrived (from + i))
   pub passed : r.passed ≤ from
@@ -59,8 +59,8 @@ pub record Pending (places : List (Option Body)) (from : ℕ) (r : Receiver) : T
 there : (places : List (Option Body)) (from : ℕ) (r : Receiver) (i : ℕ) → Pending places from r → has (from + i) (got r) ≡ is_kept places i
 there places from r i p = sym (kept_place places i ∙ (ap is_some (p.here i) ∙ came_some (has (from + i) (got r)) (body_of r.arrived (from + i))))
 
-pub expected_is : (places : List (Option Body)) (from : ℕ) (r : Receiver) → Pending places from r → expected r ≡ from + front places
-expected_is places from r p = run_is (got r) (after_highest r) (from + front places) (omega (arith, p.highest, front_le places)) all out
+pub expected_is : (places : List (Option Body)) (from : ℕ) (r : Receiver) → Pending places from r → vr_r r ≡ from + front places
+expected_is places from r p = run_is (got r) (vr_h r) (from + front places) (omega (arith, p.highest, front_le places)) all out
   where
     all : (x : ℕ) → x < from + front places → Is x (got r)
     all x l = ⊎_elim
@@ -68,16 +68,16 @@ expected_is places from r p = run_is (got r) (after_highest r) (from + front pla
         (λ (m : from ≤ x). let at : from + (x - from) ≡ x = omega arith in subst (λ k. Is k (got r)) at (there places from r (x - from) p ∙ front_kept places (x - from) (omega arith)))
         (cases_lt x from)
 
-    out : from + front places < after_highest r → has (from + front places) (got r) ≡ false
+    out : from + front places < vr_h r → has (from + front places) (got r) ≡ false
     out l = there places from r (front places) p ∙ front_gap places
 
 -- the run is read
 pub record Settled (k : Kept) (given : ℕ) (r : Receiver) : Type 0 where
-  pub highest : after_highest r ≡ expected r + length k.places
-  pub places : (i : ℕ) → place k.places i ≡ came (has (expected r + i) (got r)) (body_of r.arrived (expected r + i))
-  pub passed : r.passed ≤ expected r
-  pub trim : k.trim ≡ live (expected r) r.trim
-  pub past : IsPast (expected r) r.trim
+  pub highest : vr_h r ≡ vr_r r + length k.places
+  pub places : (i : ℕ) → place k.places i ≡ came (has (vr_r r + i) (got r)) (body_of r.arrived (vr_r r + i))
+  pub passed : r.passed ≤ vr_r r
+  pub trim : k.trim ≡ live (vr_r r) r.trim
+  pub past : IsPast (vr_r r) r.trim
   pub units : AreUnits given k.units r.reading
 
 past_by : (n k : ℕ) (trim : Option (ℕ × ℕ)) → IsPast k trim → IsPast (k + n) trim
@@ -86,11 +86,11 @@ past_by n k (Some t) past = omega (arith, past)
 
 pub settles : (k : Kept) (from given : ℕ) (r : Receiver) → Pending k.places from r → k.trim ≡ live from r.trim → AreUnits given k.units r.reading → Settled (run_on k) given (read_on r from)
 settles k from given r p t a =
-    let at : expected r ≡ from + front k.places = expected_is k.places from r p in
-    let count : expected r - from ≡ front k.places = omega (arith, at) in
+    let at : vr_r r ≡ from + front k.places = expected_is k.places from r p in
+    let count : vr_r r - from ≡ front k.places = omega (arith, at) in
     record {
       highest = omega (arith, p.highest, at, length-drop (front k.places) k.places, front_le k.places);
-      places = λ i. let e : from + (front k.places + i) ≡ expected r + i = omega (arith, at) in place-drop (front k.places) i k.places ∙ (p.here (front k.places + i) ∙ ap (λ x. came (has x (got r)) (body_of r.arrived x)) e);
+      places = λ i. let e : from + (front k.places + i) ≡ vr_r r + i = omega (arith, at) in place-drop (front k.places) i k.places ∙ (p.here (front k.places + i) ∙ ap (λ x. came (has x (got r)) (body_of r.arrived x)) e);
       passed = omega (arith, p.passed, at);
       trim = trim_run (front k.places) r.trim from k.places k.trim (front_le k.places) p.past t ∙ ap (λ x. live x r.trim) (sym at);
       past = subst (λ x. IsPast x r.trim) (sym at) (past_by (front k.places) from r.trim p.past);
@@ -106,7 +106,7 @@ top-below : (n : ℕ) → top (below n) ≡ n
 top-below zero = refl
 top-below (suc n) = omega (arith, top-below n)
 
-pub highest_got : (r : Receiver) → after_highest r ≡ max r.passed (top (numbers r.arrived))
+pub highest_got : (r : Receiver) → vr_h r ≡ max r.passed (top (numbers r.arrived))
 highest_got r = omega (arith, top-append (below r.passed) (numbers r.arrived), top-below r.passed)
 
 pub has_got : (x : ℕ) (r : Receiver) → has x (got r) ≡ (nat_lt x r.passed || has x (numbers r.arrived))

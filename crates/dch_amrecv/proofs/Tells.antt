@@ -4,7 +4,7 @@ use Rattle.std.specs.Prelude.{◌==◌, nat_lt, if◌then◌else◌}
 use Rattle.std.proofs.lemmas.Bool.Decides.{nat_tests}
 use Rattle.dch_am.specs.Bodies.{Body}
 use Rattle.dch_am.specs.Numbers.{has, less, range, wrapped}
-use Rattle.dch_am.specs.Receiver.{Receiver, after_highest, expected, got}
+use Rattle.dch_am.specs.Receiver.{Receiver, vr_h, vr_r, got}
 use Rattle.dch_am.specs.Status.{MrwAck, fields_of, missing, most, runs, runs_from, status_of, wrapped_pair}
 use Rattle.dch_am.specs.Telling.{after_telling as after_told, due_of, is_due as is_told, plain_due as plain_told, telling, tells_now}
 use Rattle.dch_status.specs.Fields.{status_fields, mrw_status_fields}
@@ -26,7 +26,7 @@ due_same None b = refl
 due_same (Some a) b = refl
 
 plain_same : (h : Holding) (given : ℕ) (r : Receiver) → Stands h given r → plain_due h ≡ plain_told r
-plain_same h given r s = ap₂ (λ w p. w && (p == 0)) s.owed s.prohibit
+plain_same h given r s = ap₂ (λ w p. w && (p == 0)) s.owed s.status_prohibit_timer
 
 pub due_is : (h : Holding) (given : ℕ) (r : Receiver) → Stands h given r → is_due h ≡ is_told r
 due_is h given r s = ap₂ (λ (o : Option (ℕ × ℕ)) b. some_ack o || b) s.ack (plain_same h given r s) ∙ due_same r.ack (plain_told r)
@@ -44,7 +44,7 @@ told_stands h buffer given r s =
       units = s.units;
       ack = refl;
       owed = ap₂ (λ w b. w && not b) s.owed p;
-      prohibit = ap₂ (λ b x. if b then h.rules.status_prohibit else x) p s.prohibit;
+      status_prohibit_timer = ap₂ (λ b x. if b then h.rules.status_prohibit else x) p s.status_prohibit_timer;
       period = ap₂ (λ b x. if b then h.rules.status_period else x) p s.period;
     }
 
@@ -81,13 +81,13 @@ less_vacant from (Some b ∷ ps) xs all =
     rw here (less_vacant (from + 1) ps xs (λ i. let e : from + 1 + i ≡ from + suc i = omega arith in ap (λ k. has k xs) e ∙ all (suc i)))
 
 -- the runs of what is missing
-runs_are : (h : Holding) (given : ℕ) (r : Receiver) → Stands h given r → runs (missing (got r) (expected r) (after_highest r)) ≡ map (shift (expected r)) (gaps h)
+runs_are : (h : Holding) (given : ℕ) (r : Receiver) → Stands h given r → runs (missing (got r) (vr_r r) (vr_h r)) ≡ map (shift (vr_r r)) (gaps h)
 runs_are h given r s =
-    let count : after_highest r - expected r ≡ length h.kept.places = omega (arith, s.highest) in
-    let at : expected r + 0 ≡ expected r = omega arith in
-    ap (λ n. runs (less (range (expected r) n) (got r))) count
-    ∙ (ap runs (less_vacant (expected r) h.kept.places (got r) (λ i. there h given r i s) ∙ (ap (λ k. vacant k h.kept.places) (sym at) ∙ vacant_shift (expected r) 0 h.kept.places))
-    ∙ runs_shift (expected r) (vacant 0 h.kept.places))
+    let count : vr_h r - vr_r r ≡ length h.kept.places = omega (arith, s.highest) in
+    let at : vr_r r + 0 ≡ vr_r r = omega arith in
+    ap (λ n. runs (less (range (vr_r r) n) (got r))) count
+    ∙ (ap runs (less_vacant (vr_r r) h.kept.places (got r) (λ i. there h given r i s) ∙ (ap (λ k. vacant k h.kept.places) (sym at) ∙ vacant_shift (vr_r r) 0 h.kept.places))
+    ∙ runs_shift (vr_r r) (vacant 0 h.kept.places))
 
 length-shift : (m : ℕ) (ps : List (ℕ × ℕ)) → length (map (shift m) ps) ≡ length ps
 length-shift m [] = refl
@@ -105,13 +105,13 @@ lsn_same next low high count false e f = omega arith
 pub pairs_are : (h : Holding) (bits given : ℕ) (r : Receiver) → Stands h given r → map wrapped_pair (status_of bits (got r)).pairs ≡ pairs_told bits h
 pairs_are h bits given r s =
     ap (λ (ps : List (ℕ × ℕ)). map wrapped_pair (take (most bits (length ps)) ps)) (runs_are h given r s)
-    ∙ (ap (λ n. map wrapped_pair (take (most bits n) (map (shift (expected r)) (gaps h)))) (length-shift (expected r) (gaps h))
-    ∙ wrapped_shift (expected r) h.next (most bits (length (gaps h))) (gaps h) s.next)
+    ∙ (ap (λ n. map wrapped_pair (take (most bits n) (map (shift (vr_r r)) (gaps h)))) (length-shift (vr_r r) (gaps h))
+    ∙ wrapped_shift (vr_r r) h.next (most bits (length (gaps h))) (gaps h) s.next)
 
 pub lsn_is : (h : Holding) (bits given : ℕ) (r : Receiver) → Stands h given r → wrapped (status_of bits (got r)).lsn ≡ lsn_told bits h
 lsn_is h bits given r s =
-    ap (λ (n : ℕ). wrapped (if most bits n == n then after_highest r else expected r)) (ap length (runs_are h given r s) ∙ length-shift (expected r) (gaps h))
-    ∙ lsn_same h.next (expected r) (after_highest r) (length h.kept.places) (most bits (length (gaps h)) == length (gaps h)) s.next s.highest
+    ap (λ (n : ℕ). wrapped (if most bits n == n then vr_h r else vr_r r)) (ap length (runs_are h given r s) ∙ length-shift (vr_r r) (gaps h))
+    ∙ lsn_same h.next (vr_r r) (vr_h r) (length h.kept.places) (most bits (length (gaps h)) == length (gaps h)) s.next s.highest
 
 told_same : (h : Holding) (bits given : ℕ) (r : Receiver) (o : Option MrwAck) (plain : Bool) → Stands h given r → (some_ack (sent_ack o) || plain) ≡ true → Some (fields_told (sent_ack o) plain bits h) ≡ said (telling bits r o plain)
 told_same h bits given r None false s due = absurd (cc)

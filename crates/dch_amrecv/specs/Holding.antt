@@ -22,12 +22,12 @@ pub record Holding : Type 0 where
   pub kept : Kept
   pub ack : Option (ℕ × ℕ)
   pub owed : Bool
-  pub prohibit : ℕ
+  pub status_prohibit_timer : ℕ
   pub period : ℕ
 
 -- at opening
 abbrev pub opened : AmRules → ℕ → ℕ → Holding
-opened rules pdu reply = record { rules = rules; pdu = pdu; reply = reply; next = 0; kept = nothing rules.window; ack = None; owed = false; prohibit = 0; period = rules.status_period }
+opened rules pdu reply = record { rules = rules; pdu = pdu; reply = reply; next = 0; kept = nothing rules.window; ack = None; owed = false; status_prohibit_timer = 0; period = rules.status_period }
 
 -- no unit that ended waits
 abbrev pub is_settled : Holding → Bool
@@ -87,7 +87,7 @@ after_control (Some p) h = after_move (move_answer p.0 h) p.0 p.1 h
 
 -- a status is owed and may be written
 abbrev pub plain_due : Holding → Bool
-plain_due h = h.owed && (h.prohibit == 0)
+plain_due h = h.owed && (h.status_prohibit_timer == 0)
 
 abbrev pub some_ack : Option (ℕ × ℕ) → Bool
 some_ack None = false
@@ -103,7 +103,7 @@ after_telling h =
     record h {
       ack = None;
       owed = h.owed && not (plain_due h);
-      prohibit = if plain_due h then h.rules.status_prohibit else h.prohibit;
+      status_prohibit_timer = if plain_due h then h.rules.status_prohibit else h.status_prohibit_timer;
       period = if plain_due h then h.rules.status_period else h.period;
     }
 
@@ -111,7 +111,7 @@ after_telling h =
 abbrev pub after_tick : Holding → Holding
 after_tick h =
     record h {
-      prohibit = h.prohibit - 1;
+      status_prohibit_timer = h.status_prohibit_timer - 1;
       owed = h.owed || (nat_lt 0 h.rules.status_period && (h.period == 1));
       period = if h.period == 1 then h.rules.status_period else h.period - 1;
     }

@@ -4,7 +4,7 @@ use Rattle.dch_rlcpdu.specs.declared.handed.Handed.{Handed}
 use Rattle.dch_am.specs.Bodies.{Body, Reading}
 use Rattle.dch_am.specs.Numbers.{has, wrapped}
 use Rattle.dch_am.specs.Status.{MrwAck, Told, fields_of}
-use Rattle.dch_am.specs.Receiver.{Receiver, after_highest, body_of, expected, got}
+use Rattle.dch_am.specs.Receiver.{Receiver, vr_h, body_of, vr_r, got}
 use Rattle.dch_status.specs.Fields.{Field}
 use Rattle.dch_sar.specs.Taking.{Waiting}
 use Rattle.dch_amrecv.specs.Holding.{Holding}
@@ -43,16 +43,16 @@ pub record AreUnits (given : ℕ) (u : Waiting) (r : Reading) : Type 0 where
 
 -- what is held stands for this receiver, of whose units so many were handed up
 pub record Stands (h : Holding) (given : ℕ) (r : Receiver) : Type 0 where
-  pub next : h.next ≡ wrapped (expected r)
-  pub highest : after_highest r ≡ expected r + length h.kept.places
-  pub places : (i : ℕ) → place h.kept.places i ≡ came (has (expected r + i) (got r)) (body_of r.arrived (expected r + i))
-  pub passed : r.passed ≤ expected r
-  pub trim : h.kept.trim ≡ live (expected r) r.trim
-  pub past : IsPast (expected r) r.trim
+  pub next : h.next ≡ wrapped (vr_r r)
+  pub highest : vr_h r ≡ vr_r r + length h.kept.places
+  pub places : (i : ℕ) → place h.kept.places i ≡ came (has (vr_r r + i) (got r)) (body_of r.arrived (vr_r r + i))
+  pub passed : r.passed ≤ vr_r r
+  pub trim : h.kept.trim ≡ live (vr_r r) r.trim
+  pub past : IsPast (vr_r r) r.trim
   pub units : AreUnits given h.kept.units r.reading
   pub ack : h.ack ≡ sent_ack r.ack
   pub owed : h.owed ≡ r.owed
-  pub prohibit : h.prohibit ≡ r.prohibit
+  pub status_prohibit_timer : h.status_prohibit_timer ≡ r.status_prohibit_timer
   pub period : h.period ≡ r.period
 
 -- how many units were handed up after an answer

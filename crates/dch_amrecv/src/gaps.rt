@@ -28,7 +28,7 @@ pub fn write_gaps(
     let mut more = 0;
     for i in 1..places {
         if !is_taken(ring, from + i) {
-            if goes_on(first, more, i) {
+            if continues(first, more, i) {
                 more += 1;
             } else {
                 write_gap(out, count, first, more);
@@ -43,7 +43,7 @@ pub fn write_gaps(
 }
 
 /// A run of a place and some that follow it goes on with another.
-fn goes_on(first: usize, more: usize, i: usize) -> bool
+fn continues(first: usize, more: usize, i: usize) -> bool
     requires { first + more < 2048 }
     ensures { result ≡ ((i == first + more + 1) && nat_lt more 15) }
 {

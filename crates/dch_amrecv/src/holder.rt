@@ -27,7 +27,7 @@ pub struct Holder {
     buffer: RxBuffer,
     ack: Option<(u16, u8)>,
     owed: bool,
-    prohibit: u16,
+    status_prohibit_timer: u16,
     period: u16,
 }
 
@@ -37,7 +37,7 @@ impl Model for Holder {
 
     ghost Value = { Holding };
 
-    ghost view = { λ h. record { rules = h.rules; pdu = h.pdu; reply = h.reply; next = h.next; kept = h.buffer.kept; ack = h.ack; owed = h.owed; prohibit = h.prohibit; period = h.period } };
+    ghost view = { λ h. record { rules = h.rules; pdu = h.pdu; reply = h.reply; next = h.next; kept = h.buffer.kept; ack = h.ack; owed = h.owed; status_prohibit_timer = h.status_prohibit_timer; period = h.period } };
 
     ghost invariant = { λ h. (h.next < 4096) × (h.buffer.kept.capacity ≡ h.rules.window) × (h.rules.window ≤ 2048) × (h.pdu ≤ 126) × (6 ≤ h.reply) × (h.reply ≤ 126) × IfSome h.ack (λ a. (a.0 < 4096) × (a.1 < 16)) × (h.buffer.pdu ≡ h.pdu) };
 }
@@ -61,7 +61,7 @@ impl Holder {
             buffer,
             ack: None,
             owed: false,
-            prohibit: 0,
+            status_prohibit_timer: 0,
             period,
         })
     }
@@ -133,7 +133,7 @@ impl Holder {
     pub fn is_due(&self) -> bool
         ensures { result ≡ is_due self.now }
     {
-        self.ack.is_some() || (self.owed && self.prohibit == 0)
+        self.ack.is_some() || (self.owed && self.status_prohibit_timer == 0)
     }
 
     /// Goes back to what it held at opening.
@@ -144,7 +144,7 @@ impl Holder {
         self.buffer.clear();
         self.ack = None;
         self.owed = false;
-        self.prohibit = 0;
+        self.status_prohibit_timer = 0;
         self.period = self.rules.status_period;
     }
 
@@ -153,7 +153,7 @@ impl Holder {
         ensures { self.new ≡ after_tick self.old }
     {
         let over = self.period == 1;
-        self.prohibit = self.prohibit.saturating_sub(1);
+        self.status_prohibit_timer = self.status_prohibit_timer.saturating_sub(1);
         self.owed = self.owed || (self.rules.status_period > 0 && over);
         self.period = if over {
             self.rules.status_period
@@ -171,9 +171,9 @@ impl Holder {
         ensures after { self.new ≡ after_telling self.old }
     {
         self.write(out);
-        if self.owed && self.prohibit == 0 {
+        if self.owed && self.status_prohibit_timer == 0 {
             self.owed = false;
-            self.prohibit = self.rules.status_prohibit;
+            self.status_prohibit_timer = self.rules.status_prohibit;
             self.period = self.rules.status_period;
         }
         self.ack = None;
@@ -192,7 +192,7 @@ impl Holder {
                 let (count, lsn) = self.gaps(8 * self.reply, &mut pairs);
                 write_ack(&pairs[..count], lsn, out);
             }
-            Some((sn, n)) if self.owed && self.prohibit == 0 => {
+            Some((sn, n)) if self.owed && self.status_prohibit_timer == 0 => {
                 let mut pairs = [(0, 0); 62];
                 let (count, lsn) = self.gaps(8 * self.reply - 20, &mut pairs);
                 write_mrw_status(n, sn, &pairs[..count], lsn, out);

@@ -4,7 +4,7 @@
 mod buffer;
 mod gaps;
 mod holder;
-mod moves;
+mod mrw;
 mod places;
 mod reading;
 mod recv;
@@ -14,4 +14,3 @@ mod window;
 
 pub use dch_am::{MrwTaken, Taken};
 pub use recv::AmRecv;
-pub use window::RxWindow;

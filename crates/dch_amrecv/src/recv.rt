@@ -13,7 +13,7 @@ ghost use Rattle.dch_amrecv.specs.Standing.{IsSame, Stands, given_after, said};
 ghost use Rattle.dch_am.specs.Texts.{IsHeard, IsTold};
 
 use crate::holder::Holder;
-use crate::moves::last_move;
+use crate::mrw::last_move;
 use dch_am::{MrwTaken, Taken};
 use dch_bits::NoMemory;
 use dch_rlcpdu::{Body, Handed};

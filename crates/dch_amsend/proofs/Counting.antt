@@ -7,7 +7,7 @@ use Rattle.dch_flight.specs.Flights.{at, built, first_wanted, sent_once, wanted_
 use Rattle.dch_am.specs.Numbers.{has}
 use Rattle.dch_am.specs.Rules.{Rules}
 use Rattle.dch_am.specs.Bodies.{Unsent, after_body, ends_of, is_left, next_body}
-use Rattle.dch_am.specs.Sender.{Sender, first_open, next_new}
+use Rattle.dch_am.specs.Sender.{Sender, vt_a, vt_s}
 use Rattle.dch_am.specs.Building.{Choice, Again as Requested, New as Fresh, Last as Latest, NoPdu as Nothing, after_build, after_choice, again, anew, builds_within, choice, is_pdu, once_more, passes, polls}
 use Rattle.dch_sent.specs.declared.line.Pick.TheVariants.{Again, New, Last, NoPdu}
 use Rattle.dch_sent.specs.Line.{Line}
@@ -18,55 +18,55 @@ use Rattle.dch_sent.proofs.Sending.{again_sends, last_sends, new_sends}
 use Rattle.dch_unsent.specs.Keeping.{fills}
 use Rattle.dch_amsend.specs.Counting.{builds_of}
 
--- one that is wanted is built
-wanted_less : (xs : List Flown) (i : ℕ) (f : Flown) → i < length xs → (at xs i).wanted ≡ true → f.wanted ≡ false → wanted_in xs ≡ suc (wanted_in (set xs i f))
+-- one that is requested is built
+wanted_less : (xs : List Flown) (i : ℕ) (f : Flown) → i < length xs → (at xs i).requested ≡ true → f.requested ≡ false → wanted_in xs ≡ suc (wanted_in (set xs i f))
 wanted_less [] i f l w n = absurd (omega arith)
 wanted_less (x ∷ xs) zero f l w n = ap (λ b. cond b (suc (wanted_in xs)) (wanted_in xs)) w ∙ ap (λ b. suc (cond b (suc (wanted_in xs)) (wanted_in xs))) (sym n)
-wanted_less (x ∷ xs) (suc i) f l w n = go x.wanted (wanted_less xs i f (omega arith) w n)
+wanted_less (x ∷ xs) (suc i) f l w n = go x.requested (wanted_less xs i f (omega arith) w n)
   where
     go : (b : Bool) → wanted_in xs ≡ suc (wanted_in (set xs i f)) → cond b (suc (wanted_in xs)) (wanted_in xs) ≡ suc (cond b (suc (wanted_in (set xs i f))) (wanted_in (set xs i f)))
     go true e = ap suc e
     go false e = e
 
--- one that isn't wanted is built again, or is new
-wanted_same : (xs : List Flown) (i : ℕ) (f : Flown) → i < length xs → (at xs i).wanted ≡ false → f.wanted ≡ false → wanted_in (set xs i f) ≡ wanted_in xs
+-- one that isn't requested is built again, or is new
+wanted_same : (xs : List Flown) (i : ℕ) (f : Flown) → i < length xs → (at xs i).requested ≡ false → f.requested ≡ false → wanted_in (set xs i f) ≡ wanted_in xs
 wanted_same [] i f l w n = absurd (omega arith)
 wanted_same (x ∷ xs) zero f l w n = ap (λ b. cond b (suc (wanted_in xs)) (wanted_in xs)) n ∙ ap (λ b. cond b (suc (wanted_in xs)) (wanted_in xs)) (sym w)
-wanted_same (x ∷ xs) (suc i) f l w n = ap (λ k. cond x.wanted (suc k) k) (wanted_same xs i f (omega arith) w n)
+wanted_same (x ∷ xs) (suc i) f l w n = ap (λ k. cond x.requested (suc k) k) (wanted_same xs i f (omega arith) w n)
 
-wanted_new : (xs : List Flown) (f : Flown) → f.wanted ≡ false → wanted_in (xs ++ f ∷ []) ≡ wanted_in xs
+wanted_new : (xs : List Flown) (f : Flown) → f.requested ≡ false → wanted_in (xs ++ f ∷ []) ≡ wanted_in xs
 wanted_new [] f n = ap (λ b. cond b 1 0) n
-wanted_new (x ∷ xs) f n = ap (λ k. cond x.wanted (suc k) k) (wanted_new xs f n)
+wanted_new (x ∷ xs) f n = ap (λ k. cond x.requested (suc k) k) (wanted_new xs f n)
 
--- the first that is wanted, and none
-first_is_wanted : (xs : List Flown) → first_wanted xs < length xs → (at xs (first_wanted xs)).wanted ≡ true
+-- the first that is requested, and none
+first_is_wanted : (xs : List Flown) → first_wanted xs < length xs → (at xs (first_wanted xs)).requested ≡ true
 first_is_wanted [] l = absurd (omega arith)
-first_is_wanted (x ∷ xs) l = go x.wanted refl l (λ h. first_is_wanted xs h)
+first_is_wanted (x ∷ xs) l = go x.requested refl l (λ h. first_is_wanted xs h)
   where
-    go : (b : Bool) → x.wanted ≡ b → cond b 0 (suc (first_wanted xs)) < suc (length xs) → (first_wanted xs < length xs → (at xs (first_wanted xs)).wanted ≡ true) → (at (x ∷ xs) (cond b 0 (suc (first_wanted xs)))).wanted ≡ true
+    go : (b : Bool) → x.requested ≡ b → cond b 0 (suc (first_wanted xs)) < suc (length xs) → (first_wanted xs < length xs → (at xs (first_wanted xs)).requested ≡ true) → (at (x ∷ xs) (cond b 0 (suc (first_wanted xs)))).requested ≡ true
     go true e h rest = e
     go false e h rest = rest (omega arith)
 
 pub none_wanted : (xs : List Flown) → length xs ≤ first_wanted xs → wanted_in xs ≡ 0
 none_wanted [] l = refl
-none_wanted (x ∷ xs) l = go x.wanted l (λ h. none_wanted xs h)
+none_wanted (x ∷ xs) l = go x.requested l (λ h. none_wanted xs h)
   where
     go : (b : Bool) → suc (length xs) ≤ cond b 0 (suc (first_wanted xs)) → (length xs ≤ first_wanted xs → wanted_in xs ≡ 0) → cond b (suc (wanted_in xs)) (wanted_in xs) ≡ 0
     go true h rest = absurd (omega arith)
     go false h rest = rest (omega arith)
 
-pub none_at : (xs : List Flown) (i : ℕ) → i < length xs → length xs ≤ first_wanted xs → (at xs i).wanted ≡ false
+pub none_at : (xs : List Flown) (i : ℕ) → i < length xs → length xs ≤ first_wanted xs → (at xs i).requested ≡ false
 none_at [] i l none = absurd (omega arith)
-none_at (x ∷ xs) i l none = go x.wanted refl none i l (λ j a b. none_at xs j a b)
+none_at (x ∷ xs) i l none = go x.requested refl none i l (λ j a b. none_at xs j a b)
   where
-    go : (b : Bool) → x.wanted ≡ b → suc (length xs) ≤ cond b 0 (suc (first_wanted xs)) → (i : ℕ) → i < suc (length xs) → ((j : ℕ) → j < length xs → length xs ≤ first_wanted xs → (at xs j).wanted ≡ false) → (at (x ∷ xs) i).wanted ≡ false
+    go : (b : Bool) → x.requested ≡ b → suc (length xs) ≤ cond b 0 (suc (first_wanted xs)) → (i : ℕ) → i < suc (length xs) → ((j : ℕ) → j < length xs → length xs ≤ first_wanted xs → (at xs j).requested ≡ false) → (at (x ∷ xs) i).requested ≡ false
     go true e h i l rest = absurd (omega arith)
     go false e h zero l rest = e
     go false e h (suc i) l rest = rest i (omega arith) (omega arith)
 
 -- a PDU pays the poll that is owed
 paid : (rules : Rules) (s : Sender) (reason : Bool) → cond (polls rules s reason) false s.owed ≡ false
-paid rules s reason = go reason s.owed (passes rules.poll_pdus (s.builds - 1) s.builds) (nat_lt 0 rules.poll_window && nat_le (rules.poll_window * rules.window) (100 * (next_new s - first_open s)))
+paid rules s reason = go reason s.owed (passes rules.poll_pdus (s.builds - 1) s.builds) (nat_lt 0 rules.poll_window && nat_le (rules.poll_window * rules.window) (100 * (vt_s s - vt_a s)))
   where
     go : (a b c e : Bool) → cond (a || b || c || e) false b ≡ false
     go true b c e = refl
@@ -131,10 +131,10 @@ count_last : (n flying : ℕ) → 0 < flying → suc (min n (builds_of 0 0 false
 count_last n flying one = let first : suc (min n 0) ≡ min (suc n) 1 = omega arith in first ∙ ap (λ b. min (suc n) (cond b 1 0)) (sym (lt-ltb 0 flying one))
 
 -- what a build leaves: the poll is paid, and nothing else counts
-record Left (rules : Rules) (l : Line) (s : Sender) (wanted flying : ℕ) (q : Unsent) : Type 0 where
+record Left (rules : Rules) (l : Line) (s : Sender) (requested flying : ℕ) (q : Unsent) : Type 0 where
   stands : Stands rules l s
   none_owed : s.owed ≡ false
-  wanted_is : wanted_in l.flown ≡ wanted
+  wanted_is : wanted_in l.flown ≡ requested
   flying_is : length l.flown ≡ flying
   unsent_is : s.unsent ≡ q
 
@@ -142,15 +142,15 @@ record Left (rules : Rules) (l : Line) (s : Sender) (wanted flying : ℕ) (q : U
 abbrev counted : ℕ → Rules → ℕ → Line → Sender → ℕ
 counted n rules d l s = min n (builds_of (wanted_in l.flown) (min (rules.window - length l.flown) (fills n d s.unsent)) s.owed (length l.flown))
 
-left_counted : (n : ℕ) (rules : Rules) (d : ℕ) (l : Line) (s : Sender) (wanted flying : ℕ) (q : Unsent) → Left rules l s wanted flying q → builds_within n rules d s ≡ min n (builds_of (wanted_in l.flown) (min (rules.window - length l.flown) (fills n d s.unsent)) s.owed (length l.flown)) → builds_within n rules d s ≡ min n (builds_of wanted (min (rules.window - flying) (fills n d q)) false flying)
-left_counted n rules d l s wanted flying q is e =
+left_counted : (n : ℕ) (rules : Rules) (d : ℕ) (l : Line) (s : Sender) (requested flying : ℕ) (q : Unsent) → Left rules l s requested flying q → builds_within n rules d s ≡ min n (builds_of (wanted_in l.flown) (min (rules.window - length l.flown) (fills n d s.unsent)) s.owed (length l.flown)) → builds_within n rules d s ≡ min n (builds_of requested (min (rules.window - flying) (fills n d q)) false flying)
+left_counted n rules d l s requested flying q is e =
     e ∙ (ap₂ (λ (w : ℕ) (k : ℕ). min n (builds_of w (min (rules.window - k) (fills n d s.unsent)) s.owed k)) is.wanted_is is.flying_is
-    ∙ ap₂ (λ (x : Unsent) (b : Bool). min n (builds_of wanted (min (rules.window - flying) (fills n d x)) b flying)) is.unsent_is is.none_owed)
+    ∙ ap₂ (λ (x : Unsent) (b : Bool). min n (builds_of requested (min (rules.window - flying) (fills n d x)) b flying)) is.unsent_is is.none_owed)
 
-again_left : (rules : Rules) (d : ℕ) (l : Line) (s : Sender) → first_wanted l.flown < length l.flown → Stands rules l s → (w : ℕ) → wanted_in l.flown ≡ suc w → Left rules (again_line (first_wanted l.flown) l) (after_choice (Requested (first_open s + first_wanted l.flown)) rules d s) w (length l.flown) s.unsent
+again_left : (rules : Rules) (d : ℕ) (l : Line) (s : Sender) → first_wanted l.flown < length l.flown → Stands rules l s → (w : ℕ) → wanted_in l.flown ≡ suc w → Left rules (again_line (first_wanted l.flown) l) (after_choice (Requested (vt_a s + first_wanted l.flown)) rules d s) w (length l.flown) s.unsent
 again_left rules d l s inside is w e = record {
   stands = (again_sends rules l s (first_wanted l.flown) d inside is).stands;
-  none_owed = paid rules (again s (first_open s + first_wanted l.flown)) _;
+  none_owed = paid rules (again s (vt_a s + first_wanted l.flown)) _;
   wanted_is = omega (arith, e, wanted_less l.flown (first_wanted l.flown) (built (at l.flown (first_wanted l.flown))) inside (first_is_wanted l.flown inside) refl);
   flying_is = length-set l.flown (first_wanted l.flown) (built (at l.flown (first_wanted l.flown)));
   unsent_is = refl;
@@ -158,21 +158,21 @@ again_left rules d l s inside is w e = record {
 
 new_left : (rules : Rules) (d : ℕ) (l : Line) (s : Sender) → length l.flown < rules.window → Stands rules l s → Left rules (new_line (sent_once [] false (ends_of (next_body d s.unsent)) false) (is_left (after_body d s.unsent)) l) (after_choice Fresh rules d s) (wanted_in l.flown) (length l.flown + 1) (after_body d s.unsent)
 new_left rules d l s room is = record {
-  stands = (new_sends rules l s (sent_once [] false (ends_of (next_body d s.unsent)) false) (is_left (after_body d s.unsent)) d room (record { acked = refl; wanted = refl; named = refl; builds = refl; ends_are = refl }) refl is).stands;
+  stands = (new_sends rules l s (sent_once [] false (ends_of (next_body d s.unsent)) false) (is_left (after_body d s.unsent)) d room (record { acked = refl; requested = refl; named = refl; builds = refl; ends_are = refl }) refl is).stands;
   none_owed = paid rules (anew d s) _;
   wanted_is = wanted_new l.flown (sent_once [] false (ends_of (next_body d s.unsent)) false) refl;
   flying_is = length-append l.flown (sent_once [] false (ends_of (next_body d s.unsent)) false ∷ []);
   unsent_is = refl;
 }
 
--- the last PDU's number, and that it isn't requested where none is wanted
-pub last_is : (rules : Rules) (l : Line) (s : Sender) → 0 < length l.flown → Stands rules l s → first_open s + (length l.flown - 1) ≡ next_new s - 1
+-- the last PDU's number, and that it isn't requested where none is requested
+pub last_is : (rules : Rules) (l : Line) (s : Sender) → 0 < length l.flown → Stands rules l s → vt_a s + (length l.flown - 1) ≡ vt_s s - 1
 last_is rules l s one is = omega (arith, is.flying)
 
-pub last_not : (rules : Rules) (l : Line) (s : Sender) → 0 < length l.flown → length l.flown ≤ first_wanted l.flown → Stands rules l s → has (first_open s + (length l.flown - 1)) s.requested ≡ false
-last_not rules l s one none is = sym (is.flown (length l.flown - 1) (omega arith)).wanted ∙ none_at l.flown (length l.flown - 1) (omega arith) none
+pub last_not : (rules : Rules) (l : Line) (s : Sender) → 0 < length l.flown → length l.flown ≤ first_wanted l.flown → Stands rules l s → has (vt_a s + (length l.flown - 1)) s.requested ≡ false
+last_not rules l s one none is = sym (is.flown (length l.flown - 1) (omega arith)).requested ∙ none_at l.flown (length l.flown - 1) (omega arith) none
 
-last_left : (rules : Rules) (d : ℕ) (l : Line) (s : Sender) → 0 < length l.flown → length l.flown ≤ first_wanted l.flown → Stands rules l s → Left rules (last_line (length l.flown - 1) l) (after_choice (Latest (first_open s + (length l.flown - 1))) rules d s) (wanted_in l.flown) (length l.flown) s.unsent
+last_left : (rules : Rules) (d : ℕ) (l : Line) (s : Sender) → 0 < length l.flown → length l.flown ≤ first_wanted l.flown → Stands rules l s → Left rules (last_line (length l.flown - 1) l) (after_choice (Latest (vt_a s + (length l.flown - 1))) rules d s) (wanted_in l.flown) (length l.flown) s.unsent
 last_left rules d l s one none is = record {
   stands = (last_sends rules l s (length l.flown - 1) d (omega arith) (last_is rules l s one is) (last_not rules l s one none is) is).stands;
   none_owed = paid rules (once_more s) false;
@@ -186,7 +186,7 @@ record IsChoice (rules : Rules) (l : Line) (s : Sender) (a b c : Bool) : Type 0 
   first : nat_lt (first_wanted l.flown) (length l.flown) ≡ a
   second : (nat_lt (length l.flown) rules.window && is_left s.unsent) ≡ b
   third : (s.owed && nat_lt 0 (length l.flown)) ≡ c
-  choice_is : choice rules s ≡ cond a (Requested (first_open s + first_wanted l.flown)) (cond b Fresh (cond c (Latest (first_open s + (length l.flown - 1))) Nothing))
+  choice_is : choice rules s ≡ cond a (Requested (vt_a s + first_wanted l.flown)) (cond b Fresh (cond c (Latest (vt_a s + (length l.flown - 1))) Nothing))
 
 chosen_cond : (low : ℕ) (a b c : Bool) (x z : ℕ) → chosen low (cond a (Again x) (cond b New (cond c (Last z) NoPdu))) ≡ cond a (Requested (low + x)) (cond b Fresh (cond c (Latest (low + z)) Nothing))
 chosen_cond low true b c x z = refl
@@ -201,9 +201,9 @@ is_choice rules l s a b c is e1 e2 e3 = record {
   third = e3;
   choice_is =
       sym (picked_is rules l s (is_left s.unsent) is refl)
-      ∙ (chosen_cond (first_open s) (nat_lt (first_wanted l.flown) (length l.flown)) (nat_lt (length l.flown) l.window && is_left s.unsent) (l.owed && nat_lt 0 (length l.flown)) (first_wanted l.flown) (length l.flown - 1)
-      ∙ (ap₂ (λ x y. cond x (Requested (first_open s + first_wanted l.flown)) (cond y Fresh (cond (l.owed && nat_lt 0 (length l.flown)) (Latest (first_open s + (length l.flown - 1))) Nothing))) e1 (ap (λ w. nat_lt (length l.flown) w && is_left s.unsent) is.window ∙ e2)
-      ∙ ap (λ z. cond a (Requested (first_open s + first_wanted l.flown)) (cond b Fresh (cond z (Latest (first_open s + (length l.flown - 1))) Nothing))) (ap (λ o. o && nat_lt 0 (length l.flown)) is.owed ∙ e3)));
+      ∙ (chosen_cond (vt_a s) (nat_lt (first_wanted l.flown) (length l.flown)) (nat_lt (length l.flown) l.window && is_left s.unsent) (l.owed && nat_lt 0 (length l.flown)) (first_wanted l.flown) (length l.flown - 1)
+      ∙ (ap₂ (λ x y. cond x (Requested (vt_a s + first_wanted l.flown)) (cond y Fresh (cond (l.owed && nat_lt 0 (length l.flown)) (Latest (vt_a s + (length l.flown - 1))) Nothing))) e1 (ap (λ w. nat_lt (length l.flown) w && is_left s.unsent) is.window ∙ e2)
+      ∙ ap (λ z. cond a (Requested (vt_a s + first_wanted l.flown)) (cond b Fresh (cond z (Latest (vt_a s + (length l.flown - 1))) Nothing))) (ap (λ o. o && nat_lt 0 (length l.flown)) is.owed ∙ e3)));
 }
 
 none_fresh : (m d len room : ℕ) (q : Unsent) → (nat_lt len room && is_left q) ≡ false → min (room - len) (fills m d q) ≡ 0
@@ -227,9 +227,9 @@ counts (suc n) rules d l s is = go (nat_lt (first_wanted l.flown) (length l.flow
         let inside : first_wanted l.flown < length l.flown = ltb-true _ _ ch.first in
         let w : ℕ = wanted_in (set l.flown (first_wanted l.flown) (built (at l.flown (first_wanted l.flown)))) in
         let e : wanted_in l.flown ≡ suc w = wanted_less l.flown (first_wanted l.flown) (built (at l.flown (first_wanted l.flown))) inside (first_is_wanted l.flown inside) refl in
-        let t : Sender = after_choice (Requested (first_open s + first_wanted l.flown)) rules d s in
+        let t : Sender = after_choice (Requested (vt_a s + first_wanted l.flown)) rules d s in
         let lf : Left rules (again_line (first_wanted l.flown) l) t w (length l.flown) s.unsent = again_left rules d l s inside is w e in
-        one_more n rules d s (Requested (first_open s + first_wanted l.flown)) ch.choice_is refl
+        one_more n rules d s (Requested (vt_a s + first_wanted l.flown)) ch.choice_is refl
         ∙ (ap suc (left_counted n rules d (again_line (first_wanted l.flown) l) t w (length l.flown) s.unsent lf (rest (again_line (first_wanted l.flown) l) t lf.stands))
         ∙ (count_again n w (rules.window - length l.flown) (fills n d s.unsent) (fills (suc n) d s.unsent) (length l.flown) s.owed (fills_next n d s.unsent)
         ∙ ap (λ k. min (suc n) (builds_of k (min (rules.window - length l.flown) (fills (suc n) d s.unsent)) s.owed (length l.flown))) (sym e)))
@@ -251,9 +251,9 @@ counts (suc n) rules d l s is = go (nat_lt (first_wanted l.flown) (length l.flow
         let none : wanted_in l.flown ≡ 0 = none_wanted l.flown first in
         let parts = and_parts _ _ ch.third in
         let one : 0 < length l.flown = ltb-true _ _ parts.1 in
-        let t : Sender = after_choice (Latest (first_open s + (length l.flown - 1))) rules d s in
+        let t : Sender = after_choice (Latest (vt_a s + (length l.flown - 1))) rules d s in
         let lf : Left rules (last_line (length l.flown - 1) l) t (wanted_in l.flown) (length l.flown) s.unsent = last_left rules d l s one first is in
-        one_more n rules d s (Latest (first_open s + (length l.flown - 1))) ch.choice_is refl
+        one_more n rules d s (Latest (vt_a s + (length l.flown - 1))) ch.choice_is refl
         ∙ (ap suc (left_counted n rules d (last_line (length l.flown - 1) l) t (wanted_in l.flown) (length l.flown) s.unsent lf (rest (last_line (length l.flown - 1) l) t lf.stands))
         ∙ (ap₂ (λ w k. suc (min n (builds_of w k false (length l.flown)))) none (none_fresh n d (length l.flown) rules.window s.unsent ch.second)
         ∙ (count_last n (length l.flown) one

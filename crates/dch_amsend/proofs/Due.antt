@@ -14,7 +14,7 @@ use Rattle.dch_rlcum.proofs.Following.{some_follow}
 use Rattle.dch_amsend.specs.Outgoing.{IsOutgoing, Outgoing, available_of, can_build}
 use Rattle.dch_amsend.proofs.Events.{available_is}
 
--- a PDU can be built where one is wanted, a new one can follow, or the last one is to go again
+-- a PDU can be built where one is requested, a new one can follow, or the last one is to go again
 pub can_build_is : (v : Outgoing) → (nat_lt 0 (wanted_in v.line.flown) || ((nat_lt (length v.line.flown) v.line.window && is_unsent v.waiting.units) || (v.line.owed && nat_lt 0 (length v.line.flown)))) ≡ can_build v
 can_build_is v = go (nat_lt 0 (wanted_in v.line.flown)) (nat_lt (length v.line.flown) v.line.window) (is_unsent v.waiting.units) (v.line.owed && nat_lt 0 (length v.line.flown)) refl refl refl refl
   where

@@ -17,7 +17,7 @@ use Rattle.dch_am.specs.Listed.{IsListed}
 use Rattle.dch_am.specs.Numbers.{has, wrapped}
 use Rattle.dch_am.specs.Restart.{begun, restarted_sender}
 use Rattle.dch_am.specs.Rules.{Rules}
-use Rattle.dch_am.specs.Sender.{Sender, after_offer, first_open, next_new, offered}
+use Rattle.dch_am.specs.Sender.{Sender, after_offer, vt_a, vt_s, offered}
 use Rattle.dch_am.specs.Short.{IsShort}
 use Rattle.dch_am.proofs.Listing.{Alike, alike, alike_answer, alike_place, listed_builds, listed_offers}
 use Rattle.dch_am.proofs.Reading.{cut_next, cut_unit}
@@ -47,7 +47,7 @@ use Rattle.dch_amsend.proofs.Framing.{framed_is}
 
 -- a PDU that is sent alike has the same body
 has_alike : (d : ℕ) (f g : Flown) (b : Body) → IsAlike f g → Has d g b → Has d f b
-has_alike d f g b a h = record { text = a.text ∙ h.text; full = a.full ∙ h.full; ends = a.ends ∙ h.ends; goes_on = a.goes_on ∙ h.goes_on; short = h.short }
+has_alike d f g b a h = record { text = a.text ∙ h.text; full = a.full ∙ h.full; ends = a.ends ∙ h.ends; continues = a.continues ∙ h.continues; short = h.short }
 
 -- PDUs in front leave, or are marked, and nothing else is sent
 pub line_goes : (rules : Rules) (d : ℕ) (v : Outgoing) (s now : Sender) (l : Line) → IsOutgoing rules d v s → Stands rules l now → AreKept v.line.flown l.flown → Alike s now → IsOutgoing rules d (with_line l v) now
@@ -64,9 +64,9 @@ line_goes rules d v s now l is stands kept same = record {
   cut = subst (λ us. IsCut us now.unsent now.bodies) (sym same.accepted) (subst (λ q. IsCut s.accepted q now.bodies) (sym same.unsent) (subst (λ bs. IsCut s.accepted s.unsent bs) (sym same.bodies) is.cut));
   flown = λ i inside.
       let place : ℕ = length v.line.flown - length l.flown + i in
-      let number : first_open s + (length v.line.flown - length l.flown + i) ≡ first_open now + i = omega (arith, kept.few, is.line.flying, stands.flying, ap length same.bodies) in
-      let body : body_at s.bodies (first_open s + (length v.line.flown - length l.flown + i)) ≡ body_at now.bodies (first_open now + i) = ap₂ (λ bs k. body_at bs k) (sym same.bodies) number in
-      subst (Has d (at l.flown i)) body (has_alike d (at l.flown i) (at v.line.flown place) (body_at s.bodies (first_open s + place)) (kept.same i inside) (is.flown place (omega (arith, kept.few))));
+      let number : vt_a s + (length v.line.flown - length l.flown + i) ≡ vt_a now + i = omega (arith, kept.few, is.line.flying, stands.flying, ap length same.bodies) in
+      let body : body_at s.bodies (vt_a s + (length v.line.flown - length l.flown + i)) ≡ body_at now.bodies (vt_a now + i) = ap₂ (λ bs k. body_at bs k) (sym same.bodies) number in
+      subst (Has d (at l.flown i)) body (has_alike d (at l.flown i) (at v.line.flown place) (body_at s.bodies (vt_a s + place)) (kept.same i inside) (is.flown place (omega (arith, kept.few))));
 }
 
 -- a status
@@ -74,9 +74,9 @@ pub hears_goes : (rules : Rules) (d : ℕ) (v : Outgoing) (s : Sender) (l : Line
 hears_goes rules d v s l fields is stands kept = line_goes rules d v s (after_fields rules s fields) l is stands kept (alike_answer s fields (status_answer rules s fields))
 
 -- the beginning of a discard
-pub discards_goes : (rules : Rules) (d : ℕ) (v : Outgoing) (s : Sender) (l : Line) (place n i : ℕ) → place < length v.line.flown → l ≡ discarding place n v.line → IsOutgoing rules d v s → IsOutgoing rules d (with_line l v) (discards_at s i (Some (first_open s + place, n)))
-discards_goes rules d v s l place n i inside e is = subst (λ x. IsOutgoing rules d (with_line x v) (discards_at s i (Some (first_open s + place, n)))) (sym e)
-    (line_goes rules d v s (discards_at s i (Some (first_open s + place, n))) (discarding place n v.line) is (discards_stand rules v.line s place n i inside is.line) (discarding_kept place n v.line) (alike_place s i (Some (first_open s + place, n))))
+pub discards_goes : (rules : Rules) (d : ℕ) (v : Outgoing) (s : Sender) (l : Line) (place n i : ℕ) → place < length v.line.flown → l ≡ discarding place n v.line → IsOutgoing rules d v s → IsOutgoing rules d (with_line l v) (discards_at s i (Some (vt_a s + place, n)))
+discards_goes rules d v s l place n i inside e is = subst (λ x. IsOutgoing rules d (with_line x v) (discards_at s i (Some (vt_a s + place, n)))) (sym e)
+    (line_goes rules d v s (discards_at s i (Some (vt_a s + place, n))) (discarding place n v.line) is (discards_stand rules v.line s place n i inside is.line) (discarding_kept place n v.line) (alike_place s i (Some (vt_a s + place, n))))
 
 -- how many PDUs could be built
 cut_short : (n w k f : ℕ) (b : Bool) → 0 < n → min n (builds_of (min n w) k b f) ≡ min n (builds_of w k b f)
@@ -110,29 +110,29 @@ pub built_by : (rules : Rules) (d : ℕ) (s : Sender) (out : List ℕ) (ends : O
 built_by rules d s out ends v c e is = let b : Built rules d s out ends v (choice rules s) = subst (Built rules d s out ends v) e is in (b.text, b.new, b.goes, b.short)
 
 -- a PDU in flight is built again
-pub again_goes : (rules : Rules) (d : ℕ) (v now : Outgoing) (s : Sender) (place : ℕ) (out : List ℕ) → place < length v.line.flown → IsOutgoing rules d v s → now ≡ with_line (again_line place v.line) v → out ≡ framed (number_at place v.line) (again_poll place v.line) (at v.line.flown place).text v.size → Built rules d s out None now (Requested (first_open s + place))
+pub again_goes : (rules : Rules) (d : ℕ) (v now : Outgoing) (s : Sender) (place : ℕ) (out : List ℕ) → place < length v.line.flown → IsOutgoing rules d v s → now ≡ with_line (again_line place v.line) v → out ≡ framed (number_at place v.line) (again_poll place v.line) (at v.line.flown place).text v.size → Built rules d s out None now (Requested (vt_a s + place))
 again_goes rules d v now s place out inside is e text =
     let sends = again_sends rules v.line s place d inside is.line in
-    let h : Has d (at v.line.flown place) (body_at s.bodies (first_open s + place)) = is.flown place inside in
+    let h : Has d (at v.line.flown place) (body_at s.bodies (vt_a s + place)) = is.flown place inside in
     record {
-      text = text ∙ (framed_is d (body_at s.bodies (first_open s + place)) (at v.line.flown place).text (number_at place v.line) v.size (again_poll place v.line) h.text (length-content d (body_at s.bodies (first_open s + place)) h.short) is.size
-          ∙ (ap₂ (λ n p. am_pdu n p (marks_of d (body_at s.bodies (first_open s + place))) (carried (body_at s.bodies (first_open s + place))) v.size) (number_is rules v.line s place (omega arith) is.line) sends.poll
-          ∙ ap (am_pdu (wrapped (first_open s + place)) (polls_at (Requested (first_open s + place)) rules d s) (marks_of d (body_at s.bodies (first_open s + place))) (carried (body_at s.bodies (first_open s + place)))) is.size));
+      text = text ∙ (framed_is d (body_at s.bodies (vt_a s + place)) (at v.line.flown place).text (number_at place v.line) v.size (again_poll place v.line) h.text (length-content d (body_at s.bodies (vt_a s + place)) h.short) is.size
+          ∙ (ap₂ (λ n p. am_pdu n p (marks_of d (body_at s.bodies (vt_a s + place))) (carried (body_at s.bodies (vt_a s + place))) v.size) (number_is rules v.line s place (omega arith) is.line) sends.poll
+          ∙ ap (am_pdu (wrapped (vt_a s + place)) (polls_at (Requested (vt_a s + place)) rules d s) (marks_of d (body_at s.bodies (vt_a s + place))) (carried (body_at s.bodies (vt_a s + place)))) is.size));
       new = refl;
-      goes = subst (λ x. IsOutgoing rules d x (after_choice (Requested (first_open s + place)) rules d s)) (sym e) (line_goes rules d v s (after_choice (Requested (first_open s + place)) rules d s) (again_line place v.line) is sends.stands (resent_kept place v.line) (record { accepted = refl; cuts = refl; bodies = refl; unsent = refl }));
+      goes = subst (λ x. IsOutgoing rules d x (after_choice (Requested (vt_a s + place)) rules d s)) (sym e) (line_goes rules d v s (after_choice (Requested (vt_a s + place)) rules d s) (again_line place v.line) is sends.stands (resent_kept place v.line) (record { accepted = refl; cuts = refl; bodies = refl; unsent = refl }));
       short = h.short;
     }
 
-pub last_goes : (rules : Rules) (d : ℕ) (v now : Outgoing) (s : Sender) (place : ℕ) (out : List ℕ) → place < length v.line.flown → first_open s + place ≡ next_new s - 1 → has (first_open s + place) s.requested ≡ false → IsOutgoing rules d v s → now ≡ with_line (last_line place v.line) v → out ≡ framed (number_at place v.line) (last_poll place v.line) (at v.line.flown place).text v.size → Built rules d s out None now (Latest (first_open s + place))
+pub last_goes : (rules : Rules) (d : ℕ) (v now : Outgoing) (s : Sender) (place : ℕ) (out : List ℕ) → place < length v.line.flown → vt_a s + place ≡ vt_s s - 1 → has (vt_a s + place) s.requested ≡ false → IsOutgoing rules d v s → now ≡ with_line (last_line place v.line) v → out ≡ framed (number_at place v.line) (last_poll place v.line) (at v.line.flown place).text v.size → Built rules d s out None now (Latest (vt_a s + place))
 last_goes rules d v now s place out inside last none is e text =
     let sends = last_sends rules v.line s place d inside last none is.line in
-    let h : Has d (at v.line.flown place) (body_at s.bodies (first_open s + place)) = is.flown place inside in
+    let h : Has d (at v.line.flown place) (body_at s.bodies (vt_a s + place)) = is.flown place inside in
     record {
-      text = text ∙ (framed_is d (body_at s.bodies (first_open s + place)) (at v.line.flown place).text (number_at place v.line) v.size (last_poll place v.line) h.text (length-content d (body_at s.bodies (first_open s + place)) h.short) is.size
-          ∙ (ap₂ (λ n p. am_pdu n p (marks_of d (body_at s.bodies (first_open s + place))) (carried (body_at s.bodies (first_open s + place))) v.size) (number_is rules v.line s place (omega arith) is.line) sends.poll
-          ∙ ap (am_pdu (wrapped (first_open s + place)) (polls_at (Latest (first_open s + place)) rules d s) (marks_of d (body_at s.bodies (first_open s + place))) (carried (body_at s.bodies (first_open s + place)))) is.size));
+      text = text ∙ (framed_is d (body_at s.bodies (vt_a s + place)) (at v.line.flown place).text (number_at place v.line) v.size (last_poll place v.line) h.text (length-content d (body_at s.bodies (vt_a s + place)) h.short) is.size
+          ∙ (ap₂ (λ n p. am_pdu n p (marks_of d (body_at s.bodies (vt_a s + place))) (carried (body_at s.bodies (vt_a s + place))) v.size) (number_is rules v.line s place (omega arith) is.line) sends.poll
+          ∙ ap (am_pdu (wrapped (vt_a s + place)) (polls_at (Latest (vt_a s + place)) rules d s) (marks_of d (body_at s.bodies (vt_a s + place))) (carried (body_at s.bodies (vt_a s + place)))) is.size));
       new = refl;
-      goes = subst (λ x. IsOutgoing rules d x (after_choice (Latest (first_open s + place)) rules d s)) (sym e) (line_goes rules d v s (after_choice (Latest (first_open s + place)) rules d s) (last_line place v.line) is sends.stands (resent_kept place v.line) (record { accepted = refl; cuts = refl; bodies = refl; unsent = refl }));
+      goes = subst (λ x. IsOutgoing rules d x (after_choice (Latest (vt_a s + place)) rules d s)) (sym e) (line_goes rules d v s (after_choice (Latest (vt_a s + place)) rules d s) (last_line place v.line) is sends.stands (resent_kept place v.line) (record { accepted = refl; cuts = refl; bodies = refl; unsent = refl }));
       short = h.short;
     }
 
@@ -147,7 +147,7 @@ listed_new rules d s one e is = let l : IsListed d (after_choice Fresh rules d s
 
 -- a new PDU
 pub record IsFilled (d : ℕ) (v : Outgoing) (s : Sender) (f : Flown) (waiting : Sending) : Type 0 where
-  pub fresh : f ≡ sent_once f.text f.full f.ends f.goes_on
+  pub fresh : f ≡ sent_once f.text f.full f.ends f.continues
   pub has : Has d f (next_body d s.unsent)
   pub keeps : Keeps d waiting (anew d s)
   pub after : waiting ≡ after_filling v.waiting
@@ -156,7 +156,7 @@ pub new_goes : (rules : Rules) (d : ℕ) (v : Outgoing) (s : Sender) (f : Flown)
 new_goes rules d v s f waiting l left poll number out room is filled number_e left_e poll_e line_e text = record {
   text = text ∙ (framed_is d body f.text number v.size poll filled.has.text (length-content d body filled.has.short) is.size
       ∙ (ap₂ (λ n p. am_pdu n p (marks_of d body) (carried body) v.size) number_is_next (poll_e ∙ sends.poll)
-      ∙ ap (am_pdu (wrapped (next_new s)) (anew_polls rules d s) (marks_of d body) (carried body)) is.size));
+      ∙ ap (am_pdu (wrapped (vt_s s)) (anew_polls rules d s) (marks_of d body) (carried body)) is.size));
   new = ap Some filled.has.ends;
   goes = record {
     size = is.size;
@@ -173,12 +173,12 @@ new_goes rules d v s f waiting l left poll number out room is filled number_e le
     body = next_body d s.unsent
 
     fresh : Flown
-    fresh = sent_once f.text f.full f.ends f.goes_on
+    fresh = sent_once f.text f.full f.ends f.continues
 
     new : IsNew f (ends_of (next_body d s.unsent))
     new = record {
       acked = ap (λ (g : Flown). g.acked) filled.fresh;
-      wanted = ap (λ (g : Flown). g.wanted) filled.fresh;
+      requested = ap (λ (g : Flown). g.requested) filled.fresh;
       named = ap (λ (g : Flown). g.named) filled.fresh;
       builds = ap (λ (g : Flown). g.builds) filled.fresh;
       ends_are = filled.has.ends;
@@ -190,10 +190,10 @@ new_goes rules d v s f waiting l left poll number out room is filled number_e le
     stands : Stands rules l (after_choice Fresh rules d s)
     stands = subst (λ x. Stands rules x (after_choice Fresh rules d s)) (sym line_e) sends.stands
 
-    last : first_open s + length v.line.flown ≡ next_new s
+    last : vt_a s + length v.line.flown ≡ vt_s s
     last = is.line.flying
 
-    number_is_next : number ≡ wrapped (next_new s)
+    number_is_next : number ≡ wrapped (vt_s s)
     number_is_next = number_e ∙ (number_is rules v.line s (length v.line.flown) (omega arith) is.line ∙ ap wrapped last)
 
     flown_line : l.flown ≡ v.line.flown ++ f ∷ []
@@ -202,25 +202,25 @@ new_goes rules d v s f waiting l left poll number out room is filled number_e le
     longer : length (v.line.flown ++ f ∷ []) ≡ length v.line.flown + 1
     longer = length-append v.line.flown (f ∷ [])
 
-    bodies : length (s.bodies ++ next_body d s.unsent ∷ []) ≡ next_new s + 1
+    bodies : length (s.bodies ++ next_body d s.unsent ∷ []) ≡ vt_s s + 1
     bodies = length-append s.bodies (next_body d s.unsent ∷ [])
 
-    low : first_open (after_choice Fresh rules d s) ≡ first_open s
+    low : vt_a (after_choice Fresh rules d s) ≡ vt_a s
     low = omega (arith, sends.stands.flying, longer, bodies, is.line.flying)
 
-    flown_is : (i : ℕ) → i < length l.flown → Has d (at l.flown i) (body_at (s.bodies ++ next_body d s.unsent ∷ []) (first_open (after_choice Fresh rules d s) + i))
-    flown_is i inner = subst (λ xs. Has d (at xs i) (body_at (s.bodies ++ next_body d s.unsent ∷ []) (first_open (after_choice Fresh rules d s) + i))) (sym flown_line) (subst (λ a. Has d (at (v.line.flown ++ f ∷ []) i) (body_at (s.bodies ++ next_body d s.unsent ∷ []) (a + i))) (sym low) (⊎_elim
+    flown_is : (i : ℕ) → i < length l.flown → Has d (at l.flown i) (body_at (s.bodies ++ next_body d s.unsent ∷ []) (vt_a (after_choice Fresh rules d s) + i))
+    flown_is i inner = subst (λ xs. Has d (at xs i) (body_at (s.bodies ++ next_body d s.unsent ∷ []) (vt_a (after_choice Fresh rules d s) + i))) (sym flown_line) (subst (λ a. Has d (at (v.line.flown ++ f ∷ []) i) (body_at (s.bodies ++ next_body d s.unsent ∷ []) (a + i))) (sym low) (⊎_elim
         (λ (m : i < length v.line.flown).
         let place : at (v.line.flown ++ f ∷ []) i ≡ at v.line.flown i = get_or_append_left v.line.flown (f ∷ []) blank i m in
-        let inside : first_open s + i < length s.bodies = omega (arith, is.line.flying) in
-        let body_is : body_at (s.bodies ++ next_body d s.unsent ∷ []) (first_open s + i) ≡ body_at s.bodies (first_open s + i) = get_or_append_left s.bodies (next_body d s.unsent ∷ []) no_body (first_open s + i) inside in
-        subst (λ g. Has d g (body_at (s.bodies ++ next_body d s.unsent ∷ []) (first_open s + i))) (sym place) (subst (Has d (at v.line.flown i)) (sym body_is) (is.flown i m)))
+        let inside : vt_a s + i < length s.bodies = omega (arith, is.line.flying) in
+        let body_is : body_at (s.bodies ++ next_body d s.unsent ∷ []) (vt_a s + i) ≡ body_at s.bodies (vt_a s + i) = get_or_append_left s.bodies (next_body d s.unsent ∷ []) no_body (vt_a s + i) inside in
+        subst (λ g. Has d g (body_at (s.bodies ++ next_body d s.unsent ∷ []) (vt_a s + i))) (sym place) (subst (Has d (at v.line.flown i)) (sym body_is) (is.flown i m)))
         (λ (m : length v.line.flown ≤ i).
         let at_end : i ≡ length v.line.flown = omega (arith, longer, ap length flown_line) in
         let place : at (v.line.flown ++ f ∷ []) i ≡ f = ap (at (v.line.flown ++ f ∷ [])) at_end ∙ get_or-append_seam v.line.flown f [] blank in
-        let number : first_open s + i ≡ length s.bodies = omega (arith, is.line.flying) in
-        let body_is : body_at (s.bodies ++ next_body d s.unsent ∷ []) (first_open s + i) ≡ next_body d s.unsent = ap (body_at (s.bodies ++ next_body d s.unsent ∷ [])) number ∙ get_or-append_seam s.bodies (next_body d s.unsent) [] no_body in
-        subst (λ g. Has d g (body_at (s.bodies ++ next_body d s.unsent ∷ []) (first_open s + i))) (sym place) (subst (Has d f) (sym body_is) filled.has))
+        let number : vt_a s + i ≡ length s.bodies = omega (arith, is.line.flying) in
+        let body_is : body_at (s.bodies ++ next_body d s.unsent ∷ []) (vt_a s + i) ≡ next_body d s.unsent = ap (body_at (s.bodies ++ next_body d s.unsent ∷ [])) number ∙ get_or-append_seam s.bodies (next_body d s.unsent) [] no_body in
+        subst (λ g. Has d g (body_at (s.bodies ++ next_body d s.unsent ∷ []) (vt_a s + i))) (sym place) (subst (Has d f) (sym body_is) filled.has))
         (cases_lt i (length v.line.flown))))
 
 -- a line that stands for a sender stands for one with a unit more
@@ -234,9 +234,9 @@ line_unit rules l s unit is = record {
   few = is.few;
   flying = is.flying;
   next = is.next;
-  flown = λ i less. let f : IsFlown s (first_open s + i) (at l.flown i) = is.flown i less in record { acked = f.acked; wanted = f.wanted; named = f.named; builds = f.builds };
+  flown = λ i less. let f : IsFlown s (vt_a s + i) (at l.flown i) = is.flown i less in record { acked = f.acked; requested = f.requested; named = f.named; builds = f.builds };
   acked_sent = is.acked_sent;
-  wanted = λ k e. let w : IsWanted s k = is.wanted k e in record { from = w.from; sent = w.sent; is_open = w.is_open; high = w.high };
+  requested = λ k e. let w : IsWanted s k = is.requested k e in record { from = w.from; sent = w.sent; is_open = w.is_open; high = w.high };
   unsent = is.unsent;
   timer = is.timer;
   owed = is.owed;

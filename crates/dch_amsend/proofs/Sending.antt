@@ -7,13 +7,13 @@ use Rattle.dch_bits.specs.declared.offer.Offer.{Offer}
 use Rattle.dch_bits.specs.declared.offer.Offer.TheVariants.{Accepted, Full, WrongSize}
 use Rattle.dch_am.specs.declared.answers.StatusTaken.{StatusTaken}
 use Rattle.dch_am.specs.declared.answers.StatusTaken.TheVariants.{Taken, Outside}
-use Rattle.dch_am.specs.Acknowledging.{after_ack, after_acks, after_answer, after_fields, after_telling_of, all_names, ended_at, ends_discard, lsn_of, status_answer, tells, told}
+use Rattle.dch_am.specs.Acknowledging.{after_ack, after_acks, after_answer, after_fields, after_telling_of, all_names, ended_at, ends_discard, lsn_of, status_answer, reports, told}
 use Rattle.dch_am.specs.Bodies.{ends_of, is_empty, next_body}
 use Rattle.dch_am.specs.Building.{Choice, Again, New, Last, NoPdu, after_build, after_choice, anew, body_at, choice}
 use Rattle.dch_am.specs.Discards.{after_moving, after_mrw, after_tick, can_take, discards, discards_at, due_by_age, due_by_sending, mrw_due, place_from, sent_enough, tick_sender}
 use Rattle.dch_am.specs.Texts.{IsMoved, IsMrw}
 use Rattle.dch_am.specs.Rules.{Rules, rules_of}
-use Rattle.dch_am.specs.Sender.{Discard, Sender, after_offer, blocks, discarded, first_open, held, next_new, offered}
+use Rattle.dch_am.specs.Sender.{Discard, Sender, after_offer, blocks, discarded, vt_a, held, vt_s, offered}
 use Rattle.dch_held.specs.Held.{Held}
 use Rattle.dch_held.specs.Holding.{AreAcknowledged, Holds, IsAlike, IsTicked}
 use Rattle.dch_held.proofs.Holding.{holds_as}
@@ -51,7 +51,7 @@ unchanged_ends s (Some m) = record { accepted = refl; bodies = refl; accepted_at
 
 unchanged_acks : (s : Sender) (fields : List Field) → Unchanged s (after_acks s fields)
 unchanged_acks s [] = unchanged_itself s
-unchanged_acks s (MrwAckField n sn ∷ fields) = unchanged_twice s (after_ack s (record { number = sn; n = n })) _ (unchanged_ends s (ended_at (next_new s) s.discard (record { number = sn; n = n }))) (unchanged_acks (after_ack s (record { number = sn; n = n })) fields)
+unchanged_acks s (MrwAckField n sn ∷ fields) = unchanged_twice s (after_ack s (record { number = sn; n = n })) _ (unchanged_ends s (ended_at (vt_s s) s.discard (record { number = sn; n = n }))) (unchanged_acks (after_ack s (record { number = sn; n = n })) fields)
 unchanged_acks s (NoMoreField ∷ fields) = unchanged_acks s fields
 unchanged_acks s (WindowField size ∷ fields) = unchanged_acks s fields
 unchanged_acks s (AckField lsn ∷ fields) = unchanged_acks s fields
@@ -60,7 +60,7 @@ unchanged_acks s (BitmapField first bits ∷ fields) = unchanged_acks s fields
 unchanged_acks s (MrwField last n ∷ fields) = unchanged_acks s fields
 
 unchanged_telling : (s : Sender) (fields : List Field) → Unchanged s (after_telling_of s fields)
-unchanged_telling s fields = cond_both (tells fields) (told s (all_names (first_open s) (next_new s) fields) (lsn_of (first_open s) fields)) s (Unchanged s) (λ _. record { accepted = refl; bodies = refl; accepted_at = refl; ticks = refl; dropped = refl; gone = refl }) (λ _. unchanged_itself s)
+unchanged_telling s fields = cond_both (reports fields) (told s (all_names (vt_a s) (vt_s s) fields) (lsn_of (vt_a s) fields)) s (Unchanged s) (λ _. record { accepted = refl; bodies = refl; accepted_at = refl; ticks = refl; dropped = refl; gone = refl }) (λ _. unchanged_itself s)
 
 unchanged_answer : (s : Sender) (fields : List Field) (t : StatusTaken) → Unchanged s (after_answer t s fields)
 unchanged_answer s fields Taken = unchanged_twice s (after_acks s fields) _ (unchanged_acks s fields) (unchanged_telling (after_acks s fields) fields)
@@ -106,7 +106,7 @@ pub is_fresh : (rules : Rules) (d : ℕ) (s : Sender) (n : ℕ) → Some n ≡ n
 is_fresh rules d s n q = fresh_by rules d s n (choice rules s) refl q
 
 -- the lowest open number stays
-pub fresh_low : (rules : Rules) (d : ℕ) (v w : Outgoing) (s : Sender) → IsOutgoing rules d v s → IsOutgoing rules d w (after_choice New rules d s) → length w.line.flown ≡ length v.line.flown + 1 → first_open (anew d s) ≡ first_open s
+pub fresh_low : (rules : Rules) (d : ℕ) (v w : Outgoing) (s : Sender) → IsOutgoing rules d v s → IsOutgoing rules d w (after_choice New rules d s) → length w.line.flown ≡ length v.line.flown + 1 → vt_a (anew d s) ≡ vt_a s
 fresh_low rules d v w s is now longer = omega (arith, is.line.flying, now.line.flying, longer, length-append s.bodies (next_body d s.unsent ∷ []))
 
 pub fresh_holds : (rules : Rules) (d : ℕ) (h : Held) (s : Sender) → choice rules s ≡ New → Holds rules h (anew d s) → Holds rules h (after_build rules d s)
@@ -118,14 +118,14 @@ ticked s = record { accepted = refl; bodies = refl; accepted_at = refl; ticks = 
 
 -- where no discard runs, the last unit that is due is discarded
 pub tick_none : (rules : Rules) (s : Sender) → s.discard ≡ None → tick_sender rules s ≡ discards rules (timed s) (length s.accepted)
-tick_none rules s e = ap (after_tick rules (record s { timer = s.timer - 1; owed = s.owed || (s.timer == 1); ticks = s.ticks + 1 })) e ∙ ap (λ x. discards rules (record s { timer = s.timer - 1; owed = s.owed || (s.timer == 1); ticks = s.ticks + 1; discard = x }) (length s.accepted)) (e ∙ sym (ap timer_of e))
+tick_none rules s e = ap (after_tick rules (record s { poll_timer = s.poll_timer - 1; owed = s.owed || (s.poll_timer == 1); ticks = s.ticks + 1 })) e ∙ ap (λ x. discards rules (record s { poll_timer = s.poll_timer - 1; owed = s.owed || (s.poll_timer == 1); ticks = s.ticks + 1; discard = x }) (length s.accepted)) (e ∙ sym (ap timer_of e))
 
 pub tick_some : (rules : Rules) (s : Sender) → is_some s.discard ≡ true → tick_sender rules s ≡ timed s
 tick_some rules s e = go s.discard refl e
   where
     go : (x : Option Discard) → s.discard ≡ x → is_some x ≡ true → tick_sender rules s ≡ timed s
     go None q h = absurd (cc)
-    go (Some d) q h = ap (after_tick rules (record s { timer = s.timer - 1; owed = s.owed || (s.timer == 1); ticks = s.ticks + 1 })) q ∙ ap (λ y. record s { timer = s.timer - 1; owed = s.owed || (s.timer == 1); ticks = s.ticks + 1; discard = timer_of y }) (sym q)
+    go (Some d) q h = ap (after_tick rules (record s { poll_timer = s.poll_timer - 1; owed = s.owed || (s.poll_timer == 1); ticks = s.ticks + 1 })) q ∙ ap (λ y. record s { poll_timer = s.poll_timer - 1; owed = s.owed || (s.poll_timer == 1); ticks = s.ticks + 1; discard = timer_of y }) (sym q)
 
 some_timer : (x : Option Discard) → is_some (timer_of x) ≡ is_some x
 some_timer None = refl
@@ -144,7 +144,7 @@ no_discard s e = none_is s.discard (sym (still_some s) ∙ e)
 -- where neither age nor sending discards, nothing is
 cannot : (rules : Rules) (s : Sender) (i : ℕ) (p : Option (ℕ × ℕ)) → rules.discard_age ≡ 0 → rules.discard_sent ≡ 0 → can_take rules s i p ≡ false
 cannot rules s i None age sent = refl
-cannot rules s i (Some p) age sent = ap₂ (λ a b. nat_le (first_open s) p.0 && nat_le p.1 15 && nat_le s.dropped i && (a || b)) by_age by_sending ∙ never (nat_le (first_open s) p.0 && nat_le p.1 15 && nat_le s.dropped i)
+cannot rules s i (Some p) age sent = ap₂ (λ a b. nat_le (vt_a s) p.0 && nat_le p.1 15 && nat_le s.dropped i && (a || b)) by_age by_sending ∙ never (nat_le (vt_a s) p.0 && nat_le p.1 15 && nat_le s.dropped i)
   where
     by_age : due_by_age rules s i ≡ false
     by_age = ap (λ n. nat_lt 0 n && nat_le rules.discard_age (s.ticks - slice_index s.accepted_at i)) age
@@ -208,8 +208,8 @@ mrw_by s out due is = go s.discard refl due
     go (Some x) e d = is x e
 
 -- the unit that is found
-pub found_by : (rules : Rules) (v : Sending) (s : Sender) (l : Line) (found : Option Overdue) → Stands rules v s → l ≡ v.outgoing.line → (rules ≡ rules_of rules.buffer v.rules → LineStands rules l s → Holds rules v.held s → IsCut s.accepted s.unsent s.bodies → ((i : ℕ) → i < length l.flown → Has (v.outgoing.size - 2) (at l.flown i) (body_at s.bodies (first_open s + i))) → discards rules s (length s.accepted) ≡ discarded_by found s) → discards rules s (length s.accepted) ≡ discarded_by found s
-found_by rules v s l found is e h = h is.rules_are (subst (λ x. LineStands rules x s) (sym e) is.outgoing.line) is.held is.outgoing.cut (subst (λ (x : Line). (i : ℕ) → i < length x.flown → Has (v.outgoing.size - 2) (at x.flown i) (body_at s.bodies (first_open s + i))) (sym e) is.outgoing.flown)
+pub found_by : (rules : Rules) (v : Sending) (s : Sender) (l : Line) (found : Option Overdue) → Stands rules v s → l ≡ v.outgoing.line → (rules ≡ rules_of rules.buffer v.rules → LineStands rules l s → Holds rules v.held s → IsCut s.accepted s.unsent s.bodies → ((i : ℕ) → i < length l.flown → Has (v.outgoing.size - 2) (at l.flown i) (body_at s.bodies (vt_a s + i))) → discards rules s (length s.accepted) ≡ discarded_by found s) → discards rules s (length s.accepted) ≡ discarded_by found s
+found_by rules v s l found is e h = h is.rules_are (subst (λ x. LineStands rules x s) (sym e) is.outgoing.line) is.held is.outgoing.cut (subst (λ (x : Line). (i : ℕ) → i < length x.flown → Has (v.outgoing.size - 2) (at x.flown i) (body_at s.bodies (vt_a s + i))) (sym e) is.outgoing.flown)
 
 some_by : (r : Option Running) (d : Option Discard) (low n : ℕ) → IsRunning r d low n → is_some r ≡ is_some d
 some_by None None low n is = refl
@@ -222,7 +222,7 @@ pub tick_by : (rules : Rules) (v : Sending) (s : Sender) (may : Bool) → Stands
 tick_by rules v s may is e = go (is_some s.discard) (nat_lt 0 rules.discard_age) (nat_lt 0 rules.discard_sent) refl refl refl ∙ ap (λ b. cond b (discards rules (timed s) (length s.accepted)) (timed s)) (sym may_is)
   where
     same : is_some v.outgoing.line.running ≡ is_some s.discard
-    same = some_by v.outgoing.line.running (timed s).discard (first_open (timed s)) (length v.outgoing.line.flown) is.outgoing.line.running ∙ still_some s
+    same = some_by v.outgoing.line.running (timed s).discard (vt_a (timed s)) (length v.outgoing.line.flown) is.outgoing.line.running ∙ still_some s
 
     may_is : may ≡ ((nat_lt 0 rules.discard_age || nat_lt 0 rules.discard_sent) && not (is_some s.discard))
     may_is = e ∙ (ap (λ b. (nat_lt 0 v.rules.discard_age || nat_lt 0 v.rules.discard_sent) && not b) same ∙ ap₂ (λ a b. (nat_lt 0 a || nat_lt 0 b) && not (is_some s.discard)) (sym (ap (λ (r : Rules). r.discard_age) is.rules_are)) (sym (ap (λ (r : Rules). r.discard_sent) is.rules_are)))

@@ -5,7 +5,7 @@ use Rattle.dch_flight.specs.Flights.{at, wanted_in}
 use Rattle.dch_am.specs.Rules.{Rules}
 use Rattle.dch_am.specs.Bodies.{ends_of, next_body}
 use Rattle.dch_am.specs.Cuts.{IsCut}
-use Rattle.dch_am.specs.Sender.{Sender, first_open}
+use Rattle.dch_am.specs.Sender.{Sender, vt_a}
 use Rattle.dch_am.specs.Building.{Choice, Again, New, Last, NoPdu, body_at}
 use Rattle.dch_rlcum.specs.Sending.{Sending, builds}
 use Rattle.dch_sent.specs.Line.{Line}
@@ -37,7 +37,7 @@ pub record IsOutgoing (rules : Rules) (d : ℕ) (v : Outgoing) (s : Sender) : Ty
   pub waiting : Keeps d v.waiting s
   pub room : v.waiting.buffer ≡ rules.buffer
   pub cut : IsCut s.accepted s.unsent s.bodies
-  pub flown : (i : ℕ) → i < length v.line.flown → Has d (at v.line.flown i) (body_at s.bodies (first_open s + i))
+  pub flown : (i : ℕ) → i < length v.line.flown → Has d (at v.line.flown i) (body_at s.bodies (vt_a s + i))
 
 -- how many units end in it, where it is a new one
 abbrev pub new_ends : ℕ → Sender → Choice → Option ℕ

@@ -9,7 +9,7 @@ ghost use Rattle.dch_am.specs.Discards.{after_mrw, discards_at, mrw_due};
 ghost use Rattle.dch_am.specs.Numbers.{wrapped};
 ghost use Rattle.dch_am.specs.Restart.{restarted_sender};
 ghost use Rattle.dch_am.specs.Rules.{Rules, rules_of};
-ghost use Rattle.dch_am.specs.Sender.{Discard, Sender, after_offer, first_open, offered, opened_sender};
+ghost use Rattle.dch_am.specs.Sender.{Discard, Sender, after_offer, vt_a, offered, opened_sender};
 ghost use Rattle.dch_am.specs.Short.{IsShort};
 ghost use Rattle.dch_rlcum.specs.Sending.{is_unsent};
 ghost use Rattle.dch_sent.specs.Line.{is_due, number_at};
@@ -98,10 +98,10 @@ impl Outgoing {
         ensures value { result ≡ available_of self.now }
     {
         let room = self.line.window() - self.line.len();
-        let wanted = self.line.wanted(64);
+        let requested = self.line.requested(64);
         let fresh = room.min(self.waiting.available() as usize);
-        let builds = if wanted + fresh > 0 {
-            wanted + fresh
+        let builds = if requested + fresh > 0 {
+            requested + fresh
         } else if self.line.is_owed() && self.line.len() > 0 {
             1
         } else {
@@ -185,7 +185,7 @@ impl Outgoing {
         }
     }
 
-    /// The PDU at a place, which is wanted, is built again.
+    /// The PDU at a place, which is requested, is built again.
     fn again(&mut self, place: u16, out: &mut [u8])
         requires place { place < length self.old.line.flown }
         requires size { length out.old ≡ self.old.size }
@@ -259,7 +259,7 @@ impl Outgoing {
         ensures size { self.new.size ≡ self.old.size }
         ensures window { self.new.line.window ≡ self.old.line.window }
         ensures count { length self.new.line.flown ≡ length self.old.line.flown }
-        ensures history { (rules : Rules) (d : ℕ) (s : Sender) (i : ℕ) → IsOutgoing rules d self.old s → IsOutgoing rules d self.new (discards_at s i (Some (first_open s + place, mark))) }
+        ensures history { (rules : Rules) (d : ℕ) (s : Sender) (i : ℕ) → IsOutgoing rules d self.old s → IsOutgoing rules d self.new (discards_at s i (Some (vt_a s + place, mark))) }
     {
         self.line.discard(place, mark)
     }
@@ -291,7 +291,7 @@ impl Outgoing {
     {
         let (number, mark) = self.line.mrw();
         write_mrw(number, mark, out);
-        self.line.moves();
+        self.line.write_mrw();
     }
 
     /// Begins anew with the units of which no octet was built. Answers how many they are.

@@ -11,8 +11,8 @@ use Rattle.dch_am.specs.Discards.{after_moving}
 use Rattle.dch_am.specs.Entities.{Turn, Tells, Moves, Sends, Rests, receiver_after, sender_after, turn}
 use Rattle.dch_am.specs.Moves.{after_move_in}
 use Rattle.dch_am.specs.Rules.{Rules}
-use Rattle.dch_am.specs.Receiver.{Receiver, expected}
-use Rattle.dch_am.specs.Sender.{Discard, Sender, after_offer, first_open, offered}
+use Rattle.dch_am.specs.Receiver.{Receiver, vr_r}
+use Rattle.dch_am.specs.Sender.{Discard, Sender, after_offer, vt_a, offered}
 use Rattle.dch_am.specs.Telling.{after_telling, tells_now}
 use Rattle.dch_bits.specs.declared.offer.Offer.{Offer as Answer}
 use Rattle.dch_bits.specs.declared.offer.Offer.TheVariants.{Accepted, Full, WrongSize}
@@ -48,10 +48,10 @@ up_to_mono (x ∷ bodies) (suc a) (suc b) l =
 
 -- what holds of a direction: of its PDUs, the receiver at its end, and its line
 record Clean (bodies : List Body) (r : Receiver) (came : List ℕ) (to past : ℕ) (spans : List (ℕ × ℕ)) (line : List Block) : Type 0 where
-  steady : Continues (expected r) line (length bodies)
-  exact : (x : ℕ) → Is x (below to ++ came) → x < expected r
-  past_le : past ≤ up_to bodies (expected r)
-  whole : (i : ℕ) → i < up_to bodies (expected r) → in_span bodies spans i ≡ true
+  steady : Continues (vr_r r) line (length bodies)
+  exact : (x : ℕ) → Is x (below to ++ came) → x < vr_r r
+  past_le : past ≤ up_to bodies (vr_r r)
+  whole : (i : ℕ) → i < up_to bodies (vr_r r) → in_span bodies spans i ≡ true
 
 -- one more block at the back
 push_pdu : (g n k : ℕ) (line : List Block) (poll : Bool) (body : Body) → k ≤ n → Continues g line n → Continues g (line ++ Payload k poll body ∷ []) (max n (k + 1))
@@ -60,11 +60,11 @@ push_pdu g n k (Payload j p b ∷ line) poll body l c = (c.0, push_pdu (max g (j
 push_pdu g n k (Mrw j p u ∷ line) poll body l c = (c.0, push_pdu g n k line poll body l c.1)
 push_pdu g n k (Report t ∷ line) poll body l c = push_pdu g n k line poll body l c
 
-push_mrw : (g n k place upto : ℕ) (line : List Block) → k < n → Continues g line n → Continues g (line ++ Mrw k place upto ∷ []) n
-push_mrw g n k place upto [] l c = (omega (arith, c), c)
-push_mrw g n k place upto (Payload j p b ∷ line) l c = (c.0, push_mrw (max g (j + 1)) n k place upto line l c.1)
-push_mrw g n k place upto (Mrw j p u ∷ line) l c = (c.0, push_mrw g n k place upto line l c.1)
-push_mrw g n k place upto (Report t ∷ line) l c = push_mrw g n k place upto line l c
+push_mrw : (g n k place end_of_discard : ℕ) (line : List Block) → k < n → Continues g line n → Continues g (line ++ Mrw k place end_of_discard ∷ []) n
+push_mrw g n k place end_of_discard [] l c = (omega (arith, c), c)
+push_mrw g n k place end_of_discard (Payload j p b ∷ line) l c = (c.0, push_mrw (max g (j + 1)) n k place end_of_discard line l c.1)
+push_mrw g n k place end_of_discard (Mrw j p u ∷ line) l c = (c.0, push_mrw g n k place end_of_discard line l c.1)
+push_mrw g n k place end_of_discard (Report t ∷ line) l c = push_mrw g n k place end_of_discard line l c
 
 push_report : (g n : ℕ) (t : Told) (line : List Block) → Continues g line n → Continues g (line ++ Report t ∷ []) n
 push_report g n t [] c = c
@@ -80,11 +80,11 @@ record BothClean (p : Pair) : Type 0 where
 clean_turned : (p : Pair) → BothClean p → BothClean (turned p)
 clean_turned p c = record { out = c.back; back = c.out }
 
-with_line : (bodies : List Body) (r : Receiver) (came : List ℕ) (to past : ℕ) (spans : List (ℕ × ℕ)) (line now : List Block) → Continues (expected r) now (length bodies) → Clean bodies r came to past spans line → Clean bodies r came to past spans now
+with_line : (bodies : List Body) (r : Receiver) (came : List ℕ) (to past : ℕ) (spans : List (ℕ × ℕ)) (line now : List Block) → Continues (vr_r r) now (length bodies) → Clean bodies r came to past spans line → Clean bodies r came to past spans now
 with_line bodies r came to past spans line now s c = record { steady = s; exact = c.exact; past_le = c.past_le; whole = c.whole }
 
 -- a receiver that has the same numbers
-with_receiver : (bodies : List Body) (r now : Receiver) (came : List ℕ) (to past : ℕ) (spans : List (ℕ × ℕ)) (line : List Block) → expected now ≡ expected r → Clean bodies r came to past spans line → Clean bodies now came to past spans line
+with_receiver : (bodies : List Body) (r now : Receiver) (came : List ℕ) (to past : ℕ) (spans : List (ℕ × ℕ)) (line : List Block) → vr_r now ≡ vr_r r → Clean bodies r came to past spans line → Clean bodies now came to past spans line
 with_receiver bodies r now came to past spans line e c = record {
   steady = subst (λ g. Continues g line (length bodies)) (sym e) c.steady;
   exact = λ x h. omega (arith, c.exact x h, e);
@@ -93,15 +93,15 @@ with_receiver bodies r now came to past spans line e c = record {
 }
 
 -- one more PDU is built
-with_body : (bodies : List Body) (b : Body) (r : Receiver) (came : List ℕ) (to past : ℕ) (spans : List (ℕ × ℕ)) (line : List Block) (poll : Bool) (body : Body) → expected r ≤ length bodies → AllLow spans (expected r) → Clean bodies r came to past spans line → Clean (bodies ++ b ∷ []) r came to past spans (line ++ Payload (length bodies) poll body ∷ [])
+with_body : (bodies : List Body) (b : Body) (r : Receiver) (came : List ℕ) (to past : ℕ) (spans : List (ℕ × ℕ)) (line : List Block) (poll : Bool) (body : Body) → vr_r r ≤ length bodies → AllLow spans (vr_r r) → Clean bodies r came to past spans line → Clean (bodies ++ b ∷ []) r came to past spans (line ++ Payload (length bodies) poll body ∷ [])
 with_body bodies b r came to past spans line poll body le low c =
-    let front : up_to (bodies ++ b ∷ []) (expected r) ≡ up_to bodies (expected r) = ap ends (take-append-le (expected r) bodies (b ∷ []) le) in
+    let front : up_to (bodies ++ b ∷ []) (vr_r r) ≡ up_to bodies (vr_r r) = ap ends (take-append-le (vr_r r) bodies (b ∷ []) le) in
     let long : length (bodies ++ b ∷ []) ≡ max (length bodies) (length bodies + 1) = longer bodies b ∙ omega arith in
     record {
-      steady = subst (Continues (expected r) (line ++ Payload (length bodies) poll body ∷ [])) (sym long) (push_pdu (expected r) (length bodies) (length bodies) line poll body (omega arith) c.steady);
+      steady = subst (Continues (vr_r r) (line ++ Payload (length bodies) poll body ∷ [])) (sym long) (push_pdu (vr_r r) (length bodies) (length bodies) line poll body (omega arith) c.steady);
       exact = c.exact;
       past_le = omega (arith, c.past_le, front);
-      whole = λ i l. spans_front bodies b spans (expected r) i le low ∙ c.whole i (omega (arith, l, front));
+      whole = λ i l. spans_front bodies b spans (vr_r r) i le low ∙ c.whole i (omega (arith, l, front));
     }
   where
     longer : (xs : List Body) (b : Body) → length (xs ++ b ∷ []) ≡ length xs + 1
@@ -112,25 +112,25 @@ with_body bodies b r came to past spans line poll body le low c =
 with_again : (bodies : List Body) (r : Receiver) (came : List ℕ) (to past : ℕ) (spans : List (ℕ × ℕ)) (line : List Block) (k : ℕ) (poll : Bool) (body : Body) → k < length bodies → Clean bodies r came to past spans line → Clean bodies r came to past spans (line ++ Payload k poll body ∷ [])
 with_again bodies r came to past spans line k poll body l c =
     let same : max (length bodies) (k + 1) ≡ length bodies = omega arith in
-    with_line bodies r came to past spans line (line ++ Payload k poll body ∷ []) (subst (Continues (expected r) (line ++ Payload k poll body ∷ [])) same (push_pdu (expected r) (length bodies) k line poll body (omega arith) c.steady)) c
+    with_line bodies r came to past spans line (line ++ Payload k poll body ∷ []) (subst (Continues (vr_r r) (line ++ Payload k poll body ∷ [])) same (push_pdu (vr_r r) (length bodies) k line poll body (omega arith) c.steady)) c
 
 -- what the near end builds at a turn
 told_out : (rules : Rules) (p : Pair) (t : Option Told) → BothClean p → BothClean (sends p p.near.entity.sender (after_telling rules p.near.entity.receiver) (report_of t))
 told_out rules p None c = record { out = c.out; back = record { steady = c.back.steady; exact = c.back.exact; past_le = c.back.past_le; whole = c.back.whole } }
 told_out rules p (Some t) c = record {
-  out = with_line p.near.entity.sender.bodies p.far.entity.receiver p.far.came p.far.moved_to p.far.moved_past p.far.spans p.out (p.out ++ Report t ∷ []) (push_report (expected p.far.entity.receiver) (length p.near.entity.sender.bodies) t p.out c.out.steady) c.out;
+  out = with_line p.near.entity.sender.bodies p.far.entity.receiver p.far.came p.far.moved_to p.far.moved_past p.far.spans p.out (p.out ++ Report t ∷ []) (push_report (vr_r p.far.entity.receiver) (length p.near.entity.sender.bodies) t p.out c.out.steady) c.out;
   back = record { steady = c.back.steady; exact = c.back.exact; past_le = c.back.past_le; whole = c.back.whole };
 }
 
 moves_out : (rules : Rules) (p : Pair) (d : Option Discard) → p.near.entity.sender.discard ≡ d → Both rules p → BothClean p → BothClean (sends p (after_moving rules p.near.entity.sender d) p.near.entity.receiver (mrw_of d))
 moves_out rules p None e b c = c
 moves_out rules p (Some d) e b c = record {
-  out = with_line p.near.entity.sender.bodies p.far.entity.receiver p.far.came p.far.moved_to p.far.moved_past p.far.spans p.out (p.out ++ Mrw d.k d.n d.upto ∷ []) (push_mrw (expected p.far.entity.receiver) (length p.near.entity.sender.bodies) d.k d.n d.upto p.out sent c.out.steady) c.out;
+  out = with_line p.near.entity.sender.bodies p.far.entity.receiver p.far.came p.far.moved_to p.far.moved_past p.far.spans p.out (p.out ++ Mrw d.k d.n d.end_of_discard ∷ []) (push_mrw (vr_r p.far.entity.receiver) (length p.near.entity.sender.bodies) d.k d.n d.end_of_discard p.out sent c.out.steady) c.out;
   back = c.back;
 }
   where
     sent : d.k < length p.near.entity.sender.bodies
-    sent = (subst (DiscardIs p.near.entity.sender.bodies (first_open p.near.entity.sender)) e b.out.discard_is).1
+    sent = (subst (DiscardIs p.near.entity.sender.bodies (vt_a p.near.entity.sender)) e b.out.discard_is).1
 
 pdu_out : (rules : Rules) (p : Pair) (o : Choice) → Good rules p.near.entity.sender o → Both rules p → BothClean p → BothClean (sends p (after_choice o rules (p.near.octets - 2) p.near.entity.sender) p.near.entity.receiver (payload_of o rules p.near))
 pdu_out rules p (Again k) good b c = record { out = with_again p.near.entity.sender.bodies p.far.entity.receiver p.far.came p.far.moved_to p.far.moved_past p.far.spans p.out k _ _ (b.out.flow.requested_sent k good) c.out; back = c.back }
@@ -152,7 +152,7 @@ line_at : (bodies : List Body) (r : Receiver) (came : List ℕ) (to past : ℕ) 
 line_at bodies r came to past spans line now e c = subst (Clean bodies r came to past spans) e c
 
 -- the numbers that have come are those below the expected one
-all_come : (rules : Rules) (s : Sender) (r : Receiver) (came : List ℕ) (to : ℕ) (line : List Block) (ts : List Status) → Direction rules s r came to line ts → (x : ℕ) → x < expected r → Is x (below to ++ came)
+all_come : (rules : Rules) (s : Sender) (r : Receiver) (came : List ℕ) (to : ℕ) (line : List Block) (ts : List Status) → Direction rules s r came to line ts → (x : ℕ) → x < vr_r r → Is x (below to ++ came)
 all_come rules s r came to line ts d x l = run_in (below to ++ came) (top (below to ++ came)) x (subst (λ g. x < g) (sym (missing_is rules s r came to line ts d)) l)
 
 is_one : (to x k : ℕ) (came : List ℕ) → Is x (below to ++ k ∷ came) → (x ≡ k) ⊎ Is x (below to ++ came)
@@ -171,48 +171,48 @@ one_is to x k came h = has-append x (below to) (k ∷ came) ∙ ⊎_elim
     h
 
 -- a PDU that continues
-pdu_comes : (bodies : List Body) (r now : Receiver) (came : List ℕ) (to past : ℕ) (spans : List (ℕ × ℕ)) (line : List Block) (k : ℕ) (poll : Bool) (body : Body) → ((x : ℕ) → x < expected r → Is x (below to ++ came)) → run_over (k ∷ came) to ≡ expected now → Clean bodies r came to past spans (Payload k poll body ∷ line) → Clean bodies now (k ∷ came) to past ((run_over (k ∷ came) to, past) ∷ spans) line
+pdu_comes : (bodies : List Body) (r now : Receiver) (came : List ℕ) (to past : ℕ) (spans : List (ℕ × ℕ)) (line : List Block) (k : ℕ) (poll : Bool) (body : Body) → ((x : ℕ) → x < vr_r r → Is x (below to ++ came)) → run_over (k ∷ came) to ≡ vr_r now → Clean bodies r came to past spans (Payload k poll body ∷ line) → Clean bodies now (k ∷ came) to past ((run_over (k ∷ came) to, past) ∷ spans) line
 pdu_comes bodies r now came to past spans line k poll body all e c =
-    let low : (x : ℕ) → Is x (below to ++ k ∷ came) → x < max (expected r) (k + 1) = λ x h. ⊎_elim (λ (q : x ≡ k). omega (arith, q)) (λ (q : Is x (below to ++ came)). omega (arith, c.exact x q)) (is_one to x k came h) in
-    let high : (x : ℕ) → x < max (expected r) (k + 1) → Is x (below to ++ k ∷ came) = λ x l. one_is to x k came (⊎_elim (λ (q : x < expected r). inr (all x q)) (λ (q : expected r ≤ x). inl (omega (arith, c.steady.0, l, q))) (cases_lt x (expected r))) in
-    let run : run_over (k ∷ came) to ≡ max (expected r) (k + 1) = run_exact (below to ++ k ∷ came) (max (expected r) (k + 1)) low high in
-    let is : expected now ≡ max (expected r) (k + 1) = sym e ∙ run in
-    let grown : up_to bodies (expected r) ≤ up_to bodies (expected now) = up_to_mono bodies (expected r) (expected now) (omega (arith, is)) in
+    let low : (x : ℕ) → Is x (below to ++ k ∷ came) → x < max (vr_r r) (k + 1) = λ x h. ⊎_elim (λ (q : x ≡ k). omega (arith, q)) (λ (q : Is x (below to ++ came)). omega (arith, c.exact x q)) (is_one to x k came h) in
+    let high : (x : ℕ) → x < max (vr_r r) (k + 1) → Is x (below to ++ k ∷ came) = λ x l. one_is to x k came (⊎_elim (λ (q : x < vr_r r). inr (all x q)) (λ (q : vr_r r ≤ x). inl (omega (arith, c.steady.0, l, q))) (cases_lt x (vr_r r))) in
+    let run : run_over (k ∷ came) to ≡ max (vr_r r) (k + 1) = run_exact (below to ++ k ∷ came) (max (vr_r r) (k + 1)) low high in
+    let is : vr_r now ≡ max (vr_r r) (k + 1) = sym e ∙ run in
+    let grown : up_to bodies (vr_r r) ≤ up_to bodies (vr_r now) = up_to_mono bodies (vr_r r) (vr_r now) (omega (arith, is)) in
     record {
       steady = subst (λ g. Continues g line (length bodies)) (sym is) c.steady.1;
       exact = λ x h. omega (arith, low x h, is);
       past_le = omega (arith, c.past_le, grown);
       whole = λ i l. ⊎_elim
-          (λ (q : i < up_to bodies (expected r)). or_right (nat_le past i && nat_lt i (up_to bodies (run_over (k ∷ came) to))) (in_span bodies spans i) (c.whole i q))
-          (λ (q : up_to bodies (expected r) ≤ i). or_left (nat_le past i && nat_lt i (up_to bodies (run_over (k ∷ came) to))) (in_span bodies spans i) (and_from _ _ (le-leb past i (omega (arith, c.past_le, q))) (lt-ltb i (up_to bodies (run_over (k ∷ came) to)) (subst (λ g. i < up_to bodies g) (sym e) l))))
-          (cases_lt i (up_to bodies (expected r)));
+          (λ (q : i < up_to bodies (vr_r r)). or_right (nat_le past i && nat_lt i (up_to bodies (run_over (k ∷ came) to))) (in_span bodies spans i) (c.whole i q))
+          (λ (q : up_to bodies (vr_r r) ≤ i). or_left (nat_le past i && nat_lt i (up_to bodies (run_over (k ∷ came) to))) (in_span bodies spans i) (and_from _ _ (le-leb past i (omega (arith, c.past_le, q))) (lt-ltb i (up_to bodies (run_over (k ∷ came) to)) (subst (λ g. i < up_to bodies g) (sym e) l))))
+          (cases_lt i (up_to bodies (vr_r r)));
     }
 
 -- an MRW of a PDU that has come
-mrw_comes : (bodies : List Body) (r now : Receiver) (came : List ℕ) (to past : ℕ) (spans : List (ℕ × ℕ)) (line : List Block) (k n upto : ℕ) → ((x : ℕ) → x < expected r → Is x (below to ++ came)) → run_over came (max to k) ≡ expected now → expected r ≤ length bodies → HasPlace bodies k n upto → Clean bodies r came to past spans (Mrw k n upto ∷ line) → Clean bodies now came (max to k) (max past upto) ((run_over came (max to k), max past upto) ∷ spans) line
-mrw_comes bodies r now came to past spans line k n upto all e le place c =
-    let at = has_place_at bodies k n upto place in
+mrw_comes : (bodies : List Body) (r now : Receiver) (came : List ℕ) (to past : ℕ) (spans : List (ℕ × ℕ)) (line : List Block) (k n end_of_discard : ℕ) → ((x : ℕ) → x < vr_r r → Is x (below to ++ came)) → run_over came (max to k) ≡ vr_r now → vr_r r ≤ length bodies → HasPlace bodies k n end_of_discard → Clean bodies r came to past spans (Mrw k n end_of_discard ∷ line) → Clean bodies now came (max to k) (max past end_of_discard) ((run_over came (max to k), max past end_of_discard) ∷ spans) line
+mrw_comes bodies r now came to past spans line k n end_of_discard all e le place c =
+    let at = has_place_at bodies k n end_of_discard place in
     let more : up_to bodies (k + 1) ≡ up_to bodies k + ends_of (get_or bodies k no_body) = up_to_more bodies k (omega (arith, c.steady.0, le)) in
-    let inside : up_to bodies (k + 1) ≤ up_to bodies (expected r) = up_to_mono bodies (k + 1) (expected r) (omega (arith, c.steady.0)) in
-    let upto_le : upto ≤ up_to bodies (expected r) = omega (arith, place.1, at.high, more, inside) in
+    let inside : up_to bodies (k + 1) ≤ up_to bodies (vr_r r) = up_to_mono bodies (k + 1) (vr_r r) (omega (arith, c.steady.0)) in
+    let upto_le : end_of_discard ≤ up_to bodies (vr_r r) = omega (arith, place.1, at.high, more, inside) in
     let passed : (x : ℕ) → Is x (below (max to k)) → x < max to k = λ x h. ltb-true x (max to k) (sym (has-below x (max to k)) ∙ h) in
-    let low : (x : ℕ) → Is x (below (max to k) ++ came) → x < expected r = λ x h. ⊎_elim
+    let low : (x : ℕ) → Is x (below (max to k) ++ came) → x < vr_r r = λ x h. ⊎_elim
     (λ (q : has x (below (max to k)) ≡ true). ⊎_elim
     (λ (a : x < to). c.exact x (has-append x (below to) came ∙ or_left (has x (below to)) (has x came) (has-below x to ∙ lt-ltb x to a)))
     (λ (a : to ≤ x). omega (arith, passed x q, a, c.steady.0))
     (cases_lt x to))
     (λ (q : has x came ≡ true). c.exact x (has-append x (below to) came ∙ or_right (has x (below to)) (has x came) q))
     (or_cases (has x (below (max to k))) (has x came) (sym (has-append x (below (max to k)) came) ∙ h)) in
-    let high : (x : ℕ) → x < expected r → Is x (below (max to k) ++ came) = λ x l. has-append x (below (max to k)) came ∙ ⊎_elim
+    let high : (x : ℕ) → x < vr_r r → Is x (below (max to k) ++ came) = λ x l. has-append x (below (max to k)) came ∙ ⊎_elim
     (λ (q : has x (below to) ≡ true). or_left (has x (below (max to k))) (has x came) (has-below x (max to k) ∙ lt-ltb x (max to k) (omega (arith, ltb-true x to (sym (has-below x to) ∙ q)))))
     (λ (q : has x came ≡ true). or_right (has x (below (max to k))) (has x came) q)
     (or_cases (has x (below to)) (has x came) (sym (has-append x (below to) came) ∙ all x l)) in
-    let is : expected now ≡ expected r = sym e ∙ run_exact (below (max to k) ++ came) (expected r) low high in
+    let is : vr_r now ≡ vr_r r = sym e ∙ run_exact (below (max to k) ++ came) (vr_r r) low high in
     record {
       steady = subst (λ g. Continues g line (length bodies)) (sym is) c.steady.1;
       exact = λ x h. omega (arith, low x h, is);
-      past_le = subst (λ g. max past upto ≤ up_to bodies g) (sym is) (omega (arith, c.past_le, upto_le));
-      whole = λ i l. or_right (nat_le (max past upto) i && nat_lt i (up_to bodies (run_over came (max to k)))) (in_span bodies spans i) (c.whole i (subst (λ g. i < up_to bodies g) is l));
+      past_le = subst (λ g. max past end_of_discard ≤ up_to bodies g) (sym is) (omega (arith, c.past_le, upto_le));
+      whole = λ i l. or_right (nat_le (max past end_of_discard) i && nat_lt i (up_to bodies (run_over came (max to k)))) (in_span bodies spans i) (c.whole i (subst (λ g. i < up_to bodies g) is l));
     }
 
 -- the sender keeps its PDUs
@@ -233,14 +233,14 @@ arrive_in rules p (Payload k poll body ∷ line) small e b b' c = record {
       (missing_is rules p.far.entity.sender (arrives rules p (Payload k poll body ∷ line)).near.entity.receiver (k ∷ p.near.came) p.near.moved_to line (reports p.out) b'.back)
       (line_at p.far.entity.sender.bodies p.near.entity.receiver p.near.came p.near.moved_to p.near.moved_past p.near.spans p.back (Payload k poll body ∷ line) e c.back);
 }
-arrive_in rules p (Mrw k n upto ∷ line) small e b b' c = record {
+arrive_in rules p (Mrw k n end_of_discard ∷ line) small e b b' c = record {
   out = c.out;
-  back = mrw_comes p.far.entity.sender.bodies p.near.entity.receiver (arrives rules p (Mrw k n upto ∷ line)).near.entity.receiver p.near.came p.near.moved_to p.near.moved_past p.near.spans line k n upto
+  back = mrw_comes p.far.entity.sender.bodies p.near.entity.receiver (arrives rules p (Mrw k n end_of_discard ∷ line)).near.entity.receiver p.near.came p.near.moved_to p.near.moved_past p.near.spans line k n end_of_discard
       (all_come rules p.far.entity.sender p.near.entity.receiver p.near.came p.near.moved_to p.back (reports p.out) b.back)
-      (missing_is rules p.far.entity.sender (arrives rules p (Mrw k n upto ∷ line)).near.entity.receiver p.near.came (max p.near.moved_to k) line (reports p.out) b'.back)
+      (missing_is rules p.far.entity.sender (arrives rules p (Mrw k n end_of_discard ∷ line)).near.entity.receiver p.near.came (max p.near.moved_to k) line (reports p.out) b'.back)
       (sent_all rules p.far.entity.sender p.near.entity.receiver p.near.came p.near.moved_to p.back (reports p.out) b.back)
       (subst (LineIs p.far.entity.sender.bodies) e b.back.line_is).0
-      (line_at p.far.entity.sender.bodies p.near.entity.receiver p.near.came p.near.moved_to p.near.moved_past p.near.spans p.back (Mrw k n upto ∷ line) e c.back);
+      (line_at p.far.entity.sender.bodies p.near.entity.receiver p.near.came p.near.moved_to p.near.moved_past p.near.spans p.back (Mrw k n end_of_discard ∷ line) e c.back);
 }
 arrive_in rules p (Report t ∷ line) small e b b' c = record {
   out = same_bodies p.near.entity.sender.bodies (arrives rules p (Report t ∷ line)).near.entity.sender.bodies p.far.entity.receiver p.far.came p.far.moved_to p.far.moved_past p.far.spans p.out (ap (λ (s : Sender). s.bodies) (fields_effect rules p.near.entity.sender t) ∙ (told_same p.near.entity.sender t).0) c.out;
@@ -259,7 +259,7 @@ clean_near rules p Build small kept b c = build_out rules p (turn rules p.near.e
 clean_near rules p Arrive small kept b c = arrive_in rules p p.back small refl b (both_arrives rules p p.back small refl b) c
 clean_near rules p Lose small kept b c = absurd (cc)
 clean_near rules p Tick small kept b c = record {
-  out = same_bodies p.near.entity.sender.bodies (happens_near rules p Tick).near.entity.sender.bodies p.far.entity.receiver p.far.came p.far.moved_to p.far.moved_past p.far.spans p.out (tick_same rules (record p.near.entity.sender { timer = p.near.entity.sender.timer - 1; owed = p.near.entity.sender.owed || (p.near.entity.sender.timer == 1); ticks = p.near.entity.sender.ticks + 1 }) p.near.entity.sender.discard).0 c.out;
+  out = same_bodies p.near.entity.sender.bodies (happens_near rules p Tick).near.entity.sender.bodies p.far.entity.receiver p.far.came p.far.moved_to p.far.moved_past p.far.spans p.out (tick_same rules (record p.near.entity.sender { poll_timer = p.near.entity.sender.poll_timer - 1; owed = p.near.entity.sender.owed || (p.near.entity.sender.poll_timer == 1); ticks = p.near.entity.sender.ticks + 1 }) p.near.entity.sender.discard).0 c.out;
   back = record { steady = c.back.steady; exact = c.back.exact; past_le = c.back.past_le; whole = c.back.whole };
 }
 
@@ -301,11 +301,11 @@ picked_front bodies spans n i (u ∷ us) all low = ⊎_elim
 
 is_whole : (rules : Rules) (a b : End) (line : List Block) (ts : List Status) → Direction rules a.entity.sender b.entity.receiver b.came b.moved_to line ts → Hands a.entity.sender.bodies a.entity.sender.accepted b.entity.receiver b.moved_past b.spans → Clean a.entity.sender.bodies b.entity.receiver b.came b.moved_to b.moved_past b.spans line → IsWhole a b line
 is_whole rules a b line ts d h c =
-    let g : run_over b.came b.moved_to ≡ expected b.entity.receiver = missing_is rules a.entity.sender b.entity.receiver b.came b.moved_to line ts d in
-    let whole_is : up_to a.entity.sender.bodies (expected b.entity.receiver) - 0 ≡ up_to a.entity.sender.bodies (expected b.entity.receiver) = omega arith in
+    let g : run_over b.came b.moved_to ≡ vr_r b.entity.receiver = missing_is rules a.entity.sender b.entity.receiver b.came b.moved_to line ts d in
+    let whole_is : up_to a.entity.sender.bodies (vr_r b.entity.receiver) - 0 ≡ up_to a.entity.sender.bodies (vr_r b.entity.receiver) = omega arith in
     record {
       numbers = subst (λ n. Continues n line (length a.entity.sender.bodies)) (sym g) c.steady;
-      units = h.units ∙ picked_front a.entity.sender.bodies b.spans (up_to a.entity.sender.bodies (expected b.entity.receiver)) 0 a.entity.sender.accepted c.whole h.inside ∙ ap (λ n. take n a.entity.sender.accepted) whole_is ∙ ap (λ n. take (up_to a.entity.sender.bodies n) a.entity.sender.accepted) (sym g);
+      units = h.units ∙ picked_front a.entity.sender.bodies b.spans (up_to a.entity.sender.bodies (vr_r b.entity.receiver)) 0 a.entity.sender.accepted c.whole h.inside ∙ ap (λ n. take n a.entity.sender.accepted) whole_is ∙ ap (λ n. take (up_to a.entity.sender.bodies n) a.entity.sender.accepted) (sym g);
     }
 
 opened_clean : (rules : Rules) (first second : ℕ) → BothClean (opened rules first second)

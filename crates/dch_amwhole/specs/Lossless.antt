@@ -1,7 +1,7 @@
 -- Histories in which no block is lost: what was sent before the blocks that are still in flight has been handed up.
 use Rattle.std.specs.Prelude.{◌≡◌, ◌+◌, ◌≤◌, ◌<◌, ℕ, List, [], ◌∷◌, Bool, true, false, max, take}
 use Rattle.dch_am.specs.Bodies.{ends}
-use Rattle.dch_am.specs.Sender.{next_new}
+use Rattle.dch_am.specs.Sender.{vt_s}
 use Rattle.dch_amlaw.specs.Pair.{Arrive, At, Block, Build, End, Event, Far, Lose, Mrw, Near, Offer, Pair, Payload, Report, Tick, gap_free}
 
 -- a block is lost, at the near end and at either
@@ -25,13 +25,13 @@ NoneLost (e ∷ es) = (is_loss e ≡ false) × NoneLost es
 abbrev pub Continues : ℕ → List Block → ℕ → Type 0
 Continues g [] n = g ≡ n
 Continues g (Payload k poll body ∷ line) n = (k ≤ g) × Continues (max g (k + 1)) line n
-Continues g (Mrw k place upto ∷ line) n = (k < g) × Continues g line n
+Continues g (Mrw k place end_of_discard ∷ line) n = (k < g) × Continues g line n
 Continues g (Report t ∷ line) n = Continues g line n
 
 -- the PDUs that have arrived are those below a number; those from it on are in flight; handed up are the accepted units, in order, whose end
 -- mark lies in the PDUs that arrived
 pub record IsWhole (from to : End) (line : List Block) : Type 0 where
-  pub numbers : Continues (gap_free to) line (next_new from.entity.sender)
+  pub numbers : Continues (gap_free to) line (vt_s from.entity.sender)
   pub units : to.entity.receiver.reading.units ≡ take (ends (take (gap_free to) from.entity.sender.bodies)) from.entity.sender.accepted
 
 -- and so of both directions

@@ -5,19 +5,19 @@ use Rattle.dch_flight.specs.declared.flown.Flown.{Flown}
 
 -- no PDU
 abbrev pub blank : Flown
-blank = record { text = []; full = false; ends = 0; goes_on = false; builds = 0; acked = false; wanted = false; named = false }
+blank = record { text = []; full = false; ends = 0; continues = false; builds = 0; acked = false; requested = false; named = false }
 
 -- a PDU that was just built
 abbrev pub sent_once : List ℕ → Bool → ℕ → Bool → Flown
-sent_once text full ends goes_on = record { text = text; full = full; ends = ends; goes_on = goes_on; builds = 1; acked = false; wanted = false; named = false }
+sent_once text full ends continues = record { text = text; full = full; ends = ends; continues = continues; builds = 1; acked = false; requested = false; named = false }
 
 -- the PDU at a place
 abbrev pub at : List Flown → ℕ → Flown
 at flown i = slice_index_or flown i blank
 
--- it is named missing: it is wanted again, unless it is acknowledged or stands before a place
+-- it is named missing: it is requested again, unless it is acknowledged or stands before a place
 abbrev pub named_from : ℕ → ℕ → Flown → Flown
-named_from low i f = record f { named = true; wanted = f.wanted || (not f.acked && nat_le low i) }
+named_from low i f = record f { named = true; requested = f.requested || (not f.acked && nat_le low i) }
 
 -- it is not named any more
 abbrev pub unnamed : Flown → Flown
@@ -25,15 +25,15 @@ unnamed f = record f { named = false }
 
 -- it is acknowledged, unless it is named missing
 abbrev pub acknowledged : Flown → Flown
-acknowledged f = if f.named then f else record f { acked = true; wanted = false }
+acknowledged f = if f.named then f else record f { acked = true; requested = false }
 
--- it is not wanted
+-- it is not requested
 abbrev pub unwanted : Flown → Flown
-unwanted f = record f { wanted = false }
+unwanted f = record f { requested = false }
 
 -- it is built once more. More than 255 times are not counted
 abbrev pub built : Flown → Flown
-built f = record f { wanted = false; builds = if nat_lt f.builds 255 then f.builds + 1 else f.builds }
+built f = record f { requested = false; builds = if nat_lt f.builds 255 then f.builds + 1 else f.builds }
 
 -- the PDUs before a place are changed
 abbrev pub changed_below : (Flown → Flown) → ℕ → List Flown → List Flown
@@ -41,38 +41,38 @@ changed_below change zero flown = flown
 changed_below change (suc to) [] = []
 changed_below change (suc to) (f ∷ flown) = change f ∷ changed_below change to flown
 
--- the first PDU that is wanted stands there, or none is and this is the end
+-- the first PDU that is requested stands there, or none is and this is the end
 pub record IsFirstWanted (flown : List Flown) (first : ℕ) : Type 0 where
-  pub before : (i : ℕ) → i < first → (at flown i).wanted ≡ false
-  pub here : first < length flown → (at flown first).wanted ≡ true
+  pub before : (i : ℕ) → i < first → (at flown i).requested ≡ false
+  pub here : first < length flown → (at flown first).requested ≡ true
   pub within : first ≤ length flown
 
 -- where that is
 abbrev pub first_wanted : List Flown → ℕ
 first_wanted [] = 0
-first_wanted (f ∷ flown) = if f.wanted then 0 else suc (first_wanted flown)
+first_wanted (f ∷ flown) = if f.requested then 0 else suc (first_wanted flown)
 
--- how many are wanted
+-- how many are requested
 abbrev pub wanted_in : List Flown → ℕ
 wanted_in [] = 0
-wanted_in (f ∷ flown) = if f.wanted then suc (wanted_in flown) else wanted_in flown
+wanted_in (f ∷ flown) = if f.requested then suc (wanted_in flown) else wanted_in flown
 
 -- how many PDUs in front are acknowledged
 abbrev pub front_acked : List Flown → ℕ
 front_acked [] = 0
 front_acked (f ∷ flown) = if f.acked then suc (front_acked flown) else 0
 
--- no PDU before a place is wanted
+-- no PDU before a place is requested
 pub record IsFrom (flown : List Flown) (low : ℕ) : Type 0 where
-  pub from : (i : ℕ) → (at flown i).wanted ≡ true → low ≤ i
+  pub from : (i : ℕ) → (at flown i).requested ≡ true → low ≤ i
 
--- so many are wanted, and where some are this is the first
+-- so many are requested, and where some are this is the first
 pub record IsCounted (flown : List Flown) (low count : ℕ) : Type 0 where
   pub below : IsFrom flown low
   pub count_is : count ≡ wanted_in flown
-  pub first : 0 < count → (at flown low).wanted ≡ true
+  pub first : 0 < count → (at flown low).requested ≡ true
 
--- the place of the first with that of one more that is wanted
+-- the place of the first with that of one more that is requested
 abbrev pub lowered : ℕ → ℕ → ℕ → ℕ
 lowered low count i = if (count == 0) || nat_lt i low then i else low
 

@@ -9,7 +9,7 @@ use dch_bits::NoMemory;
 use std::alloc::Global;
 use std::marker::Model;
 
-/// The PDUs in flight, the one of the lowest open number first. So many of them are wanted as `count` says, the first of them at `low`.
+/// The PDUs in flight, the one of the lowest open number first. So many of them are requested as `count` says, the first of them at `low`.
 #[derive(Drop)]
 pub struct Flight {
     ring: HeapCircularBuffer<Flown>,
@@ -60,13 +60,13 @@ impl Flight {
     /// A new PDU is in flight.
     pub fn push(&mut self, flown: Flown)
         requires room { length self.old.items < self.old.capacity }
-        requires new { flown.wanted ≡ false }
+        requires new { flown.requested ≡ false }
         ensures { self.new ≡ buffer (self.old.items ++ flown ∷ []) self.old.capacity }
     {
         self.ring.push_back(flown);
     }
 
-    /// A status names a PDU missing. It is wanted, unless it is acknowledged or stands before a place.
+    /// A status names a PDU missing. It is requested, unless it is acknowledged or stands before a place.
     pub fn name(&mut self, i: usize, from: usize)
         requires { i < length self.old.items }
         ensures { self.new ≡ buffer (slice_set self.old.items i (named_from from i (at self.old.items i))) self.old.capacity }
@@ -78,7 +78,7 @@ impl Flight {
     }
 
     /// The status that names it is heard.
-    pub fn unname(&mut self, i: usize)
+    pub fn clear_missing(&mut self, i: usize)
         requires { i < length self.old.items }
         ensures { self.new ≡ buffer (slice_set self.old.items i (unnamed (at self.old.items i))) self.old.capacity }
     {
@@ -105,8 +105,8 @@ impl Flight {
         self.low = first_from(&self.ring, self.low, self.count);
     }
 
-    /// The PDUs before a place aren't wanted any more.
-    pub fn unwant(&mut self, to: usize)
+    /// The PDUs before a place aren't requested any more.
+    pub fn clear_request(&mut self, to: usize)
         requires { to ≤ length self.old.items }
         ensures { self.new ≡ buffer (changed_below unwanted to self.old.items) self.old.capacity }
     {
@@ -115,7 +115,7 @@ impl Flight {
         self.low = first_from(&self.ring, self.low, self.count);
     }
 
-    /// The first PDU that is wanted; their number where none is.
+    /// The first PDU that is requested; their number where none is.
     pub fn lowest(&self) -> usize
         ensures place { IsFirstWanted self.now.items result }
         ensures first { result ≡ first_wanted self.now.items }
@@ -127,15 +127,15 @@ impl Flight {
         }
     }
 
-    /// A PDU is wanted.
+    /// A PDU is requested.
     pub fn is_wanted(&self) -> bool
         ensures { result ≡ nat_lt 0 (wanted_in self.now.items) }
     {
         self.count > 0
     }
 
-    /// How many PDUs are wanted, at most so many.
-    pub fn wanted(&self, most: usize) -> usize
+    /// How many PDUs are requested, at most so many.
+    pub fn requested(&self, most: usize) -> usize
         ensures { result ≡ min most (wanted_in self.now.items) }
     {
         self.count.min(most)
@@ -176,14 +176,14 @@ fn one(is: bool) -> usize
     if is { 1 } else { 0 }
 }
 
-/// The place of the first PDU that is wanted, where there are so many and one more is.
+/// The place of the first PDU that is requested, where there are so many and one more is.
 fn lowered(low: usize, count: usize, i: usize) -> usize
     ensures { result ≡ lowered low count i }
 {
     if count == 0 || i < low { i } else { low }
 }
 
-/// The place of the first PDU that is wanted, where so many are and none before a place.
+/// The place of the first PDU that is requested, where so many are and none before a place.
 fn first_from(ring: &HeapCircularBuffer<Flown>, low: usize, count: usize) -> usize
     requires low { IsFrom ring.now.items low }
     requires count { count ≡ wanted_in ring.now.items }
@@ -193,28 +193,28 @@ fn first_from(ring: &HeapCircularBuffer<Flown>, low: usize, count: usize) -> usi
         return 0;
     }
     for i in low..ring.len() {
-        if at_place(ring, i).wanted {
+        if at_place(ring, i).requested {
             return i;
         }
     }
     0
 }
 
-/// How many PDUs before a place are wanted.
+/// How many PDUs before a place are requested.
 fn wanted_before(ring: &HeapCircularBuffer<Flown>, to: usize) -> usize
     requires { to ≤ length ring.now.items }
     ensures { result + wanted_in (drop to ring.now.items) ≡ wanted_in ring.now.items }
 {
     let mut count = 0;
     for i in 0..to {
-        if at_place(ring, i).wanted {
+        if at_place(ring, i).requested {
             count += 1;
         }
     }
     count
 }
 
-/// The PDUs before a place are acknowledged, but for those that are named. Answers how many of them aren't wanted any more.
+/// The PDUs before a place are acknowledged, but for those that are named. Answers how many of them aren't requested any more.
 fn acknowledge_below(ring: &mut HeapCircularBuffer<Flown>, to: usize) -> usize
     requires { to ≤ length ring.old.items }
     ensures gone { result + wanted_in ring.new.items ≡ wanted_in ring.old.items }
@@ -227,7 +227,7 @@ fn acknowledge_below(ring: &mut HeapCircularBuffer<Flown>, to: usize) -> usize
     gone
 }
 
-/// The PDUs before a place aren't wanted. Answers how many of them were.
+/// The PDUs before a place aren't requested. Answers how many of them were.
 fn unwant_below(ring: &mut HeapCircularBuffer<Flown>, to: usize) -> usize
     requires { to ≤ length ring.old.items }
     ensures gone { result + wanted_in ring.new.items ≡ wanted_in ring.old.items }

@@ -11,30 +11,30 @@ pub struct Flown {
     /// How many units have their end mark in it.
     pub ends: u8,
     /// A unit goes on behind its last octet.
-    pub goes_on: bool,
+    pub continues: bool,
     /// How often it was built, at most 255.
     pub builds: u8,
     /// It is acknowledged, though a PDU before it isn't.
     pub acked: bool,
     /// It was requested and not built since.
-    pub wanted: bool,
+    pub requested: bool,
     /// The status that is being heard names it missing.
     pub named: bool,
 }
 
 impl Flown {
     /// A PDU that was just built.
-    pub fn new(text: [u8; 125], full: bool, ends: u8, goes_on: bool) -> Flown
-        ensures { result ≡ sent_once text full ends goes_on }
+    pub fn new(text: [u8; 125], full: bool, ends: u8, continues: bool) -> Flown
+        ensures { result ≡ sent_once text full ends continues }
     {
         Flown {
             text,
             full,
             ends,
-            goes_on,
+            continues,
             builds: 1,
             acked: false,
-            wanted: false,
+            requested: false,
             named: false,
         }
     }

@@ -1,4 +1,4 @@
-//! The PDUs of an acknowledged sender that are in flight, and which of them are acknowledged and wanted again (TS 25.322 11.5.3).
+//! The PDUs of an acknowledged sender that are in flight, and which of them are acknowledged and requested again (TS 25.322 11.5.3).
 #![tactic(auto)]
 
 mod flight;

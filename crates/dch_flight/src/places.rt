@@ -13,19 +13,19 @@ pub fn at_place(ring: &HeapCircularBuffer<Flown>, i: usize) -> Flown
     *ring.get(i).unwrap()
 }
 
-/// It is named missing, and wanted unless it is acknowledged or stands before a place. Answers whether it is wanted since.
+/// It is named missing, and requested unless it is acknowledged or stands before a place. Answers whether it is requested since.
 pub fn name_at(ring: &mut HeapCircularBuffer<Flown>, i: usize, from: usize) -> bool
     requires { i < length ring.old.items }
-    ensures newly { result ≡ (not (at ring.old.items i).wanted && (named_from from i (at ring.old.items i)).wanted) }
+    ensures newly { result ≡ (not (at ring.old.items i).requested && (named_from from i (at ring.old.items i)).requested) }
     ensures after { ring.new ≡ buffer (slice_set ring.old.items i (named_from from i (at ring.old.items i))) ring.old.capacity }
 {
     let Some(flown) = ring.get_mut(i) else {
         return false;
     };
-    let was = flown.wanted;
+    let was = flown.requested;
     flown.named = true;
-    flown.wanted = flown.wanted || (!flown.acked && from <= i);
-    !was && flown.wanted
+    flown.requested = flown.requested || (!flown.acked && from <= i);
+    !was && flown.requested
 }
 
 /// It isn't named any more.
@@ -38,48 +38,48 @@ pub fn unname_at(ring: &mut HeapCircularBuffer<Flown>, i: usize)
     }
 }
 
-/// It is acknowledged, unless it is named missing. Answers whether it was wanted and isn't any more.
+/// It is acknowledged, unless it is named missing. Answers whether it was requested and isn't any more.
 pub fn acknowledge_at(ring: &mut HeapCircularBuffer<Flown>, i: usize) -> bool
     requires { i < length ring.old.items }
-    ensures gone { result ≡ ((at ring.old.items i).wanted && not (acknowledged (at ring.old.items i)).wanted) }
+    ensures gone { result ≡ ((at ring.old.items i).requested && not (acknowledged (at ring.old.items i)).requested) }
     ensures after { ring.new ≡ buffer (slice_set ring.old.items i (acknowledged (at ring.old.items i))) ring.old.capacity }
 {
     let Some(flown) = ring.get_mut(i) else {
         return false;
     };
-    let was = flown.wanted;
+    let was = flown.requested;
     if !flown.named {
         flown.acked = true;
-        flown.wanted = false;
+        flown.requested = false;
     }
-    was && !flown.wanted
+    was && !flown.requested
 }
 
-/// It isn't wanted. Answers whether it was.
+/// It isn't requested. Answers whether it was.
 pub fn unwant_at(ring: &mut HeapCircularBuffer<Flown>, i: usize) -> bool
     requires { i < length ring.old.items }
-    ensures gone { result ≡ (at ring.old.items i).wanted }
+    ensures gone { result ≡ (at ring.old.items i).requested }
     ensures after { ring.new ≡ buffer (slice_set ring.old.items i (unwanted (at ring.old.items i))) ring.old.capacity }
 {
     let Some(flown) = ring.get_mut(i) else {
         return false;
     };
-    let was = flown.wanted;
-    flown.wanted = false;
+    let was = flown.requested;
+    flown.requested = false;
     was
 }
 
-/// It is built once more. More than 255 times are not counted. Answers whether it was wanted.
+/// It is built once more. More than 255 times are not counted. Answers whether it was requested.
 pub fn build_at(ring: &mut HeapCircularBuffer<Flown>, i: usize) -> bool
     requires { i < length ring.old.items }
-    ensures gone { result ≡ (at ring.old.items i).wanted }
+    ensures gone { result ≡ (at ring.old.items i).requested }
     ensures after { ring.new ≡ buffer (slice_set ring.old.items i (built (at ring.old.items i))) ring.old.capacity }
 {
     let Some(flown) = ring.get_mut(i) else {
         return false;
     };
-    let was = flown.wanted;
-    flown.wanted = false;
+    let was = flown.requested;
+    flown.requested = false;
     flown.builds = flown.builds.saturating_add(1);
     was
 }

@@ -11,7 +11,7 @@ use Rattle.dch_am.specs.Building.{anew}
 use Rattle.dch_am.specs.Cuts.{IsCut}
 use Rattle.dch_am.specs.Discards.{discards_at}
 use Rattle.dch_am.specs.Restart.{begun, octets_in, restarted_sender}
-use Rattle.dch_am.specs.Sender.{Sender, after_offer, blocks, discarded, first_open, held, next_new, opened_sender}
+use Rattle.dch_am.specs.Sender.{Sender, after_offer, blocks, discarded, vt_a, held, vt_s, opened_sender}
 use Rattle.dch_am.proofs.Reading.{cut_few, ends_split}
 use Rattle.dch_am.proofs.Restarting.{begun_few, front_begun}
 use Rattle.dch_held.specs.declared.unit.Unit.{Unit as OneUnit}
@@ -33,29 +33,29 @@ record At (rules : Rules) (h : Held) (accepted : List (List ℕ)) (bodies : List
   discarded : h.discarded ≡ capped gone
 
 -- the parts of a sender
-of_sender : (rules : Rules) (h : Held) (s : Sender) → Holds rules h s → At rules h s.accepted s.bodies (first_open s) s.accepted_at s.ticks s.dropped (discarded s)
+of_sender : (rules : Rules) (h : Held) (s : Sender) → Holds rules h s → At rules h s.accepted s.bodies (vt_a s) s.accepted_at s.ticks s.dropped (discarded s)
 of_sender rules h s is = record { buffer = is.buffer; window = is.window; sizes = is.sizes; flying = is.ends; ages = is.ages; early = is.early; times_are = is.times; passed = is.passed; discarded = is.discarded }
 
 -- and back
-to_sender : (rules : Rules) (h : Held) (s : Sender) → At rules h s.accepted s.bodies (first_open s) s.accepted_at s.ticks s.dropped (discarded s) → Holds rules h s
+to_sender : (rules : Rules) (h : Held) (s : Sender) → At rules h s.accepted s.bodies (vt_a s) s.accepted_at s.ticks s.dropped (discarded s) → Holds rules h s
 to_sender rules h s is = record { buffer = is.buffer; window = is.window; sizes = is.sizes; ends = is.flying; ages = is.ages; early = is.early; times = is.times_are; passed = is.passed; discarded = is.discarded }
 
 -- a sender with these parts
 with_parts : (rules : Rules) (h : Held) (s : Sender) (accepted : List (List ℕ)) (bodies : List Body) (low : ℕ) (times : List ℕ) (ticks dropped gone : ℕ)
-    → s.accepted ≡ accepted → s.bodies ≡ bodies → first_open s ≡ low → s.accepted_at ≡ times → s.ticks ≡ ticks → s.dropped ≡ dropped → discarded s ≡ gone
+    → s.accepted ≡ accepted → s.bodies ≡ bodies → vt_a s ≡ low → s.accepted_at ≡ times → s.ticks ≡ ticks → s.dropped ≡ dropped → discarded s ≡ gone
     → At rules h accepted bodies low times ticks dropped gone → Holds rules h s
 with_parts rules h s accepted bodies low times ticks dropped gone e1 e2 e3 e4 e5 e6 e7 is = to_sender rules h s
-    (subst (λ x. At rules h s.accepted s.bodies (first_open s) s.accepted_at s.ticks s.dropped x) (sym e7)
-    (subst (λ x. At rules h s.accepted s.bodies (first_open s) s.accepted_at s.ticks x gone) (sym e6)
-    (subst (λ x. At rules h s.accepted s.bodies (first_open s) s.accepted_at x dropped gone) (sym e5)
-    (subst (λ x. At rules h s.accepted s.bodies (first_open s) x ticks dropped gone) (sym e4)
+    (subst (λ x. At rules h s.accepted s.bodies (vt_a s) s.accepted_at s.ticks s.dropped x) (sym e7)
+    (subst (λ x. At rules h s.accepted s.bodies (vt_a s) s.accepted_at s.ticks x gone) (sym e6)
+    (subst (λ x. At rules h s.accepted s.bodies (vt_a s) s.accepted_at x dropped gone) (sym e5)
+    (subst (λ x. At rules h s.accepted s.bodies (vt_a s) x ticks dropped gone) (sym e4)
     (subst (λ x. At rules h s.accepted s.bodies x times ticks dropped gone) (sym e3)
     (subst (λ x. At rules h s.accepted x low times ticks dropped gone) (sym e2)
     (subst (λ x. At rules h x bodies low times ticks dropped gone) (sym e1) is)))))))
 
 -- a sender that differs in nothing that is held
 pub holds_as : (rules : Rules) (h : Held) (s now : Sender) → IsAlike s now → Holds rules h s → Holds rules h now
-holds_as rules h s now a is = with_parts rules h now s.accepted s.bodies (first_open s) s.accepted_at s.ticks s.dropped (discarded s) a.accepted a.bodies a.low a.accepted_at a.ticks a.dropped a.gone (of_sender rules h s is)
+holds_as rules h s now a is = with_parts rules h now s.accepted s.bodies (vt_a s) s.accepted_at s.ticks s.dropped (discarded s) a.accepted a.bodies a.low a.accepted_at a.ticks a.dropped a.gone (of_sender rules h s is)
 
 -- what is held after the same steps
 pub holds_same : (rules : Rules) (h now : Held) (s : Sender) → now ≡ h → Holds rules h s → Holds rules now s
@@ -148,15 +148,15 @@ length-units us ws e = sym (length-sizes_of us) ∙ (ap length e ∙ length-bloc
 
 -- no more units are released than were accepted
 few_released : (s : Sender) → IsCut s.accepted s.unsent s.bodies → released s ≤ length s.accepted
-few_released s cut = omega (arith, cut_few s.accepted s.unsent s.bodies cut, ends_split (first_open s) s.bodies)
+few_released s cut = omega (arith, cut_few s.accepted s.unsent s.bodies cut, ends_split (vt_a s) s.bodies)
 
 -- the released units and those that are held are the accepted ones
 pub units_held : (rules : Rules) (h : Held) (s : Sender) → IsCut s.accepted s.unsent s.bodies → Holds rules h s → released s + length h.units ≡ length s.accepted
 units_held rules h s cut is = omega (arith, length-units h.units (held s) is.sizes, length-drop (released s) s.accepted, few_released s cut)
 
 -- the PDUs that are kept are those in flight
-pub pdus_held : (rules : Rules) (h : Held) (s : Sender) → Holds rules h s → length h.ends ≡ next_new s - first_open s
-pdus_held rules h s is = ap length is.ends ∙ (length-ends_each (drop (first_open s) s.bodies) ∙ length-drop (first_open s) s.bodies)
+pub pdus_held : (rules : Rules) (h : Held) (s : Sender) → Holds rules h s → length h.ends ≡ vt_s s - vt_a s
+pdus_held rules h s is = ap length is.ends ∙ (length-ends_each (drop (vt_a s) s.bodies) ∙ length-drop (vt_a s) s.bodies)
 
 -- room
 not_twice : (b : Bool) → not (not b) ≡ b
@@ -221,12 +221,12 @@ offer_holds rules h now s unit octets e long cut is = holds_same rules (with_uni
         new m = ⊎_elim past (λ n. omega (arith, new_time i (omega arith))) (cases_lt (length s.accepted_at) i)
 
 -- a new PDU
-pub built_holds : (rules : Rules) (h now : Held) (d : ℕ) (s : Sender) (ends : ℕ) → now ≡ with_pdu ends h → ends ≡ ends_of (next_body d s.unsent) → first_open (anew d s) ≡ first_open s → first_open s ≤ next_new s → Holds rules h s → Holds rules now (anew d s)
-built_holds rules h now d s new e count low within is = holds_same rules (with_pdu new h) now (anew d s) e (with_parts rules (with_pdu new h) (anew d s) s.accepted (s.bodies ++ body ∷ []) (first_open s) s.accepted_at s.ticks s.dropped (discarded s) refl refl low refl refl refl refl (record {
+pub built_holds : (rules : Rules) (h now : Held) (d : ℕ) (s : Sender) (ends : ℕ) → now ≡ with_pdu ends h → ends ≡ ends_of (next_body d s.unsent) → vt_a (anew d s) ≡ vt_a s → vt_a s ≤ vt_s s → Holds rules h s → Holds rules now (anew d s)
+built_holds rules h now d s new e count low within is = holds_same rules (with_pdu new h) now (anew d s) e (with_parts rules (with_pdu new h) (anew d s) s.accepted (s.bodies ++ body ∷ []) (vt_a s) s.accepted_at s.ticks s.dropped (discarded s) refl refl low refl refl refl refl (record {
   buffer = is.buffer;
   window = is.window;
   sizes = is.sizes ∙ ap (λ n. blocks_each (drop n s.accepted)) (sym same);
-  flying = ap (λ xs. xs ++ new ∷ []) is.ends ∙ (ap (λ n. ends_each (drop (first_open s) s.bodies) ++ n ∷ []) count ∙ (sym (ends_each-append (drop (first_open s) s.bodies) (body ∷ [])) ∙ ap ends_each (sym (drop-append-le (first_open s) s.bodies (body ∷ []) within))));
+  flying = ap (λ xs. xs ++ new ∷ []) is.ends ∙ (ap (λ n. ends_each (drop (vt_a s) s.bodies) ++ n ∷ []) count ∙ (sym (ends_each-append (drop (vt_a s) s.bodies) (body ∷ [])) ∙ ap ends_each (sym (drop-append-le (vt_a s) s.bodies (body ∷ []) within))));
   ages = λ i l on. is.ages i l on ∙ ap (λ n. min 65535 (s.ticks - slice_index s.accepted_at (n + i))) (sym same);
   early = is.early;
   times_are = is.times;
@@ -237,16 +237,16 @@ built_holds rules h now d s new e count low within is = holds_same rules (with_p
     body : Body
     body = next_body d s.unsent
 
-    same : ends (take (first_open s) (s.bodies ++ body ∷ [])) ≡ released s
-    same = ap ends (take-append-le (first_open s) s.bodies (body ∷ []) within)
+    same : ends (take (vt_a s) (s.bodies ++ body ∷ [])) ≡ released s
+    same = ap ends (take-append-le (vt_a s) s.bodies (body ∷ []) within)
 
 -- PDUs in front are acknowledged
 pub left_holds : (rules : Rules) (h after : Held) (s now : Sender) (pdus : ℕ) → after ≡ left pdus h → IsCut s.accepted s.unsent s.bodies → AreAcknowledged pdus s now → Holds rules h s → Holds rules after now
-left_holds rules h after s now pdus e cut a is = holds_same rules (left pdus h) after now e (with_parts rules (left pdus h) now s.accepted s.bodies (first_open s + pdus) s.accepted_at s.ticks s.dropped (discarded s) a.accepted a.bodies a.low a.accepted_at a.ticks a.dropped a.gone (record {
+left_holds rules h after s now pdus e cut a is = holds_same rules (left pdus h) after now e (with_parts rules (left pdus h) now s.accepted s.bodies (vt_a s + pdus) s.accepted_at s.ticks s.dropped (discarded s) a.accepted a.bodies a.low a.accepted_at a.ticks a.dropped a.gone (record {
   buffer = is.buffer;
   window = is.window;
   sizes = sizes_of-drop gone h.units ∙ (ap (drop gone) is.sizes ∙ (blocks_each-drop gone (held s) ∙ (ap blocks_each (drop-drop gone (released s) s.accepted) ∙ ap (λ n. blocks_each (drop n s.accepted)) (sym more))));
-  flying = ap (drop pdus) is.ends ∙ (ends_each-drop pdus (drop (first_open s) s.bodies) ∙ ap ends_each (drop-drop pdus (first_open s) s.bodies));
+  flying = ap (drop pdus) is.ends ∙ (ends_each-drop pdus (drop (vt_a s) s.bodies) ∙ ap ends_each (drop-drop pdus (vt_a s) s.bodies));
   ages = λ i l on. ap (λ (u : OneUnit). u.age) (get_or-drop gone h.units i no_unit) ∙ (is.ages (gone + i) (omega (arith, l, length-drop gone h.units)) on ∙ ap (λ n. min 65535 (s.ticks - slice_index s.accepted_at n)) (omega (arith, more)));
   early = is.early;
   times_are = is.times;
@@ -258,18 +258,18 @@ left_holds rules h after s now pdus e cut a is = holds_same rules (left pdus h) 
     gone = ended pdus h
 
     here : ℕ
-    here = ends (take pdus (drop (first_open s) s.bodies))
+    here = ends (take pdus (drop (vt_a s) s.bodies))
 
-    further : ends (take (first_open s + pdus) s.bodies) ≡ released s + here
-    further = ends_more (first_open s) pdus s.bodies
+    further : ends (take (vt_a s + pdus) s.bodies) ≡ released s + here
+    further = ends_more (vt_a s) pdus s.bodies
 
     sum : total (take pdus h.ends) ≡ here
-    sum = ap (λ xs. total (take pdus xs)) is.ends ∙ total-ends_each pdus (drop (first_open s) s.bodies)
+    sum = ap (λ xs. total (take pdus xs)) is.ends ∙ total-ends_each pdus (drop (vt_a s) s.bodies)
 
     all : gone ≡ here
-    all = omega (arith, sum, further, units_held rules h s cut is, cut_few s.accepted s.unsent s.bodies cut, ends_split (first_open s + pdus) s.bodies)
+    all = omega (arith, sum, further, units_held rules h s cut is, cut_few s.accepted s.unsent s.bodies cut, ends_split (vt_a s + pdus) s.bodies)
 
-    more : ends (take (first_open s + pdus) s.bodies) ≡ released s + gone
+    more : ends (take (vt_a s + pdus) s.bodies) ≡ released s + gone
     more = omega (arith, further, all)
 
 -- a tick
@@ -278,7 +278,7 @@ one_older age time ticks le e = omega arith
 
 -- all units are one older
 pub ticked_holds : (rules : Rules) (h after : Held) (s now : Sender) → after ≡ ticked h → IsTicked s now → Holds rules h s → Holds rules after now
-ticked_holds rules h after s now e a is = holds_same rules (ticked h) after now e (with_parts rules (ticked h) now s.accepted s.bodies (first_open s) s.accepted_at (s.ticks + 1) s.dropped (discarded s) a.accepted a.bodies a.low a.accepted_at a.ticks a.dropped a.gone (record {
+ticked_holds rules h after s now e a is = holds_same rules (ticked h) after now e (with_parts rules (ticked h) now s.accepted s.bodies (vt_a s) s.accepted_at (s.ticks + 1) s.dropped (discarded s) a.accepted a.bodies a.low a.accepted_at a.ticks a.dropped a.gone (record {
   buffer = is.buffer;
   window = is.window;
   sizes = sizes_of-aged h.units ∙ is.sizes;
@@ -292,7 +292,7 @@ ticked_holds rules h after s now e a is = holds_same rules (ticked h) after now 
 
 -- where units are not discarded by age, a tick changes nothing that is held
 pub not_timed : (rules : Rules) (h : Held) (s now : Sender) → rules.discard_age ≡ 0 → IsTicked s now → Holds rules h s → Holds rules h now
-not_timed rules h s now off a is = with_parts rules h now s.accepted s.bodies (first_open s) s.accepted_at (s.ticks + 1) s.dropped (discarded s) a.accepted a.bodies a.low a.accepted_at a.ticks a.dropped a.gone (record {
+not_timed rules h s now off a is = with_parts rules h now s.accepted s.bodies (vt_a s) s.accepted_at (s.ticks + 1) s.dropped (discarded s) a.accepted a.bodies a.low a.accepted_at a.ticks a.dropped a.gone (record {
   buffer = is.buffer;
   window = is.window;
   sizes = is.sizes;
@@ -320,7 +320,7 @@ discarding_holds rules h after s to r p e to_is is = holds_same rules (discardin
   early = is.early;
   times = is.times;
   passed = omega (arith, to_is);
-  discarded = ap (λ n. capped (n + (to - h.passed))) is.discarded ∙ (capped_more (discarded s) (to - h.passed) ∙ ap capped (omega (arith, to_is, is.passed, length-append (range from count) s.gone, length-range from count)));
+  discarded = ap (λ n. capped (n + (to - h.passed))) is.discarded ∙ (capped_more (discarded s) (to - h.passed) ∙ ap capped (omega (arith, to_is, is.passed, length-append (range from count) s.discarded_units, length-range from count)));
 })
   where
     from : ℕ
@@ -347,7 +347,7 @@ restarted_holds rules h after s kept e count cut is = holds_same rules (restarte
     gone = length h.units - kept
 
     more : released s + gone ≡ begun s
-    more = omega (arith, count, length-drop (begun s) s.accepted, units_held rules h s cut is, front_begun s.accepted s.unsent s.bodies (first_open s) cut, begun_few (octets_in s.bodies) s.accepted)
+    more = omega (arith, count, length-drop (begun s) s.accepted, units_held rules h s cut is, front_begun s.accepted s.unsent s.bodies (vt_a s) cut, begun_few (octets_in s.bodies) s.accepted)
 
     time : (i : ℕ) → slice_index s.accepted_at (released s + (gone + i)) ≡ slice_index (drop (begun s) s.accepted_at) (0 + i)
     time i =

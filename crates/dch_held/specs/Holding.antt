@@ -2,12 +2,12 @@
 use Rattle.std.specs.Prelude.{◌≡◌, ◌+◌, ◌-◌, ◌<◌, ◌≤◌, ℕ, List, [], ◌∷◌, length, take, drop, min, slice_index}
 use Rattle.dch_am.specs.Rules.{Rules}
 use Rattle.dch_am.specs.Bodies.{Body, ends_of, ends}
-use Rattle.dch_am.specs.Sender.{Sender, discarded, first_open, held}
+use Rattle.dch_am.specs.Sender.{Sender, discarded, vt_a, held}
 use Rattle.dch_held.specs.Held.{Held, age_at, blocks_for, capped, sizes_of}
 
 -- how many units are acknowledged with all PDUs before their end marks
 abbrev pub released : Sender → ℕ
-released s = ends (take (first_open s) s.bodies)
+released s = ends (take (vt_a s) s.bodies)
 
 -- the blocks of each unit
 abbrev pub blocks_each : List (List ℕ) → List ℕ
@@ -24,7 +24,7 @@ pub record Holds (rules : Rules) (h : Held) (s : Sender) : Type 0 where
   pub buffer : h.buffer ≡ rules.buffer
   pub window : h.window ≡ rules.window
   pub sizes : sizes_of h.units ≡ blocks_each (held s)
-  pub ends : h.ends ≡ ends_each (drop (first_open s) s.bodies)
+  pub ends : h.ends ≡ ends_each (drop (vt_a s) s.bodies)
   pub ages : (i : ℕ) → i < length h.units → 0 < rules.discard_age → age_at h i ≡ min 65535 (s.ticks - slice_index s.accepted_at (released s + i))
   pub early : (i : ℕ) → slice_index s.accepted_at i ≤ s.ticks
   pub times : length s.accepted_at ≡ length s.accepted
@@ -39,7 +39,7 @@ pub record AreAcknowledged (pdus : ℕ) (s now : Sender) : Type 0 where
   pub ticks : now.ticks ≡ s.ticks
   pub dropped : now.dropped ≡ s.dropped
   pub gone : discarded now ≡ discarded s
-  pub low : first_open now ≡ first_open s + pdus
+  pub low : vt_a now ≡ vt_a s + pdus
 
 -- one tick has come
 pub record IsTicked (s now : Sender) : Type 0 where
@@ -49,7 +49,7 @@ pub record IsTicked (s now : Sender) : Type 0 where
   pub ticks : now.ticks ≡ s.ticks + 1
   pub dropped : now.dropped ≡ s.dropped
   pub gone : discarded now ≡ discarded s
-  pub low : first_open now ≡ first_open s
+  pub low : vt_a now ≡ vt_a s
 
 -- nothing changed of which what is held tells
 pub record IsAlike (s now : Sender) : Type 0 where
@@ -59,4 +59,4 @@ pub record IsAlike (s now : Sender) : Type 0 where
   pub ticks : now.ticks ≡ s.ticks
   pub dropped : now.dropped ≡ s.dropped
   pub gone : discarded now ≡ discarded s
-  pub low : first_open now ≡ first_open s
+  pub low : vt_a now ≡ vt_a s

@@ -7,7 +7,7 @@ ghost use Rattle.dch_am.specs.Building.{anew};
 ghost use Rattle.dch_am.specs.Cuts.{IsCut};
 ghost use Rattle.dch_am.specs.Discards.{discards_at};
 ghost use Rattle.dch_am.specs.Restart.{restarted_sender};
-ghost use Rattle.dch_am.specs.Sender.{Sender, after_offer, blocks, first_open, held, next_new, opened_sender};
+ghost use Rattle.dch_am.specs.Sender.{Sender, after_offer, blocks, vt_a, held, vt_s, opened_sender};
 ghost use Rattle.dch_held.specs.Held.{age_at, aged, blocks_for, capped, discarding, has_room, left, nothing, restarted, sizes_of, ticked, total, unit_at, with_pdu, with_unit};
 ghost use Rattle.dch_held.specs.Holding.{AreAcknowledged, Holds, IsTicked, released};
 
@@ -112,7 +112,7 @@ impl Held {
     pub fn built(&mut self, ends: u8)
         requires room { length self.old.ends < self.old.window }
         ensures after { self.new ≡ with_pdu ends self.old }
-        ensures history { (rules : Rules) (d : ℕ) (s : Sender) → ends ≡ ends_of (next_body d s.unsent) → first_open (anew d s) ≡ first_open s → first_open s ≤ next_new s → Holds rules self.old s → Holds rules self.new (anew d s) }
+        ensures history { (rules : Rules) (d : ℕ) (s : Sender) → ends ≡ ends_of (next_body d s.unsent) → vt_a (anew d s) ≡ vt_a s → vt_a s ≤ vt_s s → Holds rules self.old s → Holds rules self.new (anew d s) }
     {
         self.push(ends);
     }

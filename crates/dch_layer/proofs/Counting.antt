@@ -34,9 +34,9 @@ discard_stays rules d s NoPdu = refl
 
 -- after it is told nothing is due
 told_all : (rules : Rules) (r : Receiver) → is_due (after_telling rules r) ≡ false
-told_all rules r = none r.owed (r.prohibit == 0) refl
+told_all rules r = none r.owed (r.status_prohibit_timer == 0) refl
   where
-    none : (owed free : Bool) → (r.prohibit == 0) ≡ free → ((owed && not (owed && free)) && (cond (owed && free) rules.status_prohibit r.prohibit == 0)) ≡ false
+    none : (owed free : Bool) → (r.status_prohibit_timer == 0) ≡ free → ((owed && not (owed && free)) && (cond (owed && free) rules.status_prohibit r.status_prohibit_timer == 0)) ≡ false
     none true true e = refl
     none true false e = e
     none false free e = refl

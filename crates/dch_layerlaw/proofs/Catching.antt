@@ -51,7 +51,7 @@ wire_sides rules d out e (Payload k poll body) is = subst (λ v. AreSides rules 
   sender = refl;
   receiver = ap (λ x. after_pdu rules (taken rules e.entity.receiver (wrapped k)) e.entity.receiver (wrapped k) poll x) is.same;
 })
-wire_sides rules d out e (Mrw k n upto) is = subst (λ v. AreSides rules v e (Mrw k n upto)) (sym is) (record { sender = refl; receiver = refl })
+wire_sides rules d out e (Mrw k n end_of_discard) is = subst (λ v. AreSides rules v e (Mrw k n end_of_discard)) (sym is) (record { sender = refl; receiver = refl })
 wire_sides rules d out e (Report t) is = subst (λ v. AreSides rules v e (Report t)) (sym is) (record { sender = refl; receiver = refl })
 
 -- the two tests of a status that is outside are one
@@ -67,7 +67,7 @@ quiet : (rules : Rules) (d : ℕ) (out : List ℕ) (e : End) (b : Block) → IsW
 quiet rules d out e (Payload k poll body) is q = subst (λ v. IsQuiet rules v e) (sym is.read) (record {
   lines = λ dir b units. rw q (append-nil (unit_lines dir b units));
 })
-quiet rules d out e (Mrw k n upto) is q = subst (λ v. IsQuiet rules v e) (sym is) (record {
+quiet rules d out e (Mrw k n end_of_discard) is q = subst (λ v. IsQuiet rules v e) (sym is) (record {
   lines = λ dir b units. ap (λ a. line_if a (Outside dir b) ++ unit_lines dir b units) q;
 })
 quiet rules d out e (Report t) is q = subst (λ v. IsQuiet rules v e) (sym is) (record {
@@ -89,7 +89,7 @@ pub record Caught (rules : Rules) (near far : End) (out line : List Block) (skip
 
 octets_stay : (rules : Rules) (e : End) (b : Block) → (takes rules e b).octets ≡ e.octets
 octets_stay rules e (Payload k poll body) = refl
-octets_stay rules e (Mrw k n upto) = refl
+octets_stay rules e (Mrw k n end_of_discard) = refl
 octets_stay rules e (Report t) = refl
 
 arrived : (rules : Rules) (near far : End) (out : List Block) (b : Block) (line : List Block) (skip d : ℕ) (x : List Bit) (ys : List (List Bit)) → AlwaysSafe rules (pair_of near far out (b ∷ line)) → IsWire d (octets_of (drop skip x)) b → Wires skip d line ys → (Fits : Type 0) → Caught rules near far out (b ∷ line) skip d x ys Fits

@@ -15,11 +15,11 @@ use Rattle.dch_overdue.proofs.Ending.{ends-step, ends_up}
 
 -- a PDU in flight as it stands in a sender
 pub record IsPdu (rules : AmRules) (s : Sender) (k : ℕ) (f : Flown) : Type 0 where
-  pub wanted : f.wanted ≡ has k s.requested
+  pub requested : f.requested ≡ has k s.requested
   pub enough : nat_le rules.discard_sent f.builds ≡ nat_le rules.discard_sent (count k s.sendings)
   pub full : f.full ≡ (body_at s.bodies k).full
   pub ends_are : f.ends ≡ ends_of (body_at s.bodies k)
-  pub goes : f.goes_on ≡ not (is_empty (body_at s.bodies k).rest)
+  pub goes : f.continues ≡ not (is_empty (body_at s.bodies k).rest)
   pub inside : k < length s.bodies
 
 -- a PDU is requested and was built often enough
@@ -43,13 +43,13 @@ pub record TellsBegun (begun : Bool) (s : Sender) (sent k : ℕ) : Type 0 where
 -- what is kept of a PDU tells that
 often_holds : (rules : AmRules) (s : Sender) (k : ℕ) (f : Flown) → IsPdu rules s k f → is_often rules f ≡ true → IsAsked s rules.discard_sent k
 often_holds rules s k f is e =
-    let a = and_parts (nat_lt 0 rules.discard_sent && f.wanted) (nat_le rules.discard_sent f.builds) e in
-    let b = and_parts (nat_lt 0 rules.discard_sent) f.wanted a.0 in
-    record { some = ltb-true 0 rules.discard_sent b.0; asked = sym is.wanted ∙ b.1; enough = sym is.enough ∙ a.1 }
+    let a = and_parts (nat_lt 0 rules.discard_sent && f.requested) (nat_le rules.discard_sent f.builds) e in
+    let b = and_parts (nat_lt 0 rules.discard_sent) f.requested a.0 in
+    record { some = ltb-true 0 rules.discard_sent b.0; asked = sym is.requested ∙ b.1; enough = sym is.enough ∙ a.1 }
 
 -- the same, from the sender
 often_told : (rules : AmRules) (s : Sender) (k : ℕ) (f : Flown) → IsPdu rules s k f → IsAsked s rules.discard_sent k → is_often rules f ≡ true
-often_told rules s k f is a = and_from (nat_lt 0 rules.discard_sent && f.wanted) (nat_le rules.discard_sent f.builds) (and_from (nat_lt 0 rules.discard_sent) f.wanted (lt-ltb 0 rules.discard_sent a.some) (is.wanted ∙ a.asked)) (is.enough ∙ a.enough)
+often_told rules s k f is a = and_from (nat_lt 0 rules.discard_sent && f.requested) (nat_le rules.discard_sent f.builds) (and_from (nat_lt 0 rules.discard_sent) f.requested (lt-ltb 0 rules.discard_sent a.some) (is.requested ∙ a.asked)) (is.enough ∙ a.enough)
 
 -- one of the numbers does
 sent_some : (rules : Rules) (s : Sender) (i : ℕ) (ks : List ℕ) → sent_enough rules s i ks ≡ true → (k : ℕ) × (has k ks ≡ true) × (touches s.bodies k i ≡ true) × (nat_le rules.discard_sent (count k s.sendings) ≡ true)
@@ -133,13 +133,13 @@ pub due_is : (buffer : ℕ) (rules : AmRules) (s : Sender) (k j : ℕ) (f : Flow
 due_is buffer rules s k j f begun is tells l = same_bool (is_often rules f || ((j == 0) && begun)) (due_by_sending (rules_of buffer rules) s (ends (take k s.bodies) + j)) (due_holds buffer rules s k j f begun is tells l) (due_told buffer rules s k j f begun is tells l)
 
 -- the same behind one PDU more
-pub begun-step : (rules : AmRules) (s : Sender) (k : ℕ) (f : Flown) (begun : Bool) → IsPdu rules s k f → TellsBegun begun s rules.discard_sent k → TellsBegun ((is_often rules f && f.goes_on) || ((f.ends == 0) && begun)) s rules.discard_sent (k + 1)
+pub begun-step : (rules : AmRules) (s : Sender) (k : ℕ) (f : Flown) (begun : Bool) → IsPdu rules s k f → TellsBegun begun s rules.discard_sent k → TellsBegun ((is_often rules f && f.continues) || ((f.ends == 0) && begun)) s rules.discard_sent (k + 1)
 begun-step rules s k f begun is tells = record { holds = holds; told = told }
   where
-    holds : ((is_often rules f && f.goes_on) || ((f.ends == 0) && begun)) ≡ true → (at : ℕ) × IsBegun s rules.discard_sent (k + 1) at
+    holds : ((is_often rules f && f.continues) || ((f.ends == 0) && begun)) ≡ true → (at : ℕ) × IsBegun s rules.discard_sent (k + 1) at
     holds e = ⊎_elim
-        (λ (h : (is_often rules f && f.goes_on) ≡ true).
-        let p = and_parts (is_often rules f) f.goes_on h in
+        (λ (h : (is_often rules f && f.continues) ≡ true).
+        let p = and_parts (is_often rules f) f.continues h in
         (k, record { before = omega arith; asked = often_holds rules s k f is p.0; goes = not-true (is_empty (body_at s.bodies k).rest) (sym is.goes ∙ p.1); same = refl }))
         (λ (h : ((f.ends == 0) && begun) ≡ true).
         let p = and_parts (f.ends == 0) begun h in
@@ -147,17 +147,17 @@ begun-step rules s k f begun is tells = record { holds = holds; told = told }
         let b : IsBegun s rules.discard_sent k w.0 = w.1 in
         let none : f.ends ≡ 0 = eqb-true f.ends 0 p.0 in
         (w.0, record { before = omega (arith, b.before); asked = b.asked; goes = b.goes; same = omega (arith, b.same, none, is.ends_are, ends-step s.bodies k is.inside) }))
-        (or_cases (is_often rules f && f.goes_on) ((f.ends == 0) && begun) e)
+        (or_cases (is_often rules f && f.continues) ((f.ends == 0) && begun) e)
 
-    told : (at : ℕ) → IsBegun s rules.discard_sent (k + 1) at → ((is_often rules f && f.goes_on) || ((f.ends == 0) && begun)) ≡ true
+    told : (at : ℕ) → IsBegun s rules.discard_sent (k + 1) at → ((is_often rules f && f.continues) || ((f.ends == 0) && begun)) ≡ true
     told at b = ⊎_elim
         (λ (l : at < k).
         let up : ends (take (at + 1) s.bodies) ≤ ends (take k s.bodies) = ends_up s.bodies (at + 1) k (omega arith) in
         let none : f.ends ≡ 0 = omega (arith, b.same, is.ends_are, ends-step s.bodies k is.inside) in
         let same : ends (take (at + 1) s.bodies) ≡ ends (take k s.bodies) = omega (arith, b.same, ends-step s.bodies k is.inside) in
-        or_right (is_often rules f && f.goes_on) ((f.ends == 0) && begun) (and_from (f.ends == 0) begun (eq-eqb f.ends 0 none) (tells.told at (record { before = l; asked = b.asked; goes = b.goes; same = same }))))
+        or_right (is_often rules f && f.continues) ((f.ends == 0) && begun) (and_from (f.ends == 0) begun (eq-eqb f.ends 0 none) (tells.told at (record { before = l; asked = b.asked; goes = b.goes; same = same }))))
         (λ (l : k ≤ at).
         let q : at ≡ k = omega (arith, b.before) in
         let c : IsBegun s rules.discard_sent (k + 1) k = subst (λ n. IsBegun s rules.discard_sent (k + 1) n) q b in
-        or_left (is_often rules f && f.goes_on) ((f.ends == 0) && begun) (and_from (is_often rules f) f.goes_on (often_told rules s k f is c.asked) (is.goes ∙ not_from_false (is_empty (body_at s.bodies k).rest) c.goes)))
+        or_left (is_often rules f && f.continues) ((f.ends == 0) && begun) (and_from (is_often rules f) f.continues (often_told rules s k f is c.asked) (is.goes ∙ not_from_false (is_empty (body_at s.bodies k).rest) c.goes)))
         (cases_lt at k)

@@ -12,7 +12,7 @@ use Rattle.dch_am.specs.Building.{body_at}
 use Rattle.dch_am.specs.Cuts.{IsCut}
 use Rattle.dch_am.specs.Discards.{can_take, count, discards, discards_at, due_by_age, due_by_sending, place_from}
 use Rattle.dch_am.specs.Rules.{Rules, rules_of}
-use Rattle.dch_am.specs.Sender.{Sender, first_open, held}
+use Rattle.dch_am.specs.Sender.{Sender, vt_a, held}
 use Rattle.dch_am.proofs.Reading.{cut_few, ends_split}
 use Rattle.dch_held.specs.declared.unit.Unit.{Unit as OneUnit}
 use Rattle.dch_held.specs.Held.{Held, age_at, sizes_of}
@@ -36,7 +36,7 @@ record AreUnits (buffer : ℕ) (rules : AmRules) (h : Held) (s : Sender) : Type 
 
 -- a pass has come to PDU k
 record IsAt (buffer : ℕ) (rules : AmRules) (s : Sender) (k place : ℕ) (scan : Scan) : Type 0 where
-  number : first_open s + place ≡ k
+  number : vt_a s + place ≡ k
   unit : scan.unit + released s ≡ ends (take k s.bodies)
   begun : TellsBegun scan.begun s rules.discard_sent k
   found : discards (rules_of buffer rules) s (ends (take k s.bodies)) ≡ discarded_by scan.found s
@@ -53,8 +53,8 @@ one_is buffer rules h s k place f scan j units is pdu l =
     inside : scan.unit + j < length h.units
     inside = omega (arith, is.unit, units.count, units.few, ends-step s.bodies k pdu.inside, ends_split (k + 1) s.bodies)
 
-    first : nat_lt (scan.unit + j) (length h.units) ≡ nat_le (first_open s) (0 + k)
-    first = lt-ltb (scan.unit + j) (length h.units) inside ∙ sym (le-leb (first_open s) (0 + k) (omega (arith, is.number)))
+    first : nat_lt (scan.unit + j) (length h.units) ≡ nat_le (vt_a s) (0 + k)
+    first = lt-ltb (scan.unit + j) (length h.units) inside ∙ sym (le-leb (vt_a s) (0 + k) (omega (arith, is.number)))
 
     mark : nat_le (mark_of f j) 15 ≡ nat_le (mark_in (body_at s.bodies k) j) 15
     mark = ap (λ b. nat_le (cond (b && (j == 0)) 0 (j + 1)) 15) pdu.full
@@ -78,9 +78,9 @@ units_are buffer rules h s k place f scan zero units is pdu l = let none : ends 
 units_are buffer rules h s k place f scan (suc n) units is pdu l =
     let next : ends (take k s.bodies) + suc n ≡ suc (ends (take k s.bodies) + n) = omega arith in
     let unit : ends (take k s.bodies) + n ≡ released s + (scan.unit + n) = omega (arith, is.unit) in
-    let number : 0 + k ≡ first_open s + place = omega (arith, is.number) in
+    let number : 0 + k ≡ vt_a s + place = omega (arith, is.number) in
     let mark : mark_in (body_at s.bodies k) n ≡ mark_of f n = ap (λ b. cond (b && (n == 0)) 0 (n + 1)) (sym pdu.full) in
-    let where_is : place_from s.bodies 0 (ends (take k s.bodies) + n) ≡ Some (first_open s + place, mark_of f n) = place-at s.bodies 0 k n pdu.inside (omega arith) ∙ ap₂ (λ a b. Some (a, b)) number mark in
+    let where_is : place_from s.bodies 0 (ends (take k s.bodies) + n) ≡ Some (vt_a s + place, mark_of f n) = place-at s.bodies 0 k n pdu.inside (omega arith) ∙ ap₂ (λ a b. Some (a, b)) number mark in
     ap (discards (rules_of buffer rules) s) next
     ∙ choose s (discards_at s (ends (take k s.bodies) + n) (place_from s.bodies 0 (ends (take k s.bodies) + n))) (discards (rules_of buffer rules) s (ends (take k s.bodies) + n)) (record { unit = scan.unit + n; place = place; mark = mark_of f n }) (last_in rules h place f scan n) (can_take (rules_of buffer rules) s (ends (take k s.bodies) + n) (place_from s.bodies 0 (ends (take k s.bodies) + n))) (can_discard rules h f scan n) (one_is buffer rules h s k place f scan n units is pdu (omega arith)) (ap₂ (discards_at s) unit where_is) (units_are buffer rules h s k place f scan n units is pdu (omega arith))
 
@@ -107,15 +107,15 @@ pdus_are buffer rules h s (f ∷ flown) k place scan units is long all =
     pdus_are buffer rules h s flown (k + 1) (place + 1) (after_pdu rules h place f scan) units (pdu_is buffer rules h s k place f scan units is pdu) (omega (arith, long)) (λ i l. let e : k + suc i ≡ (k + 1) + i = omega arith in subst (λ n. IsPdu rules s n (at flown i)) e (all (suc i) (omega arith)))
 
 -- units of PDUs that are acknowledged aren't discarded
-low_is : (rules : Rules) (s : Sender) (i : ℕ) (p : Option (ℕ × ℕ)) → IfSome p (λ q. q.0 < 0 + first_open s) → can_take rules s i p ≡ false
+low_is : (rules : Rules) (s : Sender) (i : ℕ) (p : Option (ℕ × ℕ)) → IfSome p (λ q. q.0 < 0 + vt_a s) → can_take rules s i p ≡ false
 low_is rules s i None l = refl
 low_is rules s i (Some p) l =
-    and_left (nat_le (first_open s) p.0 && nat_le p.1 15 && nat_le s.dropped i) (due_by_age rules s i || due_by_sending rules s i) (and_left (nat_le (first_open s) p.0 && nat_le p.1 15) (nat_le s.dropped i) (and_left (nat_le (first_open s) p.0) (nat_le p.1 15) (lt-leb (first_open s) p.0 (omega (arith, l)))))
+    and_left (nat_le (vt_a s) p.0 && nat_le p.1 15 && nat_le s.dropped i) (due_by_age rules s i || due_by_sending rules s i) (and_left (nat_le (vt_a s) p.0 && nat_le p.1 15) (nat_le s.dropped i) (and_left (nat_le (vt_a s) p.0) (nat_le p.1 15) (lt-leb (vt_a s) p.0 (omega (arith, l)))))
 
 -- so none below them is
 discards-low : (rules : Rules) (s : Sender) (n : ℕ) → n ≤ released s → discards rules s n ≡ s
 discards-low rules s zero l = refl
-discards-low rules s (suc i) l = cond-false (can_take rules s i (place_from s.bodies 0 i)) (discards_at s i (place_from s.bodies 0 i)) (discards rules s i) (low_is rules s i (place_from s.bodies 0 i) (place_low s.bodies 0 i (first_open s) (omega arith))) ∙ discards-low rules s i (omega arith)
+discards-low rules s (suc i) l = cond-false (can_take rules s i (place_from s.bodies 0 i)) (discards_at s i (place_from s.bodies 0 i)) (discards rules s i) (low_is rules s i (place_from s.bodies 0 i) (place_low s.bodies 0 i (vt_a s) (omega arith))) ∙ discards-low rules s i (omega arith)
 
 -- nor are those that end in no PDU
 discards-past : (rules : Rules) (s : Sender) (n : ℕ) → ends s.bodies ≤ n → discards rules s n ≡ discards rules s (ends s.bodies)
@@ -144,7 +144,7 @@ units_hold : (buffer : ℕ) (rules : AmRules) (h : Held) (s : Sender) → rules.
 units_hold buffer rules h s small is cut = record {
   old = old;
   passed = λ u. subst (λ n. nat_le n u ≡ nat_le s.dropped (released s + u)) (sym is.passed) (later s.dropped (released s) u);
-  count = omega (arith, length-sizes_of h.units, ap length is.sizes, length-blocks (held s), length-drop (released s) s.accepted, ends_split (first_open s) s.bodies, few);
+  count = omega (arith, length-sizes_of h.units, ap length is.sizes, length-blocks (held s), length-drop (released s) s.accepted, ends_split (vt_a s) s.bodies, few);
   few = few;
 }
   where
@@ -164,24 +164,24 @@ units_hold buffer rules h s small is cut = record {
 -- what is kept of a PDU stands for it so
 pdu_holds : (rules : AmRules) (s : Sender) (d k : ℕ) (f : Flown) → rules.discard_sent ≤ 255 → k < length s.bodies → IsFlown s k f → Has d f (body_at s.bodies k) → IsPdu rules s k f
 pdu_holds rules s d k f small inside is has = record {
-  wanted = is.wanted;
+  requested = is.requested;
   enough = ap (nat_le rules.discard_sent) is.builds ∙ saturated rules.discard_sent 255 (count k s.sendings) small;
   full = has.full;
   ends_are = has.ends;
-  goes = has.goes_on;
+  goes = has.continues;
   inside = inside;
 }
 
 -- after all PDUs, and with the units that end in none
-pub overdue_is : (buffer d : ℕ) (rules : AmRules) (l : Line) (h : Held) (s : Sender) → rules.discard_age ≤ 65535 → rules.discard_sent ≤ 255 → Stands (rules_of buffer rules) l s → Holds (rules_of buffer rules) h s → IsCut s.accepted s.unsent s.bodies → ((i : ℕ) → i < length l.flown → Has d (at l.flown i) (body_at s.bodies (first_open s + i))) → discards (rules_of buffer rules) s (length s.accepted) ≡ discarded_by (overdue rules h l.flown) s
+pub overdue_is : (buffer d : ℕ) (rules : AmRules) (l : Line) (h : Held) (s : Sender) → rules.discard_age ≤ 65535 → rules.discard_sent ≤ 255 → Stands (rules_of buffer rules) l s → Holds (rules_of buffer rules) h s → IsCut s.accepted s.unsent s.bodies → ((i : ℕ) → i < length l.flown → Has d (at l.flown i) (body_at s.bodies (vt_a s + i))) → discards (rules_of buffer rules) s (length s.accepted) ≡ discarded_by (overdue rules h l.flown) s
 overdue_is buffer d rules l h s age sent stands holds cut has =
     discards-past (rules_of buffer rules) s (length s.accepted) (cut_few s.accepted s.unsent s.bodies cut)
-    ∙ pdus_are buffer rules h s l.flown (first_open s) 0 no_scan (units_hold buffer rules h s age holds cut) begins stands.flying (λ i less. pdu_holds rules s d (first_open s + i) (at l.flown i) sent (omega (arith, stands.flying)) (stands.flown i less) (has i less))
+    ∙ pdus_are buffer rules h s l.flown (vt_a s) 0 no_scan (units_hold buffer rules h s age holds cut) begins stands.flying (λ i less. pdu_holds rules s d (vt_a s + i) (at l.flown i) sent (omega (arith, stands.flying)) (stands.flown i less) (has i less))
   where
-    begins : IsAt buffer rules s (first_open s) 0 no_scan
+    begins : IsAt buffer rules s (vt_a s) 0 no_scan
     begins = record {
       number = omega arith;
       unit = omega arith;
-      begun = record { holds = λ e. absurd (both_ways false refl e); told = λ at b. absurd (omega (arith, b.before, (stands.wanted at b.asked.asked).from)) };
+      begun = record { holds = λ e. absurd (both_ways false refl e); told = λ at b. absurd (omega (arith, b.before, (stands.requested at b.asked.asked).from)) };
       found = discards-low (rules_of buffer rules) s (released s) (omega arith);
     }

@@ -8,7 +8,7 @@ use Rattle.dch_overdue.specs.declared.scan.Scan.{Scan}
 
 -- a PDU is requested and was built often enough
 abbrev pub is_often : AmRules → Flown → Bool
-is_often rules f = nat_lt 0 rules.discard_sent && f.wanted && nat_le rules.discard_sent f.builds
+is_often rules f = nat_lt 0 rules.discard_sent && f.requested && nat_le rules.discard_sent f.builds
 
 -- a unit is old enough
 abbrev pub is_old : AmRules → Held → ℕ → Bool
@@ -35,7 +35,7 @@ last_in rules h place f scan (suc j) =
 abbrev pub after_pdu : AmRules → Held → ℕ → Flown → Scan → Scan
 after_pdu rules h place f scan = record {
   unit = scan.unit + f.ends;
-  begun = (is_often rules f && f.goes_on) || ((f.ends == 0) && scan.begun);
+  begun = (is_often rules f && f.continues) || ((f.ends == 0) && scan.begun);
   found = last_in rules h place f scan f.ends;
 }
 

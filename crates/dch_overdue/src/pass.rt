@@ -3,7 +3,7 @@ ghost use Rattle.dch_am.specs.Cuts.{IsCut};
 ghost use Rattle.dch_am.specs.Building.{body_at};
 ghost use Rattle.dch_am.specs.Discards.{discards};
 ghost use Rattle.dch_am.specs.Rules.{Rules, rules_of};
-ghost use Rattle.dch_am.specs.Sender.{Sender, first_open};
+ghost use Rattle.dch_am.specs.Sender.{Sender, vt_a};
 ghost use Rattle.dch_flight.specs.Flights.{at};
 ghost use Rattle.dch_held.specs.Holding.{Holds};
 ghost use Rattle.dch_sent.specs.Standing.{Stands};
@@ -20,7 +20,7 @@ use dch_types::AmRules;
 /// a place of four bits, and it is old enough or a PDU with octets of it was requested after it was built often enough.
 pub fn overdue(line: &Line, held: &Held, rules: &AmRules) -> Option<Overdue>
     ensures within { IfSome result (λ o. (o.place < length line.now.flown) × (o.unit < length held.now.units) × (o.mark < 16) × (held.now.passed ≤ o.unit)) }
-    ensures history { (r : Rules) (buffer d : ℕ) (s : Sender) → r ≡ rules_of buffer rules.now → Stands r line.now s → Holds r held.now s → IsCut s.accepted s.unsent s.bodies → ((i : ℕ) → i < length line.now.flown → Has d (at line.now.flown i) (body_at s.bodies (first_open s + i))) → discards r s (length s.accepted) ≡ discarded_by result s }
+    ensures history { (r : Rules) (buffer d : ℕ) (s : Sender) → r ≡ rules_of buffer rules.now → Stands r line.now s → Holds r held.now s → IsCut s.accepted s.unsent s.bodies → ((i : ℕ) → i < length line.now.flown → Has d (at line.now.flown i) (body_at s.bodies (vt_a s + i))) → discards r s (length s.accepted) ≡ discarded_by result s }
 {
     last(line, held, *rules)
 }

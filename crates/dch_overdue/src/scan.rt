@@ -32,7 +32,7 @@ pub fn after_pdu(held: &Held, rules: &AmRules, flown: &Flown, place: u16, scan: 
 {
     let often = is_often(rules, flown);
     let found = last_in(held, rules, flown, place, scan);
-    let begun = often && flown.goes_on || flown.ends == 0 && scan.begun;
+    let begun = often && flown.continues || flown.ends == 0 && scan.begun;
     Scan {
         unit: scan.unit + flown.ends as usize,
         begun,
@@ -44,7 +44,7 @@ pub fn after_pdu(held: &Held, rules: &AmRules, flown: &Flown, place: u16, scan: 
 fn is_often(rules: &AmRules, flown: &Flown) -> bool
     ensures { result ≡ is_often rules.now flown.now }
 {
-    rules.discard_sent > 0 && flown.wanted && flown.builds >= rules.discard_sent
+    rules.discard_sent > 0 && flown.requested && flown.builds >= rules.discard_sent
 }
 
 /// The last unit that can be discarded, up to those that end in a PDU.

@@ -6,7 +6,7 @@ use Rattle.dch_am.specs.Contents.{body_in}
 use Rattle.dch_am.specs.Entities.{Come, DataPdu, Entity, IsWritten, Turn, Tells, Moves, Sends, Rests, step, turn, writes}
 use Rattle.dch_am.specs.Numbers.{wrapped}
 use Rattle.dch_am.specs.Rules.{Rules}
-use Rattle.dch_am.specs.Sender.{Discard, next_new}
+use Rattle.dch_am.specs.Sender.{Discard, vt_s}
 use Rattle.dch_am.specs.Short.{IsShort}
 use Rattle.dch_am.specs.Status.{Told, fields_of}
 use Rattle.dch_am.specs.Telling.{tells_now}
@@ -27,7 +27,7 @@ pub record IsPayload (d : ℕ) (out : List ℕ) (k : ℕ) (poll : Bool) (body : 
 
 abbrev pub IsWire : ℕ → List ℕ → Block → Type 0
 IsWire d out (Payload k poll body) = IsPayload d out k poll body
-IsWire d out (Mrw k n upto) = am_reading out ≡ Ok (Status (mrw_fields (wrapped k) n))
+IsWire d out (Mrw k n end_of_discard) = am_reading out ≡ Ok (Status (mrw_fields (wrapped k) n))
 IsWire d out (Report t) = am_reading out ≡ Ok (Status (fields_of t))
 
 abbrev pub IsSent : ℕ → List ℕ → Option Block → Type 0
@@ -45,7 +45,7 @@ payload_is d k out poll b small e is = record {
 
 pdu_sent : (rules : Rules) (e : End) (c : Choice) (out : List ℕ) → is_pdu c ≡ true → e.octets - 2 ≤ 124 → out ≡ pdu_of_choice rules (e.octets - 2) e.entity.sender c → IsShort (e.octets - 2) (body_of_choice c (e.octets - 2) e.entity.sender) → IsSent (e.octets - 2) out (payload_of c rules e)
 pdu_sent rules e (Again k) out some small is short = payload_is (e.octets - 2) k out (polls_at (Again k) rules (e.octets - 2) e.entity.sender) (body_of_choice (Again k) (e.octets - 2) e.entity.sender) small is short
-pdu_sent rules e New out some small is short = payload_is (e.octets - 2) (next_new e.entity.sender) out (polls_at New rules (e.octets - 2) e.entity.sender) (body_of_choice New (e.octets - 2) e.entity.sender) small is short
+pdu_sent rules e New out some small is short = payload_is (e.octets - 2) (vt_s e.entity.sender) out (polls_at New rules (e.octets - 2) e.entity.sender) (body_of_choice New (e.octets - 2) e.entity.sender) small is short
 pdu_sent rules e (Last k) out some small is short = payload_is (e.octets - 2) k out (polls_at (Last k) rules (e.octets - 2) e.entity.sender) (body_of_choice (Last k) (e.octets - 2) e.entity.sender) small is short
 pdu_sent rules e NoPdu out some small is short = absurd (cc)
 
@@ -74,5 +74,5 @@ none_sent Rests rules e is = refl
 -- what is read does to an entity what the block does
 pub wire_does : (rules : Rules) (d size : ℕ) (out : List ℕ) (e : Entity) (b : Block) → IsWire d out b → hears rules size (am_reading out) e ≡ all_handed (step rules size e (Come (pdu_in b)))
 wire_does rules d size out e (Payload k poll body) is = ap (λ v. hears rules size v e) is.read ∙ ap (λ (x : Body). all_handed (step rules size e (Come (DataPdu (wrapped k) poll x None)))) is.same
-wire_does rules d size out e (Mrw k n upto) is = ap (λ v. hears rules size v e) is
+wire_does rules d size out e (Mrw k n end_of_discard) is = ap (λ v. hears rules size v e) is
 wire_does rules d size out e (Report t) is = ap (λ v. hears rules size v e) is

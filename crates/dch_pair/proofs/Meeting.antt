@@ -34,7 +34,7 @@ arrived rules first second q b line none near far = subst (λ l. AreRunning rule
   where
     comes : (c : Block) → IsAt rules second (all_handed (step rules q.far.octets q.far.entity (Come (pdu_in c)))) q.far.octets q.near.octets → AreRunning rules first second (turned (arrives rules (turned q) (c ∷ [])))
     comes (Payload k poll body) is = record { near = near; far = is; out = refl; back = none }
-    comes (Mrw k n upto) is = record { near = near; far = is; out = refl; back = none }
+    comes (Mrw k n end_of_discard) is = record { near = near; far = is; out = refl; back = none }
     comes (Report t) is = record { near = near; far = is; out = refl; back = none }
 
 -- a pair whose near end has built, and sends this

@@ -5,8 +5,8 @@ use Rattle.std.proofs.lemmas.Bool.{lt-ltb, ltb-true, ltb-false}
 use Rattle.std.proofs.lemmas.List.{append-nil, take_all}
 use Rattle.dch_am.specs.Bodies.{Body, Reading, ended, read_body, read_full, read_pieces}
 use Rattle.dch_am.specs.Entities.{Pdu, DataPdu, StatusPdu, ResetPdu, ResetAckPdu, receiver_by}
-use Rattle.dch_am.specs.Moves.{after_control, after_move, after_move_in, move_in, moved, with_move}
-use Rattle.dch_am.specs.Receiver.{Receiver, after_pdu, body_of, dead_pieces, expected, read_on, read_one, read_run, read_trimmed, taken, with_pdu}
+use Rattle.dch_am.specs.Moves.{after_control, after_move, after_move_in, move_in, obeyed_mrw, with_move}
+use Rattle.dch_am.specs.Receiver.{Receiver, after_pdu, body_of, dead_pieces, vr_r, read_on, read_one, read_run, read_trimmed, taken, with_pdu}
 use Rattle.dch_am.specs.Numbers.{ahead}
 use Rattle.dch_am.specs.Rules.{Rules}
 use Rattle.dch_am.specs.declared.answers.MrwTaken.{MrwTaken}
@@ -94,23 +94,23 @@ grown_run trim arrived r from zero = grown_none r.units
 grown_run trim arrived r from (suc n) = grown_by r.units (read_one trim r from (body_of arrived from)).units (read_run trim arrived r from (suc n)).units (grown_one trim r from (body_of arrived from)) (grown_run trim arrived (read_one trim r from (body_of arrived from)) (from + 1) n)
 
 grown_on : (r : Receiver) (from : ℕ) → Grown r.reading.units (read_on r from).reading.units
-grown_on r from = grown_run r.trim r.arrived r.reading from (expected r - from)
+grown_on r from = grown_run r.trim r.arrived r.reading from (vr_r r - from)
 
 -- by a data PDU
 grown_pdu : (rules : Rules) (t : Taken) (r : Receiver) (sn : ℕ) (poll : Bool) (b : Body) → Grown r.reading.units (after_pdu rules t r sn poll b).reading.units
-grown_pdu rules Kept r sn poll b = grown_on (with_pdu rules r (expected r + ahead (expected r) sn) poll b) (expected r)
+grown_pdu rules Kept r sn poll b = grown_on (with_pdu rules r (vr_r r + ahead (vr_r r) sn) poll b) (vr_r r)
 grown_pdu rules Duplicate r sn poll b = grown_none r.reading.units
 grown_pdu rules Outside r sn poll b = grown_none r.reading.units
 
 grown_move : (t : MrwTaken) (r : Receiver) (sn n : ℕ) → Grown r.reading.units (after_move t r sn n).reading.units
-grown_move Obeyed r sn n = grown_on (with_move r (expected r + ahead (expected r) sn) n) (expected r + ahead (expected r) sn)
+grown_move Obeyed r sn n = grown_on (with_move r (vr_r r + ahead (vr_r r) sn) n) (vr_r r + ahead (vr_r r) sn)
 grown_move Old r sn n = grown_none r.reading.units
 grown_move (Beyond i) r sn n = grown_none r.reading.units
 grown_move Nothing r sn n = grown_none r.reading.units
 
 grown_move_in : (rules : Rules) (r : Receiver) (o : Option (ℕ × ℕ)) → Grown r.reading.units (after_move_in rules r o).reading.units
 grown_move_in rules r None = grown_none r.reading.units
-grown_move_in rules r (Some p) = grown_move (moved rules r p.0) r p.0 p.1
+grown_move_in rules r (Some p) = grown_move (obeyed_mrw rules r p.0) r p.0 p.1
 
 -- by a status
 grown_control : (rules : Rules) (r : Receiver) (fields : List Field) → Grown r.reading.units (after_control rules r fields).reading.units

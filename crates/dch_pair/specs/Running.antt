@@ -83,7 +83,7 @@ pub record IsOutcome (o : Outcome) (p : Pair) : Type 0 where
 -- lowest number that is missing is among them or was discarded
 pub record IsDelivered (from to : End) (units : List (List ℕ)) : Type 0 where
   pub in_order : units ≡ picked from.entity.sender.bodies to.spans 0 from.entity.sender.accepted
-  pub none_lost : (i : ℕ) → i < ends (take (gap_free to) from.entity.sender.bodies) → (in_span from.entity.sender.bodies to.spans i ≡ true) ⊎ (has i from.entity.sender.gone ≡ true)
+  pub none_lost : (i : ℕ) → i < ends (take (gap_free to) from.entity.sender.bodies) → (in_span from.entity.sender.bodies to.spans i ≡ true) ⊎ (has i from.entity.sender.discarded_units ≡ true)
 
 pub record AreDelivered (o : Outcome) (p : Pair) : Type 0 where
   pub to_second : IsDelivered p.near p.far o.second.units

@@ -5,7 +5,7 @@ use Rattle.dch_am.specs.Acknowledging.{status_answer}
 use Rattle.dch_am.specs.Building.{Choice, Again as Repeats, New, Last, NoPdu, choice, gives, is_pdu}
 use Rattle.dch_am.specs.Discards.{mrw_due}
 use Rattle.dch_am.specs.Entities.{Entity, Come as Comes, Turn, Tells, Moves, Sends, Rests, step as entity_step, turn as entity_turn, writes as entity_writes}
-use Rattle.dch_am.specs.Moves.{answer_to, moved}
+use Rattle.dch_am.specs.Moves.{answer_to, obeyed_mrw}
 use Rattle.dch_am.specs.Numbers.{wrapped}
 use Rattle.dch_am.specs.Receiver.{taken}
 use Rattle.dch_am.specs.Rules.{Rules}
@@ -89,12 +89,12 @@ all_same e is = ap (λ n. record e { entity = record { sender = e.entity.sender;
 -- what an end takes of a block is what its entity does
 takes_is : (rules : Rules) (e : End) (b : Block) → (takes rules e b).entity ≡ all_handed (entity_step rules e.octets e.entity (Comes (pdu_in b)))
 takes_is rules e (Payload k poll body) = refl
-takes_is rules e (Mrw k n upto) = refl
+takes_is rules e (Mrw k n end_of_discard) = refl
 takes_is rules e (Report t) = refl
 
 pub came_block : (rules : Rules) (size : ℕ) (e : State) (b : Block) → came rules size e (pdu_in b) ≡ taken_by rules size e e.pending (pdu_in b)
 came_block rules size e (Payload k poll body) = refl
-came_block rules size e (Mrw k n upto) = refl
+came_block rules size e (Mrw k n end_of_discard) = refl
 came_block rules size e (Report t) = refl
 
 data_is : (rules : Rules) (e : ResetEnd) (label : ℕ) (b : Block) (q : Option Pending) → IsAllHanded (state_of e) → state_of (hears_data rules e q label b) ≡ handed_up (taken_by rules e.sides.octets (state_of e) q (pdu_in b))
@@ -132,12 +132,12 @@ status_outside (Unknown i) = refl
 
 block_answer : (rules : Rules) (e : End) (b : Block) → is_outside (entity_answer (received rules e.entity (pdu_in b))) ≡ block_outside rules e b
 block_answer rules e (Payload k poll body) = pdu_outside (taken rules e.entity.receiver (wrapped k))
-block_answer rules e (Mrw k n upto) = move_outside (moved rules e.entity.receiver (wrapped k))
+block_answer rules e (Mrw k n end_of_discard) = move_outside (obeyed_mrw rules e.entity.receiver (wrapped k))
 block_answer rules e (Report t) = ap (λ o. is_outside (unless_unknown (status_answer rules e.entity.sender (fields_of t)) (move_answer (answer_to rules e.entity.receiver o)))) (told_still t) ∙ status_outside (status_answer rules e.entity.sender (fields_of t))
 
 answer_block : (rules : Rules) (e : State) (b : Block) → answer rules e (pdu_in b) ≡ unless_pending e.pending (entity_answer (received rules e.entity (pdu_in b)))
 answer_block rules e (Payload k poll body) = refl
-answer_block rules e (Mrw k n upto) = refl
+answer_block rules e (Mrw k n end_of_discard) = refl
 answer_block rules e (Report t) = refl
 
 data_outside : (q : Option Pending) (got : Got) → is_outside (unless_pending q got) ≡ (not (is_some q) && is_outside got)

@@ -208,7 +208,7 @@ kept_ticks rules (Some r) b near far out back small k = record {
   far_cut = k.far_cut;
   out_labels = k.out_labels;
   back_labels = k.back_labels;
-  out_log = subst (λ us. Log (near.restarts + 1) (now ∷ near.senders) (drop (begun now) now.accepted) us (labels_of b far.labels) (stretches_of b (present far) far.stretches)) (append-nil near.accepted) (log_head near.restarts near.sides.entity.sender now near.senders near.accepted [] (labels_of b far.labels) (stretches_of b (present far) far.stretches) (tick_goes_on near.sides.entity.sender now t.bodies t.accepted t.gone) k.out_log);
+  out_log = subst (λ us. Log (near.restarts + 1) (now ∷ near.senders) (drop (begun now) now.accepted) us (labels_of b far.labels) (stretches_of b (present far) far.stretches)) (append-nil near.accepted) (log_head near.restarts near.sides.entity.sender now near.senders near.accepted [] (labels_of b far.labels) (stretches_of b (present far) far.stretches) (tick_goes_on near.sides.entity.sender now t.bodies t.accepted t.discarded_units) k.out_log);
   back_log = k.back_log;
   near_counted = record { stretches = k.near_counted.stretches; senders = k.near_counted.senders };
   far_counted = k.far_counted;

@@ -8,7 +8,7 @@ use Rattle.dch_am.specs.Numbers.{has}
 use Rattle.dch_am.specs.Rules.{Rules}
 use Rattle.dch_am.specs.Sender.{Sender}
 use Rattle.dch_am.specs.Status.{Status}
-use Rattle.dch_am.specs.Receiver.{expected}
+use Rattle.dch_am.specs.Receiver.{vr_r}
 use Rattle.dch_amlaw.specs.Pair.{Block, End, in_span, picked, gap_free}
 use Rattle.dch_amlaw.proofs.Direction.{Direction}
 use Rattle.dch_amlaw.proofs.Hands.{Hands, picked_push}
@@ -32,14 +32,14 @@ pub record From (s : Sender) (units : List (List ℕ)) : Type 0 where
   pub at : ℕ → Bool
   pub units_are : units ≡ those at 0 s.accepted
   pub inside : (i : ℕ) → at i ≡ true → i < begun s
-  pub passed : (i j : ℕ) → i < j → at j ≡ true → at i ≡ false → has i s.gone ≡ true
+  pub passed : (i j : ℕ) → i < j → at j ≡ true → at i ≡ false → has i s.discarded_units ≡ true
 
 pub from_stretch : (s : Sender) (st : Stretch) → IsOf s st → From s st.units
 from_stretch s st is = record {
   at = in_span s.bodies st.spans;
   units_are = is.units ∙ picked_those s.bodies st.spans 0 s.accepted;
   inside = is.inside;
-  passed = λ i j l h no. ⊎_elim (λ (q : in_span s.bodies st.spans i ≡ true). absurd (both_ways _ no q)) (λ (q : has i s.gone ≡ true). q) (is.none_lost i (omega (arith, is.reach j h)));
+  passed = λ i j l h no. ⊎_elim (λ (q : in_span s.bodies st.spans i ≡ true). absurd (both_ways _ no q)) (λ (q : has i s.discarded_units ≡ true). q) (is.none_lost i (omega (arith, is.reach j h)));
 }
 
 -- each finished stretch is one of a sender before its restart
@@ -112,7 +112,7 @@ log_head n s now ss all more labels sts g l = record {
 }
 
 -- A unit is accepted.
-pub unit_goes_on : (s now : Sender) (u : List ℕ) → IsCut s.accepted s.unsent s.bodies → now.bodies ≡ s.bodies → now.accepted ≡ s.accepted ++ u ∷ [] → now.gone ≡ s.gone → Goes_on s now (u ∷ [])
+pub unit_goes_on : (s now : Sender) (u : List ℕ) → IsCut s.accepted s.unsent s.bodies → now.bodies ≡ s.bodies → now.accepted ≡ s.accepted ++ u ∷ [] → now.discarded_units ≡ s.discarded_units → Goes_on s now (u ∷ [])
 unit_goes_on s now u c eb ea eg = record { accepted = ea; begun_is = same; stretch = stretch }
   where
     same : begun now ≡ begun s
@@ -125,11 +125,11 @@ unit_goes_on s now u c eb ea eg = record { accepted = ea; begun_is = same; stret
           units = i.units ∙ sym (picked_push s.bodies st.spans 0 (length s.accepted) s.accepted u (omega arith) out) ∙ ap (picked s.bodies st.spans 0) (sym ea) ∙ ap (λ bs. picked bs st.spans 0 now.accepted) (sym eb);
           inside = λ j q. omega (arith, same, i.inside j (ap (λ bs. in_span bs st.spans j) (sym eb) ∙ q));
           reach = λ j q. subst (λ bs. j < ends (take st.missing bs)) (sym eb) (i.reach j (ap (λ bs. in_span bs st.spans j) (sym eb) ∙ q));
-          none_lost = λ j l. subst (λ bs. (in_span bs st.spans j ≡ true) ⊎ (has j now.gone ≡ true)) (sym eb) (subst (λ g. (in_span s.bodies st.spans j ≡ true) ⊎ (has j g ≡ true)) (sym eg) (i.none_lost j (subst (λ bs. j < ends (take st.missing bs)) eb l)));
+          none_lost = λ j l. subst (λ bs. (in_span bs st.spans j ≡ true) ⊎ (has j now.discarded_units ≡ true)) (sym eb) (subst (λ g. (in_span s.bodies st.spans j ≡ true) ⊎ (has j g ≡ true)) (sym eg) (i.none_lost j (subst (λ bs. j < ends (take st.missing bs)) eb l)));
         }
 
 -- It discards, or nothing of this changes.
-pub tick_goes_on : (s now : Sender) → now.bodies ≡ s.bodies → now.accepted ≡ s.accepted → ((i : ℕ) → has i s.gone ≡ true → has i now.gone ≡ true) → Goes_on s now []
+pub tick_goes_on : (s now : Sender) → now.bodies ≡ s.bodies → now.accepted ≡ s.accepted → ((i : ℕ) → has i s.discarded_units ≡ true → has i now.discarded_units ≡ true) → Goes_on s now []
 tick_goes_on s now eb ea more = record { accepted = ea ∙ sym (append-nil s.accepted); begun_is = same; stretch = stretch }
   where
     same : begun now ≡ begun s
@@ -140,14 +140,14 @@ tick_goes_on s now eb ea more = record { accepted = ea ∙ sym (append-nil s.acc
       units = i.units ∙ ap (picked s.bodies st.spans 0) (sym ea) ∙ ap (λ bs. picked bs st.spans 0 now.accepted) (sym eb);
       inside = λ j q. omega (arith, same, i.inside j (ap (λ bs. in_span bs st.spans j) (sym eb) ∙ q));
       reach = λ j q. subst (λ bs. j < ends (take st.missing bs)) (sym eb) (i.reach j (ap (λ bs. in_span bs st.spans j) (sym eb) ∙ q));
-      none_lost = λ j l. ⊎_elim (λ (q : in_span s.bodies st.spans j ≡ true). inl (ap (λ bs. in_span bs st.spans j) eb ∙ q)) (λ (q : has j s.gone ≡ true). inr (more j q)) (i.none_lost j (subst (λ bs. j < ends (take st.missing bs)) eb l));
+      none_lost = λ j l. ⊎_elim (λ (q : in_span s.bodies st.spans j ≡ true). inl (ap (λ bs. in_span bs st.spans j) eb ∙ q)) (λ (q : has j s.discarded_units ≡ true). inr (more j q)) (i.none_lost j (subst (λ bs. j < ends (take st.missing bs)) eb l));
     }
 
 -- what a stretch is when it ends
 pub closing : (bearer : Rules) (a b : End) (line : List Block) (ts : List Status) (labels : List ℕ) → Direction bearer a.entity.sender b.entity.receiver b.came b.moved_to line ts → Hands a.entity.sender.bodies a.entity.sender.accepted b.entity.receiver b.moved_past b.spans → Lost a.entity.sender line b.moved_past b.spans → IsOf a.entity.sender (record { labels = labels; spans = b.spans; missing = gap_free b; units = b.entity.receiver.reading.units })
 closing bearer a b line ts labels d h l = record {
   units = h.units;
-  inside = λ i q. omega (arith, h.inside i q, front_begun a.entity.sender.accepted a.entity.sender.unsent a.entity.sender.bodies (expected b.entity.receiver) d.cut);
+  inside = λ i q. omega (arith, h.inside i q, front_begun a.entity.sender.accepted a.entity.sender.unsent a.entity.sender.bodies (vr_r b.entity.receiver) d.cut);
   reach = λ i q. subst (λ g. i < ends (take g a.entity.sender.bodies)) (kept bearer a b line ts d h l).expected_is (h.inside i q);
   none_lost = (kept bearer a b line ts d h l).none_lost;
 }

@@ -29,7 +29,7 @@ pair_of near far out back = record { near = near; far = far; out = out; back = b
 -- What comes doesn't change which units were accepted.
 pub takes_accepted : (rules : Rules) (e : End) (b : Block) → (takes rules e b).entity.sender.accepted ≡ e.entity.sender.accepted
 takes_accepted rules e (Payload k poll body) = refl
-takes_accepted rules e (Mrw k n upto) = refl
+takes_accepted rules e (Mrw k n end_of_discard) = refl
 takes_accepted rules e (Report t) = fields_same rules e.entity.sender (fields_of t)
 
 -- What a tick keeps of a sender.
@@ -37,24 +37,24 @@ pub record Ticks (s now : Sender) : Type 0 where
   pub bodies : now.bodies ≡ s.bodies
   pub accepted : now.accepted ≡ s.accepted
   pub unsent : now.unsent ≡ s.unsent
-  pub gone : (i : ℕ) → has i s.gone ≡ true → has i now.gone ≡ true
+  pub discarded_units : (i : ℕ) → has i s.discarded_units ≡ true → has i now.discarded_units ≡ true
 
 ticks_at : (s : Sender) (i : ℕ) (o : Option (ℕ × ℕ)) → Ticks s (discards_at s i o)
-ticks_at s i None = record { bodies = refl; accepted = refl; unsent = refl; gone = λ j h. h }
-ticks_at s i (Some p) = record { bodies = refl; accepted = refl; unsent = refl; gone = λ j h. has-append j _ s.gone ∙ or_right _ _ h }
+ticks_at s i None = record { bodies = refl; accepted = refl; unsent = refl; discarded_units = λ j h. h }
+ticks_at s i (Some p) = record { bodies = refl; accepted = refl; unsent = refl; discarded_units = λ j h. has-append j _ s.discarded_units ∙ or_right _ _ h }
 
 ticks_discards : (rules : Rules) (s : Sender) (n : ℕ) → Ticks s (discards rules s n)
-ticks_discards rules s zero = record { bodies = refl; accepted = refl; unsent = refl; gone = λ j h. h }
+ticks_discards rules s zero = record { bodies = refl; accepted = refl; unsent = refl; discarded_units = λ j h. h }
 ticks_discards rules s (suc i) = cond_both (can_take rules s i (place_from s.bodies 0 i)) _ _ (λ (x : Sender). Ticks s x) (λ _. ticks_at s i (place_from s.bodies 0 i)) (λ _. ticks_discards rules s i)
 
 ticks_after : (rules : Rules) (s : Sender) (d : Option Discard) → Ticks s (after_tick rules s d)
 ticks_after rules s None = ticks_discards rules s (length s.accepted)
-ticks_after rules s (Some d) = record { bodies = refl; accepted = refl; unsent = refl; gone = λ j h. h }
+ticks_after rules s (Some d) = record { bodies = refl; accepted = refl; unsent = refl; discarded_units = λ j h. h }
 
 pub ticks_keep : (rules : Rules) (s : Sender) → Ticks s (tick_sender rules s)
 ticks_keep rules s =
-    let t = ticks_after rules (record s { timer = s.timer - 1; owed = s.owed || (s.timer == 1); ticks = s.ticks + 1 }) s.discard in
-    record { bodies = t.bodies; accepted = t.accepted; unsent = t.unsent; gone = t.gone }
+    let t = ticks_after rules (record s { poll_timer = s.poll_timer - 1; owed = s.owed || (s.poll_timer == 1); ticks = s.ticks + 1 }) s.discard in
+    record { bodies = t.bodies; accepted = t.accepted; unsent = t.unsent; discarded_units = t.discarded_units }
 
 pub cut_ticks : (s now : Sender) → Ticks s now → IsCut s.accepted s.unsent s.bodies → IsCut now.accepted now.unsent now.bodies
 cut_ticks s now t c = subst (λ us. IsCut us now.unsent now.bodies) (sym t.accepted) (subst (λ q. IsCut s.accepted q now.bodies) (sym t.unsent) (subst (IsCut s.accepted s.unsent) (sym t.bodies) c))

@@ -98,7 +98,7 @@ none_new e n is = sym (append-nil (handed e)) ∙ ap (λ us. handed e ++ us) (sy
 
 taken_units : (rules : Rules) (e : End) (b : Block) → (takes rules e b).entity.receiver.reading.units ≡ (receiver_by rules (pdu_in b) e.entity.receiver).reading.units
 taken_units rules e (Payload k poll body) = refl
-taken_units rules e (Mrw k n upto) = refl
+taken_units rules e (Mrw k n end_of_discard) = refl
 taken_units rules e (Report t) = refl
 
 data_new : (rules : Rules) (e : ResetEnd) (label : ℕ) (b : Block) (q : Option Pending) → IsAllHanded (state_of e) → handed (hears_data rules e q label b) ≡ handed e ++ drop (taken_by rules e.sides.octets (state_of e) q (pdu_in b)).entity.handed (taken_by rules e.sides.octets (state_of e) q (pdu_in b)).entity.receiver.reading.units
@@ -129,7 +129,7 @@ new_units rules e (ResetAckPdu rsn hfni) is = reset_ack_new rules e (is_asked e.
 -- PDUs keep their size
 takes_octets : (rules : Rules) (e : End) (b : Block) → (takes rules e b).octets ≡ e.octets
 takes_octets rules e (Payload k poll body) = refl
-takes_octets rules e (Mrw k n upto) = refl
+takes_octets rules e (Mrw k n end_of_discard) = refl
 takes_octets rules e (Report t) = refl
 
 data_octets : (rules : Rules) (e : ResetEnd) (label : ℕ) (b : Block) (q : Option Pending) → (hears_data rules e q label b).sides.octets ≡ e.sides.octets

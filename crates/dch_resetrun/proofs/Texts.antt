@@ -22,7 +22,7 @@ use Rattle.dch_resetrun.specs.Standing.{IsRead, IsSent}
 -- a block of an end's stretch
 block_read : (d : ℕ) (out : List ℕ) (label : ℕ) (b : Block) → IsWire d out b → IsRead out (Data label b)
 block_read d out label (Payload k poll body) is = record { view = Read (wrapped k) poll (content_of d body) None; reads = is.read; is = ap (λ x. DataPdu (wrapped k) poll x None) is.same }
-block_read d out label (Mrw k n upto) is = record { view = Status (mrw_fields (wrapped k) n); reads = is; is = refl }
+block_read d out label (Mrw k n end_of_discard) is = record { view = Status (mrw_fields (wrapped k) n); reads = is; is = refl }
 block_read d out label (Report t) is = record { view = Status (fields_of t); reads = is; is = refl }
 
 data_read : (d : ℕ) (out : List ℕ) (label : ℕ) (o : Option Block) → IsBlockSent d out o → IsSent out (labelled label o)

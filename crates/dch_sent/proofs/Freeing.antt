@@ -7,7 +7,7 @@ use Rattle.dch_flight.specs.declared.flown.Flown.{Flown}
 use Rattle.dch_flight.specs.Flights.{at, acknowledged, changed_below, front_acked}
 use Rattle.dch_am.specs.Numbers.{ahead, has, wrapped}
 use Rattle.dch_am.specs.Rules.{Rules}
-use Rattle.dch_am.specs.Sender.{Sender, Discard, next_new, first_open}
+use Rattle.dch_am.specs.Sender.{Sender, Discard, vt_s, vt_a}
 use Rattle.dch_am.specs.Acknowledging.{after_ack, ended_at, ends_discard, told}
 use Rattle.dch_said.specs.declared.said.Said.{Said}
 use Rattle.dch_said.specs.declared.said.Said.TheVariants.{Missing, Unset, Set, Below, Moved}
@@ -37,9 +37,9 @@ settled_stands rules l s is = record {
   few = is.few;
   flying = is.flying;
   next = is.next;
-  flown = λ i less. let f : IsFlown s (first_open s + i) (at l.flown i) = is.flown i less in record { acked = f.acked; wanted = f.wanted; named = f.named; builds = f.builds };
+  flown = λ i less. let f : IsFlown s (vt_a s + i) (at l.flown i) = is.flown i less in record { acked = f.acked; requested = f.requested; named = f.named; builds = f.builds };
   acked_sent = is.acked_sent;
-  wanted = λ k e. record { from = (is.wanted k e).from; sent = (is.wanted k e).sent; is_open = (is.wanted k e).is_open; high = omega arith };
+  requested = λ k e. record { from = (is.requested k e).from; sent = (is.requested k e).sent; is_open = (is.requested k e).is_open; high = omega arith };
   unsent = is.unsent;
   timer = is.timer;
   owed = is.owed;
@@ -47,7 +47,7 @@ settled_stands rules l s is = record {
   running = tt;
 }
 
-freed_heard : (rules : Rules) (l : Line) (s : Sender) (m : ℕ) → Stands rules l s → m ≤ length l.flown → IsHeard rules (settled_line l) (settled s) [] (first_open s + m) false (acked_below m l.flown)
+freed_heard : (rules : Rules) (l : Line) (s : Sender) (m : ℕ) → Stands rules l s → m ≤ length l.flown → IsHeard rules (settled_line l) (settled s) [] (vt_a s + m) false (acked_below m l.flown)
 freed_heard rules l s m is le = record {
   stands = settled_stands rules l s is;
   size = length-acked m l.flown;
@@ -60,51 +60,51 @@ freed_heard rules l s m is le = record {
     under : (low i n : ℕ) → i < n → nat_lt i (min m n) ≡ nat_lt (low + i) (low + m)
     under low i n inside = grind (arith, nat_tests)
 
-    told_is : (i : ℕ) → i < length l.flown → IsTold (settled s) [] (first_open s + m) (first_open s + i) (at (acked_below m l.flown) i)
+    told_is : (i : ℕ) → i < length l.flown → IsTold (settled s) [] (vt_a s + m) (vt_a s + i) (at (acked_below m l.flown) i)
     told_is i inside =
-        let f : IsFlown s (first_open s + i) (at l.flown i) = is.flown i inside in
-        let one : IsOne (at l.flown i) 0 i (has (first_open s + i) s.acked) (has (first_open s + i) s.requested) false (nat_lt i (min m (length l.flown))) (nat_lt (first_open s + i) 0) =
-        one_is (at l.flown i) 0 i _ _ false (nat_lt i (min m (length l.flown))) (nat_lt (first_open s + i) 0) f.acked f.wanted f.named (le-leb 0 i (omega arith) ∙ ap not (sym (le-ltb (first_open s + i) 0 (omega arith))))
-        (λ w. ((is.wanted (first_open s + i) w).is_open, le-ltb (first_open s + i) 0 (omega arith))) in
+        let f : IsFlown s (vt_a s + i) (at l.flown i) = is.flown i inside in
+        let one : IsOne (at l.flown i) 0 i (has (vt_a s + i) s.acked) (has (vt_a s + i) s.requested) false (nat_lt i (min m (length l.flown))) (nat_lt (vt_a s + i) 0) =
+        one_is (at l.flown i) 0 i _ _ false (nat_lt i (min m (length l.flown))) (nat_lt (vt_a s + i) 0) f.acked f.requested f.named (le-leb 0 i (omega arith) ∙ ap not (sym (le-ltb (vt_a s + i) 0 (omega arith))))
+        (λ w. ((is.requested (vt_a s + i) w).is_open, le-ltb (vt_a s + i) 0 (omega arith))) in
         let place : at (acked_below m l.flown) i ≡ cond (nat_lt i (min m (length l.flown))) (acknowledged (at l.flown i)) (at l.flown i) = at-changed_below acknowledged (min m (length l.flown)) l.flown i inside in
-        let e : nat_lt i (min m (length l.flown)) ≡ nat_lt (first_open s + i) (first_open s + m) = under (first_open s) i (length l.flown) inside in
+        let e : nat_lt i (min m (length l.flown)) ≡ nat_lt (vt_a s + i) (vt_a s + m) = under (vt_a s) i (length l.flown) inside in
         record {
-          acked = ap (λ (g : Flown). g.acked) place ∙ (one.acked ∙ ap (λ u. (u && not false) || has (first_open s + i) s.acked) e);
-          wanted = ap (λ (g : Flown). g.wanted) place ∙ (one.wanted ∙ (ap (λ u. ((false || has (first_open s + i) s.requested) && not ((u && not false) || has (first_open s + i) s.acked)) && not (nat_lt (first_open s + i) 0)) e ∙ sym (wanted_spec (first_open s + i) s.requested s.acked [] (first_open s + m) 0)));
+          acked = ap (λ (g : Flown). g.acked) place ∙ (one.acked ∙ ap (λ u. (u && not false) || has (vt_a s + i) s.acked) e);
+          requested = ap (λ (g : Flown). g.requested) place ∙ (one.requested ∙ (ap (λ u. ((false || has (vt_a s + i) s.requested) && not ((u && not false) || has (vt_a s + i) s.acked)) && not (nat_lt (vt_a s + i) 0)) e ∙ sym (wanted_spec (vt_a s + i) s.requested s.acked [] (vt_a s + m) 0)));
           named = ap (λ (g : Flown). g.named) place ∙ one.named_is;
           builds = ap (λ (g : Flown). g.builds) place ∙ (one.builds ∙ f.builds);
         }
 
-pub freed_stands : (rules : Rules) (l : Line) (s : Sender) (m : ℕ) → Stands rules l s → m ≤ length l.flown → Stands rules (freed m l) (told (settled s) [] (first_open s + m))
-freed_stands rules l s m is le = heard_stands rules (settled_line l) (settled s) [] (first_open s + m) false (acked_below m l.flown) (freed_heard rules l s m is le)
+pub freed_stands : (rules : Rules) (l : Line) (s : Sender) (m : ℕ) → Stands rules l s → m ≤ length l.flown → Stands rules (freed m l) (told (settled s) [] (vt_a s + m))
+freed_stands rules l s m is le = heard_stands rules (settled_line l) (settled s) [] (vt_a s + m) false (acked_below m l.flown) (freed_heard rules l s m is le)
 
 -- how many leave
 front_freed : (k : ℕ) (flown : List Flown) → k ≤ length flown → ((i : ℕ) → i < length flown → (at flown i).named ≡ false) → front_acked (changed_below acknowledged k flown) ≡ k + front_acked (drop k flown)
 front_freed zero flown le none = omega arith
 front_freed (suc k) [] le none = absurd (omega arith)
 front_freed (suc k) (f ∷ flown) le none =
-    ap (λ b. cond (cond b f (record f { acked = true; wanted = false })).acked (suc (front_acked (changed_below acknowledged k flown))) 0) (none 0 (omega arith))
+    ap (λ b. cond (cond b f (record f { acked = true; requested = false })).acked (suc (front_acked (changed_below acknowledged k flown))) 0) (none 0 (omega arith))
     ∙ (ap suc (front_freed k flown (omega arith) (λ i less. none (suc i) (omega arith))) ∙ omega arith)
 
 pub base_freed : (rules : Rules) (l : Line) (s : Sender) (m : ℕ) → Stands rules l s → base_after (Some m) l ≡ front_acked (acked_below m l.flown)
 base_freed rules l s m is = sym (front_freed (min m (length l.flown)) l.flown (omega arith) (λ i less. (is.flown i less).named))
 
 -- one MRW_ACK, as a place and as a number
-abbrev pub moved : ℕ → Option ℕ → Option ℕ
-moved low None = None
-moved low (Some m) = Some (low + m)
+abbrev pub raised : ℕ → Option ℕ → Option ℕ
+raised low None = None
+raised low (Some m) = Some (low + m)
 
-moved_cond : (low : ℕ) (b : Bool) (x y : Option ℕ) → moved low (cond b x y) ≡ cond b (moved low x) (moved low y)
-moved_cond low true x y = refl
-moved_cond low false x y = refl
+raised_cond : (low : ℕ) (b : Bool) (x y : Option ℕ) → raised low (cond b x y) ≡ cond b (raised low x) (raised low y)
+raised_cond low true x y = refl
+raised_cond low false x y = refl
 
 -- the two tests, where the place is known
-tests : (low n k d_k o mark a_n : ℕ) → low + k ≡ d_k → moved low (cond ((o == 0) && (a_n == mark)) (Some k) (cond (nat_lt 0 o && nat_le (k + o) n && (a_n == 0)) (Some (k + o)) None)) ≡ cond ((o == 0) && (a_n == mark)) (Some d_k) (cond (nat_lt 0 o && nat_le (d_k + o) (low + n) && (a_n == 0)) (Some (d_k + o)) None)
+tests : (low n k d_k o mark a_n : ℕ) → low + k ≡ d_k → raised low (cond ((o == 0) && (a_n == mark)) (Some k) (cond (nat_lt 0 o && nat_le (k + o) n && (a_n == 0)) (Some (k + o)) None)) ≡ cond ((o == 0) && (a_n == mark)) (Some d_k) (cond (nat_lt 0 o && nat_le (d_k + o) (low + n) && (a_n == 0)) (Some (d_k + o)) None)
 tests low n k d_k o mark a_n e =
     let sum : low + (k + o) ≡ d_k + o = omega arith in
     let test : nat_le (k + o) n ≡ nat_le (d_k + o) (low + n) = same (k + o) n (d_k + o) low sum in
-    moved_cond low ((o == 0) && (a_n == mark)) (Some k) (cond (nat_lt 0 o && nat_le (k + o) n && (a_n == 0)) (Some (k + o)) None)
-    ∙ ap₂ (λ x y. cond ((o == 0) && (a_n == mark)) x y) (ap Some e) (moved_cond low (nat_lt 0 o && nat_le (k + o) n && (a_n == 0)) (Some (k + o)) None ∙ ap₂ (λ b x. cond (nat_lt 0 o && b && (a_n == 0)) (Some x) None) test sum)
+    raised_cond low ((o == 0) && (a_n == mark)) (Some k) (cond (nat_lt 0 o && nat_le (k + o) n && (a_n == 0)) (Some (k + o)) None)
+    ∙ ap₂ (λ x y. cond ((o == 0) && (a_n == mark)) x y) (ap Some e) (raised_cond low (nat_lt 0 o && nat_le (k + o) n && (a_n == 0)) (Some (k + o)) None ∙ ap₂ (λ b x. cond (nat_lt 0 o && b && (a_n == 0)) (Some x) None) test sum)
   where
     same : (a n b low : ℕ) → low + a ≡ b → nat_le a n ≡ nat_le b (low + n)
     same a n b low e = grind (arith, nat_tests)
@@ -112,9 +112,9 @@ tests low n k d_k o mark a_n e =
 place_is : (low first k d_k sn : ℕ) → first ≡ wrapped low → low + k ≡ d_k → place_of (wrapped (first + k)) sn ≡ ahead d_k sn
 place_is low first k d_k sn e1 e2 = omega arith
 
-ends_is : (low n next first k mark sn a_n : ℕ) (d : Discard) → next ≡ low + n → first ≡ wrapped low → low + k ≡ d.k → mark ≡ d.n → moved low (ends_at first n k mark a_n sn) ≡ ended_at next (Some d) (record { number = sn; n = a_n })
+ends_is : (low n next first k mark sn a_n : ℕ) (d : Discard) → next ≡ low + n → first ≡ wrapped low → low + k ≡ d.k → mark ≡ d.n → raised low (ends_at first n k mark a_n sn) ≡ ended_at next (Some d) (record { number = sn; n = a_n })
 ends_is low n next first k mark sn a_n d e1 e2 e3 e4 =
-    ap (λ o. moved low (cond ((o == 0) && (a_n == mark)) (Some k) (cond (nat_lt 0 o && nat_le (k + o) n && (a_n == 0)) (Some (k + o)) None))) (place_is low first k d.k sn e2 e3)
+    ap (λ o. raised low (cond ((o == 0) && (a_n == mark)) (Some k) (cond (nat_lt 0 o && nat_le (k + o) n && (a_n == 0)) (Some (k + o)) None))) (place_is low first k d.k sn e2 e3)
     ∙ (tests low n k d.k (ahead d.k sn) mark a_n e3
     ∙ ap₂ (λ m x. cond ((ahead d.k sn == 0) && (a_n == m)) (Some d.k) (cond (nat_lt 0 (ahead d.k sn) && nat_le (d.k + ahead d.k sn) x && (a_n == 0)) (Some (d.k + ahead d.k sn)) None)) e4 (sym e1))
 
@@ -129,7 +129,7 @@ said_acks s (Below x ∷ rest) = said_acks s rest
 
 settled_acks : (t : Sender) (said : List Said) → t.discard ≡ None → said_acks t said ≡ t
 settled_acks t [] e = refl
-settled_acks t (Moved n sn ∷ said) e = ap (λ d. said_acks (ends_discard t (ended_at (next_new t) d (record { number = sn; n = n }))) said) e ∙ settled_acks t said e
+settled_acks t (Moved n sn ∷ said) e = ap (λ d. said_acks (ends_discard t (ended_at (vt_s t) d (record { number = sn; n = n }))) said) e ∙ settled_acks t said e
 settled_acks t (Missing x ∷ said) e = settled_acks t said e
 settled_acks t (Unset x ∷ said) e = settled_acks t said e
 settled_acks t (Set x ∷ said) e = settled_acks t said e
@@ -137,18 +137,18 @@ settled_acks t (Below x ∷ said) e = settled_acks t said e
 
 -- the first that ends the discard
 record IsFound (low n next first : ℕ) (r : Running) (s : Sender) (d : Discard) : Type 0 where
-  count : next_new s ≡ low + n
+  count : vt_s s ≡ low + n
   first_is : first ≡ wrapped low
   same : IsSame r d low n
   discard : s.discard ≡ Some d
 
-acks_by : (low n next first : ℕ) (r : Running) (s : Sender) (d : Discard) (said : List Said) → IsFound low n next first r s d → said_acks s said ≡ ends_discard s (moved low (first_ending first n r.at r.n said))
+acks_by : (low n next first : ℕ) (r : Running) (s : Sender) (d : Discard) (said : List Said) → IsFound low n next first r s d → said_acks s said ≡ ends_discard s (raised low (first_ending first n r.at r.n said))
 acks_by low n next first r s d [] f = refl
 acks_by low n next first r s d (Moved a_n sn ∷ said) f =
-    ap (λ o. said_acks (ends_discard s o) said) (ap (λ x. ended_at (next_new s) x (record { number = sn; n = a_n })) f.discard ∙ sym (ends_is low n (next_new s) first r.at r.n sn a_n d f.count f.first_is f.same.k f.same.n))
+    ap (λ o. said_acks (ends_discard s o) said) (ap (λ x. ended_at (vt_s s) x (record { number = sn; n = a_n })) f.discard ∙ sym (ends_is low n (vt_s s) first r.at r.n sn a_n d f.count f.first_is f.same.k f.same.n))
     ∙ go (ends_at first n r.at r.n a_n sn) (acks_by low n next first r s d said f)
   where
-    go : (o : Option ℕ) → said_acks s said ≡ ends_discard s (moved low (first_ending first n r.at r.n said)) → said_acks (ends_discard s (moved low o)) said ≡ ends_discard s (moved low (or_else o (first_ending first n r.at r.n said)))
+    go : (o : Option ℕ) → said_acks s said ≡ ends_discard s (raised low (first_ending first n r.at r.n said)) → said_acks (ends_discard s (raised low o)) said ≡ ends_discard s (raised low (or_else o (first_ending first n r.at r.n said)))
     go None rest = rest
     go (Some m) rest = settled_acks (told (settled s) [] (low + m)) said refl
 acks_by low n next first r s d (Missing x ∷ said) f = acks_by low n next first r s d said f
@@ -186,7 +186,7 @@ pub record HasMoved (rules : Rules) (l : Line) (s : Sender) (o : Option ℕ) (t 
   pub next : (after_ending o l).next ≡ l.next
   pub window : (after_ending o l).window ≡ l.window
 
-by_ending : (rules : Rules) (l : Line) (s : Sender) (o : Option ℕ) → ((m : ℕ) → o ≡ Some m → m ≤ length l.flown) → Stands rules l s → HasMoved rules l s o (ends_discard s (moved (first_open s) o))
+by_ending : (rules : Rules) (l : Line) (s : Sender) (o : Option ℕ) → ((m : ℕ) → o ≡ Some m → m ≤ length l.flown) → Stands rules l s → HasMoved rules l s o (ends_discard s (raised (vt_a s) o))
 by_ending rules l s None le is = record { stands = is; left = omega arith; next = refl; window = refl }
 by_ending rules l s (Some m) le is = record {
   stands = freed_stands rules l s m is (le m refl);
@@ -195,13 +195,13 @@ by_ending rules l s (Some m) le is = record {
   window = refl;
 }
 
-moves_by : (rules : Rules) (l : Line) (s : Sender) (said : List Said) (r : Option Running) (d : Option Discard) → s.discard ≡ d → IsRunning r d (first_open s) (length l.flown) → Stands rules l s → HasMoved rules l s (ending said l r) (said_acks s said)
+moves_by : (rules : Rules) (l : Line) (s : Sender) (said : List Said) (r : Option Running) (d : Option Discard) → s.discard ≡ d → IsRunning r d (vt_a s) (length l.flown) → Stands rules l s → HasMoved rules l s (ending said l r) (said_acks s said)
 moves_by rules l s said None None e run is = subst (λ t. HasMoved rules l s None t) (sym (settled_acks s said e)) (by_ending rules l s None (λ m q. absurd (cc)) is)
 moves_by rules l s said None (Some d) e run is = absurd run
 moves_by rules l s said (Some r) None e run is = absurd run
 moves_by rules l s said (Some r) (Some d) e run is =
     subst (λ t. HasMoved rules l s (first_ending (first_number l) (length l.flown) r.at r.n said) t)
-    (sym (acks_by (first_open s) (length l.flown) (next_new s) (first_number l) r s d said (record { count = sym is.flying; first_is = (base_is rules l s is).first_is; same = run; discard = e })))
+    (sym (acks_by (vt_a s) (length l.flown) (vt_s s) (first_number l) r s d said (record { count = sym is.flying; first_is = (base_is rules l s is).first_is; same = run; discard = e })))
     (by_ending rules l s (first_ending (first_number l) (length l.flown) r.at r.n said) (λ m q. ending_le (first_number l) (length l.flown) r.at r.n m said run.inside q) is)
 
 pub moves_stand : (rules : Rules) (l : Line) (s : Sender) (said : List Said) → Stands rules l s → HasMoved rules l s (ending said l l.running) (said_acks s said)

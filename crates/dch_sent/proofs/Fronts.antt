@@ -8,7 +8,7 @@ use Rattle.dch_flight.specs.declared.flown.Flown.{Flown}
 use Rattle.dch_flight.specs.Flights.{at, blank, front_acked}
 use Rattle.dch_am.specs.Numbers.{has, less, below, run_of}
 use Rattle.dch_am.specs.Rules.{Rules}
-use Rattle.dch_am.specs.Sender.{Sender, Discard, next_new, first_open}
+use Rattle.dch_am.specs.Sender.{Sender, Discard, vt_s, vt_a}
 use Rattle.dch_am.specs.Acknowledging.{ended_by, floor, is_told, now_acked, told}
 use Rattle.dch_am.specs.Discards.{count}
 use Rattle.dch_am.proofs.Lists.{Is, has-append, has-less, has-below, run_in, run_le, run_reaches}
@@ -49,7 +49,7 @@ run_is xs n m le all out = ⊎_elim
 -- a PDU in flight once numbers are told
 pub record IsTold (s : Sender) (names : List ℕ) (lsn k : ℕ) (f : Flown) : Type 0 where
   pub acked : f.acked ≡ ((nat_lt k lsn && not (has k names)) || has k s.acked)
-  pub wanted : f.wanted ≡ has k (less (less (names ++ s.requested) (now_acked s.acked names lsn)) (below (floor s.discard)))
+  pub requested : f.requested ≡ has k (less (less (names ++ s.requested) (now_acked s.acked names lsn)) (below (floor s.discard)))
   pub named : f.named ≡ false
   pub builds : f.builds ≡ min 255 (count k s.sendings)
 
@@ -57,10 +57,10 @@ pub record IsTold (s : Sender) (names : List ℕ) (lsn k : ℕ) (f : Flown) : Ty
 pub record IsHeard (rules : Rules) (l : Line) (s : Sender) (names : List ℕ) (lsn : ℕ) (named : Bool) (flown : List Flown) : Type 0 where
   pub stands : Stands rules l s
   pub size : length flown ≡ length l.flown
-  pub told : (i : ℕ) → i < length l.flown → IsTold s names lsn (first_open s + i) (at flown i)
-  pub names_in : (k : ℕ) → has k names ≡ true → (first_open s ≤ k) × (k < next_new s)
-  pub lsn_in : lsn ≤ next_new s
-  pub polled : l.polled < length l.flown → named ≡ has (first_open s + l.polled) names
+  pub told : (i : ℕ) → i < length l.flown → IsTold s names lsn (vt_a s + i) (at flown i)
+  pub names_in : (k : ℕ) → has k names ≡ true → (vt_a s ≤ k) × (k < vt_s s)
+  pub lsn_in : lsn ≤ vt_s s
+  pub polled : l.polled < length l.flown → named ≡ has (vt_a s + l.polled) names
 
 floor_less : (low : ℕ) (d : Option Discard) → floor (ended_by low d) ≤ floor d
 floor_less low None = omega arith
@@ -119,22 +119,22 @@ heard_stands rules l s names lsn named flown h = record {
   next = h.stands.next;
   flown = λ i less. flown_is i less;
   acked_sent = acked_sent;
-  wanted = wanted_is;
+  requested = wanted_is;
   unsent = h.stands.unsent;
-  timer = ⊎_elim (λ (m : 0 < s.timer). ap₂ (λ b n. cond b 0 n) (same_test (inl m)) h.stands.timer) (λ (m : s.timer ≤ 0). zero_both (named || nat_lt l.polled gone) told_now l.timer s.timer h.stands.timer (omega arith)) (cases_lt 0 s.timer);
+  timer = ⊎_elim (λ (m : 0 < s.poll_timer). ap₂ (λ b n. cond b 0 n) (same_test (inl m)) h.stands.timer) (λ (m : s.poll_timer ≤ 0). zero_both (named || nat_lt l.polled gone) told_now l.timer s.poll_timer h.stands.timer (omega arith)) (cases_lt 0 s.poll_timer);
   owed = ⊎_elim (λ (q : s.owed ≡ true). ap₂ (λ b c. cond b false c) (same_test (inr q)) h.stands.owed) (λ (q : s.owed ≡ false). false_both (named || nat_lt l.polled gone) told_now l.owed s.owed h.stands.owed q) (cases_Bool s.owed);
   polled = λ out. polled_is out;
   running = run_step gone low (run_of acked next) (length l.flown) (length (drop gone flown)) l.running s.discard low_is shorter h.stands.running;
 }
   where
     low : ℕ
-    low = first_open s
+    low = vt_a s
 
     gone : ℕ
     gone = front_acked flown
 
     next : ℕ
-    next = next_new s
+    next = vt_s s
 
     acked : List ℕ
     acked = now_acked s.acked names lsn
@@ -169,7 +169,7 @@ heard_stands rules l s names lsn named flown h = record {
         let number : low + (gone + i) ≡ run_of acked next + i = omega (arith, low_is) in
         let place : at (drop gone flown) i ≡ at flown (gone + i) = get_or-drop gone flown i blank in
         let t : IsTold s names lsn (run_of acked next + i) (at (drop gone flown) i) = subst (λ k. IsTold s names lsn k (at (drop gone flown) i)) number (subst (λ f. IsTold s names lsn (low + (gone + i)) f) (sym place) (h.told (gone + i) there)) in
-        record { acked = t.acked ∙ sym (acked_is (run_of acked next + i)); wanted = t.wanted; named = t.named; builds = t.builds }
+        record { acked = t.acked ∙ sym (acked_is (run_of acked next + i)); requested = t.requested; named = t.named; builds = t.builds }
 
     acked_sent : (k : ℕ) → has k acked ≡ true → k < next
     acked_sent k e = ⊎_elim
@@ -182,7 +182,7 @@ heard_stands rules l s names lsn named flown h = record {
         let one = and_parts _ _ (sym (has-less k (less (names ++ s.requested) acked) (below (floor s.discard))) ∙ e) in
         let two = and_parts _ _ (sym (has-less k (names ++ s.requested) acked) ∙ one.0) in
         let free : has k acked ≡ false = not-true _ two.1 in
-        let from : (low ≤ k) × (k < next) = ⊎_elim (λ (q : has k names ≡ true). h.names_in k q) (λ (q : has k s.requested ≡ true). ((h.stands.wanted k q).from, (h.stands.wanted k q).sent)) (or_cases _ _ (sym (has-append k names s.requested) ∙ two.0)) in
+        let from : (low ≤ k) × (k < next) = ⊎_elim (λ (q : has k names ≡ true). h.names_in k q) (λ (q : has k s.requested ≡ true). ((h.stands.requested k q).from, (h.stands.requested k q).sent)) (or_cases _ _ (sym (has-append k names s.requested) ∙ two.0)) in
         record {
           from = ⊎_elim (λ (m : k < run_of acked next). absurd (both_ways _ free (run_in acked next k m))) (λ (m : run_of acked next ≤ k). m) (cases_lt k (run_of acked next));
           sent = from.1;
@@ -193,16 +193,16 @@ heard_stands rules l s names lsn named flown h = record {
     told_now : Bool
     told_now = is_told s.polled (run_of acked next) names
 
-    same_test : (0 < s.timer) ⊎ (s.owed ≡ true) → (named || nat_lt l.polled gone) ≡ is_told s.polled (run_of acked next) names
+    same_test : (0 < s.poll_timer) ⊎ (s.owed ≡ true) → (named || nat_lt l.polled gone) ≡ is_told s.polled (run_of acked next) names
     same_test out =
         let p : IsPolled s l.polled (length l.flown) = h.stands.polled out in
         ap₂ (λ a b. a || b) (h.polled p.inside) (sym (same_order low l.polled gone) ∙ ap (λ m. nat_lt (low + l.polled) m) (sym low_is))
         ∙ (or_comm (has (low + l.polled) names) (nat_lt (low + l.polled) (run_of acked next))
         ∙ ap (λ o. is_told o (run_of acked next) names) (sym p.number))
 
-    polled_is : (0 < cond told_now 0 s.timer) ⊎ (cond told_now false s.owed ≡ true) → IsPolled (told s names lsn) (l.polled - gone) (length (drop gone flown))
+    polled_is : (0 < cond told_now 0 s.poll_timer) ⊎ (cond told_now false s.owed ≡ true) → IsPolled (told s names lsn) (l.polled - gone) (length (drop gone flown))
     polled_is out =
-        let before : (told_now ≡ false) × ((0 < s.timer) ⊎ (s.owed ≡ true)) = still_out told_now s.timer s.owed out in
+        let before : (told_now ≡ false) × ((0 < s.poll_timer) ⊎ (s.owed ≡ true)) = still_out told_now s.poll_timer s.owed out in
         let p : IsPolled s l.polled (length l.flown) = h.stands.polled before.1 in
         let stays : gone ≤ l.polled = ltb-false l.polled gone (or_false named (nat_lt l.polled gone) (same_test before.1 ∙ before.0)) in
         let number : low + l.polled ≡ run_of acked next + (l.polled - gone) = omega (arith, low_is) in

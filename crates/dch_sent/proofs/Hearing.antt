@@ -7,8 +7,8 @@ use Rattle.dch_am.specs.Numbers.{ahead, range, wrapped}
 use Rattle.dch_am.specs.Names.{named, ones, zeros}
 use Rattle.dch_am.specs.Bodies.{is_empty}
 use Rattle.dch_am.specs.Rules.{Rules}
-use Rattle.dch_am.specs.Sender.{Sender, next_new, first_open}
-use Rattle.dch_am.specs.Acknowledging.{after_ack, after_acks, after_answer, after_fields, after_telling_of, all_names, first_beyond, first_of_both, first_unknown, lsn_of, offending, outside_of, read_from, status_answer, tells, those_below, told, unwrap}
+use Rattle.dch_am.specs.Sender.{Sender, vt_s, vt_a}
+use Rattle.dch_am.specs.Acknowledging.{after_ack, after_acks, after_answer, after_fields, after_telling_of, all_names, first_beyond, first_of_both, first_unknown, lsn_of, offending, outside_of, read_from, status_answer, reports, those_below, told, unwrap}
 use Rattle.dch_said.specs.declared.said.Said.{Said}
 use Rattle.dch_said.specs.declared.said.Said.TheVariants.{Missing, Unset, Set, Below, Moved}
 use Rattle.dch_said.specs.Sayings.{bits_from, missing_of, said_by}
@@ -154,7 +154,7 @@ tells-bits from [] ys = refl
 tells-bits from (true ∷ bits) ys = refl
 tells-bits from (false ∷ bits) ys = refl
 
-pub tells_is : (fields : List Field) → tells fields ≡ tells_some (said_by fields)
+pub tells_is : (fields : List Field) → reports fields ≡ tells_some (said_by fields)
 tells_is [] = refl
 tells_is (NoMoreField ∷ fields) = tells_is fields
 tells_is (WindowField size ∷ fields) = tells_is fields
@@ -191,7 +191,7 @@ hears rules l s fields is = record {
     m : HasMoved rules l s (ending said l l.running) after
     m = moves_stand rules l s said is
 
-    b : IsBase (first_open after) (next_new after) (first_number now) (length now.flown)
+    b : IsBase (vt_a after) (vt_s after) (first_number now) (length now.flown)
     b = base_is rules now after m.stands
 
     place : outside_from (base_after (ending said l l.running) l) said l ≡ first_outside now.window (first_number now) (length now.flown) said
@@ -203,20 +203,20 @@ hears rules l s fields is = record {
     acks : after_acks s fields ≡ after
     acks = acks_are s fields
 
-    found : first_outside now.window (first_number now) (length now.flown) said ≡ offending rules.window (first_open (after_acks s fields)) (next_new (after_acks s fields)) fields
-    found = ap (λ w. first_outside w (first_number now) (length now.flown) said) m.stands.window ∙ (sym (outside_is rules.window (first_open after) (next_new after) (first_number now) (length now.flown) b fields) ∙ ap (λ t. offending rules.window (first_open t) (next_new t) fields) (sym acks))
+    found : first_outside now.window (first_number now) (length now.flown) said ≡ offending rules.window (vt_a (after_acks s fields)) (vt_s (after_acks s fields)) fields
+    found = ap (λ w. first_outside w (first_number now) (length now.flown) said) m.stands.window ∙ (sym (outside_is rules.window (vt_a after) (vt_s after) (first_number now) (length now.flown) b fields) ∙ ap (λ t. offending rules.window (vt_a t) (vt_s t) fields) (sym acks))
 
     answer : answer_of said l ≡ status_answer rules s fields
-    answer = ap answered (place ∙ found) ∙ answered_is (offending rules.window (first_open (after_acks s fields)) (next_new (after_acks s fields)) fields)
+    answer = ap answered (place ∙ found) ∙ answered_is (offending rules.window (vt_a (after_acks s fields)) (vt_s (after_acks s fields)) fields)
 
     told_is : first_outside now.window (first_number now) (length now.flown) said ≡ None → Stands rules (after_told said now) (after_telling_of after fields)
-    told_is none = subst (λ c. Stands rules (after_told said now) (cond c (told after (all_names (first_open after) (next_new after) fields) (lsn_of (first_open after) fields)) after)) (sym (tells_is fields))
+    told_is none = subst (λ c. Stands rules (after_told said now) (cond c (told after (all_names (vt_a after) (vt_s after) fields) (lsn_of (vt_a after) fields)) after)) (sym (tells_is fields))
         (either (tells_some said)
-        (subst (λ ns. Stands rules (listened said now) (told after ns (lsn_of (first_open after) fields))) (sym (names_are (first_open after) (next_new after) fields))
-        (subst (λ k. Stands rules (listened said now) (told after (said_names (first_open after) (next_new after) said) k)) (sym (lsn_is (first_open after) fields))
+        (subst (λ ns. Stands rules (listened said now) (told after ns (lsn_of (vt_a after) fields))) (sym (names_are (vt_a after) (vt_s after) fields))
+        (subst (λ k. Stands rules (listened said now) (told after (said_names (vt_a after) (vt_s after) said) k)) (sym (lsn_is (vt_a after) fields))
         (listened_stands rules now after said m.stands none))))
       where
-        either : (c : Bool) → Stands rules (listened said now) (told after (all_names (first_open after) (next_new after) fields) (lsn_of (first_open after) fields)) → Stands rules (cond c (listened said now) now) (cond c (told after (all_names (first_open after) (next_new after) fields) (lsn_of (first_open after) fields)) after)
+        either : (c : Bool) → Stands rules (listened said now) (told after (all_names (vt_a after) (vt_s after) fields) (lsn_of (vt_a after) fields)) → Stands rules (cond c (listened said now) now) (cond c (told after (all_names (vt_a after) (vt_s after) fields) (lsn_of (vt_a after) fields)) after)
         either true x = x
         either false x = m.stands
 

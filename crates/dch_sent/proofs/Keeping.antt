@@ -18,17 +18,17 @@ use Rattle.dch_sent.proofs.Lengths.{length-acked, length-with_names, length-with
 use Rattle.dch_sent.proofs.Naming.{at-changed_below, at-told, heard_one}
 
 alike_itself : (f : Flown) → IsAlike f f
-alike_itself f = record { text = refl; full = refl; ends = refl; goes_on = refl }
+alike_itself f = record { text = refl; full = refl; ends = refl; continues = refl }
 
 alike_twice : (f g h : Flown) → IsAlike f g → IsAlike g h → IsAlike f h
-alike_twice f g h a b = record { text = a.text ∙ b.text; full = a.full ∙ b.full; ends = a.ends ∙ b.ends; goes_on = a.goes_on ∙ b.goes_on }
+alike_twice f g h a b = record { text = a.text ∙ b.text; full = a.full ∙ b.full; ends = a.ends ∙ b.ends; continues = a.continues ∙ b.continues }
 
 alike_acknowledged : (f : Flown) → IsAlike (acknowledged f) f
-alike_acknowledged f = cond_both {A = Flown} f.named f (record f { acked = true; wanted = false }) (λ g. IsAlike g f) (λ _. alike_itself f) (λ _. record { text = refl; full = refl; ends = refl; goes_on = refl })
+alike_acknowledged f = cond_both {A = Flown} f.named f (record f { acked = true; requested = false }) (λ g. IsAlike g f) (λ _. alike_itself f) (λ _. record { text = refl; full = refl; ends = refl; continues = refl })
 
 alike_one : (from j : ℕ) (named under : Bool) (f : Flown) → IsAlike (heard_one from j named under f) f
-alike_one from j true true f = record { text = refl; full = refl; ends = refl; goes_on = refl }
-alike_one from j true false f = record { text = refl; full = refl; ends = refl; goes_on = refl }
+alike_one from j true true f = record { text = refl; full = refl; ends = refl; continues = refl }
+alike_one from j true false f = record { text = refl; full = refl; ends = refl; continues = refl }
 alike_one from j false true f = alike_acknowledged f
 alike_one from j false false f = alike_itself f
 
@@ -81,7 +81,7 @@ answer_kept (Outside i) said l = kept_itself l.flown
 pub hearing_kept : (said : List Said) (l : Line) → AreKept l.flown (after_hearing said l).flown
 hearing_kept said l = answer_kept (answer_of said l) said l
 
--- a PDU that is built again, and those that aren't wanted any more, are sent as before
+-- a PDU that is built again, and those that aren't requested any more, are sent as before
 pub resent_kept : (place : ℕ) (l : Line) → AreKept l.flown (resent place l).flown
 resent_kept place l = kept_front l.flown (resent place l).flown 0 (length-set l.flown place (built (at l.flown place))) (omega arith) each
   where
@@ -89,9 +89,9 @@ resent_kept place l = kept_front l.flown (resent place l).flown 0 (length-set l.
     each i less = go (i == place) refl
       where
         go : (b : Bool) → (i == place) ≡ b → IsAlike (at (set l.flown place (built (at l.flown place))) i) (at l.flown i)
-        go true e = let q : i ≡ place = eqb-true i place e in subst (λ k. IsAlike (at (set l.flown k (built (at l.flown k))) i) (at l.flown i)) q (subst (λ f. IsAlike f (at l.flown i)) (sym (get_or-set_same l.flown i (built (at l.flown i)) blank less)) (record { text = refl; full = refl; ends = refl; goes_on = refl }))
+        go true e = let q : i ≡ place = eqb-true i place e in subst (λ k. IsAlike (at (set l.flown k (built (at l.flown k))) i) (at l.flown i)) q (subst (λ f. IsAlike f (at l.flown i)) (sym (get_or-set_same l.flown i (built (at l.flown i)) blank less)) (record { text = refl; full = refl; ends = refl; continues = refl }))
         go false e = subst (λ f. IsAlike f (at l.flown i)) (sym (get_or-set_other l.flown place i (built (at l.flown place)) blank (eqb-false i place e))) (alike_itself (at l.flown i))
 
 pub discarding_kept : (place n : ℕ) (l : Line) → AreKept l.flown (discarding place n l).flown
 discarding_kept place n l = kept_front l.flown (changed_below unwanted place l.flown) 0 (length-changed unwanted place l.flown) (omega arith)
-    (λ i less. subst (λ f. IsAlike f (at l.flown i)) (sym (at-changed_below unwanted place l.flown i less)) (cond_both {A = Flown} (nat_lt i place) (unwanted (at l.flown i)) (at l.flown i) (λ f. IsAlike f (at l.flown i)) (λ _. record { text = refl; full = refl; ends = refl; goes_on = refl }) (λ _. alike_itself (at l.flown i))))
+    (λ i less. subst (λ f. IsAlike f (at l.flown i)) (sym (at-changed_below unwanted place l.flown i less)) (cond_both {A = Flown} (nat_lt i place) (unwanted (at l.flown i)) (at l.flown i) (λ f. IsAlike f (at l.flown i)) (λ _. record { text = refl; full = refl; ends = refl; continues = refl }) (λ _. alike_itself (at l.flown i))))

@@ -42,7 +42,7 @@ or_twice false true = refl
 or_twice false false = refl
 
 named_twice : (from j : ℕ) (f : Flown) → named_from from j (named_from from j f) ≡ named_from from j f
-named_twice from j f = ap (λ w. record f { named = true; wanted = w }) (or_twice f.wanted (not f.acked && nat_le from j))
+named_twice from j f = ap (λ w. record f { named = true; requested = w }) (or_twice f.requested (not f.acked && nat_le from j))
 
 both_named : (a b : Bool) (from j : ℕ) (f : Flown) → cond b (named_from from j (cond a (named_from from j f) f)) (cond a (named_from from j f) f) ≡ cond (a || b) (named_from from j f) f
 both_named true true from j f = named_twice from j f
@@ -102,24 +102,24 @@ at-told said l j less =
 -- the facts of one PDU
 pub record IsOne (f : Flown) (from j : ℕ) (a w named under low : Bool) : Type 0 where
   pub acked : (heard_one from j named under f).acked ≡ ((under && not named) || a)
-  pub wanted : (heard_one from j named under f).wanted ≡ (((named || w) && not ((under && not named) || a)) && not low)
+  pub requested : (heard_one from j named under f).requested ≡ (((named || w) && not ((under && not named) || a)) && not low)
   pub named_is : (heard_one from j named under f).named ≡ false
   pub builds : (heard_one from j named under f).builds ≡ f.builds
 
-pub one_is : (f : Flown) (from j : ℕ) (a w named under low : Bool) → f.acked ≡ a → f.wanted ≡ w → f.named ≡ false → nat_le from j ≡ not low → (w ≡ true → (a ≡ false) × (low ≡ false)) → IsOne f from j a w named under low
-one_is f from j a true true true low ea ew en le is = record { acked = ea; wanted = ap (λ x. x || (not f.acked && nat_le from j)) ew ∙ sym (ap₂ (λ x y. (true && not ((true && false) || x)) && not y) (is refl).0 (is refl).1); named_is = refl; builds = refl }
-one_is f from j a true true false low ea ew en le is = record { acked = ea; wanted = ap (λ x. x || (not f.acked && nat_le from j)) ew ∙ sym (ap₂ (λ x y. (true && not ((false && false) || x)) && not y) (is refl).0 (is refl).1); named_is = refl; builds = refl }
-one_is f from j a false true true low ea ew en le is = record { acked = ea; wanted = ap (λ x. x || (not f.acked && nat_le from j)) ew ∙ ap₂ (λ x y. not x && y) ea le; named_is = refl; builds = refl }
-one_is f from j a false true false low ea ew en le is = record { acked = ea; wanted = ap (λ x. x || (not f.acked && nat_le from j)) ew ∙ ap₂ (λ x y. not x && y) ea le; named_is = refl; builds = refl }
+pub one_is : (f : Flown) (from j : ℕ) (a w named under low : Bool) → f.acked ≡ a → f.requested ≡ w → f.named ≡ false → nat_le from j ≡ not low → (w ≡ true → (a ≡ false) × (low ≡ false)) → IsOne f from j a w named under low
+one_is f from j a true true true low ea ew en le is = record { acked = ea; requested = ap (λ x. x || (not f.acked && nat_le from j)) ew ∙ sym (ap₂ (λ x y. (true && not ((true && false) || x)) && not y) (is refl).0 (is refl).1); named_is = refl; builds = refl }
+one_is f from j a true true false low ea ew en le is = record { acked = ea; requested = ap (λ x. x || (not f.acked && nat_le from j)) ew ∙ sym (ap₂ (λ x y. (true && not ((false && false) || x)) && not y) (is refl).0 (is refl).1); named_is = refl; builds = refl }
+one_is f from j a false true true low ea ew en le is = record { acked = ea; requested = ap (λ x. x || (not f.acked && nat_le from j)) ew ∙ ap₂ (λ x y. not x && y) ea le; named_is = refl; builds = refl }
+one_is f from j a false true false low ea ew en le is = record { acked = ea; requested = ap (λ x. x || (not f.acked && nat_le from j)) ew ∙ ap₂ (λ x y. not x && y) ea le; named_is = refl; builds = refl }
 one_is f from j a w false true low ea ew en le is = record {
-  acked = ap (λ b. (cond b f (record f { acked = true; wanted = false })).acked) en;
-  wanted = ap (λ b. (cond b f (record f { acked = true; wanted = false })).wanted) en ∙ none w low;
-  named_is = ap (λ b. (cond b f (record f { acked = true; wanted = false })).named) en ∙ en;
-  builds = ap (λ b. (cond b f (record f { acked = true; wanted = false })).builds) en;
+  acked = ap (λ b. (cond b f (record f { acked = true; requested = false })).acked) en;
+  requested = ap (λ b. (cond b f (record f { acked = true; requested = false })).requested) en ∙ none w low;
+  named_is = ap (λ b. (cond b f (record f { acked = true; requested = false })).named) en ∙ en;
+  builds = ap (λ b. (cond b f (record f { acked = true; requested = false })).builds) en;
 }
   where
     none : (w low : Bool) → false ≡ (((false || w) && false) && not low)
     none true low = refl
     none false low = refl
-one_is f from j a true false false low ea ew en le is = record { acked = ea; wanted = ew ∙ sym (ap₂ (λ x y. (true && not (false || x)) && not y) (is refl).0 (is refl).1); named_is = en; builds = refl }
-one_is f from j a false false false low ea ew en le is = record { acked = ea; wanted = ew; named_is = en; builds = refl }
+one_is f from j a true false false low ea ew en le is = record { acked = ea; requested = ew ∙ sym (ap₂ (λ x y. (true && not (false || x)) && not y) (is refl).0 (is refl).1); named_is = en; builds = refl }
+one_is f from j a false false false low ea ew en le is = record { acked = ea; requested = ew; named_is = en; builds = refl }

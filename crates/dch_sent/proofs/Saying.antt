@@ -7,7 +7,7 @@ use Rattle.dch_flight.specs.declared.flown.Flown.{Flown}
 use Rattle.dch_flight.specs.Flights.{at}
 use Rattle.dch_am.specs.Numbers.{ahead, has, less, below, wrapped}
 use Rattle.dch_am.specs.Rules.{Rules}
-use Rattle.dch_am.specs.Sender.{Sender, Discard, next_new, first_open}
+use Rattle.dch_am.specs.Sender.{Sender, Discard, vt_s, vt_a}
 use Rattle.dch_am.specs.Acknowledging.{floor, now_acked, read_from, told}
 use Rattle.dch_am.proofs.Lists.{has-append, has-less, has-below}
 use Rattle.dch_said.specs.declared.said.Said.{Said}
@@ -113,8 +113,8 @@ under_is base next first count b (Set x ∷ said) j l = under_is base next first
 under_is base next first count b (Moved n sn ∷ said) j l = under_is base next first count b said j l
 
 -- the line's own numbers
-pub base_is : (rules : Rules) (l : Line) (s : Sender) → Stands rules l s → IsBase (first_open s) (next_new s) (first_number l) (length l.flown)
-base_is rules l s is = record { count_is = sym is.flying; first_is = same (first_open s) (length l.flown) (next_new s) l.next is.flying is.next (omega (arith, is.few, is.most)) }
+pub base_is : (rules : Rules) (l : Line) (s : Sender) → Stands rules l s → IsBase (vt_a s) (vt_s s) (first_number l) (length l.flown)
+base_is rules l s is = record { count_is = sym is.flying; first_is = same (vt_a s) (length l.flown) (vt_s s) l.next is.flying is.next (omega (arith, is.few, is.most)) }
   where
     same : (a n s next : ℕ) → a + n ≡ s → next ≡ wrapped s → n ≤ 2048 → wrapped (next + 4096 - (n - 0)) ≡ wrapped a
     same a n s next e1 e2 le = omega arith
@@ -137,41 +137,41 @@ wanted_spec k requested acked names lsn low =
     ∙ ap₂ (λ a b. a && not b) (has-less k (names ++ requested) (now_acked acked names lsn) ∙ ap₂ (λ a b. a && not b) (has-append k names requested) (acked_spec k acked names lsn)) (has-below k low)
 
 -- what the status says is told
-pub listened_heard : (rules : Rules) (l : Line) (s : Sender) (said : List Said) → Stands rules l s → first_outside l.window (first_number l) (length l.flown) said ≡ None → IsHeard rules l s (said_names (first_open s) (next_new s) said) (said_lsn (first_open s) said) (at (named_line said l) l.polled).named (told_line said l)
+pub listened_heard : (rules : Rules) (l : Line) (s : Sender) (said : List Said) → Stands rules l s → first_outside l.window (first_number l) (length l.flown) said ≡ None → IsHeard rules l s (said_names (vt_a s) (vt_s s) said) (said_lsn (vt_a s) said) (at (named_line said l) l.polled).named (told_line said l)
 listened_heard rules l s said is none = record {
   stands = is;
   size = length-without_names (first_number l) said _ ∙ (length-acked (below_said (first_number l) said) (named_line said l) ∙ length-with_names (first_number l) (floor_of l.running) said l.flown);
   told = λ i less. told_is i less;
-  names_in = names_in l.window (first_open s) (next_new s) (first_number l) (length l.flown) b said none;
-  lsn_in = lsn_in l.window (first_open s) (next_new s) (first_number l) (length l.flown) b said none;
-  polled = λ less. ap (λ (f : Flown). f.named) (at-with_names (first_number l) (floor_of l.running) said l.flown l.polled less) ∙ (one_named (is_named (first_number l) l.polled said) (at l.flown l.polled) (is.flown l.polled less).named ∙ sym (names_is (first_open s) (next_new s) (first_number l) (length l.flown) b said l.polled less));
+  names_in = names_in l.window (vt_a s) (vt_s s) (first_number l) (length l.flown) b said none;
+  lsn_in = lsn_in l.window (vt_a s) (vt_s s) (first_number l) (length l.flown) b said none;
+  polled = λ less. ap (λ (f : Flown). f.named) (at-with_names (first_number l) (floor_of l.running) said l.flown l.polled less) ∙ (one_named (is_named (first_number l) l.polled said) (at l.flown l.polled) (is.flown l.polled less).named ∙ sym (names_is (vt_a s) (vt_s s) (first_number l) (length l.flown) b said l.polled less));
 }
   where
-    b : IsBase (first_open s) (next_new s) (first_number l) (length l.flown)
+    b : IsBase (vt_a s) (vt_s s) (first_number l) (length l.flown)
     b = base_is rules l s is
 
-    one_named : (c : Bool) (f : Flown) → f.named ≡ false → (cond c (record f { named = true; wanted = f.wanted || (not f.acked && nat_le (floor_of l.running) l.polled) }) f).named ≡ c
+    one_named : (c : Bool) (f : Flown) → f.named ≡ false → (cond c (record f { named = true; requested = f.requested || (not f.acked && nat_le (floor_of l.running) l.polled) }) f).named ≡ c
     one_named true f e = refl
     one_named false f e = e
 
-    told_is : (i : ℕ) → i < length l.flown → IsTold s (said_names (first_open s) (next_new s) said) (said_lsn (first_open s) said) (first_open s + i) (at (told_line said l) i)
+    told_is : (i : ℕ) → i < length l.flown → IsTold s (said_names (vt_a s) (vt_s s) said) (said_lsn (vt_a s) said) (vt_a s + i) (at (told_line said l) i)
     told_is i less =
-        let k : ℕ = first_open s + i in
-        let names : List ℕ = said_names (first_open s) (next_new s) said in
-        let lsn : ℕ = said_lsn (first_open s) said in
-        let f : IsFlown s (first_open s + i) (at l.flown i) = is.flown i less in
-        let one : IsOne (at l.flown i) (floor_of l.running) i (has (first_open s + i) s.acked) (has (first_open s + i) s.requested) (is_named (first_number l) i said) (nat_lt i (min (below_said (first_number l) said) (length l.flown))) (nat_lt (first_open s + i) (floor s.discard)) =
-        one_is (at l.flown i) (floor_of l.running) i _ _ (is_named (first_number l) i said) (nat_lt i (min (below_said (first_number l) said) (length l.flown))) (nat_lt (first_open s + i) (floor s.discard)) f.acked f.wanted f.named (floor_test (first_open s) i (length l.flown) l.running s.discard is.running)
-        (λ w. ((is.wanted (first_open s + i) w).is_open, le-ltb (first_open s + i) (floor s.discard) (is.wanted (first_open s + i) w).high)) in
-        let named : is_named (first_number l) i said ≡ has (first_open s + i) (said_names (first_open s) (next_new s) said) = sym (names_is (first_open s) (next_new s) (first_number l) (length l.flown) b said i less) in
-        let under : nat_lt i (min (below_said (first_number l) said) (length l.flown)) ≡ nat_lt (first_open s + i) (said_lsn (first_open s) said) = under_is (first_open s) (next_new s) (first_number l) (length l.flown) b said i less in
+        let k : ℕ = vt_a s + i in
+        let names : List ℕ = said_names (vt_a s) (vt_s s) said in
+        let lsn : ℕ = said_lsn (vt_a s) said in
+        let f : IsFlown s (vt_a s + i) (at l.flown i) = is.flown i less in
+        let one : IsOne (at l.flown i) (floor_of l.running) i (has (vt_a s + i) s.acked) (has (vt_a s + i) s.requested) (is_named (first_number l) i said) (nat_lt i (min (below_said (first_number l) said) (length l.flown))) (nat_lt (vt_a s + i) (floor s.discard)) =
+        one_is (at l.flown i) (floor_of l.running) i _ _ (is_named (first_number l) i said) (nat_lt i (min (below_said (first_number l) said) (length l.flown))) (nat_lt (vt_a s + i) (floor s.discard)) f.acked f.requested f.named (floor_test (vt_a s) i (length l.flown) l.running s.discard is.running)
+        (λ w. ((is.requested (vt_a s + i) w).is_open, le-ltb (vt_a s + i) (floor s.discard) (is.requested (vt_a s + i) w).high)) in
+        let named : is_named (first_number l) i said ≡ has (vt_a s + i) (said_names (vt_a s) (vt_s s) said) = sym (names_is (vt_a s) (vt_s s) (first_number l) (length l.flown) b said i less) in
+        let under : nat_lt i (min (below_said (first_number l) said) (length l.flown)) ≡ nat_lt (vt_a s + i) (said_lsn (vt_a s) said) = under_is (vt_a s) (vt_s s) (first_number l) (length l.flown) b said i less in
         let place : at (told_line said l) i ≡ heard_one (floor_of l.running) i (is_named (first_number l) i said) (nat_lt i (min (below_said (first_number l) said) (length l.flown))) (at l.flown i) = at-told said l i less in
         record {
-          acked = ap (λ (g : Flown). g.acked) place ∙ (one.acked ∙ ap₂ (λ u m. (u && not m) || has (first_open s + i) s.acked) under named);
-          wanted = ap (λ (g : Flown). g.wanted) place ∙ (one.wanted ∙ (ap₂ (λ u m. ((m || has (first_open s + i) s.requested) && not ((u && not m) || has (first_open s + i) s.acked)) && not (nat_lt (first_open s + i) (floor s.discard))) under named ∙ sym (wanted_spec (first_open s + i) s.requested s.acked (said_names (first_open s) (next_new s) said) (said_lsn (first_open s) said) (floor s.discard))));
+          acked = ap (λ (g : Flown). g.acked) place ∙ (one.acked ∙ ap₂ (λ u m. (u && not m) || has (vt_a s + i) s.acked) under named);
+          requested = ap (λ (g : Flown). g.requested) place ∙ (one.requested ∙ (ap₂ (λ u m. ((m || has (vt_a s + i) s.requested) && not ((u && not m) || has (vt_a s + i) s.acked)) && not (nat_lt (vt_a s + i) (floor s.discard))) under named ∙ sym (wanted_spec (vt_a s + i) s.requested s.acked (said_names (vt_a s) (vt_s s) said) (said_lsn (vt_a s) said) (floor s.discard))));
           named = ap (λ (g : Flown). g.named) place ∙ one.named_is;
           builds = ap (λ (g : Flown). g.builds) place ∙ (one.builds ∙ f.builds);
         }
 
-pub listened_stands : (rules : Rules) (l : Line) (s : Sender) (said : List Said) → Stands rules l s → first_outside l.window (first_number l) (length l.flown) said ≡ None → Stands rules (listened said l) (told s (said_names (first_open s) (next_new s) said) (said_lsn (first_open s) said))
-listened_stands rules l s said is none = heard_stands rules l s (said_names (first_open s) (next_new s) said) (said_lsn (first_open s) said) (at (named_line said l) l.polled).named (told_line said l) (listened_heard rules l s said is none)
+pub listened_stands : (rules : Rules) (l : Line) (s : Sender) (said : List Said) → Stands rules l s → first_outside l.window (first_number l) (length l.flown) said ≡ None → Stands rules (listened said l) (told s (said_names (vt_a s) (vt_s s) said) (said_lsn (vt_a s) said))
+listened_stands rules l s said is none = heard_stands rules l s (said_names (vt_a s) (vt_s s) said) (said_lsn (vt_a s) said) (at (named_line said l) l.polled).named (told_line said l) (listened_heard rules l s said is none)

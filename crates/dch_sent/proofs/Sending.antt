@@ -10,7 +10,7 @@ use Rattle.dch_flight.specs.Flights.{at, blank, built, first_wanted}
 use Rattle.dch_am.specs.Numbers.{has, less, grown, run_of, wrapped}
 use Rattle.dch_am.specs.Rules.{Rules}
 use Rattle.dch_am.specs.Bodies.{Body, ends, ends_of, is_empty, is_left, next_body, after_body}
-use Rattle.dch_am.specs.Sender.{Sender, Discard, next_new, first_open}
+use Rattle.dch_am.specs.Sender.{Sender, Discard, vt_s, vt_a}
 use Rattle.dch_am.specs.Building.{after_choice, after_poll, again, again_polls, anew, anew_polls, once_more, once_more_polls, passes, polls}
 use Rattle.dch_am.specs.Building.{Again as Requested, New as Fresh, Last as Latest}
 use Rattle.dch_am.specs.Discards.{count}
@@ -32,17 +32,17 @@ pub record IsOut (rules : Rules) (l : Line) (s : Sender) : Type 0 where
   pub ended : l.ended ≡ left_of rules.poll_units (ends s.bodies)
   pub most : rules.window ≤ 2048
   pub few : length l.flown ≤ rules.window
-  pub flying : first_open s + length l.flown ≡ next_new s
+  pub flying : vt_a s + length l.flown ≡ vt_s s
   pub one : 0 < length l.flown
-  pub next : l.next ≡ wrapped (next_new s)
-  pub flown : (i : ℕ) → i < length l.flown → IsFlown s (first_open s + i) (at l.flown i)
-  pub acked_sent : (k : ℕ) → has k s.acked ≡ true → k < next_new s
-  pub wanted : (k : ℕ) → has k s.requested ≡ true → IsWanted s k
-  pub unsent : (k : ℕ) → next_new s ≤ k → count k s.sendings ≡ 0
-  pub timer : l.timer ≡ s.timer
+  pub next : l.next ≡ wrapped (vt_s s)
+  pub flown : (i : ℕ) → i < length l.flown → IsFlown s (vt_a s + i) (at l.flown i)
+  pub acked_sent : (k : ℕ) → has k s.acked ≡ true → k < vt_s s
+  pub requested : (k : ℕ) → has k s.requested ≡ true → IsWanted s k
+  pub unsent : (k : ℕ) → vt_s s ≤ k → count k s.sendings ≡ 0
+  pub timer : l.timer ≡ s.poll_timer
   pub owed : l.owed ≡ s.owed
-  pub polled : (0 < s.timer) ⊎ (s.owed ≡ true) → IsPolled s l.polled (length l.flown)
-  pub running : IsRunning l.running s.discard (first_open s) (length l.flown)
+  pub polled : (0 < s.poll_timer) ⊎ (s.owed ≡ true) → IsPolled s l.polled (length l.flown)
+  pub running : IsRunning l.running s.discard (vt_a s) (length l.flown)
 
 pub poll_is : (rules : Rules) (l : Line) (s : Sender) (reason : Bool) → IsOut rules l s → poll_of reason l ≡ polls rules s reason
 poll_is rules l s reason o =
@@ -54,7 +54,7 @@ poll_is rules l s reason o =
     number : s.builds - 1 + 1 ≡ s.builds
     number = omega (arith, o.some)
 
-    flying : length l.flown ≡ next_new s - first_open s
+    flying : length l.flown ≡ vt_s s - vt_a s
     flying = omega (arith, o.flying)
 
 pub out_stands : (rules : Rules) (l : Line) (s : Sender) (poll : Bool) → IsOut rules l s → Stands rules (after_bit poll l) (after_poll rules s poll)
@@ -67,9 +67,9 @@ out_stands rules l s poll o = record {
   few = o.few;
   flying = o.flying;
   next = o.next;
-  flown = λ i less. let f : IsFlown s (first_open s + i) (at l.flown i) = o.flown i less in record { acked = f.acked; wanted = f.wanted; named = f.named; builds = f.builds };
+  flown = λ i less. let f : IsFlown s (vt_a s + i) (at l.flown i) = o.flown i less in record { acked = f.acked; requested = f.requested; named = f.named; builds = f.builds };
   acked_sent = o.acked_sent;
-  wanted = λ k e. let w : IsWanted s k = o.wanted k e in record { from = w.from; sent = w.sent; is_open = w.is_open; high = w.high };
+  requested = λ k e. let w : IsWanted s k = o.requested k e in record { from = w.from; sent = w.sent; is_open = w.is_open; high = w.high };
   unsent = o.unsent;
   timer = ap₂ (λ (r : Rules) t. cond (poll && nat_lt 0 r.poll_timer) r.poll_timer t) o.rules_are o.timer;
   owed = ap (λ b. cond poll false b) o.owed;
@@ -83,23 +83,23 @@ out_stands rules l s poll o = record {
     starts : (r : Rules) → Bool
     starts r = poll && nat_lt 0 r.poll_timer
 
-    last : first_open s + (length l.flown - 1) ≡ next_new s - 1
+    last : vt_a s + (length l.flown - 1) ≡ vt_s s - 1
     last = omega (arith, o.flying, o.one)
 
-    polled_is : (0 < cond (poll && nat_lt 0 rules.poll_timer) rules.poll_timer s.timer) ⊎ (cond poll false s.owed ≡ true) → IsPolled (after_poll rules s poll) (cond (poll && nat_lt 0 l.rules.poll_timer) (length l.flown - 1) l.polled) (length l.flown)
+    polled_is : (0 < cond (poll && nat_lt 0 rules.poll_timer) rules.poll_timer s.poll_timer) ⊎ (cond poll false s.owed ≡ true) → IsPolled (after_poll rules s poll) (cond (poll && nat_lt 0 l.rules.poll_timer) (length l.flown - 1) l.polled) (length l.flown)
     polled_is out = subst (λ (r : Rules). IsPolled (after_poll rules s poll) (cond (poll && nat_lt 0 r.poll_timer) (length l.flown - 1) l.polled) (length l.flown)) (sym o.rules_are) (record { number = number_is.0; inside = number_is.1 })
       where
-        still : (p t : Bool) → (poll && nat_lt 0 rules.poll_timer) ≡ false → (0 < cond (poll && nat_lt 0 rules.poll_timer) rules.poll_timer s.timer) ⊎ (cond poll false s.owed ≡ true) → (0 < s.timer) ⊎ (s.owed ≡ true)
-        still p t e x = ⊎_elim (λ (m : 0 < cond (poll && nat_lt 0 rules.poll_timer) rules.poll_timer s.timer). inl (subst (λ b. 0 < cond b rules.poll_timer s.timer) e m)) (λ (m : cond poll false s.owed ≡ true). inr (owed poll m)) x
+        still : (p t : Bool) → (poll && nat_lt 0 rules.poll_timer) ≡ false → (0 < cond (poll && nat_lt 0 rules.poll_timer) rules.poll_timer s.poll_timer) ⊎ (cond poll false s.owed ≡ true) → (0 < s.poll_timer) ⊎ (s.owed ≡ true)
+        still p t e x = ⊎_elim (λ (m : 0 < cond (poll && nat_lt 0 rules.poll_timer) rules.poll_timer s.poll_timer). inl (subst (λ b. 0 < cond b rules.poll_timer s.poll_timer) e m)) (λ (m : cond poll false s.owed ≡ true). inr (owed poll m)) x
           where
             owed : (c : Bool) → cond c false s.owed ≡ true → s.owed ≡ true
             owed true m = absurd (both_ways false refl m)
             owed false m = m
 
-        number_is : (cond (poll && nat_lt 0 rules.poll_timer) (Some (next_new s - 1)) s.polled ≡ Some (first_open s + cond (poll && nat_lt 0 rules.poll_timer) (length l.flown - 1) l.polled)) × (cond (poll && nat_lt 0 rules.poll_timer) (length l.flown - 1) l.polled < length l.flown)
+        number_is : (cond (poll && nat_lt 0 rules.poll_timer) (Some (vt_s s - 1)) s.polled ≡ Some (vt_a s + cond (poll && nat_lt 0 rules.poll_timer) (length l.flown - 1) l.polled)) × (cond (poll && nat_lt 0 rules.poll_timer) (length l.flown - 1) l.polled < length l.flown)
         number_is = go (poll && nat_lt 0 rules.poll_timer) refl
           where
-            go : (b : Bool) → (poll && nat_lt 0 rules.poll_timer) ≡ b → (cond b (Some (next_new s - 1)) s.polled ≡ Some (first_open s + cond b (length l.flown - 1) l.polled)) × (cond b (length l.flown - 1) l.polled < length l.flown)
+            go : (b : Bool) → (poll && nat_lt 0 rules.poll_timer) ≡ b → (cond b (Some (vt_s s - 1)) s.polled ≡ Some (vt_a s + cond b (length l.flown - 1) l.polled)) × (cond b (length l.flown - 1) l.polled < length l.flown)
             go true e = (ap Some (sym last), omega (arith, o.one))
             go false e = let p : IsPolled s l.polled (length l.flown) = o.polled (still true true e out) in (p.number, p.inside)
 
@@ -114,7 +114,7 @@ record IsAgain (s now : Sender) (k : ℕ) : Type 0 where
 min_step : (b c n : ℕ) → b ≡ min 255 c → n ≡ suc c → cond (nat_lt b 255) (b + 1) b ≡ min 255 n
 min_step b c n e1 e2 = grind (arith, nat_tests)
 
-pub again_out : (rules : Rules) (l : Line) (s : Sender) (place : ℕ) → place < length l.flown → Stands rules l s → IsOut rules (resent place l) (again s (first_open s + place))
+pub again_out : (rules : Rules) (l : Line) (s : Sender) (place : ℕ) → place < length l.flown → Stands rules l s → IsOut rules (resent place l) (again s (vt_a s + place))
 again_out rules l s place inside is = record {
   window = is.window;
   rules_are = is.rules_are;
@@ -128,16 +128,16 @@ again_out rules l s place inside is = record {
   next = is.next;
   flown = λ i inner. flown_is i (omega (arith, size));
   acked_sent = is.acked_sent;
-  wanted = λ x e. let w : IsWanted s x = is.wanted x (and_parts _ _ (sym (requested x) ∙ e)).0 in record { from = w.from; sent = w.sent; is_open = w.is_open; high = w.high };
+  requested = λ x e. let w : IsWanted s x = is.requested x (and_parts _ _ (sym (requested x) ∙ e)).0 in record { from = w.from; sent = w.sent; is_open = w.is_open; high = w.high };
   unsent = λ x le. ap (λ b. cond b (suc (count x s.sendings)) (count x s.sendings)) (differ x (omega (arith, is.flying))) ∙ is.unsent x le;
   timer = is.timer;
   owed = is.owed;
   polled = λ out. let p : IsPolled s l.polled (length l.flown) = is.polled out in record { number = p.number; inside = omega (arith, p.inside, size) };
-  running = subst (IsRunning l.running s.discard (first_open s)) (sym size) is.running;
+  running = subst (IsRunning l.running s.discard (vt_a s)) (sym size) is.running;
 }
   where
     k : ℕ
-    k = first_open s + place
+    k = vt_a s + place
 
     size : length (set l.flown place (built (at l.flown place))) ≡ length l.flown
     size = length-set l.flown place (built (at l.flown place))
@@ -145,32 +145,32 @@ again_out rules l s place inside is = record {
     less_one : s.builds ≡ s.builds + 1 - 1
     less_one = omega arith
 
-    requested : (x : ℕ) → has x (less s.requested ((first_open s + place) ∷ [])) ≡ (has x s.requested && not (x == first_open s + place))
-    requested x = has-less x s.requested ((first_open s + place) ∷ []) ∙ ap (λ b. has x s.requested && not b) (plain (x == first_open s + place))
+    requested : (x : ℕ) → has x (less s.requested ((vt_a s + place) ∷ [])) ≡ (has x s.requested && not (x == vt_a s + place))
+    requested x = has-less x s.requested ((vt_a s + place) ∷ []) ∙ ap (λ b. has x s.requested && not b) (plain (x == vt_a s + place))
       where
         plain : (b : Bool) → (b || false) ≡ b
         plain true = refl
         plain false = refl
 
-    differ : (x : ℕ) → first_open s + place < x → (x == first_open s + place) ≡ false
+    differ : (x : ℕ) → vt_a s + place < x → (x == vt_a s + place) ≡ false
     differ x less = grind (arith, nat_tests)
 
-    flown_is : (i : ℕ) → i < length l.flown → IsFlown (again s (first_open s + place)) (first_open s + i) (at (set l.flown place (built (at l.flown place))) i)
+    flown_is : (i : ℕ) → i < length l.flown → IsFlown (again s (vt_a s + place)) (vt_a s + i) (at (set l.flown place (built (at l.flown place))) i)
     flown_is i within = go (i == place) refl
       where
-        f : IsFlown s (first_open s + i) (at l.flown i)
+        f : IsFlown s (vt_a s + i) (at l.flown i)
         f = is.flown i within
 
-        go : (b : Bool) → (i == place) ≡ b → IsFlown (again s (first_open s + place)) (first_open s + i) (at (set l.flown place (built (at l.flown place))) i)
+        go : (b : Bool) → (i == place) ≡ b → IsFlown (again s (vt_a s + place)) (vt_a s + i) (at (set l.flown place (built (at l.flown place))) i)
         go true e =
             let q : i ≡ place = eqb-true i place e in
             let here : at (set l.flown place (built (at l.flown place))) i ≡ built (at l.flown i) = subst (λ j. at (set l.flown place (built (at l.flown place))) j ≡ built (at l.flown j)) (sym q) (get_or-set_same l.flown place (built (at l.flown place)) blank inside) in
-            let same : (first_open s + i == first_open s + place) ≡ true = eq-eqb (first_open s + i) (first_open s + place) (ap (λ j. first_open s + j) q) in
+            let same : (vt_a s + i == vt_a s + place) ≡ true = eq-eqb (vt_a s + i) (vt_a s + place) (ap (λ j. vt_a s + j) q) in
             record {
               acked = ap (λ (g : Flown). g.acked) here ∙ f.acked;
-              wanted = ap (λ (g : Flown). g.wanted) here ∙ sym (requested (first_open s + i) ∙ (ap (λ b. has (first_open s + i) s.requested && not b) same ∙ none (has (first_open s + i) s.requested)));
+              requested = ap (λ (g : Flown). g.requested) here ∙ sym (requested (vt_a s + i) ∙ (ap (λ b. has (vt_a s + i) s.requested && not b) same ∙ none (has (vt_a s + i) s.requested)));
               named = ap (λ (g : Flown). g.named) here ∙ f.named;
-              builds = ap (λ (g : Flown). g.builds) here ∙ (min_step (at l.flown i).builds (count (first_open s + i) s.sendings) (suc (count (first_open s + i) s.sendings)) f.builds refl ∙ ap (λ b. min 255 (cond b (suc (count (first_open s + i) s.sendings)) (count (first_open s + i) s.sendings))) (sym same));
+              builds = ap (λ (g : Flown). g.builds) here ∙ (min_step (at l.flown i).builds (count (vt_a s + i) s.sendings) (suc (count (vt_a s + i) s.sendings)) f.builds refl ∙ ap (λ b. min 255 (cond b (suc (count (vt_a s + i) s.sendings)) (count (vt_a s + i) s.sendings))) (sym same));
             }
           where
             none : (b : Bool) → (b && false) ≡ false
@@ -178,12 +178,12 @@ again_out rules l s place inside is = record {
             none false = refl
         go false e =
             let there : at (set l.flown place (built (at l.flown place))) i ≡ at l.flown i = get_or-set_other l.flown place i (built (at l.flown place)) blank (eqb-false i place e) in
-            let other : (first_open s + i == first_open s + place) ≡ false = apart (first_open s) i place e in
+            let other : (vt_a s + i == vt_a s + place) ≡ false = apart (vt_a s) i place e in
             record {
               acked = ap (λ (g : Flown). g.acked) there ∙ f.acked;
-              wanted = ap (λ (g : Flown). g.wanted) there ∙ (f.wanted ∙ sym (requested (first_open s + i) ∙ (ap (λ b. has (first_open s + i) s.requested && not b) other ∙ all (has (first_open s + i) s.requested))));
+              requested = ap (λ (g : Flown). g.requested) there ∙ (f.requested ∙ sym (requested (vt_a s + i) ∙ (ap (λ b. has (vt_a s + i) s.requested && not b) other ∙ all (has (vt_a s + i) s.requested))));
               named = ap (λ (g : Flown). g.named) there ∙ f.named;
-              builds = ap (λ (g : Flown). g.builds) there ∙ (f.builds ∙ ap (λ b. min 255 (cond b (suc (count (first_open s + i) s.sendings)) (count (first_open s + i) s.sendings))) (sym other));
+              builds = ap (λ (g : Flown). g.builds) there ∙ (f.builds ∙ ap (λ b. min 255 (cond b (suc (count (vt_a s + i) s.sendings)) (count (vt_a s + i) s.sendings))) (sym other));
             }
           where
             all : (b : Bool) → (b && true) ≡ b
@@ -193,8 +193,8 @@ again_out rules l s place inside is = record {
             apart : (low i place : ℕ) → (i == place) ≡ false → (low + i == low + place) ≡ false
             apart low i place e = grind (arith, nat_tests)
 
--- the last PDU is built once more, where it isn't wanted
-pub last_out : (rules : Rules) (l : Line) (s : Sender) (place : ℕ) → place < length l.flown → first_open s + place ≡ next_new s - 1 → has (first_open s + place) s.requested ≡ false → Stands rules l s → IsOut rules (resent place l) (once_more s)
+-- the last PDU is built once more, where it isn't requested
+pub last_out : (rules : Rules) (l : Line) (s : Sender) (place : ℕ) → place < length l.flown → vt_a s + place ≡ vt_s s - 1 → has (vt_a s + place) s.requested ≡ false → Stands rules l s → IsOut rules (resent place l) (once_more s)
 last_out rules l s place inside last none is = record {
   window = o.window;
   rules_are = o.rules_are;
@@ -206,9 +206,9 @@ last_out rules l s place inside last none is = record {
   flying = o.flying;
   one = o.one;
   next = o.next;
-  flown = λ i inner. let f : IsFlown (again s (first_open s + place)) (first_open s + i) (at (resent place l).flown i) = o.flown i inner in record { acked = f.acked; wanted = f.wanted ∙ same (first_open s + i); named = f.named; builds = f.builds ∙ ap (λ k. min 255 (count (first_open s + i) (k ∷ s.sendings))) last };
+  flown = λ i inner. let f : IsFlown (again s (vt_a s + place)) (vt_a s + i) (at (resent place l).flown i) = o.flown i inner in record { acked = f.acked; requested = f.requested ∙ same (vt_a s + i); named = f.named; builds = f.builds ∙ ap (λ k. min 255 (count (vt_a s + i) (k ∷ s.sendings))) last };
   acked_sent = o.acked_sent;
-  wanted = λ k e. let w : IsWanted s k = is.wanted k e in record { from = w.from; sent = w.sent; is_open = w.is_open; high = w.high };
+  requested = λ k e. let w : IsWanted s k = is.requested k e in record { from = w.from; sent = w.sent; is_open = w.is_open; high = w.high };
   unsent = λ x le. ap (λ k. count x (k ∷ s.sendings)) (sym last) ∙ o.unsent x le;
   timer = o.timer;
   owed = o.owed;
@@ -216,14 +216,14 @@ last_out rules l s place inside last none is = record {
   running = o.running;
 }
   where
-    o : IsOut rules (resent place l) (again s (first_open s + place))
+    o : IsOut rules (resent place l) (again s (vt_a s + place))
     o = again_out rules l s place inside is
 
-    same : (x : ℕ) → has x (less s.requested ((first_open s + place) ∷ [])) ≡ has x s.requested
-    same x = has-less x s.requested ((first_open s + place) ∷ []) ∙ go (x == first_open s + place) refl
+    same : (x : ℕ) → has x (less s.requested ((vt_a s + place) ∷ [])) ≡ has x s.requested
+    same x = has-less x s.requested ((vt_a s + place) ∷ []) ∙ go (x == vt_a s + place) refl
       where
-        go : (b : Bool) → (x == first_open s + place) ≡ b → (has x s.requested && not (b || false)) ≡ has x s.requested
-        go true e = let h : has x s.requested ≡ false = ap (λ y. has y s.requested) (eqb-true x (first_open s + place) e) ∙ none in never (has x s.requested) ∙ sym h
+        go : (b : Bool) → (x == vt_a s + place) ≡ b → (has x s.requested && not (b || false)) ≡ has x s.requested
+        go true e = let h : has x s.requested ≡ false = ap (λ y. has y s.requested) (eqb-true x (vt_a s + place) e) ∙ none in never (has x s.requested) ∙ sym h
           where
             never : (b : Bool) → (b && false) ≡ false
             never true = refl
@@ -252,15 +252,15 @@ new_out rules d l s f room new is = record {
   few = omega (arith, longer);
   flying = omega (arith, low_is, longer, bodies, is.flying);
   one = omega (arith, longer);
-  next = next_is l.next (next_new s) is.next ∙ ap wrapped (sym bodies);
+  next = next_is l.next (vt_s s) is.next ∙ ap wrapped (sym bodies);
   flown = λ i inner. flown_is i inner;
   acked_sent = λ k e. omega (arith, is.acked_sent k e, bodies);
-  wanted = λ k e. let w : IsWanted s k = is.wanted k e in record { from = omega (arith, w.from, low_is); sent = omega (arith, w.sent, bodies); is_open = w.is_open; high = w.high };
-  unsent = λ k le. ap (λ b. cond b (suc (count k s.sendings)) (count k s.sendings)) (above k (next_new s) (omega (arith, bodies))) ∙ is.unsent k (omega (arith, bodies));
+  requested = λ k e. let w : IsWanted s k = is.requested k e in record { from = omega (arith, w.from, low_is); sent = omega (arith, w.sent, bodies); is_open = w.is_open; high = w.high };
+  unsent = λ k le. ap (λ b. cond b (suc (count k s.sendings)) (count k s.sendings)) (above k (vt_s s) (omega (arith, bodies))) ∙ is.unsent k (omega (arith, bodies));
   timer = is.timer;
   owed = is.owed;
   polled = λ out. let p : IsPolled s l.polled (length l.flown) = is.polled out in record { number = p.number ∙ ap (λ a. Some (a + l.polled)) (sym low_is); inside = omega (arith, p.inside, longer) };
-  running = run_more l.running s.discard (first_open s) (run_of s.acked (length (s.bodies ++ body ∷ []))) (length l.flown) (length (l.flown ++ f ∷ [])) low_is (omega (arith, longer)) is.running;
+  running = run_more l.running s.discard (vt_a s) (run_of s.acked (length (s.bodies ++ body ∷ []))) (length l.flown) (length (l.flown ++ f ∷ [])) low_is (omega (arith, longer)) is.running;
 }
   where
     body : Body
@@ -272,20 +272,20 @@ new_out rules d l s f room new is = record {
     one_more : ends s.bodies + ends (body ∷ []) ≡ ends s.bodies + ends_of body
     one_more = omega arith
 
-    bodies : length (s.bodies ++ body ∷ []) ≡ next_new s + 1
+    bodies : length (s.bodies ++ body ∷ []) ≡ vt_s s + 1
     bodies = length-append s.bodies (body ∷ []) ∙ omega arith
 
-    one_past : length (s.bodies ++ body ∷ []) ≡ suc (next_new s)
+    one_past : length (s.bodies ++ body ∷ []) ≡ suc (vt_s s)
     one_past = omega (arith, bodies)
 
     longer : length (l.flown ++ f ∷ []) ≡ length l.flown + 1
     longer = length-append l.flown (f ∷ []) ∙ omega arith
 
-    free : has (next_new s) s.acked ≡ false
-    free = false_from_ne_true _ (λ (e : has (next_new s) s.acked ≡ true). absurd (omega (arith, is.acked_sent (next_new s) e)))
+    free : has (vt_s s) s.acked ≡ false
+    free = false_from_ne_true _ (λ (e : has (vt_s s) s.acked ≡ true). absurd (omega (arith, is.acked_sent (vt_s s) e)))
 
-    low_is : run_of s.acked (length (s.bodies ++ body ∷ [])) ≡ first_open s
-    low_is = ap (run_of s.acked) one_past ∙ ap (λ b. grown (next_new s) b (run_of s.acked (next_new s))) free
+    low_is : run_of s.acked (length (s.bodies ++ body ∷ [])) ≡ vt_a s
+    low_is = ap (run_of s.acked) one_past ∙ ap (λ b. grown (vt_s s) b (run_of s.acked (vt_s s))) free
 
     next_is : (a b : ℕ) → a ≡ wrapped b → wrapped (a + 1) ≡ wrapped (b + 1)
     next_is a b e = omega arith
@@ -299,25 +299,25 @@ new_out rules d l s f room new is = record {
     flown_is : (i : ℕ) → i < length (l.flown ++ f ∷ []) → IsFlown (anew d s) (run_of s.acked (length (s.bodies ++ body ∷ [])) + i) (at (l.flown ++ f ∷ []) i)
     flown_is i inner = subst (λ a. IsFlown (anew d s) (a + i) (at (l.flown ++ f ∷ []) i)) (sym low_is) (⊎_elim
         (λ (m : i < length l.flown).
-        let old : IsFlown s (first_open s + i) (at l.flown i) = is.flown i m in
+        let old : IsFlown s (vt_a s + i) (at l.flown i) = is.flown i m in
         let place : at (l.flown ++ f ∷ []) i ≡ at l.flown i = get_or_append_left l.flown (f ∷ []) blank i m in
-        let other : (first_open s + i == next_new s) ≡ false = below (first_open s + i) (next_new s) (omega (arith, is.flying)) in
+        let other : (vt_a s + i == vt_s s) ≡ false = below (vt_a s + i) (vt_s s) (omega (arith, is.flying)) in
         record {
           acked = ap (λ (g : Flown). g.acked) place ∙ old.acked;
-          wanted = ap (λ (g : Flown). g.wanted) place ∙ old.wanted;
+          requested = ap (λ (g : Flown). g.requested) place ∙ old.requested;
           named = ap (λ (g : Flown). g.named) place ∙ old.named;
-          builds = ap (λ (g : Flown). g.builds) place ∙ (old.builds ∙ ap (λ b. min 255 (cond b (suc (count (first_open s + i) s.sendings)) (count (first_open s + i) s.sendings))) (sym other));
+          builds = ap (λ (g : Flown). g.builds) place ∙ (old.builds ∙ ap (λ b. min 255 (cond b (suc (count (vt_a s + i) s.sendings)) (count (vt_a s + i) s.sendings))) (sym other));
         })
         (λ (m : length l.flown ≤ i).
         let at_end : i ≡ length l.flown = omega (arith, longer) in
-        let number : first_open s + i ≡ next_new s = omega (arith, is.flying) in
+        let number : vt_a s + i ≡ vt_s s = omega (arith, is.flying) in
         let place : at (l.flown ++ f ∷ []) i ≡ f = ap (at (l.flown ++ f ∷ [])) at_end ∙ get_or-append_seam l.flown f [] blank in
-        let same : (first_open s + i == next_new s) ≡ true = eq-eqb (first_open s + i) (next_new s) number in
+        let same : (vt_a s + i == vt_s s) ≡ true = eq-eqb (vt_a s + i) (vt_s s) number in
         record {
           acked = ap (λ (g : Flown). g.acked) place ∙ (new.acked ∙ sym (ap (λ k. has k s.acked) number ∙ free));
-          wanted = ap (λ (g : Flown). g.wanted) place ∙ (new.wanted ∙ sym (ap (λ k. has k s.requested) number ∙ false_from_ne_true _ (λ (e : has (next_new s) s.requested ≡ true). absurd (omega (arith, (is.wanted (next_new s) e).sent)))));
+          requested = ap (λ (g : Flown). g.requested) place ∙ (new.requested ∙ sym (ap (λ k. has k s.requested) number ∙ false_from_ne_true _ (λ (e : has (vt_s s) s.requested ≡ true). absurd (omega (arith, (is.requested (vt_s s) e).sent)))));
           named = ap (λ (g : Flown). g.named) place ∙ new.named;
-          builds = ap (λ (g : Flown). g.builds) place ∙ (new.builds ∙ sym (ap (λ b. min 255 (cond b (suc (count (first_open s + i) s.sendings)) (count (first_open s + i) s.sendings))) same ∙ ap (λ c. min 255 (suc c)) (is.unsent (first_open s + i) (omega arith))));
+          builds = ap (λ (g : Flown). g.builds) place ∙ (new.builds ∙ sym (ap (λ b. min 255 (cond b (suc (count (vt_a s + i) s.sendings)) (count (vt_a s + i) s.sendings))) same ∙ ap (λ c. min 255 (suc c)) (is.unsent (vt_a s + i) (omega arith))));
         })
         (cases_lt i (length l.flown)))
 
@@ -331,21 +331,21 @@ none_is : (rules : Rules) (l : Line) (s : Sender) → IsOut rules l s → none_w
 none_is rules l s o = go s.requested refl
   where
     go : (xs : List ℕ) → s.requested ≡ xs → none_wanted l.flown ≡ is_empty xs
-    go [] e = le-leb (length l.flown) (first_wanted l.flown) (first_all l.flown (λ i less. (o.flown i less).wanted ∙ ap (has (first_open s + i)) e))
+    go [] e = le-leb (length l.flown) (first_wanted l.flown) (first_all l.flown (λ i less. (o.flown i less).requested ∙ ap (has (vt_a s + i)) e))
     go (x ∷ xs) e =
         let member : has x s.requested ≡ true = ap (has x) e ∙ or_left _ _ (eq-eqb x x refl) in
-        let w : IsWanted s x = o.wanted x member in
-        let number : first_open s + (x - first_open s) ≡ x = omega (arith, w.from) in
-        let inside : x - first_open s < length l.flown = omega (arith, w.from, w.sent, o.flying) in
-        let flag : (at l.flown (x - first_open s)).wanted ≡ true = (o.flown (x - first_open s) inside).wanted ∙ (ap (λ k. has k s.requested) number ∙ member) in
-        lt-leb (length l.flown) (first_wanted l.flown) (omega (arith, inside, first_low l.flown (x - first_open s) flag))
+        let w : IsWanted s x = o.requested x member in
+        let number : vt_a s + (x - vt_a s) ≡ x = omega (arith, w.from) in
+        let inside : x - vt_a s < length l.flown = omega (arith, w.from, w.sent, o.flying) in
+        let flag : (at l.flown (x - vt_a s)).requested ≡ true = (o.flown (x - vt_a s) inside).requested ∙ (ap (λ k. has k s.requested) number ∙ member) in
+        lt-leb (length l.flown) (first_wanted l.flown) (omega (arith, inside, first_low l.flown (x - vt_a s) flag))
 
-pub again_sends : (rules : Rules) (l : Line) (s : Sender) (place d : ℕ) → place < length l.flown → Stands rules l s → Sends rules (again_poll place l) (again_line place l) (again_polls rules s (first_open s + place)) (after_choice (Requested (first_open s + place)) rules d s)
+pub again_sends : (rules : Rules) (l : Line) (s : Sender) (place d : ℕ) → place < length l.flown → Stands rules l s → Sends rules (again_poll place l) (again_line place l) (again_polls rules s (vt_a s + place)) (after_choice (Requested (vt_a s + place)) rules d s)
 again_sends rules l s place d inside is =
-    let o : IsOut rules (resent place l) (again s (first_open s + place)) = again_out rules l s place inside is in
-    sends rules (resent place l) (again s (first_open s + place)) (none_wanted (resent place l).flown) (is_empty (again s (first_open s + place)).requested) (none_is rules (resent place l) (again s (first_open s + place)) o) o
+    let o : IsOut rules (resent place l) (again s (vt_a s + place)) = again_out rules l s place inside is in
+    sends rules (resent place l) (again s (vt_a s + place)) (none_wanted (resent place l).flown) (is_empty (again s (vt_a s + place)).requested) (none_is rules (resent place l) (again s (vt_a s + place)) o) o
 
-pub last_sends : (rules : Rules) (l : Line) (s : Sender) (place d : ℕ) → place < length l.flown → first_open s + place ≡ next_new s - 1 → has (first_open s + place) s.requested ≡ false → Stands rules l s → Sends rules (last_poll place l) (last_line place l) (once_more_polls rules s) (after_choice (Latest (first_open s + place)) rules d s)
+pub last_sends : (rules : Rules) (l : Line) (s : Sender) (place d : ℕ) → place < length l.flown → vt_a s + place ≡ vt_s s - 1 → has (vt_a s + place) s.requested ≡ false → Stands rules l s → Sends rules (last_poll place l) (last_line place l) (once_more_polls rules s) (after_choice (Latest (vt_a s + place)) rules d s)
 last_sends rules l s place d inside last none is = sends rules (resent place l) (once_more s) false false refl (last_out rules l s place inside last none is)
 
 pub new_sends : (rules : Rules) (l : Line) (s : Sender) (f : Flown) (left : Bool) (d : ℕ) → length l.flown < rules.window → IsNew f (ends_of (next_body d s.unsent)) → left ≡ is_left (after_body d s.unsent) → Stands rules l s → Sends rules (new_poll f left l) (new_line f left l) (anew_polls rules d s) (after_choice Fresh rules d s)

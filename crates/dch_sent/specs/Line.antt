@@ -58,7 +58,7 @@ acked_below below flown = changed_below acknowledged (min below (length flown)) 
 abbrev pub freed : ℕ → Line → Line
 freed below l = left_front (front_acked (acked_below below l.flown)) false (acked_below below l.flown) (record l { running = None })
 
--- below this place nothing is wanted while a discard runs
+-- below this place nothing is requested while a discard runs
 abbrev pub floor_of : Option Running → ℕ
 floor_of None = 0
 floor_of (Some r) = r.at
@@ -129,7 +129,7 @@ run_timer (Some r) = Some (record r { due = r.due || (r.timer == 1); timer = r.t
 abbrev pub ticked : Line → Line
 ticked l = record l { timer = l.timer - 1; owed = l.owed || (l.timer == 1); running = run_timer l.running }
 
--- a discard begins with this PDU in flight and this mark: those before aren't wanted
+-- a discard begins with this PDU in flight and this mark: those before aren't requested
 abbrev pub discarding : ℕ → ℕ → Line → Line
 discarding place n l = record l { flown = changed_below unwanted place l.flown; running = Some (record { at = place; n = n; due = true; timer = 0 }) }
 

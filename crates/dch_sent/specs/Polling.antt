@@ -8,7 +8,7 @@ use Rattle.dch_sent.specs.declared.line.Pick.{Pick}
 use Rattle.dch_sent.specs.declared.line.Pick.TheVariants.{Again, New, Last, NoPdu}
 use Rattle.dch_sent.specs.Line.{Line}
 
--- the lowest one that is wanted, else a new one where the window and unsent matter allow it, else the last one where a poll is owed
+-- the lowest one that is requested, else a new one where the window and unsent matter allow it, else the last one where a poll is owed
 abbrev pub picked : Bool → Line → Pick
 picked left l =
     if nat_lt (first_wanted l.flown) (length l.flown) then Again (first_wanted l.flown)
@@ -47,7 +47,7 @@ sent_line reason l = after_bit (poll_of reason l) l
 abbrev pub resent : ℕ → Line → Line
 resent place l = record l { flown = slice_set l.flown place (built (at l.flown place)) }
 
--- a wanted PDU polls where none is wanted behind it
+-- a requested PDU polls where none is requested behind it
 abbrev pub none_wanted : List Flown → Bool
 none_wanted flown = nat_le (length flown) (first_wanted flown)
 

@@ -5,7 +5,7 @@ use Rattle.dch_flight.specs.Flights.{at}
 use Rattle.dch_am.specs.Numbers.{has, wrapped}
 use Rattle.dch_am.specs.Rules.{Rules}
 use Rattle.dch_am.specs.Bodies.{ends}
-use Rattle.dch_am.specs.Sender.{Sender, Discard, next_new, first_open}
+use Rattle.dch_am.specs.Sender.{Sender, Discard, vt_s, vt_a}
 use Rattle.dch_am.specs.Acknowledging.{floor}
 use Rattle.dch_am.specs.Discards.{count}
 use Rattle.dch_am.specs.Building.{Choice, Again as Requested, New as Fresh, Last as Latest, NoPdu as Nothing}
@@ -17,20 +17,20 @@ use Rattle.dch_sent.specs.Line.{Line}
 -- the PDU in flight with a number
 pub record IsFlown (s : Sender) (k : ℕ) (f : Flown) : Type 0 where
   pub acked : f.acked ≡ has k s.acked
-  pub wanted : f.wanted ≡ has k s.requested
+  pub requested : f.requested ≡ has k s.requested
   pub named : f.named ≡ false
   pub builds : f.builds ≡ min 255 (count k s.sendings)
 
 -- a requested number is sent, open, and not below the running discard
 pub record IsWanted (s : Sender) (k : ℕ) : Type 0 where
-  pub from : first_open s ≤ k
-  pub sent : k < next_new s
+  pub from : vt_a s ≤ k
+  pub sent : k < vt_s s
   pub is_open : has k s.acked ≡ false
   pub high : floor s.discard ≤ k
 
 -- the polled PDU is in flight while the timer runs or a poll is owed
 pub record IsPolled (s : Sender) (place flying : ℕ) : Type 0 where
-  pub number : s.polled ≡ Some (first_open s + place)
+  pub number : s.polled ≡ Some (vt_a s + place)
   pub inside : place < flying
 
 -- the running discard
@@ -59,16 +59,16 @@ pub record Stands (rules : Rules) (l : Line) (s : Sender) : Type 0 where
   pub ended : l.ended ≡ left_of rules.poll_units (ends s.bodies)
   pub most : rules.window ≤ 2048
   pub few : length l.flown ≤ rules.window
-  pub flying : first_open s + length l.flown ≡ next_new s
-  pub next : l.next ≡ wrapped (next_new s)
-  pub flown : (i : ℕ) → i < length l.flown → IsFlown s (first_open s + i) (at l.flown i)
-  pub acked_sent : (k : ℕ) → has k s.acked ≡ true → k < next_new s
-  pub wanted : (k : ℕ) → has k s.requested ≡ true → IsWanted s k
-  pub unsent : (k : ℕ) → next_new s ≤ k → count k s.sendings ≡ 0
-  pub timer : l.timer ≡ s.timer
+  pub flying : vt_a s + length l.flown ≡ vt_s s
+  pub next : l.next ≡ wrapped (vt_s s)
+  pub flown : (i : ℕ) → i < length l.flown → IsFlown s (vt_a s + i) (at l.flown i)
+  pub acked_sent : (k : ℕ) → has k s.acked ≡ true → k < vt_s s
+  pub requested : (k : ℕ) → has k s.requested ≡ true → IsWanted s k
+  pub unsent : (k : ℕ) → vt_s s ≤ k → count k s.sendings ≡ 0
+  pub timer : l.timer ≡ s.poll_timer
   pub owed : l.owed ≡ s.owed
-  pub polled : (0 < s.timer) ⊎ (s.owed ≡ true) → IsPolled s l.polled (length l.flown)
-  pub running : IsRunning l.running s.discard (first_open s) (length l.flown)
+  pub polled : (0 < s.poll_timer) ⊎ (s.owed ≡ true) → IsPolled s l.polled (length l.flown)
+  pub running : IsRunning l.running s.discard (vt_a s) (length l.flown)
 
 -- the choice, by the lowest open number
 abbrev pub chosen : ℕ → Pick → Choice
@@ -80,7 +80,7 @@ chosen low NoPdu = Nothing
 -- a PDU that was just built, as it is kept: so many units end in it
 pub record IsNew (f : Flown) (ends : ℕ) : Type 0 where
   pub acked : f.acked ≡ false
-  pub wanted : f.wanted ≡ false
+  pub requested : f.requested ≡ false
   pub named : f.named ≡ false
   pub builds : f.builds ≡ 1
   pub ends_are : f.ends ≡ ends
@@ -96,14 +96,14 @@ timer_of None = None
 timer_of (Some d) = Some (record d { due = d.due || (d.timer == 1); timer = d.timer - 1 })
 
 abbrev pub timed : Sender → Sender
-timed s = record s { timer = s.timer - 1; owed = s.owed || (s.timer == 1); ticks = s.ticks + 1; discard = timer_of s.discard }
+timed s = record s { poll_timer = s.poll_timer - 1; owed = s.owed || (s.poll_timer == 1); ticks = s.ticks + 1; discard = timer_of s.discard }
 
 -- two PDUs are sent alike
 pub record IsAlike (f g : Flown) : Type 0 where
   pub text : f.text ≡ g.text
   pub full : f.full ≡ g.full
   pub ends : f.ends ≡ g.ends
-  pub goes_on : f.goes_on ≡ g.goes_on
+  pub continues : f.continues ≡ g.continues
 
 -- of the PDUs in flight a front has left, and the others are sent as before
 pub record AreKept (old new : List Flown) : Type 0 where

@@ -62,7 +62,7 @@ fn number_in(said: Said) -> u16
 }
 
 /// Something is said besides an MRW_ACK.
-pub fn tells(status: &StatusView<'_>) -> bool
+pub fn reports(status: &StatusView<'_>) -> bool
     ensures { result ≡ tells_some (said_by status.now) }
 {
     let mut sayings = Sayings::new(status);
@@ -96,7 +96,7 @@ pub fn below(status: &StatusView<'_>, first: u16) -> u16
     0
 }
 
-/// Names the PDUs that are said to be missing. Those before a place aren't wanted.
+/// Names the PDUs that are said to be missing. Those before a place aren't requested.
 pub fn name(flight: &mut Flight, status: &StatusView<'_>, first: u16, from: u16)
     requires { first < 4096 }
     ensures { flight.new ≡ buffer (with_names first from (said_by status.now) flight.old.items) flight.old.capacity }
@@ -129,7 +129,7 @@ fn name_at(flight: &mut Flight, place: u16, from: u16)
 }
 
 /// No PDU is named any more.
-pub fn unname(flight: &mut Flight, status: &StatusView<'_>, first: u16)
+pub fn clear_missing(flight: &mut Flight, status: &StatusView<'_>, first: u16)
     requires { first < 4096 }
     ensures { flight.new ≡ buffer (without_names first (said_by status.now) flight.old.items) flight.old.capacity }
 {
@@ -156,7 +156,7 @@ fn unname_at(flight: &mut Flight, place: u16)
     ensures { flight.new ≡ buffer (changed_at unnamed place flight.old.items) flight.old.capacity }
 {
     if (place as usize) < flight.len() {
-        flight.unname(place as usize);
+        flight.clear_missing(place as usize);
     }
 }
 

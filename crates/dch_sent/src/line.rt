@@ -9,12 +9,12 @@ ghost use Rattle.dch_am.specs.Numbers.{has, wrapped};
 ghost use Rattle.dch_am.specs.Bodies.{after_body, ends_of, is_left, next_body};
 ghost use Rattle.dch_am.specs.Building.{Again, New, Last, after_choice, again_polls, anew_polls, choice, once_more_polls};
 ghost use Rattle.dch_am.specs.Restart.{restarted_sender};
-ghost use Rattle.dch_am.specs.Sender.{Discard, Sender, first_open, next_new, opened_sender};
+ghost use Rattle.dch_am.specs.Sender.{Discard, Sender, vt_a, vt_s, opened_sender};
 ghost use Rattle.dch_sent.specs.Standing.{AreKept, chosen, IsNew, Sends, Stands, timed};
 ghost use Rattle.dch_sent.specs.Polling.{again_line, again_poll, counted, crosses, is_far, last_line, last_poll, new_line, new_poll, picked, poll_of, sent_line};
 ghost use Rattle.dch_sent.specs.Line.{after_ending, after_hearing, after_told, answer_of, ending, number_at, outside_from, base_after, floor_of, freed, left_front, listened, opened_line, run_on, run_timer, repeating, ticked, discarding, is_due, moving, place_in, mark_in};
 
-use crate::hear::{below, ending, name, outside, tells, unname};
+use crate::hear::{below, clear_missing, ending, name, outside, reports};
 use dch_am::StatusTaken;
 use dch_bits::NoMemory;
 use dch_flight::{Flight, Flown};
@@ -97,14 +97,14 @@ impl Line {
         self.flight.at(place as usize)
     }
 
-    /// How many PDUs are wanted, at most so many.
-    pub fn wanted(&self, most: usize) -> usize
+    /// How many PDUs are requested, at most so many.
+    pub fn requested(&self, most: usize) -> usize
         ensures { result ≡ min most (wanted_in self.now.flown) }
     {
-        self.flight.wanted(most)
+        self.flight.requested(most)
     }
 
-    /// A PDU is wanted.
+    /// A PDU is requested.
     pub fn is_wanted(&self) -> bool
         ensures { result ≡ nat_lt 0 (wanted_in self.now.flown) }
     {
@@ -165,7 +165,7 @@ impl Line {
         if let Some(below) = found {
             self.free(below);
         }
-        if tells(status) {
+        if reports(status) {
             self.listen(status);
         }
         StatusTaken::Taken
@@ -174,7 +174,7 @@ impl Line {
     /// Which PDU a build gives, where unsent matter is left or not.
     pub fn pick(&self, left: bool) -> Pick
         ensures place { result ≡ picked left self.now }
-        ensures history { (rules : Rules) (s : Sender) → Stands rules self.now s → left ≡ is_left s.unsent → chosen (first_open s) result ≡ choice rules s }
+        ensures history { (rules : Rules) (s : Sender) → Stands rules self.now s → left ≡ is_left s.unsent → chosen (vt_a s) result ≡ choice rules s }
     {
         self.picks(left)
     }
@@ -197,12 +197,12 @@ impl Line {
         Pick::NoPdu
     }
 
-    /// The PDU at a place, which is wanted, is built again. Answers its poll bit.
+    /// The PDU at a place, which is requested, is built again. Answers its poll bit.
     pub fn again(&mut self, place: u16) -> bool
         requires { place < length self.old.flown }
         ensures poll { result ≡ again_poll place self.old }
         ensures after { self.new ≡ again_line place self.old }
-        ensures history { (rules : Rules) (s : Sender) (d : ℕ) → Stands rules self.old s → Sends rules result self.new (again_polls rules s (first_open s + place)) (after_choice (Again (first_open s + place)) rules d s) }
+        ensures history { (rules : Rules) (s : Sender) (d : ℕ) → Stands rules self.old s → Sends rules result self.new (again_polls rules s (vt_a s + place)) (after_choice (Again (vt_a s + place)) rules d s) }
     {
         self.sends_again(place)
     }
@@ -223,7 +223,7 @@ impl Line {
         requires { place < length self.old.flown }
         ensures poll { result ≡ last_poll place self.old }
         ensures after { self.new ≡ last_line place self.old }
-        ensures history { (rules : Rules) (s : Sender) (d : ℕ) → Stands rules self.old s → first_open s + place ≡ next_new s - 1 → has (first_open s + place) s.requested ≡ false → Sends rules result self.new (once_more_polls rules s) (after_choice (Last (first_open s + place)) rules d s) }
+        ensures history { (rules : Rules) (s : Sender) (d : ℕ) → Stands rules self.old s → vt_a s + place ≡ vt_s s - 1 → has (vt_a s + place) s.requested ≡ false → Sends rules result self.new (once_more_polls rules s) (after_choice (Last (vt_a s + place)) rules d s) }
     {
         self.sends_last(place)
     }
@@ -241,7 +241,7 @@ impl Line {
     /// A new PDU is built, behind which unsent matter is left or not. Answers its poll bit.
     pub fn push(&mut self, flown: Flown, left: bool) -> bool
         requires room { length self.old.flown < self.old.window }
-        requires new { flown.wanted ≡ false }
+        requires new { flown.requested ≡ false }
         ensures poll { result ≡ new_poll flown left self.old }
         ensures after { self.new ≡ new_line flown left self.old }
         ensures history { (rules : Rules) (s : Sender) (d : ℕ) → Stands rules self.old s → IsNew flown (ends_of (next_body d s.unsent)) → left ≡ is_left (after_body d s.unsent) → Sends rules result self.new (anew_polls rules d s) (after_choice New rules d s) }
@@ -252,7 +252,7 @@ impl Line {
     /// The same, by places.
     fn sends_new(&mut self, flown: Flown, left: bool) -> bool
         requires room { length self.old.flown < self.old.window }
-        requires new { flown.wanted ≡ false }
+        requires new { flown.requested ≡ false }
         ensures poll { result ≡ new_poll flown left self.old }
         ensures after { self.new ≡ new_line flown left self.old }
     {
@@ -304,7 +304,7 @@ impl Line {
         requires inside { place < length self.old.flown }
         requires mark { n < 16 }
         ensures after { self.new ≡ discarding place n self.old }
-        ensures history { (rules : Rules) (s : Sender) (i : ℕ) → Stands rules self.old s → Stands rules self.new (discards_at s i (Some (first_open s + place, n))) }
+        ensures history { (rules : Rules) (s : Sender) (i : ℕ) → Stands rules self.old s → Stands rules self.new (discards_at s i (Some (vt_a s + place, n))) }
     {
         self.begins(place, n);
     }
@@ -314,7 +314,7 @@ impl Line {
         requires mark { n < 16 }
         ensures after { self.new ≡ discarding place n self.old }
     {
-        self.flight.unwant(place as usize);
+        self.flight.clear_request(place as usize);
         self.running = Some(Running {
             at: place,
             n,
@@ -362,7 +362,7 @@ impl Line {
     }
 
     /// The MRW is written.
-    pub fn moves(&mut self)
+    pub fn write_mrw(&mut self)
         ensures after { self.new ≡ moving self.old }
         ensures history { (rules : Rules) (s : Sender) (d : Discard) → Stands rules self.old s → s.discard ≡ Some d → Stands rules self.new (after_mrw rules s d) }
     {
@@ -380,7 +380,7 @@ impl Line {
         requires { place ≤ length self.now.flown }
         ensures number { result ≡ number_at place self.now }
         ensures small { result < 4096 }
-        ensures history { (rules : Rules) (s : Sender) → Stands rules self.now s → result ≡ wrapped (first_open s + place) }
+        ensures history { (rules : Rules) (s : Sender) → Stands rules self.now s → result ≡ wrapped (vt_a s + place) }
     {
         self.number_of(place)
     }
@@ -469,7 +469,7 @@ impl Line {
         let named = is_named(&self.flight, self.polled);
         let to = (below(status, first) as usize).min(self.flight.len());
         self.flight.acknowledge(to);
-        unname(&mut self.flight, status, first);
+        clear_missing(&mut self.flight, status, first);
         self.leave(named);
     }
 
@@ -551,7 +551,7 @@ fn repeating(running: Option<Running>, ticks: u16) -> Option<Running>
     })
 }
 
-/// Nothing is wanted below this place while a discard runs.
+/// Nothing is requested below this place while a discard runs.
 fn floor_of(running: Option<Running>) -> u16
     ensures { result ≡ floor_of running }
 {

@@ -60,7 +60,7 @@ built_is d s v now size text marks goes is keeps listed = (
     text = whole;
     full = ap (λ (m : Scan). m.full) scan ∙ t.full;
     ends = ap (λ (m : Scan). m.ends) scan ∙ t.ends;
-    goes_on = is.goes_is ∙ (ap₂ (λ (m : Scan) n. not m.closed && nat_lt (m.last + m.marks) n) scan less ∙ t.goes_on);
+    continues = is.goes_is ∙ (ap₂ (λ (m : Scan) n. not m.closed && nat_lt (m.last + m.marks) n) scan less ∙ t.continues);
     short = short;
   },
   record {

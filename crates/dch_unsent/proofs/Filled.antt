@@ -58,7 +58,7 @@ scanned-ends s at (p ∷ ps) full less open_ last =
 pub record Tells (d : ℕ) (b : Body) (s : Scan) : Type 0 where
   pub full : s.full ≡ b.full
   pub ends : s.ends ≡ ends_of b
-  pub goes_on : (not s.closed && nat_lt (s.last + s.marks) d) ≡ not (is_empty b.rest)
+  pub continues : (not s.closed && nat_lt (s.last + s.marks) d) ≡ not (is_empty b.rest)
 
 begun : (b : Body) → scanned no_marks (leading b) ≡ scan_of b.full (length (leading b)) (length (leading b)) 0 false
 begun b = go b.full
@@ -98,12 +98,12 @@ tells d b small is = subst (Tells d b) (sym whole) (either (nat_lt spent d) refl
     either true e = record {
       full = or_false b.full;
       ends = number;
-      goes_on = sym (ap (λ xs. not (is_empty xs)) (is.rest (ltb-true _ _ e)));
+      continues = sym (ap (λ xs. not (is_empty xs)) (is.rest (ltb-true _ _ e)));
     }
     either false e = record {
       full = refl;
       ends = number;
-      goes_on = left b.rest refl;
+      continues = left b.rest refl;
     }
       where
         left : (xs : List ℕ) → b.rest ≡ xs → nat_lt (0 + length (joined b.pieces) + (length (leading b) + length b.pieces)) d ≡ not (is_empty xs)

@@ -12,7 +12,7 @@ use Rattle.dch_am.specs.Bodies.{ends, is_empty, sizes}
 use Rattle.dch_am.specs.Cuts.{IsCut, unread, empty_reading}
 use Rattle.dch_am.specs.Bodies.{read_bodies}
 use Rattle.dch_am.specs.Rules.{Rules}
-use Rattle.dch_am.specs.Sender.{Sender, blocks as blocks_in, first_open, held, offered}
+use Rattle.dch_am.specs.Sender.{Sender, blocks as blocks_in, vt_a, held, offered}
 use Rattle.dch_am.proofs.Listing.{length-sizes}
 use Rattle.dch_am.proofs.Reading.{ends_split}
 use Rattle.dch_rlcum.specs.Sending.{Sending, answer_of, blocks, blocks_of, held_by}
@@ -175,7 +175,7 @@ pub room_waits : (rules : Rules) (d : ℕ) (v : Sending) (s : Sender) (unit : Li
 room_waits rules d v s unit k cut room is = ap (λ b. cond (b || nat_lt 1500 (length unit)) WrongSize (cond (nat_lt v.buffer (held_by v.units + blocks (length unit))) Full Accepted)) (empty_is unit) ∙ go (is_empty unit || nat_lt 1500 (length unit)) (nat_lt rules.buffer (blocks_in (held s) + blocks_in (unit ∷ []))) refl is
   where
     few : held_by v.units ≤ blocks_in (held s)
-    few = omega (arith, blocks_wait d v s k cut, blocks_fewer (ends (take (first_open s) s.bodies)) (ends s.bodies) s.accepted (omega (arith, ends_split (first_open s) s.bodies)))
+    few = omega (arith, blocks_wait d v s k cut, blocks_fewer (ends (take (vt_a s) s.bodies)) (ends s.bodies) s.accepted (omega (arith, ends_split (vt_a s) s.bodies)))
 
     go : (a b : Bool) → nat_lt rules.buffer (blocks_in (held s) + blocks_in (unit ∷ [])) ≡ b → cond a WrongSize (cond b Full Accepted) ≡ Accepted → cond a WrongSize (cond (nat_lt v.buffer (held_by v.units + blocks (length unit))) Full Accepted) ≡ Accepted
     go true b e q = absurd (cc)

@@ -29,7 +29,7 @@ pub record Has (d : ℕ) (f : Flown) (b : Body) : Type 0 where
   pub text : f.text ≡ content d b ++ replicate (125 - (d + 1)) 0
   pub full : f.full ≡ b.full
   pub ends : f.ends ≡ ends_of b
-  pub goes_on : f.goes_on ≡ not (is_empty b.rest)
+  pub continues : f.continues ≡ not (is_empty b.rest)
   pub short : IsShort d b
 
 -- how many octets such a text has

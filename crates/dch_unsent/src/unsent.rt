@@ -93,14 +93,14 @@ impl Unsent {
     pub fn build(&mut self) -> Flown
         requires { is_unsent self.old.units ≡ true }
         ensures after { self.new ≡ after_build self.old }
-        ensures fresh { result ≡ sent_once result.text result.full result.ends result.goes_on }
+        ensures fresh { result ≡ sent_once result.text result.full result.ends result.continues }
         ensures history { (d : ℕ) (s : Sender) → Keeps d self.old s → IsListed d (anew d s) → Has d result (next_body d s.unsent) × Keeps d self.new (anew d s) }
     {
         let size = self.size;
         let text = filled(&mut self.fresh, size);
         let marks = read_marks(&text[..size]);
-        let goes_on = goes_on(&marks, size - 1);
-        Flown::new(text, marks.full, marks.ends, goes_on)
+        let continues = continues(&marks, size - 1);
+        Flown::new(text, marks.full, marks.ends, continues)
     }
 
     /// Begins anew with the units of which no octet was built. Answers how many they are.
@@ -138,7 +138,7 @@ fn cleared(text: [u8; 125]) -> [u8; 125]
 }
 
 /// A unit goes on behind the octets of a PDU with so many behind its header.
-fn goes_on(marks: &Scan, size: usize) -> bool
+fn continues(marks: &Scan, size: usize) -> bool
     ensures { result ≡ (not marks.now.closed && nat_lt (marks.now.last + marks.now.marks) size) }
 {
     !marks.closed && (marks.last as usize + marks.marks as usize) < size

@@ -3,7 +3,7 @@ use Rattle.std.proofs.lemmas.Bool.{ltb-true}
 use Rattle.dch_am.specs.Bodies.{is_left}
 use Rattle.dch_am.specs.Building.{Again as Requested, New as Fresh, Last as Latest, choice}
 use Rattle.dch_am.specs.Numbers.{has}
-use Rattle.dch_am.specs.Sender.{first_open, next_new}
+use Rattle.dch_am.specs.Sender.{vt_a, vt_s}
 use Rattle.dch_amsend.specs.Outgoing.{IsOutgoing, Outgoing, available_of, can_build}
 use Rattle.dch_amsend.proofs.Counting.{last_is, last_not}
 use Rattle.dch_amsend.proofs.Events.{IsLast, again_goes, built_by, last_goes, none_goes, picked_again, picked_last}
@@ -14,7 +14,7 @@ returns-in-Again-clause-history c = λ rules d s is.
     let v : Outgoing = record { size = c.self.inside.size; line = c.self.inside.line; waiting = c.self.inside.waiting } in
     let here : IsOutgoing rules d v s = subst (λ x. IsOutgoing rules d x s) (sym c.self.view_is) is in
     let left : c.is_left.result ≡ is_left s.unsent = c.is_left.ensures.history d s here.waiting in
-    built_by rules d s c.again.new.out None c.again.new.self (Requested (first_open s + c.in-Again.place)) (c.in-Again.ensures.history rules s here.line left)
+    built_by rules d s c.again.new.out None c.again.new.self (Requested (vt_a s + c.in-Again.place)) (c.in-Again.ensures.history rules s here.line left)
     (again_goes rules d c.args.self.now c.again.new.self s c.in-Again.place c.again.new.out (subst (λ (x : Outgoing). c.in-Again.place < length x.line.flown) c.self.view_is (picked_again c.is_left.result c.self.inside.line c.in-Again.place c.in-Again.ensures.place)) is c.again.ensures.after c.again.ensures.text)
 
 pub returns-in-New-clause-history : goal.returns-in-New-clause-history
@@ -33,9 +33,9 @@ returns-in-Last-clause-history c = λ rules d s is.
     let left : c.is_left.result ≡ is_left s.unsent = c.is_left.ensures.history d s here.waiting in
     let last : IsLast c.self.inside.line c.in-Last.place = picked_last c.is_left.result c.self.inside.line c.in-Last.place c.in-Last.ensures.place in
     let inside : c.in-Last.place < length c.self.inside.line.flown = omega (arith, last.place_is, last.some) in
-    let number : first_open s + c.in-Last.place ≡ next_new s - 1 = ap (λ k. first_open s + k) last.place_is ∙ last_is rules c.self.inside.line s last.some here.line in
-    let none = ap (λ k. has (first_open s + k) s.requested) last.place_is ∙ last_not rules c.self.inside.line s last.some last.none here.line in
-    built_by rules d s c.last.new.out None c.last.new.self (Latest (first_open s + c.in-Last.place)) (c.in-Last.ensures.history rules s here.line left)
+    let number : vt_a s + c.in-Last.place ≡ vt_s s - 1 = ap (λ k. vt_a s + k) last.place_is ∙ last_is rules c.self.inside.line s last.some here.line in
+    let none = ap (λ k. has (vt_a s + k) s.requested) last.place_is ∙ last_not rules c.self.inside.line s last.some last.none here.line in
+    built_by rules d s c.last.new.out None c.last.new.self (Latest (vt_a s + c.in-Last.place)) (c.in-Last.ensures.history rules s here.line left)
     (last_goes rules d c.args.self.now c.last.new.self s c.in-Last.place c.last.new.out (subst (λ (x : Outgoing). c.in-Last.place < length x.line.flown) c.self.view_is inside) number none is c.last.ensures.after c.last.ensures.text)
 
 pub returns-in-NoPdu-clause-history : goal.returns-in-NoPdu-clause-history

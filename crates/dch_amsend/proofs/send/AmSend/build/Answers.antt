@@ -1,6 +1,6 @@
 use Rattle.std.proofs.Common.{◌≡◌, ◌+◌, ◌-◌, ◌≤◌, ◌∙◌, ap, arith, length, subst, sym}
 use Rattle.dch_am.specs.Building.{New, after_build, after_choice, anew}
-use Rattle.dch_am.specs.Sender.{first_open, next_new}
+use Rattle.dch_am.specs.Sender.{vt_a, vt_s}
 use Rattle.dch_amsend.specs.Outgoing.{IsOutgoing, more_of}
 use Rattle.dch_amsend.specs.Standing.{Sending, Stands}
 use Rattle.dch_amsend.proofs.Sending.{IsFresh, again_holds, fresh_holds, fresh_low, is_fresh, stands_by}
@@ -14,8 +14,8 @@ returns-in-Some-clause-stands c = λ rules s is.
     let fresh : IsFresh rules (c.self.inside.outgoing.size - 2) s c.in-Some.ends = is_fresh rules (c.self.inside.outgoing.size - 2) s c.in-Some.ends (sym c.in-Some.is ∙ all.1) in
     let goes : IsOutgoing rules (c.self.inside.outgoing.size - 2) c.build.new.self (after_choice New rules (c.self.inside.outgoing.size - 2) s) = subst (λ x. IsOutgoing rules (c.self.inside.outgoing.size - 2) c.build.new.self (after_choice x rules (c.self.inside.outgoing.size - 2) s)) fresh.chosen all.2 in
     let longer : length c.build.new.self.line.flown ≡ length c.self.inside.outgoing.line.flown + 1 = c.build.ensures.count ∙ ap (λ o. length c.self.inside.outgoing.line.flown + more_of o) c.in-Some.is in
-    let low : first_open (anew (c.self.inside.outgoing.size - 2) s) ≡ first_open s = fresh_low rules (c.self.inside.outgoing.size - 2) c.self.inside.outgoing c.build.new.self s here.outgoing goes longer in
-    let under : first_open s ≤ next_new s = omega (arith, here.outgoing.line.flying) in
+    let low : vt_a (anew (c.self.inside.outgoing.size - 2) s) ≡ vt_a s = fresh_low rules (c.self.inside.outgoing.size - 2) c.self.inside.outgoing c.build.new.self s here.outgoing goes longer in
+    let under : vt_a s ≤ vt_s s = omega (arith, here.outgoing.line.flying) in
     let size : c.build.new.self.size ≡ c.self.inside.outgoing.size = c.build.ensures.size in
     let view = ap (λ (x : Sending). x.outgoing.size) c.self.view_is in
     subst (λ n. Stands rules (record { outgoing = c.build.new.self; held = c.built.new.self; rules = c.self.inside.rules }) (after_build rules (n - 2) s)) view

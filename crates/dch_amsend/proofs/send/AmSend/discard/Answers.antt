@@ -1,6 +1,6 @@
 use Rattle.std.proofs.Common.{◌≡◌, ◌+◌, ◌-◌, ◌∙◌, ap, length, refl, subst, sym, Some}
 use Rattle.dch_am.specs.Discards.{discards, discards_at}
-use Rattle.dch_am.specs.Sender.{first_open}
+use Rattle.dch_am.specs.Sender.{vt_a}
 use Rattle.dch_held.specs.Holding.{released}
 use Rattle.dch_overdue.specs.Discarding.{discarded_by}
 use Rattle.dch_amsend.specs.Standing.{Sending, Stands}
@@ -12,10 +12,10 @@ returns-in-Some-clause-stands c = λ rules s is.
     let v : Sending = record { outgoing = c.self.inside.outgoing; held = c.self.inside.held; rules = c.self.inside.rules } in
     let here : Stands rules v s = subst (λ x. Stands rules x s) (sym c.self.view_is) is in
     let i = released s + c.in-Some.found.unit in
-    let place = Some (first_open s + c.in-Some.found.place, c.in-Some.found.mark) in
+    let place = Some (vt_a s + c.in-Some.found.place, c.in-Some.found.mark) in
     let chosen : discards rules s (length s.accepted) ≡ discards_at s i place = found_by rules v s c.line.result.now c.overdue.result here c.line.ensures (c.overdue.ensures.history rules rules.buffer (c.self.inside.outgoing.size - 2) s) ∙ ap (λ o. discarded_by o s) c.in-Some.is in
     subst (Stands rules (record { outgoing = c.discard.new.self; held = c.discard-in-Some.new.self; rules = c.self.inside.rules })) (sym chosen)
-    (stands_by rules v s (discards_at s i place) c.discard.new.self c.discard-in-Some.new.self here c.discard.ensures.size (c.discard.ensures.history rules (c.self.inside.outgoing.size - 2) s i here.outgoing) (c.discard-in-Some.ensures.history rules s c.in-Some.found.unit (first_open s + c.in-Some.found.place, c.in-Some.found.mark) refl here.held))
+    (stands_by rules v s (discards_at s i place) c.discard.new.self c.discard-in-Some.new.self here c.discard.ensures.size (c.discard.ensures.history rules (c.self.inside.outgoing.size - 2) s i here.outgoing) (c.discard-in-Some.ensures.history rules s c.in-Some.found.unit (vt_a s + c.in-Some.found.place, c.in-Some.found.mark) refl here.held))
 
 pub returns-in_default-clause-stands : goal.returns-in_default-clause-stands
 returns-in_default-clause-stands c = λ rules s is.

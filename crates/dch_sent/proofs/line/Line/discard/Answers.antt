@@ -1,5 +1,5 @@
 use Rattle.std.proofs.Common.{sym, subst}
-use Rattle.dch_am.specs.Sender.{first_open}
+use Rattle.dch_am.specs.Sender.{vt_a}
 use Rattle.dch_am.specs.Discards.{discards_at}
 use Rattle.std.proofs.Common.{Some, ◌+◌}
 use Rattle.dch_sent.specs.Standing.{Stands}
@@ -7,4 +7,4 @@ use Rattle.dch_sent.proofs.Ticking.{discards_stand}
 use Rattle.dch_sent.proofs.line.Line.discard.Goals as goal
 
 pub returns-clause-history : goal.returns-clause-history
-returns-clause-history c = λ rules s i is. subst (λ l. Stands rules l (discards_at s i (Some (first_open s + c.args.place, c.args.n)))) (sym c.begins.ensures.after) (discards_stand rules c.args.self.now s c.args.place c.args.n i c.requires.inside is)
+returns-clause-history c = λ rules s i is. subst (λ l. Stands rules l (discards_at s i (Some (vt_a s + c.args.place, c.args.n)))) (sym c.begins.ensures.after) (discards_stand rules c.args.self.now s c.args.place c.args.n i c.requires.inside is)

@@ -6,14 +6,14 @@ use Rattle.dch_unsent.proofs.unsent.Unsent.build.Goals as goal
 
 pub returns-clause-history : goal.returns-clause-history
 returns-clause-history c = λ d s keeps listed.
-    let built : IsBuilt c.self.inside.fresh c.filled-text.new.fresh c.self.inside.size c.filled-text.result c.read_marks-marks.result c.goes_on-goes_on.result = record {
+    let built : IsBuilt c.self.inside.fresh c.filled-text.new.fresh c.self.inside.size c.filled-text.result c.read_marks-marks.result c.continues-continues.result = record {
       sized = c.self.invariant;
       text_is = c.filled-text.ensures.text;
       after = c.filled-text.ensures.after;
       history = c.filled-text.ensures.history;
       next = c.filled-text.ensures.next;
       marks_are = c.read_marks-marks.ensures;
-      goes_is = c.goes_on-goes_on.ensures;
+      goes_is = c.continues-continues.ensures;
     } in
-    let both = built_is d s c.self.inside.fresh c.filled-text.new.fresh c.self.inside.size c.filled-text.result c.read_marks-marks.result c.goes_on-goes_on.result built (subst (λ v. Keeps d v s) (sym c.self.view_is) keeps) listed in
+    let both = built_is d s c.self.inside.fresh c.filled-text.new.fresh c.self.inside.size c.filled-text.result c.read_marks-marks.result c.continues-continues.result built (subst (λ v. Keeps d v s) (sym c.self.view_is) keeps) listed in
     (subst (λ f. Has d f (next_body d s.unsent)) (sym c.new.ensures) both.0, both.1)

@@ -3,7 +3,7 @@ use Rattle.circular_buffer.specs.Buffer.{Buffer}
 use Rattle.dch_flight.specs.declared.flown.Flown.{Flown}
 use Rattle.dch_flight.specs.Flights.{IsFlight, at, unnamed}
 use Rattle.dch_flight.proofs.Changes.{flight_set}
-use Rattle.dch_flight.proofs.flight.Flight.unname.Goals as goal
+use Rattle.dch_flight.proofs.flight.Flight.clear_missing.Goals as goal
 
 pub invariant_of-self : goal.invariant_of-self
 invariant_of-self c =

@@ -1,7 +1,7 @@
 use Rattle.std.proofs.Common.{◌≡◌, ◌<◌, IfSome, length}
 use Rattle.dch_am.specs.Moves.{move_in}
 use Rattle.dch_amrecv.proofs.Latest.{latest}
-use Rattle.dch_amrecv.proofs.moves.last_move.Given as goal
+use Rattle.dch_amrecv.proofs.mrw.last_move.Given as goal
 
 abbrev pub decreases-loop-cursor : goal.decreases-loop-cursor
 decreases-loop-cursor l = length l.cursor

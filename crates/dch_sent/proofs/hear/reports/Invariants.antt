@@ -1,7 +1,7 @@
 use Rattle.std.proofs.Common.{◌≡◌, length}
 use Rattle.dch_said.specs.Sayings.{said_by}
 use Rattle.dch_sent.specs.Said.{tells_some}
-use Rattle.dch_sent.proofs.hear.tells.Given as goal
+use Rattle.dch_sent.proofs.hear.reports.Given as goal
 
 abbrev pub decreases-loop-said : goal.decreases-loop-said
 decreases-loop-said l = length l.sayings

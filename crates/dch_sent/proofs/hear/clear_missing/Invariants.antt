@@ -1,7 +1,7 @@
 use Rattle.std.proofs.Common.{◌≡◌, length}
 use Rattle.dch_said.specs.Sayings.{said_by}
 use Rattle.dch_sent.specs.Said.{without_names}
-use Rattle.dch_sent.proofs.hear.unname.Given as goal
+use Rattle.dch_sent.proofs.hear.clear_missing.Given as goal
 
 abbrev pub decreases-loop-said : goal.decreases-loop-said
 decreases-loop-said l = length l.sayings

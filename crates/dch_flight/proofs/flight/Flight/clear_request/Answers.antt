@@ -3,7 +3,7 @@ use Rattle.circular_buffer.specs.Buffer.{Buffer}
 use Rattle.dch_flight.specs.declared.flown.Flown.{Flown}
 use Rattle.dch_flight.specs.Flights.{IsFrom, unwanted}
 use Rattle.dch_flight.proofs.Changes.{unwanted_from, flight_less, length-changed}
-use Rattle.dch_flight.proofs.flight.Flight.unwant.Goals as goal
+use Rattle.dch_flight.proofs.flight.Flight.clear_request.Goals as goal
 
 pub overflow_sub-self : goal.overflow_sub-self
 overflow_sub-self c = omega (arith, c.unwant_below-gone.ensures.gone, c.self.invariant.counted.count_is)
