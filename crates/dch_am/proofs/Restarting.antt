@@ -2,8 +2,8 @@
 use Rattle.std.proofs.Common.{◌≡◌, ◌+◌, ◌-◌, ◌<◌, ◌≤◌, ℕ, zero, suc, List, [], ◌∷◌, ◌++◌, Bool, true, false, cond, length, take, drop, arith, refl, sym, ap, ◌∙◌, subst, length-append}
 use Rattle.std.specs.Prelude.{nat_lt}
 use Rattle.std.proofs.lemmas.Bool.{lt-ltb, le-ltb, cond_both, cond-false, cond-true}
-use Rattle.dch_filling.specs.Filling.{AreSome}
-use Rattle.dch_filling.specs.Pdus.{left_from}
+use Rattle.dch_sar.specs.Filling.{AreSome}
+use Rattle.dch_sar.specs.Pdus.{left_from}
 use Rattle.dch_am.specs.Bodies.{Body, Unsent, Reading, carried, joined, ended, ends, read_pieces, read_full, read_body, read_bodies, sizes}
 use Rattle.dch_am.specs.Cuts.{AllFull, unread, Fits, empty_reading, IsCut}
 use Rattle.dch_am.specs.Listed.{IsListed}

@@ -2,24 +2,24 @@
 use Rattle.std.proofs.Common.{◌≡◌, ◌+◌, ◌-◌, ◌*◌, ◌<◌, ◌≤◌, ℕ, zero, suc, List, [], ◌∷◌, ◌++◌, Bool, true, false, cond, ◌&&◌, ◌||◌, length, min, set, arith, refl, sym, ap, ap₂, ◌∙◌, length-append, length-set}
 use Rattle.std.specs.Prelude.{nat_lt, nat_le}
 use Rattle.std.proofs.lemmas.Bool.{and_parts, lt-ltb, ltb-true, ltb-false}
-use Rattle.dch_flight.specs.declared.flown.Flown.{Flown}
-use Rattle.dch_flight.specs.Flights.{at, built, first_wanted, sent_once, wanted_in}
+use Rattle.dch_retx.specs.declared.sent_pdu.SentPdu.{SentPdu}
+use Rattle.dch_retx.specs.Flights.{at, built, first_wanted, sent_once, wanted_in}
 use Rattle.dch_am.specs.Numbers.{has}
 use Rattle.dch_am.specs.Rules.{Rules}
 use Rattle.dch_am.specs.Bodies.{Unsent, after_body, ends_of, is_left, next_body}
 use Rattle.dch_am.specs.Sender.{Sender, vt_a, vt_s}
 use Rattle.dch_am.specs.Building.{Choice, Again as Requested, New as Fresh, Last as Latest, NoPdu as Nothing, after_build, after_choice, again, anew, builds_within, choice, is_pdu, once_more, passes, polls}
-use Rattle.dch_sent.specs.declared.line.Pick.TheVariants.{Again, New, Last, NoPdu}
-use Rattle.dch_sent.specs.Line.{Line}
-use Rattle.dch_sent.specs.Polling.{again_line, last_line, new_line}
-use Rattle.dch_sent.specs.Standing.{Stands, chosen}
-use Rattle.dch_sent.proofs.Picking.{picked_is}
-use Rattle.dch_sent.proofs.Sending.{again_sends, last_sends, new_sends}
+use Rattle.dch_retx.specs.declared.buffer.Pick.TheVariants.{Again, New, Last, NoPdu}
+use Rattle.dch_retx.specs.RetxBuffer.{RetxBuffer}
+use Rattle.dch_retx.specs.Polling.{again_line, last_line, new_line}
+use Rattle.dch_retx.specs.Standing.{Stands, chosen}
+use Rattle.dch_retx.proofs.Picking.{picked_is}
+use Rattle.dch_retx.proofs.Sending.{again_sends, last_sends, new_sends}
 use Rattle.dch_unsent.specs.Keeping.{fills}
 use Rattle.dch_amsend.specs.Counting.{builds_of}
 
 -- one that is requested is built
-wanted_less : (xs : List Flown) (i : ℕ) (f : Flown) → i < length xs → (at xs i).requested ≡ true → f.requested ≡ false → wanted_in xs ≡ suc (wanted_in (set xs i f))
+wanted_less : (xs : List SentPdu) (i : ℕ) (f : SentPdu) → i < length xs → (at xs i).requested ≡ true → f.requested ≡ false → wanted_in xs ≡ suc (wanted_in (set xs i f))
 wanted_less [] i f l w n = absurd (omega arith)
 wanted_less (x ∷ xs) zero f l w n = ap (λ b. cond b (suc (wanted_in xs)) (wanted_in xs)) w ∙ ap (λ b. suc (cond b (suc (wanted_in xs)) (wanted_in xs))) (sym n)
 wanted_less (x ∷ xs) (suc i) f l w n = go x.requested (wanted_less xs i f (omega arith) w n)
@@ -29,17 +29,17 @@ wanted_less (x ∷ xs) (suc i) f l w n = go x.requested (wanted_less xs i f (ome
     go false e = e
 
 -- one that isn't requested is built again, or is new
-wanted_same : (xs : List Flown) (i : ℕ) (f : Flown) → i < length xs → (at xs i).requested ≡ false → f.requested ≡ false → wanted_in (set xs i f) ≡ wanted_in xs
+wanted_same : (xs : List SentPdu) (i : ℕ) (f : SentPdu) → i < length xs → (at xs i).requested ≡ false → f.requested ≡ false → wanted_in (set xs i f) ≡ wanted_in xs
 wanted_same [] i f l w n = absurd (omega arith)
 wanted_same (x ∷ xs) zero f l w n = ap (λ b. cond b (suc (wanted_in xs)) (wanted_in xs)) n ∙ ap (λ b. cond b (suc (wanted_in xs)) (wanted_in xs)) (sym w)
 wanted_same (x ∷ xs) (suc i) f l w n = ap (λ k. cond x.requested (suc k) k) (wanted_same xs i f (omega arith) w n)
 
-wanted_new : (xs : List Flown) (f : Flown) → f.requested ≡ false → wanted_in (xs ++ f ∷ []) ≡ wanted_in xs
+wanted_new : (xs : List SentPdu) (f : SentPdu) → f.requested ≡ false → wanted_in (xs ++ f ∷ []) ≡ wanted_in xs
 wanted_new [] f n = ap (λ b. cond b 1 0) n
 wanted_new (x ∷ xs) f n = ap (λ k. cond x.requested (suc k) k) (wanted_new xs f n)
 
 -- the first that is requested, and none
-first_is_wanted : (xs : List Flown) → first_wanted xs < length xs → (at xs (first_wanted xs)).requested ≡ true
+first_is_wanted : (xs : List SentPdu) → first_wanted xs < length xs → (at xs (first_wanted xs)).requested ≡ true
 first_is_wanted [] l = absurd (omega arith)
 first_is_wanted (x ∷ xs) l = go x.requested refl l (λ h. first_is_wanted xs h)
   where
@@ -47,7 +47,7 @@ first_is_wanted (x ∷ xs) l = go x.requested refl l (λ h. first_is_wanted xs h
     go true e h rest = e
     go false e h rest = rest (omega arith)
 
-pub none_wanted : (xs : List Flown) → length xs ≤ first_wanted xs → wanted_in xs ≡ 0
+pub none_wanted : (xs : List SentPdu) → length xs ≤ first_wanted xs → wanted_in xs ≡ 0
 none_wanted [] l = refl
 none_wanted (x ∷ xs) l = go x.requested l (λ h. none_wanted xs h)
   where
@@ -55,7 +55,7 @@ none_wanted (x ∷ xs) l = go x.requested l (λ h. none_wanted xs h)
     go true h rest = absurd (omega arith)
     go false h rest = rest (omega arith)
 
-pub none_at : (xs : List Flown) (i : ℕ) → i < length xs → length xs ≤ first_wanted xs → (at xs i).requested ≡ false
+pub none_at : (xs : List SentPdu) (i : ℕ) → i < length xs → length xs ≤ first_wanted xs → (at xs i).requested ≡ false
 none_at [] i l none = absurd (omega arith)
 none_at (x ∷ xs) i l none = go x.requested refl none i l (λ j a b. none_at xs j a b)
   where
@@ -131,7 +131,7 @@ count_last : (n flying : ℕ) → 0 < flying → suc (min n (builds_of 0 0 false
 count_last n flying one = let first : suc (min n 0) ≡ min (suc n) 1 = omega arith in first ∙ ap (λ b. min (suc n) (cond b 1 0)) (sym (lt-ltb 0 flying one))
 
 -- what a build leaves: the poll is paid, and nothing else counts
-record Left (rules : Rules) (l : Line) (s : Sender) (requested flying : ℕ) (q : Unsent) : Type 0 where
+record Left (rules : Rules) (l : RetxBuffer) (s : Sender) (requested flying : ℕ) (q : Unsent) : Type 0 where
   stands : Stands rules l s
   none_owed : s.owed ≡ false
   wanted_is : wanted_in l.flown ≡ requested
@@ -139,15 +139,15 @@ record Left (rules : Rules) (l : Line) (s : Sender) (requested flying : ℕ) (q 
   unsent_is : s.unsent ≡ q
 
 -- the count for a line and a sender
-abbrev counted : ℕ → Rules → ℕ → Line → Sender → ℕ
+abbrev counted : ℕ → Rules → ℕ → RetxBuffer → Sender → ℕ
 counted n rules d l s = min n (builds_of (wanted_in l.flown) (min (rules.window - length l.flown) (fills n d s.unsent)) s.owed (length l.flown))
 
-left_counted : (n : ℕ) (rules : Rules) (d : ℕ) (l : Line) (s : Sender) (requested flying : ℕ) (q : Unsent) → Left rules l s requested flying q → builds_within n rules d s ≡ min n (builds_of (wanted_in l.flown) (min (rules.window - length l.flown) (fills n d s.unsent)) s.owed (length l.flown)) → builds_within n rules d s ≡ min n (builds_of requested (min (rules.window - flying) (fills n d q)) false flying)
+left_counted : (n : ℕ) (rules : Rules) (d : ℕ) (l : RetxBuffer) (s : Sender) (requested flying : ℕ) (q : Unsent) → Left rules l s requested flying q → builds_within n rules d s ≡ min n (builds_of (wanted_in l.flown) (min (rules.window - length l.flown) (fills n d s.unsent)) s.owed (length l.flown)) → builds_within n rules d s ≡ min n (builds_of requested (min (rules.window - flying) (fills n d q)) false flying)
 left_counted n rules d l s requested flying q is e =
     e ∙ (ap₂ (λ (w : ℕ) (k : ℕ). min n (builds_of w (min (rules.window - k) (fills n d s.unsent)) s.owed k)) is.wanted_is is.flying_is
     ∙ ap₂ (λ (x : Unsent) (b : Bool). min n (builds_of requested (min (rules.window - flying) (fills n d x)) b flying)) is.unsent_is is.none_owed)
 
-again_left : (rules : Rules) (d : ℕ) (l : Line) (s : Sender) → first_wanted l.flown < length l.flown → Stands rules l s → (w : ℕ) → wanted_in l.flown ≡ suc w → Left rules (again_line (first_wanted l.flown) l) (after_choice (Requested (vt_a s + first_wanted l.flown)) rules d s) w (length l.flown) s.unsent
+again_left : (rules : Rules) (d : ℕ) (l : RetxBuffer) (s : Sender) → first_wanted l.flown < length l.flown → Stands rules l s → (w : ℕ) → wanted_in l.flown ≡ suc w → Left rules (again_line (first_wanted l.flown) l) (after_choice (Requested (vt_a s + first_wanted l.flown)) rules d s) w (length l.flown) s.unsent
 again_left rules d l s inside is w e = record {
   stands = (again_sends rules l s (first_wanted l.flown) d inside is).stands;
   none_owed = paid rules (again s (vt_a s + first_wanted l.flown)) _;
@@ -156,7 +156,7 @@ again_left rules d l s inside is w e = record {
   unsent_is = refl;
 }
 
-new_left : (rules : Rules) (d : ℕ) (l : Line) (s : Sender) → length l.flown < rules.window → Stands rules l s → Left rules (new_line (sent_once [] false (ends_of (next_body d s.unsent)) false) (is_left (after_body d s.unsent)) l) (after_choice Fresh rules d s) (wanted_in l.flown) (length l.flown + 1) (after_body d s.unsent)
+new_left : (rules : Rules) (d : ℕ) (l : RetxBuffer) (s : Sender) → length l.flown < rules.window → Stands rules l s → Left rules (new_line (sent_once [] false (ends_of (next_body d s.unsent)) false) (is_left (after_body d s.unsent)) l) (after_choice Fresh rules d s) (wanted_in l.flown) (length l.flown + 1) (after_body d s.unsent)
 new_left rules d l s room is = record {
   stands = (new_sends rules l s (sent_once [] false (ends_of (next_body d s.unsent)) false) (is_left (after_body d s.unsent)) d room (record { acked = refl; requested = refl; named = refl; builds = refl; ends_are = refl }) refl is).stands;
   none_owed = paid rules (anew d s) _;
@@ -166,13 +166,13 @@ new_left rules d l s room is = record {
 }
 
 -- the last PDU's number, and that it isn't requested where none is requested
-pub last_is : (rules : Rules) (l : Line) (s : Sender) → 0 < length l.flown → Stands rules l s → vt_a s + (length l.flown - 1) ≡ vt_s s - 1
+pub last_is : (rules : Rules) (l : RetxBuffer) (s : Sender) → 0 < length l.flown → Stands rules l s → vt_a s + (length l.flown - 1) ≡ vt_s s - 1
 last_is rules l s one is = omega (arith, is.flying)
 
-pub last_not : (rules : Rules) (l : Line) (s : Sender) → 0 < length l.flown → length l.flown ≤ first_wanted l.flown → Stands rules l s → has (vt_a s + (length l.flown - 1)) s.requested ≡ false
+pub last_not : (rules : Rules) (l : RetxBuffer) (s : Sender) → 0 < length l.flown → length l.flown ≤ first_wanted l.flown → Stands rules l s → has (vt_a s + (length l.flown - 1)) s.requested ≡ false
 last_not rules l s one none is = sym (is.flown (length l.flown - 1) (omega arith)).requested ∙ none_at l.flown (length l.flown - 1) (omega arith) none
 
-last_left : (rules : Rules) (d : ℕ) (l : Line) (s : Sender) → 0 < length l.flown → length l.flown ≤ first_wanted l.flown → Stands rules l s → Left rules (last_line (length l.flown - 1) l) (after_choice (Latest (vt_a s + (length l.flown - 1))) rules d s) (wanted_in l.flown) (length l.flown) s.unsent
+last_left : (rules : Rules) (d : ℕ) (l : RetxBuffer) (s : Sender) → 0 < length l.flown → length l.flown ≤ first_wanted l.flown → Stands rules l s → Left rules (last_line (length l.flown - 1) l) (after_choice (Latest (vt_a s + (length l.flown - 1))) rules d s) (wanted_in l.flown) (length l.flown) s.unsent
 last_left rules d l s one none is = record {
   stands = (last_sends rules l s (length l.flown - 1) d (omega arith) (last_is rules l s one is) (last_not rules l s one none is) is).stands;
   none_owed = paid rules (once_more s) false;
@@ -182,7 +182,7 @@ last_left rules d l s one none is = record {
 }
 
 -- the tests of a choice
-record IsChoice (rules : Rules) (l : Line) (s : Sender) (a b c : Bool) : Type 0 where
+record IsChoice (rules : Rules) (l : RetxBuffer) (s : Sender) (a b c : Bool) : Type 0 where
   first : nat_lt (first_wanted l.flown) (length l.flown) ≡ a
   second : (nat_lt (length l.flown) rules.window && is_left s.unsent) ≡ b
   third : (s.owed && nat_lt 0 (length l.flown)) ≡ c
@@ -194,7 +194,7 @@ chosen_cond low false true c x z = refl
 chosen_cond low false false true x z = refl
 chosen_cond low false false false x z = refl
 
-is_choice : (rules : Rules) (l : Line) (s : Sender) (a b c : Bool) → Stands rules l s → nat_lt (first_wanted l.flown) (length l.flown) ≡ a → (nat_lt (length l.flown) rules.window && is_left s.unsent) ≡ b → (s.owed && nat_lt 0 (length l.flown)) ≡ c → IsChoice rules l s a b c
+is_choice : (rules : Rules) (l : RetxBuffer) (s : Sender) (a b c : Bool) → Stands rules l s → nat_lt (first_wanted l.flown) (length l.flown) ≡ a → (nat_lt (length l.flown) rules.window && is_left s.unsent) ≡ b → (s.owed && nat_lt 0 (length l.flown)) ≡ c → IsChoice rules l s a b c
 is_choice rules l s a b c is e1 e2 e3 = record {
   first = e1;
   second = e2;
@@ -215,14 +215,14 @@ none_fresh m d len room q e = go (nat_lt len room) (is_left q) refl refl e
     go false b e1 e2 h = omega (arith, ltb-false _ _ e1)
 
 -- the count of a definition's builds is that of a line
-pub counts : (n : ℕ) (rules : Rules) (d : ℕ) (l : Line) (s : Sender) → Stands rules l s → builds_within n rules d s ≡ counted n rules d l s
+pub counts : (n : ℕ) (rules : Rules) (d : ℕ) (l : RetxBuffer) (s : Sender) → Stands rules l s → builds_within n rules d s ≡ counted n rules d l s
 counts zero rules d l s is = omega arith
 counts (suc n) rules d l s is = go (nat_lt (first_wanted l.flown) (length l.flown)) (nat_lt (length l.flown) rules.window && is_left s.unsent) (s.owed && nat_lt 0 (length l.flown)) (is_choice rules l s _ _ _ is refl refl refl) (λ m t st. counts n rules d m t st)
   where
     room : ℕ
     room = rules.window - length l.flown
 
-    go : (a b c : Bool) → IsChoice rules l s a b c → ((m : Line) (t : Sender) → Stands rules m t → builds_within n rules d t ≡ counted n rules d m t) → builds_within (suc n) rules d s ≡ counted (suc n) rules d l s
+    go : (a b c : Bool) → IsChoice rules l s a b c → ((m : RetxBuffer) (t : Sender) → Stands rules m t → builds_within n rules d t ≡ counted n rules d m t) → builds_within (suc n) rules d s ≡ counted (suc n) rules d l s
     go true b c ch rest =
         let inside : first_wanted l.flown < length l.flown = ltb-true _ _ ch.first in
         let w : ℕ = wanted_in (set l.flown (first_wanted l.flown) (built (at l.flown (first_wanted l.flown)))) in
@@ -237,7 +237,7 @@ counts (suc n) rules d l s is = go (nat_lt (first_wanted l.flown) (length l.flow
         let none : wanted_in l.flown ≡ 0 = none_wanted l.flown (ltb-false _ _ ch.first) in
         let parts = and_parts _ _ ch.second in
         let below : length l.flown < rules.window = ltb-true _ _ parts.0 in
-        let m : Line = new_line (sent_once [] false (ends_of (next_body d s.unsent)) false) (is_left (after_body d s.unsent)) l in
+        let m : RetxBuffer = new_line (sent_once [] false (ends_of (next_body d s.unsent)) false) (is_left (after_body d s.unsent)) l in
         let t : Sender = after_choice Fresh rules d s in
         let lf : Left rules m t (wanted_in l.flown) (length l.flown + 1) (after_body d s.unsent) = new_left rules d l s below is in
         let less : rules.window - (length l.flown + 1) ≡ rules.window - length l.flown - 1 = omega arith in

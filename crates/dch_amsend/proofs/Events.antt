@@ -6,8 +6,8 @@ use Rattle.std.proofs.lemmas.List.{get_or_append_left}
 use Rattle.std.proofs.Math.Seq.{get_or-append_seam}
 use Rattle.dch_bits.specs.declared.offer.Offer.{Offer}
 use Rattle.dch_bits.specs.declared.offer.Offer.TheVariants.{Accepted}
-use Rattle.dch_flight.specs.declared.flown.Flown.{Flown}
-use Rattle.dch_flight.specs.Flights.{at, blank, first_wanted, sent_once, wanted_in}
+use Rattle.dch_retx.specs.declared.sent_pdu.SentPdu.{SentPdu}
+use Rattle.dch_retx.specs.Flights.{at, blank, first_wanted, sent_once, wanted_in}
 use Rattle.dch_am.specs.Acknowledging.{after_fields, status_answer}
 use Rattle.dch_am.specs.Bodies.{Body, after_body, carried, ends_of, is_left, marks_of, next_body, no_body}
 use Rattle.dch_am.specs.Building.{Choice, Again as Requested, New as Fresh, Last as Latest, NoPdu as Nothing, after_build, after_choice, anew, anew_polls, available, body_at, body_of_choice, builds_within, choice, polls_at}
@@ -27,13 +27,13 @@ use Rattle.dch_rlcum.specs.History.{IsSenderOf}
 use Rattle.dch_rlcum.specs.Sending.{Sending, answer_of, builds}
 use Rattle.dch_rlcum.specs.Sending.{after_build as after_filling, after_offer as after_offering}
 use Rattle.dch_status.specs.Fields.{Field}
-use Rattle.dch_sent.specs.declared.line.Pick.TheVariants.{Again, New, Last, NoPdu}
-use Rattle.dch_sent.specs.Line.{Line, discarding, number_at}
-use Rattle.dch_sent.specs.Polling.{again_line, again_poll, last_line, last_poll, new_line, new_poll, picked}
-use Rattle.dch_sent.specs.Standing.{AreKept, IsAlike, IsFlown, IsNew, IsPolled, IsWanted, Sends, Stands}
-use Rattle.dch_sent.proofs.Keeping.{discarding_kept, resent_kept}
-use Rattle.dch_sent.proofs.Sending.{again_sends, last_sends, new_sends}
-use Rattle.dch_sent.proofs.Ticking.{discards_stand, number_is}
+use Rattle.dch_retx.specs.declared.buffer.Pick.TheVariants.{Again, New, Last, NoPdu}
+use Rattle.dch_retx.specs.RetxBuffer.{RetxBuffer, discarding, number_at}
+use Rattle.dch_retx.specs.Polling.{again_line, again_poll, last_line, last_poll, new_line, new_poll, picked}
+use Rattle.dch_retx.specs.Standing.{AreKept, IsAlike, IsFlown, IsNew, IsPolled, IsWanted, Sends, Stands}
+use Rattle.dch_retx.proofs.Keeping.{discarding_kept, resent_kept}
+use Rattle.dch_retx.proofs.Sending.{again_sends, last_sends, new_sends}
+use Rattle.dch_retx.proofs.Ticking.{discards_stand, number_is}
 use Rattle.dch_unsent.specs.Keeping.{Has, Keeps, fills}
 use Rattle.dch_unsent.proofs.Built.{length-content}
 use Rattle.dch_unsent.proofs.Fills.{fills_is}
@@ -46,11 +46,11 @@ use Rattle.dch_amsend.proofs.Counting.{counts, no_more}
 use Rattle.dch_amsend.proofs.Framing.{framed_is}
 
 -- a PDU that is sent alike has the same body
-has_alike : (d : ℕ) (f g : Flown) (b : Body) → IsAlike f g → Has d g b → Has d f b
+has_alike : (d : ℕ) (f g : SentPdu) (b : Body) → IsAlike f g → Has d g b → Has d f b
 has_alike d f g b a h = record { text = a.text ∙ h.text; full = a.full ∙ h.full; ends = a.ends ∙ h.ends; continues = a.continues ∙ h.continues; short = h.short }
 
 -- PDUs in front leave, or are marked, and nothing else is sent
-pub line_goes : (rules : Rules) (d : ℕ) (v : Outgoing) (s now : Sender) (l : Line) → IsOutgoing rules d v s → Stands rules l now → AreKept v.line.flown l.flown → Alike s now → IsOutgoing rules d (with_line l v) now
+pub line_goes : (rules : Rules) (d : ℕ) (v : Outgoing) (s now : Sender) (l : RetxBuffer) → IsOutgoing rules d v s → Stands rules l now → AreKept v.line.flown l.flown → Alike s now → IsOutgoing rules d (with_line l v) now
 line_goes rules d v s now l is stands kept same = record {
   size = is.size;
   line = stands;
@@ -70,11 +70,11 @@ line_goes rules d v s now l is stands kept same = record {
 }
 
 -- a status
-pub hears_goes : (rules : Rules) (d : ℕ) (v : Outgoing) (s : Sender) (l : Line) (fields : List Field) → IsOutgoing rules d v s → Stands rules l (after_fields rules s fields) → AreKept v.line.flown l.flown → IsOutgoing rules d (with_line l v) (after_fields rules s fields)
+pub hears_goes : (rules : Rules) (d : ℕ) (v : Outgoing) (s : Sender) (l : RetxBuffer) (fields : List Field) → IsOutgoing rules d v s → Stands rules l (after_fields rules s fields) → AreKept v.line.flown l.flown → IsOutgoing rules d (with_line l v) (after_fields rules s fields)
 hears_goes rules d v s l fields is stands kept = line_goes rules d v s (after_fields rules s fields) l is stands kept (alike_answer s fields (status_answer rules s fields))
 
 -- the beginning of a discard
-pub discards_goes : (rules : Rules) (d : ℕ) (v : Outgoing) (s : Sender) (l : Line) (place n i : ℕ) → place < length v.line.flown → l ≡ discarding place n v.line → IsOutgoing rules d v s → IsOutgoing rules d (with_line l v) (discards_at s i (Some (vt_a s + place, n)))
+pub discards_goes : (rules : Rules) (d : ℕ) (v : Outgoing) (s : Sender) (l : RetxBuffer) (place n i : ℕ) → place < length v.line.flown → l ≡ discarding place n v.line → IsOutgoing rules d v s → IsOutgoing rules d (with_line l v) (discards_at s i (Some (vt_a s + place, n)))
 discards_goes rules d v s l place n i inside e is = subst (λ x. IsOutgoing rules d (with_line x v) (discards_at s i (Some (vt_a s + place, n)))) (sym e)
     (line_goes rules d v s (discards_at s i (Some (vt_a s + place, n))) (discarding place n v.line) is (discards_stand rules v.line s place n i inside is.line) (discarding_kept place n v.line) (alike_place s i (Some (vt_a s + place, n))))
 
@@ -146,13 +146,13 @@ pub listed_new : (rules : Rules) (d : ℕ) (s : Sender) → 1 ≤ d → choice r
 listed_new rules d s one e is = let l : IsListed d (after_choice Fresh rules d s) = subst (λ c. IsListed d (after_choice c rules d s)) e (listed_builds rules d s one is) in record { some = l.some; cuts = l.cuts; bodies = l.bodies; owed = l.owed; lengths = l.lengths; row = l.row }
 
 -- a new PDU
-pub record IsFilled (d : ℕ) (v : Outgoing) (s : Sender) (f : Flown) (waiting : Sending) : Type 0 where
+pub record IsFilled (d : ℕ) (v : Outgoing) (s : Sender) (f : SentPdu) (waiting : Sending) : Type 0 where
   pub fresh : f ≡ sent_once f.text f.full f.ends f.continues
   pub has : Has d f (next_body d s.unsent)
   pub keeps : Keeps d waiting (anew d s)
   pub after : waiting ≡ after_filling v.waiting
 
-pub new_goes : (rules : Rules) (d : ℕ) (v : Outgoing) (s : Sender) (f : Flown) (waiting : Sending) (l : Line) (left poll : Bool) (number : ℕ) (out : List ℕ) → length v.line.flown < v.line.window → IsOutgoing rules d v s → IsFilled d v s f waiting → number ≡ number_at (length v.line.flown) v.line → left ≡ is_left (after_body d s.unsent) → poll ≡ new_poll f left v.line → l ≡ new_line f left v.line → out ≡ framed number poll f.text v.size → Built rules d s out (Some f.ends) (record { size = v.size; line = l; waiting = waiting }) Fresh
+pub new_goes : (rules : Rules) (d : ℕ) (v : Outgoing) (s : Sender) (f : SentPdu) (waiting : Sending) (l : RetxBuffer) (left poll : Bool) (number : ℕ) (out : List ℕ) → length v.line.flown < v.line.window → IsOutgoing rules d v s → IsFilled d v s f waiting → number ≡ number_at (length v.line.flown) v.line → left ≡ is_left (after_body d s.unsent) → poll ≡ new_poll f left v.line → l ≡ new_line f left v.line → out ≡ framed number poll f.text v.size → Built rules d s out (Some f.ends) (record { size = v.size; line = l; waiting = waiting }) Fresh
 new_goes rules d v s f waiting l left poll number out room is filled number_e left_e poll_e line_e text = record {
   text = text ∙ (framed_is d body f.text number v.size poll filled.has.text (length-content d body filled.has.short) is.size
       ∙ (ap₂ (λ n p. am_pdu n p (marks_of d body) (carried body) v.size) number_is_next (poll_e ∙ sends.poll)
@@ -172,15 +172,15 @@ new_goes rules d v s f waiting l left poll number out room is filled number_e le
     body : Body
     body = next_body d s.unsent
 
-    fresh : Flown
+    fresh : SentPdu
     fresh = sent_once f.text f.full f.ends f.continues
 
     new : IsNew f (ends_of (next_body d s.unsent))
     new = record {
-      acked = ap (λ (g : Flown). g.acked) filled.fresh;
-      requested = ap (λ (g : Flown). g.requested) filled.fresh;
-      named = ap (λ (g : Flown). g.named) filled.fresh;
-      builds = ap (λ (g : Flown). g.builds) filled.fresh;
+      acked = ap (λ (g : SentPdu). g.acked) filled.fresh;
+      requested = ap (λ (g : SentPdu). g.requested) filled.fresh;
+      named = ap (λ (g : SentPdu). g.named) filled.fresh;
+      builds = ap (λ (g : SentPdu). g.builds) filled.fresh;
       ends_are = filled.has.ends;
     }
 
@@ -197,7 +197,7 @@ new_goes rules d v s f waiting l left poll number out room is filled number_e le
     number_is_next = number_e ∙ (number_is rules v.line s (length v.line.flown) (omega arith) is.line ∙ ap wrapped last)
 
     flown_line : l.flown ≡ v.line.flown ++ f ∷ []
-    flown_line = ap (λ (x : Line). x.flown) line_e
+    flown_line = ap (λ (x : RetxBuffer). x.flown) line_e
 
     longer : length (v.line.flown ++ f ∷ []) ≡ length v.line.flown + 1
     longer = length-append v.line.flown (f ∷ [])
@@ -224,7 +224,7 @@ new_goes rules d v s f waiting l left poll number out room is filled number_e le
         (cases_lt i (length v.line.flown))))
 
 -- a line that stands for a sender stands for one with a unit more
-line_unit : (rules : Rules) (l : Line) (s : Sender) (unit : List ℕ) → Stands rules l s → Stands rules l (after_offer Accepted s unit)
+line_unit : (rules : Rules) (l : RetxBuffer) (s : Sender) (unit : List ℕ) → Stands rules l s → Stands rules l (after_offer Accepted s unit)
 line_unit rules l s unit is = record {
   window = is.window;
   rules_are = is.rules_are;
@@ -268,7 +268,7 @@ offer_goes rules d v s unit answer waiting is offered_e answer_e waiting_e keeps
     )
 
 -- what a pick says of the line
-pub picked_again : (left : Bool) (l : Line) (place : ℕ) → Again place ≡ picked left l → place < length l.flown
+pub picked_again : (left : Bool) (l : RetxBuffer) (place : ℕ) → Again place ≡ picked left l → place < length l.flown
 picked_again left l place e = go (nat_lt (first_wanted l.flown) (length l.flown)) (nat_lt (length l.flown) l.window && left) (l.owed && nat_lt 0 (length l.flown)) refl e
   where
     go : (a b c : Bool) → nat_lt (first_wanted l.flown) (length l.flown) ≡ a → Again place ≡ cond a (Again (first_wanted l.flown)) (cond b New (cond c (Last (length l.flown - 1)) NoPdu)) → place < length l.flown
@@ -277,12 +277,12 @@ picked_again left l place e = go (nat_lt (first_wanted l.flown) (length l.flown)
     go false false true t q = absurd (cc)
     go false false false t q = absurd (cc)
 
-pub record IsLast (l : Line) (place : ℕ) : Type 0 where
+pub record IsLast (l : RetxBuffer) (place : ℕ) : Type 0 where
   pub some : 0 < length l.flown
   pub none : length l.flown ≤ first_wanted l.flown
   pub place_is : place ≡ length l.flown - 1
 
-pub picked_last : (left : Bool) (l : Line) (place : ℕ) → Last place ≡ picked left l → IsLast l place
+pub picked_last : (left : Bool) (l : RetxBuffer) (place : ℕ) → Last place ≡ picked left l → IsLast l place
 picked_last left l place e = go (nat_lt (first_wanted l.flown) (length l.flown)) (nat_lt (length l.flown) l.window && left) (l.owed && nat_lt 0 (length l.flown)) refl refl e
   where
     go : (a b c : Bool) → nat_lt (first_wanted l.flown) (length l.flown) ≡ a → (l.owed && nat_lt 0 (length l.flown)) ≡ c → Last place ≡ cond a (Again (first_wanted l.flown)) (cond b New (cond c (Last (length l.flown - 1)) NoPdu)) → IsLast l place
@@ -292,7 +292,7 @@ picked_last left l place e = go (nat_lt (first_wanted l.flown) (length l.flown))
     go false false false t u q = absurd (cc)
 
 -- the sender begins anew
-pub restart_goes : (rules : Rules) (d : ℕ) (v : Outgoing) (s : Sender) (l : Line) (waiting : Sending) → length l.flown ≡ 0 → waiting.buffer ≡ v.waiting.buffer → IsOutgoing rules d v s → Stands rules l (restarted_sender s) → Keeps d waiting (restarted_sender s) → IsOutgoing rules d (record { size = v.size; line = l; waiting = waiting }) (restarted_sender s)
+pub restart_goes : (rules : Rules) (d : ℕ) (v : Outgoing) (s : Sender) (l : RetxBuffer) (waiting : Sending) → length l.flown ≡ 0 → waiting.buffer ≡ v.waiting.buffer → IsOutgoing rules d v s → Stands rules l (restarted_sender s) → Keeps d waiting (restarted_sender s) → IsOutgoing rules d (record { size = v.size; line = l; waiting = waiting }) (restarted_sender s)
 restart_goes rules d v s l waiting none room is stands keeps = record {
   size = is.size;
   line = stands;

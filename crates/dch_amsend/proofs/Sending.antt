@@ -19,13 +19,13 @@ use Rattle.dch_held.specs.Holding.{AreAcknowledged, Holds, IsAlike, IsTicked}
 use Rattle.dch_held.proofs.Holding.{holds_as}
 use Rattle.dch_overdue.specs.declared.scan.Overdue.{Overdue}
 use Rattle.dch_overdue.specs.Discarding.{discarded_by}
-use Rattle.dch_sent.specs.Line.{Line}
-use Rattle.dch_sent.specs.Standing.{Stands as LineStands}
+use Rattle.dch_retx.specs.RetxBuffer.{RetxBuffer}
+use Rattle.dch_retx.specs.Standing.{Stands as LineStands}
 use Rattle.dch_unsent.specs.Keeping.{Has}
-use Rattle.dch_flight.specs.Flights.{at}
+use Rattle.dch_retx.specs.Flights.{at}
 use Rattle.dch_am.specs.Cuts.{IsCut}
-use Rattle.dch_sent.specs.Standing.{IsRunning, timed, timer_of}
-use Rattle.dch_sent.specs.declared.line.Running.{Running}
+use Rattle.dch_retx.specs.Standing.{IsRunning, timed, timer_of}
+use Rattle.dch_retx.specs.declared.buffer.Running.{Running}
 use Rattle.dch_status.specs.Fields.{Field, NoMoreField, WindowField, AckField, ListField, BitmapField, MrwField, MrwAckField}
 use Rattle.dch_amsend.specs.Outgoing.{IsOutgoing, Outgoing, new_ends}
 use Rattle.dch_amsend.specs.Standing.{Sending, Stands}
@@ -208,8 +208,8 @@ mrw_by s out due is = go s.discard refl due
     go (Some x) e d = is x e
 
 -- the unit that is found
-pub found_by : (rules : Rules) (v : Sending) (s : Sender) (l : Line) (found : Option Overdue) → Stands rules v s → l ≡ v.outgoing.line → (rules ≡ rules_of rules.buffer v.rules → LineStands rules l s → Holds rules v.held s → IsCut s.accepted s.unsent s.bodies → ((i : ℕ) → i < length l.flown → Has (v.outgoing.size - 2) (at l.flown i) (body_at s.bodies (vt_a s + i))) → discards rules s (length s.accepted) ≡ discarded_by found s) → discards rules s (length s.accepted) ≡ discarded_by found s
-found_by rules v s l found is e h = h is.rules_are (subst (λ x. LineStands rules x s) (sym e) is.outgoing.line) is.held is.outgoing.cut (subst (λ (x : Line). (i : ℕ) → i < length x.flown → Has (v.outgoing.size - 2) (at x.flown i) (body_at s.bodies (vt_a s + i))) (sym e) is.outgoing.flown)
+pub found_by : (rules : Rules) (v : Sending) (s : Sender) (l : RetxBuffer) (found : Option Overdue) → Stands rules v s → l ≡ v.outgoing.line → (rules ≡ rules_of rules.buffer v.rules → LineStands rules l s → Holds rules v.held s → IsCut s.accepted s.unsent s.bodies → ((i : ℕ) → i < length l.flown → Has (v.outgoing.size - 2) (at l.flown i) (body_at s.bodies (vt_a s + i))) → discards rules s (length s.accepted) ≡ discarded_by found s) → discards rules s (length s.accepted) ≡ discarded_by found s
+found_by rules v s l found is e h = h is.rules_are (subst (λ x. LineStands rules x s) (sym e) is.outgoing.line) is.held is.outgoing.cut (subst (λ (x : RetxBuffer). (i : ℕ) → i < length x.flown → Has (v.outgoing.size - 2) (at x.flown i) (body_at s.bodies (vt_a s + i))) (sym e) is.outgoing.flown)
 
 some_by : (r : Option Running) (d : Option Discard) (low n : ℕ) → IsRunning r d low n → is_some r ≡ is_some d
 some_by None None low n is = refl

@@ -1,25 +1,25 @@
 -- What a sender of the acknowledged mode has sent and has still to send (TS 25.322 9.4), and when it stands for a sender over numbers
 -- without wrap.
 use Rattle.std.specs.Prelude.{◌≡◌, ◌+◌, ◌-◌, ◌<◌, ℕ, Bool, length, min, nat_lt, Option, Some, None}
-use Rattle.dch_flight.specs.Flights.{at, wanted_in}
+use Rattle.dch_retx.specs.Flights.{at, wanted_in}
 use Rattle.dch_am.specs.Rules.{Rules}
 use Rattle.dch_am.specs.Bodies.{ends_of, next_body}
 use Rattle.dch_am.specs.Cuts.{IsCut}
 use Rattle.dch_am.specs.Sender.{Sender, vt_a}
 use Rattle.dch_am.specs.Building.{Choice, Again, New, Last, NoPdu, body_at}
 use Rattle.dch_rlcum.specs.Sending.{Sending, builds}
-use Rattle.dch_sent.specs.Line.{Line}
-use Rattle.dch_sent.specs.Standing.{Stands}
+use Rattle.dch_retx.specs.RetxBuffer.{RetxBuffer}
+use Rattle.dch_retx.specs.Standing.{Stands}
 use Rattle.dch_unsent.specs.Keeping.{Has, Keeps}
 use Rattle.dch_amsend.specs.Counting.{builds_of}
 
 -- the octets of a PDU, the PDUs that were sent, and the units that wait
 pub record Outgoing : Type 0 where
   pub size : ℕ
-  pub line : Line
+  pub line : RetxBuffer
   pub waiting : Sending
 
-abbrev pub with_line : Line → Outgoing → Outgoing
+abbrev pub with_line : RetxBuffer → Outgoing → Outgoing
 with_line l v = record { size = v.size; line = l; waiting = v.waiting }
 
 -- how many PDUs could be built one after another, at most 64

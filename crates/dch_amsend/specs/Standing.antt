@@ -5,7 +5,7 @@ use Rattle.dch_am.specs.Rules.{Rules, rules_of}
 use Rattle.dch_am.specs.Sender.{Sender}
 use Rattle.dch_held.specs.Held.{Held}
 use Rattle.dch_held.specs.Holding.{Holds}
-use Rattle.dch_sent.specs.Line.{is_due as mrw_due}
+use Rattle.dch_retx.specs.RetxBuffer.{is_due as mrw_due}
 use Rattle.dch_amsend.specs.Outgoing.{IsOutgoing, Outgoing, can_build}
 
 -- what was sent and waits, the units that are held, and the rules

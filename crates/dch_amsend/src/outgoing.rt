@@ -1,5 +1,5 @@
 ghost use Rattle.std.specs.Prelude.{◌≡◌, ◌≢◌, ◌+◌, ◌-◌, ◌<◌, ◌≤◌, ◌&&◌, ◌||◌, ◌∷◌, ℕ, is_some, true, IfOk, IfSome, Some, length, nat_lt};
-ghost use Rattle.dch_flight.specs.Flights.{at};
+ghost use Rattle.dch_retx.specs.Flights.{at};
 ghost use Rattle.dch_bits.specs.declared.offer.Offer.TheVariants.{Accepted};
 ghost use Rattle.dch_am.specs.declared.answers.StatusTaken.TheVariants.{Taken};
 ghost use Rattle.dch_am.specs.Acknowledging.{after_fields, status_answer};
@@ -12,9 +12,9 @@ ghost use Rattle.dch_am.specs.Rules.{Rules, rules_of};
 ghost use Rattle.dch_am.specs.Sender.{Discard, Sender, after_offer, vt_a, offered, opened_sender};
 ghost use Rattle.dch_am.specs.Short.{IsShort};
 ghost use Rattle.dch_rlcum.specs.Sending.{is_unsent};
-ghost use Rattle.dch_sent.specs.Line.{is_due, number_at};
-ghost use Rattle.dch_sent.specs.Polling.{again_line, again_poll, last_line, last_poll};
-ghost use Rattle.dch_sent.specs.Standing.{timed};
+ghost use Rattle.dch_retx.specs.RetxBuffer.{is_due, number_at};
+ghost use Rattle.dch_retx.specs.Polling.{again_line, again_poll, last_line, last_poll};
+ghost use Rattle.dch_retx.specs.Standing.{timed};
 ghost use Rattle.dch_status.specs.Fields.{mrw_fields};
 ghost use Rattle.dch_status.specs.Reading.{status_of};
 ghost use Rattle.dch_status.specs.Writing.{IsText, mrw_text};
@@ -25,7 +25,7 @@ ghost use Rattle.dch_amsend.specs.Outgoing.{IsOutgoing, available_of, can_build,
 use crate::frame::write_frame;
 use dch_am::StatusTaken;
 use dch_bits::{NoMemory, Offer};
-use dch_sent::{Line, Pick};
+use dch_retx::{Pick, RetxBuffer};
 use dch_status::{StatusView, write_mrw};
 use dch_types::AmRules;
 use dch_unsent::Unsent;
@@ -35,7 +35,7 @@ use std::marker::Model;
 /// What a sender has sent, and the units that wait to be sent.
 #[derive(Drop)]
 pub struct Outgoing {
-    line: Line,
+    line: RetxBuffer,
     waiting: Unsent,
     size: usize,
 }
@@ -67,7 +67,7 @@ impl Outgoing {
         ensures window { IfOk result (λ v. v.line.window ≡ rules.window) }
         ensures history { IfOk result (λ v. IsOutgoing (rules_of buffer rules) (pdu - 2) v opened_sender) }
     {
-        let line = Line::open(alloc, buffer, rules)?;
+        let line = RetxBuffer::open(alloc, buffer, rules)?;
         let waiting = Unsent::open(alloc, pdu, buffer)?;
         Ok(Outgoing {
             line,
@@ -154,7 +154,7 @@ impl Outgoing {
     }
 
     /// What was sent.
-    pub fn line(&self) -> &Line
+    pub fn line(&self) -> &RetxBuffer
         ensures { result.now ≡ self.now.line }
     {
         &self.line

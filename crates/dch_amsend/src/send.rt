@@ -10,7 +10,7 @@ ghost use Rattle.dch_am.specs.Sender.{Sender, after_offer, discarded, offered, o
 ghost use Rattle.dch_am.specs.Short.{IsShort};
 ghost use Rattle.dch_am.specs.Texts.{IsMrw, next_pdu};
 ghost use Rattle.dch_held.specs.Held.{capped};
-ghost use Rattle.dch_sent.specs.Standing.{timed};
+ghost use Rattle.dch_retx.specs.Standing.{timed};
 ghost use Rattle.dch_amsend.specs.Outgoing.{available_of};
 ghost use Rattle.dch_amsend.specs.Standing.{IsSame, Stands, is_control_due, is_due, pdu_octets, room_in};
 

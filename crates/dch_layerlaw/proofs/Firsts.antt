@@ -3,7 +3,7 @@ use Rattle.std.proofs.Common.{◌≡◌, ◌+◌, ◌-◌, ◌<◌, ◌≤◌, �
 use Rattle.std.specs.Prelude.{◌&&◌, ◌||◌, ◌==◌, not, nat_lt}
 use Rattle.std.specs.List.{list_all, list_any}
 use Rattle.std.proofs.lemmas.Bool.{cases_lt, le-ltb, lt-ltb}
-use Rattle.dch_filling.specs.Pdus.{AreCuts, Pdu, first_front, pdus}
+use Rattle.dch_sar.specs.Pdus.{AreCuts, Pdu, first_front, pdus}
 use Rattle.dch_layerlaw.specs.Ended.{has_end, marked_units}
 use Rattle.dch_rlcum.specs.Handing.{AreFewLost, AreUnits, Sent, brings_end, carries, ends_in, is_known, known_units, sent_from, serves}
 use Rattle.dch_rlcum.specs.History.{joined, sizes}

@@ -4,7 +4,7 @@ use Rattle.std.specs.Prelude.{◌==◌, filter}
 use Rattle.dch_bits.specs.declared.bit.Bit.{Bit}
 use Rattle.dch_types.specs.declared.channel.Dir.{Dir}
 use Rattle.dch_types.specs.declared.config.Config.{Config}
-use Rattle.dch_filling.specs.Pdus.{Pdu, pdus}
+use Rattle.dch_sar.specs.Pdus.{Pdu, pdus}
 use Rattle.dch_rlcpdu.specs.Um.{um_reading}
 use Rattle.dch_rlcpdu.proofs.Splits.{reading_back}
 use Rattle.dch_rlcum.specs.Handing.{AreRead, all_handed, handed_up, sent_from, view_of}

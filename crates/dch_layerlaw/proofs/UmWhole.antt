@@ -7,8 +7,8 @@ use Rattle.std.proofs.lemmas.List.{take_at}
 use Rattle.dch_bits.specs.declared.bit.Bit.{Bit}
 use Rattle.dch_types.specs.declared.channel.Dir.{Dir}
 use Rattle.dch_types.specs.declared.config.Config.{Config}
-use Rattle.dch_filling.specs.Pdus.{Pdu, first_front, pdus}
-use Rattle.dch_filling.proofs.Fronts.{length-pdus}
+use Rattle.dch_sar.specs.Pdus.{Pdu, first_front, pdus}
+use Rattle.dch_sar.proofs.Fronts.{length-pdus}
 use Rattle.dch_rlcpdu.specs.Um.{um_reading}
 use Rattle.dch_rlcpdu.proofs.Splits.{reading_back}
 use Rattle.dch_layerlaw.specs.Ended.{has_end, marked_units}

@@ -8,7 +8,7 @@ use Rattle.dch_rlcpdu.specs.declared.handed.PduError.{PduError}
 use Rattle.dch_rlcpdu.specs.declared.um.UmView.{UmView}
 use Rattle.dch_rlcpdu.specs.Um.{um_reading}
 use Rattle.dch_rlcum.specs.Receiving.{Receiving, after_pdu, opened as opened_receiving}
-use Rattle.dch_filling.specs.Pdus.{Pdu, pdus}
+use Rattle.dch_sar.specs.Pdus.{Pdu, pdus}
 use Rattle.dch_layerlaw.specs.Ended.{marked_units}
 use Rattle.dch_rlcum.specs.Handing.{AreFewLost, AreUnits, Sent, all_handed, known_units, sent_from}
 use Rattle.dch_rlcum.specs.History.{IsSenderOf, sizes, texts}

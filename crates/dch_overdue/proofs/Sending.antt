@@ -3,7 +3,7 @@ use Rattle.std.proofs.Common.{◌≡◌, ◌+◌, ◌<◌, ◌≤◌, ℕ, List,
 use Rattle.std.specs.Prelude.{◌==◌, nat_le, nat_lt}
 use Rattle.std.proofs.lemmas.Bool.{and_from, and_parts, both_ways, cases_lt, cases_order, cond-false, eq-eqb, eqb-true, false_from_ne_true, le-leb, leb-true, lt-ltb, ltb-true, not_from_false, not-true, or_cases, or_left, or_right}
 use Rattle.dch_types.specs.declared.bearer.AmRules.{AmRules}
-use Rattle.dch_flight.specs.declared.flown.Flown.{Flown}
+use Rattle.dch_retx.specs.declared.sent_pdu.SentPdu.{SentPdu}
 use Rattle.dch_am.specs.Bodies.{Body, ends, ends_of, is_empty}
 use Rattle.dch_am.specs.Building.{body_at}
 use Rattle.dch_am.specs.Discards.{count, due_by_sending, sent_enough, touches}
@@ -14,7 +14,7 @@ use Rattle.dch_overdue.specs.Scanning.{is_often}
 use Rattle.dch_overdue.proofs.Ending.{ends-step, ends_up}
 
 -- a PDU in flight as it stands in a sender
-pub record IsPdu (rules : AmRules) (s : Sender) (k : ℕ) (f : Flown) : Type 0 where
+pub record IsPdu (rules : AmRules) (s : Sender) (k : ℕ) (f : SentPdu) : Type 0 where
   pub requested : f.requested ≡ has k s.requested
   pub enough : nat_le rules.discard_sent f.builds ≡ nat_le rules.discard_sent (count k s.sendings)
   pub full : f.full ≡ (body_at s.bodies k).full
@@ -41,14 +41,14 @@ pub record TellsBegun (begun : Bool) (s : Sender) (sent k : ℕ) : Type 0 where
   pub told : (at : ℕ) → IsBegun s sent k at → begun ≡ true
 
 -- what is kept of a PDU tells that
-often_holds : (rules : AmRules) (s : Sender) (k : ℕ) (f : Flown) → IsPdu rules s k f → is_often rules f ≡ true → IsAsked s rules.discard_sent k
+often_holds : (rules : AmRules) (s : Sender) (k : ℕ) (f : SentPdu) → IsPdu rules s k f → is_often rules f ≡ true → IsAsked s rules.discard_sent k
 often_holds rules s k f is e =
     let a = and_parts (nat_lt 0 rules.discard_sent && f.requested) (nat_le rules.discard_sent f.builds) e in
     let b = and_parts (nat_lt 0 rules.discard_sent) f.requested a.0 in
     record { some = ltb-true 0 rules.discard_sent b.0; asked = sym is.requested ∙ b.1; enough = sym is.enough ∙ a.1 }
 
 -- the same, from the sender
-often_told : (rules : AmRules) (s : Sender) (k : ℕ) (f : Flown) → IsPdu rules s k f → IsAsked s rules.discard_sent k → is_often rules f ≡ true
+often_told : (rules : AmRules) (s : Sender) (k : ℕ) (f : SentPdu) → IsPdu rules s k f → IsAsked s rules.discard_sent k → is_often rules f ≡ true
 often_told rules s k f is a = and_from (nat_lt 0 rules.discard_sent && f.requested) (nat_le rules.discard_sent f.builds) (and_from (nat_lt 0 rules.discard_sent) f.requested (lt-ltb 0 rules.discard_sent a.some) (is.requested ∙ a.asked)) (is.enough ∙ a.enough)
 
 -- one of the numbers does
@@ -85,7 +85,7 @@ same_bool true b f g = sym (f refl)
 same_bool false b f g = sym (false_from_ne_true b (λ e. both_ways false refl (g e)))
 
 -- a unit that ends in a PDU is due by what was sent
-due_told : (buffer : ℕ) (rules : AmRules) (s : Sender) (k j : ℕ) (f : Flown) (begun : Bool) → IsPdu rules s k f → TellsBegun begun s rules.discard_sent k → j < ends_of (body_at s.bodies k) → due_by_sending (rules_of buffer rules) s (ends (take k s.bodies) + j) ≡ true → (is_often rules f || ((j == 0) && begun)) ≡ true
+due_told : (buffer : ℕ) (rules : AmRules) (s : Sender) (k j : ℕ) (f : SentPdu) (begun : Bool) → IsPdu rules s k f → TellsBegun begun s rules.discard_sent k → j < ends_of (body_at s.bodies k) → due_by_sending (rules_of buffer rules) s (ends (take k s.bodies) + j) ≡ true → (is_often rules f || ((j == 0) && begun)) ≡ true
 due_told buffer rules s k j f begun is tells l e =
     let i : ℕ = ends (take k s.bodies) + j in
     let p = and_parts (nat_lt 0 rules.discard_sent) (sent_enough (rules_of buffer rules) s (ends (take k s.bodies) + j) s.requested) e in
@@ -108,7 +108,7 @@ due_told buffer rules s k j f begun is tells l e =
     (cases_order w.0 k)
 
 -- and what the pass tells is so
-due_holds : (buffer : ℕ) (rules : AmRules) (s : Sender) (k j : ℕ) (f : Flown) (begun : Bool) → IsPdu rules s k f → TellsBegun begun s rules.discard_sent k → j < ends_of (body_at s.bodies k) → (is_often rules f || ((j == 0) && begun)) ≡ true → due_by_sending (rules_of buffer rules) s (ends (take k s.bodies) + j) ≡ true
+due_holds : (buffer : ℕ) (rules : AmRules) (s : Sender) (k j : ℕ) (f : SentPdu) (begun : Bool) → IsPdu rules s k f → TellsBegun begun s rules.discard_sent k → j < ends_of (body_at s.bodies k) → (is_often rules f || ((j == 0) && begun)) ≡ true → due_by_sending (rules_of buffer rules) s (ends (take k s.bodies) + j) ≡ true
 due_holds buffer rules s k j f begun is tells l e = ⊎_elim
     (λ (h : is_often rules f ≡ true).
     due k (often_holds rules s k f is h) (and_from (nat_le (ends (take k s.bodies)) (ends (take k s.bodies) + j)) (nat_lt (ends (take k s.bodies) + j) (ends (take (k + 1) s.bodies) + cond (is_empty (body_at s.bodies k).rest) 0 1)) (le-leb (ends (take k s.bodies)) (ends (take k s.bodies) + j) (omega arith)) (lt-ltb (ends (take k s.bodies) + j) (ends (take (k + 1) s.bodies) + cond (is_empty (body_at s.bodies k).rest) 0 1) (further (cond (is_empty (body_at s.bodies k).rest) 0 1)))))
@@ -129,11 +129,11 @@ due_holds buffer rules s k j f begun is tells l e = ⊎_elim
     due at a t = and_from (nat_lt 0 rules.discard_sent) (sent_enough (rules_of buffer rules) s (ends (take k s.bodies) + j) s.requested) (lt-ltb 0 rules.discard_sent a.some) (sent_from (rules_of buffer rules) s (ends (take k s.bodies) + j) s.requested at a.asked t a.enough)
 
 -- the two agree
-pub due_is : (buffer : ℕ) (rules : AmRules) (s : Sender) (k j : ℕ) (f : Flown) (begun : Bool) → IsPdu rules s k f → TellsBegun begun s rules.discard_sent k → j < ends_of (body_at s.bodies k) → (is_often rules f || ((j == 0) && begun)) ≡ due_by_sending (rules_of buffer rules) s (ends (take k s.bodies) + j)
+pub due_is : (buffer : ℕ) (rules : AmRules) (s : Sender) (k j : ℕ) (f : SentPdu) (begun : Bool) → IsPdu rules s k f → TellsBegun begun s rules.discard_sent k → j < ends_of (body_at s.bodies k) → (is_often rules f || ((j == 0) && begun)) ≡ due_by_sending (rules_of buffer rules) s (ends (take k s.bodies) + j)
 due_is buffer rules s k j f begun is tells l = same_bool (is_often rules f || ((j == 0) && begun)) (due_by_sending (rules_of buffer rules) s (ends (take k s.bodies) + j)) (due_holds buffer rules s k j f begun is tells l) (due_told buffer rules s k j f begun is tells l)
 
 -- the same behind one PDU more
-pub begun-step : (rules : AmRules) (s : Sender) (k : ℕ) (f : Flown) (begun : Bool) → IsPdu rules s k f → TellsBegun begun s rules.discard_sent k → TellsBegun ((is_often rules f && f.continues) || ((f.ends == 0) && begun)) s rules.discard_sent (k + 1)
+pub begun-step : (rules : AmRules) (s : Sender) (k : ℕ) (f : SentPdu) (begun : Bool) → IsPdu rules s k f → TellsBegun begun s rules.discard_sent k → TellsBegun ((is_often rules f && f.continues) || ((f.ends == 0) && begun)) s rules.discard_sent (k + 1)
 begun-step rules s k f begun is tells = record { holds = holds; told = told }
   where
     holds : ((is_often rules f && f.continues) || ((f.ends == 0) && begun)) ≡ true → (at : ℕ) × IsBegun s rules.discard_sent (k + 1) at

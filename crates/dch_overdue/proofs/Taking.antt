@@ -5,8 +5,8 @@ use Rattle.std.proofs.Math.Seq.{take-length}
 use Rattle.std.proofs.lemmas.Bool.{and_left, both_ways, cases_lt, cond-false, le-leb, lt-leb, lt-ltb, ltb-true}
 use Rattle.std.proofs.lemmas.Bool.Decides.{nat_tests}
 use Rattle.dch_types.specs.declared.bearer.AmRules.{AmRules}
-use Rattle.dch_flight.specs.declared.flown.Flown.{Flown}
-use Rattle.dch_flight.specs.Flights.{at}
+use Rattle.dch_retx.specs.declared.sent_pdu.SentPdu.{SentPdu}
+use Rattle.dch_retx.specs.Flights.{at}
 use Rattle.dch_am.specs.Bodies.{ends, ends_of}
 use Rattle.dch_am.specs.Building.{body_at}
 use Rattle.dch_am.specs.Cuts.{IsCut}
@@ -17,8 +17,8 @@ use Rattle.dch_am.proofs.Reading.{cut_few, ends_split}
 use Rattle.dch_held.specs.declared.unit.Unit.{Unit as OneUnit}
 use Rattle.dch_held.specs.Held.{Held, age_at, sizes_of}
 use Rattle.dch_held.specs.Holding.{Holds, blocks_each, released}
-use Rattle.dch_sent.specs.Line.{Line}
-use Rattle.dch_sent.specs.Standing.{IsFlown, Stands}
+use Rattle.dch_retx.specs.RetxBuffer.{RetxBuffer}
+use Rattle.dch_retx.specs.Standing.{IsFlown, Stands}
 use Rattle.dch_unsent.specs.Keeping.{Has}
 use Rattle.dch_overdue.specs.declared.scan.Overdue.{Overdue}
 use Rattle.dch_overdue.specs.declared.scan.Scan.{Scan}
@@ -42,7 +42,7 @@ record IsAt (buffer : ℕ) (rules : AmRules) (s : Sender) (k place : ℕ) (scan 
   found : discards (rules_of buffer rules) s (ends (take k s.bodies)) ≡ discarded_by scan.found s
 
 -- one unit
-one_is : (buffer : ℕ) (rules : AmRules) (h : Held) (s : Sender) (k place : ℕ) (f : Flown) (scan : Scan) (j : ℕ) → AreUnits buffer rules h s → IsAt buffer rules s k place scan → IsPdu rules s k f → j < ends_of (body_at s.bodies k) → can_discard rules h f scan j ≡ can_take (rules_of buffer rules) s (ends (take k s.bodies) + j) (place_from s.bodies 0 (ends (take k s.bodies) + j))
+one_is : (buffer : ℕ) (rules : AmRules) (h : Held) (s : Sender) (k place : ℕ) (f : SentPdu) (scan : Scan) (j : ℕ) → AreUnits buffer rules h s → IsAt buffer rules s k place scan → IsPdu rules s k f → j < ends_of (body_at s.bodies k) → can_discard rules h f scan j ≡ can_take (rules_of buffer rules) s (ends (take k s.bodies) + j) (place_from s.bodies 0 (ends (take k s.bodies) + j))
 one_is buffer rules h s k place f scan j units is pdu l =
     ap₂ (λ a b. a && b) (ap₂ (λ a b. a && b) (ap₂ (λ a b. a && b) first mark) passed) (ap₂ (λ a b. a || b) old (due_is buffer rules s k j f scan.begun pdu is.begun l))
     ∙ sym (ap (can_take (rules_of buffer rules) s (ends (take k s.bodies) + j)) (place-at s.bodies 0 k j pdu.inside l))
@@ -73,7 +73,7 @@ choose s x y o l false true e p q = absurd (both_ways true e refl)
 choose s x y o l false false e p q = q
 
 -- the first units that end in a PDU
-units_are : (buffer : ℕ) (rules : AmRules) (h : Held) (s : Sender) (k place : ℕ) (f : Flown) (scan : Scan) (n : ℕ) → AreUnits buffer rules h s → IsAt buffer rules s k place scan → IsPdu rules s k f → n ≤ ends_of (body_at s.bodies k) → discards (rules_of buffer rules) s (ends (take k s.bodies) + n) ≡ discarded_by (last_in rules h place f scan n) s
+units_are : (buffer : ℕ) (rules : AmRules) (h : Held) (s : Sender) (k place : ℕ) (f : SentPdu) (scan : Scan) (n : ℕ) → AreUnits buffer rules h s → IsAt buffer rules s k place scan → IsPdu rules s k f → n ≤ ends_of (body_at s.bodies k) → discards (rules_of buffer rules) s (ends (take k s.bodies) + n) ≡ discarded_by (last_in rules h place f scan n) s
 units_are buffer rules h s k place f scan zero units is pdu l = let none : ends (take k s.bodies) + 0 ≡ ends (take k s.bodies) = omega arith in ap (discards (rules_of buffer rules) s) none ∙ is.found
 units_are buffer rules h s k place f scan (suc n) units is pdu l =
     let next : ends (take k s.bodies) + suc n ≡ suc (ends (take k s.bodies) + n) = omega arith in
@@ -85,7 +85,7 @@ units_are buffer rules h s k place f scan (suc n) units is pdu l =
     ∙ choose s (discards_at s (ends (take k s.bodies) + n) (place_from s.bodies 0 (ends (take k s.bodies) + n))) (discards (rules_of buffer rules) s (ends (take k s.bodies) + n)) (record { unit = scan.unit + n; place = place; mark = mark_of f n }) (last_in rules h place f scan n) (can_take (rules_of buffer rules) s (ends (take k s.bodies) + n) (place_from s.bodies 0 (ends (take k s.bodies) + n))) (can_discard rules h f scan n) (one_is buffer rules h s k place f scan n units is pdu (omega arith)) (ap₂ (discards_at s) unit where_is) (units_are buffer rules h s k place f scan n units is pdu (omega arith))
 
 -- one PDU
-pdu_is : (buffer : ℕ) (rules : AmRules) (h : Held) (s : Sender) (k place : ℕ) (f : Flown) (scan : Scan) → AreUnits buffer rules h s → IsAt buffer rules s k place scan → IsPdu rules s k f → IsAt buffer rules s (k + 1) (place + 1) (after_pdu rules h place f scan)
+pdu_is : (buffer : ℕ) (rules : AmRules) (h : Held) (s : Sender) (k place : ℕ) (f : SentPdu) (scan : Scan) → AreUnits buffer rules h s → IsAt buffer rules s k place scan → IsPdu rules s k f → IsAt buffer rules s (k + 1) (place + 1) (after_pdu rules h place f scan)
 pdu_is buffer rules h s k place f scan units is pdu =
     let more : ends (take (k + 1) s.bodies) ≡ ends (take k s.bodies) + f.ends = omega (arith, ends-step s.bodies k pdu.inside, pdu.ends_are) in
     record {
@@ -96,7 +96,7 @@ pdu_is buffer rules h s k place f scan units is pdu =
     }
 
 -- the PDUs from one on
-pdus_are : (buffer : ℕ) (rules : AmRules) (h : Held) (s : Sender) (flown : List Flown) (k place : ℕ) (scan : Scan) → AreUnits buffer rules h s → IsAt buffer rules s k place scan → k + length flown ≡ length s.bodies → ((i : ℕ) → i < length flown → IsPdu rules s (k + i) (at flown i)) → discards (rules_of buffer rules) s (ends s.bodies) ≡ discarded_by (after_pdus rules h place flown scan).found s
+pdus_are : (buffer : ℕ) (rules : AmRules) (h : Held) (s : Sender) (flown : List SentPdu) (k place : ℕ) (scan : Scan) → AreUnits buffer rules h s → IsAt buffer rules s k place scan → k + length flown ≡ length s.bodies → ((i : ℕ) → i < length flown → IsPdu rules s (k + i) (at flown i)) → discards (rules_of buffer rules) s (ends s.bodies) ≡ discarded_by (after_pdus rules h place flown scan).found s
 pdus_are buffer rules h s [] k place scan units is long all =
     let all_of : k ≡ length s.bodies = omega (arith, long) in
     let same : ends s.bodies ≡ ends (take k s.bodies) = sym (ap (λ n. ends (take n s.bodies)) all_of ∙ ap ends (take-length s.bodies)) in
@@ -162,7 +162,7 @@ units_hold buffer rules h s small is cut = record {
         go false e = refl
 
 -- what is kept of a PDU stands for it so
-pdu_holds : (rules : AmRules) (s : Sender) (d k : ℕ) (f : Flown) → rules.discard_sent ≤ 255 → k < length s.bodies → IsFlown s k f → Has d f (body_at s.bodies k) → IsPdu rules s k f
+pdu_holds : (rules : AmRules) (s : Sender) (d k : ℕ) (f : SentPdu) → rules.discard_sent ≤ 255 → k < length s.bodies → IsFlown s k f → Has d f (body_at s.bodies k) → IsPdu rules s k f
 pdu_holds rules s d k f small inside is has = record {
   requested = is.requested;
   enough = ap (nat_le rules.discard_sent) is.builds ∙ saturated rules.discard_sent 255 (count k s.sendings) small;
@@ -173,7 +173,7 @@ pdu_holds rules s d k f small inside is has = record {
 }
 
 -- after all PDUs, and with the units that end in none
-pub overdue_is : (buffer d : ℕ) (rules : AmRules) (l : Line) (h : Held) (s : Sender) → rules.discard_age ≤ 65535 → rules.discard_sent ≤ 255 → Stands (rules_of buffer rules) l s → Holds (rules_of buffer rules) h s → IsCut s.accepted s.unsent s.bodies → ((i : ℕ) → i < length l.flown → Has d (at l.flown i) (body_at s.bodies (vt_a s + i))) → discards (rules_of buffer rules) s (length s.accepted) ≡ discarded_by (overdue rules h l.flown) s
+pub overdue_is : (buffer d : ℕ) (rules : AmRules) (l : RetxBuffer) (h : Held) (s : Sender) → rules.discard_age ≤ 65535 → rules.discard_sent ≤ 255 → Stands (rules_of buffer rules) l s → Holds (rules_of buffer rules) h s → IsCut s.accepted s.unsent s.bodies → ((i : ℕ) → i < length l.flown → Has d (at l.flown i) (body_at s.bodies (vt_a s + i))) → discards (rules_of buffer rules) s (length s.accepted) ≡ discarded_by (overdue rules h l.flown) s
 overdue_is buffer d rules l h s age sent stands holds cut has =
     discards-past (rules_of buffer rules) s (length s.accepted) (cut_few s.accepted s.unsent s.bodies cut)
     ∙ pdus_are buffer rules h s l.flown (vt_a s) 0 no_scan (units_hold buffer rules h s age holds cut) begins stands.flying (λ i less. pdu_holds rules s d (vt_a s + i) (at l.flown i) sent (omega (arith, stands.flying)) (stands.flown i less) (has i less))

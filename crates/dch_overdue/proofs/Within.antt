@@ -3,7 +3,7 @@ use Rattle.std.proofs.Common.{◌≡◌, ◌+◌, ◌<◌, ◌≤◌, ℕ, zero,
 use Rattle.std.specs.Prelude.{◌==◌, IfSome, Option, nat_le, nat_lt}
 use Rattle.std.proofs.lemmas.Bool.{and_parts, cond_both, leb-true, ltb-true}
 use Rattle.dch_types.specs.declared.bearer.AmRules.{AmRules}
-use Rattle.dch_flight.specs.declared.flown.Flown.{Flown}
+use Rattle.dch_retx.specs.declared.sent_pdu.SentPdu.{SentPdu}
 use Rattle.dch_held.specs.Held.{Held}
 use Rattle.dch_overdue.specs.declared.scan.Overdue.{Overdue}
 use Rattle.dch_overdue.specs.declared.scan.Scan.{Scan}
@@ -14,7 +14,7 @@ abbrev pub IsWithin : Held → ℕ → Overdue → Type 0
 IsWithin h flying o = (o.place < flying) × (o.unit < length h.units) × (o.mark < 16) × (h.passed ≤ o.unit)
 
 -- what a unit that can be discarded keeps
-one_within : (rules : AmRules) (h : Held) (place flying : ℕ) (f : Flown) (scan : Scan) (j : ℕ) → place < flying → can_discard rules h f scan j ≡ true → IsWithin h flying (record { unit = scan.unit + j; place = place; mark = mark_of f j })
+one_within : (rules : AmRules) (h : Held) (place flying : ℕ) (f : SentPdu) (scan : Scan) (j : ℕ) → place < flying → can_discard rules h f scan j ≡ true → IsWithin h flying (record { unit = scan.unit + j; place = place; mark = mark_of f j })
 one_within rules h place flying f scan j l e =
     let a = and_parts (nat_lt (scan.unit + j) (length h.units) && nat_le (mark_of f j) 15 && nat_le h.passed (scan.unit + j)) (is_old rules h (scan.unit + j) || (is_often rules f || ((j == 0) && scan.begun))) e in
     let b = and_parts (nat_lt (scan.unit + j) (length h.units) && nat_le (mark_of f j) 15) (nat_le h.passed (scan.unit + j)) a.0 in
@@ -23,15 +23,15 @@ one_within rules h place flying f scan j l e =
     (l, ltb-true (scan.unit + j) (length h.units) d.0, omega (arith, small), leb-true h.passed (scan.unit + j) b.1)
 
 -- so does the last of a PDU
-last_within : (rules : AmRules) (h : Held) (place flying : ℕ) (f : Flown) (scan : Scan) (n : ℕ) → place < flying → IfSome scan.found (IsWithin h flying) → IfSome (last_in rules h place f scan n) (IsWithin h flying)
+last_within : (rules : AmRules) (h : Held) (place flying : ℕ) (f : SentPdu) (scan : Scan) (n : ℕ) → place < flying → IfSome scan.found (IsWithin h flying) → IfSome (last_in rules h place f scan n) (IsWithin h flying)
 last_within rules h place flying f scan zero l w = w
 last_within rules h place flying f scan (suc j) l w = cond_both (can_discard rules h f scan j) _ _ (λ (o : Option Overdue). IfSome o (IsWithin h flying)) (λ e. one_within rules h place flying f scan j l e) (λ _. last_within rules h place flying f scan j l w)
 
 -- and of the PDUs from one on
-pdus_within : (rules : AmRules) (h : Held) (place flying : ℕ) (flown : List Flown) (scan : Scan) → place + length flown ≤ flying → IfSome scan.found (IsWithin h flying) → IfSome (after_pdus rules h place flown scan).found (IsWithin h flying)
+pdus_within : (rules : AmRules) (h : Held) (place flying : ℕ) (flown : List SentPdu) (scan : Scan) → place + length flown ≤ flying → IfSome scan.found (IsWithin h flying) → IfSome (after_pdus rules h place flown scan).found (IsWithin h flying)
 pdus_within rules h place flying [] scan l w = w
 pdus_within rules h place flying (f ∷ flown) scan l w = pdus_within rules h (place + 1) flying flown (after_pdu rules h place f scan) (omega arith) (last_within rules h place flying f scan f.ends (omega arith) w)
 
 -- and of all
-pub overdue_within : (rules : AmRules) (h : Held) (flown : List Flown) → IfSome (overdue rules h flown) (IsWithin h (length flown))
+pub overdue_within : (rules : AmRules) (h : Held) (flown : List SentPdu) → IfSome (overdue rules h flown) (IsWithin h (length flown))
 overdue_within rules h flown = pdus_within rules h 0 (length flown) flown no_scan (omega arith) tt

@@ -4,21 +4,21 @@ ghost use Rattle.dch_am.specs.Building.{body_at};
 ghost use Rattle.dch_am.specs.Discards.{discards};
 ghost use Rattle.dch_am.specs.Rules.{Rules, rules_of};
 ghost use Rattle.dch_am.specs.Sender.{Sender, vt_a};
-ghost use Rattle.dch_flight.specs.Flights.{at};
+ghost use Rattle.dch_retx.specs.Flights.{at};
 ghost use Rattle.dch_held.specs.Holding.{Holds};
-ghost use Rattle.dch_sent.specs.Standing.{Stands};
+ghost use Rattle.dch_retx.specs.Standing.{Stands};
 ghost use Rattle.dch_unsent.specs.Keeping.{Has};
 ghost use Rattle.dch_overdue.specs.Scanning.{overdue};
 ghost use Rattle.dch_overdue.specs.Discarding.{discarded_by};
 
 use crate::scan::{Overdue, Scan, after_pdu};
 use dch_held::Held;
-use dch_sent::Line;
+use dch_retx::RetxBuffer;
 use dch_types::AmRules;
 
 /// The last unit that can be discarded: it is held and was not discarded yet, its end mark is built in a PDU in flight with
 /// a place of four bits, and it is old enough or a PDU with octets of it was requested after it was built often enough.
-pub fn overdue(line: &Line, held: &Held, rules: &AmRules) -> Option<Overdue>
+pub fn overdue(line: &RetxBuffer, held: &Held, rules: &AmRules) -> Option<Overdue>
     ensures within { IfSome result (λ o. (o.place < length line.now.flown) × (o.unit < length held.now.units) × (o.mark < 16) × (held.now.passed ≤ o.unit)) }
     ensures history { (r : Rules) (buffer d : ℕ) (s : Sender) → r ≡ rules_of buffer rules.now → Stands r line.now s → Holds r held.now s → IsCut s.accepted s.unsent s.bodies → ((i : ℕ) → i < length line.now.flown → Has d (at line.now.flown i) (body_at s.bodies (vt_a s + i))) → discards r s (length s.accepted) ≡ discarded_by result s }
 {
@@ -26,7 +26,7 @@ pub fn overdue(line: &Line, held: &Held, rules: &AmRules) -> Option<Overdue>
 }
 
 /// The same, by places.
-fn last(line: &Line, held: &Held, rules: AmRules) -> Option<Overdue>
+fn last(line: &RetxBuffer, held: &Held, rules: AmRules) -> Option<Overdue>
     ensures value { result ≡ overdue rules held.now line.now.flown }
     ensures small { (rules.discard_age ≤ 65535) × (rules.discard_sent ≤ 255) }
 {

@@ -1,8 +1,8 @@
 ghost use Rattle.std.specs.Prelude.{◌≡◌, ◌+◌, ◌*◌, ◌<◌, ◌≤◌, length, true};
 ghost use Rattle.dch_overdue.specs.Scanning.{after_pdu, can_discard, is_often, is_old, last_in, mark_of};
 
-use dch_flight::Flown;
 use dch_held::Held;
+use dch_retx::SentPdu;
 use dch_types::AmRules;
 
 /// A unit that is discarded: its place among the units that are held, its PDU's place among those in flight, and the
@@ -26,7 +26,7 @@ pub struct Scan {
 }
 
 /// The pass goes over one more PDU. At most 255 units end in each of 2048 of them.
-pub fn after_pdu(held: &Held, rules: &AmRules, flown: &Flown, place: u16, scan: Scan) -> Scan
+pub fn after_pdu(held: &Held, rules: &AmRules, flown: &SentPdu, place: u16, scan: Scan) -> Scan
     requires { scan.unit ≤ 255 * 2048 }
     ensures { result ≡ after_pdu rules.now held.now place flown.now scan }
 {
@@ -41,14 +41,14 @@ pub fn after_pdu(held: &Held, rules: &AmRules, flown: &Flown, place: u16, scan: 
 }
 
 /// A PDU is requested and was built often enough.
-fn is_often(rules: &AmRules, flown: &Flown) -> bool
+fn is_often(rules: &AmRules, flown: &SentPdu) -> bool
     ensures { result ≡ is_often rules.now flown.now }
 {
     rules.discard_sent > 0 && flown.requested && flown.builds >= rules.discard_sent
 }
 
 /// The last unit that can be discarded, up to those that end in a PDU.
-fn last_in(held: &Held, rules: &AmRules, flown: &Flown, place: u16, scan: Scan) -> Option<Overdue>
+fn last_in(held: &Held, rules: &AmRules, flown: &SentPdu, place: u16, scan: Scan) -> Option<Overdue>
     requires { scan.unit ≤ 255 * 2048 }
     ensures { result ≡ last_in rules.now held.now place flown.now scan flown.now.ends }
 {
@@ -66,7 +66,7 @@ fn last_in(held: &Held, rules: &AmRules, flown: &Flown, place: u16, scan: Scan) 
 }
 
 /// One of the units that end in a PDU can be discarded.
-fn can_discard(held: &Held, rules: &AmRules, flown: &Flown, scan: Scan, j: u8) -> bool
+fn can_discard(held: &Held, rules: &AmRules, flown: &SentPdu, scan: Scan, j: u8) -> bool
     requires { scan.unit ≤ 255 * 2048 }
     ensures answer { result ≡ can_discard rules.now held.now flown.now scan j }
     ensures small { result ≡ true → (scan.unit + j ≤ 65535) × (mark_of flown.now j ≤ 15) }
@@ -87,7 +87,7 @@ fn is_old(held: &Held, rules: &AmRules, unit: usize) -> bool
 }
 
 /// The place of the end mark of the unit that ends in a PDU behind so many others.
-fn mark_of(flown: &Flown, j: u8) -> u16
+fn mark_of(flown: &SentPdu, j: u8) -> u16
     ensures { result ≡ mark_of flown.now j }
 {
     if flown.full && j == 0 {

@@ -2,7 +2,7 @@
 use Rattle.std.proofs.Common.{◌≡◌, ◌-◌, ◌<◌, ◌++◌, ℕ, zero, suc, List, [], ◌∷◌, Bool, true, false, length, arith, refl, sym, ◌∙◌, subst, append_assoc}
 use Rattle.std.specs.Prelude.{replicate}
 use Rattle.std.proofs.lemmas.List.{append-nil}
-use Rattle.dch_filling.specs.Pdus.{AreCuts, first_front, front, has_pdu}
+use Rattle.dch_sar.specs.Pdus.{AreCuts, first_front, front, has_pdu}
 use Rattle.dch_rlcum.specs.History.{IsAvailable, IsSenderOf, sizes}
 use Rattle.dch_rlcum.specs.Sending.{Sending, after_build, builds, is_unsent, units_after}
 use Rattle.dch_rlcum.proofs.Following.{builds_none, no_more, one_more}

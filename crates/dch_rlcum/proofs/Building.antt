@@ -2,7 +2,7 @@
 use Rattle.std.proofs.Common.{◌≡◌, ◌+◌, ◌-◌, ◌*◌, ◌<◌, ◌≤◌, ℕ, List, [], ◌∷◌, ◌++◌, Bool, length, take, drop, min, arith, refl, sym, ap, ◌∙◌, subst, length-drop, length-append}
 use Rattle.std.proofs.lemmas.List.{take_all}
 use Rattle.circular_buffer.specs.Buffer.{keep_last}
-use Rattle.dch_filling.specs.Filling.{total, AreSome}
+use Rattle.dch_sar.specs.Filling.{total, AreSome}
 use Rattle.dch_rlcum.specs.declared.send.Place.{Place}
 use Rattle.dch_rlcum.specs.Queue.{units_at, IsPlace, IsQueue}
 use Rattle.dch_rlcum.specs.Sending.{blocks, blocks_of, carried_by, held_by, room_of, units_after, with_unit, Sending, Units}

@@ -4,9 +4,9 @@ use Rattle.std.specs.Prelude.{⊤, ◌&&◌, nat_lt, slice_range}
 use Rattle.std.specs.List.{list_all, list_any}
 use Rattle.std.proofs.lemmas.Bool.{cond_both}
 use Rattle.std.proofs.lemmas.List.{drop-drop, take_at}
-use Rattle.dch_filling.specs.Filling.{ends_before, AreSome}
-use Rattle.dch_filling.specs.Pdus.{AreCuts, Pdu, first_front, front, pdus}
-use Rattle.dch_filling.proofs.Fronts.{reached_first}
+use Rattle.dch_sar.specs.Filling.{ends_before, AreSome}
+use Rattle.dch_sar.specs.Pdus.{AreCuts, Pdu, first_front, front, pdus}
+use Rattle.dch_sar.proofs.Fronts.{reached_first}
 use Rattle.dch_rlcum.specs.Handing.{AreFewLost, AreRead, AreUnits, Sent, brings_end, ends_in, handed_up, is_known, known_units, sent_from, serves}
 use Rattle.dch_rlcum.specs.History.{joined, sizes}
 use Rattle.dch_rlcum.specs.Receiving.{opened}

@@ -4,7 +4,7 @@ use Rattle.std.specs.Prelude.{◌==◌, nat_lt}
 use Rattle.std.proofs.lemmas.Bool.{lt-ltb, le-ltb, eq-eqb, eqb-true, cases_lt, cond_both, cond-true}
 use Rattle.std.proofs.lemmas.Bool.Decides.{nat_tests}
 use Rattle.std.proofs.lemmas.List.{drop_all}
-use Rattle.dch_filling.specs.Filling.{total, AreSome}
+use Rattle.dch_sar.specs.Filling.{total, AreSome}
 use Rattle.dch_rlcum.specs.declared.send.Place.{Place}
 use Rattle.dch_rlcum.specs.Receiving.{is_some}
 use Rattle.dch_rlcum.specs.Sending.{Units, blocks, blocks_of, carried, held_by, left_by}

@@ -1,6 +1,6 @@
 -- How a sender keeps its units, and where in its ring the units behind some PDUs begin.
 use Rattle.std.specs.Prelude.{◌≡◌, ◌-◌, ◌*◌, ◌≤◌, ◌<◌, ℕ, List, [], ◌∷◌, drop, length}
-use Rattle.dch_filling.specs.Filling.{total, AreSome}
+use Rattle.dch_sar.specs.Filling.{total, AreSome}
 use Rattle.dch_rlcum.specs.declared.send.Place.{Place}
 use Rattle.dch_rlcum.specs.Sending.{Units, held_by}
 

@@ -1,5 +1,5 @@
 ghost use Rattle.std.specs.Prelude.{◌≡◌, ◌-◌, ◌≤◌, ℕ, List, Bool, true};
-ghost use Rattle.dch_filling.specs.Pdus.{AreCuts, first_front, pdus};
+ghost use Rattle.dch_sar.specs.Pdus.{AreCuts, first_front, pdus};
 ghost use Rattle.dch_rlcum.specs.Handing.{AreFewLost, AreRead, AreUnits, Sent, handed_up, known_units, sent_from};
 ghost use Rattle.dch_rlcum.specs.History.{joined, sizes};
 ghost use Rattle.dch_rlcum.specs.Received.{arrived_from, units_in};

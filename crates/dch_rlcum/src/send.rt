@@ -4,7 +4,7 @@ ghost use Rattle.dch_rlcpdu.specs.Body.{fills};
 ghost use Rattle.dch_rlcpdu.specs.Marks.{are_marks};
 ghost use Rattle.dch_rlcpdu.specs.Um.{um_pdu};
 ghost use Rattle.circular_buffer.specs.Buffer.{buffer};
-ghost use Rattle.dch_filling.specs.Filling.{AreSome, IsCarried};
+ghost use Rattle.dch_sar.specs.Filling.{AreSome, IsCarried};
 ghost use Rattle.dch_bits.specs.declared.offer.Offer.TheVariants.{Accepted};
 ghost use Rattle.dch_rlcum.specs.History.{IsAvailable, IsSenderOf, accepted, texts};
 ghost use Rattle.dch_rlcum.specs.Queue.{IsPlace, units_at, used_of};
@@ -12,8 +12,8 @@ ghost use Rattle.dch_rlcum.specs.Sending.{after_build, after_offer, answer_of, b
 
 use circular_buffer::HeapCircularBuffer;
 use dch_bits::{NoMemory, Offer};
-use dch_filling::fill;
 use dch_rlcpdu::write_um;
+use dch_sar::fill;
 use std::alloc::Global;
 use std::marker::Model;
 

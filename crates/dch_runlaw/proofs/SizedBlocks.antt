@@ -14,8 +14,8 @@ use Rattle.dch_types.specs.declared.bearer.Mode.TheVariants.{Tm, Um, Am}
 use Rattle.dch_types.specs.declared.config.Config.{Config}
 use Rattle.dch_config.specs.Changes.{KeepsBearer}
 use Rattle.dch_config.specs.Good.{IsGood}
-use Rattle.dch_filling.specs.Filling.{AreSome}
-use Rattle.dch_filling.proofs.Fronts.{some_more}
+use Rattle.dch_sar.specs.Filling.{AreSome}
+use Rattle.dch_sar.proofs.Fronts.{some_more}
 use Rattle.dch_mac.specs.Field.{field_bits}
 use Rattle.dch_rlcpdu.specs.Body.{padded}
 use Rattle.dch_rlcpdu.specs.Marks.{indicators}

@@ -1,2 +1,4 @@
+pub mod Filling
+pub mod Pdus
 pub mod Taking
 pub mod Stored

@@ -1,6 +1,10 @@
-//! Reassembly of units from PDUs that are read in order (TS 25.322 11.2.3, 11.3.3, 9.2.2.8).
+//! Segmentation and reassembly: how SDUs are cut into RLC PDUs, and SDUs read from PDUs in order (TS 25.322 9.2.2.8, 11.2.3, 11.3.3).
 #![tactic(auto)]
 
+mod laws;
 mod reassembler;
+mod walk;
 
+pub use laws::filled_law;
 pub use reassembler::Reassembler;
+pub use walk::{Filled, fill};

@@ -2,9 +2,9 @@
 use Rattle.std.proofs.Common.{◌≡◌, ◌+◌, ◌-◌, ◌*◌, ◌%◌, ◌≤◌, ℕ, suc, List, [], ◌∷◌, ◌++◌, Bool, false, not, ◌&&◌, length, take, drop, replicate, arith, refl, sym, ap, ap₂, ◌∙◌, subst, length-append}
 use Rattle.std.specs.Prelude.{nat_lt, slice_index_or}
 use Rattle.std.proofs.lemmas.List.{length-replicate, take_at}
-use Rattle.dch_filling.specs.Filling.{AreSome}
-use Rattle.dch_filling.specs.Pdus.{front}
-use Rattle.dch_filling.proofs.Joined.{left_some}
+use Rattle.dch_sar.specs.Filling.{AreSome}
+use Rattle.dch_sar.specs.Pdus.{front}
+use Rattle.dch_sar.proofs.Joined.{left_some}
 use Rattle.dch_am.specs.Bodies.{Body, carried, marks_of, next_body, sizes}
 use Rattle.dch_am.specs.Building.{anew}
 use Rattle.dch_am.specs.Listed.{IsListed}
@@ -17,7 +17,7 @@ use Rattle.dch_rlcpdu.specs.Body.{padded}
 use Rattle.dch_rlcpdu.specs.Um.{um_pdu}
 use Rattle.dch_rlcum.specs.History.{IsSenderOf, texts}
 use Rattle.dch_rlcum.specs.Sending.{Sending, after_build, pdu_of}
-use Rattle.dch_flight.specs.Flights.{sent_once}
+use Rattle.dch_retx.specs.Flights.{sent_once}
 use Rattle.dch_unsent.specs.declared.scan.Scan.{Scan}
 use Rattle.dch_unsent.specs.Scanning.{no_marks, read_marks, scanned}
 use Rattle.dch_unsent.specs.Keeping.{cleared, content, Has, IsSized, Keeps}

@@ -3,7 +3,7 @@ use Rattle.std.proofs.Common.{◌≡◌, ◌+◌, ◌<◌, ◌≤◌, ℕ, suc, 
 use Rattle.std.specs.Prelude.{nat_lt, ◌==◌}
 use Rattle.std.proofs.lemmas.Bool.{lt-ltb, le-ltb, ltb-true, ltb-false}
 use Rattle.std.proofs.lemmas.Bool.Decides.{nat_tests}
-use Rattle.dch_filling.specs.Pdus.{padding}
+use Rattle.dch_sar.specs.Pdus.{padding}
 use Rattle.dch_am.specs.Bodies.{Body, carried, ends_at, ends_of, is_empty, joined, leading, marks_of}
 use Rattle.dch_am.specs.Cuts.{AllFull}
 use Rattle.dch_am.specs.Short.{IsShort}

@@ -4,8 +4,8 @@ use Rattle.std.specs.Prelude.{nat_lt}
 use Rattle.std.proofs.lemmas.Bool.{le-ltb, lt-ltb}
 use Rattle.dch_bits.specs.declared.offer.Offer.{Offer}
 use Rattle.dch_bits.specs.declared.offer.Offer.TheVariants.{Accepted, Full, WrongSize}
-use Rattle.dch_filling.specs.Pdus.{Front, ended_at, first_front, front, left_from}
-use Rattle.dch_filling.proofs.Fronts.{IsReached, reached_cuts, reached_first}
+use Rattle.dch_sar.specs.Pdus.{Front, ended_at, first_front, front, left_from}
+use Rattle.dch_sar.proofs.Fronts.{IsReached, reached_cuts, reached_first}
 use Rattle.dch_am.specs.Bodies.{is_empty, is_left, sizes}
 use Rattle.dch_am.specs.Listed.{IsListed}
 use Rattle.dch_am.specs.Sender.{Sender, after_offer}

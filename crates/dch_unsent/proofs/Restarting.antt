@@ -3,9 +3,9 @@ use Rattle.std.proofs.Common.{◌≡◌, ◌+◌, ◌-◌, ◌≤◌, ℕ, suc, 
 use Rattle.std.specs.Prelude.{nat_lt}
 use Rattle.std.proofs.lemmas.Bool.{le-ltb, lt-ltb, ltb-true, ltb-false}
 use Rattle.std.proofs.lemmas.List.{drop_all, drop_at, drop-drop, length-take-le}
-use Rattle.dch_filling.specs.Filling.{AreSome, total}
-use Rattle.dch_filling.specs.Pdus.{Front, begun_by, first_front, front, front_from, left_from, next_front, pdus_from}
-use Rattle.dch_filling.proofs.Joined.{left_none}
+use Rattle.dch_sar.specs.Filling.{AreSome, total}
+use Rattle.dch_sar.specs.Pdus.{Front, begun_by, first_front, front, front_from, left_from, next_front, pdus_from}
+use Rattle.dch_sar.proofs.Joined.{left_none}
 use Rattle.dch_am.specs.Bodies.{Body, carried, joined, sizes}
 use Rattle.dch_am.specs.Listed.{AreBodies}
 use Rattle.dch_am.specs.Restart.{begun, begun_below, octets_in, restarted_sender}

@@ -4,10 +4,10 @@ use Rattle.std.specs.Prelude.{nat_lt, ◌==◌}
 use Rattle.std.proofs.lemmas.Bool.{eqb-true, ltb-true, ltb-false, le-ltb}
 use Rattle.std.proofs.lemmas.Bool.Decides.{nat_tests}
 use Rattle.dch_bits.specs.declared.offer.Offer.TheVariants.{Accepted, Full, WrongSize}
-use Rattle.dch_filling.specs.Filling.{AreSome}
-use Rattle.dch_filling.specs.Pdus.{Front, begun_by, ended_at, first_front, front, left_from}
-use Rattle.dch_filling.proofs.Fronts.{IsReached, reached_cuts, reached_first}
-use Rattle.dch_filling.proofs.Joined.{left_none}
+use Rattle.dch_sar.specs.Filling.{AreSome}
+use Rattle.dch_sar.specs.Pdus.{Front, begun_by, ended_at, first_front, front, left_from}
+use Rattle.dch_sar.proofs.Fronts.{IsReached, reached_cuts, reached_first}
+use Rattle.dch_sar.proofs.Joined.{left_none}
 use Rattle.dch_am.specs.Bodies.{ends, is_empty, sizes}
 use Rattle.dch_am.specs.Cuts.{IsCut, unread, empty_reading}
 use Rattle.dch_am.specs.Bodies.{read_bodies}

@@ -1,8 +1,8 @@
 -- The text of the next PDU.
 use Rattle.std.proofs.Common.{◌≡◌, ◌+◌, ◌-◌, ◌%◌, ℕ, suc, List, [], ◌∷◌, ◌++◌, false, length, take, arith, refl, sym, ap, ap₂, ◌∙◌, subst}
 use Rattle.std.specs.Prelude.{slice_range}
-use Rattle.dch_filling.specs.Pdus.{Pdu, first_front, front_from, pdu_at, pdus}
-use Rattle.dch_filling.proofs.Fronts.{length-pdus, pdus_next}
+use Rattle.dch_sar.specs.Pdus.{Pdu, first_front, front_from, pdu_at, pdus}
+use Rattle.dch_sar.proofs.Fronts.{length-pdus, pdus_next}
 use Rattle.dch_am.specs.Bodies.{Body, carried, joined, marks_of, next_body, sizes}
 use Rattle.dch_am.specs.Building.{anew}
 use Rattle.dch_am.specs.Listed.{AreBodies, IsBody, IsListed}

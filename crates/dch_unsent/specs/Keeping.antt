@@ -4,7 +4,7 @@ use Rattle.dch_am.specs.Bodies.{Body, Unsent, after_body, carried, ends_of, is_e
 use Rattle.dch_am.specs.Listed.{IsListed}
 use Rattle.dch_am.specs.Sender.{Sender}
 use Rattle.dch_am.specs.Short.{IsShort}
-use Rattle.dch_flight.specs.declared.flown.Flown.{Flown}
+use Rattle.dch_retx.specs.declared.sent_pdu.SentPdu.{SentPdu}
 use Rattle.dch_rlcpdu.specs.Um.{um_pdu}
 use Rattle.dch_rlcum.specs.History.{IsSenderOf}
 use Rattle.dch_rlcum.specs.Sending.{Sending}
@@ -25,7 +25,7 @@ abbrev pub content : ℕ → Body → List ℕ
 content d b = um_pdu 0 (marks_of d b) (carried b) (d + 1)
 
 -- a PDU in flight has this body
-pub record Has (d : ℕ) (f : Flown) (b : Body) : Type 0 where
+pub record Has (d : ℕ) (f : SentPdu) (b : Body) : Type 0 where
   pub text : f.text ≡ content d b ++ replicate (125 - (d + 1)) 0
   pub full : f.full ≡ b.full
   pub ends : f.ends ≡ ends_of b

@@ -7,12 +7,12 @@ ghost use Rattle.dch_am.specs.Listed.{IsListed};
 ghost use Rattle.dch_rlcum.specs.Sending.{after_offer as after_offering};
 ghost use Rattle.dch_rlcum.specs.Sending.{after_build, answer_of, builds, is_unsent, no_units, pdu_of, restarted};
 ghost use Rattle.dch_rlcum.specs.History.{IsSenderOf, texts};
-ghost use Rattle.dch_flight.specs.Flights.{sent_once};
+ghost use Rattle.dch_retx.specs.Flights.{sent_once};
 ghost use Rattle.dch_unsent.specs.Keeping.{cleared, fills, Has, Keeps};
 
 use crate::scan::{Scan, read_marks};
 use dch_bits::{NoMemory, Offer};
-use dch_flight::Flown;
+use dch_retx::SentPdu;
 use dch_rlcum::UmSend;
 use std::alloc::Global;
 use std::marker::Model;
@@ -27,7 +27,7 @@ pub struct Unsent {
 
 impl Model for Unsent {
     ghost use Rattle.dch_rlcum.specs.Sending.{Sending};
-    ghost use Rattle.dch_flight.specs.Flights.{sent_once};
+    ghost use Rattle.dch_retx.specs.Flights.{sent_once};
     ghost use Rattle.dch_unsent.specs.Keeping.{IsSized};
 
     ghost Value = { Sending };
@@ -90,7 +90,7 @@ impl Unsent {
     }
 
     /// Fills the next PDU.
-    pub fn build(&mut self) -> Flown
+    pub fn build(&mut self) -> SentPdu
         requires { is_unsent self.old.units ≡ true }
         ensures after { self.new ≡ after_build self.old }
         ensures fresh { result ≡ sent_once result.text result.full result.ends result.continues }
@@ -100,7 +100,7 @@ impl Unsent {
         let text = filled(&mut self.fresh, size);
         let marks = read_marks(&text[..size]);
         let continues = continues(&marks, size - 1);
-        Flown::new(text, marks.full, marks.ends, continues)
+        SentPdu::new(text, marks.full, marks.ends, continues)
     }
 
     /// Begins anew with the units of which no octet was built. Answers how many they are.

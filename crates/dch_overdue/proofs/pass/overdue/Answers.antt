@@ -3,7 +3,7 @@ use Rattle.std.specs.Prelude.{IfSome}
 use Rattle.dch_am.specs.Discards.{discards}
 use Rattle.dch_am.specs.Rules.{Rules}
 use Rattle.dch_held.specs.Holding.{Holds}
-use Rattle.dch_sent.specs.Standing.{Stands}
+use Rattle.dch_retx.specs.Standing.{Stands}
 use Rattle.dch_overdue.specs.Discarding.{discarded_by}
 use Rattle.dch_overdue.proofs.Within.{IsWithin, overdue_within}
 use Rattle.dch_overdue.proofs.Taking.{overdue_is}

@@ -1,7 +1,7 @@
 use Rattle.std.proofs.Common.{◌≡◌, ◌<◌, ◌∙◌, ap, arith, length, subst, sym}
 use Rattle.dch_am.specs.Building.{New, anew}
 use Rattle.dch_am.specs.Listed.{IsListed}
-use Rattle.dch_sent.specs.Line.{number_at}
+use Rattle.dch_retx.specs.RetxBuffer.{number_at}
 use Rattle.dch_amsend.specs.Framing.{framed}
 use Rattle.dch_amsend.specs.Outgoing.{IsOutgoing, Outgoing}
 use Rattle.dch_amsend.proofs.Events.{Built, IsFilled, listed_new, new_goes}

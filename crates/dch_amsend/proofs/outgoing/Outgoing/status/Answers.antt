@@ -1,6 +1,6 @@
 use Rattle.std.proofs.Common.{◌∙◌, ap, subst, sym}
 use Rattle.dch_amsend.specs.Outgoing.{IsOutgoing, Outgoing}
-use Rattle.dch_sent.specs.Line.{Line}
+use Rattle.dch_retx.specs.RetxBuffer.{RetxBuffer}
 use Rattle.dch_amsend.proofs.Events.{hears_goes}
 use Rattle.dch_amsend.proofs.outgoing.Outgoing.status.Goals as goal
 
@@ -12,4 +12,4 @@ returns-clause-history c = λ rules d s is.
     (heard.0, hears_goes rules d v s c.hear.new.self c.args.status.now here heard.1 c.hear.ensures.kept)
 
 pub returns-clause-outside : goal.returns-clause-outside
-returns-clause-outside c = λ other. ap (λ (l : Line). record { size = c.self.inside.size; line = l; waiting = c.self.inside.waiting }) (c.hear.ensures.outside other) ∙ c.self.view_is
+returns-clause-outside c = λ other. ap (λ (l : RetxBuffer). record { size = c.self.inside.size; line = l; waiting = c.self.inside.waiting }) (c.hear.ensures.outside other) ∙ c.self.view_is

@@ -1,5 +1,5 @@
 use Rattle.std.proofs.Common.{◌-◌, subst, sym}
-use Rattle.dch_sent.specs.Standing.{timed}
+use Rattle.dch_retx.specs.Standing.{timed}
 use Rattle.dch_amsend.specs.Standing.{Sending, Stands}
 use Rattle.dch_amsend.proofs.Sending.{stands_by, ticked}
 use Rattle.dch_amsend.proofs.send.AmSend.count.Goals as goal

@@ -1,6 +1,6 @@
 use Rattle.std.proofs.Common.{◌≡◌, ◌∙◌, ap, cond, length, subst, sym}
 use Rattle.dch_am.specs.Discards.{discards, tick_sender}
-use Rattle.dch_sent.specs.Standing.{timed}
+use Rattle.dch_retx.specs.Standing.{timed}
 use Rattle.dch_amsend.specs.Standing.{Stands}
 use Rattle.dch_amsend.proofs.Sending.{tick_by}
 use Rattle.dch_amsend.proofs.send.AmSend.tick.Goals as goal

@@ -4,8 +4,8 @@ use Rattle.dch_rlcpdu.specs.declared.am.AmView.TheVariants.{Status}
 use Rattle.dch_rlcpdu.proofs.AmPdus.{am_back, status_written}
 use Rattle.dch_status.specs.Fields.{mrw_fields}
 use Rattle.dch_status.specs.Writing.{mrw_text}
-use Rattle.dch_sent.specs.Line.{is_due}
-use Rattle.dch_sent.proofs.Ticking.{due_is}
+use Rattle.dch_retx.specs.RetxBuffer.{is_due}
+use Rattle.dch_retx.proofs.Ticking.{due_is}
 use Rattle.dch_amsend.specs.Standing.{Sending, Stands}
 use Rattle.dch_amsend.proofs.Sending.{moving_stands, mrw_by}
 use Rattle.dch_amsend.proofs.send.AmSend.write_control.Goals as goal

@@ -1,0 +1,281 @@
+-- PDUs in flight, place by place.
+use Rattle.std.proofs.Common.{◌≡◌, ◌≢◌, ◌+◌, ◌-◌, ◌<◌, ◌≤◌, ℕ, zero, suc, List, [], ◌∷◌, ◌++◌, Bool, true, false, cond, not, ◌&&◌, ◌||◌, length, set, drop, arith, refl, sym, ap, ◌∙◌, subst, ⊎_elim, get_or-set_other, get_or-set_same, length-append}
+use Rattle.std.specs.Prelude.{nat_lt, ◌==◌}
+use Rattle.std.proofs.Math.ListN.{length-set}
+use Rattle.std.proofs.lemmas.Bool.{and_parts, both_ways, cases_eq, cases_lt, eqb-true, false_from_ne_true, ltb-false, ltb-true, not-true, or_cases, or_parts}
+use Rattle.std.proofs.lemmas.Bool.Decides.{nat_tests}
+use Rattle.std.proofs.lemmas.List.{drop_more, get_or-drop, get_or_append_left}
+use Rattle.circular_buffer.specs.Buffer.{Buffer, buffer}
+use Rattle.dch_retx.specs.declared.sent_pdu.SentPdu.{SentPdu}
+use Rattle.dch_retx.specs.Flights.{at, blank, acknowledged, unwanted, changed_below, first_wanted, front_acked, lowered, wanted_in, IsCounted, IsFirstWanted, IsFlight, IsFrom}
+
+-- one place more is changed
+pub changed_next : (change : SentPdu → SentPdu) (i : ℕ) (flown : List SentPdu) → i < length flown → set (changed_below change i flown) i (change (at (changed_below change i flown) i)) ≡ changed_below change (i + 1) flown
+changed_next change i [] l = absurd (omega arith)
+changed_next change zero (f ∷ flown) l = refl
+changed_next change (suc i) (f ∷ flown) l = let e : suc i + 1 ≡ suc (i + 1) = omega arith in ap (λ xs. change f ∷ xs) (changed_next change i flown (omega arith)) ∙ ap (λ k. changed_below change k (f ∷ flown)) (sym e)
+
+pub length-changed : (change : SentPdu → SentPdu) (i : ℕ) (flown : List SentPdu) → length (changed_below change i flown) ≡ length flown
+length-changed change zero flown = refl
+length-changed change (suc i) [] = refl
+length-changed change (suc i) (f ∷ flown) = ap suc (length-changed change i flown)
+
+pub front_here : (flown : List SentPdu) (i : ℕ) → i < length flown → (at flown i).acked ≡ true → front_acked (drop i flown) ≡ 1 + front_acked (drop (i + 1) flown)
+front_here flown i l e = ap front_acked (drop_more flown i blank l) ∙ ap (λ b. cond b (suc (front_acked (drop (i + 1) flown))) 0) e ∙ omega arith
+
+pub front_none : (flown : List SentPdu) (i : ℕ) → i < length flown → (at flown i).acked ≡ false → front_acked (drop i flown) ≡ 0
+front_none flown i l e = ap front_acked (drop_more flown i blank l) ∙ ap (λ b. cond b (suc (front_acked (drop (i + 1) flown))) 0) e
+
+-- what is requested after a change that wants nothing was requested before
+wanted_before : (change : SentPdu → SentPdu) → ((f : SentPdu) → (change f).requested ≡ true → f.requested ≡ true) → (to : ℕ) (flown : List SentPdu) (i : ℕ) → (at (changed_below change to flown) i).requested ≡ true → (at flown i).requested ≡ true
+wanted_before change less zero flown i e = e
+wanted_before change less (suc to) [] i e = e
+wanted_before change less (suc to) (f ∷ flown) zero e = less f e
+wanted_before change less (suc to) (f ∷ flown) (suc i) e = wanted_before change less to flown i e
+
+pub acknowledged_less : (f : SentPdu) → (acknowledged f).requested ≡ true → f.requested ≡ true
+acknowledged_less f e = either f.named e
+  where
+    either : (b : Bool) → (cond b f (record f { acked = true; requested = false })).requested ≡ true → f.requested ≡ true
+    either true e = e
+    either false e = absurd (cc)
+
+unwanted_less : (f : SentPdu) → (unwanted f).requested ≡ true → f.requested ≡ true
+unwanted_less f e = absurd (cc)
+
+-- the first that is requested
+pub first_is : (flown : List SentPdu) (k : ℕ) → IsFirstWanted flown k → k ≡ first_wanted flown
+first_is [] k is = omega (arith, is.within)
+first_is (f ∷ flown) k is = go f.requested refl k is (λ j h. first_is flown j h)
+  where
+    go : (b : Bool) → f.requested ≡ b → (k : ℕ) → IsFirstWanted (f ∷ flown) k → ((j : ℕ) → IsFirstWanted flown j → j ≡ first_wanted flown) → k ≡ cond b 0 (suc (first_wanted flown))
+    go true e zero is rest = refl
+    go true e (suc k) is rest = absurd (both_ways f.requested (is.before 0 (omega arith)) e)
+    go false e zero is rest = absurd (both_ways f.requested e (is.here (omega arith)))
+    go false e (suc k) is rest = ap suc (rest k (record { before = λ i l. is.before (suc i) (omega arith); here = λ l. is.here (omega arith); within = omega (arith, is.within) }))
+
+-- a place where one is requested is that of a PDU
+inside : (xs : List SentPdu) (j : ℕ) → (at xs j).requested ≡ true → j < length xs
+inside [] j e = absurd (cc)
+inside (x ∷ xs) zero e = omega arith
+inside (x ∷ xs) (suc j) e = omega (arith, inside xs j e)
+
+-- how many are requested from a place on
+pub wanted_here : (flown : List SentPdu) (i : ℕ) → i < length flown → (at flown i).requested ≡ true → wanted_in (drop i flown) ≡ 1 + wanted_in (drop (i + 1) flown)
+wanted_here flown i l e = ap wanted_in (drop_more flown i blank l) ∙ ap (λ b. cond b (suc (wanted_in (drop (i + 1) flown))) (wanted_in (drop (i + 1) flown))) e ∙ omega arith
+
+pub wanted_not : (flown : List SentPdu) (i : ℕ) → i < length flown → (at flown i).requested ≡ false → wanted_in (drop i flown) ≡ wanted_in (drop (i + 1) flown)
+wanted_not flown i l e = ap wanted_in (drop_more flown i blank l) ∙ ap (λ b. cond b (suc (wanted_in (drop (i + 1) flown))) (wanted_in (drop (i + 1) flown))) e
+
+wanted_none : (flown : List SentPdu) → ((j : ℕ) → (at flown j).requested ≡ false) → wanted_in flown ≡ 0
+wanted_none [] none = refl
+wanted_none (f ∷ flown) none = ap (λ b. cond b (suc (wanted_in flown)) (wanted_in flown)) (none 0) ∙ wanted_none flown (λ j. none (suc j))
+
+wanted_some : (flown : List SentPdu) (k : ℕ) → (at flown k).requested ≡ true → 0 < wanted_in flown
+wanted_some [] k e = absurd (cc)
+wanted_some (f ∷ flown) zero e = rw e (omega arith)
+wanted_some (f ∷ flown) (suc k) e = go f.requested (wanted_some flown k e)
+  where
+    go : (b : Bool) → 0 < wanted_in flown → 0 < cond b (suc (wanted_in flown)) (wanted_in flown)
+    go true l = omega arith
+    go false l = l
+
+-- no more are requested than there are
+pub wanted_few : (flown : List SentPdu) → wanted_in flown ≤ length flown
+wanted_few [] = omega arith
+wanted_few (f ∷ flown) = go f.requested (wanted_few flown)
+  where
+    go : (b : Bool) → wanted_in flown ≤ length flown → cond b (suc (wanted_in flown)) (wanted_in flown) ≤ suc (length flown)
+    go true l = omega arith
+    go false l = omega arith
+
+-- where one place is changed, what was requested there is what is requested there now
+pub counted_set : (flown : List SentPdu) (i : ℕ) (f : SentPdu) → i < length flown → cond (at flown i).requested 1 0 + wanted_in (set flown i f) ≡ cond f.requested 1 0 + wanted_in flown
+counted_set [] i f l = absurd (omega arith)
+counted_set (x ∷ flown) zero f l = go x.requested f.requested
+  where
+    go : (a b : Bool) → cond a 1 0 + cond b (suc (wanted_in flown)) (wanted_in flown) ≡ cond b 1 0 + cond a (suc (wanted_in flown)) (wanted_in flown)
+    go true true = omega arith
+    go true false = omega arith
+    go false true = omega arith
+    go false false = omega arith
+counted_set (x ∷ flown) (suc i) f l = go x.requested (counted_set flown i f (omega arith))
+  where
+    go : (a : Bool) → cond (at flown i).requested 1 0 + wanted_in (set flown i f) ≡ cond f.requested 1 0 + wanted_in flown → cond (at flown i).requested 1 0 + cond a (suc (wanted_in (set flown i f))) (wanted_in (set flown i f)) ≡ cond f.requested 1 0 + cond a (suc (wanted_in flown)) (wanted_in flown)
+    go true e = omega (arith, e)
+    go false e = omega (arith, e)
+
+-- what holds of each place of a PDU that is requested
+wanted_all : (P : ℕ → Type 0) (flown : List SentPdu) (i : ℕ) (f : SentPdu) → P i → ((j : ℕ) → (at flown j).requested ≡ true → P j) → (j : ℕ) → (at (set flown i f) j).requested ≡ true → P j
+wanted_all P [] i f p given j e = given j e
+wanted_all P (x ∷ flown) zero f p given zero e = p
+wanted_all P (x ∷ flown) zero f p given (suc j) e = given (suc j) e
+wanted_all P (x ∷ flown) (suc i) f p given zero e = given zero e
+wanted_all P (x ∷ flown) (suc i) f p given (suc j) e = wanted_all (λ k. P (suc k)) flown i f p (λ k w. given (suc k) w) j e
+
+-- the same, where the one that is changed is requested only if it was
+wanted_old : (flown : List SentPdu) (i : ℕ) (f : SentPdu) → (f.requested ≡ true → (at flown i).requested ≡ true) → (j : ℕ) → (at (set flown i f) j).requested ≡ true → (at flown j).requested ≡ true
+wanted_old [] i f less j e = e
+wanted_old (x ∷ flown) zero f less zero e = less e
+wanted_old (x ∷ flown) zero f less (suc j) e = e
+wanted_old (x ∷ flown) (suc i) f less zero e = e
+wanted_old (x ∷ flown) (suc i) f less (suc j) e = wanted_old flown i f less j e
+
+-- what leaves the count where one isn't requested any more
+pub gone_set : (flown : List SentPdu) (i : ℕ) (f : SentPdu) → i < length flown → (f.requested ≡ true → (at flown i).requested ≡ true) → cond ((at flown i).requested && not f.requested) 1 0 + wanted_in (set flown i f) ≡ wanted_in flown
+gone_set flown i f l less = go (at flown i).requested f.requested less (counted_set flown i f l)
+  where
+    go : (a b : Bool) → (b ≡ true → a ≡ true) → cond a 1 0 + wanted_in (set flown i f) ≡ cond b 1 0 + wanted_in flown → cond (a && not b) 1 0 + wanted_in (set flown i f) ≡ wanted_in flown
+    go true true h e = omega (arith, e)
+    go true false h e = omega (arith, e)
+    go false true h e = absurd (both_ways false refl (h refl))
+    go false false h e = omega (arith, e)
+
+-- the first that is requested, by a count
+pub counted_first : (flown : List SentPdu) (low count : ℕ) → 0 < count → IsCounted flown low count → IsFirstWanted flown low
+counted_first flown low count some is = record {
+  before = λ i less. false_from_ne_true (at flown i).requested (λ e. omega (arith, less, is.below.from i e));
+  here = λ within. is.first some;
+  within = omega (arith, inside flown low (is.first some));
+}
+
+pub counted_none : (flown : List SentPdu) (low count : ℕ) → count ≡ 0 → IsCounted flown low count → IsFirstWanted flown (length flown)
+counted_none flown low count none is = record {
+  before = λ i less. false_from_ne_true (at flown i).requested (λ e. omega (arith, none, is.count_is, wanted_some flown i e));
+  here = λ within. absurd (omega (arith, within));
+  within = omega arith;
+}
+
+-- a search for the first
+pub none_from : (flown : List SentPdu) (count : ℕ) → count ≡ wanted_in flown → count ≡ 0 → IsCounted flown 0 count
+none_from flown count e none = record { below = record { from = λ i w. omega arith }; count_is = e; first = λ some. absurd (omega (arith, some, none)) }
+
+pub found_from : (flown : List SentPdu) (count i : ℕ) → count ≡ wanted_in flown → ((j : ℕ) → j < i → (at flown j).requested ≡ false) → (at flown i).requested ≡ true → IsCounted flown i count
+found_from flown count i e before here = record {
+  below = record { from = λ j w. ⊎_elim (λ (l : j < i). absurd (both_ways (at flown j).requested (before j l) w)) (λ (l : i ≤ j). l) (cases_lt j i) };
+  count_is = e;
+  first = λ some. here;
+}
+
+pub exhausted : (flown : List SentPdu) → ((j : ℕ) → j < length flown → (at flown j).requested ≡ false) → wanted_in flown ≡ 0
+exhausted flown none = wanted_none flown (λ j. false_from_ne_true (at flown j).requested (λ e. both_ways (at flown j).requested (none j (inside flown j e)) e))
+
+-- one that is named is requested since
+pub flight_named : (flight : Buffer SentPdu) (low count i : ℕ) (f : SentPdu) → i < length flight.items → (not (at flight.items i).requested && f.requested) ≡ true → IsFlight flight low count → IsFlight (buffer (set flight.items i f) flight.capacity) (lowered low count i) (count + 1)
+flight_named flight low count i f l newly is = record {
+  counted = record {
+    below = record { from = from };
+    count_is = omega (arith, is.counted.count_is, counted_set flight.items i f l, ap (λ b. cond {A = ℕ} b 1 0) was, ap (λ b. cond {A = ℕ} b 1 0) now);
+    first = λ some. first ((count == 0) || nat_lt i low) refl;
+  };
+  few = omega (arith, is.few, length-set flight.items i f);
+  small = is.small;
+}
+  where
+    parts : (not (at flight.items i).requested ≡ true) × (f.requested ≡ true)
+    parts = and_parts (not (at flight.items i).requested) f.requested newly
+
+    was : (at flight.items i).requested ≡ false
+    was = not-true (at flight.items i).requested parts.0
+
+    now : f.requested ≡ true
+    now = parts.1
+
+    here : (at (set flight.items i f) i).requested ≡ true
+    here = ap (λ (x : SentPdu). x.requested) (get_or-set_same flight.items i f blank l) ∙ now
+
+    below : (b : Bool) → ((count == 0) || nat_lt i low) ≡ b → (j : ℕ) → (at flight.items j).requested ≡ true → cond b i low ≤ j
+    below true e j w = ⊎_elim
+        (λ (h : (count == 0) ≡ true). absurd (omega (arith, eqb-true count 0 h, is.counted.count_is, wanted_some flight.items j w)))
+        (λ (h : nat_lt i low ≡ true). omega (arith, ltb-true i low h, is.counted.below.from j w))
+        (or_cases (count == 0) (nat_lt i low) e)
+    below false e j w = is.counted.below.from j w
+
+    lower : (b : Bool) → ((count == 0) || nat_lt i low) ≡ b → cond b i low ≤ i
+    lower true e = omega arith
+    lower false e = ltb-false i low (or_parts (count == 0) (nat_lt i low) e).1
+
+    from : (j : ℕ) → (at (set flight.items i f) j).requested ≡ true → lowered low count i ≤ j
+    from = wanted_all (λ j. lowered low count i ≤ j) flight.items i f (lower ((count == 0) || nat_lt i low) refl) (below ((count == 0) || nat_lt i low) refl)
+
+    first : (b : Bool) → ((count == 0) || nat_lt i low) ≡ b → (at (set flight.items i f) (cond b i low)).requested ≡ true
+    first true e = here
+    first false e = other (omega (arith, some, is.counted.count_is))
+      where
+        some : 0 < count
+        some = pos count (or_parts (count == 0) (nat_lt i low) e).0
+          where
+            pos : (n : ℕ) → (n == 0) ≡ false → 0 < n
+            pos n q = grind (arith, nat_tests)
+
+        apart : low ≡ i → ⊥
+        apart q = both_ways (at flight.items i).requested was (subst (λ k. (at flight.items k).requested ≡ true) q (is.counted.first some))
+
+        other : 0 < count → (at (set flight.items i f) low).requested ≡ true
+        other h = ap (λ (x : SentPdu). x.requested) (get_or-set_other flight.items i low f blank apart) ∙ is.counted.first h
+
+-- one that was requested or isn't is as it was
+pub flight_set : (flight : Buffer SentPdu) (low count i : ℕ) (f : SentPdu) → i < length flight.items → f.requested ≡ (at flight.items i).requested → IsFlight flight low count → IsFlight (buffer (set flight.items i f) flight.capacity) low count
+flight_set flight low count i f l e is = record {
+  counted = record {
+    below = record { from = λ j w. is.counted.below.from j (wanted_old flight.items i f (λ h. sym e ∙ h) j w) };
+    count_is = omega (arith, is.counted.count_is, counted_set flight.items i f l, ap (λ b. cond {A = ℕ} b 1 0) e);
+    first = λ some. wanted_new (is.counted.first some);
+  };
+  few = omega (arith, is.few, length-set flight.items i f);
+  small = is.small;
+}
+  where
+    wanted_new : (at flight.items low).requested ≡ true → (at (set flight.items i f) low).requested ≡ true
+    wanted_new w = ⊎_elim
+        (λ (q : low ≡ i). subst (λ k. (at (set flight.items i f) k).requested ≡ true) (sym q) (ap (λ (x : SentPdu). x.requested) (get_or-set_same flight.items i f blank l) ∙ (e ∙ subst (λ k. (at flight.items k).requested ≡ true) q w)))
+        (λ (q : low ≢ i). ap (λ (x : SentPdu). x.requested) (get_or-set_other flight.items i low f blank q) ∙ w)
+        (cases_eq low i)
+
+-- a name that makes nothing requested
+pub flight_as : (flight : Buffer SentPdu) (low count i : ℕ) (f : SentPdu) → i < length flight.items → ((at flight.items i).requested ≡ true → f.requested ≡ true) → (not (at flight.items i).requested && f.requested) ≡ false → IsFlight flight low count → IsFlight (buffer (set flight.items i f) flight.capacity) low count
+flight_as flight low count i f l more none is = flight_set flight low count i f l (go (at flight.items i).requested f.requested more none) is
+  where
+    go : (a b : Bool) → (a ≡ true → b ≡ true) → (not a && b) ≡ false → b ≡ a
+    go true b h e = h refl
+    go false true h e = absurd (both_ways true e refl)
+    go false false h e = refl
+
+-- one that isn't requested any more
+pub gone_from : (flown : List SentPdu) (low i : ℕ) (f : SentPdu) → f.requested ≡ false → IsFrom flown low → IsFrom (set flown i f) low
+gone_from flown low i f e is = record { from = λ j w. is.from j (wanted_old flown i f (λ h. absurd (both_ways f.requested e h)) j w) }
+
+pub acknowledged_from : (to : ℕ) (flown : List SentPdu) (low : ℕ) → IsFrom flown low → IsFrom (changed_below acknowledged to flown) low
+acknowledged_from to flown low is = record { from = λ i e. is.from i (wanted_before acknowledged acknowledged_less to flown i e) }
+
+pub unwanted_from : (to : ℕ) (flown : List SentPdu) (low : ℕ) → IsFrom flown low → IsFrom (changed_below unwanted to flown) low
+unwanted_from to flown low is = record { from = λ i e. is.from i (wanted_before unwanted unwanted_less to flown i e) }
+
+pub left_from : (count : ℕ) (flown : List SentPdu) (low : ℕ) → IsFrom flown low → IsFrom (drop count flown) (low - count)
+left_from count flown low is = record { from = λ i e. omega (arith, is.from (count + i) (ap (λ (x : SentPdu). x.requested) (sym (get_or-drop count flown i blank)) ∙ e)) }
+
+-- one more that isn't requested
+pub flight_push : (flight : Buffer SentPdu) (low count : ℕ) (f : SentPdu) → length flight.items < flight.capacity → f.requested ≡ false → IsFlight flight low count → IsFlight (buffer (flight.items ++ f ∷ []) flight.capacity) low count
+flight_push flight low count f room e is = record {
+  counted = record {
+    below = record { from = λ j w. is.counted.below.from j (old flight.items j w) };
+    count_is = is.counted.count_is ∙ sym (more flight.items);
+    first = λ some. let w : (at flight.items low).requested ≡ true = is.counted.first some in ap (λ (x : SentPdu). x.requested) (get_or_append_left flight.items (f ∷ []) blank low (inside flight.items low w)) ∙ w;
+  };
+  few = omega (arith, room, length-append flight.items (f ∷ []));
+  small = is.small;
+}
+  where
+    old : (xs : List SentPdu) (j : ℕ) → (at (xs ++ f ∷ []) j).requested ≡ true → (at xs j).requested ≡ true
+    old [] zero w = absurd (both_ways f.requested e w)
+    old [] (suc j) w = w
+    old (x ∷ xs) zero w = w
+    old (x ∷ xs) (suc j) w = old xs j w
+
+    more : (xs : List SentPdu) → wanted_in (xs ++ f ∷ []) ≡ wanted_in xs
+    more [] = ap (λ b. cond {A = ℕ} b 1 0) e
+    more (x ∷ xs) = ap (λ n. cond x.requested (suc n) n) (more xs)
+
+-- a ring with no more PDUs, of which the requested are counted anew
+pub flight_less : (flight now : Buffer SentPdu) (low count first many : ℕ) → now.capacity ≡ flight.capacity → length now.items ≤ length flight.items → IsCounted now.items first many → IsFlight flight low count → IsFlight now first many
+flight_less flight now low count first many room fewer counted is = record { counted = counted; few = omega (arith, is.few, room, fewer); small = omega (arith, is.small, room) }

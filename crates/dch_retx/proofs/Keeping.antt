@@ -1,0 +1,97 @@
+-- What a status leaves of the PDUs in flight is sent as before.
+use Rattle.std.proofs.Common.{◌≡◌, ◌+◌, ◌-◌, ◌<◌, ◌≤◌, ℕ, List, Bool, true, false, length, drop, Option, Some, None, arith, refl, sym, ap, ◌∙◌, subst, length-drop, set, length-set}
+use Rattle.std.specs.Prelude.{nat_lt, min, ◌==◌}
+use Rattle.std.proofs.lemmas.Bool.{cond_both, eqb-true, eqb-false}
+use Rattle.std.proofs.lemmas.List.{get_or-drop, get_or-set_same, get_or-set_other}
+use Rattle.dch_am.specs.declared.answers.StatusTaken.{StatusTaken}
+use Rattle.dch_am.specs.declared.answers.StatusTaken.TheVariants.{Taken, Outside}
+use Rattle.dch_retx.specs.declared.sent_pdu.SentPdu.{SentPdu}
+use Rattle.dch_retx.specs.Flights.{at, acknowledged, blank, changed_below, front_acked, built, unwanted}
+use Rattle.dch_retx.proofs.Changes.{length-changed}
+use Rattle.dch_retx.specs.declared.item.StatusItem.{StatusItem}
+use Rattle.dch_retx.specs.StatusItem.{below_said, is_named, tells_some}
+use Rattle.dch_retx.specs.RetxBuffer.{RetxBuffer, acked_below, after_answer, after_ending, after_hearing, after_moves, after_told, answer_of, discarding, ending, first_number, floor_of, freed, listened, named_line, told_line}
+use Rattle.dch_retx.specs.Polling.{resent}
+use Rattle.dch_retx.specs.Standing.{AreKept, IsAlike}
+use Rattle.dch_retx.proofs.Fronts.{front_le}
+use Rattle.dch_retx.proofs.Lengths.{length-acked, length-with_names, length-without_names}
+use Rattle.dch_retx.proofs.Naming.{at-changed_below, at-told, heard_one}
+
+alike_itself : (f : SentPdu) → IsAlike f f
+alike_itself f = record { text = refl; full = refl; ends = refl; continues = refl }
+
+alike_twice : (f g h : SentPdu) → IsAlike f g → IsAlike g h → IsAlike f h
+alike_twice f g h a b = record { text = a.text ∙ b.text; full = a.full ∙ b.full; ends = a.ends ∙ b.ends; continues = a.continues ∙ b.continues }
+
+alike_acknowledged : (f : SentPdu) → IsAlike (acknowledged f) f
+alike_acknowledged f = cond_both {A = SentPdu} f.named f (record f { acked = true; requested = false }) (λ g. IsAlike g f) (λ _. alike_itself f) (λ _. record { text = refl; full = refl; ends = refl; continues = refl })
+
+alike_one : (from j : ℕ) (named under : Bool) (f : SentPdu) → IsAlike (heard_one from j named under f) f
+alike_one from j true true f = record { text = refl; full = refl; ends = refl; continues = refl }
+alike_one from j true false f = record { text = refl; full = refl; ends = refl; continues = refl }
+alike_one from j false true f = alike_acknowledged f
+alike_one from j false false f = alike_itself f
+
+kept_itself : (xs : List SentPdu) → AreKept xs xs
+kept_itself xs = record { few = omega arith; same = λ i less. let e : i ≡ length xs - length xs + i = omega arith in subst (λ k. IsAlike (at xs i) (at xs k)) e (alike_itself (at xs i)) }
+
+kept_twice : (xs ys zs : List SentPdu) → AreKept xs ys → AreKept ys zs → AreKept xs zs
+kept_twice xs ys zs a b = record {
+  few = omega (arith, a.few, b.few);
+  same = λ i less.
+      let e : length xs - length ys + (length ys - length zs + i) ≡ length xs - length zs + i = omega (arith, a.few, b.few) in
+      subst (λ k. IsAlike (at zs i) (at xs k)) e (alike_twice (at zs i) (at ys (length ys - length zs + i)) (at xs (length xs - length ys + (length ys - length zs + i))) (b.same i less) (a.same (length ys - length zs + i) (omega (arith, b.few))));
+}
+
+-- a front leaves of a list that is sent alike
+kept_front : (xs ys : List SentPdu) (gone : ℕ) → length ys ≡ length xs → gone ≤ length xs → ((i : ℕ) → i < length xs → IsAlike (at ys i) (at xs i)) → AreKept xs (drop gone ys)
+kept_front xs ys gone size le all = record {
+  few = omega (arith, left);
+  same = λ i less.
+      let place : at (drop gone ys) i ≡ at ys (gone + i) = get_or-drop gone ys i blank in
+      let e : gone + i ≡ length xs - length (drop gone ys) + i = omega (arith, left) in
+      subst (λ k. IsAlike (at (drop gone ys) i) (at xs k)) e (subst (λ f. IsAlike f (at xs (gone + i))) (sym place) (all (gone + i) (omega (arith, left))));
+}
+  where
+    left : length (drop gone ys) ≡ length xs - gone
+    left = length-drop gone ys ∙ ap (λ n. n - gone) size
+
+freed_kept : (below : ℕ) (l : RetxBuffer) → AreKept l.flown (freed below l).flown
+freed_kept below l = kept_front l.flown (acked_below below l.flown) (front_acked (acked_below below l.flown)) (length-acked below l.flown) (omega (arith, front_le (acked_below below l.flown), length-acked below l.flown))
+    (λ i less. subst (λ f. IsAlike f (at l.flown i)) (sym (at-changed_below acknowledged (min below (length l.flown)) l.flown i less)) (cond_both {A = SentPdu} (nat_lt i (min below (length l.flown))) (acknowledged (at l.flown i)) (at l.flown i) (λ f. IsAlike f (at l.flown i)) (λ _. alike_acknowledged (at l.flown i)) (λ _. alike_itself (at l.flown i))))
+
+listened_kept : (said : List StatusItem) (l : RetxBuffer) → AreKept l.flown (listened said l).flown
+listened_kept said l = kept_front l.flown (told_line said l) (front_acked (told_line said l)) size (omega (arith, front_le (told_line said l), size))
+    (λ i less. subst (λ f. IsAlike f (at l.flown i)) (sym (at-told said l i less)) (alike_one (floor_of l.running) i (is_named (first_number l) i said) (nat_lt i (min (below_said (first_number l) said) (length l.flown))) (at l.flown i)))
+  where
+    size : length (told_line said l) ≡ length l.flown
+    size = length-without_names (first_number l) said _ ∙ (length-acked (below_said (first_number l) said) (named_line said l) ∙ length-with_names (first_number l) (floor_of l.running) said l.flown)
+
+ending_kept : (o : Option ℕ) (l : RetxBuffer) → AreKept l.flown (after_ending o l).flown
+ending_kept None l = kept_itself l.flown
+ending_kept (Some below) l = freed_kept below l
+
+told_kept : (said : List StatusItem) (l : RetxBuffer) → AreKept l.flown (after_told said l).flown
+told_kept said l = cond_both {A = RetxBuffer} (tells_some said) (listened said l) l (λ m. AreKept l.flown m.flown) (λ _. listened_kept said l) (λ _. kept_itself l.flown)
+
+answer_kept : (t : StatusTaken) (said : List StatusItem) (l : RetxBuffer) → AreKept l.flown (after_answer t said l).flown
+answer_kept Taken said l = kept_twice l.flown (after_moves said l).flown (after_told said (after_moves said l)).flown (ending_kept (ending said l l.running) l) (told_kept said (after_moves said l))
+answer_kept (Outside i) said l = kept_itself l.flown
+
+pub hearing_kept : (said : List StatusItem) (l : RetxBuffer) → AreKept l.flown (after_hearing said l).flown
+hearing_kept said l = answer_kept (answer_of said l) said l
+
+-- a PDU that is built again, and those that aren't requested any more, are sent as before
+pub resent_kept : (place : ℕ) (l : RetxBuffer) → AreKept l.flown (resent place l).flown
+resent_kept place l = kept_front l.flown (resent place l).flown 0 (length-set l.flown place (built (at l.flown place))) (omega arith) each
+  where
+    each : (i : ℕ) → i < length l.flown → IsAlike (at (set l.flown place (built (at l.flown place))) i) (at l.flown i)
+    each i less = go (i == place) refl
+      where
+        go : (b : Bool) → (i == place) ≡ b → IsAlike (at (set l.flown place (built (at l.flown place))) i) (at l.flown i)
+        go true e = let q : i ≡ place = eqb-true i place e in subst (λ k. IsAlike (at (set l.flown k (built (at l.flown k))) i) (at l.flown i)) q (subst (λ f. IsAlike f (at l.flown i)) (sym (get_or-set_same l.flown i (built (at l.flown i)) blank less)) (record { text = refl; full = refl; ends = refl; continues = refl }))
+        go false e = subst (λ f. IsAlike f (at l.flown i)) (sym (get_or-set_other l.flown place i (built (at l.flown place)) blank (eqb-false i place e))) (alike_itself (at l.flown i))
+
+pub discarding_kept : (place n : ℕ) (l : RetxBuffer) → AreKept l.flown (discarding place n l).flown
+discarding_kept place n l = kept_front l.flown (changed_below unwanted place l.flown) 0 (length-changed unwanted place l.flown) (omega arith)
+    (λ i less. subst (λ f. IsAlike f (at l.flown i)) (sym (at-changed_below unwanted place l.flown i less)) (cond_both {A = SentPdu} (nat_lt i place) (unwanted (at l.flown i)) (at l.flown i) (λ f. IsAlike f (at l.flown i)) (λ _. record { text = refl; full = refl; ends = refl; continues = refl }) (λ _. alike_itself (at l.flown i))))

@@ -1,0 +1,14 @@
+pub mod Pairs
+pub mod Changes
+pub mod Lengths
+pub mod Fronts
+pub mod Naming
+pub mod Saying
+pub mod Freeing
+pub mod Hearing
+pub mod Counting
+pub mod Sending
+pub mod Picking
+pub mod Ticking
+pub mod Keeping
+pub mod Refusing

@@ -1,0 +1,18 @@
+use Rattle.std.proofs.Common.{◌∙◌, ap, arith, sym}
+use Rattle.std.proofs.lemmas.Bool.{false_from_ne_true}
+use Rattle.dch_retx.specs.declared.sent_pdu.SentPdu.{SentPdu}
+use Rattle.dch_retx.specs.Flights.{at}
+use Rattle.dch_retx.proofs.Changes.{exhausted, found_from, none_from}
+use Rattle.dch_retx.proofs.flight.first_from.Goals as goal
+
+pub loop-i-init : goal.loop-i-init
+loop-i-init c = λ j l. false_from_ne_true (at c.args.ring.now.items j).requested (λ e. omega (arith, l, c.requires.low.from j e))
+
+pub returns-then-count-eq0 : goal.returns-then-count-eq0
+returns-then-count-eq0 c = none_from c.args.ring.now.items c.args.count c.requires.count (omega arith)
+
+pub returns-then-at_place : goal.returns-then-at_place
+returns-then-at_place c = found_from c.args.ring.now.items c.args.count c.loop-i.i c.requires.count c.loop-i.invariant (ap (λ (f : SentPdu). f.requested) (sym c.at_place.ensures) ∙ c.if-at_place.true)
+
+pub returns : goal.returns
+returns c = absurd (c.if-count-eq0.false (c.requires.count ∙ exhausted c.args.ring.now.items (λ j l. c.loop-i.invariant j (omega (arith, l)))))

@@ -1,0 +1,6 @@
+use Rattle.std.proofs.Common.{◌≡◌, ◌<◌, ℕ, false}
+use Rattle.dch_retx.specs.Flights.{at}
+use Rattle.dch_retx.proofs.flight.first_from.Given as goal
+
+abbrev pub invariant-loop-i : goal.invariant-loop-i
+invariant-loop-i l = (j : ℕ) → j < l.i → (at l.ring.items j).requested ≡ false

@@ -1,0 +1,83 @@
+-- The PDUs of a sender that are in flight (TS 25.322 9.4, 11.5.3): those from the lowest number that is not acknowledged on.
+use Rattle.std.specs.Prelude.{◌≡◌, ◌+◌, ◌≤◌, ◌<◌, ◌==◌, ◌&&◌, ◌||◌, ℕ, zero, suc, List, [], ◌∷◌, Bool, true, false, not, length, nat_lt, nat_le, slice_index_or, if◌then◌else◌}
+use Rattle.circular_buffer.specs.Buffer.{Buffer}
+use Rattle.dch_retx.specs.declared.sent_pdu.SentPdu.{SentPdu}
+
+-- no PDU
+abbrev pub blank : SentPdu
+blank = record { text = []; full = false; ends = 0; continues = false; builds = 0; acked = false; requested = false; named = false }
+
+-- a PDU that was just built
+abbrev pub sent_once : List ℕ → Bool → ℕ → Bool → SentPdu
+sent_once text full ends continues = record { text = text; full = full; ends = ends; continues = continues; builds = 1; acked = false; requested = false; named = false }
+
+-- the PDU at a place
+abbrev pub at : List SentPdu → ℕ → SentPdu
+at flown i = slice_index_or flown i blank
+
+-- it is named missing: it is requested again, unless it is acknowledged or stands before a place
+abbrev pub named_from : ℕ → ℕ → SentPdu → SentPdu
+named_from low i f = record f { named = true; requested = f.requested || (not f.acked && nat_le low i) }
+
+-- it is not named any more
+abbrev pub unnamed : SentPdu → SentPdu
+unnamed f = record f { named = false }
+
+-- it is acknowledged, unless it is named missing
+abbrev pub acknowledged : SentPdu → SentPdu
+acknowledged f = if f.named then f else record f { acked = true; requested = false }
+
+-- it is not requested
+abbrev pub unwanted : SentPdu → SentPdu
+unwanted f = record f { requested = false }
+
+-- it is built once more. More than 255 times are not counted
+abbrev pub built : SentPdu → SentPdu
+built f = record f { requested = false; builds = if nat_lt f.builds 255 then f.builds + 1 else f.builds }
+
+-- the PDUs before a place are changed
+abbrev pub changed_below : (SentPdu → SentPdu) → ℕ → List SentPdu → List SentPdu
+changed_below change zero flown = flown
+changed_below change (suc to) [] = []
+changed_below change (suc to) (f ∷ flown) = change f ∷ changed_below change to flown
+
+-- the first PDU that is requested stands there, or none is and this is the end
+pub record IsFirstWanted (flown : List SentPdu) (first : ℕ) : Type 0 where
+  pub before : (i : ℕ) → i < first → (at flown i).requested ≡ false
+  pub here : first < length flown → (at flown first).requested ≡ true
+  pub within : first ≤ length flown
+
+-- where that is
+abbrev pub first_wanted : List SentPdu → ℕ
+first_wanted [] = 0
+first_wanted (f ∷ flown) = if f.requested then 0 else suc (first_wanted flown)
+
+-- how many are requested
+abbrev pub wanted_in : List SentPdu → ℕ
+wanted_in [] = 0
+wanted_in (f ∷ flown) = if f.requested then suc (wanted_in flown) else wanted_in flown
+
+-- how many PDUs in front are acknowledged
+abbrev pub front_acked : List SentPdu → ℕ
+front_acked [] = 0
+front_acked (f ∷ flown) = if f.acked then suc (front_acked flown) else 0
+
+-- no PDU before a place is requested
+pub record IsFrom (flown : List SentPdu) (low : ℕ) : Type 0 where
+  pub from : (i : ℕ) → (at flown i).requested ≡ true → low ≤ i
+
+-- so many are requested, and where some are this is the first
+pub record IsCounted (flown : List SentPdu) (low count : ℕ) : Type 0 where
+  pub below : IsFrom flown low
+  pub count_is : count ≡ wanted_in flown
+  pub first : 0 < count → (at flown low).requested ≡ true
+
+-- the place of the first with that of one more that is requested
+abbrev pub lowered : ℕ → ℕ → ℕ → ℕ
+lowered low count i = if (count == 0) || nat_lt i low then i else low
+
+-- the ring and what is counted of it
+pub record IsFlight (flight : Buffer SentPdu) (low count : ℕ) : Type 0 where
+  pub counted : IsCounted flight.items low count
+  pub few : length flight.items ≤ flight.capacity
+  pub small : flight.capacity ≤ 65535

@@ -1,0 +1,156 @@
+-- What a sender keeps of the PDUs that it has sent (TS 25.322 9.4): those in flight, the poll that is out and the discard that runs.
+use Rattle.std.specs.Prelude.{◌≡◌, ◌<◌, ◌≤◌, IfSome, ◌+◌, ◌-◌, ◌||◌, ◌==◌, true, ℕ, List, [], Bool, false, drop, length, min, nat_lt, Option, Some, None, if◌then◌else◌}
+use Rattle.dch_retx.specs.declared.sent_pdu.SentPdu.{SentPdu}
+use Rattle.dch_retx.specs.Flights.{at, acknowledged, unwanted, changed_below, front_acked}
+use Rattle.dch_am.specs.Rules.{Rules}
+use Rattle.dch_am.specs.Numbers.{wrapped}
+use Rattle.dch_am.specs.declared.answers.StatusTaken.{StatusTaken}
+use Rattle.dch_am.specs.declared.answers.StatusTaken.TheVariants.{Taken, Outside}
+use Rattle.dch_retx.specs.declared.item.StatusItem.{StatusItem}
+use Rattle.dch_retx.specs.declared.buffer.Running.{Running}
+use Rattle.dch_retx.specs.StatusItem.{below_said, first_ending, first_outside, tells_some, with_names, without_names}
+
+-- the PDUs in flight, how many there may be, the number of the next one in 12 bits, the poll timer, the place of the polled PDU, and whether
+-- a poll is owed; and the discard that runs
+pub record RetxBuffer : Type 0 where
+  pub flown : List SentPdu
+  pub window : ℕ
+  pub next : ℕ
+  pub timer : ℕ
+  pub polled : ℕ
+  pub owed : Bool
+  pub running : Option Running
+  pub rules : Rules
+  pub built : ℕ  -- the PDUs built since the last poll for their number
+  pub ended : ℕ  -- the units ended since the last poll for their number
+
+-- at opening
+abbrev pub opened_line : Rules → RetxBuffer
+opened_line rules = record { flown = []; window = rules.window; next = 0; timer = 0; polled = 0; owed = false; running = None; rules = rules; built = 0; ended = 0 }
+
+-- the number of the PDU in flight at a place
+abbrev pub number_at : ℕ → RetxBuffer → ℕ
+number_at place l = wrapped (l.next + 4096 - (length l.flown - place))
+
+abbrev pub first_number : RetxBuffer → ℕ
+first_number l = number_at 0 l
+
+-- a discard once so many PDUs have left: it ends where its own has
+abbrev pub run_on : ℕ → Option Running → Option Running
+run_on gone None = None
+run_on gone (Some r) = if nat_lt r.at gone then None else Some (record r { at = r.at - gone })
+
+-- the PDUs in front that are acknowledged leave. The poll is told where the polled one leaves, or was named
+abbrev pub left_front : ℕ → Bool → List SentPdu → RetxBuffer → RetxBuffer
+left_front gone named flown l = record l {
+  flown = drop gone flown;
+  timer = if named || nat_lt l.polled gone then 0 else l.timer;
+  owed = if named || nat_lt l.polled gone then false else l.owed;
+  polled = l.polled - gone;
+  running = run_on gone l.running;
+}
+
+-- the PDUs below a place are acknowledged, but for those that are named
+abbrev pub acked_below : ℕ → List SentPdu → List SentPdu
+acked_below below flown = changed_below acknowledged (min below (length flown)) flown
+
+-- all PDUs below a place are acknowledged, and the discard has ended
+abbrev pub freed : ℕ → RetxBuffer → RetxBuffer
+freed below l = left_front (front_acked (acked_below below l.flown)) false (acked_below below l.flown) (record l { running = None })
+
+-- below this place nothing is requested while a discard runs
+abbrev pub floor_of : Option Running → ℕ
+floor_of None = 0
+floor_of (Some r) = r.at
+
+-- what is said of numbers is heard
+abbrev pub named_line : List StatusItem → RetxBuffer → List SentPdu
+named_line said l = with_names (first_number l) (floor_of l.running) said l.flown
+
+abbrev pub told_line : List StatusItem → RetxBuffer → List SentPdu
+told_line said l = without_names (first_number l) said (acked_below (below_said (first_number l) said) (named_line said l))
+
+abbrev pub listened : List StatusItem → RetxBuffer → RetxBuffer
+listened said l = left_front (front_acked (told_line said l)) (at (named_line said l) l.polled).named (told_line said l) l
+
+-- where an MRW_ACK ends the running discard, and the line after it
+abbrev pub ending : List StatusItem → RetxBuffer → Option Running → Option ℕ
+ending said l None = None
+ending said l (Some r) = first_ending (first_number l) (length l.flown) r.at r.n said
+
+abbrev pub after_ending : Option ℕ → RetxBuffer → RetxBuffer
+after_ending None l = l
+after_ending (Some below) l = freed below l
+
+-- the line after the MRW_ACKs of a status
+abbrev pub after_moves : List StatusItem → RetxBuffer → RetxBuffer
+after_moves said l = after_ending (ending said l l.running) l
+
+-- the place of the first PDU that stays open where it does so
+abbrev pub base_after : Option ℕ → RetxBuffer → ℕ
+base_after None l = 0
+base_after (Some below) l = min below (length l.flown) + front_acked (drop (min below (length l.flown)) l.flown)
+
+-- the first number that is outside, where the PDU at a place is the lowest open one
+abbrev pub outside_from : ℕ → List StatusItem → RetxBuffer → Option ℕ
+outside_from base said l = first_outside l.window (number_at base l) (length l.flown - base) said
+
+-- what a status is answered, and the line after it
+abbrev pub answered : Option ℕ → StatusTaken
+answered None = Taken
+answered (Some i) = Outside i
+
+abbrev pub answer_of : List StatusItem → RetxBuffer → StatusTaken
+answer_of said l = answered (outside_from (base_after (ending said l l.running) l) said l)
+
+abbrev pub after_told : List StatusItem → RetxBuffer → RetxBuffer
+after_told said l = if tells_some said then listened said l else l
+
+abbrev pub after_answer : StatusTaken → List StatusItem → RetxBuffer → RetxBuffer
+after_answer Taken said l = after_told said (after_moves said l)
+after_answer (Outside i) said l = l
+
+abbrev pub after_hearing : List StatusItem → RetxBuffer → RetxBuffer
+after_hearing said l = after_answer (answer_of said l) said l
+
+-- the ring has room for the window, numbers have 12 bits, and the PDU of a discard is in flight with a place of four bits
+pub record IsLine (flown : List SentPdu) (capacity window next : ℕ) (running : Option Running) : Type 0 where
+  pub room : capacity ≡ window
+  pub few : length flown ≤ window
+  pub most : window ≤ 2048
+  pub number : next < 4096
+  pub discard : IfSome running (λ r. (r.at < length flown) × (r.n < 16))
+
+-- a tick of the poll timer and of a discard's
+abbrev pub run_timer : Option Running → Option Running
+run_timer None = None
+run_timer (Some r) = Some (record r { due = r.due || (r.timer == 1); timer = r.timer - 1 })
+
+abbrev pub ticked : RetxBuffer → RetxBuffer
+ticked l = record l { timer = l.timer - 1; owed = l.owed || (l.timer == 1); running = run_timer l.running }
+
+-- a discard begins with this PDU in flight and this mark: those before aren't requested
+abbrev pub discarding : ℕ → ℕ → RetxBuffer → RetxBuffer
+discarding place n l = record l { flown = changed_below unwanted place l.flown; running = Some (record { at = place; n = n; due = true; timer = 0 }) }
+
+-- an MRW is due
+abbrev pub is_due : Option Running → Bool
+is_due None = false
+is_due (Some r) = r.due
+
+-- it is written, and due again after so many ticks
+abbrev pub repeating : ℕ → Option Running → Option Running
+repeating ticks None = None
+repeating ticks (Some r) = Some (record r { due = false; timer = ticks })
+
+abbrev pub moving : RetxBuffer → RetxBuffer
+moving l = record l { running = repeating l.rules.discard_repeat l.running }
+
+-- the number and the mark of the discard
+abbrev pub place_in : Option Running → ℕ
+place_in None = 0
+place_in (Some r) = r.at
+
+abbrev pub mark_in : Option Running → ℕ
+mark_in None = 0
+mark_in (Some r) = r.n

@@ -1,0 +1,112 @@
+-- What a status says about the PDUs in flight, the first of which has this number of 12 bits. So many are in flight.
+use Rattle.std.specs.Prelude.{◌+◌, ◌-◌, ◌&&◌, ◌||◌, ◌==◌, ℕ, List, [], ◌∷◌, Bool, true, false, length, nat_lt, nat_le, slice_set, Option, Some, None, if◌then◌else◌}
+use Rattle.dch_am.specs.Numbers.{wrapped, ahead}
+use Rattle.dch_retx.specs.declared.item.StatusItem.{StatusItem}
+use Rattle.dch_retx.specs.declared.item.StatusItem.TheVariants.{Missing, Unset, Set, Below, Moved}
+use Rattle.dch_retx.specs.declared.sent_pdu.SentPdu.{SentPdu}
+use Rattle.dch_retx.specs.Flights.{at, named_from, unnamed}
+
+-- where a number stands among them
+abbrev pub place_of : ℕ → ℕ → ℕ
+place_of first x = ahead first (wrapped x)
+
+-- what is said is outside: an LSN that isn't the number of one in flight or the next one; a number named missing that isn't one of them;
+-- a received one that is neither one of them nor in the window below
+abbrev pub offends : ℕ → ℕ → ℕ → StatusItem → Bool
+offends window first count (Missing x) = nat_le count (place_of first x)
+offends window first count (Unset x) = false
+offends window first count (Set x) = nat_le count (place_of first x) && nat_lt (place_of first x) (4096 - window)
+offends window first count (Below x) = nat_lt count (place_of first x)
+offends window first count (Moved n sn) = false
+
+abbrev pub number_in : StatusItem → ℕ
+number_in (Missing x) = x
+number_in (Unset x) = x
+number_in (Set x) = x
+number_in (Below x) = wrapped x
+number_in (Moved n sn) = sn
+
+-- the first number that is outside
+abbrev pub first_outside : ℕ → ℕ → ℕ → List StatusItem → Option ℕ
+first_outside window first count [] = None
+first_outside window first count (said ∷ rest) = if offends window first count said then Some (number_in said) else first_outside window first count rest
+
+-- a PDU in flight is named missing
+abbrev pub names_place : ℕ → ℕ → StatusItem → Bool
+names_place first i (Missing x) = place_of first x == i
+names_place first i (Unset x) = place_of first x == i
+names_place first i (Set x) = false
+names_place first i (Below x) = false
+names_place first i (Moved n sn) = false
+
+abbrev pub is_named : ℕ → ℕ → List StatusItem → Bool
+is_named first i [] = false
+is_named first i (said ∷ rest) = names_place first i said || is_named first i rest
+
+-- the PDU at a place that is in flight is changed
+abbrev pub changed_at : (SentPdu → SentPdu) → ℕ → List SentPdu → List SentPdu
+changed_at change i flown = if nat_lt i (length flown) then slice_set flown i (change (at flown i)) else flown
+
+-- the PDUs with one thing more heard, and with all
+abbrev pub with_name : ℕ → ℕ → StatusItem → List SentPdu → List SentPdu
+with_name first from (Missing x) flown = changed_at (named_from from (place_of first x)) (place_of first x) flown
+with_name first from (Unset x) flown = changed_at (named_from from (place_of first x)) (place_of first x) flown
+with_name first from (Set x) flown = flown
+with_name first from (Below x) flown = flown
+with_name first from (Moved n sn) flown = flown
+
+abbrev pub with_names : ℕ → ℕ → List StatusItem → List SentPdu → List SentPdu
+with_names first from [] flown = flown
+with_names first from (said ∷ rest) flown = with_names first from rest (with_name first from said flown)
+
+-- the same PDUs, of which none is named any more
+abbrev pub without_name : ℕ → StatusItem → List SentPdu → List SentPdu
+without_name first (Missing x) flown = changed_at unnamed (place_of first x) flown
+without_name first (Unset x) flown = changed_at unnamed (place_of first x) flown
+without_name first (Set x) flown = flown
+without_name first (Below x) flown = flown
+without_name first (Moved n sn) flown = flown
+
+abbrev pub without_names : ℕ → List StatusItem → List SentPdu → List SentPdu
+without_names first [] flown = flown
+without_names first (said ∷ rest) flown = without_names first rest (without_name first said flown)
+
+-- the place of the LSN, the first one where there is none
+abbrev pub below_said : ℕ → List StatusItem → ℕ
+below_said first [] = 0
+below_said first (Below x ∷ rest) = place_of first x
+below_said first (Missing x ∷ rest) = below_said first rest
+below_said first (Unset x ∷ rest) = below_said first rest
+below_said first (Set x ∷ rest) = below_said first rest
+below_said first (Moved n sn ∷ rest) = below_said first rest
+
+-- something is said besides an MRW_ACK
+abbrev pub tells_some : List StatusItem → Bool
+tells_some [] = false
+tells_some (Moved n sn ∷ rest) = tells_some rest
+tells_some (Missing x ∷ rest) = true
+tells_some (Unset x ∷ rest) = true
+tells_some (Set x ∷ rest) = true
+tells_some (Below x ∷ rest) = true
+
+-- the place below which an MRW_ACK acknowledges all PDUs, where it ends the discard at a place and with a mark
+abbrev pub ends_at : ℕ → ℕ → ℕ → ℕ → ℕ → ℕ → Option ℕ
+ends_at first count k mark n sn =
+    if (place_of (wrapped (first + k)) sn == 0) && (n == mark) then Some k
+    else (if nat_lt 0 (place_of (wrapped (first + k)) sn) && nat_le (k + place_of (wrapped (first + k)) sn) count && (n == 0) then Some (k + place_of (wrapped (first + k)) sn) else None)
+
+abbrev pub ends_by : ℕ → ℕ → ℕ → ℕ → StatusItem → Option ℕ
+ends_by first count k mark (Missing x) = None
+ends_by first count k mark (Unset x) = None
+ends_by first count k mark (Set x) = None
+ends_by first count k mark (Below x) = None
+ends_by first count k mark (Moved n sn) = ends_at first count k mark n sn
+
+-- the first of two
+abbrev pub or_else : Option ℕ → Option ℕ → Option ℕ
+or_else None o = o
+or_else (Some i) o = Some i
+
+abbrev pub first_ending : ℕ → ℕ → ℕ → ℕ → List StatusItem → Option ℕ
+first_ending first count k mark [] = None
+first_ending first count k mark (said ∷ rest) = or_else (ends_by first count k mark said) (first_ending first count k mark rest)

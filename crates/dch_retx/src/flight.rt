@@ -1,0 +1,241 @@
+ghost use Rattle.std.specs.Prelude.{◌≡◌, ◌+◌, ◌<◌, ◌≤◌, ◌++◌, [], ◌∷◌, false, IfOk, length, drop, min, nat_lt, slice_set, if◌then◌else◌};
+ghost use Rattle.circular_buffer.specs.Buffer.{buffer};
+ghost use Rattle.dch_retx.specs.Flights.{at, named_from, unnamed, acknowledged, unwanted, built, changed_below, first_wanted, front_acked, lowered, wanted_in, IsCounted, IsFirstWanted, IsFrom};
+
+use crate::places::{acknowledge_at, at_place, build_at, name_at, unname_at, unwant_at};
+use crate::sent_pdu::SentPdu;
+use circular_buffer::HeapCircularBuffer;
+use dch_bits::NoMemory;
+use std::alloc::Global;
+use std::marker::Model;
+
+/// The PDUs in flight, the one of the lowest open number first. So many of them are requested as `count` says, the first of them at `low`.
+#[derive(Drop)]
+pub struct Flight {
+    ring: HeapCircularBuffer<SentPdu>,
+    low: usize,
+    count: usize,
+}
+
+impl Model for Flight {
+    ghost use Rattle.circular_buffer.specs.Buffer.{Buffer};
+    ghost use Rattle.dch_retx.specs.declared.sent_pdu.SentPdu.{SentPdu};
+    ghost use Rattle.dch_retx.specs.Flights.{IsFlight};
+
+    ghost Value = { Buffer SentPdu };
+
+    ghost view = { λ f. f.ring };
+
+    ghost invariant = { λ f. IsFlight f.ring f.low f.count };
+}
+
+impl Flight {
+    /// Room for so many PDUs, of which none is in flight. All memory is taken here.
+    pub fn open(alloc: Global, window: u16) -> Result<Flight, NoMemory>
+        ensures { IfOk result (λ f. f ≡ buffer [] window) }
+    {
+        let ring = HeapCircularBuffer::with_capacity(alloc, window as usize)?;
+        Ok(Flight {
+            ring,
+            low: 0,
+            count: 0,
+        })
+    }
+
+    /// How many PDUs are in flight.
+    pub fn len(&self) -> usize
+        ensures count { result ≡ length self.now.items }
+    {
+        self.ring.len()
+    }
+
+    /// The PDU at a place.
+    pub fn at(&self, i: usize) -> SentPdu
+        requires { i < length self.now.items }
+        ensures { result ≡ at self.now.items i }
+    {
+        at_place(&self.ring, i)
+    }
+
+    /// A new PDU is in flight.
+    pub fn push(&mut self, flown: SentPdu)
+        requires room { length self.old.items < self.old.capacity }
+        requires new { flown.requested ≡ false }
+        ensures { self.new ≡ buffer (self.old.items ++ flown ∷ []) self.old.capacity }
+    {
+        self.ring.push_back(flown);
+    }
+
+    /// A status names a PDU missing. It is requested, unless it is acknowledged or stands before a place.
+    pub fn name(&mut self, i: usize, from: usize)
+        requires { i < length self.old.items }
+        ensures { self.new ≡ buffer (slice_set self.old.items i (named_from from i (at self.old.items i))) self.old.capacity }
+    {
+        if name_at(&mut self.ring, i, from) {
+            self.low = lowered(self.low, self.count, i);
+            self.count += 1;
+        }
+    }
+
+    /// The status that names it is heard.
+    pub fn clear_missing(&mut self, i: usize)
+        requires { i < length self.old.items }
+        ensures { self.new ≡ buffer (slice_set self.old.items i (unnamed (at self.old.items i))) self.old.capacity }
+    {
+        unname_at(&mut self.ring, i);
+    }
+
+    /// A PDU is built once more.
+    pub fn build(&mut self, i: usize)
+        requires { i < length self.old.items }
+        ensures { self.new ≡ buffer (slice_set self.old.items i (built (at self.old.items i))) self.old.capacity }
+    {
+        let was = build_at(&mut self.ring, i);
+        self.count -= one(was);
+        self.low = first_from(&self.ring, self.low, self.count);
+    }
+
+    /// The PDUs before a place are acknowledged, but for those that are named missing.
+    pub fn acknowledge(&mut self, to: usize)
+        requires { to ≤ length self.old.items }
+        ensures { self.new ≡ buffer (changed_below acknowledged to self.old.items) self.old.capacity }
+    {
+        let gone = acknowledge_below(&mut self.ring, to);
+        self.count -= gone;
+        self.low = first_from(&self.ring, self.low, self.count);
+    }
+
+    /// The PDUs before a place aren't requested any more.
+    pub fn clear_request(&mut self, to: usize)
+        requires { to ≤ length self.old.items }
+        ensures { self.new ≡ buffer (changed_below unwanted to self.old.items) self.old.capacity }
+    {
+        let gone = unwant_below(&mut self.ring, to);
+        self.count -= gone;
+        self.low = first_from(&self.ring, self.low, self.count);
+    }
+
+    /// The first PDU that is requested; their number where none is.
+    pub fn lowest(&self) -> usize
+        ensures place { IsFirstWanted self.now.items result }
+        ensures first { result ≡ first_wanted self.now.items }
+    {
+        if self.count > 0 {
+            self.low
+        } else {
+            self.ring.len()
+        }
+    }
+
+    /// A PDU is requested.
+    pub fn is_wanted(&self) -> bool
+        ensures { result ≡ nat_lt 0 (wanted_in self.now.items) }
+    {
+        self.count > 0
+    }
+
+    /// How many PDUs are requested, at most so many.
+    pub fn requested(&self, most: usize) -> usize
+        ensures { result ≡ min most (wanted_in self.now.items) }
+    {
+        self.count.min(most)
+    }
+
+    /// How many PDUs from a place on are acknowledged, up to the first that isn't.
+    pub fn acked_from(&self, from: usize) -> usize
+        requires { from ≤ length self.now.items }
+        ensures count { result ≡ front_acked (drop from self.now.items) }
+        ensures within { from + result ≤ length self.now.items }
+    {
+        for i in from..self.ring.len() {
+            if !at_place(&self.ring, i).acked {
+                return i - from;
+            }
+        }
+        self.ring.len() - from
+    }
+
+    /// So many PDUs in front leave.
+    pub fn leave(&mut self, count: usize)
+        requires { count ≤ length self.old.items }
+        ensures { self.new ≡ buffer (drop count self.old.items) self.old.capacity }
+    {
+        let gone = wanted_before(&self.ring, count);
+        let kept = self.ring.len() - count;
+        self.ring.truncate_front(kept);
+        self.count -= gone;
+        self.low = first_from(&self.ring, self.low.saturating_sub(count), self.count);
+    }
+}
+
+/// One or none.
+fn one(is: bool) -> usize
+    ensures value { result ≡ (if is then 1 else 0) }
+    ensures few { result ≤ 1 }
+{
+    if is { 1 } else { 0 }
+}
+
+/// The place of the first PDU that is requested, where there are so many and one more is.
+fn lowered(low: usize, count: usize, i: usize) -> usize
+    ensures { result ≡ lowered low count i }
+{
+    if count == 0 || i < low { i } else { low }
+}
+
+/// The place of the first PDU that is requested, where so many are and none before a place.
+fn first_from(ring: &HeapCircularBuffer<SentPdu>, low: usize, count: usize) -> usize
+    requires low { IsFrom ring.now.items low }
+    requires count { count ≡ wanted_in ring.now.items }
+    ensures { IsCounted ring.now.items result count }
+{
+    if count == 0 {
+        return 0;
+    }
+    for i in low..ring.len() {
+        if at_place(ring, i).requested {
+            return i;
+        }
+    }
+    0
+}
+
+/// How many PDUs before a place are requested.
+fn wanted_before(ring: &HeapCircularBuffer<SentPdu>, to: usize) -> usize
+    requires { to ≤ length ring.now.items }
+    ensures { result + wanted_in (drop to ring.now.items) ≡ wanted_in ring.now.items }
+{
+    let mut count = 0;
+    for i in 0..to {
+        if at_place(ring, i).requested {
+            count += 1;
+        }
+    }
+    count
+}
+
+/// The PDUs before a place are acknowledged, but for those that are named. Answers how many of them aren't requested any more.
+fn acknowledge_below(ring: &mut HeapCircularBuffer<SentPdu>, to: usize) -> usize
+    requires { to ≤ length ring.old.items }
+    ensures gone { result + wanted_in ring.new.items ≡ wanted_in ring.old.items }
+    ensures after { ring.new ≡ buffer (changed_below acknowledged to ring.old.items) ring.old.capacity }
+{
+    let mut gone = 0;
+    for i in 0..to {
+        gone += one(acknowledge_at(ring, i));
+    }
+    gone
+}
+
+/// The PDUs before a place aren't requested. Answers how many of them were.
+fn unwant_below(ring: &mut HeapCircularBuffer<SentPdu>, to: usize) -> usize
+    requires { to ≤ length ring.old.items }
+    ensures gone { result + wanted_in ring.new.items ≡ wanted_in ring.old.items }
+    ensures after { ring.new ≡ buffer (changed_below unwanted to ring.old.items) ring.old.capacity }
+{
+    let mut gone = 0;
+    for i in 0..to {
+        gone += one(unwant_at(ring, i));
+    }
+    gone
+}

@@ -1,0 +1,13 @@
+//! The retransmission buffer of a sender of the acknowledged mode: the PDUs in flight, and what statuses report of them (TS 25.322 9.4, 11.5.3, 11.6.4).
+#![tactic(auto)]
+
+mod buffer;
+mod flight;
+mod hear;
+mod item;
+mod items;
+mod places;
+mod sent_pdu;
+
+pub use buffer::{Pick, RetxBuffer, Running};
+pub use sent_pdu::SentPdu;

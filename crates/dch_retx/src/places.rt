@@ -1,0 +1,85 @@
+ghost use Rattle.std.specs.Prelude.{◌≡◌, ◌<◌, ◌&&◌, not, length, slice_set};
+ghost use Rattle.circular_buffer.specs.Buffer.{buffer};
+ghost use Rattle.dch_retx.specs.Flights.{at, named_from, unnamed, acknowledged, unwanted, built};
+
+use crate::sent_pdu::SentPdu;
+use circular_buffer::HeapCircularBuffer;
+
+/// The PDU at a place.
+pub fn at_place(ring: &HeapCircularBuffer<SentPdu>, i: usize) -> SentPdu
+    requires { i < length ring.now.items }
+    ensures { result ≡ at ring.now.items i }
+{
+    *ring.get(i).unwrap()
+}
+
+/// It is named missing, and requested unless it is acknowledged or stands before a place. Answers whether it is requested since.
+pub fn name_at(ring: &mut HeapCircularBuffer<SentPdu>, i: usize, from: usize) -> bool
+    requires { i < length ring.old.items }
+    ensures newly { result ≡ (not (at ring.old.items i).requested && (named_from from i (at ring.old.items i)).requested) }
+    ensures after { ring.new ≡ buffer (slice_set ring.old.items i (named_from from i (at ring.old.items i))) ring.old.capacity }
+{
+    let Some(flown) = ring.get_mut(i) else {
+        return false;
+    };
+    let was = flown.requested;
+    flown.named = true;
+    flown.requested = flown.requested || (!flown.acked && from <= i);
+    !was && flown.requested
+}
+
+/// It isn't named any more.
+pub fn unname_at(ring: &mut HeapCircularBuffer<SentPdu>, i: usize)
+    requires { i < length ring.old.items }
+    ensures { ring.new ≡ buffer (slice_set ring.old.items i (unnamed (at ring.old.items i))) ring.old.capacity }
+{
+    if let Some(flown) = ring.get_mut(i) {
+        flown.named = false;
+    }
+}
+
+/// It is acknowledged, unless it is named missing. Answers whether it was requested and isn't any more.
+pub fn acknowledge_at(ring: &mut HeapCircularBuffer<SentPdu>, i: usize) -> bool
+    requires { i < length ring.old.items }
+    ensures gone { result ≡ ((at ring.old.items i).requested && not (acknowledged (at ring.old.items i)).requested) }
+    ensures after { ring.new ≡ buffer (slice_set ring.old.items i (acknowledged (at ring.old.items i))) ring.old.capacity }
+{
+    let Some(flown) = ring.get_mut(i) else {
+        return false;
+    };
+    let was = flown.requested;
+    if !flown.named {
+        flown.acked = true;
+        flown.requested = false;
+    }
+    was && !flown.requested
+}
+
+/// It isn't requested. Answers whether it was.
+pub fn unwant_at(ring: &mut HeapCircularBuffer<SentPdu>, i: usize) -> bool
+    requires { i < length ring.old.items }
+    ensures gone { result ≡ (at ring.old.items i).requested }
+    ensures after { ring.new ≡ buffer (slice_set ring.old.items i (unwanted (at ring.old.items i))) ring.old.capacity }
+{
+    let Some(flown) = ring.get_mut(i) else {
+        return false;
+    };
+    let was = flown.requested;
+    flown.requested = false;
+    was
+}
+
+/// It is built once more. More than 255 times are not counted. Answers whether it was requested.
+pub fn build_at(ring: &mut HeapCircularBuffer<SentPdu>, i: usize) -> bool
+    requires { i < length ring.old.items }
+    ensures gone { result ≡ (at ring.old.items i).requested }
+    ensures after { ring.new ≡ buffer (slice_set ring.old.items i (built (at ring.old.items i))) ring.old.capacity }
+{
+    let Some(flown) = ring.get_mut(i) else {
+        return false;
+    };
+    let was = flown.requested;
+    flown.requested = false;
+    flown.builds = flown.builds.saturating_add(1);
+    was
+}

@@ -1,0 +1,218 @@
+-- Placing unit after unit carries the most octets.
+use Rattle.std.proofs.Common.{◌≡◌, ◌+◌, ◌-◌, ◌<◌, ◌≤◌, ℕ, zero, suc, set, slice_get, Some, length-set, List, [], ◌∷◌, ◌++◌, Bool, true, false, cond, length, take, drop, arith, refl, sym, ap, ap₂, ◌∙◌, subst, ⊎_elim, append_assoc}
+use Rattle.std.specs.Prelude.{◌&&◌, ◌==◌, not, nat_lt, if◌then◌else◌}
+use Rattle.std.proofs.lemmas.Bool.{eqb-true, ltb-true, ltb-false, lt-ltb, le-ltb, cases_lt, cond_both, cond-true}
+use Rattle.std.proofs.lemmas.Bool.Decides.{nat_tests}
+use Rattle.std.proofs.lemmas.List.{append-nil, drop_all, drop-drop, drop-set-lt, length-take-le, take-append-drop, take_more_set}
+use Rattle.dch_sar.specs.Filling.{total, ends_before, is_end, cost, IsCarried, is_owed, marks_of, AreSome, IsFill}
+
+-- what placing gives: where the octets that are carried end, the marks, and whether a mark is owed
+pub record Placed : Type 0 where
+  pub octets : ℕ
+  pub marks : List ℕ
+  pub owed : Bool
+
+abbrev pub with_marks : List ℕ → Placed → Placed
+with_marks ms f = record { octets = f.octets; marks = ms ++ f.marks; owed = f.owed }
+
+-- unit after unit into the octets that are free
+abbrev pub place : ℕ → ℕ → List ℕ → Placed
+place free at [] = record { octets = at; marks = []; owed = false }
+place free at (n ∷ ns) =
+    if nat_lt n free
+    then with_marks ((at + n) ∷ []) (place (free - n - 1) (at + n) ns)
+    else (if n == free
+    then record { octets = at + n; marks = []; owed = true }
+    else record { octets = at + free; marks = []; owed = false })
+
+pub record IsPlaced (room at : ℕ) (ns : List ℕ) (f : Placed) : Type 0 where
+  pub octets : IsCarried room at ns f.octets
+  pub marks : f.marks ≡ marks_of room at ns f.octets
+  pub owed : f.owed ≡ is_owed room at ns f.octets
+
+-- no end stands before the row
+pub ends_none : (at : ℕ) (ns : List ℕ) (o : ℕ) → o ≤ at → ends_before at ns o ≡ []
+ends_none at [] o le = refl
+ends_none at (n ∷ ns) o le = let past : nat_lt (at + n) o ≡ false = le-ltb _ _ (omega arith) in rw past refl
+
+pub end_none : (at : ℕ) (ns : List ℕ) (o : ℕ) → AreSome ns → o ≤ at → is_end at ns o ≡ false
+end_none at [] o some le = refl
+end_none at (n ∷ ns) o some le =
+    let more : 0 < n = some.0 in
+    let here : (at + n == o) ≡ false = grind (arith, nat_tests) in
+    rw (here, end_none (at + n) ns o some.1 (omega arith)) refl
+
+-- past the end of the first unit
+ends_past : (at n : ℕ) (ns : List ℕ) (o : ℕ) → at + n < o → ends_before at (n ∷ ns) o ≡ (at + n) ∷ ends_before (at + n) ns o
+ends_past at n ns o past = rw (lt-ltb (at + n) o past) refl
+
+ends_first : (at n : ℕ) (ns : List ℕ) (o : ℕ) → o ≤ at + n → ends_before at (n ∷ ns) o ≡ []
+ends_first at n ns o le = rw (le-ltb (at + n) o le) refl
+
+end_past : (at n : ℕ) (ns : List ℕ) (o : ℕ) → at + n < o → is_end at (n ∷ ns) o ≡ is_end (at + n) ns o
+end_past at n ns o past = let other : (at + n == o) ≡ false = grind (arith, nat_tests) in rw other refl
+
+end_here : (at n : ℕ) (ns : List ℕ) → is_end at (n ∷ ns) (at + n) ≡ true
+end_here at n ns = let here : (at + n == at + n) ≡ true = grind (arith, nat_tests) in rw here refl
+
+cost_past : (at n : ℕ) (ns : List ℕ) (o : ℕ) → at + n < o → cost at (n ∷ ns) o ≡ n + 1 + cost (at + n) ns o
+cost_past at n ns o past = let e : length (ends_before at (n ∷ ns) o) ≡ suc (length (ends_before (at + n) ns o)) = ap length (ends_past at n ns o past) in omega (arith, e)
+
+cost_first : (at n : ℕ) (ns : List ℕ) (o : ℕ) → o ≤ at + n → cost at (n ∷ ns) o ≡ o - at
+cost_first at n ns o le = let e : length (ends_before at (n ∷ ns) o) ≡ 0 = ap length (ends_first at n ns o le) in omega (arith, e)
+
+-- within the first unit
+first_carried : (room at n : ℕ) (ns : List ℕ) (o : ℕ) → at ≤ o → o ≤ at + n → o - at ≤ room → ((p : ℕ) → at ≤ p → cost at (n ∷ ns) p ≤ room → p ≤ o) → IsCarried room at (n ∷ ns) o
+first_carried room at n ns o from le fits most = record {
+  from = from;
+  within = omega arith;
+  fits = rw (cost_first at n ns o le) fits;
+  most = λ p low high costs. most p low costs;
+}
+
+-- the marks and the debt, by what is known of the place
+marks_are : (room at : ℕ) (ns : List ℕ) (o : ℕ) (es : List ℕ) (a b : Bool) → ends_before at ns o ≡ es → is_end at ns o ≡ a → nat_lt (cost at ns o) room ≡ b → es ++ cond (a && b) (o ∷ []) [] ≡ marks_of room at ns o
+marks_are room at ns o es a b ends end fits = sym (ap₂ (λ xs c. xs ++ cond c (o ∷ []) []) ends (ap₂ (λ x y. x && y) end fits))
+
+owed_is : (room at : ℕ) (ns : List ℕ) (o : ℕ) (a b : Bool) → is_end at ns o ≡ a → nat_lt (cost at ns o) room ≡ b → (a && not b) ≡ is_owed room at ns o
+owed_is room at ns o a b end fits = sym (ap₂ (λ x y. x && not y) end fits)
+
+full_placed : (at n : ℕ) (ns : List ℕ) → IsPlaced n at (n ∷ ns) (record { octets = at + n; marks = []; owed = true })
+full_placed at n ns =
+    let costs : cost at (n ∷ ns) (at + n) ≡ n = cost_first at n ns (at + n) (omega arith) ∙ omega arith in
+    let no_room : nat_lt (cost at (n ∷ ns) (at + n)) n ≡ false = ap (λ k. nat_lt k n) costs ∙ le-ltb n n (omega arith) in
+    let none : ends_before at (n ∷ ns) (at + n) ≡ [] = ends_first at n ns (at + n) (omega arith) in
+    record {
+      octets = first_carried n at n ns (at + n) (omega arith) (omega arith) (omega arith) (λ p low costs. omega arith);
+      marks = marks_are n at (n ∷ ns) (at + n) [] true false none (end_here at n ns) no_room;
+      owed = owed_is n at (n ∷ ns) (at + n) true false (end_here at n ns) no_room;
+    }
+
+part_placed : (room at n : ℕ) (ns : List ℕ) → AreSome ns → room < n → IsPlaced room at (n ∷ ns) (record { octets = at + room; marks = []; owed = false })
+part_placed room at n ns some less =
+    let none : ends_before at (n ∷ ns) (at + room) ≡ [] = ends_first at n ns (at + room) (omega arith) in
+    let other : (at + n == at + room) ≡ false = grind (arith, nat_tests) in
+    let no_end : is_end at (n ∷ ns) (at + room) ≡ false = rw (other, end_none (at + n) ns (at + room) some (omega arith)) refl in
+    record {
+      octets = first_carried room at n ns (at + room) (omega arith) (omega arith) (omega arith) (λ p low costs. omega arith);
+      marks = marks_are room at (n ∷ ns) (at + room) [] false (nat_lt (cost at (n ∷ ns) (at + room)) room) none no_end refl;
+      owed = owed_is room at (n ∷ ns) (at + room) false (nat_lt (cost at (n ∷ ns) (at + room)) room) no_end refl;
+    }
+
+most_after : (room at n : ℕ) (ns : List ℕ) (o : ℕ) → n < room → IsCarried (room - n - 1) (at + n) ns o → (p : ℕ) → at ≤ p → p ≤ at + total (n ∷ ns) → cost at (n ∷ ns) p ≤ room → p ≤ o
+most_after room at n ns o less rest p low high costs =
+    ⊎_elim
+    (λ (past : at + n < p). rest.most p (omega arith) (omega arith) (omega (arith, cost_past at n ns p past)))
+    (λ (first : p ≤ at + n). omega (arith, rest.from))
+    (cases_lt (at + n) p)
+
+same_room : (c n room : ℕ) → n < room → nat_lt (n + 1 + c) room ≡ nat_lt c (room - n - 1)
+same_room c n room less = grind (arith, nat_tests)
+
+next_placed : (room at n : ℕ) (ns : List ℕ) (f : Placed) → AreSome ns → n < room → IsPlaced (room - n - 1) (at + n) ns f → IsPlaced room at (n ∷ ns) (with_marks ((at + n) ∷ []) f)
+next_placed room at n ns f some less rest =
+    ⊎_elim past here (cases_lt (at + n) f.octets)
+  where
+    past : at + n < f.octets → IsPlaced room at (n ∷ ns) (with_marks ((at + n) ∷ []) f)
+    past further =
+        let costs : cost at (n ∷ ns) f.octets ≡ n + 1 + cost (at + n) ns f.octets = cost_past at n ns f.octets further in
+        let same : nat_lt (cost at (n ∷ ns) f.octets) room ≡ nat_lt (cost (at + n) ns f.octets) (room - n - 1) = ap (λ k. nat_lt k room) costs ∙ same_room (cost (at + n) ns f.octets) n room less in
+        record {
+          octets = record { from = omega arith; within = omega (arith, rest.octets.within); fits = omega (arith, rest.octets.fits); most = most_after room at n ns f.octets less rest.octets };
+          marks = ap (λ ms. (at + n) ∷ ms) rest.marks ∙ marks_are room at (n ∷ ns) f.octets _ _ _ (ends_past at n ns f.octets further) (end_past at n ns f.octets further) same;
+          owed = rest.owed ∙ owed_is room at (n ∷ ns) f.octets _ _ (end_past at n ns f.octets further) same;
+        }
+
+    here : f.octets ≤ at + n → IsPlaced room at (n ∷ ns) (with_marks ((at + n) ∷ []) f)
+    here no_further =
+        let is : f.octets ≡ at + n = omega (arith, rest.octets.from) in
+        let no_marks : f.marks ≡ [] = rest.marks ∙ (ap (marks_of (room - n - 1) (at + n) ns) is ∙ sym (marks_are (room - n - 1) (at + n) ns (at + n) [] false (nat_lt (cost (at + n) ns (at + n)) (room - n - 1)) (ends_none (at + n) ns (at + n) (omega arith)) (end_none (at + n) ns (at + n) some (omega arith)) refl)) in
+        let no_debt : f.owed ≡ false = rest.owed ∙ (ap (is_owed (room - n - 1) (at + n) ns) is ∙ sym (owed_is (room - n - 1) (at + n) ns (at + n) false (nat_lt (cost (at + n) ns (at + n)) (room - n - 1)) (end_none (at + n) ns (at + n) some (omega arith)) refl)) in
+        let costs : cost at (n ∷ ns) (at + n) ≡ n = cost_first at n ns (at + n) (omega arith) ∙ omega arith in
+        let fits : nat_lt (cost at (n ∷ ns) (at + n)) room ≡ true = ap (λ k. nat_lt k room) costs ∙ lt-ltb n room less in
+        let carried : IsCarried room at (n ∷ ns) f.octets = record { from = omega arith; within = omega (arith, rest.octets.within); fits = omega (arith, ap (cost at (n ∷ ns)) is ∙ costs); most = most_after room at n ns f.octets less rest.octets } in
+        record {
+          octets = carried;
+          marks = ap (λ ms. (at + n) ∷ ms) no_marks ∙ (marks_are room at (n ∷ ns) (at + n) [] true true (ends_first at n ns (at + n) (omega arith)) (end_here at n ns) fits ∙ ap (marks_of room at (n ∷ ns)) (sym is));
+          owed = no_debt ∙ (owed_is room at (n ∷ ns) (at + n) true true (end_here at n ns) fits ∙ ap (is_owed room at (n ∷ ns)) (sym is));
+        }
+
+pub place_is : (room at : ℕ) (ns : List ℕ) → AreSome ns → IsPlaced room at ns (place room at ns)
+place_is room at [] some = record {
+  octets = record { from = omega arith; within = omega arith; fits = omega arith; most = λ p low high costs. omega arith };
+  marks = refl;
+  owed = refl;
+}
+place_is room at (n ∷ ns) some =
+    cond_both (nat_lt n room) _ _ (IsPlaced room at (n ∷ ns))
+    (λ less. next_placed room at n ns (place (room - n - 1) (at + n) ns) some.1 (ltb-true _ _ less) (place_is (room - n - 1) (at + n) ns some.1))
+    (λ more. cond_both (n == room) _ _ (IsPlaced room at (n ∷ ns))
+    (λ same. subst (λ r. IsPlaced r at (n ∷ ns) (record { octets = at + n; marks = []; owed = true })) (eqb-true _ _ same) (full_placed at n ns))
+    (λ other. part_placed room at n ns some.1 (below (ltb-false _ _ more) other)))
+  where
+    below : room ≤ n → (n == room) ≡ false → room < n
+    below le other = grind (arith, nat_tests)
+
+-- where the walk over the units stands: so many octets are placed, with a mark for each unit so far
+pub record Stands (room : ℕ) (ns : List ℕ) (octets i : ℕ) (marks old : List ℕ) : Type 0 where
+  pub placed : place room 0 ns ≡ with_marks (take i marks) (place (room - octets - i) octets (drop i ns))
+  pub spent : octets + i ≤ room
+  pub rest : drop i marks ≡ drop i old
+  pub size : length marks ≡ length old
+
+-- what a PDU takes
+pub fill_of : (room : ℕ) (ns : List ℕ) (octets : ℕ) (done marks old : List ℕ) (i : ℕ) (owed : Bool) → AreSome ns → place room 0 ns ≡ record { octets = octets; marks = done; owed = owed } → marks ≡ done ++ drop i old → i ≡ length done → IsFill room ns old marks octets i owed
+fill_of room ns octets done marks old i owed some is text count =
+    let placed : IsPlaced room 0 ns (record { octets = octets; marks = done; owed = owed }) = subst (IsPlaced room 0 ns) is (place_is room 0 ns some) in
+    record { octets = placed.octets; marks = text ∙ ap (λ ms. ms ++ drop i old) placed.marks; count = count ∙ ap length placed.marks; owed = placed.owed }
+
+place_whole : (free at n : ℕ) (ns : List ℕ) → n < free → place free at (n ∷ ns) ≡ with_marks ((at + n) ∷ []) (place (free - n - 1) (at + n) ns)
+place_whole free at n ns less = cond-true (nat_lt n free) _ _ (lt-ltb n free less)
+
+last_unit : (free at n : ℕ) (ns : List ℕ) → free ≤ n → place free at (n ∷ ns) ≡ record { octets = at + free; marks = []; owed = n == free }
+last_unit free at n ns full = rw (le-ltb n free full) (either (n == free) refl)
+  where
+    either : (b : Bool) → (n == free) ≡ b → cond {A = Placed} b (record { octets = at + n; marks = []; owed = true }) (record { octets = at + free; marks = []; owed = false }) ≡ record { octets = at + free; marks = []; owed = b }
+    either true same = ap (λ k. record { octets = at + k; marks = []; owed = true }) (eqb-true n free same)
+    either false other = refl
+
+first_left : (ns : List ℕ) (i n : ℕ) → slice_get ns i ≡ Some n → drop i ns ≡ n ∷ drop (i + 1) ns
+first_left [] i n is = absurd (cc)
+first_left (m ∷ ns) zero n is = let e : m ≡ n = cc in ap (λ k. k ∷ ns) e
+first_left (m ∷ ns) (suc i) n is = let e : suc i + 1 ≡ suc (i + 1) = omega arith in rw e (first_left ns i n is)
+
+whole : (marks old : List ℕ) (i : ℕ) → drop i marks ≡ drop i old → marks ≡ (take i marks ++ []) ++ drop i old
+whole marks old i rest = sym (ap₂ (λ a b. a ++ b) (append-nil (take i marks)) (sym rest) ∙ take-append-drop i marks)
+
+pub ends_within : (room : ℕ) (ns : List ℕ) (octets i n : ℕ) (marks old : List ℕ) → AreSome ns → room ≤ length old → Stands room ns octets i marks old → slice_get ns i ≡ Some n → room - octets - i ≤ n → IsFill room ns old marks (octets + (room - octets - i)) i (n == (room - octets - i))
+ends_within room ns octets i n marks old some fits stands is full =
+    fill_of room ns (octets + (room - octets - i)) (take i marks ++ []) marks old i (n == (room - octets - i)) some
+    (stands.placed ∙ ap (with_marks (take i marks)) (ap (place (room - octets - i) octets) (first_left ns i n is) ∙ last_unit (room - octets - i) octets n (drop (i + 1) ns) full))
+    (whole marks old i stands.rest)
+    (sym (ap length (append-nil (take i marks)) ∙ length-take-le i marks (omega (arith, stands.spent, stands.size))))
+
+pub ends_all : (room : ℕ) (ns : List ℕ) (octets i k : ℕ) (marks old : List ℕ) → AreSome ns → room ≤ length old → Stands room ns octets i marks old → length ns ≤ i → k ≡ i → IsFill room ns old marks octets k false
+ends_all room ns octets i k marks old some fits stands past is =
+    rw is
+    (fill_of room ns octets (take i marks ++ []) marks old i false some
+    (stands.placed ∙ ap (λ rest. with_marks (take i marks) (place (room - octets - i) octets rest)) (drop_all i ns past))
+    (whole marks old i stands.rest)
+    (sym (ap length (append-nil (take i marks)) ∙ length-take-le i marks (omega (arith, stands.spent, stands.size)))))
+
+-- one unit more is placed whole
+pub one_more : (room : ℕ) (ns : List ℕ) (octets i n : ℕ) (marks old : List ℕ) → room ≤ length old → Stands room ns octets i marks old → slice_get ns i ≡ Some n → n < room - octets - i → Stands room ns (octets + n) (i + 1) (set marks i (octets + n)) old
+one_more room ns octets i n marks old fits stands is less =
+    let inside : i < length marks = omega (arith, stands.size) in
+    let left : room - (octets + n) - (i + 1) ≡ room - octets - i - n - 1 = omega arith in
+    record {
+      placed =
+          stands.placed
+          ∙ (ap (with_marks (take i marks)) (ap (place (room - octets - i) octets) (first_left ns i n is) ∙ place_whole (room - octets - i) octets n (drop (i + 1) ns) less)
+          ∙ rw (take_more_set marks i (octets + n) inside, left) (more_marks (take i marks) (octets + n) (place (room - octets - i - n - 1) (octets + n) (drop (i + 1) ns))));
+      spent = omega arith;
+      rest = drop-set-lt (i + 1) marks i (octets + n) (omega arith) ∙ (sym (drop-drop 1 i marks) ∙ (ap (drop 1) stands.rest ∙ drop-drop 1 i old));
+      size = length-set marks i (octets + n) ∙ stands.size;
+    }
+  where
+    more_marks : (ms : List ℕ) (m : ℕ) (f : Placed) → with_marks ms (with_marks (m ∷ []) f) ≡ with_marks (ms ++ m ∷ []) f
+    more_marks ms m f = ap (λ xs. record { octets = f.octets; marks = xs; owed = f.owed }) (sym (append_assoc ms (m ∷ []) f.marks))

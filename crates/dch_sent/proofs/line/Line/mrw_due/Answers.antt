@@ -1,6 +1,0 @@
-use Rattle.std.proofs.Common.{◌∙◌}
-use Rattle.dch_sent.proofs.Ticking.{due_is}
-use Rattle.dch_sent.proofs.line.Line.mrw_due.Goals as goal
-
-pub returns-clause-history : goal.returns-clause-history
-returns-clause-history c = λ rules s is. c.is_due.ensures.due ∙ due_is rules c.args.self.now s is

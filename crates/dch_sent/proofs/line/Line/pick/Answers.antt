@@ -1,8 +1,0 @@
-use Rattle.std.proofs.Common.{◌∙◌, ap}
-use Rattle.dch_am.specs.Sender.{vt_a}
-use Rattle.dch_sent.specs.Standing.{chosen}
-use Rattle.dch_sent.proofs.Picking.{picked_is}
-use Rattle.dch_sent.proofs.line.Line.pick.Goals as goal
-
-pub returns-clause-history : goal.returns-clause-history
-returns-clause-history c = λ rules s is e. ap (chosen (vt_a s)) c.picks.ensures.place ∙ picked_is rules c.args.self.now s c.args.left is e

@@ -1,4 +1,0 @@
-pub mod Said
-pub mod Line
-pub mod Standing
-pub mod Polling
