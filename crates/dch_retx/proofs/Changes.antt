@@ -1,13 +1,13 @@
 -- PDUs in flight, place by place.
 use Rattle.std.proofs.Common.{◌≡◌, ◌≢◌, ◌+◌, ◌-◌, ◌<◌, ◌≤◌, ℕ, zero, suc, List, [], ◌∷◌, ◌++◌, Bool, true, false, cond, not, ◌&&◌, ◌||◌, length, set, drop, arith, refl, sym, ap, ◌∙◌, subst, ⊎_elim, get_or-set_other, get_or-set_same, length-append}
-use Rattle.std.specs.Prelude.{nat_lt, ◌==◌}
+use Rattle.std.specs.Prelude.{nat_lt, nat_le, ◌==◌}
 use Rattle.std.proofs.Math.ListN.{length-set}
-use Rattle.std.proofs.lemmas.Bool.{and_parts, both_ways, cases_eq, cases_lt, eqb-true, false_from_ne_true, ltb-false, ltb-true, not-true, or_cases, or_parts}
+use Rattle.std.proofs.lemmas.Bool.{and_parts, both_ways, cases_eq, cases_lt, eqb-true, false_from_ne_true, ltb-false, ltb-true, not-true, or_cases, or_left, or_parts}
 use Rattle.std.proofs.lemmas.Bool.Decides.{nat_tests}
 use Rattle.std.proofs.lemmas.List.{drop_more, get_or-drop, get_or_append_left}
 use Rattle.circular_buffer.specs.Buffer.{Buffer, buffer}
 use Rattle.dch_retx.specs.declared.sent_pdu.SentPdu.{SentPdu}
-use Rattle.dch_retx.specs.Flights.{at, blank, acknowledged, unwanted, changed_below, first_wanted, front_acked, lowered, wanted_in, IsCounted, IsFirstWanted, IsFlight, IsFrom}
+use Rattle.dch_retx.specs.Flights.{at, blank, acknowledged, named_from, unwanted, changed_below, first_wanted, front_acked, lowered, wanted_in, IsCounted, IsFirstWanted, IsFlight, IsFrom}
 
 -- one place more is changed
 pub changed_next : (change : SentPdu → SentPdu) (i : ℕ) (flown : List SentPdu) → i < length flown → set (changed_below change i flown) i (change (at (changed_below change i flown) i)) ≡ changed_below change (i + 1) flown
@@ -36,9 +36,16 @@ wanted_before change less (suc to) (f ∷ flown) (suc i) e = wanted_before chang
 pub acknowledged_less : (f : SentPdu) → (acknowledged f).requested ≡ true → f.requested ≡ true
 acknowledged_less f e = either f.named e
   where
-    either : (b : Bool) → (cond b f (record f { acked = true; requested = false })).requested ≡ true → f.requested ≡ true
+    either : (b : Bool) → (cond b (record f { named = false }) (record f { acked = true; requested = false })).requested ≡ true → f.requested ≡ true
     either true e = e
     either false e = absurd (cc)
+
+pub named_more : (from to i : ℕ) (f : SentPdu) → f.requested ≡ true → (named_from from to i f).requested ≡ true
+named_more from to i f e = either f.acked
+  where
+    either : (b : Bool) → (cond b f (record f { named = f.named || nat_lt i to; requested = f.requested || nat_le from i })).requested ≡ true
+    either true = e
+    either false = or_left _ _ e
 
 unwanted_less : (f : SentPdu) → (unwanted f).requested ≡ true → f.requested ≡ true
 unwanted_less f e = absurd (cc)

@@ -63,8 +63,8 @@ freed_heard rules l s m is le = record {
     told_is : (i : ℕ) → i < length l.flown → IsTold (settled s) [] (vt_a s + m) (vt_a s + i) (at (acked_below m l.flown) i)
     told_is i inside =
         let f : IsFlown s (vt_a s + i) (at l.flown i) = is.flown i inside in
-        let one : IsOne (at l.flown i) 0 i (has (vt_a s + i) s.acked) (has (vt_a s + i) s.requested) false (nat_lt i (min m (length l.flown))) (nat_lt (vt_a s + i) 0) =
-        one_is (at l.flown i) 0 i _ _ false (nat_lt i (min m (length l.flown))) (nat_lt (vt_a s + i) 0) f.acked f.requested f.named (le-leb 0 i (omega arith) ∙ ap not (sym (le-ltb (vt_a s + i) 0 (omega arith))))
+        let one : IsOne (at l.flown i) (nat_le 0 i) (has (vt_a s + i) s.acked) (has (vt_a s + i) s.requested) false (nat_lt i (min m (length l.flown))) (nat_lt (vt_a s + i) 0) =
+        one_is (at l.flown i) (nat_le 0 i) _ _ false (nat_lt i (min m (length l.flown))) (nat_lt (vt_a s + i) 0) f.acked f.requested f.named (le-leb 0 i (omega arith) ∙ ap not (sym (le-ltb (vt_a s + i) 0 (omega arith))))
         (λ w. ((is.requested (vt_a s + i) w).is_open, le-ltb (vt_a s + i) 0 (omega arith))) in
         let place : at (acked_below m l.flown) i ≡ cond (nat_lt i (min m (length l.flown))) (acknowledged (at l.flown i)) (at l.flown i) = at-changed_below acknowledged (min m (length l.flown)) l.flown i inside in
         let e : nat_lt i (min m (length l.flown)) ≡ nat_lt (vt_a s + i) (vt_a s + m) = under (vt_a s) i (length l.flown) inside in
@@ -83,7 +83,7 @@ front_freed : (k : ℕ) (flown : List SentPdu) → k ≤ length flown → ((i : 
 front_freed zero flown le none = omega arith
 front_freed (suc k) [] le none = absurd (omega arith)
 front_freed (suc k) (f ∷ flown) le none =
-    ap (λ b. cond (cond b f (record f { acked = true; requested = false })).acked (suc (front_acked (changed_below acknowledged k flown))) 0) (none 0 (omega arith))
+    ap (λ b. cond (cond b (record f { named = false }) (record f { acked = true; requested = false })).acked (suc (front_acked (changed_below acknowledged k flown))) 0) (none 0 (omega arith))
     ∙ (ap suc (front_freed k flown (omega arith) (λ i less. none (suc i) (omega arith))) ∙ omega arith)
 
 pub base_freed : (rules : Rules) (l : RetxBuffer) (s : Sender) (m : ℕ) → Stands rules l s → base_after (Some m) l ≡ front_acked (acked_below m l.flown)

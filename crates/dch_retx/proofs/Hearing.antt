@@ -12,8 +12,8 @@ use Rattle.dch_am.specs.Acknowledging.{after_ack, after_acks, after_answer, afte
 use Rattle.dch_retx.specs.declared.item.StatusItem.{StatusItem}
 use Rattle.dch_retx.specs.declared.item.StatusItem.TheVariants.{Missing, Unset, Set, Below, Moved}
 use Rattle.dch_retx.specs.StatusItems.{bits_from, missing_of, said_by}
-use Rattle.dch_retx.specs.StatusItem.{first_outside, number_in, offends, place_of, tells_some}
-use Rattle.dch_retx.specs.RetxBuffer.{RetxBuffer, after_hearing, after_moves, after_told, answer_of, answered, base_after, ending, first_number, listened, outside_from}
+use Rattle.dch_retx.specs.StatusItem.{below_said, first_outside, number_in, offends, place_of, tells_some}
+use Rattle.dch_retx.specs.RetxBuffer.{RetxBuffer, after_hearing, after_moves, after_told, answer_of, answered, base_after, below_from, ending, first_number, listened, outside_from}
 use Rattle.dch_retx.specs.RetxBuffer.{after_answer as line_after}
 use Rattle.dch_retx.specs.Standing.{Stands}
 use Rattle.dch_retx.proofs.Saying.{IsBase, base_is, listened_stands, place_is, said_lsn, said_names}
@@ -209,20 +209,33 @@ hears rules l s fields is = record {
     answer : answer_of said l ≡ status_answer rules s fields
     answer = ap answered (place ∙ found) ∙ answered_is (offending rules.window (vt_a (after_acks s fields)) (vt_s (after_acks s fields)) fields)
 
-    told_is : first_outside now.window (first_number now) (length now.flown) said ≡ None → Stands rules (after_told said now) (after_telling_of after fields)
-    told_is none = subst (λ c. Stands rules (after_told said now) (cond c (told after (all_names (vt_a after) (vt_s after) fields) (lsn_of (vt_a after) fields)) after)) (sym (tells_is fields))
-        (either (tells_some said)
-        (subst (λ ns. Stands rules (listened said now) (told after ns (lsn_of (vt_a after) fields))) (sym (names_are (vt_a after) (vt_s after) fields))
-        (subst (λ k. Stands rules (listened said now) (told after (said_names (vt_a after) (vt_s after) said) k)) (sym (lsn_is (vt_a after) fields))
-        (listened_stands rules now after said m.stands none))))
+    below : ℕ
+    below = below_from (base_after (ending said l l.running) l) said l
+
+    -- the LSN stands at the same place among those that are left
+    below_is : below ≡ below_said (first_number now) said
+    below_is = ap (λ n. below_said n said) (same (length l.flown - base_after (ending said l l.running) l) (length now.flown) l.next now.next (sym m.left) (sym m.next))
       where
-        either : (c : Bool) → Stands rules (listened said now) (told after (all_names (vt_a after) (vt_s after) fields) (lsn_of (vt_a after) fields)) → Stands rules (cond c (listened said now) now) (cond c (told after (all_names (vt_a after) (vt_s after) fields) (lsn_of (vt_a after) fields)) after)
+        same : (a c x y : ℕ) → a ≡ c → x ≡ y → wrapped (x + 4096 - a) ≡ wrapped (y + 4096 - (c - 0))
+        same a c x y e1 e2 = let e : x + 4096 - a ≡ y + 4096 - (c - 0) = omega arith in ap wrapped e
+
+    listens : first_outside now.window (first_number now) (length now.flown) said ≡ None → Stands rules (listened below said now) (told after (said_names (vt_a after) (vt_s after) said) (said_lsn (vt_a after) said))
+    listens none = subst (λ k. Stands rules (listened k said now) (told after (said_names (vt_a after) (vt_s after) said) (said_lsn (vt_a after) said))) (sym below_is) (listened_stands rules now after said m.stands none)
+
+    told_is : first_outside now.window (first_number now) (length now.flown) said ≡ None → Stands rules (after_told below said now) (after_telling_of after fields)
+    told_is none = subst (λ c. Stands rules (after_told below said now) (cond c (told after (all_names (vt_a after) (vt_s after) fields) (lsn_of (vt_a after) fields)) after)) (sym (tells_is fields))
+        (either (tells_some said)
+        (subst (λ ns. Stands rules (listened below said now) (told after ns (lsn_of (vt_a after) fields))) (sym (names_are (vt_a after) (vt_s after) fields))
+        (subst (λ k. Stands rules (listened below said now) (told after (said_names (vt_a after) (vt_s after) said) k)) (sym (lsn_is (vt_a after) fields))
+        (listens none))))
+      where
+        either : (c : Bool) → Stands rules (listened below said now) (told after (all_names (vt_a after) (vt_s after) fields) (lsn_of (vt_a after) fields)) → Stands rules (cond c (listened below said now) now) (cond c (told after (all_names (vt_a after) (vt_s after) fields) (lsn_of (vt_a after) fields)) after)
         either true x = x
         either false x = m.stands
 
     go : (o : Option ℕ) → first_outside now.window (first_number now) (length now.flown) said ≡ o → Stands rules (after_hearing said l) (after_fields rules s fields)
     go None e = subst (λ t. Stands rules (line_after (answer_of said l) said l) (after_answer t s fields)) answer
         (subst (λ t. Stands rules (line_after t said l) (after_answer t s fields)) (sym (ap answered (place ∙ e)))
-        (subst (λ x. Stands rules (after_told said now) (after_telling_of x fields)) (sym acks) (told_is e)))
+        (subst (λ x. Stands rules (after_told below said now) (after_telling_of x fields)) (sym acks) (told_is e)))
     go (Some i) e = subst (λ t. Stands rules (line_after (answer_of said l) said l) (after_answer t s fields)) answer
         (subst (λ t. Stands rules (line_after t said l) (after_answer t s fields)) (sym (ap answered (place ∙ e))) is)

@@ -1,20 +1,20 @@
 -- What a status leaves of the PDUs in flight is sent as before.
-use Rattle.std.proofs.Common.{◌≡◌, ◌+◌, ◌-◌, ◌<◌, ◌≤◌, ℕ, List, Bool, true, false, length, drop, Option, Some, None, arith, refl, sym, ap, ◌∙◌, subst, length-drop, set, length-set}
-use Rattle.std.specs.Prelude.{nat_lt, min, ◌==◌}
+use Rattle.std.proofs.Common.{◌≡◌, ◌+◌, ◌-◌, ◌<◌, ◌≤◌, ℕ, List, Bool, true, false, ◌||◌, length, drop, Option, Some, None, arith, refl, sym, ap, ◌∙◌, subst, length-drop, set, length-set}
+use Rattle.std.specs.Prelude.{nat_lt, nat_le, min, ◌==◌}
 use Rattle.std.proofs.lemmas.Bool.{cond_both, eqb-true, eqb-false}
 use Rattle.std.proofs.lemmas.List.{get_or-drop, get_or-set_same, get_or-set_other}
 use Rattle.dch_am.specs.declared.answers.StatusTaken.{StatusTaken}
 use Rattle.dch_am.specs.declared.answers.StatusTaken.TheVariants.{Taken, Outside}
 use Rattle.dch_retx.specs.declared.sent_pdu.SentPdu.{SentPdu}
-use Rattle.dch_retx.specs.Flights.{at, acknowledged, blank, changed_below, front_acked, built, unwanted}
+use Rattle.dch_retx.specs.Flights.{at, acknowledged, blank, changed_below, front_acked, named_as, built, unwanted}
 use Rattle.dch_retx.proofs.Changes.{length-changed}
 use Rattle.dch_retx.specs.declared.item.StatusItem.{StatusItem}
-use Rattle.dch_retx.specs.StatusItem.{below_said, is_named, tells_some}
-use Rattle.dch_retx.specs.RetxBuffer.{RetxBuffer, acked_below, after_answer, after_ending, after_hearing, after_moves, after_told, answer_of, discarding, ending, first_number, floor_of, freed, listened, named_line, told_line}
+use Rattle.dch_retx.specs.StatusItem.{is_named, tells_some}
+use Rattle.dch_retx.specs.RetxBuffer.{RetxBuffer, acked_below, after_answer, after_ending, after_hearing, after_moves, after_told, answer_of, base_after, below_from, discarding, ending, first_number, floor_of, freed, listened, told_line}
 use Rattle.dch_retx.specs.Polling.{resent}
 use Rattle.dch_retx.specs.Standing.{AreKept, IsAlike}
 use Rattle.dch_retx.proofs.Fronts.{front_le}
-use Rattle.dch_retx.proofs.Lengths.{length-acked, length-with_names, length-without_names}
+use Rattle.dch_retx.proofs.Lengths.{length-acked, length-told}
 use Rattle.dch_retx.proofs.Naming.{at-changed_below, at-told, heard_one}
 
 alike_itself : (f : SentPdu) → IsAlike f f
@@ -24,13 +24,16 @@ alike_twice : (f g h : SentPdu) → IsAlike f g → IsAlike g h → IsAlike f h
 alike_twice f g h a b = record { text = a.text ∙ b.text; full = a.full ∙ b.full; ends = a.ends ∙ b.ends; continues = a.continues ∙ b.continues }
 
 alike_acknowledged : (f : SentPdu) → IsAlike (acknowledged f) f
-alike_acknowledged f = cond_both {A = SentPdu} f.named f (record f { acked = true; requested = false }) (λ g. IsAlike g f) (λ _. alike_itself f) (λ _. record { text = refl; full = refl; ends = refl; continues = refl })
+alike_acknowledged f = cond_both {A = SentPdu} f.named (record f { named = false }) (record f { acked = true; requested = false }) (λ g. IsAlike g f) (λ _. record { text = refl; full = refl; ends = refl; continues = refl }) (λ _. record { text = refl; full = refl; ends = refl; continues = refl })
 
-alike_one : (from j : ℕ) (named under : Bool) (f : SentPdu) → IsAlike (heard_one from j named under f) f
-alike_one from j true true f = record { text = refl; full = refl; ends = refl; continues = refl }
-alike_one from j true false f = record { text = refl; full = refl; ends = refl; continues = refl }
-alike_one from j false true f = alike_acknowledged f
-alike_one from j false false f = alike_itself f
+alike_named : (high under : Bool) (f : SentPdu) → IsAlike (named_as high under f) f
+alike_named high under f = cond_both {A = SentPdu} f.acked f (record f { named = f.named || under; requested = f.requested || high }) (λ g. IsAlike g f) (λ _. alike_itself f) (λ _. record { text = refl; full = refl; ends = refl; continues = refl })
+
+alike_one : (high named under : Bool) (f : SentPdu) → IsAlike (heard_one high named under f) f
+alike_one high true true f = alike_twice (acknowledged (named_as high true f)) (named_as high true f) f (alike_acknowledged (named_as high true f)) (alike_named high true f)
+alike_one high true false f = alike_named high false f
+alike_one high false true f = alike_acknowledged f
+alike_one high false false f = alike_itself f
 
 kept_itself : (xs : List SentPdu) → AreKept xs xs
 kept_itself xs = record { few = omega arith; same = λ i less. let e : i ≡ length xs - length xs + i = omega arith in subst (λ k. IsAlike (at xs i) (at xs k)) e (alike_itself (at xs i)) }
@@ -60,22 +63,21 @@ freed_kept : (below : ℕ) (l : RetxBuffer) → AreKept l.flown (freed below l).
 freed_kept below l = kept_front l.flown (acked_below below l.flown) (front_acked (acked_below below l.flown)) (length-acked below l.flown) (omega (arith, front_le (acked_below below l.flown), length-acked below l.flown))
     (λ i less. subst (λ f. IsAlike f (at l.flown i)) (sym (at-changed_below acknowledged (min below (length l.flown)) l.flown i less)) (cond_both {A = SentPdu} (nat_lt i (min below (length l.flown))) (acknowledged (at l.flown i)) (at l.flown i) (λ f. IsAlike f (at l.flown i)) (λ _. alike_acknowledged (at l.flown i)) (λ _. alike_itself (at l.flown i))))
 
-listened_kept : (said : List StatusItem) (l : RetxBuffer) → AreKept l.flown (listened said l).flown
-listened_kept said l = kept_front l.flown (told_line said l) (front_acked (told_line said l)) size (omega (arith, front_le (told_line said l), size))
-    (λ i less. subst (λ f. IsAlike f (at l.flown i)) (sym (at-told said l i less)) (alike_one (floor_of l.running) i (is_named (first_number l) i said) (nat_lt i (min (below_said (first_number l) said) (length l.flown))) (at l.flown i)))
-  where
-    size : length (told_line said l) ≡ length l.flown
-    size = length-without_names (first_number l) said _ ∙ (length-acked (below_said (first_number l) said) (named_line said l) ∙ length-with_names (first_number l) (floor_of l.running) said l.flown)
+listened_kept : (below : ℕ) (said : List StatusItem) (l : RetxBuffer) → AreKept l.flown (listened below said l).flown
+listened_kept below said l = kept_front l.flown (told_line below said l) (front_acked (told_line below said l)) (length-told below said l) (omega (arith, front_le (told_line below said l), length-told below said l))
+    (λ i less. subst (λ f. IsAlike f (at l.flown i)) (sym (at-told below said l i less)) (alike_one (nat_le (floor_of l.running) i) (is_named (first_number l) i said) (nat_lt i (min below (length l.flown))) (at l.flown i)))
 
 ending_kept : (o : Option ℕ) (l : RetxBuffer) → AreKept l.flown (after_ending o l).flown
 ending_kept None l = kept_itself l.flown
 ending_kept (Some below) l = freed_kept below l
 
-told_kept : (said : List StatusItem) (l : RetxBuffer) → AreKept l.flown (after_told said l).flown
-told_kept said l = cond_both {A = RetxBuffer} (tells_some said) (listened said l) l (λ m. AreKept l.flown m.flown) (λ _. listened_kept said l) (λ _. kept_itself l.flown)
+told_kept : (below : ℕ) (said : List StatusItem) (l : RetxBuffer) → AreKept l.flown (after_told below said l).flown
+told_kept below said l = cond_both {A = RetxBuffer} (tells_some said) (listened below said l) l (λ m. AreKept l.flown m.flown) (λ _. listened_kept below said l) (λ _. kept_itself l.flown)
 
 answer_kept : (t : StatusTaken) (said : List StatusItem) (l : RetxBuffer) → AreKept l.flown (after_answer t said l).flown
-answer_kept Taken said l = kept_twice l.flown (after_moves said l).flown (after_told said (after_moves said l)).flown (ending_kept (ending said l l.running) l) (told_kept said (after_moves said l))
+answer_kept Taken said l =
+    let below = below_from (base_after (ending said l l.running) l) said l in
+    kept_twice l.flown (after_moves said l).flown (after_told below said (after_moves said l)).flown (ending_kept (ending said l l.running) l) (told_kept below said (after_moves said l))
 answer_kept (Outside i) said l = kept_itself l.flown
 
 pub hearing_kept : (said : List StatusItem) (l : RetxBuffer) → AreKept l.flown (after_hearing said l).flown

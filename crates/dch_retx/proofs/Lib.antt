@@ -12,3 +12,4 @@ pub mod Picking
 pub mod Ticking
 pub mod Keeping
 pub mod Refusing
+pub mod Endings

@@ -14,11 +14,11 @@ use Rattle.dch_retx.specs.declared.item.StatusItem.{StatusItem}
 use Rattle.dch_retx.specs.declared.item.StatusItem.TheVariants.{Missing, Unset, Set, Below, Moved}
 use Rattle.dch_retx.specs.declared.buffer.Running.{Running}
 use Rattle.dch_retx.specs.StatusItem.{below_said, first_outside, is_named, offends, place_of}
-use Rattle.dch_retx.specs.RetxBuffer.{RetxBuffer, first_number, floor_of, listened, named_line, told_line}
+use Rattle.dch_retx.specs.RetxBuffer.{RetxBuffer, first_number, floor_of, listened, told_line}
 use Rattle.dch_retx.specs.Standing.{IsFlown, IsRunning, Stands}
-use Rattle.dch_retx.proofs.Lengths.{length-acked, length-with_names, length-without_names}
+use Rattle.dch_retx.proofs.Lengths.{length-told}
 use Rattle.dch_retx.proofs.Fronts.{IsHeard, IsTold, heard_stands}
-use Rattle.dch_retx.proofs.Naming.{IsOne, at-told, heard_one, one_is, at-with_names}
+use Rattle.dch_retx.proofs.Naming.{IsOne, at-told, heard_one, one_is}
 
 -- the numbers that are named missing, and the LSN
 abbrev pub said_names : ℕ → ℕ → List StatusItem → List ℕ
@@ -137,35 +137,28 @@ wanted_spec k requested acked names lsn low =
     ∙ ap₂ (λ a b. a && not b) (has-less k (names ++ requested) (now_acked acked names lsn) ∙ ap₂ (λ a b. a && not b) (has-append k names requested) (acked_spec k acked names lsn)) (has-below k low)
 
 -- what the status says is told
-pub listened_heard : (rules : Rules) (l : RetxBuffer) (s : Sender) (said : List StatusItem) → Stands rules l s → first_outside l.window (first_number l) (length l.flown) said ≡ None → IsHeard rules l s (said_names (vt_a s) (vt_s s) said) (said_lsn (vt_a s) said) (at (named_line said l) l.polled).named (told_line said l)
+pub listened_heard : (rules : Rules) (l : RetxBuffer) (s : Sender) (said : List StatusItem) → Stands rules l s → first_outside l.window (first_number l) (length l.flown) said ≡ None → IsHeard rules l s (said_names (vt_a s) (vt_s s) said) (said_lsn (vt_a s) said) (is_named (first_number l) l.polled said) (told_line (below_said (first_number l) said) said l)
 listened_heard rules l s said is none = record {
   stands = is;
-  size = length-without_names (first_number l) said _ ∙ (length-acked (below_said (first_number l) said) (named_line said l) ∙ length-with_names (first_number l) (floor_of l.running) said l.flown);
+  size = length-told (below_said (first_number l) said) said l;
   told = λ i less. told_is i less;
   names_in = names_in l.window (vt_a s) (vt_s s) (first_number l) (length l.flown) b said none;
   lsn_in = lsn_in l.window (vt_a s) (vt_s s) (first_number l) (length l.flown) b said none;
-  polled = λ less. ap (λ (f : SentPdu). f.named) (at-with_names (first_number l) (floor_of l.running) said l.flown l.polled less) ∙ (one_named (is_named (first_number l) l.polled said) (at l.flown l.polled) (is.flown l.polled less).named ∙ sym (names_is (vt_a s) (vt_s s) (first_number l) (length l.flown) b said l.polled less));
+  polled = λ less. sym (names_is (vt_a s) (vt_s s) (first_number l) (length l.flown) b said l.polled less);
 }
   where
     b : IsBase (vt_a s) (vt_s s) (first_number l) (length l.flown)
     b = base_is rules l s is
 
-    one_named : (c : Bool) (f : SentPdu) → f.named ≡ false → (cond c (record f { named = true; requested = f.requested || (not f.acked && nat_le (floor_of l.running) l.polled) }) f).named ≡ c
-    one_named true f e = refl
-    one_named false f e = e
-
-    told_is : (i : ℕ) → i < length l.flown → IsTold s (said_names (vt_a s) (vt_s s) said) (said_lsn (vt_a s) said) (vt_a s + i) (at (told_line said l) i)
+    told_is : (i : ℕ) → i < length l.flown → IsTold s (said_names (vt_a s) (vt_s s) said) (said_lsn (vt_a s) said) (vt_a s + i) (at (told_line (below_said (first_number l) said) said l) i)
     told_is i less =
-        let k : ℕ = vt_a s + i in
-        let names : List ℕ = said_names (vt_a s) (vt_s s) said in
-        let lsn : ℕ = said_lsn (vt_a s) said in
         let f : IsFlown s (vt_a s + i) (at l.flown i) = is.flown i less in
-        let one : IsOne (at l.flown i) (floor_of l.running) i (has (vt_a s + i) s.acked) (has (vt_a s + i) s.requested) (is_named (first_number l) i said) (nat_lt i (min (below_said (first_number l) said) (length l.flown))) (nat_lt (vt_a s + i) (floor s.discard)) =
-        one_is (at l.flown i) (floor_of l.running) i _ _ (is_named (first_number l) i said) (nat_lt i (min (below_said (first_number l) said) (length l.flown))) (nat_lt (vt_a s + i) (floor s.discard)) f.acked f.requested f.named (floor_test (vt_a s) i (length l.flown) l.running s.discard is.running)
+        let one : IsOne (at l.flown i) (nat_le (floor_of l.running) i) (has (vt_a s + i) s.acked) (has (vt_a s + i) s.requested) (is_named (first_number l) i said) (nat_lt i (min (below_said (first_number l) said) (length l.flown))) (nat_lt (vt_a s + i) (floor s.discard)) =
+        one_is (at l.flown i) (nat_le (floor_of l.running) i) _ _ (is_named (first_number l) i said) (nat_lt i (min (below_said (first_number l) said) (length l.flown))) (nat_lt (vt_a s + i) (floor s.discard)) f.acked f.requested f.named (floor_test (vt_a s) i (length l.flown) l.running s.discard is.running)
         (λ w. ((is.requested (vt_a s + i) w).is_open, le-ltb (vt_a s + i) (floor s.discard) (is.requested (vt_a s + i) w).high)) in
         let named : is_named (first_number l) i said ≡ has (vt_a s + i) (said_names (vt_a s) (vt_s s) said) = sym (names_is (vt_a s) (vt_s s) (first_number l) (length l.flown) b said i less) in
         let under : nat_lt i (min (below_said (first_number l) said) (length l.flown)) ≡ nat_lt (vt_a s + i) (said_lsn (vt_a s) said) = under_is (vt_a s) (vt_s s) (first_number l) (length l.flown) b said i less in
-        let place : at (told_line said l) i ≡ heard_one (floor_of l.running) i (is_named (first_number l) i said) (nat_lt i (min (below_said (first_number l) said) (length l.flown))) (at l.flown i) = at-told said l i less in
+        let place : at (told_line (below_said (first_number l) said) said l) i ≡ heard_one (nat_le (floor_of l.running) i) (is_named (first_number l) i said) (nat_lt i (min (below_said (first_number l) said) (length l.flown))) (at l.flown i) = at-told (below_said (first_number l) said) said l i less in
         record {
           acked = ap (λ (g : SentPdu). g.acked) place ∙ (one.acked ∙ ap₂ (λ u m. (u && not m) || has (vt_a s + i) s.acked) under named);
           requested = ap (λ (g : SentPdu). g.requested) place ∙ (one.requested ∙ (ap₂ (λ u m. ((m || has (vt_a s + i) s.requested) && not ((u && not m) || has (vt_a s + i) s.acked)) && not (nat_lt (vt_a s + i) (floor s.discard))) under named ∙ sym (wanted_spec (vt_a s + i) s.requested s.acked (said_names (vt_a s) (vt_s s) said) (said_lsn (vt_a s) said) (floor s.discard))));
@@ -173,5 +166,5 @@ listened_heard rules l s said is none = record {
           builds = ap (λ (g : SentPdu). g.builds) place ∙ (one.builds ∙ f.builds);
         }
 
-pub listened_stands : (rules : Rules) (l : RetxBuffer) (s : Sender) (said : List StatusItem) → Stands rules l s → first_outside l.window (first_number l) (length l.flown) said ≡ None → Stands rules (listened said l) (told s (said_names (vt_a s) (vt_s s) said) (said_lsn (vt_a s) said))
-listened_stands rules l s said is none = heard_stands rules l s (said_names (vt_a s) (vt_s s) said) (said_lsn (vt_a s) said) (at (named_line said l) l.polled).named (told_line said l) (listened_heard rules l s said is none)
+pub listened_stands : (rules : Rules) (l : RetxBuffer) (s : Sender) (said : List StatusItem) → Stands rules l s → first_outside l.window (first_number l) (length l.flown) said ≡ None → Stands rules (listened (below_said (first_number l) said) said l) (told s (said_names (vt_a s) (vt_s s) said) (said_lsn (vt_a s) said))
+listened_stands rules l s said is none = heard_stands rules l s (said_names (vt_a s) (vt_s s) said) (said_lsn (vt_a s) said) (is_named (first_number l) l.polled said) (told_line (below_said (first_number l) said) said l) (listened_heard rules l s said is none)

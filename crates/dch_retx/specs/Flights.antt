@@ -1,5 +1,5 @@
 -- The PDUs of a sender that are in flight (TS 25.322 9.4, 11.5.3): those from the lowest number that is not acknowledged on.
-use Rattle.std.specs.Prelude.{◌≡◌, ◌+◌, ◌≤◌, ◌<◌, ◌==◌, ◌&&◌, ◌||◌, ℕ, zero, suc, List, [], ◌∷◌, Bool, true, false, not, length, nat_lt, nat_le, slice_index_or, if◌then◌else◌}
+use Rattle.std.specs.Prelude.{◌≡◌, ◌+◌, ◌≤◌, ◌<◌, ◌==◌, ◌||◌, ℕ, zero, suc, List, [], ◌∷◌, Bool, true, false, length, nat_lt, nat_le, slice_index_or, if◌then◌else◌}
 use Rattle.circular_buffer.specs.Buffer.{Buffer}
 use Rattle.dch_retx.specs.declared.sent_pdu.SentPdu.{SentPdu}
 
@@ -15,17 +15,17 @@ sent_once text full ends continues = record { text = text; full = full; ends = e
 abbrev pub at : List SentPdu → ℕ → SentPdu
 at flown i = slice_index_or flown i blank
 
--- it is named missing: it is requested again, unless it is acknowledged or stands before a place
-abbrev pub named_from : ℕ → ℕ → SentPdu → SentPdu
-named_from low i f = record f { named = true; requested = f.requested || (not f.acked && nat_le low i) }
+-- a status names it missing. Unless it is acknowledged, it is requested where it stands high enough, and marked where it stands under the LSN
+abbrev pub named_as : Bool → Bool → SentPdu → SentPdu
+named_as high under f = if f.acked then f else record f { named = f.named || under; requested = f.requested || high }
 
--- it is not named any more
-abbrev pub unnamed : SentPdu → SentPdu
-unnamed f = record f { named = false }
+-- the same by its place
+abbrev pub named_from : ℕ → ℕ → ℕ → SentPdu → SentPdu
+named_from from to i f = named_as (nat_le from i) (nat_lt i to) f
 
 -- it is acknowledged, unless it is named missing
 abbrev pub acknowledged : SentPdu → SentPdu
-acknowledged f = if f.named then f else record f { acked = true; requested = false }
+acknowledged f = if f.named then record f { named = false } else record f { acked = true; requested = false }
 
 -- it is not requested
 abbrev pub unwanted : SentPdu → SentPdu

@@ -1,6 +1,7 @@
 pub mod StatusItems
 pub mod Flights
 pub mod StatusItem
+pub mod Telling
 pub mod RetxBuffer
 pub mod Standing
 pub mod Polling

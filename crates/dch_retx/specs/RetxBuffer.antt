@@ -1,14 +1,14 @@
 -- What a sender keeps of the PDUs that it has sent (TS 25.322 9.4): those in flight, the poll that is out and the discard that runs.
 use Rattle.std.specs.Prelude.{◌≡◌, ◌<◌, ◌≤◌, IfSome, ◌+◌, ◌-◌, ◌||◌, ◌==◌, true, ℕ, List, [], Bool, false, drop, length, min, nat_lt, Option, Some, None, if◌then◌else◌}
 use Rattle.dch_retx.specs.declared.sent_pdu.SentPdu.{SentPdu}
-use Rattle.dch_retx.specs.Flights.{at, acknowledged, unwanted, changed_below, front_acked}
+use Rattle.dch_retx.specs.Flights.{acknowledged, unwanted, changed_below, front_acked}
 use Rattle.dch_am.specs.Rules.{Rules}
 use Rattle.dch_am.specs.Numbers.{wrapped}
 use Rattle.dch_am.specs.declared.answers.StatusTaken.{StatusTaken}
 use Rattle.dch_am.specs.declared.answers.StatusTaken.TheVariants.{Taken, Outside}
 use Rattle.dch_retx.specs.declared.item.StatusItem.{StatusItem}
 use Rattle.dch_retx.specs.declared.buffer.Running.{Running}
-use Rattle.dch_retx.specs.StatusItem.{below_said, first_ending, first_outside, tells_some, with_names, without_names}
+use Rattle.dch_retx.specs.StatusItem.{below_said, first_ending, first_outside, is_named, tells_some, with_names}
 
 -- the PDUs in flight, how many there may be, the number of the next one in 12 bits, the poll timer, the place of the polled PDU, and whether
 -- a poll is owed; and the discard that runs
@@ -50,7 +50,7 @@ left_front gone named flown l = record l {
   running = run_on gone l.running;
 }
 
--- the PDUs below a place are acknowledged, but for those that are named
+-- the PDUs below a place are acknowledged, but for those that are marked
 abbrev pub acked_below : ℕ → List SentPdu → List SentPdu
 acked_below below flown = changed_below acknowledged (min below (length flown)) flown
 
@@ -63,15 +63,15 @@ abbrev pub floor_of : Option Running → ℕ
 floor_of None = 0
 floor_of (Some r) = r.at
 
--- what is said of numbers is heard
-abbrev pub named_line : List StatusItem → RetxBuffer → List SentPdu
-named_line said l = with_names (first_number l) (floor_of l.running) said l.flown
+-- what is said of numbers is heard, where the LSN stands at a place
+abbrev pub named_line : ℕ → List StatusItem → RetxBuffer → List SentPdu
+named_line below said l = with_names (first_number l) (floor_of l.running) (min below (length l.flown)) said l.flown
 
-abbrev pub told_line : List StatusItem → RetxBuffer → List SentPdu
-told_line said l = without_names (first_number l) said (acked_below (below_said (first_number l) said) (named_line said l))
+abbrev pub told_line : ℕ → List StatusItem → RetxBuffer → List SentPdu
+told_line below said l = changed_below acknowledged (min below (length l.flown)) (named_line below said l)
 
-abbrev pub listened : List StatusItem → RetxBuffer → RetxBuffer
-listened said l = left_front (front_acked (told_line said l)) (at (named_line said l) l.polled).named (told_line said l) l
+abbrev pub listened : ℕ → List StatusItem → RetxBuffer → RetxBuffer
+listened below said l = left_front (front_acked (told_line below said l)) (is_named (first_number l) l.polled said) (told_line below said l) l
 
 -- where an MRW_ACK ends the running discard, and the line after it
 abbrev pub ending : List StatusItem → RetxBuffer → Option Running → Option ℕ
@@ -103,11 +103,15 @@ answered (Some i) = Outside i
 abbrev pub answer_of : List StatusItem → RetxBuffer → StatusTaken
 answer_of said l = answered (outside_from (base_after (ending said l l.running) l) said l)
 
-abbrev pub after_told : List StatusItem → RetxBuffer → RetxBuffer
-after_told said l = if tells_some said then listened said l else l
+abbrev pub after_told : ℕ → List StatusItem → RetxBuffer → RetxBuffer
+after_told below said l = if tells_some said then listened below said l else l
+
+-- the place of the LSN behind the PDU at a place
+abbrev pub below_from : ℕ → List StatusItem → RetxBuffer → ℕ
+below_from base said l = below_said (number_at base l) said
 
 abbrev pub after_answer : StatusTaken → List StatusItem → RetxBuffer → RetxBuffer
-after_answer Taken said l = after_told said (after_moves said l)
+after_answer Taken said l = after_told (below_from (base_after (ending said l l.running) l) said l) said (after_moves said l)
 after_answer (Outside i) said l = l
 
 abbrev pub after_hearing : List StatusItem → RetxBuffer → RetxBuffer

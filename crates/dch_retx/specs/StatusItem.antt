@@ -4,7 +4,12 @@ use Rattle.dch_am.specs.Numbers.{wrapped, ahead}
 use Rattle.dch_retx.specs.declared.item.StatusItem.{StatusItem}
 use Rattle.dch_retx.specs.declared.item.StatusItem.TheVariants.{Missing, Unset, Set, Below, Moved}
 use Rattle.dch_retx.specs.declared.sent_pdu.SentPdu.{SentPdu}
-use Rattle.dch_retx.specs.Flights.{at, named_from, unnamed}
+use Rattle.dch_retx.specs.Flights.{at, named_from}
+
+-- the first of two
+abbrev pub or_else : Option ℕ → Option ℕ → Option ℕ
+or_else None o = o
+or_else (Some i) o = Some i
 
 -- where a number stands among them
 abbrev pub place_of : ℕ → ℕ → ℕ
@@ -47,29 +52,17 @@ is_named first i (said ∷ rest) = names_place first i said || is_named first i 
 abbrev pub changed_at : (SentPdu → SentPdu) → ℕ → List SentPdu → List SentPdu
 changed_at change i flown = if nat_lt i (length flown) then slice_set flown i (change (at flown i)) else flown
 
--- the PDUs with one thing more heard, and with all
-abbrev pub with_name : ℕ → ℕ → StatusItem → List SentPdu → List SentPdu
-with_name first from (Missing x) flown = changed_at (named_from from (place_of first x)) (place_of first x) flown
-with_name first from (Unset x) flown = changed_at (named_from from (place_of first x)) (place_of first x) flown
-with_name first from (Set x) flown = flown
-with_name first from (Below x) flown = flown
-with_name first from (Moved n sn) flown = flown
+-- the PDUs with one thing more heard, and with all: those named at a place or behind are requested, and those before another place marked
+abbrev pub with_name : ℕ → ℕ → ℕ → StatusItem → List SentPdu → List SentPdu
+with_name first from to (Missing x) flown = changed_at (named_from from to (place_of first x)) (place_of first x) flown
+with_name first from to (Unset x) flown = changed_at (named_from from to (place_of first x)) (place_of first x) flown
+with_name first from to (Set x) flown = flown
+with_name first from to (Below x) flown = flown
+with_name first from to (Moved n sn) flown = flown
 
-abbrev pub with_names : ℕ → ℕ → List StatusItem → List SentPdu → List SentPdu
-with_names first from [] flown = flown
-with_names first from (said ∷ rest) flown = with_names first from rest (with_name first from said flown)
-
--- the same PDUs, of which none is named any more
-abbrev pub without_name : ℕ → StatusItem → List SentPdu → List SentPdu
-without_name first (Missing x) flown = changed_at unnamed (place_of first x) flown
-without_name first (Unset x) flown = changed_at unnamed (place_of first x) flown
-without_name first (Set x) flown = flown
-without_name first (Below x) flown = flown
-without_name first (Moved n sn) flown = flown
-
-abbrev pub without_names : ℕ → List StatusItem → List SentPdu → List SentPdu
-without_names first [] flown = flown
-without_names first (said ∷ rest) flown = without_names first rest (without_name first said flown)
+abbrev pub with_names : ℕ → ℕ → ℕ → List StatusItem → List SentPdu → List SentPdu
+with_names first from to [] flown = flown
+with_names first from to (said ∷ rest) flown = with_names first from to rest (with_name first from to said flown)
 
 -- the place of the LSN, the first one where there is none
 abbrev pub below_said : ℕ → List StatusItem → ℕ
@@ -95,18 +88,13 @@ ends_at first count k mark n sn =
     if (place_of (wrapped (first + k)) sn == 0) && (n == mark) then Some k
     else (if nat_lt 0 (place_of (wrapped (first + k)) sn) && nat_le (k + place_of (wrapped (first + k)) sn) count && (n == 0) then Some (k + place_of (wrapped (first + k)) sn) else None)
 
-abbrev pub ends_by : ℕ → ℕ → ℕ → ℕ → StatusItem → Option ℕ
-ends_by first count k mark (Missing x) = None
-ends_by first count k mark (Unset x) = None
-ends_by first count k mark (Set x) = None
-ends_by first count k mark (Below x) = None
-ends_by first count k mark (Moved n sn) = ends_at first count k mark n sn
-
--- the first of two
-abbrev pub or_else : Option ℕ → Option ℕ → Option ℕ
-or_else None o = o
-or_else (Some i) o = Some i
+abbrev pub ends_with : ℕ → ℕ → ℕ → ℕ → StatusItem → Option ℕ
+ends_with first count k mark (Missing x) = None
+ends_with first count k mark (Unset x) = None
+ends_with first count k mark (Set x) = None
+ends_with first count k mark (Below x) = None
+ends_with first count k mark (Moved n sn) = ends_at first count k mark n sn
 
 abbrev pub first_ending : ℕ → ℕ → ℕ → ℕ → List StatusItem → Option ℕ
 first_ending first count k mark [] = None
-first_ending first count k mark (said ∷ rest) = or_else (ends_by first count k mark said) (first_ending first count k mark rest)
+first_ending first count k mark (said ∷ rest) = or_else (ends_with first count k mark said) (first_ending first count k mark rest)

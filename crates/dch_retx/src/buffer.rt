@@ -1,4 +1,4 @@
-ghost use Rattle.std.specs.Prelude.{ℕ, Some, true, ◌≡◌, ◌≢◌, ◌+◌, ◌-◌, ◌<◌, ◌≤◌, ◌++◌, ◌∷◌, false, IfOk, is_some, length, min, nat_lt, slice_set};
+ghost use Rattle.std.specs.Prelude.{ℕ, Some, true, ◌≡◌, ◌≢◌, ◌+◌, ◌-◌, ◌<◌, ◌≤◌, ◌++◌, ◌∷◌, false, IfOk, MatchResult, is_some, length, min, nat_lt, slice_set};
 ghost use Rattle.dch_retx.specs.Flights.{at, built, front_acked, wanted_in};
 ghost use Rattle.dch_retx.specs.StatusItems.{said_by};
 ghost use Rattle.dch_am.specs.declared.answers.StatusTaken.TheVariants.{Taken};
@@ -12,10 +12,11 @@ ghost use Rattle.dch_am.specs.Restart.{restarted_sender};
 ghost use Rattle.dch_am.specs.Sender.{Discard, Sender, vt_a, vt_s, opened_sender};
 ghost use Rattle.dch_retx.specs.Standing.{AreKept, chosen, IsNew, Sends, Stands, timed};
 ghost use Rattle.dch_retx.specs.Polling.{again_line, again_poll, counted, crosses, is_far, last_line, last_poll, new_line, new_poll, picked, poll_of, sent_line};
+ghost use Rattle.dch_retx.specs.Telling.{IsJudged};
 ghost use Rattle.dch_retx.specs.RetxBuffer.{after_ending, after_hearing, after_told, answer_of, ending, number_at, outside_from, base_after, floor_of, freed, left_front, listened, opened_line, run_on, run_timer, repeating, ticked, discarding, is_due, moving, place_in, mark_in};
 
 use crate::flight::Flight;
-use crate::hear::{below, clear_missing, ending, name, outside, reports};
+use crate::hear::{Told, ending, judge, name};
 use crate::sent_pdu::SentPdu;
 use dch_am::StatusTaken;
 use dch_bits::NoMemory;
@@ -160,14 +161,15 @@ impl RetxBuffer {
         ensures after { self.new ≡ after_hearing (said_by status.now) self.old }
     {
         let found = self.ending(status);
-        if let Some(number) = self.outside(status, found) {
-            return StatusTaken::Outside(number);
-        }
+        let told = match self.judge(status, self.base_after(found)) {
+            Err(number) => return StatusTaken::Outside(number),
+            Ok(told) => told,
+        };
         if let Some(below) = found {
             self.free(below);
         }
-        if reports(status) {
-            self.listen(status);
+        if told.reports {
+            self.listen(status, told.below.unwrap_or(0));
         }
         StatusTaken::Taken
     }
@@ -427,13 +429,13 @@ impl RetxBuffer {
         }
     }
 
-    /// The first number of the status that is outside, where its MRW_ACK acknowledges the PDUs below a place.
-    fn outside(&self, status: &StatusView<'_>, found: Option<u16>) -> Option<u16>
-        ensures { result ≡ outside_from (base_after found self.now) (said_by status.now) self.now }
+    /// What the status tells, or its first number that is outside, where the PDU at a place is the lowest open one.
+    fn judge(&self, status: &StatusView<'_>, base: u16) -> Result<Told, u16>
+        requires { base ≤ length self.now.flown }
+        ensures { MatchResult result (λ told. IsJudged told self.now.window (number_at base self.now) (length self.now.flown - base) (said_by status.now)) (λ number. outside_from base (said_by status.now) self.now ≡ Some number) }
     {
-        let base = self.base_after(found);
         let count = self.flight.len() as u16 - base;
-        outside(status, self.rules.window, self.number_at(base), count)
+        judge(status, self.rules.window, self.number_at(base), count)
     }
 
     /// The place of the lowest open PDU, where an MRW_ACK acknowledges those below a place.
@@ -460,17 +462,15 @@ impl RetxBuffer {
         self.leave(false);
     }
 
-    /// What the status says of numbers is heard.
-    fn listen(&mut self, status: &StatusView<'_>)
-        ensures { self.new ≡ listened (said_by status.now) self.old }
+    /// What the status says of numbers is heard, where its LSN stands at a place.
+    fn listen(&mut self, status: &StatusView<'_>, below: u16)
+        ensures { self.new ≡ listened below (said_by status.now) self.old }
     {
         let first = self.number_at(0);
         let from = floor_of(self.running);
-        name(&mut self.flight, status, first, from);
-        let named = is_named(&self.flight, self.polled);
-        let to = (below(status, first) as usize).min(self.flight.len());
+        let to = (below as usize).min(self.flight.len());
+        let named = name(&mut self.flight, status, first, from, to, self.polled);
         self.flight.acknowledge(to);
-        clear_missing(&mut self.flight, status, first);
         self.leave(named);
     }
 
@@ -513,17 +513,6 @@ fn is_far(rules: &AmRules, count: usize) -> bool
     ensures { result ≡ is_far (rules_of 0 rules.now) count }
 {
     rules.poll_window > 0 && 100 * count >= rules.poll_window as usize * rules.window as usize
-}
-
-/// The PDU at a place is named missing.
-fn is_named(flight: &Flight, place: u16) -> bool
-    ensures { result ≡ (at flight.now.items place).named }
-{
-    if (place as usize) < flight.len() {
-        flight.at(place as usize).named
-    } else {
-        false
-    }
 }
 
 /// A tick of a discard's timer.

@@ -1,8 +1,8 @@
 ghost use Rattle.std.specs.Prelude.{◌≡◌, ◌+◌, ◌<◌, ◌≤◌, ◌++◌, [], ◌∷◌, false, IfOk, length, drop, min, nat_lt, slice_set, if◌then◌else◌};
 ghost use Rattle.circular_buffer.specs.Buffer.{buffer};
-ghost use Rattle.dch_retx.specs.Flights.{at, named_from, unnamed, acknowledged, unwanted, built, changed_below, first_wanted, front_acked, lowered, wanted_in, IsCounted, IsFirstWanted, IsFrom};
+ghost use Rattle.dch_retx.specs.Flights.{at, named_from, acknowledged, unwanted, built, changed_below, first_wanted, front_acked, lowered, wanted_in, IsCounted, IsFirstWanted, IsFrom};
 
-use crate::places::{acknowledge_at, at_place, build_at, name_at, unname_at, unwant_at};
+use crate::places::{acknowledge_at, at_place, build_at, name_at, unwant_at};
 use crate::sent_pdu::SentPdu;
 use circular_buffer::HeapCircularBuffer;
 use dch_bits::NoMemory;
@@ -66,23 +66,16 @@ impl Flight {
         self.ring.push_back(flown);
     }
 
-    /// A status names a PDU missing. It is requested, unless it is acknowledged or stands before a place.
-    pub fn name(&mut self, i: usize, from: usize)
+    /// A status names a PDU missing. Unless it is acknowledged, it is requested where it stands at `from` or behind, and marked where it stands
+    /// before `to`.
+    pub fn name(&mut self, i: usize, from: usize, to: usize)
         requires { i < length self.old.items }
-        ensures { self.new ≡ buffer (slice_set self.old.items i (named_from from i (at self.old.items i))) self.old.capacity }
+        ensures { self.new ≡ buffer (slice_set self.old.items i (named_from from to i (at self.old.items i))) self.old.capacity }
     {
-        if name_at(&mut self.ring, i, from) {
+        if name_at(&mut self.ring, i, from, to) {
             self.low = lowered(self.low, self.count, i);
             self.count += 1;
         }
-    }
-
-    /// The status that names it is heard.
-    pub fn clear_missing(&mut self, i: usize)
-        requires { i < length self.old.items }
-        ensures { self.new ≡ buffer (slice_set self.old.items i (unnamed (at self.old.items i))) self.old.capacity }
-    {
-        unname_at(&mut self.ring, i);
     }
 
     /// A PDU is built once more.
@@ -95,7 +88,7 @@ impl Flight {
         self.low = first_from(&self.ring, self.low, self.count);
     }
 
-    /// The PDUs before a place are acknowledged, but for those that are named missing.
+    /// The PDUs before a place are acknowledged, but for those that are marked as named missing. Their marks go.
     pub fn acknowledge(&mut self, to: usize)
         requires { to ≤ length self.old.items }
         ensures { self.new ≡ buffer (changed_below acknowledged to self.old.items) self.old.capacity }
@@ -214,7 +207,7 @@ fn wanted_before(ring: &HeapCircularBuffer<SentPdu>, to: usize) -> usize
     count
 }
 
-/// The PDUs before a place are acknowledged, but for those that are named. Answers how many of them aren't requested any more.
+/// The PDUs before a place are acknowledged, but for those that are marked, whose marks go. Answers how many of them aren't requested any more.
 fn acknowledge_below(ring: &mut HeapCircularBuffer<SentPdu>, to: usize) -> usize
     requires { to ≤ length ring.old.items }
     ensures gone { result + wanted_in ring.new.items ≡ wanted_in ring.old.items }

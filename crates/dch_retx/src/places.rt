@@ -1,6 +1,6 @@
 ghost use Rattle.std.specs.Prelude.{◌≡◌, ◌<◌, ◌&&◌, not, length, slice_set};
 ghost use Rattle.circular_buffer.specs.Buffer.{buffer};
-ghost use Rattle.dch_retx.specs.Flights.{at, named_from, unnamed, acknowledged, unwanted, built};
+ghost use Rattle.dch_retx.specs.Flights.{at, named_from, acknowledged, unwanted, built};
 
 use crate::sent_pdu::SentPdu;
 use circular_buffer::HeapCircularBuffer;
@@ -13,32 +13,25 @@ pub fn at_place(ring: &HeapCircularBuffer<SentPdu>, i: usize) -> SentPdu
     *ring.get(i).unwrap()
 }
 
-/// It is named missing, and requested unless it is acknowledged or stands before a place. Answers whether it is requested since.
-pub fn name_at(ring: &mut HeapCircularBuffer<SentPdu>, i: usize, from: usize) -> bool
+/// Unless it is acknowledged, it is requested where it stands at `from` or behind, and marked where it stands before `to`. Answers whether it is
+/// requested since.
+pub fn name_at(ring: &mut HeapCircularBuffer<SentPdu>, i: usize, from: usize, to: usize) -> bool
     requires { i < length ring.old.items }
-    ensures newly { result ≡ (not (at ring.old.items i).requested && (named_from from i (at ring.old.items i)).requested) }
-    ensures after { ring.new ≡ buffer (slice_set ring.old.items i (named_from from i (at ring.old.items i))) ring.old.capacity }
+    ensures newly { result ≡ (not (at ring.old.items i).requested && (named_from from to i (at ring.old.items i)).requested) }
+    ensures after { ring.new ≡ buffer (slice_set ring.old.items i (named_from from to i (at ring.old.items i))) ring.old.capacity }
 {
     let Some(flown) = ring.get_mut(i) else {
         return false;
     };
     let was = flown.requested;
-    flown.named = true;
-    flown.requested = flown.requested || (!flown.acked && from <= i);
+    if !flown.acked {
+        flown.named = flown.named || i < to;
+        flown.requested = flown.requested || from <= i;
+    }
     !was && flown.requested
 }
 
-/// It isn't named any more.
-pub fn unname_at(ring: &mut HeapCircularBuffer<SentPdu>, i: usize)
-    requires { i < length ring.old.items }
-    ensures { ring.new ≡ buffer (slice_set ring.old.items i (unnamed (at ring.old.items i))) ring.old.capacity }
-{
-    if let Some(flown) = ring.get_mut(i) {
-        flown.named = false;
-    }
-}
-
-/// It is acknowledged, unless it is named missing. Answers whether it was requested and isn't any more.
+/// It is acknowledged, or loses its mark where it has one. Answers whether it was requested and isn't any more.
 pub fn acknowledge_at(ring: &mut HeapCircularBuffer<SentPdu>, i: usize) -> bool
     requires { i < length ring.old.items }
     ensures gone { result ≡ ((at ring.old.items i).requested && not (acknowledged (at ring.old.items i)).requested) }
@@ -48,7 +41,9 @@ pub fn acknowledge_at(ring: &mut HeapCircularBuffer<SentPdu>, i: usize) -> bool
         return false;
     };
     let was = flown.requested;
-    if !flown.named {
+    if flown.named {
+        flown.named = false;
+    } else {
         flown.acked = true;
         flown.requested = false;
     }

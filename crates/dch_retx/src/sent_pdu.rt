@@ -18,7 +18,7 @@ pub struct SentPdu {
     pub acked: bool,
     /// It was requested and not built since.
     pub requested: bool,
-    /// The status that is being heard names it missing.
+    /// The status that is being heard names it missing, so that it isn't acknowledged.
     pub named: bool,
 }
 

@@ -3,8 +3,8 @@ use Rattle.dch_retx.specs.StatusItems.{said_by}
 use Rattle.dch_retx.specs.StatusItem.{first_ending}
 use Rattle.dch_retx.proofs.hear.ending.Given as goal
 
-abbrev pub decreases-loop-said : goal.decreases-loop-said
-decreases-loop-said l = length l.items
+abbrev pub decreases-loop-cursor : goal.decreases-loop-cursor
+decreases-loop-cursor l = length l.cursor
 
-abbrev pub invariant-loop-said : goal.invariant-loop-said
-invariant-loop-said l = first_ending l.first l.count l.at l.mark (said_by l.fn.status) ≡ first_ending l.first l.count l.at l.mark l.items
+abbrev pub invariant-loop-cursor : goal.invariant-loop-cursor
+invariant-loop-cursor l = first_ending l.first l.count l.at l.mark (said_by l.fn.status) ≡ first_ending l.first l.count l.at l.mark (said_by l.cursor)

@@ -1,9 +1,8 @@
 use Rattle.std.proofs.Common.{◌+◌, ◌<◌, ◌∙◌, arith, length, set, subst, sym}
-use Rattle.std.proofs.lemmas.Bool.{or_left}
 use Rattle.circular_buffer.specs.Buffer.{Buffer, buffer}
 use Rattle.dch_retx.specs.declared.sent_pdu.SentPdu.{SentPdu}
 use Rattle.dch_retx.specs.Flights.{IsFlight, at, named_from}
-use Rattle.dch_retx.proofs.Changes.{flight_as, flight_named, wanted_few}
+use Rattle.dch_retx.proofs.Changes.{flight_as, flight_named, named_more, wanted_few}
 use Rattle.dch_retx.proofs.flight.Flight.name.Goals as goal
 
 pub overflow_add-self : goal.overflow_add-self
@@ -12,7 +11,7 @@ overflow_add-self c = omega (arith, wanted_few c.self.inside.ring.items, c.self.
 pub invariant_of-self : goal.invariant_of-self
 invariant_of-self c =
     let l : c.args.i < length c.self.inside.ring.items = subst (λ (b : Buffer SentPdu). c.args.i < length b.items) (sym c.self.view_is) c.requires in
-    let f = named_from c.args.from c.args.i (at c.self.inside.ring.items c.args.i) in
+    let f = named_from c.args.from c.args.to c.args.i (at c.self.inside.ring.items c.args.i) in
     subst (λ r. IsFlight r c.lowered-self-inside.result (c.self.inside.count + 1)) (sym c.name_at.ensures.after)
     (subst (λ n. IsFlight (buffer (set c.self.inside.ring.items c.args.i f) c.self.inside.ring.capacity) n (c.self.inside.count + 1)) (sym c.lowered-self-inside.ensures)
     (flight_named c.self.inside.ring c.self.inside.low c.self.inside.count c.args.i f l (sym c.name_at.ensures.newly ∙ c.if-name_at.true) c.self.invariant))
@@ -20,6 +19,6 @@ invariant_of-self c =
 pub invariant_of-self-else-name_at : goal.invariant_of-self-else-name_at
 invariant_of-self-else-name_at c =
     let l : c.args.i < length c.self.inside.ring.items = subst (λ (b : Buffer SentPdu). c.args.i < length b.items) (sym c.self.view_is) c.requires in
-    let f = named_from c.args.from c.args.i (at c.self.inside.ring.items c.args.i) in
+    let f = named_from c.args.from c.args.to c.args.i (at c.self.inside.ring.items c.args.i) in
     subst (λ r. IsFlight r c.self.inside.low c.self.inside.count) (sym c.name_at.ensures.after)
-    (flight_as c.self.inside.ring c.self.inside.low c.self.inside.count c.args.i f l (λ h. or_left _ _ h) (sym c.name_at.ensures.newly ∙ c.if-name_at.false) c.self.invariant)
+    (flight_as c.self.inside.ring c.self.inside.low c.self.inside.count c.args.i f l (named_more c.args.from c.args.to c.args.i (at c.self.inside.ring.items c.args.i)) (sym c.name_at.ensures.newly ∙ c.if-name_at.false) c.self.invariant)
