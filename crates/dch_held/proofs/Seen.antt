@@ -2,7 +2,7 @@
 use Rattle.std.proofs.Common.{◌≡◌, ◌+◌, ◌-◌, ◌<◌, ◌≤◌, ℕ, zero, suc, List, [], ◌∷◌, ◌++◌, length, drop, get_or, set, arith, refl, sym, ap, ap₂, ◌∙◌}
 use Rattle.std.specs.Prelude.{min}
 use Rattle.dch_held.specs.declared.unit.Stored.{Stored}
-use Rattle.dch_held.specs.Held.{AreBefore, aged, all_rebased, all_seen, none_stored, rebased, seen, unit_at}
+use Rattle.dch_held.specs.Held.{AreRising, aged, all_rebased, all_seen, none_stored, rebased, seen, unit_at}
 
 pub length-seen : (now : ℕ) (us : List Stored) → length (all_seen now us) ≡ length us
 length-seen now [] = refl
@@ -30,22 +30,39 @@ seen_now blocks now = let e : min 65535 (now - now) ≡ 0 = omega arith in ap (�
 one_older : (now at : ℕ) → at ≤ now → min 65535 (now + 1 - at) ≡ min (min 65535 (now - at) + 1) 65535
 one_older now at l = omega arith
 
-pub seen_tick : (now : ℕ) (us : List Stored) → AreBefore now us → all_seen (now + 1) us ≡ aged (all_seen now us)
-seen_tick now [] b = refl
-seen_tick now (u ∷ us) b = ap₂ (λ n xs. record { blocks = u.blocks; age = n } ∷ xs) (one_older now u.at b.0) (seen_tick now us b.1)
+pub seen_tick : (low now : ℕ) (us : List Stored) → AreRising low now us → all_seen (now + 1) us ≡ aged (all_seen now us)
+seen_tick low now [] b = refl
+seen_tick low now (u ∷ us) b = ap₂ (λ n xs. record { blocks = u.blocks; age = n } ∷ xs) (one_older now u.at b.1) (seen_tick u.at now us b.2)
 
-pub before_tick : (now : ℕ) (us : List Stored) → AreBefore now us → AreBefore (now + 1) us
-before_tick now [] b = tt
-before_tick now (u ∷ us) b = (omega (arith, b.0), before_tick now us b.1)
+pub rising_tick : (low now : ℕ) (us : List Stored) → AreRising low now us → AreRising low (now + 1) us
+rising_tick low now [] b = tt
+rising_tick low now (u ∷ us) b = (b.0, omega (arith, b.1), rising_tick u.at now us b.2)
 
-pub before_push : (now : ℕ) (us : List Stored) (u : Stored) → u.at ≤ now → AreBefore now us → AreBefore now (us ++ u ∷ [])
-before_push now [] u l b = (l, tt)
-before_push now (v ∷ us) u l b = (b.0, before_push now us u l b.1)
+pub rising_push : (low now : ℕ) (us : List Stored) (u : Stored) → low ≤ u.at → u.at ≡ now → AreRising low now us → AreRising low now (us ++ u ∷ [])
+rising_push low now [] u l e b = (l, omega arith, tt)
+rising_push low now (v ∷ us) u l e b = (b.0, b.1, rising_push v.at now us u (omega (arith, b.1)) e b.2)
 
-pub before_drop : (n now : ℕ) (us : List Stored) → AreBefore now us → AreBefore now (drop n us)
-before_drop zero now us b = b
-before_drop (suc n) now [] b = b
-before_drop (suc n) now (u ∷ us) b = before_drop n now us b.1
+rising_less : (a low now : ℕ) (us : List Stored) → a ≤ low → AreRising low now us → AreRising a now us
+rising_less a low now [] l b = tt
+rising_less a low now (u ∷ us) l b = (omega (arith, b.0), b.1, b.2)
+
+pub rising_drop : (n low now : ℕ) (us : List Stored) → AreRising low now us → AreRising low now (drop n us)
+rising_drop zero low now us b = b
+rising_drop (suc n) low now [] b = tt
+rising_drop (suc n) low now (u ∷ us) b = rising_less low u.at now (drop n us) b.0 (rising_drop n u.at now us b.2)
+
+-- no unit behind is older
+younger : (low now : ℕ) (us : List Stored) (j : ℕ) → AreRising low now us → (unit_at (all_seen now us) j).age ≤ min 65535 (now - low)
+younger low now [] j b = omega arith
+younger low now (u ∷ us) zero b = omega (arith, b.0)
+younger low now (u ∷ us) (suc j) b = omega (arith, b.0, younger u.at now us j b.2)
+
+pub oldest_first : (low now : ℕ) (us : List Stored) (i j : ℕ) → i ≤ j → AreRising low now us → (unit_at (all_seen now us) j).age ≤ (unit_at (all_seen now us) i).age
+oldest_first low now [] i j l b = omega arith
+oldest_first low now (u ∷ us) zero zero l b = omega arith
+oldest_first low now (u ∷ us) zero (suc j) l b = younger u.at now us j b.2
+oldest_first low now (u ∷ us) (suc i) zero l b = absurd (omega arith)
+oldest_first low now (u ∷ us) (suc i) (suc j) l b = oldest_first u.at now us i j (omega arith) b.2
 
 -- the tick 65,535
 same_age : (now at : ℕ) → min 65535 (65535 - (65535 - min 65535 (now - at))) ≡ min 65535 (now - at)
@@ -55,9 +72,9 @@ pub seen_rebased : (now : ℕ) (us : List Stored) → all_seen 65535 (all_rebase
 seen_rebased now [] = refl
 seen_rebased now (u ∷ us) = ap₂ (λ n xs. record { blocks = u.blocks; age = n } ∷ xs) (same_age now u.at) (seen_rebased now us)
 
-pub before_rebased : (now : ℕ) (us : List Stored) → AreBefore 65535 (all_rebased now us)
-before_rebased now [] = tt
-before_rebased now (u ∷ us) = (omega arith, before_rebased now us)
+rising_rebased : (low now : ℕ) (us : List Stored) → AreRising low now us → AreRising (65535 - min 65535 (now - low)) 65535 (all_rebased now us)
+rising_rebased low now [] b = tt
+rising_rebased low now (u ∷ us) b = (omega (arith, b.0), omega arith, rising_rebased u.at now us b.2)
 
 -- the units before a place are
 abbrev pub rebased_below : ℕ → ℕ → List Stored → List Stored
@@ -80,8 +97,8 @@ rebased_all now [] = refl
 rebased_all now (u ∷ us) = ap (λ xs. rebased now u ∷ xs) (rebased_all now us)
 
 -- the tick 65,536 behind it
-pub seen_again : (now : ℕ) (us : List Stored) → all_seen 65536 (all_rebased now us) ≡ aged (all_seen now us)
-seen_again now us = seen_tick 65535 (all_rebased now us) (before_rebased now us) ∙ ap aged (seen_rebased now us)
+pub seen_again : (low now : ℕ) (us : List Stored) → AreRising low now us → all_seen 65536 (all_rebased now us) ≡ aged (all_seen now us)
+seen_again low now us b = seen_tick (65535 - min 65535 (now - low)) 65535 (all_rebased now us) (rising_rebased low now us b) ∙ ap aged (seen_rebased now us)
 
-pub before_again : (now : ℕ) (us : List Stored) → AreBefore 65536 (all_rebased now us)
-before_again now us = before_tick 65535 (all_rebased now us) (before_rebased now us)
+pub rising_again : (low now : ℕ) (us : List Stored) → AreRising low now us → AreRising 0 65536 (all_rebased now us)
+rising_again low now us b = rising_less 0 (65535 - min 65535 (now - low)) 65536 (all_rebased now us) (omega arith) (rising_tick (65535 - min 65535 (now - low)) 65535 (all_rebased now us) (rising_rebased low now us b))

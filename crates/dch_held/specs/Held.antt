@@ -29,10 +29,10 @@ abbrev pub all_seen : ℕ → List Stored → List OneUnit
 all_seen now [] = []
 all_seen now (u ∷ us) = seen now u ∷ all_seen now us
 
--- none was accepted later
-abbrev pub AreBefore : ℕ → List Stored → Type 0
-AreBefore now [] = Unit {0}
-AreBefore now (u ∷ us) = (u.at ≤ now) × AreBefore now us
+-- each was accepted no earlier than the one in front of it, and none later than now
+abbrev pub AreRising : ℕ → ℕ → List Stored → Type 0
+AreRising low now [] = Unit {0}
+AreRising low now (u ∷ us) = (low ≤ u.at) × (u.at ≤ now) × AreRising u.at now us
 
 -- the same ages at the tick 65,535
 abbrev pub rebased : ℕ → Stored → Stored

@@ -210,10 +210,11 @@ impl Held {
         self.units.len()
     }
 
-    /// The age of the unit at a place, in ticks.
+    /// The age of the unit at a place, in ticks. Those behind it are no older.
     pub fn age(&self, i: usize) -> u16
         requires { i < length self.now.units }
-        ensures { result ≡ age_at self.now i }
+        ensures value { result ≡ age_at self.now i }
+        ensures oldest { (j : ℕ) → i ≤ j → age_at self.now j ≤ result }
     {
         self.units.at(i).age
     }

@@ -1,4 +1,4 @@
-ghost use Rattle.std.specs.Prelude.{◌≡◌, ◌-◌, ◌^◌, ◌<◌, ◌≤◌, ◌++◌, [], ◌∷◌, IfOk, drop, length, min, slice_index_or, slice_set};
+ghost use Rattle.std.specs.Prelude.{◌≡◌, ℕ, ◌-◌, ◌^◌, ◌<◌, ◌≤◌, ◌++◌, [], ◌∷◌, IfOk, drop, length, min, slice_index_or, slice_set};
 ghost use Rattle.circular_buffer.specs.Buffer.{buffer};
 ghost use Rattle.dch_held.specs.Held.{aged, all_rebased, none_stored, rebased, unit_at};
 
@@ -18,13 +18,13 @@ pub struct Units {
 impl Model for Units {
     ghost use Rattle.circular_buffer.specs.Buffer.{Buffer, buffer};
     ghost use Rattle.dch_held.specs.declared.unit.Unit.{Unit as OneUnit};
-    ghost use Rattle.dch_held.specs.Held.{AreBefore, all_seen};
+    ghost use Rattle.dch_held.specs.Held.{AreRising, all_seen};
 
     ghost Value = { Buffer OneUnit };
 
     ghost view = { λ u. buffer (all_seen u.ticks u.kept.items) u.kept.capacity };
 
-    ghost invariant = { λ u. AreBefore u.ticks u.kept.items };
+    ghost invariant = { λ u. AreRising 0 u.ticks u.kept.items };
 }
 
 impl Units {
@@ -44,10 +44,11 @@ impl Units {
         self.kept.len()
     }
 
-    /// The unit at a place.
+    /// The unit at a place. Those behind it are no older.
     pub fn at(&self, i: usize) -> Unit
         requires { i < length self.now.items }
-        ensures { result ≡ unit_at self.now.items i }
+        ensures value { result ≡ unit_at self.now.items i }
+        ensures oldest { (j : ℕ) → i ≤ j → (unit_at self.now.items j).age ≤ result.age }
     {
         let stored = stored_at(&self.kept, i);
         Unit {

@@ -1,17 +1,17 @@
-ghost use Rattle.std.specs.Prelude.{◌≡◌, ◌+◌, ◌<◌, ◌≤◌, ℕ, IfSome, length};
+ghost use Rattle.std.specs.Prelude.{◌≡◌, ◌+◌, ◌<◌, ◌≤◌, ◌&&◌, ℕ, false, IfSome, length, nat_lt};
 ghost use Rattle.dch_am.specs.Cuts.{IsCut};
 ghost use Rattle.dch_am.specs.Building.{body_at};
 ghost use Rattle.dch_am.specs.Discards.{discards};
 ghost use Rattle.dch_am.specs.Rules.{Rules, rules_of};
 ghost use Rattle.dch_am.specs.Sender.{Sender, vt_a};
-ghost use Rattle.dch_retx.specs.Flights.{at};
+ghost use Rattle.dch_retx.specs.Flights.{at, wanted_in};
 ghost use Rattle.dch_held.specs.Holding.{Holds};
 ghost use Rattle.dch_retx.specs.Standing.{Stands};
 ghost use Rattle.dch_unsent.specs.Keeping.{Has};
-ghost use Rattle.dch_overdue.specs.Scanning.{overdue};
+ghost use Rattle.dch_overdue.specs.Scanning.{is_old, overdue};
 ghost use Rattle.dch_overdue.specs.Discarding.{discarded_by};
 
-use crate::scan::{Overdue, Scan, after_pdu};
+use crate::scan::{Overdue, Scan, after_pdu, is_old};
 use dch_held::Held;
 use dch_retx::RetxBuffer;
 use dch_types::AmRules;
@@ -30,6 +30,9 @@ fn last(line: &RetxBuffer, held: &Held, rules: AmRules) -> Option<Overdue>
     ensures value { result ≡ overdue rules held.now line.now.flown }
     ensures small { (rules.discard_age ≤ 65535) × (rules.discard_sent ≤ 255) }
 {
+    if !is_requested(line, &rules) && !is_first_old(held, &rules) {
+        return None;
+    }
     let mut scan = Scan {
         unit: 0,
         begun: false,
@@ -40,4 +43,19 @@ fn last(line: &RetxBuffer, held: &Held, rules: AmRules) -> Option<Overdue>
         scan = after_pdu(held, &rules, &flown, place, scan);
     }
     scan.found
+}
+
+/// A PDU is requested where one that was built often enough is discarded.
+fn is_requested(line: &RetxBuffer, rules: &AmRules) -> bool
+    ensures { result ≡ (nat_lt 0 rules.now.discard_sent && nat_lt 0 (wanted_in line.now.flown)) }
+{
+    rules.discard_sent > 0 && line.is_wanted()
+}
+
+/// The first unit that was not discarded is old enough. Where it isn't, none is.
+fn is_first_old(held: &Held, rules: &AmRules) -> bool
+    ensures { result ≡ false → (i : ℕ) → held.now.passed ≤ i → is_old rules.now held.now i ≡ false }
+{
+    let first = held.passed();
+    first < held.len() && is_old(held, rules, first)
 }

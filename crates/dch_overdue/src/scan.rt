@@ -1,4 +1,4 @@
-ghost use Rattle.std.specs.Prelude.{◌≡◌, ◌+◌, ◌*◌, ◌<◌, ◌≤◌, length, true};
+ghost use Rattle.std.specs.Prelude.{◌≡◌, ℕ, ◌+◌, ◌*◌, ◌<◌, ◌≤◌, false, length, true};
 ghost use Rattle.dch_overdue.specs.Scanning.{after_pdu, can_discard, is_often, is_old, last_in, mark_of};
 
 use dch_held::Held;
@@ -78,10 +78,11 @@ fn can_discard(held: &Held, rules: &AmRules, flown: &SentPdu, scan: Scan, j: u8)
     is_old(held, rules, unit) || is_often(rules, flown) || j == 0 && scan.begun
 }
 
-/// A unit is old enough.
-fn is_old(held: &Held, rules: &AmRules, unit: usize) -> bool
+/// A unit is old enough. Where it isn't, none behind it is.
+pub fn is_old(held: &Held, rules: &AmRules, unit: usize) -> bool
     requires { unit < length held.now.units }
-    ensures { result ≡ is_old rules.now held.now unit }
+    ensures value { result ≡ is_old rules.now held.now unit }
+    ensures behind { result ≡ false → (i : ℕ) → unit ≤ i → is_old rules.now held.now i ≡ false }
 {
     rules.discard_age > 0 && held.age(unit) >= rules.discard_age
 }

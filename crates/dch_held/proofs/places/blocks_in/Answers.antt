@@ -6,4 +6,4 @@ use Rattle.dch_held.proofs.places.blocks_in.Goals as goal
 pub loop-i-preserved : goal.loop-i-preserved
 loop-i-preserved c =
     let next = blocks_next c.args.units.now.items c.loop-i.i (omega arith) in
-    (omega (arith, next, ap (λ (u : OneUnit). u.blocks) c.at.ensures), omega arith)
+    (omega (arith, next, ap (λ (u : OneUnit). u.blocks) c.at.ensures.value), omega arith)

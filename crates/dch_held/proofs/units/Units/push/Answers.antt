@@ -1,9 +1,9 @@
-use Rattle.std.proofs.Common.{◌≡◌, ◌-◌, ◌<◌, ◌++◌, [], ◌∷◌, ◌∙◌, ap, arith, drop, length, length-append, subst, sym}
+use Rattle.std.proofs.Common.{◌≡◌, ◌-◌, ◌<◌, ◌++◌, [], ◌∷◌, ◌∙◌, ap, arith, drop, length, length-append, refl, subst, sym}
 use Rattle.circular_buffer.specs.Buffer.{Buffer, buffer}
 use Rattle.dch_held.specs.declared.unit.Stored.{Stored}
 use Rattle.dch_held.specs.declared.unit.Unit.{Unit as OneUnit}
-use Rattle.dch_held.specs.Held.{AreBefore, all_seen}
-use Rattle.dch_held.proofs.Seen.{before_push, length-seen, seen-append, seen_now}
+use Rattle.dch_held.specs.Held.{AreRising, all_seen}
+use Rattle.dch_held.proofs.Seen.{rising_push, length-seen, seen-append, seen_now}
 use Rattle.dch_held.proofs.units.Units.push.Goals as goal
 
 pub invariant_of-self : goal.invariant_of-self
@@ -11,8 +11,8 @@ invariant_of-self c =
     let x : Stored = record { blocks = c.args.blocks; at = c.self.inside.ticks } in
     let room : length c.self.inside.kept.items < c.self.inside.kept.capacity = subst (λ n. n < c.self.inside.kept.capacity) (length-seen c.self.inside.ticks c.self.inside.kept.items) (subst (λ (b : Buffer OneUnit). length b.items < b.capacity) (sym c.self.view_is) c.requires) in
     let all : length (c.self.inside.kept.items ++ x ∷ []) - c.self.inside.kept.capacity ≡ 0 = omega (arith, room, length-append c.self.inside.kept.items (x ∷ [])) in
-    subst (λ (b : Buffer Stored). AreBefore c.self.inside.ticks b.items) (sym (c.push_back.ensures.items ∙ ap (λ n. buffer (drop n (c.self.inside.kept.items ++ x ∷ [])) c.self.inside.kept.capacity) all))
-    (before_push c.self.inside.ticks c.self.inside.kept.items x (omega arith) c.self.invariant)
+    subst (λ (b : Buffer Stored). AreRising 0 c.self.inside.ticks b.items) (sym (c.push_back.ensures.items ∙ ap (λ n. buffer (drop n (c.self.inside.kept.items ++ x ∷ [])) c.self.inside.kept.capacity) all))
+    (rising_push 0 c.self.inside.ticks c.self.inside.kept.items x (omega arith) refl c.self.invariant)
 
 pub returns : goal.returns
 returns c =
