@@ -3,7 +3,7 @@ use Rattle.std.proofs.Common.{◌≡◌, ◌+◌, ◌-◌, ◌*◌, ◌<◌, ◌
 use Rattle.std.specs.Prelude.{nat_lt, nat_le}
 use Rattle.std.proofs.lemmas.Bool.{and_parts, lt-ltb, ltb-true, ltb-false}
 use Rattle.dch_retx.specs.declared.sent_pdu.SentPdu.{SentPdu}
-use Rattle.dch_retx.specs.Flights.{at, built, first_wanted, sent_once, wanted_in}
+use Rattle.dch_retx.specs.Flights.{at, built, first_wanted, no_extent, sent_once, wanted_in}
 use Rattle.dch_am.specs.Numbers.{has}
 use Rattle.dch_am.specs.Rules.{Rules}
 use Rattle.dch_am.specs.Bodies.{Unsent, after_body, ends_of, is_left, next_body}
@@ -156,12 +156,12 @@ again_left rules d l s inside is w e = record {
   unsent_is = refl;
 }
 
-new_left : (rules : Rules) (d : ℕ) (l : RetxBuffer) (s : Sender) → length l.flown < rules.window → Stands rules l s → Left rules (new_line (sent_once [] false (ends_of (next_body d s.unsent)) false) (is_left (after_body d s.unsent)) l) (after_choice Fresh rules d s) (wanted_in l.flown) (length l.flown + 1) (after_body d s.unsent)
+new_left : (rules : Rules) (d : ℕ) (l : RetxBuffer) (s : Sender) → length l.flown < rules.window → Stands rules l s → Left rules (new_line (sent_once no_extent false (ends_of (next_body d s.unsent)) false) (is_left (after_body d s.unsent)) l) (after_choice Fresh rules d s) (wanted_in l.flown) (length l.flown + 1) (after_body d s.unsent)
 new_left rules d l s room is = record {
-  stands = (new_sends rules l s (sent_once [] false (ends_of (next_body d s.unsent)) false) (is_left (after_body d s.unsent)) d room (record { acked = refl; requested = refl; named = refl; builds = refl; ends_are = refl }) refl is).stands;
+  stands = (new_sends rules l s (sent_once no_extent false (ends_of (next_body d s.unsent)) false) (is_left (after_body d s.unsent)) d room (record { acked = refl; requested = refl; named = refl; builds = refl; ends_are = refl }) refl is).stands;
   none_owed = paid rules (anew d s) _;
-  wanted_is = wanted_new l.flown (sent_once [] false (ends_of (next_body d s.unsent)) false) refl;
-  flying_is = length-append l.flown (sent_once [] false (ends_of (next_body d s.unsent)) false ∷ []);
+  wanted_is = wanted_new l.flown (sent_once no_extent false (ends_of (next_body d s.unsent)) false) refl;
+  flying_is = length-append l.flown (sent_once no_extent false (ends_of (next_body d s.unsent)) false ∷ []);
   unsent_is = refl;
 }
 
@@ -237,7 +237,7 @@ counts (suc n) rules d l s is = go (nat_lt (first_wanted l.flown) (length l.flow
         let none : wanted_in l.flown ≡ 0 = none_wanted l.flown (ltb-false _ _ ch.first) in
         let parts = and_parts _ _ ch.second in
         let below : length l.flown < rules.window = ltb-true _ _ parts.0 in
-        let m : RetxBuffer = new_line (sent_once [] false (ends_of (next_body d s.unsent)) false) (is_left (after_body d s.unsent)) l in
+        let m : RetxBuffer = new_line (sent_once no_extent false (ends_of (next_body d s.unsent)) false) (is_left (after_body d s.unsent)) l in
         let t : Sender = after_choice Fresh rules d s in
         let lf : Left rules m t (wanted_in l.flown) (length l.flown + 1) (after_body d s.unsent) = new_left rules d l s below is in
         let less : rules.window - (length l.flown + 1) ≡ rules.window - length l.flown - 1 = omega arith in

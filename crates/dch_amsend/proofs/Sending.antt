@@ -116,6 +116,20 @@ fresh_holds rules d h s chosen is = subst (λ c. Holds rules h (after_choice c r
 pub ticked : (s : Sender) → IsTicked s (timed s)
 ticked s = record { accepted = refl; bodies = refl; accepted_at = refl; ticks = refl; dropped = refl; gone = refl; low = refl }
 
+-- where no unit is discarded by age, its age isn't kept
+pub holds_still : (rules : Rules) (h : Held) (s : Sender) → rules.discard_age ≡ 0 → Holds rules h s → Holds rules h (timed s)
+holds_still rules h s off is = record {
+  buffer = is.buffer;
+  window = is.window;
+  sizes = is.sizes;
+  ends = is.ends;
+  ages = λ i inside some. absurd (omega (arith, some, off));
+  early = λ i. omega (arith, is.early i);
+  times = is.times;
+  passed = is.passed;
+  discarded = is.discarded;
+}
+
 -- where no discard runs, the last unit that is due is discarded
 pub tick_none : (rules : Rules) (s : Sender) → s.discard ≡ None → tick_sender rules s ≡ discards rules (timed s) (length s.accepted)
 tick_none rules s e = ap (after_tick rules (record s { poll_timer = s.poll_timer - 1; owed = s.owed || (s.poll_timer == 1); ticks = s.ticks + 1 })) e ∙ ap (λ x. discards rules (record s { poll_timer = s.poll_timer - 1; owed = s.owed || (s.poll_timer == 1); ticks = s.ticks + 1; discard = x }) (length s.accepted)) (e ∙ sym (ap timer_of e))

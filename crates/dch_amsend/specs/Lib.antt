@@ -1,4 +1,3 @@
 pub mod Counting
-pub mod Framing
 pub mod Outgoing
 pub mod Standing

@@ -1,43 +1,69 @@
 -- What a sender of the acknowledged mode has sent and has still to send (TS 25.322 9.4), and when it stands for a sender over numbers
 -- without wrap.
-use Rattle.std.specs.Prelude.{◌≡◌, ◌+◌, ◌-◌, ◌<◌, ℕ, Bool, length, min, nat_lt, Option, Some, None}
-use Rattle.dch_retx.specs.Flights.{at, wanted_in}
+use Rattle.std.specs.Prelude.{◌≡◌, ◌+◌, ◌-◌, ◌<◌, ◌≤◌, ℕ, List, [], ◌∷◌, Bool, length, min, nat_lt, Option, Some, None}
+use Rattle.dch_retx.specs.declared.sent_pdu.SentPdu.{SentPdu}
+use Rattle.dch_retx.specs.Flights.{at, first_wanted, wanted_in}
 use Rattle.dch_am.specs.Rules.{Rules}
-use Rattle.dch_am.specs.Bodies.{ends_of, next_body}
+use Rattle.dch_am.specs.Bodies.{carried, ends_of, marks_of, next_body}
 use Rattle.dch_am.specs.Cuts.{IsCut}
 use Rattle.dch_am.specs.Sender.{Sender, vt_a}
 use Rattle.dch_am.specs.Building.{Choice, Again, New, Last, NoPdu, body_at}
-use Rattle.dch_rlcum.specs.Sending.{Sending, builds}
+use Rattle.dch_rlcpdu.specs.Am.{am_pdu}
 use Rattle.dch_retx.specs.RetxBuffer.{RetxBuffer}
 use Rattle.dch_retx.specs.Standing.{Stands}
-use Rattle.dch_unsent.specs.Keeping.{Has, Keeps}
+use Rattle.dch_unsent.specs.Keeping.{Has, Keeps, Takes, fills}
+use Rattle.dch_unsent.specs.Waiting.{Waiting, body_in, unsent_of}
 use Rattle.dch_amsend.specs.Counting.{builds_of}
 
--- the octets of a PDU, the PDUs that were sent, and the units that wait
+-- the octets of a PDU, the PDUs that were sent, and the SDUs that are held
 pub record Outgoing : Type 0 where
   pub size : ℕ
   pub line : RetxBuffer
-  pub waiting : Sending
+  pub waiting : Waiting
 
 abbrev pub with_line : RetxBuffer → Outgoing → Outgoing
 with_line l v = record { size = v.size; line = l; waiting = v.waiting }
 
 -- how many PDUs could be built one after another, at most 64
 abbrev pub available_of : Outgoing → ℕ
-available_of v = min 64 (builds_of (min 64 (wanted_in v.line.flown)) (min (v.line.window - length v.line.flown) (builds 64 v.waiting.pdu v.waiting.mark_start v.waiting.units)) v.line.owed (length v.line.flown))
+available_of v = min 64 (builds_of (min 64 (wanted_in v.line.flown)) (min (v.line.window - length v.line.flown) (fills 64 (v.waiting.size - 2) (unsent_of v.waiting))) v.line.owed (length v.line.flown))
 
 -- a PDU can be built
 abbrev pub can_build : Outgoing → Bool
 can_build v = nat_lt 0 (available_of v)
+
+-- the octets of a PDU in flight, with its number and its poll bit
+abbrev pub pdu_in : ℕ → Bool → SentPdu → Outgoing → List ℕ
+pdu_in number poll f v = am_pdu number poll (marks_of (v.waiting.size - 2) (body_in v.waiting f)) (carried (body_in v.waiting f)) v.waiting.size
+
+-- the first PDU in flight
+abbrev pub first_flown : List SentPdu → Option SentPdu
+first_flown [] = None
+first_flown (f ∷ fs) = Some f
+
+-- the last PDU in flight stands at this place, and none is requested
+pub record IsLast (l : RetxBuffer) (place : ℕ) : Type 0 where
+  pub some : 0 < length l.flown
+  pub none : length l.flown ≤ first_wanted l.flown
+  pub place_is : place ≡ length l.flown - 1
 
 -- it stands for this sender, whose PDUs have d octets behind the header
 pub record IsOutgoing (rules : Rules) (d : ℕ) (v : Outgoing) (s : Sender) : Type 0 where
   pub size : v.size ≡ d + 2
   pub line : Stands rules v.line s
   pub waiting : Keeps d v.waiting s
-  pub room : v.waiting.buffer ≡ rules.buffer
+  pub room : v.waiting.blocks ≡ rules.buffer
   pub cut : IsCut s.accepted s.unsent s.bodies
   pub flown : (i : ℕ) → i < length v.line.flown → Has d (at v.line.flown i) (body_at s.bodies (vt_a s + i))
+  pub taken : (i : ℕ) → i < length v.line.flown → Takes s (vt_a s + i) (at v.line.flown i).extent
+
+-- it stands for a sender
+pub record IsRunning (v : Outgoing) : Type 0 where
+  pub from : 6 ≤ v.size
+  pub most : v.size ≤ 126
+  pub rules : Rules
+  pub sender : Sender
+  pub stands : IsOutgoing rules (v.size - 2) v sender
 
 -- how many units end in it, where it is a new one
 abbrev pub new_ends : ℕ → Sender → Choice → Option ℕ

@@ -1,7 +1,6 @@
 //! The sending side of RLC acknowledged mode (TS 25.322 4.2.1.3, 11.3.2, 11.5, 11.6).
 #![tactic(auto)]
 
-mod frame;
 mod outgoing;
 mod send;
 

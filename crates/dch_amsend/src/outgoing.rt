@@ -4,28 +4,26 @@ ghost use Rattle.dch_bits.specs.declared.offer.Offer.TheVariants.{Accepted};
 ghost use Rattle.dch_am.specs.declared.answers.StatusTaken.TheVariants.{Taken};
 ghost use Rattle.dch_am.specs.Acknowledging.{after_fields, status_answer};
 ghost use Rattle.dch_am.specs.Building.{after_build, after_choice, available, body_of_choice, choice, gives, New};
-ghost use Rattle.dch_am.specs.Bodies.{ends_of, next_body};
+ghost use Rattle.dch_am.specs.Bodies.{ends_of, is_left, next_body};
 ghost use Rattle.dch_am.specs.Discards.{after_mrw, discards_at, mrw_due};
 ghost use Rattle.dch_am.specs.Numbers.{wrapped};
 ghost use Rattle.dch_am.specs.Restart.{restarted_sender};
 ghost use Rattle.dch_am.specs.Rules.{Rules, rules_of};
 ghost use Rattle.dch_am.specs.Sender.{Discard, Sender, after_offer, vt_a, offered, opened_sender};
 ghost use Rattle.dch_am.specs.Short.{IsShort};
-ghost use Rattle.dch_rlcum.specs.Sending.{is_unsent};
 ghost use Rattle.dch_retx.specs.RetxBuffer.{is_due, number_at};
 ghost use Rattle.dch_retx.specs.Polling.{again_line, again_poll, last_line, last_poll};
 ghost use Rattle.dch_retx.specs.Standing.{timed};
 ghost use Rattle.dch_status.specs.Fields.{mrw_fields};
 ghost use Rattle.dch_status.specs.Reading.{status_of};
 ghost use Rattle.dch_status.specs.Writing.{IsText, mrw_text};
-ghost use Rattle.dch_amsend.specs.Framing.{framed};
 ghost use Rattle.dch_am.specs.Texts.{next_pdu, pdu_of_choice};
-ghost use Rattle.dch_amsend.specs.Outgoing.{IsOutgoing, available_of, can_build, more_of, new_ends, with_line};
+ghost use Rattle.dch_unsent.specs.Waiting.{unsent_of};
+ghost use Rattle.dch_amsend.specs.Outgoing.{IsLast, IsOutgoing, available_of, can_build, first_flown, more_of, new_ends, pdu_in, with_line};
 
-use crate::frame::write_frame;
 use dch_am::StatusTaken;
 use dch_bits::{NoMemory, Offer};
-use dch_retx::{Pick, RetxBuffer};
+use dch_retx::{Pick, RetxBuffer, SentPdu};
 use dch_status::{StatusView, write_mrw};
 use dch_types::AmRules;
 use dch_unsent::Unsent;
@@ -41,14 +39,13 @@ pub struct Outgoing {
 }
 
 impl Model for Outgoing {
-    ghost use Rattle.std.specs.Prelude.{◌≤◌};
-    ghost use Rattle.dch_amsend.specs.Outgoing.{Outgoing};
+    ghost use Rattle.dch_amsend.specs.Outgoing.{IsRunning, Outgoing};
 
     ghost Value = { Outgoing };
 
     ghost view = { λ v. record { size = v.size; line = v.line; waiting = v.waiting } };
 
-    ghost invariant = { λ v. (6 ≤ v.size) × (v.size ≤ 126) };
+    ghost invariant = { λ v. IsRunning (record { size = v.size; line = v.line; waiting = v.waiting }) };
 }
 
 impl Outgoing {
@@ -126,14 +123,14 @@ impl Outgoing {
 
     /// A PDU can be built that isn't requested: a new one, or the last one again.
     fn has_unrequested(&self) -> bool
-        ensures { result ≡ ((nat_lt (length self.now.line.flown) self.now.line.window && is_unsent self.now.waiting.units) || (self.now.line.owed && nat_lt 0 (length self.now.line.flown))) }
+        ensures { result ≡ ((nat_lt (length self.now.line.flown) self.now.line.window && is_left (unsent_of self.now.waiting)) || (self.now.line.owed && nat_lt 0 (length self.now.line.flown))) }
     {
         self.has_new() || self.has_last()
     }
 
     /// A new PDU can be built: unsent matter is left, and the window has room.
     fn has_new(&self) -> bool
-        ensures { result ≡ (nat_lt (length self.now.line.flown) self.now.line.window && is_unsent self.now.waiting.units) }
+        ensures { result ≡ (nat_lt (length self.now.line.flown) self.now.line.window && is_left (unsent_of self.now.waiting)) }
     {
         self.line.len() < self.line.window() && self.waiting.is_left()
     }
@@ -190,43 +187,42 @@ impl Outgoing {
         requires place { place < length self.old.line.flown }
         requires size { length out.old ≡ self.old.size }
         ensures after { self.new ≡ with_line (again_line place self.old.line) self.old }
-        ensures text { out.new ≡ framed (number_at place self.old.line) (again_poll place self.old.line) (at self.old.line.flown place).text self.old.size }
+        ensures text { out.new ≡ pdu_in (number_at place self.old.line) (again_poll place self.old.line) (at self.old.line.flown place) self.old }
     {
         let number = self.line.number_at(place);
         let flown = self.line.at(place);
         let poll = self.line.again(place);
-        write_frame(&flown.text, number, poll, out);
+        self.waiting.write(&flown, number, poll, out);
     }
 
     /// The last PDU is built again, for an owed poll.
     fn last(&mut self, place: u16, out: &mut [u8])
-        requires place { place < length self.old.line.flown }
+        requires last { IsLast self.old.line place }
         requires size { length out.old ≡ self.old.size }
         ensures after { self.new ≡ with_line (last_line place self.old.line) self.old }
-        ensures text { out.new ≡ framed (number_at place self.old.line) (last_poll place self.old.line) (at self.old.line.flown place).text self.old.size }
+        ensures text { out.new ≡ pdu_in (number_at place self.old.line) (last_poll place self.old.line) (at self.old.line.flown place) self.old }
     {
         let number = self.line.number_at(place);
         let flown = self.line.at(place);
         let poll = self.line.last(place);
-        write_frame(&flown.text, number, poll, out);
+        self.waiting.write(&flown, number, poll, out);
     }
 
     /// A new PDU is built. Answers how many units end in it.
     fn anew(&mut self, out: &mut [u8]) -> u8
         requires room { length self.old.line.flown < self.old.line.window }
-        requires some { is_unsent self.old.waiting.units ≡ true }
         requires size { length out.old ≡ self.old.size }
         ensures size { self.new.size ≡ self.old.size }
         ensures window { self.new.line.window ≡ self.old.line.window }
         ensures count { length self.new.line.flown ≡ length self.old.line.flown + 1 }
-        ensures history { (rules : Rules) (d : ℕ) (s : Sender) → IsOutgoing rules d self.old s → choice rules s ≡ New →
+        ensures history { (rules : Rules) (d : ℕ) (s : Sender) → IsOutgoing rules d self.old s →
             (out.new ≡ pdu_of_choice rules d s New) × (result ≡ ends_of (next_body d s.unsent)) × IsOutgoing rules d self.new (after_choice New rules d s) × IsShort d (next_body d s.unsent) }
     {
         let number = self.line.number_at(self.line.len() as u16);
         let flown = self.waiting.build();
         let left = self.waiting.is_left();
         let poll = self.line.push(flown, left);
-        write_frame(&flown.text, number, poll, out);
+        self.waiting.write(&flown, number, poll, out);
         flown.ends
     }
 
@@ -239,7 +235,10 @@ impl Outgoing {
         ensures history { (rules : Rules) (d : ℕ) (s : Sender) → IsOutgoing rules d self.old s →
             (result ≡ status_answer rules s status.now) × IsOutgoing rules d self.new (after_fields rules s status.now) }
     {
-        self.line.hear(status)
+        let taken = self.line.hear(status);
+        let first = first_in_flight(&self.line);
+        self.waiting.release(first);
+        taken
     }
 
     /// One tick of the timers.
@@ -303,5 +302,16 @@ impl Outgoing {
     {
         self.line.restart();
         self.waiting.restart()
+    }
+}
+
+/// The first PDU in flight.
+fn first_in_flight(line: &RetxBuffer) -> Option<SentPdu>
+    ensures { result ≡ first_flown line.now.flown }
+{
+    if line.len() > 0 {
+        Some(line.at(0))
+    } else {
+        None
     }
 }

@@ -1,9 +1,7 @@
-//! Two ends of a bearer in acknowledged mode (TS 25.322 11.3): that one reads what the other writes, what holds whatever is offered, built, lost and delivered,
-//! and two that run.
+//! Two ends of a bearer in acknowledged mode (TS 25.322 11.3): what holds whatever is offered, built, lost and delivered, and two that run.
 #![tactic(auto)]
 
 mod inside;
-mod laws;
 mod outcome;
 mod peer;
 mod run;
@@ -13,7 +11,6 @@ mod store;
 
 pub use dch_amlaw::in_order_law;
 pub use inside::are_inside;
-pub use laws::payload_law;
 pub use outcome::PairEnd;
 pub use run::run_pair;
 pub use setup::{End, PairEvent, PairSetup};

@@ -1,15 +1,20 @@
 -- The PDUs of a sender that are in flight (TS 25.322 9.4, 11.5.3): those from the lowest number that is not acknowledged on.
 use Rattle.std.specs.Prelude.{◌≡◌, ◌+◌, ◌≤◌, ◌<◌, ◌==◌, ◌||◌, ℕ, zero, suc, List, [], ◌∷◌, Bool, true, false, length, nat_lt, nat_le, slice_index_or, if◌then◌else◌}
 use Rattle.circular_buffer.specs.Buffer.{Buffer}
+use Rattle.dch_retx.specs.declared.sent_pdu.Extent.{Extent}
 use Rattle.dch_retx.specs.declared.sent_pdu.SentPdu.{SentPdu}
+
+-- no octets
+abbrev pub no_extent : Extent
+no_extent = record { sdu = 0; used = 0; pieces = 0; rest = 0 }
 
 -- no PDU
 abbrev pub blank : SentPdu
-blank = record { text = []; full = false; ends = 0; continues = false; builds = 0; acked = false; requested = false; named = false }
+blank = record { extent = no_extent; full = false; ends = 0; continues = false; builds = 0; acked = false; requested = false; named = false }
 
 -- a PDU that was just built
-abbrev pub sent_once : List ℕ → Bool → ℕ → Bool → SentPdu
-sent_once text full ends continues = record { text = text; full = full; ends = ends; continues = continues; builds = 1; acked = false; requested = false; named = false }
+abbrev pub sent_once : Extent → Bool → ℕ → Bool → SentPdu
+sent_once extent full ends continues = record { extent = extent; full = full; ends = ends; continues = continues; builds = 1; acked = false; requested = false; named = false }
 
 -- the PDU at a place
 abbrev pub at : List SentPdu → ℕ → SentPdu

@@ -100,7 +100,7 @@ timed s = record s { poll_timer = s.poll_timer - 1; owed = s.owed || (s.poll_tim
 
 -- two PDUs are sent alike
 pub record IsAlike (f g : SentPdu) : Type 0 where
-  pub text : f.text ≡ g.text
+  pub extent : f.extent ≡ g.extent
   pub full : f.full ≡ g.full
   pub ends : f.ends ≡ g.ends
   pub continues : f.continues ≡ g.continues

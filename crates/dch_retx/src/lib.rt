@@ -10,4 +10,4 @@ mod places;
 mod sent_pdu;
 
 pub use buffer::{Pick, RetxBuffer, Running};
-pub use sent_pdu::SentPdu;
+pub use sent_pdu::{Extent, SentPdu};

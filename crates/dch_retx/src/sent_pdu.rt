@@ -1,11 +1,23 @@
 ghost use Rattle.std.specs.Prelude.{◌≡◌};
 ghost use Rattle.dch_retx.specs.Flights.{sent_once};
 
+/// Where the octets of a PDU stand among the SDUs.
+#[derive(Clone, Copy)]
+pub struct Extent {
+    /// The SDU where they begin, counted since opening, up to 65,536.
+    pub sdu: u16,
+    /// How many octets of that SDU stand in PDUs before.
+    pub used: u16,
+    /// How many SDUs end with octets of the PDU and have their length indicators in it.
+    pub pieces: u8,
+    /// How many octets of the next SDU stand behind them.
+    pub rest: u8,
+}
+
 /// A PDU in flight.
 #[derive(Clone, Copy)]
 pub struct SentPdu {
-    /// What is sent behind the fixed header, after an octet whose last bit tells whether a mark follows.
-    pub text: [u8; 125],
+    pub extent: Extent,
     /// The mark 0 stands first.
     pub full: bool,
     /// How many units have their end mark in it.
@@ -24,11 +36,11 @@ pub struct SentPdu {
 
 impl SentPdu {
     /// A PDU that was just built.
-    pub fn new(text: [u8; 125], full: bool, ends: u8, continues: bool) -> SentPdu
-        ensures { result ≡ sent_once text full ends continues }
+    pub fn new(extent: Extent, full: bool, ends: u8, continues: bool) -> SentPdu
+        ensures { result ≡ sent_once extent full ends continues }
     {
         SentPdu {
-            text,
+            extent,
             full,
             ends,
             continues,

@@ -1,8 +1,6 @@
-pub mod Reading
-pub mod Filled
-pub mod Texts
-pub mod Built
-pub mod Left
-pub mod Room
-pub mod Fills
+pub mod Counting
+pub mod Filling
+pub mod Offering
+pub mod Placing
 pub mod Restarting
+pub mod Taking

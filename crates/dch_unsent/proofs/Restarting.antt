@@ -1,108 +1,107 @@
--- What waits when the sender begins anew: the units of which no octet was built.
-use Rattle.std.proofs.Common.{◌≡◌, ◌+◌, ◌-◌, ◌≤◌, ℕ, suc, List, [], ◌∷◌, ◌++◌, Bool, true, false, cond, length, take, drop, arith, refl, sym, ap, ap₂, ◌∙◌, subst, length-drop}
-use Rattle.std.specs.Prelude.{nat_lt}
-use Rattle.std.proofs.lemmas.Bool.{le-ltb, lt-ltb, ltb-true, ltb-false}
-use Rattle.std.proofs.lemmas.List.{drop_all, drop_at, drop-drop, length-take-le}
-use Rattle.dch_sar.specs.Filling.{AreSome, total}
-use Rattle.dch_sar.specs.Pdus.{Front, begun_by, first_front, front, front_from, left_from, next_front, pdus_from}
-use Rattle.dch_sar.proofs.Joined.{left_none}
-use Rattle.dch_am.specs.Bodies.{Body, carried, joined, sizes}
-use Rattle.dch_am.specs.Listed.{AreBodies}
-use Rattle.dch_am.specs.Restart.{begun, begun_below, octets_in, restarted_sender}
+-- What is kept when a sender begins anew.
+use Rattle.std.proofs.Common.{◌≡◌, ◌+◌, ◌-◌, ◌<◌, ◌≤◌, ℕ, zero, suc, List, [], ◌∷◌, ◌++◌, Bool, true, false, cond, length, get_or, drop, arith, refl, sym, ap, ◌∙◌, subst, ⊎_elim, length-append, length-drop}
+use Rattle.std.specs.Prelude.{◌||◌, nat_lt}
+use Rattle.std.proofs.lemmas.Bool.{cases_lt, le-ltb, lt-ltb, ltb-true}
+use Rattle.std.proofs.lemmas.List.{drop-drop, drop_at}
+use Rattle.dch_am.specs.Bodies.{Reading, Unsent, ends, is_empty, read_bodies}
+use Rattle.dch_am.specs.Cuts.{Fits, IsCut, empty_reading, unread}
+use Rattle.dch_am.specs.Restart.{begun, restarted_sender, whole_of}
 use Rattle.dch_am.specs.Sender.{Sender}
-use Rattle.dch_am.proofs.Listing.{length-sizes}
-use Rattle.dch_am.proofs.Restarting.{listed_restarts}
-use Rattle.dch_rlcum.specs.Sending.{Sending, restarted}
-use Rattle.dch_unsent.specs.Keeping.{Keeps}
-use Rattle.dch_unsent.proofs.Room.{begun_zero}
+use Rattle.dch_am.proofs.Restarting.{kept_is}
+use Rattle.dch_cut.specs.Cuts.{IsStart, first_of, trimmed}
+use Rattle.dch_cut.proofs.Cutting.{trimmed_none}
+use Rattle.dch_unsent.specs.Keeping.{Keeps, released}
+use Rattle.dch_unsent.specs.Waiting.{Waiting, begun_in, restarted}
 
--- the list of PDUs reaches as far as the octets that they carry
-reached : (d : ℕ) (row ns : List ℕ) (f : Front) (cuts : List ℕ) (bs : List Body) → AreBodies d row (pdus_from d false ns f cuts) bs → (front_from d false ns f cuts).from ≡ f.from + octets_in bs
-reached d row ns f [] [] are = omega arith
-reached d row ns f [] (b ∷ bs) are = absurd are
-reached d row ns f (cut ∷ cuts) [] are = absurd are
-reached d row ns f (cut ∷ cuts) (b ∷ bs) are =
-    let next : Front = next_front d false (take cut ns) f in
-    let size : length (carried b) ≡ next.from - f.from = ap length are.0.octets ∙ length-take-le (next.from - f.from) (drop f.from row) (omega (arith, length-drop f.from row, are.0.within)) in
-    omega (arith, reached d row ns next cuts bs are.1, size, are.0.forward)
-
--- these units are left whole, where an octet of the first may have been sent
-record IsWhole (begins : Bool) (left row : List ℕ) (us : List (List ℕ)) : Type 0 where
-  lengths : drop (cond begins 1 0) left ≡ sizes us
-  octets : drop (total (take (cond begins 1 0) left)) row ≡ joined us
-
-below_none : (n : ℕ) (us : List (List ℕ)) → n ≡ 0 → begun_below n us ≡ 0
-below_none n [] e = refl
-below_none n (u ∷ us) e = ap (λ b. cond b (1 + begun_below (n - length u) us) 0) (le-ltb 0 n (omega arith))
-
-drop_past : (xs ys : List ℕ) (n : ℕ) → length xs ≤ n → drop n (xs ++ ys) ≡ drop (n - length xs) ys
-drop_past xs ys n le =
-    let e : n ≡ length xs + (n - length xs) = omega arith in
-    ap (λ k. drop k (xs ++ ys)) e ∙ (sym (drop-drop (n - length xs) (length xs) (xs ++ ys)) ∙ ap (drop (n - length xs)) (drop_at xs ys (length xs) refl))
-
-whole : (us : List (List ℕ)) (f : ℕ) → AreSome (sizes us) → IsWhole (nat_lt 0 (begun_by 0 f (sizes us))) (left_from f (sizes us)) (drop f (joined us)) (drop (begun_below f us) us)
-whole [] f some = record { lengths = refl; octets = drop_all f [] (omega arith) }
-whole (u ∷ us) f some = go (nat_lt f (length u)) (nat_lt 0 f) refl refl (whole us (f - length u) some.1)
+-- SDUs without the first, where octets of it stand in a PDU
+whole_is : (used : ℕ) (us : List (List ℕ)) (part : List ℕ) (owed : Bool) → us ≡ cond owed (trimmed used us) (unread part false (trimmed used us)) → used ≤ length (first_of us) → Fits part owed (trimmed used us) → drop (cond (nat_lt 0 used) 1 0) us ≡ whole_of part (record { owed = owed; units = trimmed used us })
+whole_is used [] part owed e few fits = none (nat_lt 0 used) (owed || is_empty part)
   where
-    go : (b c : Bool) → nat_lt f (length u) ≡ b → nat_lt 0 f ≡ c → IsWhole (nat_lt 0 (begun_by 0 (f - length u) (sizes us))) (left_from (f - length u) (sizes us)) (drop (f - length u) (joined us)) (drop (begun_below (f - length u) us) us)
-        → IsWhole (nat_lt 0 (cond b (0 + f) (begun_by 0 (f - length u) (sizes us)))) (cond b ((length u - f) ∷ sizes us) (left_from (f - length u) (sizes us))) (drop f (u ++ joined us)) (drop (cond c (1 + begun_below (f - length u) us) 0) (u ∷ us))
-    go true true e1 e2 rest =
-        let begins : nat_lt 0 (0 + f) ≡ true = lt-ltb 0 (0 + f) (omega (arith, ltb-true 0 f e2)) in
-        let one : 1 + begun_below (f - length u) us ≡ 1 = omega (arith, below_none (f - length u) us (omega (arith, ltb-true f (length u) e1))) in
-        let past : f + (length u - f + 0) ≡ length u = omega (arith, ltb-true f (length u) e1) in
-        subst (λ b. IsWhole b ((length u - f) ∷ sizes us) (drop f (u ++ joined us)) (drop (1 + begun_below (f - length u) us) (u ∷ us))) (sym begins)
-        (subst (λ n. IsWhole true ((length u - f) ∷ sizes us) (drop f (u ++ joined us)) (drop n (u ∷ us))) (sym one) (record {
-          lengths = refl;
-          octets = drop-drop (length u - f + 0) f (u ++ joined us) ∙ (ap (λ n. drop n (u ++ joined us)) past ∙ drop_at u (joined us) (length u) refl);
-        }))
-    go true false e1 e2 rest =
-        let none : f ≡ 0 = omega (arith, ltb-false 0 f e2) in
-        let begins : nat_lt 0 (0 + f) ≡ false = le-ltb 0 (0 + f) (omega (arith, none)) in
-        let all : length u - f ≡ length u = omega (arith, none) in
-        subst (λ b. IsWhole b ((length u - f) ∷ sizes us) (drop f (u ++ joined us)) (u ∷ us)) (sym begins) (record { lengths = ap (λ n. n ∷ sizes us) all; octets = ap (λ n. drop n (u ++ joined us)) none })
-    go false true e1 e2 rest =
-        let more : 1 + begun_below (f - length u) us ≡ suc (begun_below (f - length u) us) = omega arith in
-        subst (λ row. IsWhole (nat_lt 0 (begun_by 0 (f - length u) (sizes us))) (left_from (f - length u) (sizes us)) row (drop (1 + begun_below (f - length u) us) (u ∷ us))) (sym (drop_past u (joined us) f (ltb-false f (length u) e1)))
-        (subst (λ n. IsWhole (nat_lt 0 (begun_by 0 (f - length u) (sizes us))) (left_from (f - length u) (sizes us)) (drop (f - length u) (joined us)) (drop n (u ∷ us))) (sym more) rest)
-    go false false e1 e2 rest = absurd (omega (arith, some.0, ltb-false f (length u) e1, ltb-false 0 f e2))
+    none : (b c : Bool) → drop {A = List ℕ} (cond b 1 0) [] ≡ cond c [] (drop 1 [])
+    none true true = refl
+    none true false = refl
+    none false true = refl
+    none false false = refl
+whole_is used (u ∷ us) part true e few fits =
+    let n : length u ≡ length u - used = ap (λ vs. length (first_of vs)) e ∙ length-drop used u in
+    let none : used ≡ 0 = omega (arith, n, few) in
+    ap (λ b. drop (cond b 1 0) (u ∷ us)) (le-ltb 0 used (omega (arith, none))) ∙ ap (λ k. drop k u ∷ us) (sym none)
+whole_is used (u ∷ us) [] false e few fits =
+    let n : length u ≡ length u - used = ap (λ vs. length (first_of vs)) e ∙ length-drop used u in
+    let none : used ≡ 0 = omega (arith, n, few) in
+    ap (λ b. drop (cond b 1 0) (u ∷ us)) (le-ltb 0 used (omega (arith, none))) ∙ ap (λ k. drop k u ∷ us) (sym none)
+whole_is used (u ∷ us) (x ∷ xs) false e few fits =
+    let n : length u ≡ length ((x ∷ xs) ++ drop used u) = ap (λ vs. length (first_of vs)) e in
+    let some : 0 < used = omega (arith, n, length-append (x ∷ xs) (drop used u), length-drop used u, few) in
+    ap (λ b. drop (cond b 1 0) (u ∷ us)) (lt-ltb 0 used some)
 
--- what waits behind the PDUs
-waits : (d : ℕ) (v : Sending) (s : Sender) → Keeps d v s → IsWhole (nat_lt 0 v.units.sent) v.units.lengths v.row (drop (begun s) s.accepted)
-waits d v s k =
-    subst (λ row. IsWhole (nat_lt 0 v.units.sent) v.units.lengths row (drop (begun s) s.accepted)) (sym (k.units.row ∙ ap (λ n. drop n (joined s.accepted)) here))
-    (subst (λ ns. IsWhole (nat_lt 0 v.units.sent) ns (drop (octets_in s.bodies) (joined s.accepted)) (drop (begun s) s.accepted)) (sym (k.units.lengths ∙ ap (λ n. left_from n (sizes s.accepted)) here))
-    (subst (λ n. IsWhole (nat_lt 0 n) (left_from (octets_in s.bodies) (sizes s.accepted)) (drop (octets_in s.bodies) (joined s.accepted)) (drop (begun s) s.accepted)) (sym (k.units.sent ∙ ap (λ n. begun_by 0 n (sizes s.accepted)) here))
-    (whole s.accepted (octets_in s.bodies) k.listed.some)))
+-- the SDUs from the place of the next PDU on are those that aren't read yet
+behind_place : (d : ℕ) (w : Waiting) (s : Sender) → IsCut s.accepted s.unsent s.bodies → Keeps d w s → drop w.start.sdu w.sdus ≡ cond s.unsent.owed s.unsent.units (unread (read_bodies empty_reading s.bodies).part false s.unsent.units)
+behind_place d w s cut keeps =
+    ap (λ us. drop w.start.sdu us) keeps.sdus
+    ∙ (drop-drop w.start.sdu (released s) s.accepted
+    ∙ (ap (λ us. drop (released s + w.start.sdu) us) (sym cut.goes.same)
+    ∙ go s.unsent.owed (keeps.place ∙ ap (λ (q : Unsent). ends s.bodies + cond q.owed 1 0) keeps.unsent)))
   where
-    size : v.pdu - 1 ≡ d
-    size = omega (arith, k.size)
+    r : Reading
+    r = read_bodies empty_reading s.bodies
 
-    here : (front (v.pdu - 1) v.mark_start (sizes s.accepted) s.cuts).from ≡ octets_in s.bodies
-    here = ap₂ (λ n m. (front n m (sizes s.accepted) s.cuts).from) size k.starts ∙ (reached d (joined s.accepted) (sizes s.accepted) first_front s.cuts s.bodies k.listed.bodies ∙ omega arith)
+    go : (owed : Bool) → released s + w.start.sdu ≡ ends s.bodies + cond owed 1 0 → drop (released s + w.start.sdu) (r.units ++ unread r.part owed s.unsent.units) ≡ cond owed s.unsent.units (unread r.part false s.unsent.units)
+    go true e =
+        let n : released s + w.start.sdu ≡ length r.units + 1 = omega (arith, e, cut.goes.count) in
+        ap (λ k. drop k (r.units ++ r.part ∷ s.unsent.units)) n
+        ∙ (sym (drop-drop 1 (length r.units) (r.units ++ r.part ∷ s.unsent.units)) ∙ ap (λ us. drop 1 us) (drop_at r.units (r.part ∷ s.unsent.units) (length r.units) refl))
+    go false e =
+        let n : released s + w.start.sdu ≡ length r.units = omega (arith, e, cut.goes.count) in
+        ap (λ k. drop k (r.units ++ unread r.part false s.unsent.units)) n ∙ drop_at r.units (unread r.part false s.unsent.units) (length r.units) refl
 
-pub restarts : (d : ℕ) (v now : Sending) (s : Sender) (count : ℕ) → now ≡ restarted v → count ≡ length now.units.lengths → Keeps d v s → (count ≡ length (restarted_sender s).accepted) × Keeps d now (restarted_sender s)
-restarts d v now s count e many k = (
-  many ∙ (ap (λ (x : Sending). length x.units.lengths) e ∙ (ap length w.lengths ∙ length-sizes (drop (begun s) s.accepted))),
-  subst (λ x. Keeps d x (restarted_sender s)) (sym e) (record {
-    size = k.size;
-    starts = k.starts;
-    units = record {
-      some = some;
-      rising = omega arith;
-      from = k.units.from;
-      most = k.units.most;
-      lengths = w.lengths ∙ sym (left_none (sizes (drop (begun s) s.accepted)) some);
-      sent = sym (begun_zero (sizes (drop (begun s) s.accepted)) some);
-      owed = refl;
-      row = w.octets;
-      number = omega arith;
-    };
-    listed = listed_restarts d s k.listed;
-  }),
-)
+first_at : (us : List (List ℕ)) (k : ℕ) → first_of (drop k us) ≡ get_or us k []
+first_at [] zero = refl
+first_at [] (suc k) = refl
+first_at (u ∷ us) zero = refl
+first_at (u ∷ us) (suc k) = first_at us k
+
+-- the SDUs of which no octet was built
+pub kept_are : (d : ℕ) (w : Waiting) (s : Sender) → IsCut s.accepted s.unsent s.bodies → Keeps d w s → drop (begun_in w) w.sdus ≡ drop (begun s) s.accepted
+kept_are d w s cut keeps =
+    sym (drop-drop (cond (nat_lt 0 w.start.used) 1 0) w.start.sdu w.sdus)
+    ∙ (whole_is w.start.used (drop w.start.sdu w.sdus) r.part s.unsent.owed behind (omega (arith, keeps.start.used, ap (λ (xs : List ℕ). length xs) (first_at w.sdus w.start.sdu))) (subst (Fits r.part s.unsent.owed) (sym units) cut.goes.fits)
+    ∙ (ap (λ us. whole_of r.part (record { owed = s.unsent.owed; units = us })) units ∙ sym (kept_is s.accepted s.unsent s.bodies cut)))
   where
-    w : IsWhole (nat_lt 0 v.units.sent) v.units.lengths v.row (drop (begun s) s.accepted)
-    w = waits d v s k
+    r : Reading
+    r = read_bodies empty_reading s.bodies
 
-    some : AreSome (sizes (drop (begun s) s.accepted))
-    some = (listed_restarts d s k.listed).some
+    units : trimmed w.start.used (drop w.start.sdu w.sdus) ≡ s.unsent.units
+    units = ap (λ (q : Unsent). q.units) keeps.unsent
+
+    behind : drop w.start.sdu w.sdus ≡ cond s.unsent.owed (trimmed w.start.used (drop w.start.sdu w.sdus)) (unread r.part false (trimmed w.start.used (drop w.start.sdu w.sdus)))
+    behind = behind_place d w s cut keeps ∙ ap (λ us. cond s.unsent.owed us (unread r.part false us)) (sym units)
+
+pub restart_keeps : (d : ℕ) (w : Waiting) (s : Sender) → IsCut s.accepted s.unsent s.bodies → Keeps d w s → Keeps d (restarted w) (restarted_sender s)
+restart_keeps d w s cut keeps = record {
+  size = keeps.size;
+  from = keeps.from;
+  start = record { sdu = omega arith; used = omega arith };
+  sdus = kept_are d w s cut keeps;
+  gone = refl;
+  unsent = ap (λ us. record { owed = false; units = us }) (trimmed_none (drop (begun_in w) w.sdus) ∙ kept_are d w s cut keeps);
+  place = refl;
+  small = omega arith;
+}
+
+-- as many SDUs as have an octet in a PDU are there
+pub begun_few : (w : Waiting) → IsStart w.sdus w.start → begun_in w ≤ length w.sdus
+begun_few w is = go (nat_lt 0 w.start.used) refl
+  where
+    past : (us : List (List ℕ)) (k : ℕ) → length us ≤ k → length (get_or us k []) ≡ 0
+    past [] zero l = refl
+    past [] (suc k) l = refl
+    past (u ∷ us) zero l = absurd (omega (arith, l))
+    past (u ∷ us) (suc k) l = past us k (omega (arith, l))
+
+    go : (b : Bool) → nat_lt 0 w.start.used ≡ b → w.start.sdu + cond b 1 0 ≤ length w.sdus
+    go true e = ⊎_elim
+        (λ (m : w.start.sdu < length w.sdus). omega (arith, m))
+        (λ (m : length w.sdus ≤ w.start.sdu). absurd (omega (arith, is.used, past w.sdus w.start.sdu m, ltb-true 0 w.start.used e)))
+        (cases_lt w.start.sdu (length w.sdus))
+    go false e = omega (arith, is.sdu)

@@ -1,42 +1,50 @@
--- What waits in a sender of the acknowledged mode, as a sender of the unacknowledged mode without its header keeps it (TS 25.322 9.2.2.8).
-use Rattle.std.specs.Prelude.{◌≡◌, ◌+◌, ◌-◌, ◌≤◌, ◌%◌, ◌++◌, ℕ, zero, suc, List, [], ◌∷◌, false, not, replicate, if◌then◌else◌}
-use Rattle.dch_am.specs.Bodies.{Body, Unsent, after_body, carried, ends_of, is_empty, is_left, marks_of}
-use Rattle.dch_am.specs.Listed.{IsListed}
-use Rattle.dch_am.specs.Sender.{Sender}
+-- The SDUs that are kept, and the PDUs in flight, stand for a sender over lists and numbers without wrap (TS 25.322 9.4).
+use Rattle.std.specs.Prelude.{◌≡◌, ◌+◌, ◌%◌, ◌≤◌, ℕ, zero, suc, not, take, if◌then◌else◌}
+use Rattle.dch_am.specs.Bodies.{Body, Unsent, after_body, ends, ends_of, is_empty, is_left}
+use Rattle.dch_am.specs.Building.{body_at}
+use Rattle.dch_am.specs.Sender.{Sender, held, vt_a}
 use Rattle.dch_am.specs.Short.{IsShort}
+use Rattle.dch_cut.specs.declared.taken.Start.{Start}
+use Rattle.dch_cut.specs.Cuts.{IsStart, IsThere, body_of, left_at}
+use Rattle.dch_retx.specs.declared.sent_pdu.Extent.{Extent}
 use Rattle.dch_retx.specs.declared.sent_pdu.SentPdu.{SentPdu}
-use Rattle.dch_rlcpdu.specs.Um.{um_pdu}
-use Rattle.dch_rlcum.specs.History.{IsSenderOf}
-use Rattle.dch_rlcum.specs.Sending.{Sending}
+use Rattle.dch_unsent.specs.Waiting.{Waiting, taken_by, unsent_of}
 
--- what waits is what these units and these PDUs, of d octets behind the header, leave
-pub record Keeps (d : ℕ) (v : Sending) (s : Sender) : Type 0 where
-  pub size : v.pdu ≡ d + 1
-  pub starts : v.mark_start ≡ false
-  pub units : IsSenderOf s.accepted s.cuts v
-  pub listed : IsListed d s
+-- how many SDUs are acknowledged with all PDUs before their ends
+abbrev pub released : Sender → ℕ
+released s = ends (take (vt_a s) s.bodies)
 
--- an octet whose last bit tells whether a mark follows, and what is sent behind the header
-abbrev pub cleared : List ℕ → List ℕ
-cleared [] = []
-cleared (x ∷ xs) = (x % 2) ∷ xs
-
-abbrev pub content : ℕ → Body → List ℕ
-content d b = um_pdu 0 (marks_of d b) (carried b) (d + 1)
+-- what is kept stands for this sender, whose PDUs have d octets behind the header
+pub record Keeps (d : ℕ) (w : Waiting) (s : Sender) : Type 0 where
+  pub size : w.size ≡ d + 2
+  pub from : 1 ≤ d
+  pub start : IsStart w.sdus w.start
+  pub sdus : w.sdus ≡ held s
+  pub gone : w.gone ≡ released s % 65536
+  pub unsent : unsent_of w ≡ s.unsent
+  pub place : released s + w.start.sdu ≡ ends s.bodies + (if w.owed then 1 else 0)
+  pub small : w.start.sdu ≤ 65535
 
 -- a PDU in flight has this body
 pub record Has (d : ℕ) (f : SentPdu) (b : Body) : Type 0 where
-  pub text : f.text ≡ content d b ++ replicate (125 - (d + 1)) 0
   pub full : f.full ≡ b.full
   pub ends : f.ends ≡ ends_of b
   pub continues : f.continues ≡ not (is_empty b.rest)
   pub short : IsShort d b
 
--- how many octets such a text has
-pub record IsSized (size pdu : ℕ) : Type 0 where
-  pub same : size ≡ pdu
-  pub from : 5 ≤ pdu
-  pub most : pdu ≤ 125
+-- the first accepted SDU of which PDU k has octets, or the one behind all
+abbrev pub first_in : Sender → ℕ → ℕ
+first_in s k = ends (take k s.bodies) + (if (body_at s.bodies k).full then 1 else 0)
+
+abbrev pub start_of : Sender → ℕ → Extent → Start
+start_of s k x = record { sdu = first_in s k; used = x.used }
+
+-- PDU k takes this of the accepted SDUs
+pub record Takes (s : Sender) (k : ℕ) (x : Extent) : Type 0 where
+  pub sdu : x.sdu ≡ first_in s k % 65536
+  pub start : IsStart s.accepted (start_of s k x)
+  pub there : IsThere (taken_by x) (left_at (start_of s k x) s.accepted)
+  pub body : body_of (body_at s.bodies k).full (taken_by x) (left_at (start_of s k x) s.accepted) ≡ body_at s.bodies k
 
 -- how many PDUs could be filled one after another, at most so many
 unfoldable pub fills : ℕ → ℕ → Unsent → ℕ

@@ -1,2 +1,2 @@
-pub mod Scanning
 pub mod Keeping
+pub mod Waiting

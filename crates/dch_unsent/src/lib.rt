@@ -1,8 +1,8 @@
-//! What waits to be sent in acknowledged mode, filled into PDUs (TS 25.322 9.2.2.8).
+//! The SDUs of acknowledged mode that wait or are in flight, and the PDUs cut from them, for the first time and again (TS 25.322 9.2.2.8, 9.4).
 #![tactic(auto)]
 
-mod scan;
+mod left;
 mod unsent;
+mod write;
 
-pub use scan::{Scan, read_marks};
 pub use unsent::Unsent;

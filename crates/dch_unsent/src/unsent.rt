@@ -1,145 +1,193 @@
-ghost use Rattle.std.specs.Prelude.{◌≡◌, ◌+◌, ◌-◌, ◌≤◌, ◌++◌, ◌&&◌, not, ℕ, List, [], ◌∷◌, true, false, IfOk, length, nat_lt, replicate};
-ghost use Rattle.dch_am.specs.Bodies.{is_left, next_body};
+ghost use Rattle.std.specs.Prelude.{◌≡◌, ◌+◌, ◌-◌, ◌<◌, ◌≤◌, ℕ, IfOk, length};
+ghost use Rattle.dch_am.specs.Bodies.{carried, is_left, marks_of, next_body};
 ghost use Rattle.dch_am.specs.Building.{anew};
+ghost use Rattle.dch_am.specs.Cuts.{IsCut};
 ghost use Rattle.dch_am.specs.Restart.{restarted_sender};
-ghost use Rattle.dch_am.specs.Sender.{Sender, after_offer, opened_sender};
-ghost use Rattle.dch_am.specs.Listed.{IsListed};
-ghost use Rattle.dch_rlcum.specs.Sending.{after_offer as after_offering};
-ghost use Rattle.dch_rlcum.specs.Sending.{after_build, answer_of, builds, is_unsent, no_units, pdu_of, restarted};
-ghost use Rattle.dch_rlcum.specs.History.{IsSenderOf, texts};
-ghost use Rattle.dch_retx.specs.Flights.{sent_once};
-ghost use Rattle.dch_unsent.specs.Keeping.{cleared, fills, Has, Keeps};
+ghost use Rattle.dch_am.specs.Rules.{Rules};
+ghost use Rattle.dch_am.specs.Sender.{Sender, after_offer, offered, opened_sender, vt_a, vt_s};
+ghost use Rattle.dch_rlcpdu.specs.Am.{am_pdu};
+ghost use Rattle.dch_cut.specs.Cuts.{next_start};
+ghost use Rattle.dch_unsent.specs.Keeping.{fills, Has, Keeps, Takes};
+ghost use Rattle.dch_unsent.specs.Waiting.{after_build, answer_of, body_in, cut_next, ended_before, next_flown, nothing, IsHere, released_by, restarted, unsent_of};
+ghost use Rattle.dch_unsent.specs.Waiting.{after_offer as after_offering};
 
-use crate::scan::{Scan, read_marks};
+use crate::left::{count_pdus, is_left_at, room_for};
+use crate::write::{Header, write_taken};
 use dch_bits::{NoMemory, Offer};
-use dch_retx::SentPdu;
-use dch_rlcum::UmSend;
+use dch_cut::{Cut, Start, next_cut, next_start};
+use dch_retx::{Extent, SentPdu};
+use dch_txbuf::SduBuffer;
 use std::alloc::Global;
 use std::marker::Model;
 
-/// The units that wait to be sent. Behind their header PDUs of the acknowledged mode are filled as those of the
-/// unacknowledged mode with one octet less, without marks of a unit's start.
+/// The SDUs that are held, from the first that isn't acknowledged with all PDUs before its end, and where the next PDU begins.
 #[derive(Drop)]
 pub struct Unsent {
-    fresh: UmSend,
+    sdus: SduBuffer,
+    start: Start,
+    owed: bool,
+    gone: u16,
     size: usize,
 }
 
 impl Model for Unsent {
-    ghost use Rattle.dch_rlcum.specs.Sending.{Sending};
-    ghost use Rattle.dch_retx.specs.Flights.{sent_once};
-    ghost use Rattle.dch_unsent.specs.Keeping.{IsSized};
+    ghost use Rattle.dch_unsent.specs.Waiting.{IsBuffer, Waiting};
 
-    ghost Value = { Sending };
+    ghost Value = { Waiting };
 
-    ghost view = { λ u. u.fresh };
+    ghost view = { λ u. record { sdus = u.sdus.items; blocks = u.sdus.capacity; start = u.start; owed = u.owed; gone = u.gone; size = u.size } };
 
-    ghost invariant = { λ u. IsSized u.size u.fresh.pdu };
+    ghost invariant = { λ u. IsBuffer u.sdus u.start u.gone u.size };
 }
 
 impl Unsent {
-    /// No unit waits. PDUs have `pdu` octets, 6 to 126, and units at most `buffer` blocks of 64 octets.
+    /// No SDU is held. PDUs have `pdu` octets, 6 to 126, and SDUs at most `buffer` blocks of 64 octets. All memory is taken here.
     pub fn open(alloc: Global, pdu: usize, buffer: u16) -> Result<Unsent, NoMemory>
         requires from { 6 ≤ pdu }
         requires most { pdu ≤ 126 }
-        ensures empty { IfOk result (λ u. u ≡ record { units = no_units; row = []; number = 0; pdu = pdu - 1; buffer = buffer; mark_start = false }) }
+        ensures empty { IfOk result (λ u. u ≡ nothing buffer pdu) }
         ensures history { IfOk result (λ u. Keeps (pdu - 2) u opened_sender) }
     {
-        let fresh = UmSend::open(alloc, pdu - 1, buffer, false)?;
+        let sdus = SduBuffer::open(alloc, buffer)?;
         Ok(Unsent {
-            fresh,
-            size: pdu - 1,
+            sdus,
+            start: Start { sdu: 0, used: 0 },
+            owed: false,
+            gone: 0,
+            size: pdu,
         })
     }
 
-    /// Offers a unit of 1 to 1,500 octets, which is accepted where its blocks find room beside those of the units that wait.
-    pub fn offer(&mut self, unit: &[u8]) -> Offer
-        ensures answer { result ≡ answer_of unit.now self.old }
-        ensures after { self.new ≡ after_offering result unit.now self.old }
-        ensures history { (d : ℕ) (s : Sender) → Keeps d self.old s → IsListed d (after_offer result s unit.now) → Keeps d self.new (after_offer result s unit.now) }
+    /// Offers an SDU of 1 to 1,500 octets, which is accepted where its blocks find room beside those of the SDUs that are held.
+    pub fn offer(&mut self, sdu: &[u8]) -> Offer
+        ensures answer { result ≡ answer_of sdu.now self.old }
+        ensures after { self.new ≡ after_offering result sdu.now self.old }
+        ensures history { (rules : Rules) (d : ℕ) (s : Sender) → Keeps d self.old s → IsCut s.accepted s.unsent s.bodies → self.old.blocks ≡ rules.buffer → (result ≡ offered rules s sdu.now) × Keeps d self.new (after_offer result s sdu.now) }
     {
-        self.fresh.offer(unit)
+        self.store(sdu)
+    }
+
+    /// The same, by places.
+    fn store(&mut self, sdu: &[u8]) -> Offer
+        ensures answer { result ≡ answer_of sdu.now self.old }
+        ensures after { self.new ≡ after_offering result sdu.now self.old }
+    {
+        if sdu.is_empty() || sdu.len() > 1500 {
+            return Offer::WrongSize;
+        }
+        if !self.sdus.has_room(sdu.len()) {
+            return Offer::Full;
+        }
+        self.sdus.push(sdu);
+        Offer::Accepted
     }
 
     /// Something is left to be sent.
     pub fn is_left(&self) -> bool
-        ensures left { result ≡ is_unsent self.now.units }
+        ensures left { result ≡ is_left (unsent_of self.now) }
         ensures history { (d : ℕ) (s : Sender) → Keeps d self.now s → result ≡ is_left s.unsent }
     {
-        self.is_some()
-    }
-
-    fn is_some(&self) -> bool
-        ensures { result ≡ is_unsent self.now.units }
-    {
-        self.fresh.is_due()
+        is_left_at(&self.sdus, &self.start, self.owed)
     }
 
     /// How many PDUs could be filled one after another, at most 64.
     pub fn available(&self) -> u16
-        ensures value { result ≡ builds 64 self.now.pdu self.now.mark_start self.now.units }
+        ensures value { result ≡ fills 64 (self.now.size - 2) (unsent_of self.now) }
         ensures history { (d : ℕ) (s : Sender) → Keeps d self.now s → result ≡ fills 64 d s.unsent }
     {
-        self.count()
+        count_pdus(&self.sdus, self.start, self.owed, self.size - 2)
     }
 
-    fn count(&self) -> u16
-        ensures { result ≡ builds 64 self.now.pdu self.now.mark_start self.now.units }
-    {
-        self.fresh.available()
-    }
-
-    /// Fills the next PDU.
+    /// What the next PDU takes of the SDUs. It isn't left any more.
     pub fn build(&mut self) -> SentPdu
-        requires { is_unsent self.old.units ≡ true }
         ensures after { self.new ≡ after_build self.old }
-        ensures fresh { result ≡ sent_once result.text result.full result.ends result.continues }
-        ensures history { (d : ℕ) (s : Sender) → Keeps d self.old s → IsListed d (anew d s) → Has d result (next_body d s.unsent) × Keeps d self.new (anew d s) }
+        ensures taken { result ≡ next_flown self.old }
+        ensures history { (d : ℕ) (s : Sender) → Keeps d self.old s → IsCut s.accepted s.unsent s.bodies → vt_a (anew d s) ≡ vt_a s →
+            Has d result (next_body d s.unsent) × Takes (anew d s) (vt_s s) result.extent × Keeps d self.new (anew d s) }
     {
-        let size = self.size;
-        let text = filled(&mut self.fresh, size);
-        let marks = read_marks(&text[..size]);
-        let continues = continues(&marks, size - 1);
-        SentPdu::new(text, marks.full, marks.ends, continues)
+        self.take()
     }
 
-    /// Begins anew with the units of which no octet was built. Answers how many they are.
+    /// The same, by places.
+    fn take(&mut self) -> SentPdu
+        ensures after { self.new ≡ after_build self.old }
+        ensures taken { result ≡ next_flown self.old }
+        ensures small { (next_start self.old.start (cut_next self.old)).sdu ≤ 65535 }
+    {
+        let cut = next_cut(&self.sdus, &self.start, room_for(self.size - 2, self.owed));
+        let extent = Extent {
+            sdu: self.gone.wrapping_add(self.start.sdu),
+            used: self.start.used,
+            pieces: cut.pieces,
+            rest: cut.rest,
+        };
+        let ends = u8::from(self.owed) + cut.pieces;
+        let flown = SentPdu::new(extent, self.owed, ends, cut.rest > 0);
+        self.start = next_start(&self.start, &cut);
+        self.owed = cut.owed;
+        flown
+    }
+
+    /// Writes a PDU in flight with its number and its poll bit, for the first time or again.
+    pub fn write(&self, flown: &SentPdu, number: u16, poll: bool, out: &mut [u8])
+        requires here { IsHere self.now flown.now }
+        requires number { number < 4096 }
+        requires size { length out.old ≡ self.now.size }
+        ensures { out.new ≡ am_pdu number poll (marks_of (self.now.size - 2) (body_in self.now flown.now)) (carried (body_in self.now flown.now)) self.now.size }
+    {
+        let start = Start {
+            sdu: flown.extent.sdu.wrapping_sub(self.gone),
+            used: flown.extent.used,
+        };
+        let cut = Cut {
+            pieces: flown.extent.pieces,
+            rest: flown.extent.rest,
+            owed: false,
+        };
+        let header = Header {
+            number,
+            poll,
+            full: flown.full,
+        };
+        write_taken(&self.sdus, &start, &cut, &header, out);
+    }
+
+    /// The SDUs that end before the first PDU in flight leave, or, where none is in flight, those that end in the PDUs that were built.
+    pub fn release(&mut self, first: Option<SentPdu>)
+        requires { ended_before first self.old ≤ self.old.start.sdu }
+        ensures after { self.new ≡ released_by (ended_before first self.old) self.old }
+    {
+        let count = match first {
+            None => self.start.sdu.saturating_sub(u16::from(self.owed)),
+            Some(flown) => {
+                let sdu = flown.extent.sdu.wrapping_sub(self.gone);
+                sdu.saturating_sub(u16::from(flown.full))
+            }
+        };
+        self.sdus.release(count as usize);
+        self.start.sdu -= count;
+        self.gone = self.gone.wrapping_add(count);
+    }
+
+    /// Begins anew with the SDUs of which no octet was built. Answers how many they are.
     pub fn restart(&mut self) -> usize
         ensures after { self.new ≡ restarted self.old }
-        ensures history { (d : ℕ) (s : Sender) → Keeps d self.old s → (result ≡ length (restarted_sender s).accepted) × Keeps d self.new (restarted_sender s) }
+        ensures count { result ≡ length self.new.sdus }
+        ensures history { (d : ℕ) (s : Sender) → Keeps d self.old s → IsCut s.accepted s.unsent s.bodies → (result ≡ length (restarted_sender s).accepted) × Keeps d self.new (restarted_sender s) }
     {
-        self.fresh.restart()
+        self.begin()
     }
-}
 
-/// The next PDU, of so many octets, its first octet without the number.
-fn filled(fresh: &mut UmSend, size: usize) -> [u8; 125]
-    requires some { is_unsent fresh.old.units ≡ true }
-    requires size { size ≡ fresh.old.pdu }
-    requires from { 5 ≤ size }
-    requires most { size ≤ 125 }
-    ensures text { result ≡ cleared (pdu_of fresh.old ++ replicate (125 - size) 0) }
-    ensures after { fresh.new ≡ after_build fresh.old }
-    ensures history { (units : List (List ℕ)) (cuts : List ℕ) → IsSenderOf units cuts fresh.old → IsSenderOf units (cuts ++ length units ∷ []) fresh.new }
-    ensures next { (units : List (List ℕ)) (cuts : List ℕ) → IsSenderOf units cuts fresh.old → texts fresh.old.pdu fresh.old.mark_start units (cuts ++ length units ∷ []) ≡ texts fresh.old.pdu fresh.old.mark_start units cuts ++ pdu_of fresh.old ∷ [] }
-{
-    let mut text = [0; 125];
-    fresh.build(&mut text[..size]);
-    cleared(text)
-}
-
-/// The first octet without the number.
-fn cleared(text: [u8; 125]) -> [u8; 125]
-    ensures { result ≡ cleared text }
-{
-    let mut text = text;
-    text[0] %= 2;
-    text
-}
-
-/// A unit goes on behind the octets of a PDU with so many behind its header.
-fn continues(marks: &Scan, size: usize) -> bool
-    ensures { result ≡ (not marks.now.closed && nat_lt (marks.now.last + marks.now.marks) size) }
-{
-    !marks.closed && (marks.last as usize + marks.marks as usize) < size
+    /// The same, by places.
+    fn begin(&mut self) -> usize
+        ensures after { self.new ≡ restarted self.old }
+        ensures count { result ≡ length self.new.sdus }
+    {
+        let begun = self.start.sdu as usize + usize::from(self.start.used > 0);
+        self.sdus.release(begun);
+        self.start = Start { sdu: 0, used: 0 };
+        self.owed = false;
+        self.gone = 0;
+        self.sdus.len()
+    }
 }

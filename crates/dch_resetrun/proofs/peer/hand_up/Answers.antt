@@ -2,7 +2,7 @@ use Rattle.std.proofs.Common.{◌≡◌, ◌++◌, ◌∙◌, ap, take, sym}
 use Rattle.dch_pair.specs.Standing.{whole}
 use Rattle.dch_pair.proofs.Units.{handed_front, ok_more, ok_none, ok_value}
 use Rattle.dch_reset.specs.Standing.{waiting_in}
-use Rattle.dch_resetrun.proofs.Handing.{one_handed}
+use Rattle.dch_resetrun.proofs.Handing.{none_waits, one_handed}
 use Rattle.dch_resetrun.proofs.peer.hand_up.Goals as goal
 
 pub loop-room-preserved-then-is_ok : goal.loop-room-preserved-then-is_ok
@@ -25,3 +25,6 @@ loop-room-preserved c = record {
   sizes = record { out = c.hand_one-now.ensures.sizes.out ∙ c.loop-room.invariant.sizes.out; in_ = c.hand_one-now.ensures.sizes.in_ ∙ c.loop-room.invariant.sizes.in_ };
   history = λ rules e is. one_handed rules c.loop-room.end c.hand_one-now.new.end e (sym c.loop-room-test.ensures.value) c.hand_one-now.ensures.rest (c.loop-room.invariant.history rules e is) (c.hand_one-now.ensures.history rules);
 }
+
+pub returns-clause-history : goal.returns-clause-history
+returns-clause-history c = λ rules e is. none_waits rules c.loop-room.end e (sym c.loop-room-test.ensures.value) (c.loop-room.invariant.history rules e is)

@@ -4,9 +4,9 @@ use Rattle.dch_am.specs.Bodies.{is_left}
 use Rattle.dch_am.specs.Building.{Again as Requested, New as Fresh, Last as Latest, choice}
 use Rattle.dch_am.specs.Numbers.{has}
 use Rattle.dch_am.specs.Sender.{vt_a, vt_s}
-use Rattle.dch_amsend.specs.Outgoing.{IsOutgoing, Outgoing, available_of, can_build}
+use Rattle.dch_amsend.specs.Outgoing.{IsLast, IsOutgoing, Outgoing, available_of, can_build}
 use Rattle.dch_amsend.proofs.Counting.{last_is, last_not}
-use Rattle.dch_amsend.proofs.Events.{IsLast, again_goes, built_by, last_goes, none_goes, picked_again, picked_last}
+use Rattle.dch_amsend.proofs.Events.{again_goes, built_by, last_goes, none_goes, picked_again, picked_last}
 use Rattle.dch_amsend.proofs.outgoing.Outgoing.build.Goals as goal
 
 pub returns-in-Again-clause-history : goal.returns-in-Again-clause-history
@@ -23,7 +23,7 @@ returns-in-New-clause-history c = λ rules d s is.
     let here : IsOutgoing rules d v s = subst (λ x. IsOutgoing rules d x s) (sym c.self.view_is) is in
     let left : c.is_left.result ≡ is_left s.unsent = c.is_left.ensures.history d s here.waiting in
     let chosen : Fresh ≡ choice rules s = c.in-New.ensures.history rules s here.line left in
-    let all = c.anew.ensures.history rules d s is (sym chosen) in
+    let all = c.anew.ensures.history rules d s is in
     built_by rules d s c.anew.new.out (Some c.anew.result) c.anew.new.self Fresh chosen (record { text = all.0; new = ap Some all.1; goes = all.2; short = all.3 })
 
 pub returns-in-Last-clause-history : goal.returns-in-Last-clause-history
@@ -44,3 +44,6 @@ returns-in-NoPdu-clause-history c = λ rules d s is.
     let here : IsOutgoing rules d v s = subst (λ x. IsOutgoing rules d x s) (sym c.self.view_is) is in
     let left : c.is_left.result ≡ is_left s.unsent = c.is_left.ensures.history d s here.waiting in
     absurd (none_goes rules d v s (ltb-true 0 (available_of v) (subst (λ x. can_build x ≡ true) (sym c.self.view_is) c.requires.due)) here (sym (c.in-NoPdu.ensures.history rules s here.line left)))
+
+pub last-requires-clause-last : goal.last-requires-clause-last
+last-requires-clause-last c = subst (λ (x : Outgoing). IsLast x.line c.in-Last.place) c.self.view_is (picked_last c.is_left.result c.self.inside.line c.in-Last.place c.in-Last.ensures.place)

@@ -1,13 +1,14 @@
 use Rattle.std.proofs.Common.{◌∙◌, ◌&&◌, ◌||◌, Bool, ap, length, sym}
 use Rattle.std.specs.Prelude.{nat_lt}
-use Rattle.dch_rlcum.specs.Sending.{is_unsent}
+use Rattle.dch_am.specs.Bodies.{is_left}
+use Rattle.dch_unsent.specs.Waiting.{unsent_of}
 use Rattle.dch_amsend.specs.Outgoing.{Outgoing, can_build}
 use Rattle.dch_amsend.proofs.Due.{can_build_is}
 use Rattle.dch_amsend.proofs.outgoing.Outgoing.can_build.Goals as goal
 
 -- a PDU that isn't requested
 abbrev others : Outgoing → Bool
-others v = (nat_lt (length v.line.flown) v.line.window && is_unsent v.waiting.units) || (v.line.owed && nat_lt 0 (length v.line.flown))
+others v = (nat_lt (length v.line.flown) v.line.window && is_left (unsent_of v.waiting)) || (v.line.owed && nat_lt 0 (length v.line.flown))
 
 pub returns-then-is_wanted : goal.returns-then-is_wanted
 returns-then-is_wanted c =

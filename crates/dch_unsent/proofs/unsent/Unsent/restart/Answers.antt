@@ -1,8 +1,12 @@
-use Rattle.std.proofs.Common.{subst, sym}
+use Rattle.std.proofs.Common.{◌∙◌, List, ap, length, subst, sym, ℕ}
+use Rattle.dch_am.specs.Restart.{restarted_sender}
 use Rattle.dch_unsent.specs.Keeping.{Keeps}
-use Rattle.dch_unsent.proofs.Restarting.{restarts}
+use Rattle.dch_unsent.specs.Waiting.{Waiting}
+use Rattle.dch_unsent.proofs.Restarting.{kept_are, restart_keeps}
 use Rattle.dch_unsent.proofs.unsent.Unsent.restart.Goals as goal
 
 pub returns-clause-history : goal.returns-clause-history
-returns-clause-history c = λ d s keeps.
-    restarts d c.self.inside.fresh c.restart.new.self s c.restart.result c.restart.ensures.after c.restart.ensures.count (subst (λ v. Keeps d v s) (sym c.self.view_is) keeps)
+returns-clause-history c = λ d s keeps cut. (
+  c.begin.ensures.count ∙ (ap (λ (w : Waiting). length w.sdus) c.begin.ensures.after ∙ ap (λ (us : List (List ℕ)). length us) (kept_are d c.args.self.now s cut keeps)),
+  subst (λ w. Keeps d w (restarted_sender s)) (sym c.begin.ensures.after) (restart_keeps d c.args.self.now s cut keeps),
+)

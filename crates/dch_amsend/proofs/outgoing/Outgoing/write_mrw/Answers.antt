@@ -1,0 +1,32 @@
+use Rattle.std.proofs.Common.{◌≡◌, ◌-◌, ◌∷◌, ◌∙◌, Some, ap, ap₂, subst, sym, true}
+use Rattle.dch_am.specs.Discards.{after_moving}
+use Rattle.dch_retx.specs.RetxBuffer.{RetxBuffer, is_due}
+use Rattle.dch_retx.proofs.Ticking.{due_is}
+use Rattle.dch_status.specs.Fields.{mrw_fields}
+use Rattle.dch_status.specs.Writing.{IsText, mrw_text}
+use Rattle.dch_amsend.specs.Outgoing.{IsOutgoing, IsRunning, Outgoing}
+use Rattle.dch_amsend.proofs.Events.{mrw_goes, mrw_runs}
+use Rattle.dch_amsend.proofs.outgoing.Outgoing.write_mrw.Goals as goal
+
+pub invariant_of-self : goal.invariant_of-self
+invariant_of-self c =
+    let v : Outgoing = record { size = c.self.inside.size; line = c.self.inside.line; waiting = c.self.inside.waiting } in
+    let run : IsRunning v = c.self.invariant in
+    let due : is_due c.self.inside.line.running ≡ true = subst (λ (x : Outgoing). is_due x.line.running ≡ true) (sym c.self.view_is) c.requires.due in
+    record {
+      from = run.from;
+      most = run.most;
+      rules = run.rules;
+      sender = after_moving run.rules run.sender run.sender.discard;
+      stands = mrw_runs run.rules (c.self.inside.size - 2) v run.sender c.write_mrw-2.new.self (sym (due_is run.rules c.self.inside.line run.sender run.stands.line) ∙ due) (ap (λ (l : RetxBuffer). l.flown) c.write_mrw-2.ensures.after) run.stands (λ x e. c.write_mrw-2.ensures.history run.rules run.sender x run.stands.line e);
+    }
+
+pub returns-clause-history : goal.returns-clause-history
+returns-clause-history c = λ rules d s x is e.
+    let v : Outgoing = record { size = c.self.inside.size; line = c.self.inside.line; waiting = c.self.inside.waiting } in
+    let here : IsOutgoing rules d v s = subst (λ y. IsOutgoing rules d y s) (sym c.self.view_is) is in
+    let told = c.mrw-number.ensures.history rules s x here.line e in (
+      subst (λ n. IsText c.write_mrw.new.out (0 ∷ mrw_text n x.n)) told.0 (subst (λ m. IsText c.write_mrw.new.out (0 ∷ mrw_text c.mrw-number.result.0 m)) told.1 c.write_mrw.ensures.text),
+      c.write_mrw.ensures.back ∙ ap₂ (λ n m. Some (mrw_fields n m)) told.0 told.1,
+      mrw_goes rules d v s x c.write_mrw-2.new.self (ap (λ (l : RetxBuffer). l.flown) c.write_mrw-2.ensures.after) here (c.write_mrw-2.ensures.history rules s x here.line e),
+    )

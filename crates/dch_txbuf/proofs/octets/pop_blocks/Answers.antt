@@ -1,0 +1,7 @@
+use Rattle.std.proofs.Common.{◌∙◌, ℕ, List, ap, drop}
+use Rattle.std.proofs.lemmas.List.{drop-drop}
+use Rattle.circular_buffer.specs.Buffer.{Buffer, buffer}
+use Rattle.dch_txbuf.proofs.octets.pop_blocks.Goals as goal
+
+pub loop-preserved : goal.loop-preserved
+loop-preserved c = c.pop.ensures ∙ (ap (λ (b : Buffer (List ℕ)). buffer (drop 1 b.items) b.capacity) c.loop.invariant ∙ ap (λ bs. buffer bs c.args.row.now.capacity) (drop-drop 1 c.loop.counter c.args.row.now.items))

@@ -1,0 +1,3 @@
+pub mod Chunks
+pub mod Rows
+pub mod Sdus
