@@ -7,7 +7,7 @@ use Rattle.std.proofs.lemmas.Bool.Decides.{nat_tests}
 use Rattle.std.proofs.lemmas.List.{drop_more, get_or-drop, get_or_append_left}
 use Rattle.circular_buffer.specs.Buffer.{Buffer, buffer}
 use Rattle.dch_retx.specs.declared.sent_pdu.SentPdu.{SentPdu}
-use Rattle.dch_retx.specs.Flights.{at, blank, acknowledged, named_from, unwanted, changed_below, first_wanted, front_acked, lowered, wanted_in, IsCounted, IsFirstWanted, IsFlight, IsFrom}
+use Rattle.dch_retx.specs.Flights.{at, blank, acknowledged, named_from, unwanted, changed_below, first_wanted, front_acked, lowered, wanted_in, AreLinked, IsCounted, IsFirstWanted, IsFlight, IsFrom}
 
 -- one place more is changed
 pub changed_next : (change : SentPdu → SentPdu) (i : ℕ) (flown : List SentPdu) → i < length flown → set (changed_below change i flown) i (change (at (changed_below change i flown) i)) ≡ changed_below change (i + 1) flown
@@ -168,8 +168,8 @@ pub exhausted : (flown : List SentPdu) → ((j : ℕ) → j < length flown → (
 exhausted flown none = wanted_none flown (λ j. false_from_ne_true (at flown j).requested (λ e. both_ways (at flown j).requested (none j (inside flown j e)) e))
 
 -- one that is named is requested since
-pub flight_named : (flight : Buffer SentPdu) (low count i : ℕ) (f : SentPdu) → i < length flight.items → (not (at flight.items i).requested && f.requested) ≡ true → IsFlight flight low count → IsFlight (buffer (set flight.items i f) flight.capacity) (lowered low count i) (count + 1)
-flight_named flight low count i f l newly is = record {
+pub flight_named : (flight : Buffer SentPdu) (skips : Buffer ℕ) (low count i : ℕ) (f : SentPdu) → i < length flight.items → (not (at flight.items i).requested && f.requested) ≡ true → AreLinked (set flight.items i f) skips.items → IsFlight flight skips low count → IsFlight (buffer (set flight.items i f) flight.capacity) skips (lowered low count i) (count + 1)
+flight_named flight skips low count i f l newly linked is = record {
   counted = record {
     below = record { from = from };
     count_is = omega (arith, is.counted.count_is, counted_set flight.items i f l, ap (λ b. cond {A = ℕ} b 1 0) was, ap (λ b. cond {A = ℕ} b 1 0) now);
@@ -177,6 +177,8 @@ flight_named flight low count i f l newly is = record {
   };
   few = omega (arith, is.few, length-set flight.items i f);
   small = is.small;
+  linked = linked;
+  room = is.room;
 }
   where
     parts : (not (at flight.items i).requested ≡ true) × (f.requested ≡ true)
@@ -222,8 +224,8 @@ flight_named flight low count i f l newly is = record {
         other h = ap (λ (x : SentPdu). x.requested) (get_or-set_other flight.items i low f blank apart) ∙ is.counted.first h
 
 -- one that was requested or isn't is as it was
-pub flight_set : (flight : Buffer SentPdu) (low count i : ℕ) (f : SentPdu) → i < length flight.items → f.requested ≡ (at flight.items i).requested → IsFlight flight low count → IsFlight (buffer (set flight.items i f) flight.capacity) low count
-flight_set flight low count i f l e is = record {
+pub flight_set : (flight : Buffer SentPdu) (skips : Buffer ℕ) (low count i : ℕ) (f : SentPdu) → i < length flight.items → f.requested ≡ (at flight.items i).requested → AreLinked (set flight.items i f) skips.items → IsFlight flight skips low count → IsFlight (buffer (set flight.items i f) flight.capacity) skips low count
+flight_set flight skips low count i f l e linked is = record {
   counted = record {
     below = record { from = λ j w. is.counted.below.from j (wanted_old flight.items i f (λ h. sym e ∙ h) j w) };
     count_is = omega (arith, is.counted.count_is, counted_set flight.items i f l, ap (λ b. cond {A = ℕ} b 1 0) e);
@@ -231,6 +233,8 @@ flight_set flight low count i f l e is = record {
   };
   few = omega (arith, is.few, length-set flight.items i f);
   small = is.small;
+  linked = linked;
+  room = is.room;
 }
   where
     wanted_new : (at flight.items low).requested ≡ true → (at (set flight.items i f) low).requested ≡ true
@@ -240,8 +244,8 @@ flight_set flight low count i f l e is = record {
         (cases_eq low i)
 
 -- a name that makes nothing requested
-pub flight_as : (flight : Buffer SentPdu) (low count i : ℕ) (f : SentPdu) → i < length flight.items → ((at flight.items i).requested ≡ true → f.requested ≡ true) → (not (at flight.items i).requested && f.requested) ≡ false → IsFlight flight low count → IsFlight (buffer (set flight.items i f) flight.capacity) low count
-flight_as flight low count i f l more none is = flight_set flight low count i f l (go (at flight.items i).requested f.requested more none) is
+pub flight_as : (flight : Buffer SentPdu) (skips : Buffer ℕ) (low count i : ℕ) (f : SentPdu) → i < length flight.items → ((at flight.items i).requested ≡ true → f.requested ≡ true) → (not (at flight.items i).requested && f.requested) ≡ false → AreLinked (set flight.items i f) skips.items → IsFlight flight skips low count → IsFlight (buffer (set flight.items i f) flight.capacity) skips low count
+flight_as flight skips low count i f l more none linked is = flight_set flight skips low count i f l (go (at flight.items i).requested f.requested more none) linked is
   where
     go : (a b : Bool) → (a ≡ true → b ≡ true) → (not a && b) ≡ false → b ≡ a
     go true b h e = h refl
@@ -262,8 +266,8 @@ pub left_from : (count : ℕ) (flown : List SentPdu) (low : ℕ) → IsFrom flow
 left_from count flown low is = record { from = λ i e. omega (arith, is.from (count + i) (ap (λ (x : SentPdu). x.requested) (sym (get_or-drop count flown i blank)) ∙ e)) }
 
 -- one more that isn't requested
-pub flight_push : (flight : Buffer SentPdu) (low count : ℕ) (f : SentPdu) → length flight.items < flight.capacity → f.requested ≡ false → IsFlight flight low count → IsFlight (buffer (flight.items ++ f ∷ []) flight.capacity) low count
-flight_push flight low count f room e is = record {
+pub flight_push : (flight : Buffer SentPdu) (skips : Buffer ℕ) (low count : ℕ) (f : SentPdu) → length flight.items < flight.capacity → f.requested ≡ false → AreLinked (flight.items ++ f ∷ []) (skips.items ++ 0 ∷ []) → IsFlight flight skips low count → IsFlight (buffer (flight.items ++ f ∷ []) flight.capacity) (buffer (skips.items ++ 0 ∷ []) skips.capacity) low count
+flight_push flight skips low count f room e linked is = record {
   counted = record {
     below = record { from = λ j w. is.counted.below.from j (old flight.items j w) };
     count_is = is.counted.count_is ∙ sym (more flight.items);
@@ -271,6 +275,8 @@ flight_push flight low count f room e is = record {
   };
   few = omega (arith, room, length-append flight.items (f ∷ []));
   small = is.small;
+  linked = linked;
+  room = is.room;
 }
   where
     old : (xs : List SentPdu) (j : ℕ) → (at (xs ++ f ∷ []) j).requested ≡ true → (at xs j).requested ≡ true
@@ -284,5 +290,5 @@ flight_push flight low count f room e is = record {
     more (x ∷ xs) = ap (λ n. cond x.requested (suc n) n) (more xs)
 
 -- a ring with no more PDUs, of which the requested are counted anew
-pub flight_less : (flight now : Buffer SentPdu) (low count first many : ℕ) → now.capacity ≡ flight.capacity → length now.items ≤ length flight.items → IsCounted now.items first many → IsFlight flight low count → IsFlight now first many
-flight_less flight now low count first many room fewer counted is = record { counted = counted; few = omega (arith, is.few, room, fewer); small = omega (arith, is.small, room) }
+pub flight_less : (flight now : Buffer SentPdu) (skips links : Buffer ℕ) (low count first many : ℕ) → now.capacity ≡ flight.capacity → links.capacity ≡ skips.capacity → length now.items ≤ length flight.items → IsCounted now.items first many → AreLinked now.items links.items → IsFlight flight skips low count → IsFlight now links first many
+flight_less flight now skips links low count first many room links_room fewer counted linked is = record { counted = counted; few = omega (arith, is.few, room, fewer); small = omega (arith, is.small, room); linked = linked; room = links_room ∙ (is.room ∙ sym room) }

@@ -1,5 +1,6 @@
 pub mod Pairs
 pub mod Changes
+pub mod Skips
 pub mod Lengths
 pub mod Fronts
 pub mod Naming

@@ -1,5 +1,5 @@
 -- The PDUs of a sender that are in flight (TS 25.322 9.4, 11.5.3): those from the lowest number that is not acknowledged on.
-use Rattle.std.specs.Prelude.{◌≡◌, ◌+◌, ◌≤◌, ◌<◌, ◌==◌, ◌||◌, ℕ, zero, suc, List, [], ◌∷◌, Bool, true, false, length, nat_lt, nat_le, slice_index_or, if◌then◌else◌}
+use Rattle.std.specs.Prelude.{◌≡◌, ◌+◌, ◌-◌, ◌≤◌, ◌<◌, ◌==◌, ◌||◌, ℕ, zero, suc, List, [], ◌∷◌, Bool, true, false, length, nat_lt, nat_le, slice_index, slice_index_or, slice_set, Option, Some, None, if◌then◌else◌}
 use Rattle.circular_buffer.specs.Buffer.{Buffer}
 use Rattle.dch_retx.specs.declared.sent_pdu.Extent.{Extent}
 use Rattle.dch_retx.specs.declared.sent_pdu.SentPdu.{SentPdu}
@@ -81,8 +81,52 @@ pub record IsCounted (flown : List SentPdu) (low count : ℕ) : Type 0 where
 abbrev pub lowered : ℕ → ℕ → ℕ → ℕ
 lowered low count i = if (count == 0) || nat_lt i low then i else low
 
--- the ring and what is counted of it
-pub record IsFlight (flight : Buffer SentPdu) (low count : ℕ) : Type 0 where
+-- an acknowledged PDU is neither requested nor marked
+abbrev pub IsSettled : SentPdu → Type 0
+IsSettled f = f.acked ≡ true → (f.requested ≡ false) × (f.named ≡ false)
+
+-- the number of an open PDU tells how many acknowledged ones follow it, up to the next open one
+pub record IsLinked (f : SentPdu) (skip : ℕ) (behind : List SentPdu) : Type 0 where
+  pub skip_is : f.acked ≡ false → skip ≡ front_acked behind
+  pub settled : IsSettled f
+
+abbrev pub AreLinked : List SentPdu → List ℕ → Type 0
+AreLinked [] [] = Unit {0}
+AreLinked [] (skip ∷ skips) = ⊥
+AreLinked (f ∷ flown) [] = ⊥
+AreLinked (f ∷ flown) (skip ∷ skips) = IsLinked f skip flown × AreLinked flown skips
+
+-- an open PDU, and the place of the next one
+pub record IsNext (flown : List SentPdu) (skips : List ℕ) (i o : ℕ) : Type 0 where
+  pub next : o + 1 + slice_index skips o ≡ i
+  pub is_open : (at flown o).acked ≡ false
+
+-- the open one before a place; where there is none, all before it are acknowledged
+abbrev pub IsBefore : List SentPdu → List ℕ → ℕ → Option ℕ → Type 0
+IsBefore flown skips i None = i ≤ front_acked flown
+IsBefore flown skips i (Some o) = IsNext flown skips i o
+
+-- a walk over the open ones has come to a place
+pub record IsWalk (flown : List SentPdu) (skips : List ℕ) (i : ℕ) (before : Option ℕ) : Type 0 where
+  pub linked : AreLinked flown skips
+  pub within : i ≤ length flown
+  pub here : i < length flown → (at flown i).acked ≡ false
+  pub before_is : IsBefore flown skips i before
+
+-- one step of it: the one at the place is acknowledged or left open, and the next open one stands at another place
+abbrev pub before_next : Bool → Option ℕ → ℕ → Option ℕ
+before_next true before i = before
+before_next false before i = Some i
+
+abbrev pub joined : Bool → Option ℕ → ℕ → List ℕ → List ℕ
+joined false before next skips = skips
+joined true None next skips = skips
+joined true (Some o) next skips = slice_set skips o (next - o - 1)
+
+-- the ring, the numbers of its open PDUs and what is counted of it
+pub record IsFlight (flight : Buffer SentPdu) (skips : Buffer ℕ) (low count : ℕ) : Type 0 where
   pub counted : IsCounted flight.items low count
   pub few : length flight.items ≤ flight.capacity
   pub small : flight.capacity ≤ 65535
+  pub linked : AreLinked flight.items skips.items
+  pub room : skips.capacity ≡ flight.capacity

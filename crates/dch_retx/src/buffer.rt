@@ -245,6 +245,7 @@ impl RetxBuffer {
     pub fn push(&mut self, flown: SentPdu, left: bool) -> bool
         requires room { length self.old.flown < self.old.window }
         requires new { flown.requested ≡ false }
+        requires is_open { flown.acked ≡ false }
         ensures poll { result ≡ new_poll flown left self.old }
         ensures after { self.new ≡ new_line flown left self.old }
         ensures history { (rules : Rules) (s : Sender) (d : ℕ) → Stands rules self.old s → IsNew flown (ends_of (next_body d s.unsent)) → left ≡ is_left (after_body d s.unsent) → Sends rules result self.new (anew_polls rules d s) (after_choice New rules d s) }
@@ -256,6 +257,7 @@ impl RetxBuffer {
     fn sends_new(&mut self, flown: SentPdu, left: bool) -> bool
         requires room { length self.old.flown < self.old.window }
         requires new { flown.requested ≡ false }
+        requires is_open { flown.acked ≡ false }
         ensures poll { result ≡ new_poll flown left self.old }
         ensures after { self.new ≡ new_line flown left self.old }
     {

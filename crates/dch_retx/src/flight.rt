@@ -1,18 +1,21 @@
 ghost use Rattle.std.specs.Prelude.{◌≡◌, ◌+◌, ◌<◌, ◌≤◌, ◌++◌, [], ◌∷◌, false, IfOk, length, drop, min, nat_lt, slice_set, if◌then◌else◌};
 ghost use Rattle.circular_buffer.specs.Buffer.{buffer};
-ghost use Rattle.dch_retx.specs.Flights.{at, named_from, acknowledged, unwanted, built, changed_below, first_wanted, front_acked, lowered, wanted_in, IsCounted, IsFirstWanted, IsFrom};
+ghost use Rattle.dch_retx.specs.Flights.{at, named_from, acknowledged, unwanted, built, changed_below, first_wanted, front_acked, lowered, wanted_in, AreLinked, IsCounted, IsFirstWanted, IsFrom};
 
-use crate::places::{acknowledge_at, at_place, build_at, name_at, unwant_at};
+use crate::links::{acked_from, acknowledge_below, next_from};
+use crate::places::{at_place, build_at, name_at, one, unwant_at};
 use crate::sent_pdu::SentPdu;
 use circular_buffer::HeapCircularBuffer;
 use dch_bits::NoMemory;
 use std::alloc::Global;
 use std::marker::Model;
 
-/// The PDUs in flight, the one of the lowest open number first. So many of them are requested as `count` says, the first of them at `low`.
+/// The PDUs in flight, the one of the lowest open number first. So many of them are requested as `count` says, the first of them at `low`. So many
+/// acknowledged ones follow an open one as `skips` has at its place.
 #[derive(Drop)]
 pub struct Flight {
     ring: HeapCircularBuffer<SentPdu>,
+    skips: HeapCircularBuffer<u16>,
     low: usize,
     count: usize,
 }
@@ -26,7 +29,7 @@ impl Model for Flight {
 
     ghost view = { λ f. f.ring };
 
-    ghost invariant = { λ f. IsFlight f.ring f.low f.count };
+    ghost invariant = { λ f. IsFlight f.ring f.skips f.low f.count };
 }
 
 impl Flight {
@@ -35,8 +38,10 @@ impl Flight {
         ensures { IfOk result (λ f. f ≡ buffer [] window) }
     {
         let ring = HeapCircularBuffer::with_capacity(alloc, window as usize)?;
+        let skips = HeapCircularBuffer::with_capacity(alloc, window as usize)?;
         Ok(Flight {
             ring,
+            skips,
             low: 0,
             count: 0,
         })
@@ -61,9 +66,11 @@ impl Flight {
     pub fn push(&mut self, flown: SentPdu)
         requires room { length self.old.items < self.old.capacity }
         requires new { flown.requested ≡ false }
+        requires is_open { flown.acked ≡ false }
         ensures { self.new ≡ buffer (self.old.items ++ flown ∷ []) self.old.capacity }
     {
         self.ring.push_back(flown);
+        self.skips.push_back(0);
     }
 
     /// A status names a PDU missing. Unless it is acknowledged, it is requested where it stands at `from` or behind, and marked where it stands
@@ -85,7 +92,7 @@ impl Flight {
     {
         let was = build_at(&mut self.ring, i);
         self.count -= one(was);
-        self.low = first_from(&self.ring, self.low, self.count);
+        self.low = first_from(&self.ring, &self.skips, self.low, self.count);
     }
 
     /// The PDUs before a place are acknowledged, but for those that are marked as named missing. Their marks go.
@@ -93,9 +100,9 @@ impl Flight {
         requires { to ≤ length self.old.items }
         ensures { self.new ≡ buffer (changed_below acknowledged to self.old.items) self.old.capacity }
     {
-        let gone = acknowledge_below(&mut self.ring, to);
+        let gone = acknowledge_below(&mut self.ring, &mut self.skips, to);
         self.count -= gone;
-        self.low = first_from(&self.ring, self.low, self.count);
+        self.low = first_from(&self.ring, &self.skips, self.low, self.count);
     }
 
     /// The PDUs before a place aren't requested any more.
@@ -105,7 +112,7 @@ impl Flight {
     {
         let gone = unwant_below(&mut self.ring, to);
         self.count -= gone;
-        self.low = first_from(&self.ring, self.low, self.count);
+        self.low = first_from(&self.ring, &self.skips, self.low, self.count);
     }
 
     /// The first PDU that is requested; their number where none is.
@@ -140,12 +147,7 @@ impl Flight {
         ensures count { result ≡ front_acked (drop from self.now.items) }
         ensures within { from + result ≤ length self.now.items }
     {
-        for i in from..self.ring.len() {
-            if !at_place(&self.ring, i).acked {
-                return i - from;
-            }
-        }
-        self.ring.len() - from
+        acked_from(&self.ring, from)
     }
 
     /// So many PDUs in front leave.
@@ -156,17 +158,15 @@ impl Flight {
         let gone = wanted_before(&self.ring, count);
         let kept = self.ring.len() - count;
         self.ring.truncate_front(kept);
+        self.skips.truncate_front(kept);
         self.count -= gone;
-        self.low = first_from(&self.ring, self.low.saturating_sub(count), self.count);
+        self.low = first_from(
+            &self.ring,
+            &self.skips,
+            self.low.saturating_sub(count),
+            self.count,
+        );
     }
-}
-
-/// One or none.
-fn one(is: bool) -> usize
-    ensures value { result ≡ (if is then 1 else 0) }
-    ensures few { result ≤ 1 }
-{
-    if is { 1 } else { 0 }
 }
 
 /// The place of the first PDU that is requested, where there are so many and one more is.
@@ -177,18 +177,26 @@ fn lowered(low: usize, count: usize, i: usize) -> usize
 }
 
 /// The place of the first PDU that is requested, where so many are and none before a place.
-fn first_from(ring: &HeapCircularBuffer<SentPdu>, low: usize, count: usize) -> usize
+fn first_from(
+    ring: &HeapCircularBuffer<SentPdu>,
+    skips: &HeapCircularBuffer<u16>,
+    low: usize,
+    count: usize,
+) -> usize
     requires low { IsFrom ring.now.items low }
+    requires linked { AreLinked ring.now.items skips.now.items }
     requires count { count ≡ wanted_in ring.now.items }
     ensures { IsCounted ring.now.items result count }
 {
     if count == 0 {
         return 0;
     }
-    for i in low..ring.len() {
+    let mut i = low;
+    while i < ring.len() {
         if at_place(ring, i).requested {
             return i;
         }
+        i = next_from(ring, skips, i);
     }
     0
 }
@@ -205,19 +213,6 @@ fn wanted_before(ring: &HeapCircularBuffer<SentPdu>, to: usize) -> usize
         }
     }
     count
-}
-
-/// The PDUs before a place are acknowledged, but for those that are marked, whose marks go. Answers how many of them aren't requested any more.
-fn acknowledge_below(ring: &mut HeapCircularBuffer<SentPdu>, to: usize) -> usize
-    requires { to ≤ length ring.old.items }
-    ensures gone { result + wanted_in ring.new.items ≡ wanted_in ring.old.items }
-    ensures after { ring.new ≡ buffer (changed_below acknowledged to ring.old.items) ring.old.capacity }
-{
-    let mut gone = 0;
-    for i in 0..to {
-        gone += one(acknowledge_at(ring, i));
-    }
-    gone
 }
 
 /// The PDUs before a place aren't requested. Answers how many of them were.

@@ -6,6 +6,7 @@ mod flight;
 mod hear;
 mod item;
 mod items;
+mod links;
 mod places;
 mod sent_pdu;
 

@@ -1,4 +1,4 @@
-ghost use Rattle.std.specs.Prelude.{◌≡◌, ◌<◌, ◌&&◌, not, length, slice_set};
+ghost use Rattle.std.specs.Prelude.{◌≡◌, ◌<◌, ◌≤◌, ◌&&◌, not, length, slice_set, if◌then◌else◌};
 ghost use Rattle.circular_buffer.specs.Buffer.{buffer};
 ghost use Rattle.dch_retx.specs.Flights.{at, named_from, acknowledged, unwanted, built};
 
@@ -77,4 +77,12 @@ pub fn build_at(ring: &mut HeapCircularBuffer<SentPdu>, i: usize) -> bool
     flown.requested = false;
     flown.builds = flown.builds.saturating_add(1);
     was
+}
+
+/// One or none.
+pub fn one(is: bool) -> usize
+    ensures value { result ≡ (if is then 1 else 0) }
+    ensures few { result ≤ 1 }
+{
+    if is { 1 } else { 0 }
 }

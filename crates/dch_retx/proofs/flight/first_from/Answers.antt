@@ -1,5 +1,5 @@
-use Rattle.std.proofs.Common.{◌∙◌, ap, arith, sym}
-use Rattle.std.proofs.lemmas.Bool.{false_from_ne_true}
+use Rattle.std.proofs.Common.{◌≡◌, ◌<◌, ◌≤◌, ◌∙◌, ap, arith, false, subst, sym, ⊎_elim}
+use Rattle.std.proofs.lemmas.Bool.{cases_lt, false_from_ne_true}
 use Rattle.dch_retx.specs.declared.sent_pdu.SentPdu.{SentPdu}
 use Rattle.dch_retx.specs.Flights.{at}
 use Rattle.dch_retx.proofs.Changes.{exhausted, found_from, none_from}
@@ -16,3 +16,12 @@ returns-then-at_place c = found_from c.args.ring.now.items c.args.count c.loop-i
 
 pub returns : goal.returns
 returns c = absurd (c.if-count-eq0.false (c.requires.count ∙ exhausted c.args.ring.now.items (λ j l. c.loop-i.invariant j (omega (arith, l)))))
+
+pub loop-i-preserved : goal.loop-i-preserved
+loop-i-preserved c = λ j l. ⊎_elim
+    (λ (m : j < c.loop-i.i). c.loop-i.invariant j m)
+    (λ (m : c.loop-i.i ≤ j). ⊎_elim
+    (λ (q : c.loop-i.i < j). c.next_from-i.ensures.between j q l)
+    (λ (q : j ≤ c.loop-i.i). let e : c.loop-i.i ≡ j = omega arith in subst (λ k. (at c.args.ring.now.items k).requested ≡ false) e (ap (λ (f : SentPdu). f.requested) (sym c.at_place.ensures) ∙ c.if-at_place.false))
+    (cases_lt c.loop-i.i j))
+    (cases_lt j c.loop-i.i)

@@ -15,4 +15,4 @@ pub first_from-self-inside-requires-clause-count : goal.first_from-self-inside-r
 first_from-self-inside-requires-clause-count c = omega (arith, c.acknowledge_below-gone.ensures.gone, c.self.invariant.counted.count_is)
 
 pub invariant_of-self : goal.invariant_of-self
-invariant_of-self c = flight_less c.self.inside.ring c.acknowledge_below-gone.new.ring c.self.inside.low c.self.inside.count c.first_from-self-inside.result (c.self.inside.count - c.acknowledge_below-gone.result) (ap (λ (b : Buffer SentPdu). b.capacity) c.acknowledge_below-gone.ensures.after) (omega (arith, ap (λ (b : Buffer SentPdu). length b.items) c.acknowledge_below-gone.ensures.after, length-changed acknowledged c.args.to c.self.inside.ring.items)) c.first_from-self-inside.ensures c.self.invariant
+invariant_of-self c = flight_less c.self.inside.ring c.acknowledge_below-gone.new.ring c.self.inside.skips c.acknowledge_below-gone.new.skips c.self.inside.low c.self.inside.count c.first_from-self-inside.result (c.self.inside.count - c.acknowledge_below-gone.result) (ap (λ (b : Buffer SentPdu). b.capacity) c.acknowledge_below-gone.ensures.after) c.acknowledge_below-gone.ensures.room (omega (arith, ap (λ (b : Buffer SentPdu). length b.items) c.acknowledge_below-gone.ensures.after, length-changed acknowledged c.args.to c.self.inside.ring.items)) c.first_from-self-inside.ensures c.acknowledge_below-gone.ensures.linked c.self.invariant
