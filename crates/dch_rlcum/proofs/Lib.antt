@@ -1,7 +1,7 @@
 pub mod Available
 pub mod Bodies
-pub mod Building
 pub mod Chained
+pub mod Cutting
 pub mod Ends
 pub mod Following
 pub mod Handed
@@ -9,6 +9,6 @@ pub mod Histories
 pub mod Known
 pub mod Marking
 pub mod Parts
+pub mod Placing
 pub mod Reading
 pub mod Received
-pub mod Walking

@@ -1,38 +1,25 @@
--- How a sender keeps its units, and where in its ring the units behind some PDUs begin.
-use Rattle.std.specs.Prelude.{◌≡◌, ◌-◌, ◌*◌, ◌≤◌, ◌<◌, ℕ, List, [], ◌∷◌, drop, length}
-use Rattle.dch_sar.specs.Filling.{total, AreSome}
-use Rattle.dch_rlcum.specs.declared.send.Place.{Place}
-use Rattle.dch_rlcum.specs.Sending.{Units, held_by}
+-- How a sender keeps its SDUs, and where among them those behind some PDUs begin.
+use Rattle.std.specs.Prelude.{◌≡◌, ◌-◌, ◌≤◌, ◌<◌, ℕ, List, [], Bool, true, length, slice_index_or, if◌then◌else◌}
+use Rattle.dch_am.specs.Bodies.{sizes}
+use Rattle.dch_am.specs.Cuts.{AllFull}
+use Rattle.dch_cut.specs.declared.taken.Start.{Start}
+use Rattle.dch_cut.specs.Cuts.{IsStart, left_at}
+use Rattle.dch_rlcum.specs.Sending.{Units}
 
--- so many octets of the first are gone
-abbrev pub used_of : ℕ → List ℕ → List ℕ
-used_of used [] = []
-used_of used (n ∷ ns) = (n - used) ∷ ns
+-- the units from a place on. Where a mark is owed it is that of the one before
+abbrev pub units_at : List (List ℕ) → Start → Bool → Units
+units_at sdus start owed = record { lengths = sizes (left_at start sdus); sent = start.used; owed = if owed then length (slice_index_or sdus (start.sdu - 1) []) else 0 }
 
--- the units from a place on
-abbrev pub units_at : List ℕ → Place → Units
-units_at ns p = record { lengths = used_of p.used (drop p.unit ns); sent = p.sent; owed = p.owed }
+-- a place behind some PDUs
+pub record IsPlace (sdus : List (List ℕ)) (start : Start) (owed : Bool) : Type 0 where
+  pub start_is : IsStart sdus start
+  pub left : AllFull (left_at start sdus)
+  pub owed_is : owed ≡ true → 0 < length (slice_index_or sdus (start.sdu - 1) [])
 
--- units that are not empty, of which the first may have begun, and the blocks that they hold
-pub record AreHeld (u : Units) (held : ℕ) : Type 0 where
-  pub some : AreSome u.lengths
-  pub begun : length u.lengths ≡ 0 → u.sent ≡ 0
-  pub counted : held ≡ held_by u
-
--- a place of the ring
-pub record IsPlace (ns : List ℕ) (p : Place) : Type 0 where
-  pub units : AreHeld (units_at ns p) p.held
-  pub inside : p.unit ≤ length ns
-  pub fits : p.held ≤ 65535
-
--- a sender's rings and numbers
-pub record IsQueue (u : Units) (row : List ℕ) (held buffer lengths_capacity octets_capacity : ℕ) : Type 0 where
-  pub units : AreHeld u held
-  pub whole : total u.lengths ≡ length row
-  pub fits : held ≤ buffer
-  pub small : buffer ≤ 65535
-  pub lengths : lengths_capacity ≡ buffer
-  pub octets : octets_capacity ≡ 64 * buffer
+-- no unit is kept but those that are left and the one whose mark is owed
+pub record IsQueue (sdus : List (List ℕ)) (start : Start) (owed : Bool) : Type 0 where
+  pub place : IsPlace sdus start owed
+  pub first : start.sdu ≡ (if owed then 1 else 0)
 
 -- a number of seven bits, and a size that a PDU may have
 pub record IsFormat (sn pdu : ℕ) : Type 0 where
