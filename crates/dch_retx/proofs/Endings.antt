@@ -6,9 +6,9 @@ use Rattle.dch_status.specs.Fields.{Field, NoMoreField, WindowField, AckField, L
 use Rattle.dch_status.specs.declared.sufi.Sufi.{Sufi}
 use Rattle.dch_status.specs.Sufis.{sufi_of}
 use Rattle.dch_am.specs.Names.{named}
-use Rattle.dch_retx.specs.declared.item.StatusItem.{StatusItem}
+use Rattle.dch_retx.specs.StatusItems.{StatusItem}
 use Rattle.dch_retx.specs.StatusItem.{ends_at, ends_with, first_ending, or_else}
-use Rattle.dch_retx.specs.StatusItems.{bits_from, left_in, missing_of, said_by}
+use Rattle.dch_retx.specs.StatusItems.{bits_from, missing_of, said_by, said_in}
 use Rattle.dch_retx.specs.Telling.{ends_by}
 
 or_none : (o : Option ℕ) → or_else o None ≡ o
@@ -37,19 +37,19 @@ ending-bits first count k mark from (true ∷ bits) = ending-bits first count k 
 ending-bits first count k mark from (false ∷ bits) = ending-bits first count k mark (from + 1) bits
 
 -- one field
-ending-field : (first count k mark : ℕ) (field : Field) → first_ending first count k mark (left_in field 0 0) ≡ ends_by first count k mark (sufi_of field)
+ending-field : (first count k mark : ℕ) (field : Field) → first_ending first count k mark (said_in field) ≡ ends_by first count k mark (sufi_of field)
 ending-field first count k mark NoMoreField = refl
 ending-field first count k mark (WindowField size) = refl
 ending-field first count k mark (AckField lsn) = refl
 ending-field first count k mark (ListField pairs) = ending-list first count k mark (named pairs)
-ending-field first count k mark (BitmapField from bits) = ending-bits first count k mark (from + 0) bits
+ending-field first count k mark (BitmapField from bits) = ending-bits first count k mark from bits
 ending-field first count k mark (MrwField last n) = refl
 ending-field first count k mark (MrwAckField n sn) = or_none (ends_at first count k mark n sn)
 
 -- the first of fields, and those behind it
 ending-fields : (first count k mark : ℕ) (fields : List Field) → 0 < length fields → first_ending first count k mark (said_by fields) ≡ or_else (ends_by first count k mark (sufi_of (get_or fields 0 NoMoreField))) (first_ending first count k mark (said_by (drop 1 fields)))
 ending-fields first count k mark [] l = absurd (omega arith)
-ending-fields first count k mark (field ∷ fields) l = ending-append first count k mark (left_in field 0 0) (said_by fields) ∙ ap (λ o. or_else o (first_ending first count k mark (said_by fields))) (ending-field first count k mark field)
+ending-fields first count k mark (field ∷ fields) l = ending-append first count k mark (said_in field) (said_by fields) ∙ ap (λ o. or_else o (first_ending first count k mark (said_by fields))) (ending-field first count k mark field)
 
 -- a field that doesn't end it is passed
 pub ending-step : (first count k mark : ℕ) (fields rest : List Field) (field : Sufi) (found : Option ℕ) → (length fields == 0) ≡ false → field ≡ sufi_of (get_or fields 0 NoMoreField) → found ≡ ends_by first count k mark field → is_some found ≡ false → rest ≡ drop 1 fields → first_ending first count k mark (said_by fields) ≡ first_ending first count k mark (said_by rest)

@@ -9,8 +9,8 @@ use Rattle.dch_am.specs.Numbers.{ahead, has, wrapped}
 use Rattle.dch_am.specs.Rules.{Rules}
 use Rattle.dch_am.specs.Sender.{Sender, Discard, vt_s, vt_a}
 use Rattle.dch_am.specs.Acknowledging.{after_ack, ended_at, ends_discard, told}
-use Rattle.dch_retx.specs.declared.item.StatusItem.{StatusItem}
-use Rattle.dch_retx.specs.declared.item.StatusItem.TheVariants.{Missing, Unset, Set, Below, Moved}
+use Rattle.dch_retx.specs.StatusItems.{StatusItem}
+use Rattle.dch_retx.specs.StatusItems.{Missing, Unset, Set, Below, Moved}
 use Rattle.dch_retx.specs.declared.buffer.Running.{Running}
 use Rattle.dch_retx.specs.StatusItem.{ends_at, first_ending, or_else, place_of}
 use Rattle.dch_retx.specs.RetxBuffer.{RetxBuffer, acked_below, after_ending, base_after, ending, first_number, freed}

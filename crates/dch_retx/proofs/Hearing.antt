@@ -9,8 +9,8 @@ use Rattle.dch_am.specs.Bodies.{is_empty}
 use Rattle.dch_am.specs.Rules.{Rules}
 use Rattle.dch_am.specs.Sender.{Sender, vt_s, vt_a}
 use Rattle.dch_am.specs.Acknowledging.{after_ack, after_acks, after_answer, after_fields, after_telling_of, all_names, first_beyond, first_of_both, first_unknown, lsn_of, offending, outside_of, read_from, status_answer, reports, those_below, told, unwrap}
-use Rattle.dch_retx.specs.declared.item.StatusItem.{StatusItem}
-use Rattle.dch_retx.specs.declared.item.StatusItem.TheVariants.{Missing, Unset, Set, Below, Moved}
+use Rattle.dch_retx.specs.StatusItems.{StatusItem}
+use Rattle.dch_retx.specs.StatusItems.{Missing, Unset, Set, Below, Moved}
 use Rattle.dch_retx.specs.StatusItems.{bits_from, missing_of, said_by}
 use Rattle.dch_retx.specs.StatusItem.{below_said, first_outside, number_in, offends, place_of, tells_some}
 use Rattle.dch_retx.specs.RetxBuffer.{RetxBuffer, after_hearing, after_moves, after_told, answer_of, answered, base_after, below_from, ending, first_number, listened, outside_from}
@@ -26,7 +26,7 @@ place_again : (first x : ℕ) → place_of first (wrapped x) ≡ place_of first 
 place_again first x = omega arith
 
 -- the first number that is outside
-outside-append : (w first count : ℕ) (xs ys : List StatusItem) → first_outside w first count (xs ++ ys) ≡ first_of_both (first_outside w first count xs) (first_outside w first count ys)
+pub outside-append : (w first count : ℕ) (xs ys : List StatusItem) → first_outside w first count (xs ++ ys) ≡ first_of_both (first_outside w first count xs) (first_outside w first count ys)
 outside-append w first count [] ys = refl
 outside-append w first count (x ∷ xs) ys = go (offends w first count x) (outside-append w first count xs ys)
   where
@@ -66,10 +66,7 @@ outside_is w base next first count b (MrwField last n ∷ fields) = outside_is w
 outside_is w base next first count b (MrwAckField n sn ∷ fields) = outside_is w base next first count b fields
 outside_is w base next first count b (AckField lsn ∷ fields) = ap₂ (λ t o. first_of_both (cond t (Some (wrapped lsn)) None) o) (ap₂ nat_lt b.count_is (place_is base next first count lsn b) ∙ past_test base count (place_of first lsn)) (outside_is w base next first count b fields) ∙ sym (outside-append w first count (Below lsn ∷ []) (said_by fields))
 outside_is w base next first count b (ListField pairs ∷ fields) = ap₂ first_of_both (outside-list w base next first count b (named pairs)) (outside_is w base next first count b fields) ∙ sym (outside-append w first count (map missing_of (named pairs)) (said_by fields))
-outside_is w base next first count b (BitmapField from bits ∷ fields) = ap₂ first_of_both (outside-bits w base next first count b from bits ∙ ap (λ k. first_outside w first count (bits_from k bits)) (more from)) (outside_is w base next first count b fields) ∙ sym (outside-append w first count (bits_from (from + 0) bits) (said_by fields))
-  where
-    more : (from : ℕ) → from ≡ from + 0
-    more from = omega arith
+outside_is w base next first count b (BitmapField from bits ∷ fields) = ap₂ first_of_both (outside-bits w base next first count b from bits) (outside_is w base next first count b fields) ∙ sym (outside-append w first count (bits_from from bits) (said_by fields))
 
 -- the numbers that are named missing
 names-append : (base next : ℕ) (xs ys : List StatusItem) → said_names base next (xs ++ ys) ≡ said_names base next xs ++ said_names base next ys
@@ -101,10 +98,7 @@ names_are base next (MrwField last n ∷ fields) = names_are base next fields
 names_are base next (MrwAckField n sn ∷ fields) = names_are base next fields
 names_are base next (AckField lsn ∷ fields) = names_are base next fields
 names_are base next (ListField pairs ∷ fields) = ap₂ (λ a b. a ++ b) (names-list base next (named pairs)) (names_are base next fields) ∙ sym (names-append base next (map missing_of (named pairs)) (said_by fields))
-names_are base next (BitmapField from bits ∷ fields) = ap₂ (λ a b. a ++ b) (names-bits base next from bits ∙ ap (λ k. said_names base next (bits_from k bits)) (more from)) (names_are base next fields) ∙ sym (names-append base next (bits_from (from + 0) bits) (said_by fields))
-  where
-    more : (from : ℕ) → from ≡ from + 0
-    more from = omega arith
+names_are base next (BitmapField from bits ∷ fields) = ap₂ (λ a b. a ++ b) (names-bits base next from bits) (names_are base next fields) ∙ sym (names-append base next (bits_from from bits) (said_by fields))
 
 -- what runs and bits leave as it is
 lsn-list : (base : ℕ) (ns : List ℕ) (ys : List StatusItem) → said_lsn base (map missing_of ns ++ ys) ≡ said_lsn base ys
@@ -124,7 +118,7 @@ lsn_is base (MrwField last n ∷ fields) = lsn_is base fields
 lsn_is base (MrwAckField n sn ∷ fields) = lsn_is base fields
 lsn_is base (AckField lsn ∷ fields) = refl
 lsn_is base (ListField pairs ∷ fields) = lsn_is base fields ∙ sym (lsn-list base (named pairs) (said_by fields))
-lsn_is base (BitmapField from bits ∷ fields) = lsn_is base fields ∙ sym (lsn-bits base (from + 0) bits (said_by fields))
+lsn_is base (BitmapField from bits ∷ fields) = lsn_is base fields ∙ sym (lsn-bits base from bits (said_by fields))
 
 acks-list : (s : Sender) (ns : List ℕ) (ys : List StatusItem) → said_acks s (map missing_of ns ++ ys) ≡ said_acks s ys
 acks-list s [] ys = refl
@@ -143,13 +137,13 @@ acks_are s (MrwField last n ∷ fields) = acks_are s fields
 acks_are s (MrwAckField n sn ∷ fields) = acks_are (after_ack s (record { number = sn; n = n })) fields
 acks_are s (AckField lsn ∷ fields) = acks_are s fields
 acks_are s (ListField pairs ∷ fields) = acks_are s fields ∙ sym (acks-list s (named pairs) (said_by fields))
-acks_are s (BitmapField from bits ∷ fields) = acks_are s fields ∙ sym (acks-bits s (from + 0) bits (said_by fields))
+acks_are s (BitmapField from bits ∷ fields) = acks_are s fields ∙ sym (acks-bits s from bits (said_by fields))
 
-tells-list : (pairs : List (ℕ × ℕ)) (ys : List StatusItem) → tells_some (map missing_of (named pairs) ++ ys) ≡ (not (is_empty pairs) || tells_some ys)
+pub tells-list : (pairs : List (ℕ × ℕ)) (ys : List StatusItem) → tells_some (map missing_of (named pairs) ++ ys) ≡ (not (is_empty pairs) || tells_some ys)
 tells-list [] ys = refl
 tells-list (p ∷ pairs) ys = let e : p.1 + 1 ≡ suc p.1 = omega arith in ap (λ n. tells_some (map missing_of (range p.0 n ++ named pairs) ++ ys)) e
 
-tells-bits : (from : ℕ) (bits : List Bool) (ys : List StatusItem) → tells_some (bits_from from bits ++ ys) ≡ (not (is_empty bits) || tells_some ys)
+pub tells-bits : (from : ℕ) (bits : List Bool) (ys : List StatusItem) → tells_some (bits_from from bits ++ ys) ≡ (not (is_empty bits) || tells_some ys)
 tells-bits from [] ys = refl
 tells-bits from (true ∷ bits) ys = refl
 tells-bits from (false ∷ bits) ys = refl
@@ -162,7 +156,7 @@ tells_is (MrwField last n ∷ fields) = tells_is fields
 tells_is (MrwAckField n sn ∷ fields) = tells_is fields
 tells_is (AckField lsn ∷ fields) = refl
 tells_is (ListField pairs ∷ fields) = ap (λ b. not (is_empty pairs) || b) (tells_is fields) ∙ sym (tells-list pairs (said_by fields))
-tells_is (BitmapField from bits ∷ fields) = ap (λ b. not (is_empty bits) || b) (tells_is fields) ∙ sym (tells-bits (from + 0) bits (said_by fields))
+tells_is (BitmapField from bits ∷ fields) = ap (λ b. not (is_empty bits) || b) (tells_is fields) ∙ sym (tells-bits from bits (said_by fields))
 
 -- a status is heard as it is defined
 pub record Hears (rules : Rules) (l : RetxBuffer) (s : Sender) (fields : List Field) : Type 0 where

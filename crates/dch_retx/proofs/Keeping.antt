@@ -8,7 +8,7 @@ use Rattle.dch_am.specs.declared.answers.StatusTaken.TheVariants.{Taken, Outside
 use Rattle.dch_retx.specs.declared.sent_pdu.SentPdu.{SentPdu}
 use Rattle.dch_retx.specs.Flights.{at, acknowledged, blank, changed_below, front_acked, named_as, built, unwanted}
 use Rattle.dch_retx.proofs.Changes.{length-changed}
-use Rattle.dch_retx.specs.declared.item.StatusItem.{StatusItem}
+use Rattle.dch_retx.specs.StatusItems.{StatusItem}
 use Rattle.dch_retx.specs.StatusItem.{is_named, tells_some}
 use Rattle.dch_retx.specs.RetxBuffer.{RetxBuffer, acked_below, after_answer, after_ending, after_hearing, after_moves, after_told, answer_of, base_after, below_from, discarding, ending, first_number, floor_of, freed, listened, told_line}
 use Rattle.dch_retx.specs.Polling.{resent}

@@ -6,8 +6,8 @@ use Rattle.circular_buffer.specs.Buffer.{Buffer}
 use Rattle.dch_retx.specs.declared.sent_pdu.SentPdu.{SentPdu}
 use Rattle.dch_retx.specs.Flights.{at, acknowledged, named_from}
 use Rattle.dch_retx.proofs.Changes.{length-changed}
-use Rattle.dch_retx.specs.declared.item.StatusItem.{StatusItem}
-use Rattle.dch_retx.specs.declared.item.StatusItem.TheVariants.{Missing, Unset, Set, Below, Moved}
+use Rattle.dch_retx.specs.StatusItems.{StatusItem}
+use Rattle.dch_retx.specs.StatusItems.{Missing, Unset, Set, Below, Moved}
 use Rattle.dch_retx.specs.declared.buffer.Running.{Running}
 use Rattle.dch_retx.specs.StatusItem.{changed_at, place_of, with_name, with_names}
 use Rattle.dch_retx.specs.RetxBuffer.{IsLine, RetxBuffer, acked_below, first_number, floor_of, named_line, told_line}

@@ -1,4 +1,3 @@
-pub mod Pairs
 pub mod Changes
 pub mod Skips
 pub mod Lengths
@@ -14,3 +13,4 @@ pub mod Ticking
 pub mod Keeping
 pub mod Refusing
 pub mod Endings
+pub mod Fields

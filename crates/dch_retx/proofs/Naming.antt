@@ -7,8 +7,8 @@ use Rattle.std.proofs.lemmas.List.{get_or-set_same, get_or-set_other}
 use Rattle.dch_retx.specs.declared.sent_pdu.SentPdu.{SentPdu}
 use Rattle.dch_retx.specs.Flights.{at, acknowledged, blank, changed_below, named_as, named_from}
 use Rattle.dch_am.specs.Numbers.{less}
-use Rattle.dch_retx.specs.declared.item.StatusItem.{StatusItem}
-use Rattle.dch_retx.specs.declared.item.StatusItem.TheVariants.{Missing, Unset, Set, Below, Moved}
+use Rattle.dch_retx.specs.StatusItems.{StatusItem}
+use Rattle.dch_retx.specs.StatusItems.{Missing, Unset, Set, Below, Moved}
 use Rattle.dch_retx.specs.StatusItem.{changed_at, is_named, names_place, place_of, with_name, with_names}
 use Rattle.dch_retx.specs.RetxBuffer.{RetxBuffer, first_number, floor_of, named_line, told_line}
 use Rattle.dch_retx.proofs.Lengths.{length-with_name, length-with_names}

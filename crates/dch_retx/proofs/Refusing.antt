@@ -2,7 +2,7 @@
 use Rattle.std.proofs.Common.{◌≡◌, ◌≢◌, List, refl, sym, ap, ◌∙◌}
 use Rattle.dch_am.specs.declared.answers.StatusTaken.{StatusTaken}
 use Rattle.dch_am.specs.declared.answers.StatusTaken.TheVariants.{Taken, Outside}
-use Rattle.dch_retx.specs.declared.item.StatusItem.{StatusItem}
+use Rattle.dch_retx.specs.StatusItems.{StatusItem}
 use Rattle.dch_retx.specs.RetxBuffer.{RetxBuffer, after_answer, after_hearing, answer_of}
 
 pub outside_same : (said : List StatusItem) (l now : RetxBuffer) (answer : StatusTaken) → answer ≡ answer_of said l → now ≡ after_hearing said l → answer ≢ Taken → now ≡ l

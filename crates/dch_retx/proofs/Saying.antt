@@ -10,8 +10,8 @@ use Rattle.dch_am.specs.Rules.{Rules}
 use Rattle.dch_am.specs.Sender.{Sender, Discard, vt_s, vt_a}
 use Rattle.dch_am.specs.Acknowledging.{floor, now_acked, read_from, told}
 use Rattle.dch_am.proofs.Lists.{has-append, has-less, has-below}
-use Rattle.dch_retx.specs.declared.item.StatusItem.{StatusItem}
-use Rattle.dch_retx.specs.declared.item.StatusItem.TheVariants.{Missing, Unset, Set, Below, Moved}
+use Rattle.dch_retx.specs.StatusItems.{StatusItem}
+use Rattle.dch_retx.specs.StatusItems.{Missing, Unset, Set, Below, Moved}
 use Rattle.dch_retx.specs.declared.buffer.Running.{Running}
 use Rattle.dch_retx.specs.StatusItem.{below_said, first_outside, is_named, offends, place_of}
 use Rattle.dch_retx.specs.RetxBuffer.{RetxBuffer, first_number, floor_of, listened, told_line}

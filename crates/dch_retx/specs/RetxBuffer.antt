@@ -6,7 +6,7 @@ use Rattle.dch_am.specs.Rules.{Rules}
 use Rattle.dch_am.specs.Numbers.{wrapped}
 use Rattle.dch_am.specs.declared.answers.StatusTaken.{StatusTaken}
 use Rattle.dch_am.specs.declared.answers.StatusTaken.TheVariants.{Taken, Outside}
-use Rattle.dch_retx.specs.declared.item.StatusItem.{StatusItem}
+use Rattle.dch_retx.specs.StatusItems.{StatusItem}
 use Rattle.dch_retx.specs.declared.buffer.Running.{Running}
 use Rattle.dch_retx.specs.StatusItem.{below_said, first_ending, first_outside, is_named, tells_some, with_names}
 

@@ -1,8 +1,8 @@
 -- What a status says about the PDUs in flight, the first of which has this number of 12 bits. So many are in flight.
 use Rattle.std.specs.Prelude.{◌+◌, ◌-◌, ◌&&◌, ◌||◌, ◌==◌, ℕ, List, [], ◌∷◌, Bool, true, false, length, nat_lt, nat_le, slice_set, Option, Some, None, if◌then◌else◌}
 use Rattle.dch_am.specs.Numbers.{wrapped, ahead}
-use Rattle.dch_retx.specs.declared.item.StatusItem.{StatusItem}
-use Rattle.dch_retx.specs.declared.item.StatusItem.TheVariants.{Missing, Unset, Set, Below, Moved}
+use Rattle.dch_retx.specs.StatusItems.{StatusItem}
+use Rattle.dch_retx.specs.StatusItems.{Missing, Unset, Set, Below, Moved}
 use Rattle.dch_retx.specs.declared.sent_pdu.SentPdu.{SentPdu}
 use Rattle.dch_retx.specs.Flights.{at, named_from}
 
@@ -15,12 +15,16 @@ or_else (Some i) o = Some i
 abbrev pub place_of : ℕ → ℕ → ℕ
 place_of first x = ahead first (wrapped x)
 
+-- a number that is neither that of one in flight nor in the window below
+abbrev pub is_unknown : ℕ → ℕ → ℕ → ℕ → Bool
+is_unknown window first count x = nat_le count (place_of first x) && nat_lt (place_of first x) (4096 - window)
+
 -- what is said is outside: an LSN that isn't the number of one in flight or the next one; a number named missing that isn't one of them;
--- a received one that is neither one of them nor in the window below
+-- a received one that is unknown
 abbrev pub offends : ℕ → ℕ → ℕ → StatusItem → Bool
 offends window first count (Missing x) = nat_le count (place_of first x)
 offends window first count (Unset x) = false
-offends window first count (Set x) = nat_le count (place_of first x) && nat_lt (place_of first x) (4096 - window)
+offends window first count (Set x) = is_unknown window first count x
 offends window first count (Below x) = nat_lt count (place_of first x)
 offends window first count (Moved n sn) = false
 

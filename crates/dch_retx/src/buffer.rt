@@ -16,7 +16,8 @@ ghost use Rattle.dch_retx.specs.Telling.{IsJudged};
 ghost use Rattle.dch_retx.specs.RetxBuffer.{after_ending, after_hearing, after_told, answer_of, ending, number_at, outside_from, base_after, floor_of, freed, left_front, listened, opened_line, run_on, run_timer, repeating, ticked, discarding, is_due, moving, place_in, mark_in};
 
 use crate::flight::Flight;
-use crate::hear::{Told, ending, judge, name};
+use crate::hear::{Flying, Told, ending, judge};
+use crate::names::{Naming, name};
 use crate::sent_pdu::SentPdu;
 use dch_am::StatusTaken;
 use dch_bits::NoMemory;
@@ -437,7 +438,12 @@ impl RetxBuffer {
         ensures { MatchResult result (λ told. IsJudged told self.now.window (number_at base self.now) (length self.now.flown - base) (said_by status.now)) (λ number. outside_from base (said_by status.now) self.now ≡ Some number) }
     {
         let count = self.flight.len() as u16 - base;
-        judge(status, self.rules.window, self.number_at(base), count)
+        let flying = Flying {
+            window: self.rules.window,
+            first: self.number_at(base),
+            count,
+        };
+        judge(status, flying)
     }
 
     /// The place of the lowest open PDU, where an MRW_ACK acknowledges those below a place.
@@ -471,7 +477,13 @@ impl RetxBuffer {
         let first = self.number_at(0);
         let from = floor_of(self.running);
         let to = (below as usize).min(self.flight.len());
-        let named = name(&mut self.flight, status, first, from, to, self.polled);
+        let naming = Naming {
+            first,
+            from,
+            to,
+            polled: self.polled,
+        };
+        let named = name(&mut self.flight, status, naming);
         self.flight.acknowledge(to);
         self.leave(named);
     }

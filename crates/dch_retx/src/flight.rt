@@ -3,7 +3,7 @@ ghost use Rattle.circular_buffer.specs.Buffer.{buffer};
 ghost use Rattle.dch_retx.specs.Flights.{at, named_from, acknowledged, unwanted, built, changed_below, first_wanted, front_acked, lowered, wanted_in, AreLinked, IsCounted, IsFirstWanted, IsFrom};
 
 use crate::links::{acked_from, acknowledge_below, next_from};
-use crate::places::{at_place, build_at, name_at, one, unwant_at};
+use crate::places::{at_place, build_at, is_requested, name_at, one, unwant_at};
 use crate::sent_pdu::SentPdu;
 use circular_buffer::HeapCircularBuffer;
 use dch_bits::NoMemory;
@@ -193,7 +193,7 @@ fn first_from(
     }
     let mut i = low;
     while i < ring.len() {
-        if at_place(ring, i).requested {
+        if is_requested(ring, i) {
             return i;
         }
         i = next_from(ring, skips, i);
@@ -208,7 +208,7 @@ fn wanted_before(ring: &HeapCircularBuffer<SentPdu>, to: usize) -> usize
 {
     let mut count = 0;
     for i in 0..to {
-        if at_place(ring, i).requested {
+        if is_requested(ring, i) {
             count += 1;
         }
     }

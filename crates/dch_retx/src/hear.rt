@@ -1,14 +1,11 @@
-ghost use Rattle.std.specs.Prelude.{◌≡◌, ◌+◌, ◌<◌, ◌≤◌, MatchResult, Some, length};
-ghost use Rattle.circular_buffer.specs.Buffer.{buffer};
-ghost use Rattle.dch_retx.specs.StatusItems.{said_by};
-ghost use Rattle.dch_retx.specs.Flights.{named_from};
-ghost use Rattle.dch_retx.specs.StatusItem.{ends_at, changed_at, first_ending, first_outside, is_named, names_place, number_in, offends, place_of, with_name, with_names};
-ghost use Rattle.dch_retx.specs.Telling.{ends_by, told_more, IsJudged};
+ghost use Rattle.std.specs.Prelude.{◌≡◌, ◌+◌, ◌<◌, ◌≤◌, MatchResult, Some, length, map};
+ghost use Rattle.dch_status.specs.Fields.{AckField, BitmapField, ListField, bits_of, pairs_of};
+ghost use Rattle.dch_am.specs.Numbers.{range};
+ghost use Rattle.dch_retx.specs.StatusItems.{first_of, missing_of, said_by, said_in};
+ghost use Rattle.dch_retx.specs.StatusItem.{ends_at, first_ending, first_outside, is_unknown, place_of};
+ghost use Rattle.dch_retx.specs.Telling.{ends_by, passed, IsJudged, IsRead};
 
-use crate::flight::Flight;
-use crate::item::StatusItem;
-use crate::items::StatusItems;
-use dch_status::{StatusView, Sufi};
+use dch_status::{Cursor, StatusView, Sufi};
 
 /// Where a number stands among PDUs in flight, the first of which has another one.
 pub fn place_of(first: u16, number: u16) -> u16
@@ -20,134 +17,165 @@ pub fn place_of(first: u16, number: u16) -> u16
 }
 
 /// What a status tells as a whole: the place of its LSN, and whether it says something besides an MRW_ACK.
-#[derive(Clone, Copy, Debug, PartialEq, Eq)]
+#[derive(Clone, Copy)]
 pub struct Told {
     pub below: Option<u16>,
     pub reports: bool,
 }
 
-/// What a status tells, or the first number that is outside, where so many PDUs are in flight.
-pub fn judge(status: &StatusView<'_>, window: u16, first: u16, count: u16) -> Result<Told, u16>
-    requires first { first < 4096 }
-    requires window { window ≤ 2048 }
-    ensures { MatchResult result (λ told. IsJudged told window first count (said_by status.now)) (λ number. first_outside window first count (said_by status.now) ≡ Some number) }
+/// The PDUs in flight that a status is judged by: the number of the first one, how many there are, and the window.
+#[derive(Clone, Copy)]
+pub struct Flying {
+    pub window: u16,
+    pub first: u16,
+    pub count: u16,
+}
+
+/// What a status tells, or its first number that is outside.
+pub fn judge(status: &StatusView<'_>, flying: Flying) -> Result<Told, u16>
+    requires flying { (flying.window ≤ 2048) × (flying.first < 4096) × (flying.count ≤ 2048) }
+    ensures { MatchResult result (λ told. IsJudged told flying.window flying.first flying.count (said_by status.now)) (λ number. first_outside flying.window flying.first flying.count (said_by status.now) ≡ Some number) }
 {
     let mut told = Told {
         below: None,
         reports: false,
     };
-    let mut items = StatusItems::new(status);
-    while let Some(said) = items.next() {
-        if offends(said, window, first, count) {
-            return Err(number_in(said));
-        }
-        told = told_more(told, said, first);
+    let mut cursor = status.cursor();
+    while !cursor.is_done() {
+        told = judge_field(&cursor, told, flying)?;
+        cursor.advance();
     }
     Ok(told)
 }
 
-/// The same with one thing more.
-fn told_more(told: Told, said: StatusItem, first: u16) -> Told
-    requires { first < 4096 }
-    ensures { result ≡ told_more first said told }
+/// The same with one field more.
+fn judge_field(cursor: &Cursor<'_>, told: Told, flying: Flying) -> Result<Told, u16>
+    requires some { 0 < length cursor.now }
+    requires flying { (flying.window ≤ 2048) × (flying.first < 4096) × (flying.count ≤ 2048) }
+    ensures { IsRead result told flying.window flying.first flying.count (said_in (first_of cursor.now)) }
 {
-    let below = match said {
-        StatusItem::Moved { n: _, sn: _ } => return told,
-        StatusItem::Below(number) => told.below.or(Some(place_of(first, number))),
-        StatusItem::Missing(_) => told.below,
-        StatusItem::Unset(_) => told.below,
-        StatusItem::Set(_) => told.below,
-    };
-    Told {
-        below,
+    match cursor.field() {
+        Sufi::List { pairs } => judge_list(cursor, pairs, told, flying),
+        Sufi::Bitmap { first, bits } => judge_bits(cursor, first, bits, told, flying),
+        Sufi::Ack(lsn) => judge_ack(lsn, told, flying),
+        Sufi::MrwAck { n: _, sn: _ } => Ok(told),
+        Sufi::NoMore => Ok(told),
+        Sufi::Window(_) => Ok(told),
+        Sufi::Mrw { last: _, n: _ } => Ok(told),
+    }
+}
+
+/// An LSN is the number of a PDU in flight or of the next one.
+fn judge_ack(lsn: u16, told: Told, flying: Flying) -> Result<Told, u16>
+    requires flying { (flying.window ≤ 2048) × (flying.first < 4096) × (flying.count ≤ 2048) }
+    ensures { IsRead result told flying.window flying.first flying.count (said_in (AckField lsn)) }
+{
+    let place = place_of(flying.first, lsn);
+    if place > flying.count {
+        return Err(lsn % 4096);
+    }
+    Ok(Told {
+        below: told.below.or(Some(place)),
         reports: true,
-    }
+    })
 }
 
-fn offends(said: StatusItem, window: u16, first: u16, count: u16) -> bool
-    requires first { first < 4096 }
-    requires window { window ≤ 2048 }
-    ensures { result ≡ offends window first count said }
+/// A number that a LIST names is that of a PDU in flight.
+fn judge_list(cursor: &Cursor<'_>, pairs: u8, told: Told, flying: Flying) -> Result<Told, u16>
+    requires pairs { pairs ≡ length (pairs_of (first_of cursor.now)) }
+    requires flying { (flying.window ≤ 2048) × (flying.first < 4096) × (flying.count ≤ 2048) }
+    ensures { IsRead result told flying.window flying.first flying.count (said_in (ListField (pairs_of (first_of cursor.now)))) }
 {
-    match said {
-        StatusItem::Missing(number) => place_of(first, number) >= count,
-        StatusItem::Unset(_) => false,
-        StatusItem::Set(number) => {
-            let place = place_of(first, number);
-            place >= count && place < 4096 - window
-        }
-        StatusItem::Below(number) => place_of(first, number) > count,
-        StatusItem::Moved { n: _, sn: _ } => false,
-    }
+    passed(outside_list(cursor, pairs, flying), told, pairs > 0)
 }
 
-fn number_in(said: StatusItem) -> u16
-    ensures { result ≡ number_in said }
-{
-    match said {
-        StatusItem::Missing(number) => number,
-        StatusItem::Unset(number) => number,
-        StatusItem::Set(number) => number,
-        StatusItem::Below(number) => number % 4096,
-        StatusItem::Moved { n: _, sn } => sn,
-    }
-}
-
-/// Names the PDUs that are said to be missing: those at `from` or behind are requested, and those before `to` marked. Answers whether the PDU at
-/// `polled` is named.
-pub fn name(
-    flight: &mut Flight,
-    status: &StatusView<'_>,
+/// A number that a BITMAP acknowledges is that of a PDU in flight or of one in the window below.
+fn judge_bits(
+    cursor: &Cursor<'_>,
     first: u16,
-    from: u16,
-    to: usize,
-    polled: u16,
-) -> bool
-    requires { first < 4096 }
-    ensures named { result ≡ is_named first polled (said_by status.now) }
-    ensures after { flight.new ≡ buffer (with_names first from to (said_by status.now) flight.old.items) flight.old.capacity }
+    bits: u16,
+    told: Told,
+    flying: Flying,
+) -> Result<Told, u16>
+    requires bits { bits ≡ length (bits_of (first_of cursor.now)) }
+    requires number { first < 4096 }
+    requires most { bits ≤ 128 }
+    requires flying { (flying.window ≤ 2048) × (flying.first < 4096) × (flying.count ≤ 2048) }
+    ensures { IsRead result told flying.window flying.first flying.count (said_in (BitmapField first (bits_of (first_of cursor.now)))) }
 {
-    let mut named = false;
-    let mut items = StatusItems::new(status);
-    while let Some(said) = items.next() {
-        name_one(flight, said, first, from, to);
-        named = named || names_place(said, first, polled);
-    }
-    named
+    passed(outside_bits(cursor, first, bits, flying), told, bits > 0)
 }
 
-fn name_one(flight: &mut Flight, said: StatusItem, first: u16, from: u16, to: usize)
-    requires { first < 4096 }
-    ensures { flight.new ≡ buffer (with_name first from to said flight.old.items) flight.old.capacity }
+/// Where no number of a field is outside, the field is told.
+fn passed(outside: Option<u16>, told: Told, reports: bool) -> Result<Told, u16>
+    ensures { result ≡ passed outside told reports }
 {
-    match said {
-        StatusItem::Missing(number) => name_at(flight, place_of(first, number), from, to),
-        StatusItem::Unset(number) => name_at(flight, place_of(first, number), from, to),
-        StatusItem::Set(_) => {}
-        StatusItem::Below(_) => {}
-        StatusItem::Moved { n: _, sn: _ } => {}
+    match outside {
+        Some(number) => Err(number),
+        None => Ok(Told {
+            below: told.below,
+            reports: told.reports || reports,
+        }),
     }
 }
 
-fn name_at(flight: &mut Flight, place: u16, from: u16, to: usize)
-    ensures { flight.new ≡ buffer (changed_at (named_from from to place) place flight.old.items) flight.old.capacity }
+/// The first number of a LIST that is outside.
+fn outside_list(cursor: &Cursor<'_>, pairs: u8, flying: Flying) -> Option<u16>
+    requires pairs { pairs ≡ length (pairs_of (first_of cursor.now)) }
+    requires flying { (flying.window ≤ 2048) × (flying.first < 4096) × (flying.count ≤ 2048) }
+    ensures { result ≡ first_outside flying.window flying.first flying.count (said_in (ListField (pairs_of (first_of cursor.now)))) }
 {
-    if (place as usize) < flight.len() {
-        flight.name(place as usize, from as usize, to);
+    for j in 0..pairs as usize {
+        let (number, more) = cursor.pair(j);
+        let found = outside_run(number, more, flying);
+        if found.is_some() {
+            return found;
+        }
     }
+    None
 }
 
-fn names_place(said: StatusItem, first: u16, place: u16) -> bool
-    requires { first < 4096 }
-    ensures { result ≡ names_place first place said }
+/// The first number that is outside of a run: a number, and so many that follow it.
+fn outside_run(number: u16, more: u8, flying: Flying) -> Option<u16>
+    requires number { number < 4096 }
+    requires more { more < 16 }
+    requires flying { (flying.window ≤ 2048) × (flying.first < 4096) × (flying.count ≤ 2048) }
+    ensures { result ≡ first_outside flying.window flying.first flying.count (map missing_of (range number (more + 1))) }
 {
-    match said {
-        StatusItem::Missing(number) => place_of(first, number) == place,
-        StatusItem::Unset(number) => place_of(first, number) == place,
-        StatusItem::Set(_) => false,
-        StatusItem::Below(_) => false,
-        StatusItem::Moved { n: _, sn: _ } => false,
+    let place = place_of(flying.first, number);
+    if place >= flying.count {
+        return Some(number);
     }
+    if place + (more as u16) < flying.count {
+        return None;
+    }
+    Some((number + (flying.count - place)) % 4096)
+}
+
+/// The first number of a BITMAP that is outside.
+fn outside_bits(cursor: &Cursor<'_>, first: u16, bits: u16, flying: Flying) -> Option<u16>
+    requires bits { bits ≡ length (bits_of (first_of cursor.now)) }
+    requires number { first < 4096 }
+    requires most { bits ≤ 128 }
+    requires flying { (flying.window ≤ 2048) × (flying.first < 4096) × (flying.count ≤ 2048) }
+    ensures { result ≡ first_outside flying.window flying.first flying.count (said_in (BitmapField first (bits_of (first_of cursor.now)))) }
+{
+    for j in 0..bits {
+        let number = (first + j) % 4096;
+        if cursor.bit(j as usize) && is_unknown(number, flying) {
+            return Some(number);
+        }
+    }
+    None
+}
+
+/// A number that is acknowledged is neither that of a PDU in flight nor of one in the window below.
+fn is_unknown(number: u16, flying: Flying) -> bool
+    requires flying { (flying.window ≤ 2048) × (flying.first < 4096) × (flying.count ≤ 2048) }
+    ensures { result ≡ is_unknown flying.window flying.first flying.count number }
+{
+    let place = place_of(flying.first, number);
+    place >= flying.count && place < 4096 - flying.window
 }
 
 /// The place below which the status acknowledges all PDUs, where it ends the discard at place `at` with the mark `mark`. Its fields are looked at,

@@ -4,9 +4,8 @@
 mod buffer;
 mod flight;
 mod hear;
-mod item;
-mod items;
 mod links;
+mod names;
 mod places;
 mod sent_pdu;
 

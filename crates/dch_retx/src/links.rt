@@ -2,7 +2,7 @@ ghost use Rattle.std.specs.Prelude.{◌≡◌, ℕ, ◌+◌, ◌^◌, ◌<◌, �
 ghost use Rattle.circular_buffer.specs.Buffer.{buffer};
 ghost use Rattle.dch_retx.specs.Flights.{at, acknowledged, before_next, changed_below, front_acked, joined, wanted_in, AreLinked};
 
-use crate::places::{acknowledge_at, at_place, one};
+use crate::places::{acknowledge_at, is_acked, one};
 use crate::sent_pdu::SentPdu;
 use circular_buffer::HeapCircularBuffer;
 
@@ -13,7 +13,7 @@ pub fn acked_from(ring: &HeapCircularBuffer<SentPdu>, from: usize) -> usize
     ensures within { from + result ≤ length ring.now.items }
 {
     for i in from..ring.len() {
-        if !at_place(ring, i).acked {
+        if !is_acked(ring, i) {
             return i - from;
         }
     }
@@ -51,7 +51,7 @@ pub fn next_from(
     ensures within { result ≤ length ring.now.items }
     ensures between { (j : ℕ) → i < j → j < result → (at ring.now.items j).requested ≡ false }
 {
-    if at_place(ring, i).acked {
+    if is_acked(ring, i) {
         i + 1
     } else {
         i + 1 + skip_at(skips, i)
@@ -99,7 +99,7 @@ fn join(
     ensures before { result ≡ before_next (at ring.now.items i).acked before i }
     ensures after { skips.new ≡ buffer (joined (at ring.now.items i).acked before next skips.old.items) skips.old.capacity }
 {
-    if !at_place(ring, i).acked {
+    if !is_acked(ring, i) {
         return Some(i);
     }
     if let Some(open) = before {

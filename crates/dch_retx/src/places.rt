@@ -13,6 +13,22 @@ pub fn at_place(ring: &HeapCircularBuffer<SentPdu>, i: usize) -> SentPdu
     *ring.get(i).unwrap()
 }
 
+/// It is acknowledged.
+pub fn is_acked(ring: &HeapCircularBuffer<SentPdu>, i: usize) -> bool
+    requires { i < length ring.now.items }
+    ensures { result ≡ (at ring.now.items i).acked }
+{
+    ring.get(i).unwrap().acked
+}
+
+/// It is requested.
+pub fn is_requested(ring: &HeapCircularBuffer<SentPdu>, i: usize) -> bool
+    requires { i < length ring.now.items }
+    ensures { result ≡ (at ring.now.items i).requested }
+{
+    ring.get(i).unwrap().requested
+}
+
 /// Unless it is acknowledged, it is requested where it stands at `from` or behind, and marked where it stands before `to`. Answers whether it is
 /// requested since.
 pub fn name_at(ring: &mut HeapCircularBuffer<SentPdu>, i: usize, from: usize, to: usize) -> bool

@@ -1,6 +1,5 @@
-use Rattle.std.proofs.Common.{◌≡◌, ◌<◌, ◌≤◌, ◌∙◌, ap, arith, false, subst, sym, ⊎_elim}
+use Rattle.std.proofs.Common.{◌≡◌, ◌<◌, ◌≤◌, ◌∙◌, arith, false, subst, sym, ⊎_elim}
 use Rattle.std.proofs.lemmas.Bool.{cases_lt, false_from_ne_true}
-use Rattle.dch_retx.specs.declared.sent_pdu.SentPdu.{SentPdu}
 use Rattle.dch_retx.specs.Flights.{at}
 use Rattle.dch_retx.proofs.Changes.{exhausted, found_from, none_from}
 use Rattle.dch_retx.proofs.flight.first_from.Goals as goal
@@ -11,8 +10,8 @@ loop-i-init c = λ j l. false_from_ne_true (at c.args.ring.now.items j).requeste
 pub returns-then-count-eq0 : goal.returns-then-count-eq0
 returns-then-count-eq0 c = none_from c.args.ring.now.items c.args.count c.requires.count (omega arith)
 
-pub returns-then-at_place : goal.returns-then-at_place
-returns-then-at_place c = found_from c.args.ring.now.items c.args.count c.loop-i.i c.requires.count c.loop-i.invariant (ap (λ (f : SentPdu). f.requested) (sym c.at_place.ensures) ∙ c.if-at_place.true)
+pub returns-then-is_requested : goal.returns-then-is_requested
+returns-then-is_requested c = found_from c.args.ring.now.items c.args.count c.loop-i.i c.requires.count c.loop-i.invariant (sym c.is_requested.ensures ∙ c.if-is_requested.true)
 
 pub returns : goal.returns
 returns c = absurd (c.if-count-eq0.false (c.requires.count ∙ exhausted c.args.ring.now.items (λ j l. c.loop-i.invariant j (omega (arith, l)))))
@@ -22,6 +21,6 @@ loop-i-preserved c = λ j l. ⊎_elim
     (λ (m : j < c.loop-i.i). c.loop-i.invariant j m)
     (λ (m : c.loop-i.i ≤ j). ⊎_elim
     (λ (q : c.loop-i.i < j). c.next_from-i.ensures.between j q l)
-    (λ (q : j ≤ c.loop-i.i). let e : c.loop-i.i ≡ j = omega arith in subst (λ k. (at c.args.ring.now.items k).requested ≡ false) e (ap (λ (f : SentPdu). f.requested) (sym c.at_place.ensures) ∙ c.if-at_place.false))
+    (λ (q : j ≤ c.loop-i.i). let e : c.loop-i.i ≡ j = omega arith in subst (λ k. (at c.args.ring.now.items k).requested ≡ false) e (sym c.is_requested.ensures ∙ c.if-is_requested.false))
     (cases_lt c.loop-i.i j))
     (cases_lt j c.loop-i.i)

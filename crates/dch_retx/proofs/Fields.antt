@@ -1,0 +1,214 @@
+-- What the fields of a status say, one after another.
+use Rattle.std.proofs.Common.{◌≡◌, ◌+◌, ◌-◌, ◌<◌, ◌≤◌, ℕ, zero, suc, List, [], ◌∷◌, ◌++◌, Bool, true, false, cond, not, ◌||◌, length, drop, get_or, Option, Some, None, Ok, Err, arith, refl, sym, ap, ◌∙◌, ⊎_elim}
+use Rattle.std.specs.Prelude.{is_some, map, nat_le, nat_lt, unwrap_or, ◌==◌}
+use Rattle.std.proofs.lemmas.Bool.{both_ways, cases_lt, le-leb, lt-leb, lt-ltb, le-ltb}
+use Rattle.std.proofs.lemmas.List.{drop_more, map-append}
+use Rattle.circular_buffer.specs.Buffer.{Buffer, buffer}
+use Rattle.dch_status.specs.Fields.{Field, NoMoreField}
+use Rattle.dch_am.specs.Bodies.{is_empty}
+use Rattle.dch_am.specs.Numbers.{range, wrapped}
+use Rattle.dch_am.specs.Names.{named}
+use Rattle.dch_am.specs.Acknowledging.{first_of_both}
+use Rattle.dch_retx.specs.declared.hear.Told.{Told}
+use Rattle.dch_retx.specs.declared.sent_pdu.SentPdu.{SentPdu}
+use Rattle.dch_retx.specs.StatusItems.{StatusItem, Missing, Below, bit_item, bits_from, missing_of, said_by, said_in}
+use Rattle.dch_retx.specs.StatusItem.{below_said, first_outside, is_named, is_unknown, names_place, or_else, place_of, tells_some, with_name, with_names}
+use Rattle.dch_retx.specs.Telling.{IsPassed, IsRead, passed}
+use Rattle.dch_retx.proofs.Hearing.{outside-append, tells-bits, tells-list}
+
+or_three : (a b c : Bool) → (a || (b || c)) ≡ ((a || b) || c)
+or_three true b c = refl
+or_three false b c = refl
+
+or_no : (a : Bool) → (a || false) ≡ a
+or_no true = refl
+or_no false = refl
+
+pub said_next : (fields : List Field) → (length fields == 0) ≡ false → said_by fields ≡ said_in (get_or fields 0 NoMoreField) ++ said_by (drop 1 fields)
+said_next [] e = absurd (both_ways true e refl)
+said_next (field ∷ fields) e = refl
+
+-- a field is judged, and those behind it
+pub record IsJudgedOn (now told : Told) (window first count : ℕ) (fields rest : List Field) : Type 0 where
+  pub outside : first_outside window first count (said_by fields) ≡ first_outside window first count (said_by rest)
+  pub below : unwrap_or told.below (below_said first (said_by fields)) ≡ unwrap_or now.below (below_said first (said_by rest))
+  pub reports : (told.reports || tells_some (said_by fields)) ≡ (now.reports || tells_some (said_by rest))
+
+pub judged_on : (now told : Told) (window first count : ℕ) (fields rest : List Field) → (length fields == 0) ≡ false → rest ≡ drop 1 fields → IsPassed now told window first count (said_in (get_or fields 0 NoMoreField)) → IsJudgedOn now told window first count fields rest
+judged_on now told window first count fields rest some e is = record {
+  outside = ap (first_outside window first count) (said_next fields some) ∙ (is.outside (said_by (drop 1 fields)) ∙ ap (λ (fs : List Field). first_outside window first count (said_by fs)) (sym e));
+  below = ap (λ xs. unwrap_or told.below (below_said first xs)) (said_next fields some) ∙ (is.below (said_by (drop 1 fields)) ∙ ap (λ (fs : List Field). unwrap_or now.below (below_said first (said_by fs))) (sym e));
+  reports = ap (λ xs. told.reports || tells_some xs) (said_next fields some) ∙ (is.reports (said_by (drop 1 fields)) ∙ ap (λ (fs : List Field). now.reports || tells_some (said_by fs)) (sym e));
+}
+
+pub outside_here : (window first count number : ℕ) (fields : List Field) → (length fields == 0) ≡ false → ((rest : List StatusItem) → first_outside window first count (said_in (get_or fields 0 NoMoreField) ++ rest) ≡ Some number) → first_outside window first count (said_by fields) ≡ Some number
+outside_here window first count number fields some h = ap (first_outside window first count) (said_next fields some) ∙ h (said_by (drop 1 fields))
+
+-- an LSN
+pub read_past : (told : Told) (window first count lsn : ℕ) → count < place_of first lsn → IsRead (Err (wrapped lsn)) told window first count (Below lsn ∷ [])
+read_past told window first count lsn l = λ rest. ap (λ b. cond b (Some (wrapped lsn)) (first_outside window first count rest)) (lt-ltb count (place_of first lsn) l)
+
+pub read_lsn : (told : Told) (window first count lsn : ℕ) (below : Option ℕ) → place_of first lsn ≤ count → below ≡ or_else told.below (Some (place_of first lsn)) → IsRead (Ok (record { below = below; reports = true })) told window first count (Below lsn ∷ [])
+read_lsn told window first count lsn below l e = record {
+  outside = λ rest. ap (λ b. cond b (Some (wrapped lsn)) (first_outside window first count rest)) (le-ltb count (place_of first lsn) l);
+  below = λ rest. first_below told.below (place_of first lsn) (below_said first rest) ∙ ap (λ o. unwrap_or o (below_said first rest)) (sym e);
+  reports = λ rest. or_true told.reports;
+}
+  where
+    first_below : (o : Option ℕ) (p n : ℕ) → unwrap_or o p ≡ unwrap_or (or_else o (Some p)) n
+    first_below None p n = refl
+    first_below (Some b) p n = refl
+
+    or_true : (b : Bool) → (b || true) ≡ true
+    or_true true = refl
+    or_true false = refl
+
+-- a field with no LSN
+read_passed : (o : Option ℕ) (told : Told) (reports : Bool) (window first count : ℕ) (said : List StatusItem) → o ≡ first_outside window first count said → (first_outside window first count said ≡ None → IsPassed (record told { reports = told.reports || reports }) told window first count said) → IsRead (passed o told reports) told window first count said
+read_passed None told reports window first count said e h = h (sym e)
+read_passed (Some number) told reports window first count said e h = λ rest. outside-append window first count said rest ∙ ap (λ o. first_of_both o (first_outside window first count rest)) (sym e)
+
+some_test : {A : Type 0} (xs : List A) → not (is_empty xs) ≡ nat_lt 0 (length xs)
+some_test [] = refl
+some_test (x ∷ xs) = sym (lt-ltb 0 (suc (length xs)) (omega arith))
+
+below-list : (first : ℕ) (ns : List ℕ) (rest : List StatusItem) → below_said first (map missing_of ns ++ rest) ≡ below_said first rest
+below-list first [] rest = refl
+below-list first (n ∷ ns) rest = below-list first ns rest
+
+below-bits : (first from : ℕ) (bits : List Bool) (rest : List StatusItem) → below_said first (bits_from from bits ++ rest) ≡ below_said first rest
+below-bits first from [] rest = refl
+below-bits first from (true ∷ bits) rest = below-bits first (from + 1) bits rest
+below-bits first from (false ∷ bits) rest = below-bits first (from + 1) bits rest
+
+pub read_list : (o : Option ℕ) (told : Told) (window first count n : ℕ) (pairs : List (ℕ × ℕ)) → n ≡ length pairs → o ≡ first_outside window first count (map missing_of (named pairs)) → IsRead (passed o told (nat_lt 0 n)) told window first count (map missing_of (named pairs))
+read_list o told window first count n pairs q e = read_passed o told (nat_lt 0 n) window first count (map missing_of (named pairs)) e (λ none. record {
+  outside = λ rest. outside-append window first count (map missing_of (named pairs)) rest ∙ ap (λ p. first_of_both p (first_outside window first count rest)) none;
+  below = λ rest. ap (unwrap_or told.below) (below-list first (named pairs) rest);
+  reports = λ rest. ap (λ b. told.reports || b) (tells-list pairs rest ∙ ap (λ b. b || tells_some rest) (some_test pairs ∙ ap (nat_lt 0) (sym q))) ∙ or_three told.reports (nat_lt 0 n) (tells_some rest);
+})
+
+pub read_bits : (o : Option ℕ) (told : Told) (window first count from n : ℕ) (bits : List Bool) → n ≡ length bits → o ≡ first_outside window first count (bits_from from bits) → IsRead (passed o told (nat_lt 0 n)) told window first count (bits_from from bits)
+read_bits o told window first count from n bits q e = read_passed o told (nat_lt 0 n) window first count (bits_from from bits) e (λ none. record {
+  outside = λ rest. outside-append window first count (bits_from from bits) rest ∙ ap (λ p. first_of_both p (first_outside window first count rest)) none;
+  below = λ rest. ap (unwrap_or told.below) (below-bits first from bits rest);
+  reports = λ rest. ap (λ b. told.reports || b) (tells-bits from bits rest ∙ ap (λ b. b || tells_some rest) (some_test bits ∙ ap (nat_lt 0) (sym q))) ∙ or_three told.reports (nat_lt 0 n) (tells_some rest);
+})
+
+-- a run of a LIST
+pub numbers_of : (ps : List (ℕ × ℕ)) (j : ℕ) (p : ℕ × ℕ) → j < length ps → get_or ps j (0, 0) ≡ p → map missing_of (named (drop j ps)) ≡ map missing_of (range p.0 (p.1 + 1)) ++ map missing_of (named (drop (j + 1) ps))
+numbers_of ps j p l e = ap (λ (qs : List (ℕ × ℕ)). map missing_of (named qs)) (drop_more ps j (0, 0) l) ∙ (ap (λ (q : ℕ × ℕ). map missing_of (range q.0 (q.1 + 1) ++ named (drop (j + 1) ps))) e ∙ map-append missing_of (range p.0 (p.1 + 1)) (named (drop (j + 1) ps)))
+
+both_some : (o p : Option ℕ) → is_some o ≡ true → first_of_both o p ≡ o
+both_some None p e = absurd (cc)
+both_some (Some i) p e = refl
+
+both_none : (o p : Option ℕ) → is_some o ≡ false → first_of_both o p ≡ p
+both_none None p e = refl
+both_none (Some i) p e = absurd (cc)
+
+pub run_outside : (window first count : ℕ) (ps : List (ℕ × ℕ)) (j : ℕ) (p : ℕ × ℕ) (o : Option ℕ) → j < length ps → get_or ps j (0, 0) ≡ p → o ≡ first_outside window first count (map missing_of (range p.0 (p.1 + 1))) → is_some o ≡ true → first_outside window first count (map missing_of (named (drop j ps))) ≡ o
+run_outside window first count ps j p o l e q some =
+    ap (first_outside window first count) (numbers_of ps j p l e)
+    ∙ (outside-append window first count (map missing_of (range p.0 (p.1 + 1))) (map missing_of (named (drop (j + 1) ps)))
+    ∙ (ap (λ x. first_of_both x (first_outside window first count (map missing_of (named (drop (j + 1) ps))))) (sym q) ∙ both_some o (first_outside window first count (map missing_of (named (drop (j + 1) ps)))) some))
+
+pub run_inside : (window first count : ℕ) (ps : List (ℕ × ℕ)) (j : ℕ) (p : ℕ × ℕ) (o : Option ℕ) → j < length ps → get_or ps j (0, 0) ≡ p → o ≡ first_outside window first count (map missing_of (range p.0 (p.1 + 1))) → is_some o ≡ false → first_outside window first count (map missing_of (named (drop j ps))) ≡ first_outside window first count (map missing_of (named (drop (j + 1) ps)))
+run_inside window first count ps j p o l e q none =
+    ap (first_outside window first count) (numbers_of ps j p l e)
+    ∙ (outside-append window first count (map missing_of (range p.0 (p.1 + 1))) (map missing_of (named (drop (j + 1) ps)))
+    ∙ (ap (λ x. first_of_both x (first_outside window first count (map missing_of (named (drop (j + 1) ps))))) (sym q) ∙ both_none o (first_outside window first count (map missing_of (named (drop (j + 1) ps)))) none))
+
+-- the places of a run rise by one
+place_again : (first x : ℕ) → place_of first (wrapped x) ≡ place_of first x
+place_again first x = omega arith
+
+place_more : (first x : ℕ) → place_of first x < 2048 → place_of first (x + 1) ≡ place_of first x + 1
+place_more first x l = omega arith
+
+head_out : (window first count x : ℕ) (rest : List StatusItem) → count ≤ place_of first x → first_outside window first count (missing_of x ∷ rest) ≡ Some (wrapped x)
+head_out window first count x rest l = ap (λ b. cond b (Some (wrapped x)) (first_outside window first count rest)) (ap (nat_le count) (place_again first x) ∙ le-leb count (place_of first x) l)
+
+head_in : (window first count x : ℕ) (rest : List StatusItem) → place_of first x < count → first_outside window first count (missing_of x ∷ rest) ≡ first_outside window first count rest
+head_in window first count x rest l = ap (λ b. cond b (Some (wrapped x)) (first_outside window first count rest)) (ap (nat_le count) (place_again first x) ∙ lt-leb count (place_of first x) l)
+
+pub run_past : (window first count x more : ℕ) → x < 4096 → count ≤ place_of first x → Some x ≡ first_outside window first count (map missing_of (range x (more + 1)))
+run_past window first count x more small l =
+    let n : more + 1 ≡ suc more = omega arith in
+    let same : wrapped x ≡ x = omega arith in
+    sym (ap (λ k. first_outside window first count (map missing_of (range x k))) n ∙ (head_out window first count x (map missing_of (range (x + 1) more)) l ∙ ap Some same))
+
+run_within : (window first count n x : ℕ) → count ≤ 2048 → place_of first x + n ≤ count → first_outside window first count (map missing_of (range x n)) ≡ None
+run_within window first count zero x most l = refl
+run_within window first count (suc n) x most l =
+    head_in window first count x (map missing_of (range (x + 1) n)) (omega arith)
+    ∙ run_within window first count n (x + 1) most (omega (arith, place_more first x))
+
+pub run_in : (window first count x more : ℕ) → count ≤ 2048 → place_of first x + more < count → None ≡ first_outside window first count (map missing_of (range x (more + 1)))
+run_in window first count x more most l = sym (run_within window first count (more + 1) x most (omega arith))
+
+run_reaches : (window first count n x : ℕ) → count ≤ 2048 → place_of first x ≤ count → count < place_of first x + n → first_outside window first count (map missing_of (range x n)) ≡ Some (wrapped (x + (count - place_of first x)))
+run_reaches window first count zero x most l m = absurd (omega arith)
+run_reaches window first count (suc n) x most l m = ⊎_elim
+    (λ (h : place_of first x < count).
+    let more : place_of first (x + 1) ≡ place_of first x + 1 = place_more first x (omega arith) in
+    let same : x + 1 + (count - place_of first (x + 1)) ≡ x + (count - place_of first x) = omega arith in
+    head_in window first count x (map missing_of (range (x + 1) n)) h
+    ∙ (run_reaches window first count n (x + 1) most (omega arith) (omega arith) ∙ ap (λ k. Some (wrapped k)) same))
+    (λ (h : count ≤ place_of first x).
+    let same : x ≡ x + (count - place_of first x) = omega arith in
+    head_out window first count x (map missing_of (range (x + 1) n)) h ∙ ap (λ k. Some (wrapped k)) same)
+    (cases_lt (place_of first x) count)
+
+pub run_edge : (window first count x more : ℕ) → count ≤ 2048 → place_of first x < count → count ≤ place_of first x + more → Some (wrapped (x + (count - place_of first x))) ≡ first_outside window first count (map missing_of (range x (more + 1)))
+run_edge window first count x more most l m = sym (run_reaches window first count (more + 1) x most (omega arith) (omega arith))
+
+-- a bit of a BITMAP
+pub bits_next : (x j : ℕ) (bits : List Bool) (b : Bool) → j < length bits → get_or bits j false ≡ b → bits_from (x + j) (drop j bits) ≡ bit_item b (wrapped (x + j)) ∷ bits_from (x + (j + 1)) (drop (j + 1) bits)
+bits_next x j bits b l e =
+    let n : x + j + 1 ≡ x + (j + 1) = omega arith in
+    ap (bits_from (x + j)) (drop_more bits j false l)
+    ∙ (ap (λ c. bit_item c (wrapped (x + j)) ∷ bits_from (x + j + 1) (drop (j + 1) bits)) e
+    ∙ ap (λ k. bit_item b (wrapped (x + j)) ∷ bits_from k (drop (j + 1) bits)) n)
+
+pub bit_out : (window first count x j : ℕ) (bits : List Bool) → j < length bits → get_or bits j false ≡ true → is_unknown window first count (wrapped (x + j)) ≡ true → first_outside window first count (bits_from (x + j) (drop j bits)) ≡ Some (wrapped (x + j))
+bit_out window first count x j bits l e out =
+    ap (first_outside window first count) (bits_next x j bits true l e)
+    ∙ ap (λ b. cond b (Some (wrapped (x + j))) (first_outside window first count (bits_from (x + (j + 1)) (drop (j + 1) bits)))) out
+
+pub bit_in : (window first count x j : ℕ) (bits : List Bool) (b : Bool) → j < length bits → get_or bits j false ≡ b → (b ≡ true → is_unknown window first count (wrapped (x + j)) ≡ false) → first_outside window first count (bits_from (x + j) (drop j bits)) ≡ first_outside window first count (bits_from (x + (j + 1)) (drop (j + 1) bits))
+bit_in window first count x j bits true l e known =
+    ap (first_outside window first count) (bits_next x j bits true l e)
+    ∙ ap (λ b. cond b (Some (wrapped (x + j))) (first_outside window first count (bits_from (x + (j + 1)) (drop (j + 1) bits)))) (known refl)
+bit_in window first count x j bits false l e known = ap (first_outside window first count) (bits_next x j bits false l e)
+
+-- what is named so far, and what is left
+pub record IsNaming (first polled from to : ℕ) (all rest : List StatusItem) (is : Bool) (flight now : Buffer SentPdu) : Type 0 where
+  pub named : is_named first polled all ≡ (is || is_named first polled rest)
+  pub after : with_names first from to all flight.items ≡ with_names first from to rest now.items
+  pub room : now.capacity ≡ flight.capacity
+
+named-append : (first i : ℕ) (xs ys : List StatusItem) → is_named first i (xs ++ ys) ≡ (is_named first i xs || is_named first i ys)
+named-append first i [] ys = refl
+named-append first i (x ∷ xs) ys = ap (λ b. names_place first i x || b) (named-append first i xs ys) ∙ or_three (names_place first i x) (is_named first i xs) (is_named first i ys)
+
+with-append : (first from to : ℕ) (xs ys : List StatusItem) (flown : List SentPdu) → with_names first from to (xs ++ ys) flown ≡ with_names first from to ys (with_names first from to xs flown)
+with-append first from to [] ys flown = refl
+with-append first from to (x ∷ xs) ys flown = with-append first from to xs ys (with_name first from to x flown)
+
+pub naming_part : (first polled from to : ℕ) (all rest here more : List StatusItem) (is h : Bool) (flight now next : Buffer SentPdu) → rest ≡ here ++ more → h ≡ is_named first polled here → next ≡ buffer (with_names first from to here now.items) now.capacity → IsNaming first polled from to all rest is flight now → IsNaming first polled from to all more (is || h) flight next
+naming_part first polled from to all rest here more is h flight now next e q n w = record {
+  named = w.named ∙ (ap (λ xs. is || is_named first polled xs) e ∙ (ap (λ b. is || b) (named-append first polled here more) ∙ (or_three is (is_named first polled here) (is_named first polled more) ∙ ap (λ b. (is || b) || is_named first polled more) (sym q))));
+  after = w.after ∙ (ap (λ xs. with_names first from to xs now.items) e ∙ (with-append first from to here more now.items ∙ ap (λ (b : Buffer SentPdu). with_names first from to more b.items) (sym n)));
+  room = ap (λ (b : Buffer SentPdu). b.capacity) n ∙ w.room;
+}
+
+pub naming_one : (first polled from to : ℕ) (all rest more : List StatusItem) (item : StatusItem) (is h : Bool) (flight now next : Buffer SentPdu) → rest ≡ item ∷ more → h ≡ names_place first polled item → next ≡ buffer (with_name first from to item now.items) now.capacity → IsNaming first polled from to all rest is flight now → IsNaming first polled from to all more (is || h) flight next
+naming_one first polled from to all rest more item is h flight now next e q n w = naming_part first polled from to all rest (item ∷ []) more is h flight now next e (q ∙ sym (or_no (names_place first polled item))) n w
+
+-- the numbers of a run
+pub range_next : (x k n : ℕ) → k < n → map missing_of (range (x + k) (n - k)) ≡ Missing (wrapped (x + k)) ∷ map missing_of (range (x + (k + 1)) (n - (k + 1)))
+range_next x k n l =
+    let e : n - k ≡ suc (n - (k + 1)) = omega arith in
+    let p : x + k + 1 ≡ x + (k + 1) = omega arith in
+    ap (λ m. map missing_of (range (x + k) m)) e ∙ ap (λ y. Missing (wrapped (x + k)) ∷ map missing_of (range y (n - (k + 1)))) p
