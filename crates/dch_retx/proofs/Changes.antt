@@ -4,10 +4,10 @@ use Rattle.std.specs.Prelude.{nat_lt, nat_le, ◌==◌}
 use Rattle.std.proofs.Math.ListN.{length-set}
 use Rattle.std.proofs.lemmas.Bool.{and_parts, both_ways, cases_eq, cases_lt, eqb-true, false_from_ne_true, ltb-false, ltb-true, not-true, or_cases, or_left, or_parts}
 use Rattle.std.proofs.lemmas.Bool.Decides.{nat_tests}
-use Rattle.std.proofs.lemmas.List.{drop_more, get_or-drop, get_or_append_left}
+use Rattle.std.proofs.lemmas.List.{get_or-drop, get_or_append_left}
 use Rattle.circular_buffer.specs.Buffer.{Buffer, buffer}
 use Rattle.dch_retx.specs.declared.sent_pdu.SentPdu.{SentPdu}
-use Rattle.dch_retx.specs.Flights.{at, blank, acknowledged, named_from, unwanted, changed_below, first_wanted, front_acked, lowered, wanted_in, AreLinked, IsCounted, IsFirstWanted, IsFlight, IsFrom}
+use Rattle.dch_retx.specs.Flights.{at, blank, acknowledged, named_from, unwanted, changed_below, first_wanted, lowered, wanted_in, AreLinked, IsCounted, IsFirstWanted, IsFlight, IsFrom}
 
 -- one place more is changed
 pub changed_next : (change : SentPdu → SentPdu) (i : ℕ) (flown : List SentPdu) → i < length flown → set (changed_below change i flown) i (change (at (changed_below change i flown) i)) ≡ changed_below change (i + 1) flown
@@ -19,12 +19,6 @@ pub length-changed : (change : SentPdu → SentPdu) (i : ℕ) (flown : List Sent
 length-changed change zero flown = refl
 length-changed change (suc i) [] = refl
 length-changed change (suc i) (f ∷ flown) = ap suc (length-changed change i flown)
-
-pub front_here : (flown : List SentPdu) (i : ℕ) → i < length flown → (at flown i).acked ≡ true → front_acked (drop i flown) ≡ 1 + front_acked (drop (i + 1) flown)
-front_here flown i l e = ap front_acked (drop_more flown i blank l) ∙ ap (λ b. cond b (suc (front_acked (drop (i + 1) flown))) 0) e ∙ omega arith
-
-pub front_none : (flown : List SentPdu) (i : ℕ) → i < length flown → (at flown i).acked ≡ false → front_acked (drop i flown) ≡ 0
-front_none flown i l e = ap front_acked (drop_more flown i blank l) ∙ ap (λ b. cond b (suc (front_acked (drop (i + 1) flown))) 0) e
 
 -- what is requested after a change that wants nothing was requested before
 wanted_before : (change : SentPdu → SentPdu) → ((f : SentPdu) → (change f).requested ≡ true → f.requested ≡ true) → (to : ℕ) (flown : List SentPdu) (i : ℕ) → (at (changed_below change to flown) i).requested ≡ true → (at flown i).requested ≡ true
@@ -67,13 +61,7 @@ inside [] j e = absurd (cc)
 inside (x ∷ xs) zero e = omega arith
 inside (x ∷ xs) (suc j) e = omega (arith, inside xs j e)
 
--- how many are requested from a place on
-pub wanted_here : (flown : List SentPdu) (i : ℕ) → i < length flown → (at flown i).requested ≡ true → wanted_in (drop i flown) ≡ 1 + wanted_in (drop (i + 1) flown)
-wanted_here flown i l e = ap wanted_in (drop_more flown i blank l) ∙ ap (λ b. cond b (suc (wanted_in (drop (i + 1) flown))) (wanted_in (drop (i + 1) flown))) e ∙ omega arith
-
-pub wanted_not : (flown : List SentPdu) (i : ℕ) → i < length flown → (at flown i).requested ≡ false → wanted_in (drop i flown) ≡ wanted_in (drop (i + 1) flown)
-wanted_not flown i l e = ap wanted_in (drop_more flown i blank l) ∙ ap (λ b. cond b (suc (wanted_in (drop (i + 1) flown))) (wanted_in (drop (i + 1) flown))) e
-
+-- how many are requested
 wanted_none : (flown : List SentPdu) → ((j : ℕ) → (at flown j).requested ≡ false) → wanted_in flown ≡ 0
 wanted_none [] none = refl
 wanted_none (f ∷ flown) none = ap (λ b. cond b (suc (wanted_in flown)) (wanted_in flown)) (none 0) ∙ wanted_none flown (λ j. none (suc j))
@@ -253,9 +241,6 @@ flight_as flight skips low count i f l more none linked is = flight_set flight s
     go false false h e = refl
 
 -- one that isn't requested any more
-pub gone_from : (flown : List SentPdu) (low i : ℕ) (f : SentPdu) → f.requested ≡ false → IsFrom flown low → IsFrom (set flown i f) low
-gone_from flown low i f e is = record { from = λ j w. is.from j (wanted_old flown i f (λ h. absurd (both_ways f.requested e h)) j w) }
-
 pub acknowledged_from : (to : ℕ) (flown : List SentPdu) (low : ℕ) → IsFrom flown low → IsFrom (changed_below acknowledged to flown) low
 acknowledged_from to flown low is = record { from = λ i e. is.from i (wanted_before acknowledged acknowledged_less to flown i e) }
 

@@ -1,7 +1,7 @@
 -- What the fields of a status say, one after another.
-use Rattle.std.proofs.Common.{◌≡◌, ◌+◌, ◌-◌, ◌<◌, ◌≤◌, ℕ, zero, suc, List, [], ◌∷◌, ◌++◌, Bool, true, false, cond, not, ◌||◌, length, drop, get_or, Option, Some, None, Ok, Err, arith, refl, sym, ap, ◌∙◌, ⊎_elim}
+use Rattle.std.proofs.Common.{◌≡◌, ◌+◌, ◌-◌, ◌<◌, ◌≤◌, ℕ, zero, suc, List, [], ◌∷◌, ◌++◌, Bool, true, false, cond, not, ◌||◌, length, drop, get_or, Option, Some, None, arith, refl, sym, ap, ◌∙◌, ⊎_elim}
 use Rattle.std.specs.Prelude.{is_some, map, nat_le, nat_lt, unwrap_or, ◌==◌}
-use Rattle.std.proofs.lemmas.Bool.{both_ways, cases_lt, le-leb, lt-leb, lt-ltb, le-ltb}
+use Rattle.std.proofs.lemmas.Bool.{both_ways, cases_lt, le-leb, lt-leb, lt-ltb}
 use Rattle.std.proofs.lemmas.List.{drop_more, map-append}
 use Rattle.circular_buffer.specs.Buffer.{Buffer, buffer}
 use Rattle.dch_status.specs.Fields.{Field, NoMoreField}
@@ -11,8 +11,8 @@ use Rattle.dch_am.specs.Names.{named}
 use Rattle.dch_am.specs.Acknowledging.{first_of_both}
 use Rattle.dch_retx.specs.declared.hear.Told.{Told}
 use Rattle.dch_retx.specs.declared.sent_pdu.SentPdu.{SentPdu}
-use Rattle.dch_retx.specs.StatusItems.{StatusItem, Missing, Below, bit_item, bits_from, missing_of, said_by, said_in}
-use Rattle.dch_retx.specs.StatusItem.{below_said, first_outside, is_named, is_unknown, names_place, or_else, place_of, tells_some, with_name, with_names}
+use Rattle.dch_retx.specs.StatusItems.{StatusItem, Missing, bits_from, missing_of, said_by, said_in}
+use Rattle.dch_retx.specs.StatusItem.{below_said, first_outside, is_named, names_place, place_of, tells_some, with_name, with_names}
 use Rattle.dch_retx.specs.Telling.{IsPassed, IsRead, passed}
 use Rattle.dch_retx.proofs.Hearing.{outside-append, tells-bits, tells-list}
 
@@ -40,28 +40,6 @@ judged_on now told window first count fields rest some e is = record {
   below = ap (λ xs. unwrap_or told.below (below_said first xs)) (said_next fields some) ∙ (is.below (said_by (drop 1 fields)) ∙ ap (λ (fs : List Field). unwrap_or now.below (below_said first (said_by fs))) (sym e));
   reports = ap (λ xs. told.reports || tells_some xs) (said_next fields some) ∙ (is.reports (said_by (drop 1 fields)) ∙ ap (λ (fs : List Field). now.reports || tells_some (said_by fs)) (sym e));
 }
-
-pub outside_here : (window first count number : ℕ) (fields : List Field) → (length fields == 0) ≡ false → ((rest : List StatusItem) → first_outside window first count (said_in (get_or fields 0 NoMoreField) ++ rest) ≡ Some number) → first_outside window first count (said_by fields) ≡ Some number
-outside_here window first count number fields some h = ap (first_outside window first count) (said_next fields some) ∙ h (said_by (drop 1 fields))
-
--- an LSN
-pub read_past : (told : Told) (window first count lsn : ℕ) → count < place_of first lsn → IsRead (Err (wrapped lsn)) told window first count (Below lsn ∷ [])
-read_past told window first count lsn l = λ rest. ap (λ b. cond b (Some (wrapped lsn)) (first_outside window first count rest)) (lt-ltb count (place_of first lsn) l)
-
-pub read_lsn : (told : Told) (window first count lsn : ℕ) (below : Option ℕ) → place_of first lsn ≤ count → below ≡ or_else told.below (Some (place_of first lsn)) → IsRead (Ok (record { below = below; reports = true })) told window first count (Below lsn ∷ [])
-read_lsn told window first count lsn below l e = record {
-  outside = λ rest. ap (λ b. cond b (Some (wrapped lsn)) (first_outside window first count rest)) (le-ltb count (place_of first lsn) l);
-  below = λ rest. first_below told.below (place_of first lsn) (below_said first rest) ∙ ap (λ o. unwrap_or o (below_said first rest)) (sym e);
-  reports = λ rest. or_true told.reports;
-}
-  where
-    first_below : (o : Option ℕ) (p n : ℕ) → unwrap_or o p ≡ unwrap_or (or_else o (Some p)) n
-    first_below None p n = refl
-    first_below (Some b) p n = refl
-
-    or_true : (b : Bool) → (b || true) ≡ true
-    or_true true = refl
-    or_true false = refl
 
 -- a field with no LSN
 read_passed : (o : Option ℕ) (told : Told) (reports : Bool) (window first count : ℕ) (said : List StatusItem) → o ≡ first_outside window first count said → (first_outside window first count said ≡ None → IsPassed (record told { reports = told.reports || reports }) told window first count said) → IsRead (passed o told reports) told window first count said
@@ -132,12 +110,6 @@ head_out window first count x rest l = ap (λ b. cond b (Some (wrapped x)) (firs
 head_in : (window first count x : ℕ) (rest : List StatusItem) → place_of first x < count → first_outside window first count (missing_of x ∷ rest) ≡ first_outside window first count rest
 head_in window first count x rest l = ap (λ b. cond b (Some (wrapped x)) (first_outside window first count rest)) (ap (nat_le count) (place_again first x) ∙ lt-leb count (place_of first x) l)
 
-pub run_past : (window first count x more : ℕ) → x < 4096 → count ≤ place_of first x → Some x ≡ first_outside window first count (map missing_of (range x (more + 1)))
-run_past window first count x more small l =
-    let n : more + 1 ≡ suc more = omega arith in
-    let same : wrapped x ≡ x = omega arith in
-    sym (ap (λ k. first_outside window first count (map missing_of (range x k))) n ∙ (head_out window first count x (map missing_of (range (x + 1) more)) l ∙ ap Some same))
-
 run_within : (window first count n x : ℕ) → count ≤ 2048 → place_of first x + n ≤ count → first_outside window first count (map missing_of (range x n)) ≡ None
 run_within window first count zero x most l = refl
 run_within window first count (suc n) x most l =
@@ -162,25 +134,6 @@ run_reaches window first count (suc n) x most l m = ⊎_elim
 
 pub run_edge : (window first count x more : ℕ) → count ≤ 2048 → place_of first x < count → count ≤ place_of first x + more → Some (wrapped (x + (count - place_of first x))) ≡ first_outside window first count (map missing_of (range x (more + 1)))
 run_edge window first count x more most l m = sym (run_reaches window first count (more + 1) x most (omega arith) (omega arith))
-
--- a bit of a BITMAP
-pub bits_next : (x j : ℕ) (bits : List Bool) (b : Bool) → j < length bits → get_or bits j false ≡ b → bits_from (x + j) (drop j bits) ≡ bit_item b (wrapped (x + j)) ∷ bits_from (x + (j + 1)) (drop (j + 1) bits)
-bits_next x j bits b l e =
-    let n : x + j + 1 ≡ x + (j + 1) = omega arith in
-    ap (bits_from (x + j)) (drop_more bits j false l)
-    ∙ (ap (λ c. bit_item c (wrapped (x + j)) ∷ bits_from (x + j + 1) (drop (j + 1) bits)) e
-    ∙ ap (λ k. bit_item b (wrapped (x + j)) ∷ bits_from k (drop (j + 1) bits)) n)
-
-pub bit_out : (window first count x j : ℕ) (bits : List Bool) → j < length bits → get_or bits j false ≡ true → is_unknown window first count (wrapped (x + j)) ≡ true → first_outside window first count (bits_from (x + j) (drop j bits)) ≡ Some (wrapped (x + j))
-bit_out window first count x j bits l e out =
-    ap (first_outside window first count) (bits_next x j bits true l e)
-    ∙ ap (λ b. cond b (Some (wrapped (x + j))) (first_outside window first count (bits_from (x + (j + 1)) (drop (j + 1) bits)))) out
-
-pub bit_in : (window first count x j : ℕ) (bits : List Bool) (b : Bool) → j < length bits → get_or bits j false ≡ b → (b ≡ true → is_unknown window first count (wrapped (x + j)) ≡ false) → first_outside window first count (bits_from (x + j) (drop j bits)) ≡ first_outside window first count (bits_from (x + (j + 1)) (drop (j + 1) bits))
-bit_in window first count x j bits true l e known =
-    ap (first_outside window first count) (bits_next x j bits true l e)
-    ∙ ap (λ b. cond b (Some (wrapped (x + j))) (first_outside window first count (bits_from (x + (j + 1)) (drop (j + 1) bits)))) (known refl)
-bit_in window first count x j bits false l e known = ap (first_outside window first count) (bits_next x j bits false l e)
 
 -- what is named so far, and what is left
 pub record IsNaming (first polled from to : ℕ) (all rest : List StatusItem) (is : Bool) (flight now : Buffer SentPdu) : Type 0 where

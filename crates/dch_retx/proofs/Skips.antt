@@ -4,9 +4,9 @@ use Rattle.std.specs.Prelude.{IfSome, min, nat_le, nat_lt}
 use Rattle.std.proofs.lemmas.Bool.{both_ways, cases_lt}
 use Rattle.std.proofs.lemmas.List.{get_or-drop}
 use Rattle.dch_retx.specs.declared.sent_pdu.SentPdu.{SentPdu}
-use Rattle.dch_retx.proofs.Changes.{changed_next, length-changed}
+use Rattle.dch_retx.proofs.Changes.{changed_next, left_from, length-changed}
 use Rattle.dch_retx.proofs.Fronts.{front_in, front_le, front_out}
-use Rattle.dch_retx.specs.Flights.{AreLinked, IsBefore, IsLinked, IsSettled, IsWalk, acknowledged, at, before_next, blank, built, changed_below, front_acked, joined, named_from, unwanted}
+use Rattle.dch_retx.specs.Flights.{AreLinked, IsBefore, IsCounted, IsLinked, IsSettled, IsWalk, acknowledged, at, before_next, blank, built, changed_below, front_acked, joined, named_from, unwanted, wanted_in}
 
 -- one place is changed
 front_same : (flown : List SentPdu) (i : ℕ) (g : SentPdu) → g.acked ≡ (at flown i).acked → front_acked (set flown i g) ≡ front_acked flown
@@ -84,8 +84,31 @@ linked_drop (suc n) [] (s ∷ skips) is = absurd is
 linked_drop (suc n) (f ∷ flown) [] is = absurd is
 linked_drop (suc n) (f ∷ flown) (s ∷ skips) is = linked_drop n flown skips is.1
 
-pub linked_keep : (n : ℕ) (flown : List SentPdu) (skips : List ℕ) → AreLinked flown skips → AreLinked (drop (length flown - n) flown) (drop (length skips - n) skips)
-linked_keep n flown skips is = subst (λ k. AreLinked (drop (length flown - n) flown) (drop (k - n) skips)) (sym (linked_size flown skips is)) (linked_drop (length flown - n) flown skips is)
+-- those that leave are acknowledged, so that none of them is requested
+wanted_drop : (n : ℕ) (flown : List SentPdu) (skips : List ℕ) → n ≤ front_acked flown → AreLinked flown skips → wanted_in (drop n flown) ≡ wanted_in flown
+wanted_drop zero flown skips l is = refl
+wanted_drop (suc n) [] skips l is = refl
+wanted_drop (suc n) (f ∷ flown) [] l is = absurd is
+wanted_drop (suc n) (f ∷ flown) (s ∷ skips) l is = go f.acked refl l (λ m. wanted_drop n flown skips m is.1)
+  where
+    go : (b : Bool) → f.acked ≡ b → suc n ≤ cond b (suc (front_acked flown)) 0 → (n ≤ front_acked flown → wanted_in (drop n flown) ≡ wanted_in flown) → wanted_in (drop n flown) ≡ wanted_in (f ∷ flown)
+    go true a m rest = rest (omega arith) ∙ sym (ap (λ b. cond b (suc (wanted_in flown)) (wanted_in flown)) (is.0.settled a).0)
+    go false a m rest = absurd (omega arith)
+
+wanted_high : (flown : List SentPdu) (skips : List ℕ) (i : ℕ) → AreLinked flown skips → (at flown i).requested ≡ true → front_acked flown ≤ i
+wanted_high flown skips i is e = ⊎_elim
+    (λ (m : i < front_acked flown). absurd (both_ways (at flown i).requested ((linked_at flown skips i (omega (arith, front_le flown)) is).settled (front_in flown i m)).0 e))
+    (λ (m : front_acked flown ≤ i). m)
+    (cases_lt i (front_acked flown))
+
+pub left_counted : (n : ℕ) (flown : List SentPdu) (skips : List ℕ) (low count : ℕ) → n ≤ front_acked flown → AreLinked flown skips → IsCounted flown low count → IsCounted (drop n flown) (low - n) count
+left_counted n flown skips low count l linked is = record {
+  below = left_from n flown low is.below;
+  count_is = is.count_is ∙ sym (wanted_drop n flown skips l linked);
+  first = λ some.
+      let place : low ≡ n + (low - n) = omega (arith, wanted_high flown skips low linked (is.first some)) in
+      ap (λ (f : SentPdu). f.requested) (get_or-drop n flown (low - n) blank) ∙ subst (λ k. (at flown k).requested ≡ true) place (is.first some);
+}
 
 -- those before a place aren't requested
 front_unwanted : (n : ℕ) (flown : List SentPdu) → front_acked (changed_below unwanted n flown) ≡ front_acked flown

@@ -406,7 +406,7 @@ impl RetxBuffer {
         ensures window { self.new.window ≡ self.old.window }
         ensures history { (rules : Rules) (s : Sender) → Stands rules self.old s → Stands rules self.new (restarted_sender s) }
     {
-        self.flight.leave(self.flight.len());
+        self.flight.clear();
         self.next = 0;
         self.timer = 0;
         self.polled = 0;

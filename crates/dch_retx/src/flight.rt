@@ -150,22 +150,25 @@ impl Flight {
         acked_from(&self.ring, from)
     }
 
-    /// So many PDUs in front leave.
+    /// So many PDUs in front, which are acknowledged, leave.
     pub fn leave(&mut self, count: usize)
-        requires { count ≤ length self.old.items }
+        requires { count ≤ front_acked self.old.items }
         ensures { self.new ≡ buffer (drop count self.old.items) self.old.capacity }
     {
-        let gone = wanted_before(&self.ring, count);
         let kept = self.ring.len() - count;
         self.ring.truncate_front(kept);
         self.skips.truncate_front(kept);
-        self.count -= gone;
-        self.low = first_from(
-            &self.ring,
-            &self.skips,
-            self.low.saturating_sub(count),
-            self.count,
-        );
+        self.low = self.low.saturating_sub(count);
+    }
+
+    /// All PDUs leave.
+    pub fn clear(&mut self)
+        ensures { self.new ≡ buffer [] self.old.capacity }
+    {
+        self.ring.clear();
+        self.skips.clear();
+        self.low = 0;
+        self.count = 0;
     }
 }
 
@@ -199,20 +202,6 @@ fn first_from(
         i = next_from(ring, skips, i);
     }
     0
-}
-
-/// How many PDUs before a place are requested.
-fn wanted_before(ring: &HeapCircularBuffer<SentPdu>, to: usize) -> usize
-    requires { to ≤ length ring.now.items }
-    ensures { result + wanted_in (drop to ring.now.items) ≡ wanted_in ring.now.items }
-{
-    let mut count = 0;
-    for i in 0..to {
-        if is_requested(ring, i) {
-            count += 1;
-        }
-    }
-    count
 }
 
 /// The PDUs before a place aren't requested. Answers how many of them were.
