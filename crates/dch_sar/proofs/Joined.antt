@@ -1,10 +1,10 @@
 -- The PDUs of the list, and what is left of the units behind a place.
-use Rattle.std.proofs.Common.{◌≡◌, ◌+◌, ◌-◌, ◌<◌, ◌≤◌, ℕ, zero, suc, List, [], ◌∷◌, ◌++◌, Bool, true, false, cond, length, take, drop, map, arith, refl, sym, ap, ap₂, ◌∙◌, subst, ⊎_elim}
+use Rattle.std.proofs.Common.{◌≡◌, ◌+◌, ◌-◌, ◌<◌, ◌≤◌, ℕ, zero, suc, List, [], ◌∷◌, ◌++◌, Bool, true, false, cond, length, map, arith, refl, sym, ap, ap₂, ◌∙◌, subst, ⊎_elim}
 use Rattle.std.specs.Prelude.{◌&&◌, ◌||◌, ◌==◌, not, nat_lt, nat_le, filter}
 use Rattle.std.proofs.lemmas.Bool.{eqb-true, ltb-false, lt-ltb, le-ltb, eq-eqb, le-leb, leb-true, cases_lt, cond_both, cond-true}
 use Rattle.std.proofs.lemmas.Bool.Decides.{nat_tests}
-use Rattle.std.proofs.lemmas.List.{map-append, take_all, take-append-le}
-use Rattle.dch_sar.specs.Filling.{total, ends_before, is_end, cost, IsCarried, IsFill, is_owed, is_marked, marks_of, AreSome}
+use Rattle.std.proofs.lemmas.List.{map-append}
+use Rattle.dch_sar.specs.Filling.{total, ends_before, is_end, cost, IsCarried, is_owed, is_marked, marks_of, AreSome}
 use Rattle.dch_sar.specs.Pdus.{Front, greatest, lead, ends_between, cost_to, reach, ends_unit, has_room, ends_marked, next_front, left_from, begun_by, ended_at}
 use Rattle.dch_sar.proofs.Placing.{ends_none, end_none}
 
@@ -268,9 +268,7 @@ next_is size starts ns f o here is =
         one true = ap (λ k. k ∷ []) (ap (λ p. p - f.from) to ∙ gone)
         one false = refl
 
-pub filled-next : (size : ℕ) (starts : Bool) (ns : List ℕ) (f : Front) (old new : List ℕ) (o k : ℕ) (owed : Bool) → AreSome ns → f.from ≤ total ns → length (lead starts ns f) ≤ size → IsFill (size - length (lead starts ns f)) (left_from f.from ns) old new o k owed → (reach size starts ns f ≡ f.from + o) × ((take k new ≡ map (λ e. e - f.from) (ends_marked size starts ns f)) × ((next_front size starts ns f).owed ≡ owed))
-filled-next size starts ns f old new o k owed some within fits is =
-    let next : IsNext size starts ns f o = next_is size starts ns f o (record { some = some; within = within; room = fits }) is.octets in
-    let ms : List ℕ = marks_of (size - length (lead starts ns f)) 0 (left_from f.from ns) o in
-    let front : take k new ≡ ms = ap (take k) is.marks ∙ (take-append-le k ms (drop k old) (omega (arith, is.count)) ∙ take_all k ms (omega (arith, is.count))) in
-    (next.reach, (front ∙ sym next.marks, next.owed ∙ sym is.owed))
+pub filled-next : (size : ℕ) (starts : Bool) (ns : List ℕ) (f : Front) (o : ℕ) → AreSome ns → f.from ≤ total ns → length (lead starts ns f) ≤ size → IsCarried (size - length (lead starts ns f)) 0 (left_from f.from ns) o → (reach size starts ns f ≡ f.from + o) × ((marks_of (size - length (lead starts ns f)) 0 (left_from f.from ns) o ≡ map (λ e. e - f.from) (ends_marked size starts ns f)) × ((next_front size starts ns f).owed ≡ is_owed (size - length (lead starts ns f)) 0 (left_from f.from ns) o))
+filled-next size starts ns f o some within fits is =
+    let next : IsNext size starts ns f o = next_is size starts ns f o (record { some = some; within = within; room = fits }) is in
+    (next.reach, (sym next.marks, next.owed))

@@ -1,10 +1,9 @@
 -- Placing unit after unit carries the most octets.
-use Rattle.std.proofs.Common.{◌≡◌, ◌+◌, ◌-◌, ◌<◌, ◌≤◌, ℕ, zero, suc, set, slice_get, Some, length-set, List, [], ◌∷◌, ◌++◌, Bool, true, false, cond, length, take, drop, arith, refl, sym, ap, ap₂, ◌∙◌, subst, ⊎_elim, append_assoc}
+use Rattle.std.proofs.Common.{◌≡◌, ◌+◌, ◌-◌, ◌<◌, ◌≤◌, ℕ, suc, List, [], ◌∷◌, ◌++◌, Bool, true, false, cond, length, arith, refl, sym, ap, ap₂, ◌∙◌, subst, ⊎_elim}
 use Rattle.std.specs.Prelude.{◌&&◌, ◌==◌, not, nat_lt, if◌then◌else◌}
-use Rattle.std.proofs.lemmas.Bool.{eqb-true, ltb-true, ltb-false, lt-ltb, le-ltb, cases_lt, cond_both, cond-true}
+use Rattle.std.proofs.lemmas.Bool.{eqb-true, ltb-true, ltb-false, lt-ltb, le-ltb, cases_lt, cond_both}
 use Rattle.std.proofs.lemmas.Bool.Decides.{nat_tests}
-use Rattle.std.proofs.lemmas.List.{append-nil, drop_all, drop-drop, drop-set-lt, length-take-le, take-append-drop, take_more_set}
-use Rattle.dch_sar.specs.Filling.{total, ends_before, is_end, cost, IsCarried, is_owed, marks_of, AreSome, IsFill}
+use Rattle.dch_sar.specs.Filling.{total, ends_before, is_end, cost, IsCarried, is_owed, marks_of, AreSome}
 
 -- what placing gives: where the octets that are carried end, the marks, and whether a mark is owed
 pub record Placed : Type 0 where
@@ -152,67 +151,3 @@ place_is room at (n ∷ ns) some =
   where
     below : room ≤ n → (n == room) ≡ false → room < n
     below le other = grind (arith, nat_tests)
-
--- where the walk over the units stands: so many octets are placed, with a mark for each unit so far
-pub record Stands (room : ℕ) (ns : List ℕ) (octets i : ℕ) (marks old : List ℕ) : Type 0 where
-  pub placed : place room 0 ns ≡ with_marks (take i marks) (place (room - octets - i) octets (drop i ns))
-  pub spent : octets + i ≤ room
-  pub rest : drop i marks ≡ drop i old
-  pub size : length marks ≡ length old
-
--- what a PDU takes
-pub fill_of : (room : ℕ) (ns : List ℕ) (octets : ℕ) (done marks old : List ℕ) (i : ℕ) (owed : Bool) → AreSome ns → place room 0 ns ≡ record { octets = octets; marks = done; owed = owed } → marks ≡ done ++ drop i old → i ≡ length done → IsFill room ns old marks octets i owed
-fill_of room ns octets done marks old i owed some is text count =
-    let placed : IsPlaced room 0 ns (record { octets = octets; marks = done; owed = owed }) = subst (IsPlaced room 0 ns) is (place_is room 0 ns some) in
-    record { octets = placed.octets; marks = text ∙ ap (λ ms. ms ++ drop i old) placed.marks; count = count ∙ ap length placed.marks; owed = placed.owed }
-
-place_whole : (free at n : ℕ) (ns : List ℕ) → n < free → place free at (n ∷ ns) ≡ with_marks ((at + n) ∷ []) (place (free - n - 1) (at + n) ns)
-place_whole free at n ns less = cond-true (nat_lt n free) _ _ (lt-ltb n free less)
-
-last_unit : (free at n : ℕ) (ns : List ℕ) → free ≤ n → place free at (n ∷ ns) ≡ record { octets = at + free; marks = []; owed = n == free }
-last_unit free at n ns full = rw (le-ltb n free full) (either (n == free) refl)
-  where
-    either : (b : Bool) → (n == free) ≡ b → cond {A = Placed} b (record { octets = at + n; marks = []; owed = true }) (record { octets = at + free; marks = []; owed = false }) ≡ record { octets = at + free; marks = []; owed = b }
-    either true same = ap (λ k. record { octets = at + k; marks = []; owed = true }) (eqb-true n free same)
-    either false other = refl
-
-first_left : (ns : List ℕ) (i n : ℕ) → slice_get ns i ≡ Some n → drop i ns ≡ n ∷ drop (i + 1) ns
-first_left [] i n is = absurd (cc)
-first_left (m ∷ ns) zero n is = let e : m ≡ n = cc in ap (λ k. k ∷ ns) e
-first_left (m ∷ ns) (suc i) n is = let e : suc i + 1 ≡ suc (i + 1) = omega arith in rw e (first_left ns i n is)
-
-whole : (marks old : List ℕ) (i : ℕ) → drop i marks ≡ drop i old → marks ≡ (take i marks ++ []) ++ drop i old
-whole marks old i rest = sym (ap₂ (λ a b. a ++ b) (append-nil (take i marks)) (sym rest) ∙ take-append-drop i marks)
-
-pub ends_within : (room : ℕ) (ns : List ℕ) (octets i n : ℕ) (marks old : List ℕ) → AreSome ns → room ≤ length old → Stands room ns octets i marks old → slice_get ns i ≡ Some n → room - octets - i ≤ n → IsFill room ns old marks (octets + (room - octets - i)) i (n == (room - octets - i))
-ends_within room ns octets i n marks old some fits stands is full =
-    fill_of room ns (octets + (room - octets - i)) (take i marks ++ []) marks old i (n == (room - octets - i)) some
-    (stands.placed ∙ ap (with_marks (take i marks)) (ap (place (room - octets - i) octets) (first_left ns i n is) ∙ last_unit (room - octets - i) octets n (drop (i + 1) ns) full))
-    (whole marks old i stands.rest)
-    (sym (ap length (append-nil (take i marks)) ∙ length-take-le i marks (omega (arith, stands.spent, stands.size))))
-
-pub ends_all : (room : ℕ) (ns : List ℕ) (octets i k : ℕ) (marks old : List ℕ) → AreSome ns → room ≤ length old → Stands room ns octets i marks old → length ns ≤ i → k ≡ i → IsFill room ns old marks octets k false
-ends_all room ns octets i k marks old some fits stands past is =
-    rw is
-    (fill_of room ns octets (take i marks ++ []) marks old i false some
-    (stands.placed ∙ ap (λ rest. with_marks (take i marks) (place (room - octets - i) octets rest)) (drop_all i ns past))
-    (whole marks old i stands.rest)
-    (sym (ap length (append-nil (take i marks)) ∙ length-take-le i marks (omega (arith, stands.spent, stands.size)))))
-
--- one unit more is placed whole
-pub one_more : (room : ℕ) (ns : List ℕ) (octets i n : ℕ) (marks old : List ℕ) → room ≤ length old → Stands room ns octets i marks old → slice_get ns i ≡ Some n → n < room - octets - i → Stands room ns (octets + n) (i + 1) (set marks i (octets + n)) old
-one_more room ns octets i n marks old fits stands is less =
-    let inside : i < length marks = omega (arith, stands.size) in
-    let left : room - (octets + n) - (i + 1) ≡ room - octets - i - n - 1 = omega arith in
-    record {
-      placed =
-          stands.placed
-          ∙ (ap (with_marks (take i marks)) (ap (place (room - octets - i) octets) (first_left ns i n is) ∙ place_whole (room - octets - i) octets n (drop (i + 1) ns) less)
-          ∙ rw (take_more_set marks i (octets + n) inside, left) (more_marks (take i marks) (octets + n) (place (room - octets - i - n - 1) (octets + n) (drop (i + 1) ns))));
-      spent = omega arith;
-      rest = drop-set-lt (i + 1) marks i (octets + n) (omega arith) ∙ (sym (drop-drop 1 i marks) ∙ (ap (drop 1) stands.rest ∙ drop-drop 1 i old));
-      size = length-set marks i (octets + n) ∙ stands.size;
-    }
-  where
-    more_marks : (ms : List ℕ) (m : ℕ) (f : Placed) → with_marks ms (with_marks (m ∷ []) f) ≡ with_marks (ms ++ m ∷ []) f
-    more_marks ms m f = ap (λ xs. record { octets = f.octets; marks = xs; owed = f.owed }) (sym (append_assoc ms (m ∷ []) f.marks))

@@ -3,8 +3,6 @@
 
 mod laws;
 mod reassembler;
-mod walk;
 
 pub use laws::filled_law;
 pub use reassembler::Reassembler;
-pub use walk::{Filled, fill};
