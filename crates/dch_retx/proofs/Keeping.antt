@@ -18,16 +18,16 @@ use Rattle.dch_retx.proofs.Lengths.{length-acked, length-told}
 use Rattle.dch_retx.proofs.Naming.{at-changed_below, at-told, heard_one}
 
 alike_itself : (f : SentPdu) → IsAlike f f
-alike_itself f = record { extent = refl; full = refl; ends = refl; continues = refl }
+alike_itself f = record { extent = refl; full = refl }
 
 alike_twice : (f g h : SentPdu) → IsAlike f g → IsAlike g h → IsAlike f h
-alike_twice f g h a b = record { extent = a.extent ∙ b.extent; full = a.full ∙ b.full; ends = a.ends ∙ b.ends; continues = a.continues ∙ b.continues }
+alike_twice f g h a b = record { extent = a.extent ∙ b.extent; full = a.full ∙ b.full }
 
 alike_acknowledged : (f : SentPdu) → IsAlike (acknowledged f) f
-alike_acknowledged f = cond_both {A = SentPdu} f.named (record f { named = false }) (record f { acked = true; requested = false }) (λ g. IsAlike g f) (λ _. record { extent = refl; full = refl; ends = refl; continues = refl }) (λ _. record { extent = refl; full = refl; ends = refl; continues = refl })
+alike_acknowledged f = cond_both {A = SentPdu} f.named (record f { named = false }) (record f { acked = true; requested = false }) (λ g. IsAlike g f) (λ _. record { extent = refl; full = refl }) (λ _. record { extent = refl; full = refl })
 
 alike_named : (high under : Bool) (f : SentPdu) → IsAlike (named_as high under f) f
-alike_named high under f = cond_both {A = SentPdu} f.acked f (record f { named = f.named || under; requested = f.requested || high }) (λ g. IsAlike g f) (λ _. alike_itself f) (λ _. record { extent = refl; full = refl; ends = refl; continues = refl })
+alike_named high under f = cond_both {A = SentPdu} f.acked f (record f { named = f.named || under; requested = f.requested || high }) (λ g. IsAlike g f) (λ _. alike_itself f) (λ _. record { extent = refl; full = refl })
 
 alike_one : (high named under : Bool) (f : SentPdu) → IsAlike (heard_one high named under f) f
 alike_one high true true f = alike_twice (acknowledged (named_as high true f)) (named_as high true f) f (alike_acknowledged (named_as high true f)) (alike_named high true f)
@@ -91,9 +91,9 @@ resent_kept place l = kept_front l.flown (resent place l).flown 0 (length-set l.
     each i less = go (i == place) refl
       where
         go : (b : Bool) → (i == place) ≡ b → IsAlike (at (set l.flown place (built (at l.flown place))) i) (at l.flown i)
-        go true e = let q : i ≡ place = eqb-true i place e in subst (λ k. IsAlike (at (set l.flown k (built (at l.flown k))) i) (at l.flown i)) q (subst (λ f. IsAlike f (at l.flown i)) (sym (get_or-set_same l.flown i (built (at l.flown i)) blank less)) (record { extent = refl; full = refl; ends = refl; continues = refl }))
+        go true e = let q : i ≡ place = eqb-true i place e in subst (λ k. IsAlike (at (set l.flown k (built (at l.flown k))) i) (at l.flown i)) q (subst (λ f. IsAlike f (at l.flown i)) (sym (get_or-set_same l.flown i (built (at l.flown i)) blank less)) (record { extent = refl; full = refl }))
         go false e = subst (λ f. IsAlike f (at l.flown i)) (sym (get_or-set_other l.flown place i (built (at l.flown place)) blank (eqb-false i place e))) (alike_itself (at l.flown i))
 
 pub discarding_kept : (place n : ℕ) (l : RetxBuffer) → AreKept l.flown (discarding place n l).flown
 discarding_kept place n l = kept_front l.flown (changed_below unwanted place l.flown) 0 (length-changed unwanted place l.flown) (omega arith)
-    (λ i less. subst (λ f. IsAlike f (at l.flown i)) (sym (at-changed_below unwanted place l.flown i less)) (cond_both {A = SentPdu} (nat_lt i place) (unwanted (at l.flown i)) (at l.flown i) (λ f. IsAlike f (at l.flown i)) (λ _. record { extent = refl; full = refl; ends = refl; continues = refl }) (λ _. alike_itself (at l.flown i))))
+    (λ i less. subst (λ f. IsAlike f (at l.flown i)) (sym (at-changed_below unwanted place l.flown i less)) (cond_both {A = SentPdu} (nat_lt i place) (unwanted (at l.flown i)) (at l.flown i) (λ f. IsAlike f (at l.flown i)) (λ _. record { extent = refl; full = refl }) (λ _. alike_itself (at l.flown i))))

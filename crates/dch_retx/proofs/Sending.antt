@@ -6,7 +6,7 @@ use Rattle.std.proofs.lemmas.Bool.Decides.{nat_tests}
 use Rattle.std.proofs.lemmas.List.{get_or-set_same, get_or-set_other, get_or_append_left}
 use Rattle.std.proofs.Math.Seq.{get_or-append_seam}
 use Rattle.dch_retx.specs.declared.sent_pdu.SentPdu.{SentPdu}
-use Rattle.dch_retx.specs.Flights.{at, blank, built, first_wanted}
+use Rattle.dch_retx.specs.Flights.{at, blank, built, ends_in, first_wanted}
 use Rattle.dch_am.specs.Numbers.{has, less, grown, run_of, wrapped}
 use Rattle.dch_am.specs.Rules.{Rules}
 use Rattle.dch_am.specs.Bodies.{Body, ends, ends_of, is_empty, is_left, next_body, after_body}
@@ -247,7 +247,7 @@ new_out rules d l s f room new is = record {
   rules_are = is.rules_are;
   built = is.built ∙ ap (left_of rules.poll_pdus) less_one;
   some = omega arith;
-  ended = ap₂ (λ r c. counted r c f.ends) (ap (λ (r : Rules). r.poll_units) is.rules_are) is.ended ∙ (ap (counted rules.poll_units (left_of rules.poll_units (ends s.bodies))) new.ends_are ∙ (counted_is rules.poll_units (ends s.bodies) (ends_of body) ∙ ap (left_of rules.poll_units) (sym (ends-append s.bodies (body ∷ []) ∙ one_more))));
+  ended = ap₂ (λ r c. counted r c (ends_in f)) (ap (λ (r : Rules). r.poll_units) is.rules_are) is.ended ∙ (ap (counted rules.poll_units (left_of rules.poll_units (ends s.bodies))) new.ends_are ∙ (counted_is rules.poll_units (ends s.bodies) (ends_of body) ∙ ap (left_of rules.poll_units) (sym (ends-append s.bodies (body ∷ []) ∙ one_more))));
   most = is.most;
   few = omega (arith, longer);
   flying = omega (arith, low_is, longer, bodies, is.flying);
@@ -349,9 +349,9 @@ pub last_sends : (rules : Rules) (l : RetxBuffer) (s : Sender) (place d : ℕ) �
 last_sends rules l s place d inside last none is = sends rules (resent place l) (once_more s) false false refl (last_out rules l s place inside last none is)
 
 pub new_sends : (rules : Rules) (l : RetxBuffer) (s : Sender) (f : SentPdu) (left : Bool) (d : ℕ) → length l.flown < rules.window → IsNew f (ends_of (next_body d s.unsent)) → left ≡ is_left (after_body d s.unsent) → Stands rules l s → Sends rules (new_poll f left l) (new_line f left l) (anew_polls rules d s) (after_choice Fresh rules d s)
-new_sends rules l s f left d room new e is = sends rules (fresh f l) (anew d s) (not left || crosses l.rules.poll_units l.ended f.ends) (not (is_left (anew d s).unsent) || passes rules.poll_units (ends s.bodies) (ends (anew d s).bodies))
+new_sends rules l s f left d room new e is = sends rules (fresh f l) (anew d s) (not left || crosses l.rules.poll_units l.ended (ends_in f)) (not (is_left (anew d s).unsent) || passes rules.poll_units (ends s.bodies) (ends (anew d s).bodies))
     (ap₂ (λ a b. not a || b) e
-    (ap₂ (λ r c. crosses r c f.ends) (ap (λ (r : Rules). r.poll_units) is.rules_are) is.ended
+    (ap₂ (λ r c. crosses r c (ends_in f)) (ap (λ (r : Rules). r.poll_units) is.rules_are) is.ended
     ∙ (ap (crosses rules.poll_units (left_of rules.poll_units (ends s.bodies))) new.ends_are
     ∙ (crosses_is rules.poll_units (ends s.bodies) (ends_of (next_body d s.unsent)) ∙ ap (passes rules.poll_units (ends s.bodies)) (sym (ends-append s.bodies (next_body d s.unsent ∷ []) ∙ one_more))))))
     (new_out rules d l s f room new is)

@@ -10,11 +10,19 @@ no_extent = record { sdu = 0; used = 0; pieces = 0; rest = 0 }
 
 -- no PDU
 abbrev pub blank : SentPdu
-blank = record { extent = no_extent; full = false; ends = 0; continues = false; builds = 0; acked = false; requested = false; named = false }
+blank = record { extent = no_extent; full = false; builds = 0; acked = false; requested = false; named = false }
 
 -- a PDU that was just built
-abbrev pub sent_once : Extent → Bool → ℕ → Bool → SentPdu
-sent_once extent full ends continues = record { extent = extent; full = full; ends = ends; continues = continues; builds = 1; acked = false; requested = false; named = false }
+abbrev pub sent_once : Extent → Bool → SentPdu
+sent_once extent full = record { extent = extent; full = full; builds = 1; acked = false; requested = false; named = false }
+
+-- how many SDUs have their length indicators in it
+abbrev pub ends_in : SentPdu → ℕ
+ends_in f = f.extent.pieces + (if f.full then 1 else 0)
+
+-- an SDU goes on behind its last octet
+abbrev pub continues_in : SentPdu → Bool
+continues_in f = nat_lt 0 f.extent.rest
 
 -- the PDU at a place
 abbrev pub at : List SentPdu → ℕ → SentPdu

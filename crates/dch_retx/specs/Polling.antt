@@ -1,7 +1,7 @@
 -- Which PDU is built next of those in flight, and whether it polls (TS 25.322 9.7.1, 11.3.2).
 use Rattle.std.specs.Prelude.{◌+◌, ◌-◌, ◌*◌, ◌%◌, ◌++◌, ◌&&◌, ◌||◌, not, ℕ, List, [], ◌∷◌, Bool, false, length, nat_lt, nat_le, slice_set, if◌then◌else◌}
 use Rattle.dch_retx.specs.declared.sent_pdu.SentPdu.{SentPdu}
-use Rattle.dch_retx.specs.Flights.{at, built, first_wanted}
+use Rattle.dch_retx.specs.Flights.{at, built, ends_in, first_wanted}
 use Rattle.dch_am.specs.Numbers.{wrapped}
 use Rattle.dch_am.specs.Rules.{Rules}
 use Rattle.dch_retx.specs.declared.buffer.Pick.{Pick}
@@ -65,10 +65,10 @@ last_line place l = sent_line false (resent place l)
 
 -- a new PDU is in flight. It polls where nothing unsent is left behind it or so many units have ended
 abbrev pub fresh : SentPdu → RetxBuffer → RetxBuffer
-fresh f l = record l { flown = l.flown ++ f ∷ []; next = wrapped (l.next + 1); ended = counted l.rules.poll_units l.ended f.ends }
+fresh f l = record l { flown = l.flown ++ f ∷ []; next = wrapped (l.next + 1); ended = counted l.rules.poll_units l.ended (ends_in f) }
 
 abbrev pub new_poll : SentPdu → Bool → RetxBuffer → Bool
-new_poll f left l = poll_of (not left || crosses l.rules.poll_units l.ended f.ends) (fresh f l)
+new_poll f left l = poll_of (not left || crosses l.rules.poll_units l.ended (ends_in f)) (fresh f l)
 
 abbrev pub new_line : SentPdu → Bool → RetxBuffer → RetxBuffer
-new_line f left l = sent_line (not left || crosses l.rules.poll_units l.ended f.ends) (fresh f l)
+new_line f left l = sent_line (not left || crosses l.rules.poll_units l.ended (ends_in f)) (fresh f l)

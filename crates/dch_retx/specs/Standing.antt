@@ -1,7 +1,7 @@
 -- What is kept of the PDUs that were sent stands for a sender over numbers without wrap (TS 25.322 9.4).
 use Rattle.std.specs.Prelude.{◌≡◌, ◌⊎◌, ◌+◌, ◌-◌, ◌%◌, ◌<◌, ◌≤◌, ◌||◌, ◌==◌, nat_lt, if◌then◌else◌, ℕ, List, Bool, true, false, length, min, Option, Some, None}
 use Rattle.dch_retx.specs.declared.sent_pdu.SentPdu.{SentPdu}
-use Rattle.dch_retx.specs.Flights.{at}
+use Rattle.dch_retx.specs.Flights.{at, ends_in}
 use Rattle.dch_am.specs.Numbers.{has, wrapped}
 use Rattle.dch_am.specs.Rules.{Rules}
 use Rattle.dch_am.specs.Bodies.{ends}
@@ -83,7 +83,7 @@ pub record IsNew (f : SentPdu) (ends : ℕ) : Type 0 where
   pub requested : f.requested ≡ false
   pub named : f.named ≡ false
   pub builds : f.builds ≡ 1
-  pub ends_are : f.ends ≡ ends
+  pub ends_are : ends_in f ≡ ends
 
 -- a PDU has this poll bit, and the line behind it stands for this sender
 pub record Sends (rules : Rules) (bit : Bool) (l : RetxBuffer) (poll_bit : Bool) (s : Sender) : Type 0 where
@@ -102,8 +102,6 @@ timed s = record s { poll_timer = s.poll_timer - 1; owed = s.owed || (s.poll_tim
 pub record IsAlike (f g : SentPdu) : Type 0 where
   pub extent : f.extent ≡ g.extent
   pub full : f.full ≡ g.full
-  pub ends : f.ends ≡ g.ends
-  pub continues : f.continues ≡ g.continues
 
 -- of the PDUs in flight a front has left, and the others are sent as before
 pub record AreKept (old new : List SentPdu) : Type 0 where

@@ -262,7 +262,7 @@ impl RetxBuffer {
         ensures poll { result ≡ new_poll flown left self.old }
         ensures after { self.new ≡ new_line flown left self.old }
     {
-        let ends = flown.ends as u16;
+        let ends = flown.ends();
         let due = crosses(self.rules.poll_units, self.ended, ends);
         self.ended = counted(self.rules.poll_units, self.ended, ends);
         self.next = (self.next + 1) % 4096;

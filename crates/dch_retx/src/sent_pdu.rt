@@ -1,5 +1,5 @@
 ghost use Rattle.std.specs.Prelude.{◌≡◌};
-ghost use Rattle.dch_retx.specs.Flights.{sent_once};
+ghost use Rattle.dch_retx.specs.Flights.{continues_in, ends_in, sent_once};
 
 /// Where the octets of a PDU stand among the SDUs.
 #[derive(Clone, Copy)]
@@ -20,10 +20,6 @@ pub struct SentPdu {
     pub extent: Extent,
     /// The mark 0 stands first.
     pub full: bool,
-    /// How many units have their end mark in it.
-    pub ends: u8,
-    /// A unit goes on behind its last octet.
-    pub continues: bool,
     /// How often it was built, at most 255.
     pub builds: u8,
     /// It is acknowledged, though a PDU before it isn't.
@@ -36,18 +32,30 @@ pub struct SentPdu {
 
 impl SentPdu {
     /// A PDU that was just built.
-    pub fn new(extent: Extent, full: bool, ends: u8, continues: bool) -> SentPdu
-        ensures { result ≡ sent_once extent full ends continues }
+    pub fn new(extent: Extent, full: bool) -> SentPdu
+        ensures { result ≡ sent_once extent full }
     {
         SentPdu {
             extent,
             full,
-            ends,
-            continues,
             builds: 1,
             acked: false,
             requested: false,
             named: false,
         }
+    }
+
+    /// How many SDUs have their length indicators in it, up to 256.
+    pub fn ends(&self) -> u16
+        ensures { result ≡ ends_in self.now }
+    {
+        self.extent.pieces as u16 + if self.full { 1 } else { 0 }
+    }
+
+    /// An SDU goes on behind its last octet.
+    pub fn continues(&self) -> bool
+        ensures { result ≡ continues_in self.now }
+    {
+        self.extent.rest > 0
     }
 }
