@@ -39,13 +39,14 @@ fn write_from(region: &mut [u8], from: usize, octets: &[u8])
     region[from..from + octets.len()].copy_from_slice(octets);
 }
 
-/// So many numbers from 0 on.
-pub fn numbers(alloc: Global, count: u32) -> Result<Vec<u32>, NoMemory>
+/// So many numbers from 0 on, at most 65,536.
+pub fn numbers(alloc: Global, count: usize) -> Result<Vec<u16>, NoMemory>
+    requires { count ≤ 65536 }
     ensures { IfOk result (λ v. v.items ≡ range_with_len 0 count) }
 {
     let mut numbers = Vec::new(alloc);
     for number in 0..count {
-        match numbers.push(number) {
+        match numbers.push(number as u16) {
             Ok(()) => {}
             Err(_) => return Err(NoMemory),
         }

@@ -8,12 +8,15 @@ use dch_bits::NoMemory;
 use std::alloc::Global;
 use std::marker::Model;
 
+/// The most blocks of a pool: their numbers have 16 bits.
+const MOST_BLOCKS: usize = 65536;
+
 /// Blocks of one size in one region of memory. It is not dropped, but closed.
 pub struct Pool {
     size: usize,
     region: Vec<u8>,
     lent: Vec<bool>,
-    spare: Vec<u32>,
+    spare: Vec<u16>,
 }
 
 impl Model for Pool {
@@ -30,7 +33,7 @@ impl Model for Pool {
 
 /// A block that is lent. It is not dropped, but given back.
 pub struct Block {
-    number: u32,
+    number: u16,
 }
 
 impl Model for Block {
@@ -42,16 +45,16 @@ impl Model for Block {
 }
 
 impl Pool {
-    /// A pool of so many blocks of `size` octets. All memory is taken here.
+    /// A pool of so many blocks of `size` octets. All memory is taken here. For more than 65,536 blocks the answer is `NoMemory`.
     pub fn open(alloc: Global, blocks: usize, size: usize) -> Result<Pool, NoMemory>
         ensures { IfOk result (λ pool. pool ≡ record { size = size; contents = replicate blocks None }) }
     {
-        let Ok(count) = u32::try_from(blocks) else {
+        if blocks > MOST_BLOCKS {
             return Err(NoMemory);
-        };
+        }
         let region = octets(alloc, blocks, size)?;
         let lent = marks(alloc, blocks)?;
-        let spare = numbers(alloc, count)?;
+        let spare = numbers(alloc, blocks)?;
         Ok(Pool {
             size,
             region,

@@ -9,8 +9,7 @@ use Rattle.dch_pool.proofs.pool.Pool.open.Goals as goal
 
 pub invariant_of-result : goal.invariant_of-result
 invariant_of-result c =
-    let all : c.in-Ok.count ≡ c.args.blocks = c.in-Ok.ensures.1 in
-    let numbers : c.in_ok-spare.spare.items ≡ range_with_len 0 c.args.blocks = rw (← all) c.in_ok-spare.ensures in
+    let numbers : c.in_ok-spare.spare.items ≡ range_with_len 0 c.args.blocks = c.in_ok-spare.ensures in
     let many : length c.in_ok-spare.spare.items ≡ c.args.blocks = ap length numbers ∙ length-range_with_len 0 c.args.blocks in
     let room : c.args.blocks ≤ vec_capacity c.in_ok-spare.spare = omega arith in
     let marks : c.in_ok-lent.lent.items ≡ replicate c.args.blocks false = c.in_ok-lent.ensures in
