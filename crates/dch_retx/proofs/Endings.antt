@@ -1,27 +1,29 @@
 -- Which field of a status ends a discard.
-use Rattle.std.proofs.Common.{◌≡◌, ◌+◌, ◌<◌, ℕ, List, [], ◌∷◌, ◌++◌, Bool, true, false, length, drop, get_or, Option, Some, None, arith, refl, sym, ap, ◌∙◌}
-use Rattle.std.specs.Prelude.{is_some, map, ◌==◌}
+use Rattle.std.proofs.Common.{◌≡◌, ◌+◌, ℕ, List, [], ◌∷◌, ◌++◌, Bool, true, false, length, drop, get_or, Option, Some, None, refl, sym, ap, ◌∙◌}
+use Rattle.std.specs.Prelude.{map, ◌==◌}
+use Rattle.std.specs.Option.{option_or}
 use Rattle.std.proofs.lemmas.Bool.{both_ways}
 use Rattle.dch_status.specs.Fields.{Field, NoMoreField, WindowField, AckField, ListField, BitmapField, MrwField, MrwAckField}
 use Rattle.dch_status.specs.declared.sufi.Sufi.{Sufi}
 use Rattle.dch_status.specs.Sufis.{sufi_of}
 use Rattle.dch_am.specs.Names.{named}
 use Rattle.dch_retx.specs.StatusItems.{StatusItem}
-use Rattle.dch_retx.specs.StatusItem.{ends_at, ends_with, first_ending, or_else}
+use Rattle.dch_retx.specs.StatusItem.{ending_of, ends_at, ends_with, first_ending, or_else}
 use Rattle.dch_retx.specs.StatusItems.{bits_from, missing_of, said_by, said_in}
-use Rattle.dch_retx.specs.Telling.{ends_by}
+use Rattle.dch_retx.specs.declared.buffer.Running.{Running}
+use Rattle.dch_retx.specs.Telling.{ends_by, ends_with_mark}
 
-or_none : (o : Option ℕ) → or_else o None ≡ o
+pub or_none : (o : Option ℕ) → or_else o None ≡ o
 or_none None = refl
 or_none (Some i) = refl
+
+pub or_is : (o p : Option ℕ) → option_or o p ≡ or_else o p
+or_is None p = refl
+or_is (Some i) p = refl
 
 or_twice : (o p q : Option ℕ) → or_else o (or_else p q) ≡ or_else (or_else o p) q
 or_twice None p q = refl
 or_twice (Some i) p q = refl
-
-or_not : (o p : Option ℕ) → is_some o ≡ false → or_else o p ≡ p
-or_not None p e = refl
-or_not (Some i) p e = absurd (cc)
 
 ending-append : (first count k mark : ℕ) (xs ys : List StatusItem) → first_ending first count k mark (xs ++ ys) ≡ or_else (first_ending first count k mark xs) (first_ending first count k mark ys)
 ending-append first count k mark [] ys = refl
@@ -37,7 +39,7 @@ ending-bits first count k mark from (true ∷ bits) = ending-bits first count k 
 ending-bits first count k mark from (false ∷ bits) = ending-bits first count k mark (from + 1) bits
 
 -- one field
-ending-field : (first count k mark : ℕ) (field : Field) → first_ending first count k mark (said_in field) ≡ ends_by first count k mark (sufi_of field)
+ending-field : (first count k mark : ℕ) (field : Field) → first_ending first count k mark (said_in field) ≡ ends_with_mark first count k mark (sufi_of field)
 ending-field first count k mark NoMoreField = refl
 ending-field first count k mark (WindowField size) = refl
 ending-field first count k mark (AckField lsn) = refl
@@ -47,16 +49,22 @@ ending-field first count k mark (MrwField last n) = refl
 ending-field first count k mark (MrwAckField n sn) = or_none (ends_at first count k mark n sn)
 
 -- the first of fields, and those behind it
-ending-fields : (first count k mark : ℕ) (fields : List Field) → 0 < length fields → first_ending first count k mark (said_by fields) ≡ or_else (ends_by first count k mark (sufi_of (get_or fields 0 NoMoreField))) (first_ending first count k mark (said_by (drop 1 fields)))
-ending-fields first count k mark [] l = absurd (omega arith)
-ending-fields first count k mark (field ∷ fields) l = ending-append first count k mark (said_in field) (said_by fields) ∙ ap (λ o. or_else o (first_ending first count k mark (said_by fields))) (ending-field first count k mark field)
+ending-fields : (first count : ℕ) (running : Option Running) (fields : List Field) → (length fields == 0) ≡ false → ending_of first count running (said_by fields) ≡ or_else (ends_by first count running (sufi_of (get_or fields 0 NoMoreField))) (ending_of first count running (said_by (drop 1 fields)))
+ending-fields first count running [] some = absurd (both_ways true some refl)
+ending-fields first count None (field ∷ fields) some = refl
+ending-fields first count (Some r) (field ∷ fields) some = ending-append first count r.at r.n (said_in field) (said_by fields) ∙ ap (λ o. or_else o (first_ending first count r.at r.n (said_by fields))) (ending-field first count r.at r.n field)
 
--- a field that doesn't end it is passed
-pub ending-step : (first count k mark : ℕ) (fields rest : List Field) (field : Sufi) (found : Option ℕ) → (length fields == 0) ≡ false → field ≡ sufi_of (get_or fields 0 NoMoreField) → found ≡ ends_by first count k mark field → is_some found ≡ false → rest ≡ drop 1 fields → first_ending first count k mark (said_by fields) ≡ first_ending first count k mark (said_by rest)
-ending-step first count k mark [] rest field found some e f none r = absurd (both_ways true some refl)
-ending-step first count k mark (x ∷ fields) rest field found some e f none r =
-    ending-fields first count k mark (x ∷ fields) (omega arith)
-    ∙ (ap (λ (s : Sufi). or_else (ends_by first count k mark s) (first_ending first count k mark (said_by fields))) (sym e)
-    ∙ (ap (λ o. or_else o (first_ending first count k mark (said_by fields))) (sym f)
-    ∙ (or_not found (first_ending first count k mark (said_by fields)) none
-    ∙ ap (λ (fs : List Field). first_ending first count k mark (said_by fs)) (sym r))))
+-- what ends the discard so far, with one field more
+pub ending-step : (first count : ℕ) (running : Option Running) (all : List StatusItem) (fields rest : List Field) (field : Sufi) (now found : Option ℕ) → (length fields == 0) ≡ false → field ≡ sufi_of (get_or fields 0 NoMoreField) → found ≡ ends_by first count running field → rest ≡ drop 1 fields → ending_of first count running all ≡ or_else now (ending_of first count running (said_by fields)) → ending_of first count running all ≡ or_else (or_else now found) (ending_of first count running (said_by rest))
+ending-step first count running all fields rest field now found some f e r is =
+    is
+    ∙ (ap (or_else now) (ending-fields first count running fields some
+    ∙ (ap (λ (s : Sufi). or_else (ends_by first count running s) (ending_of first count running (said_by (drop 1 fields)))) (sym f)
+    ∙ (ap (λ o. or_else o (ending_of first count running (said_by (drop 1 fields)))) (sym e)
+    ∙ ap (λ (fs : List Field). or_else found (ending_of first count running (said_by fs))) (sym r))))
+    ∙ or_twice now found (ending_of first count running (said_by rest)))
+
+-- no field ends it where none is left
+pub ending_none : (first count : ℕ) (running : Option Running) (now : Option ℕ) → or_else now (ending_of first count running []) ≡ now
+ending_none first count None now = or_none now
+ending_none first count (Some r) now = or_none now

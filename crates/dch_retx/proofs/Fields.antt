@@ -1,81 +1,29 @@
 -- What the fields of a status say, one after another.
-use Rattle.std.proofs.Common.{◌≡◌, ◌+◌, ◌-◌, ◌<◌, ◌≤◌, ℕ, zero, suc, List, [], ◌∷◌, ◌++◌, Bool, true, false, cond, not, ◌||◌, length, drop, get_or, Option, Some, None, arith, refl, sym, ap, ◌∙◌, ⊎_elim}
-use Rattle.std.specs.Prelude.{is_some, map, nat_le, nat_lt, unwrap_or, ◌==◌}
-use Rattle.std.proofs.lemmas.Bool.{both_ways, cases_lt, le-leb, lt-leb, lt-ltb}
+use Rattle.std.proofs.Common.{◌≡◌, ◌+◌, ◌-◌, ◌<◌, ◌≤◌, ℕ, zero, suc, List, [], ◌∷◌, ◌++◌, Bool, true, false, cond, ◌||◌, length, drop, get_or, Option, Some, None, arith, refl, sym, ap, ◌∙◌, ⊎_elim}
+use Rattle.std.specs.Prelude.{is_some, map, nat_le, ◌==◌}
+use Rattle.std.proofs.lemmas.Bool.{both_ways, cases_lt, eqb-true, le-leb, lt-leb}
 use Rattle.std.proofs.lemmas.List.{drop_more, map-append}
 use Rattle.circular_buffer.specs.Buffer.{Buffer, buffer}
 use Rattle.dch_status.specs.Fields.{Field, NoMoreField}
-use Rattle.dch_am.specs.Bodies.{is_empty}
 use Rattle.dch_am.specs.Numbers.{range, wrapped}
 use Rattle.dch_am.specs.Names.{named}
 use Rattle.dch_am.specs.Acknowledging.{first_of_both}
-use Rattle.dch_retx.specs.declared.hear.Told.{Told}
 use Rattle.dch_retx.specs.declared.sent_pdu.SentPdu.{SentPdu}
-use Rattle.dch_retx.specs.StatusItems.{StatusItem, Missing, bits_from, missing_of, said_by, said_in}
-use Rattle.dch_retx.specs.StatusItem.{below_said, first_outside, is_named, names_place, place_of, tells_some, with_name, with_names}
-use Rattle.dch_retx.specs.Telling.{IsPassed, IsRead, passed}
-use Rattle.dch_retx.proofs.Hearing.{outside-append, tells-bits, tells-list}
+use Rattle.dch_retx.specs.StatusItems.{StatusItem, Missing, missing_of, said_by, said_in}
+use Rattle.dch_retx.specs.StatusItem.{first_outside, is_named, names_place, place_of, with_name, with_names}
+use Rattle.dch_retx.proofs.Hearing.{outside-append}
 
-or_three : (a b c : Bool) → (a || (b || c)) ≡ ((a || b) || c)
+pub or_three : (a b c : Bool) → (a || (b || c)) ≡ ((a || b) || c)
 or_three true b c = refl
 or_three false b c = refl
 
-or_no : (a : Bool) → (a || false) ≡ a
+pub or_no : (a : Bool) → (a || false) ≡ a
 or_no true = refl
 or_no false = refl
 
 pub said_next : (fields : List Field) → (length fields == 0) ≡ false → said_by fields ≡ said_in (get_or fields 0 NoMoreField) ++ said_by (drop 1 fields)
 said_next [] e = absurd (both_ways true e refl)
 said_next (field ∷ fields) e = refl
-
--- a field is judged, and those behind it
-pub record IsJudgedOn (now told : Told) (window first count : ℕ) (fields rest : List Field) : Type 0 where
-  pub outside : first_outside window first count (said_by fields) ≡ first_outside window first count (said_by rest)
-  pub below : unwrap_or told.below (below_said first (said_by fields)) ≡ unwrap_or now.below (below_said first (said_by rest))
-  pub reports : (told.reports || tells_some (said_by fields)) ≡ (now.reports || tells_some (said_by rest))
-
-pub judged_on : (now told : Told) (window first count : ℕ) (fields rest : List Field) → (length fields == 0) ≡ false → rest ≡ drop 1 fields → IsPassed now told window first count (said_in (get_or fields 0 NoMoreField)) → IsJudgedOn now told window first count fields rest
-judged_on now told window first count fields rest some e is = record {
-  outside = ap (first_outside window first count) (said_next fields some) ∙ (is.outside (said_by (drop 1 fields)) ∙ ap (λ (fs : List Field). first_outside window first count (said_by fs)) (sym e));
-  below = ap (λ xs. unwrap_or told.below (below_said first xs)) (said_next fields some) ∙ (is.below (said_by (drop 1 fields)) ∙ ap (λ (fs : List Field). unwrap_or now.below (below_said first (said_by fs))) (sym e));
-  reports = ap (λ xs. told.reports || tells_some xs) (said_next fields some) ∙ (is.reports (said_by (drop 1 fields)) ∙ ap (λ (fs : List Field). now.reports || tells_some (said_by fs)) (sym e));
-}
-
--- a field with no LSN
-read_passed : (o : Option ℕ) (told : Told) (reports : Bool) (window first count : ℕ) (said : List StatusItem) → o ≡ first_outside window first count said → (first_outside window first count said ≡ None → IsPassed (record told { reports = told.reports || reports }) told window first count said) → IsRead (passed o told reports) told window first count said
-read_passed None told reports window first count said e h = h (sym e)
-read_passed (Some number) told reports window first count said e h = λ rest. outside-append window first count said rest ∙ ap (λ o. first_of_both o (first_outside window first count rest)) (sym e)
-
-some_test : {A : Type 0} (xs : List A) → not (is_empty xs) ≡ nat_lt 0 (length xs)
-some_test [] = refl
-some_test (x ∷ xs) = sym (lt-ltb 0 (suc (length xs)) (omega arith))
-
-below-list : (first : ℕ) (ns : List ℕ) (rest : List StatusItem) → below_said first (map missing_of ns ++ rest) ≡ below_said first rest
-below-list first [] rest = refl
-below-list first (n ∷ ns) rest = below-list first ns rest
-
-below-bits : (first from : ℕ) (bits : List Bool) (rest : List StatusItem) → below_said first (bits_from from bits ++ rest) ≡ below_said first rest
-below-bits first from [] rest = refl
-below-bits first from (true ∷ bits) rest = below-bits first (from + 1) bits rest
-below-bits first from (false ∷ bits) rest = below-bits first (from + 1) bits rest
-
-pub read_list : (o : Option ℕ) (told : Told) (window first count n : ℕ) (pairs : List (ℕ × ℕ)) → n ≡ length pairs → o ≡ first_outside window first count (map missing_of (named pairs)) → IsRead (passed o told (nat_lt 0 n)) told window first count (map missing_of (named pairs))
-read_list o told window first count n pairs q e = read_passed o told (nat_lt 0 n) window first count (map missing_of (named pairs)) e (λ none. record {
-  outside = λ rest. outside-append window first count (map missing_of (named pairs)) rest ∙ ap (λ p. first_of_both p (first_outside window first count rest)) none;
-  below = λ rest. ap (unwrap_or told.below) (below-list first (named pairs) rest);
-  reports = λ rest. ap (λ b. told.reports || b) (tells-list pairs rest ∙ ap (λ b. b || tells_some rest) (some_test pairs ∙ ap (nat_lt 0) (sym q))) ∙ or_three told.reports (nat_lt 0 n) (tells_some rest);
-})
-
-pub read_bits : (o : Option ℕ) (told : Told) (window first count from n : ℕ) (bits : List Bool) → n ≡ length bits → o ≡ first_outside window first count (bits_from from bits) → IsRead (passed o told (nat_lt 0 n)) told window first count (bits_from from bits)
-read_bits o told window first count from n bits q e = read_passed o told (nat_lt 0 n) window first count (bits_from from bits) e (λ none. record {
-  outside = λ rest. outside-append window first count (bits_from from bits) rest ∙ ap (λ p. first_of_both p (first_outside window first count rest)) none;
-  below = λ rest. ap (unwrap_or told.below) (below-bits first from bits rest);
-  reports = λ rest. ap (λ b. told.reports || b) (tells-bits from bits rest ∙ ap (λ b. b || tells_some rest) (some_test bits ∙ ap (nat_lt 0) (sym q))) ∙ or_three told.reports (nat_lt 0 n) (tells_some rest);
-})
-
--- a run of a LIST
-pub numbers_of : (ps : List (ℕ × ℕ)) (j : ℕ) (p : ℕ × ℕ) → j < length ps → get_or ps j (0, 0) ≡ p → map missing_of (named (drop j ps)) ≡ map missing_of (range p.0 (p.1 + 1)) ++ map missing_of (named (drop (j + 1) ps))
-numbers_of ps j p l e = ap (λ (qs : List (ℕ × ℕ)). map missing_of (named qs)) (drop_more ps j (0, 0) l) ∙ (ap (λ (q : ℕ × ℕ). map missing_of (range q.0 (q.1 + 1) ++ named (drop (j + 1) ps))) e ∙ map-append missing_of (range p.0 (p.1 + 1)) (named (drop (j + 1) ps)))
 
 both_some : (o p : Option ℕ) → is_some o ≡ true → first_of_both o p ≡ o
 both_some None p e = absurd (cc)
@@ -84,6 +32,28 @@ both_some (Some i) p e = refl
 both_none : (o p : Option ℕ) → is_some o ≡ false → first_of_both o p ≡ p
 both_none None p e = refl
 both_none (Some i) p e = absurd (cc)
+
+pub none_left : (fields : List Field) → (length fields == 0) ≡ true → said_by fields ≡ []
+none_left [] e = refl
+none_left (field ∷ fields) e = absurd (omega (arith, eqb-true (length (field ∷ fields)) 0 e))
+
+-- a field with a number that is outside, and one without
+pub field_outside : (window first count : ℕ) (fields : List Field) (o : Option ℕ) → (length fields == 0) ≡ false → o ≡ first_outside window first count (said_in (get_or fields 0 NoMoreField)) → is_some o ≡ true → first_outside window first count (said_by fields) ≡ o
+field_outside window first count fields o more e some =
+    ap (first_outside window first count) (said_next fields more)
+    ∙ (outside-append window first count (said_in (get_or fields 0 NoMoreField)) (said_by (drop 1 fields))
+    ∙ (ap (λ x. first_of_both x (first_outside window first count (said_by (drop 1 fields)))) (sym e) ∙ both_some o (first_outside window first count (said_by (drop 1 fields))) some))
+
+pub field_inside : (window first count : ℕ) (fields rest : List Field) (o : Option ℕ) → (length fields == 0) ≡ false → rest ≡ drop 1 fields → o ≡ first_outside window first count (said_in (get_or fields 0 NoMoreField)) → is_some o ≡ false → first_outside window first count (said_by fields) ≡ first_outside window first count (said_by rest)
+field_inside window first count fields rest o more r e none =
+    ap (first_outside window first count) (said_next fields more)
+    ∙ (outside-append window first count (said_in (get_or fields 0 NoMoreField)) (said_by (drop 1 fields))
+    ∙ (ap (λ x. first_of_both x (first_outside window first count (said_by (drop 1 fields)))) (sym e) ∙ (both_none o (first_outside window first count (said_by (drop 1 fields))) none
+    ∙ ap (λ (fs : List Field). first_outside window first count (said_by fs)) (sym r))))
+
+-- a run of a LIST
+pub numbers_of : (ps : List (ℕ × ℕ)) (j : ℕ) (p : ℕ × ℕ) → j < length ps → get_or ps j (0, 0) ≡ p → map missing_of (named (drop j ps)) ≡ map missing_of (range p.0 (p.1 + 1)) ++ map missing_of (named (drop (j + 1) ps))
+numbers_of ps j p l e = ap (λ (qs : List (ℕ × ℕ)). map missing_of (named qs)) (drop_more ps j (0, 0) l) ∙ (ap (λ (q : ℕ × ℕ). map missing_of (range q.0 (q.1 + 1) ++ named (drop (j + 1) ps))) e ∙ map-append missing_of (range p.0 (p.1 + 1)) (named (drop (j + 1) ps)))
 
 pub run_outside : (window first count : ℕ) (ps : List (ℕ × ℕ)) (j : ℕ) (p : ℕ × ℕ) (o : Option ℕ) → j < length ps → get_or ps j (0, 0) ≡ p → o ≡ first_outside window first count (map missing_of (range p.0 (p.1 + 1))) → is_some o ≡ true → first_outside window first count (map missing_of (named (drop j ps))) ≡ o
 run_outside window first count ps j p o l e q some =
@@ -98,10 +68,10 @@ run_inside window first count ps j p o l e q none =
     ∙ (ap (λ x. first_of_both x (first_outside window first count (map missing_of (named (drop (j + 1) ps))))) (sym q) ∙ both_none o (first_outside window first count (map missing_of (named (drop (j + 1) ps)))) none))
 
 -- the places of a run rise by one
-place_again : (first x : ℕ) → place_of first (wrapped x) ≡ place_of first x
+pub place_again : (first x : ℕ) → place_of first (wrapped x) ≡ place_of first x
 place_again first x = omega arith
 
-place_more : (first x : ℕ) → place_of first x < 2048 → place_of first (x + 1) ≡ place_of first x + 1
+pub place_more : (first x : ℕ) → place_of first x < 2048 → place_of first (x + 1) ≡ place_of first x + 1
 place_more first x l = omega arith
 
 head_out : (window first count x : ℕ) (rest : List StatusItem) → count ≤ place_of first x → first_outside window first count (missing_of x ∷ rest) ≡ Some (wrapped x)

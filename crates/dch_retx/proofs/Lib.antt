@@ -14,3 +14,5 @@ pub mod Keeping
 pub mod Refusing
 pub mod Endings
 pub mod Fields
+pub mod Limits
+pub mod Bases

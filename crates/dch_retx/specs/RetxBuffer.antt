@@ -8,7 +8,7 @@ use Rattle.dch_am.specs.declared.answers.StatusTaken.{StatusTaken}
 use Rattle.dch_am.specs.declared.answers.StatusTaken.TheVariants.{Taken, Outside}
 use Rattle.dch_retx.specs.StatusItems.{StatusItem}
 use Rattle.dch_retx.specs.declared.buffer.Running.{Running}
-use Rattle.dch_retx.specs.StatusItem.{below_said, first_ending, first_outside, is_named, tells_some, with_names}
+use Rattle.dch_retx.specs.StatusItem.{below_said, ending_of, first_outside, is_named, tells_some, with_names}
 
 -- the PDUs in flight, how many there may be, the number of the next one in 12 bits, the poll timer, the place of the polled PDU, and whether
 -- a poll is owed; and the discard that runs
@@ -75,8 +75,7 @@ listened below said l = left_front (front_acked (told_line below said l)) (is_na
 
 -- where an MRW_ACK ends the running discard, and the line after it
 abbrev pub ending : List StatusItem → RetxBuffer → Option Running → Option ℕ
-ending said l None = None
-ending said l (Some r) = first_ending (first_number l) (length l.flown) r.at r.n said
+ending said l running = ending_of (first_number l) (length l.flown) running said
 
 abbrev pub after_ending : Option ℕ → RetxBuffer → RetxBuffer
 after_ending None l = l

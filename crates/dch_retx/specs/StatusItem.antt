@@ -1,8 +1,9 @@
 -- What a status says about the PDUs in flight, the first of which has this number of 12 bits. So many are in flight.
-use Rattle.std.specs.Prelude.{◌+◌, ◌-◌, ◌&&◌, ◌||◌, ◌==◌, ℕ, List, [], ◌∷◌, Bool, true, false, length, nat_lt, nat_le, slice_set, Option, Some, None, if◌then◌else◌}
+use Rattle.std.specs.Prelude.{◌+◌, ◌-◌, ◌&&◌, ◌||◌, ◌==◌, ℕ, List, [], ◌∷◌, Bool, true, false, length, min, nat_lt, nat_le, slice_set, Option, Some, None, if◌then◌else◌}
 use Rattle.dch_am.specs.Numbers.{wrapped, ahead}
 use Rattle.dch_retx.specs.StatusItems.{StatusItem}
 use Rattle.dch_retx.specs.StatusItems.{Missing, Unset, Set, Below, Moved}
+use Rattle.dch_retx.specs.declared.buffer.Running.{Running}
 use Rattle.dch_retx.specs.declared.sent_pdu.SentPdu.{SentPdu}
 use Rattle.dch_retx.specs.Flights.{at, named_from}
 
@@ -39,6 +40,19 @@ number_in (Moved n sn) = sn
 abbrev pub first_outside : ℕ → ℕ → ℕ → List StatusItem → Option ℕ
 first_outside window first count [] = None
 first_outside window first count (said ∷ rest) = if offends window first count said then Some (number_in said) else first_outside window first count rest
+
+-- from which place on the lowest open PDU leaves it outside
+abbrev pub limit_of : ℕ → ℕ → ℕ → StatusItem → ℕ
+limit_of window first count (Missing x) = if nat_lt (place_of first x) count then place_of first x + 1 else 0
+limit_of window first count (Unset x) = 4097
+limit_of window first count (Set x) = if nat_lt (place_of first x) count then 4097 else place_of first x + 1 - (4096 - window)
+limit_of window first count (Below x) = if nat_le (place_of first x) count then place_of first x + 1 else 0
+limit_of window first count (Moved n sn) = 4097
+
+-- and one of several things
+abbrev pub limit_in : ℕ → ℕ → ℕ → List StatusItem → ℕ
+limit_in window first count [] = 4097
+limit_in window first count (said ∷ rest) = min (limit_of window first count said) (limit_in window first count rest)
 
 -- a PDU in flight is named missing
 abbrev pub names_place : ℕ → ℕ → StatusItem → Bool
@@ -102,3 +116,8 @@ ends_with first count k mark (Moved n sn) = ends_at first count k mark n sn
 abbrev pub first_ending : ℕ → ℕ → ℕ → ℕ → List StatusItem → Option ℕ
 first_ending first count k mark [] = None
 first_ending first count k mark (said ∷ rest) = or_else (ends_with first count k mark said) (first_ending first count k mark rest)
+
+-- the same for the discard that runs, if one does
+abbrev pub ending_of : ℕ → ℕ → Option Running → List StatusItem → Option ℕ
+ending_of first count None said = None
+ending_of first count (Some r) said = first_ending first count r.at r.n said

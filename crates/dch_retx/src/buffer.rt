@@ -1,4 +1,4 @@
-ghost use Rattle.std.specs.Prelude.{ℕ, Some, true, ◌≡◌, ◌≢◌, ◌+◌, ◌-◌, ◌<◌, ◌≤◌, ◌++◌, ◌∷◌, false, IfOk, MatchResult, is_some, length, min, nat_lt, slice_set};
+ghost use Rattle.std.specs.Prelude.{ℕ, Some, true, ◌≡◌, ◌≢◌, ◌+◌, ◌-◌, ◌<◌, ◌≤◌, ◌++◌, ◌∷◌, false, IfOk, is_some, length, min, nat_lt, slice_set};
 ghost use Rattle.dch_retx.specs.Flights.{at, built, front_acked, wanted_in};
 ghost use Rattle.dch_retx.specs.StatusItems.{said_by};
 ghost use Rattle.dch_am.specs.declared.answers.StatusTaken.TheVariants.{Taken};
@@ -12,13 +12,14 @@ ghost use Rattle.dch_am.specs.Restart.{restarted_sender};
 ghost use Rattle.dch_am.specs.Sender.{Discard, Sender, vt_a, vt_s, opened_sender};
 ghost use Rattle.dch_retx.specs.Standing.{AreKept, chosen, IsNew, Sends, Stands, timed};
 ghost use Rattle.dch_retx.specs.Polling.{again_line, again_poll, counted, crosses, is_far, last_line, last_poll, new_line, new_poll, picked, poll_of, sent_line};
-ghost use Rattle.dch_retx.specs.Telling.{IsJudged};
-ghost use Rattle.dch_retx.specs.RetxBuffer.{after_ending, after_hearing, after_told, answer_of, ending, number_at, outside_from, base_after, floor_of, freed, left_front, listened, opened_line, run_on, run_timer, repeating, ticked, discarding, is_due, moving, place_in, mark_in};
+ghost use Rattle.dch_retx.specs.Telling.{IsTold};
+ghost use Rattle.dch_retx.specs.RetxBuffer.{after_ending, after_hearing, after_told, answer_of, first_number, number_at, outside_from, base_after, floor_of, freed, left_front, listened, opened_line, run_on, run_timer, repeating, ticked, discarding, is_due, moving, place_in, mark_in};
 
 use crate::flight::Flight;
-use crate::hear::{Flying, Told, ending, judge};
+use crate::hear::{Flying, outside};
 use crate::names::{Naming, name};
 use crate::sent_pdu::SentPdu;
+use crate::tell::{Told, tell};
 use dch_am::StatusTaken;
 use dch_bits::NoMemory;
 use dch_status::StatusView;
@@ -161,16 +162,14 @@ impl RetxBuffer {
         ensures answer { result ≡ answer_of (said_by status.now) self.old }
         ensures after { self.new ≡ after_hearing (said_by status.now) self.old }
     {
-        let found = self.ending(status);
-        let told = match self.judge(status, self.base_after(found)) {
-            Err(number) => return StatusTaken::Outside(number),
-            Ok(told) => told,
-        };
-        if let Some(below) = found {
-            self.free(below);
+        let told = self.told(status);
+        let base = self.base_after(told.ending);
+        if let Some(number) = self.outside(status, told, base) {
+            return StatusTaken::Outside(number);
         }
+        self.end(told.ending);
         if told.reports {
-            self.listen(status, told.below.unwrap_or(0));
+            self.listen(status, told.below.unwrap_or(0).saturating_sub(base));
         }
         StatusTaken::Taken
     }
@@ -416,34 +415,41 @@ impl RetxBuffer {
         self.ended = 0;
     }
 
-    /// The place below which the status acknowledges all PDUs since it ends the discard.
-    fn ending(&self, status: &StatusView<'_>) -> Option<u16>
-        ensures { result ≡ ending (said_by status.now) self.now self.now.running }
+    /// The PDUs in flight from a place on.
+    fn flying(&self, base: u16) -> Flying
+        requires { base ≤ length self.now.flown }
+        ensures window { result.window ≡ self.now.window }
+        ensures first { result.first ≡ number_at base self.now }
+        ensures count { result.count ≡ length self.now.flown - base }
+        ensures range { (result.window ≤ 2048) × (result.first < 4096) × (result.count ≤ 2048) }
+        ensures few { length self.now.flown ≤ result.window }
     {
-        match self.running {
-            None => None,
-            Some(running) => ending(
-                status,
-                self.number_at(0),
-                self.flight.len() as u16,
-                running.at,
-                running.n,
-            ),
+        Flying {
+            window: self.rules.window,
+            first: self.number_of(base),
+            count: self.flight.len() as u16 - base,
         }
     }
 
-    /// What the status tells, or its first number that is outside, where the PDU at a place is the lowest open one.
-    fn judge(&self, status: &StatusView<'_>, base: u16) -> Result<Told, u16>
-        requires { base ≤ length self.now.flown }
-        ensures { MatchResult result (λ told. IsJudged told self.now.window (number_at base self.now) (length self.now.flown - base) (said_by status.now)) (λ number. outside_from base (said_by status.now) self.now ≡ Some number) }
+    /// What the status tells as a whole.
+    fn told(&self, status: &StatusView<'_>) -> Told
+        ensures told { IsTold result self.now.window (first_number self.now) (length self.now.flown) self.now.running (said_by status.now) }
+        ensures few { (length self.now.flown ≤ self.now.window) × (self.now.window ≤ 2048) }
     {
-        let count = self.flight.len() as u16 - base;
-        let flying = Flying {
-            window: self.rules.window,
-            first: self.number_at(base),
-            count,
-        };
-        judge(status, flying)
+        tell(status, self.flying(0), self.running)
+    }
+
+    /// The first number of the status that is outside, where the PDU at a place is the lowest open one. The status is walked only where there is one.
+    fn outside(&self, status: &StatusView<'_>, told: Told, base: u16) -> Option<u16>
+        requires base { base ≤ length self.now.flown }
+        requires told { IsTold told self.now.window (first_number self.now) (length self.now.flown) self.now.running (said_by status.now) }
+        ensures { result ≡ outside_from base (said_by status.now) self.now }
+    {
+        let flying = self.flying(base);
+        if told.limit > base {
+            return None;
+        }
+        outside(status, flying)
     }
 
     /// The place of the lowest open PDU, where an MRW_ACK acknowledges those below a place.
@@ -457,6 +463,15 @@ impl RetxBuffer {
                 let from = (below as usize).min(self.flight.len());
                 (from + self.flight.acked_from(from)) as u16
             }
+        }
+    }
+
+    /// Where the discard ends, the PDUs below a place are acknowledged.
+    fn end(&mut self, ending: Option<u16>)
+        ensures { self.new ≡ after_ending ending self.old }
+    {
+        if let Some(below) = ending {
+            self.free(below);
         }
     }
 

@@ -8,6 +8,7 @@ mod links;
 mod names;
 mod places;
 mod sent_pdu;
+mod tell;
 
 pub use buffer::{Pick, RetxBuffer, Running};
 pub use sent_pdu::{Extent, SentPdu};
