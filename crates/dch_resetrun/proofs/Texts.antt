@@ -10,7 +10,7 @@ use Rattle.dch_rlcpdu.specs.Am.{am_reading, as_reset, as_reset_ack}
 use Rattle.dch_rlcpdu.specs.AmControl.{reset_reading}
 use Rattle.dch_rlcpdu.specs.declared.am.AmView.TheVariants.{Payload as Read, Status, Reset, ResetAck}
 use Rattle.dch_status.specs.Fields.{mrw_fields}
-use Rattle.dch_cut.specs.Content.{content_of}
+use Rattle.dch_txbuf.specs.Content.{content_of}
 use Rattle.dch_amlaw.specs.Pair.{Block, Payload, Mrw, Report, built}
 use Rattle.dch_pair.proofs.Lines.{IsSent as IsBlockSent, IsWire, written_sent}
 use Rattle.dch_reset.specs.History.{state_of}

@@ -8,9 +8,9 @@ use Rattle.dch_sar.specs.Pdus.{padding}
 use Rattle.dch_sar.proofs.Placing.{IsPlaced, Placed, place, place_is, with_marks}
 use Rattle.dch_am.specs.Bodies.{Unsent, ends_at, joined, sizes}
 use Rattle.dch_am.specs.Cuts.{AllFull}
-use Rattle.dch_cut.specs.declared.taken.Cut.{Cut}
-use Rattle.dch_cut.specs.Cuts.{IsThere, after_cut, cut_of, first_of, led_by, marks_with, octets_of, trimmed, with_pieces}
-use Rattle.dch_cut.proofs.Cutting.{placed_cut}
+use Rattle.dch_txbuf.specs.declared.taken.Cut.{Cut}
+use Rattle.dch_txbuf.specs.Cuts.{IsThere, after_cut, cut_of, first_of, led_by, marks_with, octets_of, trimmed, with_pieces}
+use Rattle.dch_txbuf.proofs.Cutting.{placed_cut}
 use Rattle.dch_rlcum.specs.Sending.{Units, carried, closing, ends_in, leading, left_by, marks_in}
 use Rattle.dch_rlcum.proofs.Marking.{place_octets}
 

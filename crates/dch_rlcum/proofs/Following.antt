@@ -2,7 +2,7 @@
 use Rattle.std.proofs.Common.{◌≡◌, ◌+◌, ◌-◌, ◌<◌, ℕ, zero, suc, List, Bool, true, false, cond, arith, refl, ap, ◌∙◌}
 use Rattle.std.specs.Prelude.{nat_lt}
 use Rattle.std.proofs.lemmas.Bool.{le-ltb, lt-ltb}
-use Rattle.dch_cut.specs.declared.taken.Start.{Start}
+use Rattle.dch_txbuf.specs.declared.taken.Start.{Start}
 use Rattle.dch_rlcum.specs.Queue.{units_at, IsPlace}
 use Rattle.dch_rlcum.specs.Sending.{builds, is_unsent, units_after, Sending, Units}
 

@@ -9,18 +9,17 @@ use Rattle.dch_sar.specs.Filling.{total}
 use Rattle.dch_bits.specs.declared.offer.Offer.TheVariants.{Accepted, Full, WrongSize}
 use Rattle.dch_am.specs.Bodies.{joined, sizes}
 use Rattle.dch_am.specs.Cuts.{AllFull}
-use Rattle.dch_cut.specs.declared.taken.Cut.{Cut}
-use Rattle.dch_cut.specs.declared.taken.Start.{Start}
-use Rattle.dch_cut.specs.Cuts.{IsStart, IsThere, after_cut, cut_of, first_of, led_by, left_at, marks_with, next_start, octets_of, trimmed}
-use Rattle.dch_cut.proofs.Cutting.{length-trimmed, placed_cut, trimmed_none}
-use Rattle.dch_cut.proofs.Following.{left_next, start_next}
+use Rattle.dch_txbuf.specs.declared.taken.Cut.{Cut}
+use Rattle.dch_txbuf.specs.declared.taken.Start.{Start}
+use Rattle.dch_txbuf.specs.Cuts.{IsStart, IsThere, after_cut, cut_of, first_of, led_by, left_at, marks_with, next_start, octets_of, trimmed}
+use Rattle.dch_txbuf.proofs.Cutting.{length-trimmed, placed_cut, trimmed_none}
+use Rattle.dch_txbuf.proofs.Following.{left_next, start_next}
 use Rattle.dch_txbuf.specs.Chunks.{blocks_for}
 use Rattle.dch_txbuf.specs.Sdus.{blocks_in}
 use Rattle.dch_rlcum.specs.Queue.{IsPlace, IsQueue, units_at}
 use Rattle.dch_rlcum.specs.Receiving.{is_some}
 use Rattle.dch_rlcum.specs.Sending.{Sending, answer_of, begun, begun_octets, blocks, blocks_of, carried, held_by, leading, left_by, marks_in, room_of, units_after, with_unit}
-use Rattle.dch_rlcum.proofs.Bodies.{IsBody, built_body}
-use Rattle.dch_rlcum.proofs.Cutting.{IsCutOf, cuts_are, marks_are, octets_are, sent_after, some_sizes}
+use Rattle.dch_rlcum.proofs.Cutting.{IsCutOf, cuts_are, marks_are, octets_are, sent_after}
 
 past : (us : List (List ℕ)) (k : ℕ) → length us ≤ k → length (get_or us k []) ≡ 0
 past [] zero l = refl
@@ -319,30 +318,23 @@ pub byte_is : (b : Bool) → bool_byte b ≡ cond b 1 0
 byte_is true = refl
 byte_is false = refl
 
--- a PDU that may be written
+-- what a PDU takes is there
 pub record IsReady (pdu : ℕ) (mark_start : Bool) (sdus : List (List ℕ)) (start : Start) (owed : Bool) (lead : Option ℕ) (c : Cut) : Type 0 where
   pub taken : IsTaken pdu mark_start sdus start owed lead c
   pub there : IsThere c (left_at start sdus)
-  pub small : length (octets_of c (left_at start sdus)) ≤ 124
-  pub body : IsBody pdu (marks_with lead (pdu - 1) c (left_at start sdus)) (length (octets_of c (left_at start sdus)))
 
 led_long : (lead : Option ℕ) → cond (is_one lead) 1 0 ≡ length (led_by lead)
 led_long None = refl
 led_long (Some m) = refl
 
-pub ready : (pdu : ℕ) (mark_start : Bool) (sdus : List (List ℕ)) (start : Start) (owed : Bool) (lead : Option ℕ) (c : Cut) (spent : ℕ) → 3 ≤ pdu → pdu ≤ 125 → IsPlace sdus start owed → led_by lead ≡ leading mark_start (units_at sdus start owed) → length (led_by lead) ≤ 1 → spent ≡ cond (is_one lead) 1 0 → c ≡ cut_of (pdu - 1 - spent) (left_at start sdus) → IsReady pdu mark_start sdus start owed lead c
-ready pdu mark_start sdus start owed lead c spent from most is led few long e =
+pub ready : (pdu : ℕ) (mark_start : Bool) (sdus : List (List ℕ)) (start : Start) (owed : Bool) (lead : Option ℕ) (c : Cut) (spent : ℕ) → 3 ≤ pdu → IsPlace sdus start owed → led_by lead ≡ leading mark_start (units_at sdus start owed) → length (led_by lead) ≤ 1 → spent ≡ cond (is_one lead) 1 0 → c ≡ cut_of (pdu - 1 - spent) (left_at start sdus) → IsReady pdu mark_start sdus start owed lead c
+ready pdu mark_start sdus start owed lead c spent from is led few long e =
     let cut : c ≡ cut_of (pdu - 1 - length (led_by lead)) (left_at start sdus) = e ∙ ap (λ n. cut_of (pdu - 1 - n) (left_at start sdus)) (long ∙ led_long lead) in
     let t : IsTaken pdu mark_start sdus start owed lead c = taken pdu mark_start sdus start owed lead c (omega (arith, few, from)) is led cut in
     record {
       taken = t;
       there = subst (λ (k : Cut). IsThere k (left_at start sdus)) (sym e) (placed_cut (pdu - 1 - spent) (left_at start sdus)).there;
-      small = omega (arith, t.few, most);
-      body = subst (λ ms. IsBody pdu ms (length (octets_of c (left_at start sdus)))) (sym t.marks) (subst (λ n. IsBody pdu (marks_in pdu mark_start (units_at sdus start owed)) n) (sym t.count) (built_body pdu mark_start (units_at sdus start owed) (some_sizes (left_at start sdus) is.left) from most));
     }
-
-pub body_as : (pdu n o m : ℕ) (a b : List ℕ) → n ≡ pdu → a ≡ b → m ≡ o → IsBody pdu b o → IsBody n a m
-body_as pdu n o m a b size marks octets is = subst (λ k. IsBody k a m) (sym size) (subst (λ ms. IsBody pdu ms m) (sym marks) (subst (λ k. IsBody pdu b k) (sym octets) is))
 
 -- the SDUs behind it, once those that have left are released
 pub record IsMoved (pdu : ℕ) (mark_start : Bool) (sdus : List (List ℕ)) (start : Start) (owed : Bool) (c : Cut) (n ahead : ℕ) : Type 0 where

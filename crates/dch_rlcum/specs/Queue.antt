@@ -2,8 +2,8 @@
 use Rattle.std.specs.Prelude.{◌≡◌, ◌-◌, ◌≤◌, ◌<◌, ℕ, List, [], Bool, true, length, slice_index_or, if◌then◌else◌}
 use Rattle.dch_am.specs.Bodies.{sizes}
 use Rattle.dch_am.specs.Cuts.{AllFull}
-use Rattle.dch_cut.specs.declared.taken.Start.{Start}
-use Rattle.dch_cut.specs.Cuts.{IsStart, left_at}
+use Rattle.dch_txbuf.specs.declared.taken.Start.{Start}
+use Rattle.dch_txbuf.specs.Cuts.{IsStart, left_at}
 use Rattle.dch_rlcum.specs.Sending.{Units}
 
 -- the units from a place on. Where a mark is owed it is that of the one before

@@ -1,17 +1,21 @@
-ghost use Rattle.std.specs.Prelude.{◌≡◌, ◌≢◌, ◌+◌, ◌-◌, ◌<◌, ◌≤◌, ◌++◌, ℕ, List, [], ◌∷◌, true, IfOk, length, nat_lt};
+ghost use Rattle.std.specs.Prelude.{◌≡◌, ◌≢◌, ◌+◌, ◌-◌, ◌<◌, ◌≤◌, ◌++◌, ℕ, List, [], ◌∷◌, true, All, IfOk, length, nat_lt};
 ghost use Rattle.dch_sar.specs.Filling.{IsCarried};
 ghost use Rattle.dch_bits.specs.declared.offer.Offer.TheVariants.{Accepted};
-ghost use Rattle.dch_cut.specs.Cuts.{led_by};
+ghost use Rattle.dch_txbuf.specs.Cuts.{led_by};
 ghost use Rattle.dch_rlcum.specs.History.{IsAvailable, IsSenderOf, accepted, texts};
 ghost use Rattle.dch_rlcum.specs.Queue.{IsPlace, units_at};
 ghost use Rattle.dch_rlcum.specs.Sending.{after_build, after_offer, answer_of, builds, carried_by, is_due, is_unsent, leading, no_units, pdu_of, restarted, room_of};
 
 use dch_bits::{NoMemory, Offer};
-use dch_cut::{Start, carry, mark, next_cut, next_start};
-use dch_rlcpdu::write_um;
-use dch_txbuf::SduBuffer;
+use dch_txbuf::{LONGEST_SDU, SduBuffer, Start, next_cut, next_start, write_um_taken};
 use std::alloc::Global;
 use std::marker::Model;
+
+/// The length indicator that tells that the first octet starts a unit.
+const STARTS: u8 = 124;
+
+/// The most PDUs that are counted ahead.
+const MOST_PDUS: u16 = 64;
 
 /// The sending side of an unacknowledged bearer. SDUs stand in blocks of 64 octets, which are taken when it is opened, until their length
 /// indicator is built.
@@ -27,7 +31,7 @@ pub struct UmSend {
 
 impl Model for UmSend {
     ghost use Rattle.dch_am.specs.Bodies.{joined};
-    ghost use Rattle.dch_cut.specs.Cuts.{left_at};
+    ghost use Rattle.dch_txbuf.specs.Cuts.{left_at};
     ghost use Rattle.dch_rlcum.specs.Sending.{Sending};
     ghost use Rattle.dch_rlcum.specs.Queue.{IsFormat, IsQueue, units_at};
 
@@ -72,7 +76,7 @@ impl UmSend {
         // no PDU before is another one for it
         ensures built { (units : List (List ℕ)) (cuts : List ℕ) → IsSenderOf units cuts self.old → texts self.old.pdu self.old.mark_start (accepted result unit.now units) cuts ≡ texts self.old.pdu self.old.mark_start units cuts }
     {
-        if unit.is_empty() || unit.len() > 1500 {
+        if unit.is_empty() || unit.len() > LONGEST_SDU {
             return Offer::WrongSize;
         }
         if !self.sdus.has_room(unit.len()) {
@@ -126,10 +130,7 @@ impl UmSend {
         let lead = lead(&self.sdus, &self.start, self.owed, self.mark_start);
         let room = self.pdu - 1 - usize::from(lead.is_some());
         let cut = next_cut(&self.sdus, &self.start, room);
-        let mut octets = [0; 124];
-        let marks = mark(&self.sdus, &self.start, &cut, lead, self.pdu - 1);
-        let count = carry(&self.sdus, &self.start, &cut, &mut octets);
-        write_um(self.number, marks.as_slice(), &octets[..count], out);
+        write_um_taken(&self.sdus, &self.start, &cut, self.number, lead, out);
         let next = next_start(&self.start, &cut);
         let ahead = u16::from(cut.owed);
         self.sdus.release((next.sdu - ahead) as usize);
@@ -169,12 +170,13 @@ fn lead(sdus: &SduBuffer, start: &Start, owed: bool, mark_start: bool) -> Option
     requires { IsPlace sdus.now.items start.now owed }
     ensures lead { led_by result ≡ leading mark_start (units_at sdus.now.items start.now owed) }
     ensures few { length (led_by result) ≤ 1 }
+    ensures small { All (λ m. m < 128) (led_by result) }
 {
     if owed {
         return Some(0);
     }
     if mark_start && start.used == 0 && (start.sdu as usize) < sdus.len() {
-        Some(124)
+        Some(STARTS)
     } else {
         None
     }
@@ -189,7 +191,7 @@ fn count_pdus(sdus: &SduBuffer, first: Start, first_owed: bool, pdu: usize, mark
 {
     let mut start = first;
     let mut owed = first_owed;
-    for count in 0..64u16 {
+    for count in 0..MOST_PDUS {
         if !is_left(sdus, &start, owed) {
             return count;
         }
@@ -198,5 +200,5 @@ fn count_pdus(sdus: &SduBuffer, first: Start, first_owed: bool, pdu: usize, mark
         start = next_start(&start, &cut);
         owed = cut.owed;
     }
-    64
+    MOST_PDUS
 }

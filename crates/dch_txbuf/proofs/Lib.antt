@@ -1,3 +1,9 @@
+pub mod Bodies
 pub mod Chunks
+pub mod Cutting
+pub mod Following
+pub mod Indicators
+pub mod Marking
+pub mod Parts
 pub mod Rows
 pub mod Sdus

@@ -3,11 +3,11 @@ use Rattle.std.proofs.Common.{◌≡◌, ◌+◌, ◌-◌, ◌<◌, ℕ, zero, s
 use Rattle.std.specs.Prelude.{nat_lt}
 use Rattle.std.proofs.lemmas.Bool.{le-ltb, lt-ltb}
 use Rattle.dch_am.specs.Bodies.{Unsent, after_body, is_empty, is_left, room_for}
-use Rattle.dch_cut.specs.declared.taken.Cut.{Cut}
-use Rattle.dch_cut.specs.declared.taken.Start.{Start}
-use Rattle.dch_cut.specs.Cuts.{IsStart, cut_of, left_at, next_start}
-use Rattle.dch_cut.proofs.Cutting.{length-trimmed, placed_cut}
-use Rattle.dch_cut.proofs.Following.{left_next, start_next}
+use Rattle.dch_txbuf.specs.declared.taken.Cut.{Cut}
+use Rattle.dch_txbuf.specs.declared.taken.Start.{Start}
+use Rattle.dch_txbuf.specs.Cuts.{IsStart, cut_of, left_at, next_start}
+use Rattle.dch_txbuf.proofs.Cutting.{length-trimmed, placed_cut}
+use Rattle.dch_txbuf.proofs.Following.{left_next, start_next}
 use Rattle.dch_unsent.specs.Keeping.{fills}
 use Rattle.dch_unsent.specs.Waiting.{unsent_at}
 

@@ -1,5 +1,4 @@
 pub mod Counting
-pub mod Filling
 pub mod Offering
 pub mod Placing
 pub mod Restarting

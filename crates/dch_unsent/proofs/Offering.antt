@@ -11,8 +11,8 @@ use Rattle.dch_am.specs.Cuts.{IsCut}
 use Rattle.dch_am.specs.Rules.{Rules}
 use Rattle.dch_am.specs.Sender.{Sender, after_offer, blocks, held, offered, vt_a}
 use Rattle.dch_am.proofs.Reading.{cut_few}
-use Rattle.dch_cut.specs.declared.taken.Start.{Start}
-use Rattle.dch_cut.specs.Cuts.{IsStart, IsThere, body_of, first_of, left_at, trimmed}
+use Rattle.dch_txbuf.specs.declared.taken.Start.{Start}
+use Rattle.dch_txbuf.specs.Cuts.{IsStart, IsThere, body_of, first_of, left_at, trimmed}
 use Rattle.dch_retx.specs.declared.sent_pdu.Extent.{Extent}
 use Rattle.dch_txbuf.specs.Chunks.{blocks_for}
 use Rattle.dch_txbuf.specs.Sdus.{blocks_in}

@@ -7,8 +7,8 @@ use Rattle.dch_am.specs.Building.{body_at}
 use Rattle.dch_am.specs.Sender.{Sender, held, vt_a, vt_s}
 use Rattle.dch_am.specs.Short.{IsShort}
 use Rattle.dch_am.proofs.Reading.{ends_split}
-use Rattle.dch_cut.specs.declared.taken.Start.{Start}
-use Rattle.dch_cut.specs.Cuts.{IsStart, IsThere, body_of, left_at, trimmed}
+use Rattle.dch_txbuf.specs.declared.taken.Start.{Start}
+use Rattle.dch_txbuf.specs.Cuts.{IsStart, IsThere, body_of, left_at, trimmed}
 use Rattle.dch_retx.specs.declared.sent_pdu.Extent.{Extent}
 use Rattle.dch_retx.specs.declared.sent_pdu.SentPdu.{SentPdu}
 use Rattle.dch_unsent.specs.Keeping.{Has, Keeps, Takes, first_in, released, start_of}

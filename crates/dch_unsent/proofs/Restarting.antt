@@ -8,8 +8,8 @@ use Rattle.dch_am.specs.Cuts.{Fits, IsCut, empty_reading, unread}
 use Rattle.dch_am.specs.Restart.{begun, restarted_sender, whole_of}
 use Rattle.dch_am.specs.Sender.{Sender}
 use Rattle.dch_am.proofs.Restarting.{kept_is}
-use Rattle.dch_cut.specs.Cuts.{IsStart, first_of, trimmed}
-use Rattle.dch_cut.proofs.Cutting.{trimmed_none}
+use Rattle.dch_txbuf.specs.Cuts.{IsStart, first_of, trimmed}
+use Rattle.dch_txbuf.proofs.Cutting.{trimmed_none}
 use Rattle.dch_unsent.specs.Keeping.{Keeps, released}
 use Rattle.dch_unsent.specs.Waiting.{Waiting, begun_in, restarted}
 

@@ -11,11 +11,11 @@ use Rattle.dch_am.specs.Sender.{Sender, vt_a, vt_s}
 use Rattle.dch_am.proofs.Lists.{run_le}
 use Rattle.dch_am.proofs.Reading.{cut_few, ends-append}
 use Rattle.dch_am.proofs.Short.{short_next}
-use Rattle.dch_cut.specs.declared.taken.Cut.{Cut}
-use Rattle.dch_cut.specs.declared.taken.Start.{Start}
-use Rattle.dch_cut.specs.Cuts.{IsStart, IsThere, body_of, first_of, left_at, next_start}
-use Rattle.dch_cut.proofs.Cutting.{placed_cut}
-use Rattle.dch_cut.proofs.Following.{start_next}
+use Rattle.dch_txbuf.specs.declared.taken.Cut.{Cut}
+use Rattle.dch_txbuf.specs.declared.taken.Start.{Start}
+use Rattle.dch_txbuf.specs.Cuts.{IsStart, IsThere, body_of, first_of, left_at, next_start}
+use Rattle.dch_txbuf.proofs.Cutting.{placed_cut}
+use Rattle.dch_txbuf.proofs.Following.{start_next}
 use Rattle.dch_retx.specs.declared.sent_pdu.Extent.{Extent}
 use Rattle.dch_retx.specs.declared.sent_pdu.SentPdu.{SentPdu}
 use Rattle.dch_unsent.specs.Keeping.{Has, Keeps, Takes, first_in, released, start_of}

@@ -4,8 +4,8 @@ use Rattle.dch_am.specs.Bodies.{Body, Unsent, after_body, ends, ends_of, is_empt
 use Rattle.dch_am.specs.Building.{body_at}
 use Rattle.dch_am.specs.Sender.{Sender, held, vt_a}
 use Rattle.dch_am.specs.Short.{IsShort}
-use Rattle.dch_cut.specs.declared.taken.Start.{Start}
-use Rattle.dch_cut.specs.Cuts.{IsStart, IsThere, body_of, left_at}
+use Rattle.dch_txbuf.specs.declared.taken.Start.{Start}
+use Rattle.dch_txbuf.specs.Cuts.{IsStart, IsThere, body_of, left_at}
 use Rattle.dch_retx.specs.declared.sent_pdu.Extent.{Extent}
 use Rattle.dch_retx.specs.declared.sent_pdu.SentPdu.{SentPdu}
 use Rattle.dch_unsent.specs.Waiting.{Waiting, taken_by, unsent_of}

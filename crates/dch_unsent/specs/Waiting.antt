@@ -5,9 +5,9 @@ use Rattle.dch_bits.specs.declared.offer.Offer.{Offer}
 use Rattle.dch_bits.specs.declared.offer.Offer.TheVariants.{Accepted, Full, WrongSize}
 use Rattle.dch_am.specs.Bodies.{Body, Unsent, is_empty, room_for}
 use Rattle.dch_am.specs.Short.{IsShort}
-use Rattle.dch_cut.specs.declared.taken.Cut.{Cut}
-use Rattle.dch_cut.specs.declared.taken.Start.{Start}
-use Rattle.dch_cut.specs.Cuts.{IsStart, IsThere, body_of, cut_of, left_at, next_start}
+use Rattle.dch_txbuf.specs.declared.taken.Cut.{Cut}
+use Rattle.dch_txbuf.specs.declared.taken.Start.{Start}
+use Rattle.dch_txbuf.specs.Cuts.{IsStart, IsThere, body_of, cut_of, left_at, next_start}
 use Rattle.dch_retx.specs.declared.sent_pdu.Extent.{Extent}
 use Rattle.dch_retx.specs.declared.sent_pdu.SentPdu.{SentPdu}
 use Rattle.dch_retx.specs.Flights.{sent_once}

@@ -1,11 +1,10 @@
 ghost use Rattle.std.specs.Prelude.{◌≡◌, ◌≤◌};
 ghost use Rattle.dch_am.specs.Bodies.{is_left, room_for};
-ghost use Rattle.dch_cut.specs.Cuts.{IsStart};
+ghost use Rattle.dch_txbuf.specs.Cuts.{IsStart};
 ghost use Rattle.dch_unsent.specs.Keeping.{fills};
 ghost use Rattle.dch_unsent.specs.Waiting.{unsent_at};
 
-use dch_cut::{Start, next_cut, next_start};
-use dch_txbuf::SduBuffer;
+use dch_txbuf::{SduBuffer, Start, next_cut, next_start};
 
 /// Something is left to be sent from a place on.
 pub fn is_left_at(sdus: &SduBuffer, start: &Start, owed: bool) -> bool

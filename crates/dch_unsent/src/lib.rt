@@ -3,6 +3,5 @@
 
 mod left;
 mod unsent;
-mod write;
 
 pub use unsent::Unsent;

@@ -6,17 +6,15 @@ ghost use Rattle.dch_am.specs.Restart.{restarted_sender};
 ghost use Rattle.dch_am.specs.Rules.{Rules};
 ghost use Rattle.dch_am.specs.Sender.{Sender, after_offer, offered, opened_sender, vt_a, vt_s};
 ghost use Rattle.dch_rlcpdu.specs.Am.{am_pdu};
-ghost use Rattle.dch_cut.specs.Cuts.{next_start};
+ghost use Rattle.dch_txbuf.specs.Cuts.{next_start};
 ghost use Rattle.dch_unsent.specs.Keeping.{fills, Has, Keeps, Takes};
 ghost use Rattle.dch_unsent.specs.Waiting.{after_build, answer_of, body_in, cut_next, ended_before, next_flown, nothing, IsHere, released_by, restarted, unsent_of};
 ghost use Rattle.dch_unsent.specs.Waiting.{after_offer as after_offering};
 
 use crate::left::{count_pdus, is_left_at, room_for};
-use crate::write::{Header, write_taken};
 use dch_bits::{NoMemory, Offer};
-use dch_cut::{Cut, Start, next_cut, next_start};
 use dch_retx::{Extent, SentPdu};
-use dch_txbuf::SduBuffer;
+use dch_txbuf::{Cut, Header, SduBuffer, Start, next_cut, next_start, write_taken};
 use std::alloc::Global;
 use std::marker::Model;
 

@@ -1,5 +1,5 @@
 use Rattle.std.proofs.Common.{◌+◌, ◌∙◌, ℕ, ap, arith, cond, subst, sym}
-use Rattle.dch_cut.specs.declared.taken.Start.{Start}
+use Rattle.dch_txbuf.specs.declared.taken.Start.{Start}
 use Rattle.dch_rlcum.proofs.Following.{Follows, follows_all, follows_end, follows_from, follows_on}
 use Rattle.dch_rlcum.proofs.Placing.{byte_is, ready}
 use Rattle.dch_rlcum.proofs.send.count_pdus.Goals as goal
@@ -12,7 +12,7 @@ returns-then-not-is_left c = follows_end c.args.pdu c.args.mark_start c.args.sdu
 
 pub loop-count-preserved : goal.loop-count-preserved
 loop-count-preserved c =
-    let r = ready c.args.pdu c.args.mark_start c.args.sdus.now.items c.loop-count.start c.loop-count.owed c.lead-lead.result c.next_cut-cut.result c.from.result c.requires.from c.requires.most c.loop-count.invariant.next c.lead-lead.ensures.lead c.lead-lead.ensures.few (c.from.ensures ∙ (byte_is c.is_some.result ∙ ap (λ b. cond {A = ℕ} b 1 0) c.is_some.ensures)) c.next_cut-cut.ensures.cut in
+    let r = ready c.args.pdu c.args.mark_start c.args.sdus.now.items c.loop-count.start c.loop-count.owed c.lead-lead.result c.next_cut-cut.result c.from.result c.requires.from c.loop-count.invariant.next c.lead-lead.ensures.lead c.lead-lead.ensures.few (c.from.ensures ∙ (byte_is c.is_some.result ∙ ap (λ b. cond {A = ℕ} b 1 0) c.is_some.ensures)) c.next_cut-cut.ensures.cut in
     subst (λ (a : Start). Follows c.args.pdu c.args.mark_start c.args.sdus.now.items c.args.first c.args.first_owed a c.next_cut-cut.result.owed (c.loop-count.count + 1)) (sym c.next_start-start.ensures)
     (follows_on c.args.pdu c.args.mark_start c.args.sdus.now.items c.args.first c.args.first_owed c.loop-count.start c.loop-count.owed c.loop-count.count _ c.next_cut-cut.result.owed c.loop-count.invariant c.loop-count-test.true (sym c.is_left.ensures ∙ c.if-not-is_left.false) r.taken.place r.taken.units)
 

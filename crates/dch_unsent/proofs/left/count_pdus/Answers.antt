@@ -1,7 +1,7 @@
 use Rattle.std.proofs.Common.{◌≡◌, ◌+◌, ◌∙◌, arith, ap, subst, sym, true, false}
 use Rattle.dch_am.specs.Bodies.{is_left}
-use Rattle.dch_cut.specs.declared.taken.Start.{Start}
-use Rattle.dch_cut.specs.Cuts.{cut_of, left_at}
+use Rattle.dch_txbuf.specs.declared.taken.Start.{Start}
+use Rattle.dch_txbuf.specs.Cuts.{cut_of, left_at}
 use Rattle.dch_unsent.specs.Waiting.{unsent_at}
 use Rattle.dch_unsent.proofs.Counting.{Counts, counts_all, counts_end, counts_on}
 use Rattle.dch_unsent.proofs.left.count_pdus.Goals as goal

@@ -3,7 +3,7 @@ use Rattle.std.specs.Prelude.{◌==◌}
 use Rattle.circular_buffer.specs.Buffer.{Buffer}
 use Rattle.dch_bits.specs.declared.offer.Offer.TheVariants.{Accepted, Full}
 use Rattle.dch_am.specs.Bodies.{joined}
-use Rattle.dch_cut.specs.Cuts.{left_at}
+use Rattle.dch_txbuf.specs.Cuts.{left_at}
 use Rattle.dch_rlcum.specs.History.{IsSenderOf}
 use Rattle.dch_rlcum.specs.Queue.{IsQueue, units_at}
 use Rattle.dch_rlcum.specs.Sending.{Sending, after_offer, answer_of}
@@ -15,7 +15,7 @@ pub returns-then-not-has_room-clause-answer : goal.returns-then-not-has_room-cla
 returns-then-not-has_room-clause-answer c =
     let s : Sending = record { units = units_at c.self.inside.sdus.items c.self.inside.start c.self.inside.owed; row = joined (left_at c.self.inside.start c.self.inside.sdus.items); number = c.self.inside.number; pdu = c.self.inside.pdu; buffer = c.self.inside.sdus.capacity; mark_start = c.self.inside.mark_start } in
     let some : (length c.args.unit.now == 0) ≡ false = sym c.is_empty.ensures ∙ c.if-is_empty.false in
-    sym (ap (answer_of c.args.unit.now) (sym c.self.view_is) ∙ (answered s c.args.unit.now c.self.inside.sdus.items c.has_room.result some c.if-unit-gt1500.false (held_is c.self.inside.sdus.items c.self.inside.start c.self.inside.owed c.self.invariant.0) c.has_room.ensures
+    sym (ap (answer_of c.args.unit.now) (sym c.self.view_is) ∙ (answered s c.args.unit.now c.self.inside.sdus.items c.has_room.result some c.if-unit-gt-LONGEST_SDU.false (held_is c.self.inside.sdus.items c.self.inside.start c.self.inside.owed c.self.invariant.0) c.has_room.ensures
     ∙ ap (λ b. cond b Accepted Full) (c.if-not-has_room.true)))
 
 pub invariant_of-self : goal.invariant_of-self
@@ -27,7 +27,7 @@ pub returns-clause-answer : goal.returns-clause-answer
 returns-clause-answer c =
     let s : Sending = record { units = units_at c.self.inside.sdus.items c.self.inside.start c.self.inside.owed; row = joined (left_at c.self.inside.start c.self.inside.sdus.items); number = c.self.inside.number; pdu = c.self.inside.pdu; buffer = c.self.inside.sdus.capacity; mark_start = c.self.inside.mark_start } in
     let some : (length c.args.unit.now == 0) ≡ false = sym c.is_empty.ensures ∙ c.if-is_empty.false in
-    sym (ap (answer_of c.args.unit.now) (sym c.self.view_is) ∙ (answered s c.args.unit.now c.self.inside.sdus.items c.has_room.result some c.if-unit-gt1500.false (held_is c.self.inside.sdus.items c.self.inside.start c.self.inside.owed c.self.invariant.0) c.has_room.ensures
+    sym (ap (answer_of c.args.unit.now) (sym c.self.view_is) ∙ (answered s c.args.unit.now c.self.inside.sdus.items c.has_room.result some c.if-unit-gt-LONGEST_SDU.false (held_is c.self.inside.sdus.items c.self.inside.start c.self.inside.owed c.self.invariant.0) c.has_room.ensures
     ∙ ap (λ b. cond b Accepted Full) c.if-not-has_room.false))
 
 pub returns-clause-after : goal.returns-clause-after

@@ -1,64 +1,35 @@
-use Rattle.std.proofs.Common.{◌≡◌, ◌+◌, ◌-◌, ◌∙◌, ℕ, List, ap, ap₂, arith, cond, drop, length, subst, sym, take}
+use Rattle.std.proofs.Common.{◌≡◌, ◌+◌, ◌-◌, ◌∙◌, ℕ, List, ap, ap₂, arith, cond, drop, length, subst, sym}
 use Rattle.std.specs.Prelude.{◌%◌}
 use Rattle.circular_buffer.specs.Buffer.{Buffer}
 use Rattle.dch_sar.specs.Filling.{IsCarried}
 use Rattle.dch_am.specs.Bodies.{joined}
-use Rattle.dch_cut.specs.declared.taken.Start.{Start}
-use Rattle.dch_cut.specs.Cuts.{left_at, marks_with, octets_of}
+use Rattle.dch_txbuf.specs.declared.taken.Start.{Start}
+use Rattle.dch_txbuf.specs.Cuts.{left_at, marks_with, octets_of}
 use Rattle.dch_rlcpdu.specs.Um.{um_pdu}
 use Rattle.dch_rlcum.specs.Queue.{IsQueue, units_at}
-use Rattle.dch_rlcum.specs.Sending.{Sending, after_build, carried, carried_by, marks_in, pdu_of, room_of}
-use Rattle.dch_rlcum.proofs.Bodies.{IsBody}
+use Rattle.dch_rlcum.specs.Sending.{Sending, after_build, carried_by, pdu_of, room_of}
 use Rattle.dch_rlcum.proofs.Cutting.{most_are}
-use Rattle.dch_rlcum.proofs.Placing.{IsMoved, body_as, byte_is, leaves_few, moved, ready}
+use Rattle.dch_rlcum.proofs.Placing.{IsMoved, byte_is, leaves_few, moved, ready}
 use Rattle.dch_rlcum.proofs.send.UmSend.write_next.Goals as goal
 
-pub mark-marks-requires-clause-there : goal.mark-marks-requires-clause-there
-mark-marks-requires-clause-there c =
-    let r = ready c.self.inside.pdu c.self.inside.mark_start c.self.inside.sdus.items c.self.inside.start c.self.inside.owed c.lead-lead.result c.next_cut-cut.result c.from.result c.self.invariant.1.from c.self.invariant.1.most c.self.invariant.0.place c.lead-lead.ensures.lead c.lead-lead.ensures.few (c.from.ensures ∙ (byte_is c.is_some.result ∙ ap (λ b. cond {A = ℕ} b 1 0) c.is_some.ensures)) c.next_cut-cut.ensures.cut in
+pub write_um_taken-requires-clause-there : goal.write_um_taken-requires-clause-there
+write_um_taken-requires-clause-there c =
+    let r = ready c.self.inside.pdu c.self.inside.mark_start c.self.inside.sdus.items c.self.inside.start c.self.inside.owed c.lead-lead.result c.next_cut-cut.result c.from.result c.self.invariant.1.from c.self.invariant.0.place c.lead-lead.ensures.lead c.lead-lead.ensures.few (c.from.ensures ∙ (byte_is c.is_some.result ∙ ap (λ b. cond {A = ℕ} b 1 0) c.is_some.ensures)) c.next_cut-cut.ensures.cut in
     r.there
 
-pub mark-marks-requires-clause-few : goal.mark-marks-requires-clause-few
-mark-marks-requires-clause-few c =
-    let r = ready c.self.inside.pdu c.self.inside.mark_start c.self.inside.sdus.items c.self.inside.start c.self.inside.owed c.lead-lead.result c.next_cut-cut.result c.from.result c.self.invariant.1.from c.self.invariant.1.most c.self.invariant.0.place c.lead-lead.ensures.lead c.lead-lead.ensures.few (c.from.ensures ∙ (byte_is c.is_some.result ∙ ap (λ b. cond {A = ℕ} b 1 0) c.is_some.ensures)) c.next_cut-cut.ensures.cut in
-    r.taken.few
-
-pub carry-count-requires-clause-there : goal.carry-count-requires-clause-there
-carry-count-requires-clause-there c =
-    let r = ready c.self.inside.pdu c.self.inside.mark_start c.self.inside.sdus.items c.self.inside.start c.self.inside.owed c.lead-lead.result c.next_cut-cut.result c.from.result c.self.invariant.1.from c.self.invariant.1.most c.self.invariant.0.place c.lead-lead.ensures.lead c.lead-lead.ensures.few (c.from.ensures ∙ (byte_is c.is_some.result ∙ ap (λ b. cond {A = ℕ} b 1 0) c.is_some.ensures)) c.next_cut-cut.ensures.cut in
-    r.there
-
-pub carry-count-requires-clause-room : goal.carry-count-requires-clause-room
-carry-count-requires-clause-room c =
-    let r = ready c.self.inside.pdu c.self.inside.mark_start c.self.inside.sdus.items c.self.inside.start c.self.inside.owed c.lead-lead.result c.next_cut-cut.result c.from.result c.self.invariant.1.from c.self.invariant.1.most c.self.invariant.0.place c.lead-lead.ensures.lead c.lead-lead.ensures.few (c.from.ensures ∙ (byte_is c.is_some.result ∙ ap (λ b. cond {A = ℕ} b 1 0) c.is_some.ensures)) c.next_cut-cut.ensures.cut in
-    r.small
-
-pub write_um-requires-clause-room : goal.write_um-requires-clause-room
-write_um-requires-clause-room c =
-    let r = ready c.self.inside.pdu c.self.inside.mark_start c.self.inside.sdus.items c.self.inside.start c.self.inside.owed c.lead-lead.result c.next_cut-cut.result c.from.result c.self.invariant.1.from c.self.invariant.1.most c.self.invariant.0.place c.lead-lead.ensures.lead c.lead-lead.ensures.few (c.from.ensures ∙ (byte_is c.is_some.result ∙ ap (λ b. cond {A = ℕ} b 1 0) c.is_some.ensures)) c.next_cut-cut.ensures.cut in
-    let b : IsBody (length c.args.out.now) c.as_slice.result.now (length (take c.carry-count.result c.carry-count.new.out)) = body_as c.self.inside.pdu (length c.args.out.now) (length (octets_of c.next_cut-cut.result (left_at c.self.inside.start c.self.inside.sdus.items))) (length (take c.carry-count.result c.carry-count.new.out)) c.as_slice.result.now (marks_with c.lead-lead.result (c.self.inside.pdu - 1) c.next_cut-cut.result (left_at c.self.inside.start c.self.inside.sdus.items)) (c.requires.size ∙ sym (ap (λ (s : Sending). s.pdu) c.self.view_is)) (c.as_slice.ensures ∙ c.mark-marks.ensures) (ap (λ (xs : List ℕ). length xs) c.carry-count.ensures.octets) r.body in
-    b.room
-
-pub write_um-requires-clause-marks : goal.write_um-requires-clause-marks
-write_um-requires-clause-marks c =
-    let r = ready c.self.inside.pdu c.self.inside.mark_start c.self.inside.sdus.items c.self.inside.start c.self.inside.owed c.lead-lead.result c.next_cut-cut.result c.from.result c.self.invariant.1.from c.self.invariant.1.most c.self.invariant.0.place c.lead-lead.ensures.lead c.lead-lead.ensures.few (c.from.ensures ∙ (byte_is c.is_some.result ∙ ap (λ b. cond {A = ℕ} b 1 0) c.is_some.ensures)) c.next_cut-cut.ensures.cut in
-    let b : IsBody (length c.args.out.now) c.as_slice.result.now (length (take c.carry-count.result c.carry-count.new.out)) = body_as c.self.inside.pdu (length c.args.out.now) (length (octets_of c.next_cut-cut.result (left_at c.self.inside.start c.self.inside.sdus.items))) (length (take c.carry-count.result c.carry-count.new.out)) c.as_slice.result.now (marks_with c.lead-lead.result (c.self.inside.pdu - 1) c.next_cut-cut.result (left_at c.self.inside.start c.self.inside.sdus.items)) (c.requires.size ∙ sym (ap (λ (s : Sending). s.pdu) c.self.view_is)) (c.as_slice.ensures ∙ c.mark-marks.ensures) (ap (λ (xs : List ℕ). length xs) c.carry-count.ensures.octets) r.body in
-    b.good
-
-pub write_um-requires-clause-full : goal.write_um-requires-clause-full
-write_um-requires-clause-full c =
-    let r = ready c.self.inside.pdu c.self.inside.mark_start c.self.inside.sdus.items c.self.inside.start c.self.inside.owed c.lead-lead.result c.next_cut-cut.result c.from.result c.self.invariant.1.from c.self.invariant.1.most c.self.invariant.0.place c.lead-lead.ensures.lead c.lead-lead.ensures.few (c.from.ensures ∙ (byte_is c.is_some.result ∙ ap (λ b. cond {A = ℕ} b 1 0) c.is_some.ensures)) c.next_cut-cut.ensures.cut in
-    let b : IsBody (length c.args.out.now) c.as_slice.result.now (length (take c.carry-count.result c.carry-count.new.out)) = body_as c.self.inside.pdu (length c.args.out.now) (length (octets_of c.next_cut-cut.result (left_at c.self.inside.start c.self.inside.sdus.items))) (length (take c.carry-count.result c.carry-count.new.out)) c.as_slice.result.now (marks_with c.lead-lead.result (c.self.inside.pdu - 1) c.next_cut-cut.result (left_at c.self.inside.start c.self.inside.sdus.items)) (c.requires.size ∙ sym (ap (λ (s : Sending). s.pdu) c.self.view_is)) (c.as_slice.ensures ∙ c.mark-marks.ensures) (ap (λ (xs : List ℕ). length xs) c.carry-count.ensures.octets) r.body in
-    b.full
+pub write_um_taken-requires-clause-few : goal.write_um_taken-requires-clause-few
+write_um_taken-requires-clause-few c =
+    let r = ready c.self.inside.pdu c.self.inside.mark_start c.self.inside.sdus.items c.self.inside.start c.self.inside.owed c.lead-lead.result c.next_cut-cut.result c.from.result c.self.invariant.1.from c.self.invariant.0.place c.lead-lead.ensures.lead c.lead-lead.ensures.few (c.from.ensures ∙ (byte_is c.is_some.result ∙ ap (λ b. cond {A = ℕ} b 1 0) c.is_some.ensures)) c.next_cut-cut.ensures.cut in
+    omega (arith, r.taken.few, c.requires.size, ap (λ (s : Sending). s.pdu) c.self.view_is)
 
 pub release-requires : goal.release-requires
 release-requires c =
-    let r = ready c.self.inside.pdu c.self.inside.mark_start c.self.inside.sdus.items c.self.inside.start c.self.inside.owed c.lead-lead.result c.next_cut-cut.result c.from.result c.self.invariant.1.from c.self.invariant.1.most c.self.invariant.0.place c.lead-lead.ensures.lead c.lead-lead.ensures.few (c.from.ensures ∙ (byte_is c.is_some.result ∙ ap (λ b. cond {A = ℕ} b 1 0) c.is_some.ensures)) c.next_cut-cut.ensures.cut in
+    let r = ready c.self.inside.pdu c.self.inside.mark_start c.self.inside.sdus.items c.self.inside.start c.self.inside.owed c.lead-lead.result c.next_cut-cut.result c.from.result c.self.invariant.1.from c.self.invariant.0.place c.lead-lead.ensures.lead c.lead-lead.ensures.few (c.from.ensures ∙ (byte_is c.is_some.result ∙ ap (λ b. cond {A = ℕ} b 1 0) c.is_some.ensures)) c.next_cut-cut.ensures.cut in
     omega (arith, ap (λ (a : Start). a.sdu) c.next_start-next.ensures, leaves_few c.self.inside.sdus.items c.self.inside.start c.next_cut-cut.result c.from-ahead.result r.taken.place)
 
 pub invariant_of-self : goal.invariant_of-self
 invariant_of-self c =
-    let r = ready c.self.inside.pdu c.self.inside.mark_start c.self.inside.sdus.items c.self.inside.start c.self.inside.owed c.lead-lead.result c.next_cut-cut.result c.from.result c.self.invariant.1.from c.self.invariant.1.most c.self.invariant.0.place c.lead-lead.ensures.lead c.lead-lead.ensures.few (c.from.ensures ∙ (byte_is c.is_some.result ∙ ap (λ b. cond {A = ℕ} b 1 0) c.is_some.ensures)) c.next_cut-cut.ensures.cut in
+    let r = ready c.self.inside.pdu c.self.inside.mark_start c.self.inside.sdus.items c.self.inside.start c.self.inside.owed c.lead-lead.result c.next_cut-cut.result c.from.result c.self.invariant.1.from c.self.invariant.0.place c.lead-lead.ensures.lead c.lead-lead.ensures.few (c.from.ensures ∙ (byte_is c.is_some.result ∙ ap (λ b. cond {A = ℕ} b 1 0) c.is_some.ensures)) c.next_cut-cut.ensures.cut in
     let m : IsMoved c.self.inside.pdu c.self.inside.mark_start c.self.inside.sdus.items c.self.inside.start c.self.inside.owed c.next_cut-cut.result (c.next_start-next.result.sdu - c.from-ahead.result) c.from-ahead.result = moved c.self.inside.pdu c.self.inside.mark_start c.self.inside.sdus.items c.self.inside.start c.self.inside.owed c.lead-lead.result c.next_cut-cut.result (c.next_start-next.result.sdu - c.from-ahead.result) c.from-ahead.result r.taken (c.from-ahead.ensures ∙ byte_is c.next_cut-cut.result.owed) (ap (λ (a : Start). a.sdu - c.from-ahead.result) c.next_start-next.ensures) in (
       subst (λ (b : Buffer (List ℕ)). IsQueue b.items (record { sdu = c.from-ahead.result; used = c.next_start-next.result.used }) c.next_cut-cut.result.owed) (sym c.release.ensures)
           (subst (λ (a : Start). IsQueue (drop (c.next_start-next.result.sdu - c.from-ahead.result) c.self.inside.sdus.items) (record { sdu = c.from-ahead.result; used = a.used }) c.next_cut-cut.result.owed) (sym c.next_start-next.ensures) m.queue),
@@ -67,17 +38,16 @@ invariant_of-self c =
 
 pub returns-clause-text : goal.returns-clause-text
 returns-clause-text c =
-    let r = ready c.self.inside.pdu c.self.inside.mark_start c.self.inside.sdus.items c.self.inside.start c.self.inside.owed c.lead-lead.result c.next_cut-cut.result c.from.result c.self.invariant.1.from c.self.invariant.1.most c.self.invariant.0.place c.lead-lead.ensures.lead c.lead-lead.ensures.few (c.from.ensures ∙ (byte_is c.is_some.result ∙ ap (λ b. cond {A = ℕ} b 1 0) c.is_some.ensures)) c.next_cut-cut.ensures.cut in
+    let r = ready c.self.inside.pdu c.self.inside.mark_start c.self.inside.sdus.items c.self.inside.start c.self.inside.owed c.lead-lead.result c.next_cut-cut.result c.from.result c.self.invariant.1.from c.self.invariant.0.place c.lead-lead.ensures.lead c.lead-lead.ensures.few (c.from.ensures ∙ (byte_is c.is_some.result ∙ ap (λ b. cond {A = ℕ} b 1 0) c.is_some.ensures)) c.next_cut-cut.ensures.cut in
     let size : length c.args.out.now ≡ c.self.inside.pdu = c.requires.size ∙ sym (ap (λ (s : Sending). s.pdu) c.self.view_is) in
-    let u = units_at c.self.inside.sdus.items c.self.inside.start c.self.inside.owed in
-    let octets = take (carried (room_of c.self.inside.pdu c.self.inside.mark_start u) u.lengths) (joined (left_at c.self.inside.start c.self.inside.sdus.items)) in
-    c.write_um.ensures.text
-    ∙ (ap₂ (λ ms xs. um_pdu c.self.inside.number ms xs (length c.args.out.now)) (c.as_slice.ensures ∙ (c.mark-marks.ensures ∙ r.taken.marks)) (c.carry-count.ensures.octets ∙ r.taken.octets)
-    ∙ (ap (um_pdu c.self.inside.number (marks_in c.self.inside.pdu c.self.inside.mark_start u) octets) size ∙ ap pdu_of c.self.view_is))
+    let us = left_at c.self.inside.start c.self.inside.sdus.items in
+    c.write_um_taken.ensures
+    ∙ (ap (λ n. um_pdu c.self.inside.number (marks_with c.lead-lead.result (n - 1) c.next_cut-cut.result us) (octets_of c.next_cut-cut.result us) n) size
+    ∙ (ap₂ (λ ms xs. um_pdu c.self.inside.number ms xs c.self.inside.pdu) r.taken.marks r.taken.octets ∙ ap pdu_of c.self.view_is))
 
 pub returns-clause-after : goal.returns-clause-after
 returns-clause-after c =
-    let r = ready c.self.inside.pdu c.self.inside.mark_start c.self.inside.sdus.items c.self.inside.start c.self.inside.owed c.lead-lead.result c.next_cut-cut.result c.from.result c.self.invariant.1.from c.self.invariant.1.most c.self.invariant.0.place c.lead-lead.ensures.lead c.lead-lead.ensures.few (c.from.ensures ∙ (byte_is c.is_some.result ∙ ap (λ b. cond {A = ℕ} b 1 0) c.is_some.ensures)) c.next_cut-cut.ensures.cut in
+    let r = ready c.self.inside.pdu c.self.inside.mark_start c.self.inside.sdus.items c.self.inside.start c.self.inside.owed c.lead-lead.result c.next_cut-cut.result c.from.result c.self.invariant.1.from c.self.invariant.0.place c.lead-lead.ensures.lead c.lead-lead.ensures.few (c.from.ensures ∙ (byte_is c.is_some.result ∙ ap (λ b. cond {A = ℕ} b 1 0) c.is_some.ensures)) c.next_cut-cut.ensures.cut in
     let m : IsMoved c.self.inside.pdu c.self.inside.mark_start c.self.inside.sdus.items c.self.inside.start c.self.inside.owed c.next_cut-cut.result (c.next_start-next.result.sdu - c.from-ahead.result) c.from-ahead.result = moved c.self.inside.pdu c.self.inside.mark_start c.self.inside.sdus.items c.self.inside.start c.self.inside.owed c.lead-lead.result c.next_cut-cut.result (c.next_start-next.result.sdu - c.from-ahead.result) c.from-ahead.result r.taken (c.from-ahead.ensures ∙ byte_is c.next_cut-cut.result.owed) (ap (λ (a : Start). a.sdu - c.from-ahead.result) c.next_start-next.ensures) in
     ap (λ (b : Buffer (List ℕ)). record { units = units_at b.items (record { sdu = c.from-ahead.result; used = c.next_start-next.result.used }) c.next_cut-cut.result.owed; row = joined (left_at (record { sdu = c.from-ahead.result; used = c.next_start-next.result.used }) b.items); number = (c.self.inside.number + 1) % 128; pdu = c.self.inside.pdu; buffer = b.capacity; mark_start = c.self.inside.mark_start }) c.release.ensures
     ∙ (ap (λ (a : Start). record { units = units_at (drop (c.next_start-next.result.sdu - c.from-ahead.result) c.self.inside.sdus.items) (record { sdu = c.from-ahead.result; used = a.used }) c.next_cut-cut.result.owed; row = joined (left_at (record { sdu = c.from-ahead.result; used = a.used }) (drop (c.next_start-next.result.sdu - c.from-ahead.result) c.self.inside.sdus.items)); number = (c.self.inside.number + 1) % 128; pdu = c.self.inside.pdu; buffer = c.self.inside.sdus.capacity; mark_start = c.self.inside.mark_start }) c.next_start-next.ensures

@@ -1,8 +1,8 @@
 use Rattle.std.proofs.Common.{◌∙◌, ap, subst, sym}
-use Rattle.dch_cut.specs.declared.taken.Cut.{Cut}
-use Rattle.dch_cut.specs.declared.taken.Start.{Start}
-use Rattle.dch_cut.specs.Cuts.{IsStart, next_start}
-use Rattle.dch_cut.proofs.Following.{start_next}
+use Rattle.dch_txbuf.specs.declared.taken.Cut.{Cut}
+use Rattle.dch_txbuf.specs.declared.taken.Start.{Start}
+use Rattle.dch_txbuf.specs.Cuts.{IsStart, next_start}
+use Rattle.dch_txbuf.proofs.Following.{start_next}
 use Rattle.dch_unsent.proofs.unsent.Unsent.take.Goals as goal
 
 pub invariant_of-self : goal.invariant_of-self

@@ -1,0 +1,217 @@
+-- The length indicators of a PDU, as they are written.
+use Rattle.std.proofs.Common.{◌≡◌, ◌+◌, ◌-◌, ◌*◌, ◌<◌, ◌≤◌, ℕ, zero, suc, List, [], ◌∷◌, ◌++◌, Bool, true, false, cond, length, get_or, drop, take, Option, Some, None, arith, refl, sym, ap, ap₂, ◌∙◌, subst, ⊎_elim, length-append, length-drop}
+use Rattle.std.specs.Prelude.{nat_lt}
+use mir.Val.{bool_byte}
+use Rattle.std.proofs.Math.ListN.{length-set}
+use Rattle.std.proofs.lemmas.Bool.{cases_lt, le-ltb, lt-ltb}
+use Rattle.std.proofs.lemmas.List.{get_or-append-add, get_or_append_left, length-take-le, take-take, take_more, take_more_set}
+use Rattle.dch_sar.specs.Pdus.{padding}
+use Rattle.dch_am.specs.Bodies.{ends_at, joined}
+use Rattle.dch_rlcpdu.specs.Marks.{indicators}
+use Rattle.dch_txbuf.specs.declared.taken.Cut.{Cut}
+use Rattle.dch_txbuf.specs.declared.taken.Start.{Start}
+use Rattle.dch_txbuf.specs.Cuts.{IsStart, IsThere, first_of, led_by, left_at, marks_with, octets_of, trimmed, with_lead, with_mark}
+use Rattle.dch_txbuf.proofs.Cutting.{Carries, inside_items, joined_next, joined_within, piece_at, trimmed_none}
+
+-- the end of a piece
+get_or-ends : (at : ℕ) (ps : List (List ℕ)) (j : ℕ) → j < length ps → get_or (ends_at at ps) j 0 ≡ at + length (joined (take (j + 1) ps))
+get_or-ends at [] j l = absurd (omega (arith, l))
+get_or-ends at (p ∷ ps) zero l = omega (arith, length-append p [])
+get_or-ends at (p ∷ ps) (suc j) l =
+    let q : suc j + 1 ≡ suc (j + 1) = omega arith in
+    let e : at + length p + length (joined (take (j + 1) ps)) ≡ at + length (p ++ joined (take (j + 1) ps)) = omega (arith, length-append p (joined (take (j + 1) ps))) in
+    get_or-ends (at + length p) ps j (omega (arith, l)) ∙ (e ∙ ap (λ k. at + length (joined (take k (p ∷ ps)))) (sym q))
+
+length-ends : (at : ℕ) (ps : List (List ℕ)) → length (ends_at at ps) ≡ length ps
+length-ends at [] = refl
+length-ends at (p ∷ ps) = ap suc (length-ends (at + length p) ps)
+
+-- what a PDU spends but for the length indicator of padding
+abbrev pub spent : Option ℕ → Cut → List (List ℕ) → ℕ
+spent lead c us = length (led_by lead) + length (octets_of c us) + c.pieces
+
+pub length-marks : (lead : Option ℕ) (room : ℕ) (c : Cut) (us : List (List ℕ)) → IsThere c us → length (marks_with lead room c us) ≡ length (led_by lead) + c.pieces + length (padding room (spent lead c us))
+length-marks lead room c us there = omega (
+  arith,
+  length-append (led_by lead) (ends_at 0 (take c.pieces us) ++ padding room (spent lead c us)),
+  length-append (ends_at 0 (take c.pieces us)) (padding room (spent lead c us)),
+  length-ends 0 (take c.pieces us),
+  length-take-le c.pieces us there.pieces,
+)
+
+-- how many length indicators a PDU has
+pub count_is : (lead : Option ℕ) (room marks b : ℕ) (c : Cut) (us : List (List ℕ)) → IsThere c us → marks ≡ length (led_by lead) + c.pieces + b → b ≡ cond (nat_lt (spent lead c us) room) 1 0 → marks ≡ length (marks_with lead room c us)
+count_is lead room marks b c us there e f = omega (arith, e, f, length-marks lead room c us there, padding_long (nat_lt (spent lead c us) room))
+  where
+    padding_long : (t : Bool) → length (cond {A = List ℕ} t (127 ∷ []) []) ≡ cond t 1 0
+    padding_long true = refl
+    padding_long false = refl
+
+-- that of the end of a piece
+pub mark_at : (lead : Option ℕ) (room j : ℕ) (c : Cut) (us : List (List ℕ)) → IsThere c us → j < c.pieces → get_or (marks_with lead room c us) (length (led_by lead) + j) 0 ≡ length (joined (take (j + 1) us))
+mark_at lead room j c us there l =
+    let n : length (take c.pieces us) ≡ c.pieces = length-take-le c.pieces us there.pieces in
+    get_or-append-add (led_by lead) (ends_at 0 (take c.pieces us) ++ padding room (spent lead c us)) j 0
+    ∙ (get_or_append_left (ends_at 0 (take c.pieces us)) (padding room (spent lead c us)) 0 j (omega (arith, l, n, length-ends 0 (take c.pieces us)))
+    ∙ omega (arith, get_or-ends 0 (take c.pieces us) j (omega (arith, l, n)), ap (λ xs. length (joined xs)) (take-take (j + 1) c.pieces us (omega (arith, l)))))
+
+-- that of padding
+pub mark_last : (lead : Option ℕ) (room : ℕ) (c : Cut) (us : List (List ℕ)) → IsThere c us → length (led_by lead) + c.pieces < length (marks_with lead room c us) → get_or (marks_with lead room c us) (length (led_by lead) + c.pieces) 0 ≡ 127
+mark_last lead room c us there l =
+    let n : c.pieces ≡ length (ends_at 0 (take c.pieces us)) + 0 = omega (arith, length-ends 0 (take c.pieces us), length-take-le c.pieces us there.pieces) in
+    get_or-append-add (led_by lead) (ends_at 0 (take c.pieces us) ++ padding room (spent lead c us)) c.pieces 0
+    ∙ (ap (λ k. get_or (ends_at 0 (take c.pieces us) ++ padding room (spent lead c us)) k 0) n
+    ∙ (get_or-append-add (ends_at 0 (take c.pieces us)) (padding room (spent lead c us)) 0 0
+    ∙ go (nat_lt (spent lead c us) room) (omega (arith, l, length-marks lead room c us there))))
+  where
+    go : (t : Bool) → 0 < length (cond {A = List ℕ} t (127 ∷ []) []) → get_or (cond {A = List ℕ} t (127 ∷ []) []) 0 0 ≡ 127
+    go true l = refl
+    go false l = absurd (omega (arith, l))
+
+-- length indicators as octets
+pub length-indicators : (ms : List ℕ) → length (indicators ms) ≡ length ms
+length-indicators [] = refl
+length-indicators (m ∷ ms) = ap suc (length-indicators ms)
+
+get_or-indicators : (ms : List ℕ) (k : ℕ) → k < length ms → get_or (indicators ms) k 0 ≡ 2 * get_or ms k 0 + cond (nat_lt (k + 1) (length ms)) 1 0
+get_or-indicators [] k l = absurd (omega (arith, l))
+get_or-indicators (m ∷ []) zero l = refl
+get_or-indicators (m ∷ n ∷ ms) zero l = ap (λ t. 2 * m + cond t 1 0) (sym (lt-ltb (zero + 1) (length (m ∷ n ∷ ms)) (omega arith)))
+get_or-indicators (m ∷ ms) (suc k) l = get_or-indicators ms k (omega (arith, l)) ∙ ap (λ t. 2 * get_or ms k 0 + cond t 1 0) same
+  where
+    same : nat_lt (k + 1) (length ms) ≡ nat_lt (suc k + 1) (suc (length ms))
+    same = ⊎_elim
+        (λ (a : k + 1 < length ms). lt-ltb (k + 1) (length ms) a ∙ sym (lt-ltb (suc k + 1) (suc (length ms)) (omega (arith, a))))
+        (λ (a : length ms ≤ k + 1). le-ltb (k + 1) (length ms) a ∙ sym (le-ltb (suc k + 1) (suc (length ms)) (omega (arith, a))))
+        (cases_lt (k + 1) (length ms))
+
+-- the first of them are written, so many
+pub record IsPlaced (ms : List ℕ) (k : ℕ) (out : List ℕ) : Type 0 where
+  pub same : length out ≡ length ms
+  pub front : take k out ≡ take k (indicators ms)
+
+pub placed_more : (ms : List ℕ) (k m : ℕ) (out now : List ℕ) → IsPlaced ms k out → k < length ms → get_or ms k 0 ≡ m → now ≡ with_mark m k out → IsPlaced ms (k + 1) now
+placed_more ms k m out now is l e n = subst (λ xs. IsPlaced ms (k + 1) xs) (sym n) (record {
+  same = length-set out k (2 * m + cond (nat_lt (k + 1) (length out)) 1 0) ∙ is.same;
+  front = take_more_set out k (2 * m + cond (nat_lt (k + 1) (length out)) 1 0) (omega (arith, l, is.same)) ∙ (ap₂ (λ xs x. xs ++ x ∷ []) is.front value ∙ sym (take_more (indicators ms) k 0 (omega (arith, l, length-indicators ms))));
+})
+  where
+    value : 2 * m + cond (nat_lt (k + 1) (length out)) 1 0 ≡ get_or (indicators ms) k 0
+    value = ap₂ (λ a b. 2 * a + cond (nat_lt (k + 1) b) 1 0) (sym e) is.same ∙ sym (get_or-indicators ms k l)
+
+pub placed_lead : (lead : Option ℕ) (rest out now : List ℕ) → length out ≡ length (led_by lead ++ rest) → now ≡ with_lead lead out → IsPlaced (led_by lead ++ rest) (length (led_by lead)) now
+placed_lead None rest out now l e = record { same = ap (λ xs. length xs) e ∙ l; front = refl }
+placed_lead (Some m) rest out now l e = placed_more (m ∷ rest) 0 m out now (record { same = l; front = refl }) (omega arith) refl e
+
+-- all of them are written
+pub placed_all : (ms out : List ℕ) → IsPlaced ms (length ms) out → out ≡ indicators ms
+placed_all ms out is = sym (take_whole (length ms) out (omega (arith, is.same))) ∙ (is.front ∙ take_whole (length ms) (indicators ms) (omega (arith, length-indicators ms)))
+  where
+    take_whole : (n : ℕ) (xs : List ℕ) → length xs ≤ n → take n xs ≡ xs
+    take_whole zero [] l = refl
+    take_whole (suc n) [] l = refl
+    take_whole zero (x ∷ xs) l = absurd (omega (arith, l))
+    take_whole (suc n) (x ∷ xs) l = ap (λ ys. x ∷ ys) (take_whole n xs (omega (arith, l)))
+
+-- the walk over pieces at SDU i
+pub record Counts (items : List (List ℕ)) (start : Start) (at used i : ℕ) : Type 0 where
+  pub from : start.sdu ≤ i
+  pub count : at ≡ length (joined (take (i - start.sdu) (left_at start items)))
+  pub left : trimmed used (drop i items) ≡ drop (i - start.sdu) (left_at start items)
+  pub used_is : used ≤ length (get_or items i [])
+
+pub counts_first : (items : List (List ℕ)) (start : Start) → IsStart items start → Counts items start 0 start.used start.sdu
+counts_first items start is =
+    let z : start.sdu - start.sdu ≡ 0 = omega arith in
+    record {
+      from = omega arith;
+      count = sym (ap (λ n. length (joined (take n (left_at start items)))) z);
+      left = sym (ap (λ n. drop n (left_at start items)) z);
+      used_is = is.used;
+    }
+
+-- the next piece is there, and how many octets there are with it
+pub record IsEnd (items : List (List ℕ)) (start : Start) (at used i pieces : ℕ) : Type 0 where
+  pub inside : i < length items
+  pub sum : at + (length (get_or items i []) - used) ≡ length (joined (take (i - start.sdu + 1) (left_at start items)))
+  pub most : at + (length (get_or items i []) - used) ≤ length (joined (take pieces (left_at start items)))
+
+pub next_end : (items : List (List ℕ)) (start : Start) (at used i pieces : ℕ) → Counts items start at used i → i < start.sdu + pieces → pieces ≤ length (left_at start items) → IsEnd items start at used i pieces
+next_end items start at used i pieces k l there =
+    let n : i - start.sdu < length (left_at start items) = omega (arith, k.from, l, there) in
+    let inside = inside_items items (left_at start items) i (i - start.sdu) used k.left n in
+    let is = piece_at items (left_at start items) i (i - start.sdu) used k.left inside in
+    let sum : at + (length (get_or items i []) - used) ≡ length (joined (take (i - start.sdu + 1) (left_at start items))) = omega (
+      arith,
+      k.count,
+      ap (λ (xs : List ℕ). length xs) (joined_next (left_at start items) (i - start.sdu) n),
+      length-append (joined (take (i - start.sdu) (left_at start items))) (get_or (left_at start items) (i - start.sdu) []),
+      ap (λ (xs : List ℕ). length xs) is.here,
+      length-drop used (get_or items i []),
+    ) in
+    record { inside = inside; sum = sum; most = omega (arith, sum, joined_within (left_at start items) (i - start.sdu + 1) pieces (omega (arith, k.from, l))) }
+
+pub counts_on : (items : List (List ℕ)) (start : Start) (at used i pieces more : ℕ) → Counts items start at used i → i < start.sdu + pieces → pieces ≤ length (left_at start items) → more ≡ length (get_or items i []) - used → Counts items start (at + more) 0 (i + 1)
+counts_on items start at used i pieces more k l there e =
+    let m : i + 1 - start.sdu ≡ i - start.sdu + 1 = omega (arith, k.from) in
+    let is = next_end items start at used i pieces k l there in
+    let here = piece_at items (left_at start items) i (i - start.sdu) used k.left is.inside in
+    record {
+      from = omega (arith, k.from);
+      count = ap (λ n. at + n) e ∙ (is.sum ∙ ap (λ j. length (joined (take j (left_at start items)))) (sym m));
+      left = trimmed_none (drop (i + 1) items) ∙ (sym here.behind ∙ ap (λ j. drop j (left_at start items)) (sym m));
+      used_is = omega arith;
+    }
+
+pub length-octets : (c : Cut) (us : List (List ℕ)) → IsThere c us → length (octets_of c us) ≡ length (joined (take c.pieces us)) + c.rest
+length-octets c us there = omega (
+  arith,
+  length-append (joined (take c.pieces us)) (take c.rest (first_of (drop c.pieces us))),
+  length-take-le c.rest (first_of (drop c.pieces us)) there.rest,
+)
+
+pub counts_of : {items : List (List ℕ)} {start : Start} {first out : List ℕ} {at used i : ℕ} → Carries items start first out at used i → Counts items start at used i
+counts_of k = record { from = k.from; count = k.count; left = k.left; used_is = k.used_is }
+
+-- the length indicator of the next piece's end is written
+pub placed_on : (items : List (List ℕ)) (start : Start) (lead : Option ℕ) (room : ℕ) (c : Cut) (marks now : List ℕ) (at used i more before : ℕ) → Counts items start at used i → IsPlaced (marks_with lead room c (left_at start items)) (length (led_by lead) + (i - start.sdu)) marks → IsThere c (left_at start items) → i < start.sdu + c.pieces → more ≡ length (get_or items i []) - used → before ≡ length (led_by lead) → now ≡ with_mark (at + more) (before + (i - start.sdu)) marks → IsPlaced (marks_with lead room c (left_at start items)) (length (led_by lead) + (i + 1 - start.sdu)) now
+placed_on items start lead room c marks now at used i more before k is there l e b n =
+    let q : length (led_by lead) + (i + 1 - start.sdu) ≡ length (led_by lead) + (i - start.sdu) + 1 = omega (arith, k.from) in
+    let next = next_end items start at used i c.pieces k l there.pieces in
+    let inside : length (led_by lead) + (i - start.sdu) < length (marks_with lead room c (left_at start items)) = omega (arith, length-marks lead room c (left_at start items) there, l, k.from) in
+    let here : get_or (marks_with lead room c (left_at start items)) (length (led_by lead) + (i - start.sdu)) 0 ≡ at + more = mark_at lead room (i - start.sdu) c (left_at start items) there (omega (arith, l, k.from)) ∙ (sym next.sum ∙ ap (λ m. at + m) (sym e)) in
+    subst (λ m. IsPlaced (marks_with lead room c (left_at start items)) m now) (sym q)
+    (placed_more (marks_with lead room c (left_at start items)) (length (led_by lead) + (i - start.sdu)) (at + more) marks now is inside here (n ∙ ap (λ m. with_mark (at + more) (m + (i - start.sdu)) marks) b))
+
+-- all length indicators are written, with that of padding or without
+pub all_padded : (lead : Option ℕ) (room ends : ℕ) (c : Cut) (us : List (List ℕ)) (out now : List ℕ) → IsThere c us → length out ≡ length (marks_with lead room c us) → take (length (led_by lead) + c.pieces) out ≡ take (length (led_by lead) + c.pieces) (indicators (marks_with lead room c us)) → ends ≡ length (led_by lead) + c.pieces → ends < length out → now ≡ with_mark 127 ends out → now ≡ indicators (marks_with lead room c us)
+all_padded lead room ends c us out now there same front e l n =
+    let more : length (led_by lead) + c.pieces < length (marks_with lead room c us) = omega (arith, l, same, e) in
+    let is = placed_more (marks_with lead room c us) (length (led_by lead) + c.pieces) 127 out now (record { same = same; front = front }) more (mark_last lead room c us there more) (n ∙ ap (λ k. with_mark 127 k out) e) in
+    let all : length (led_by lead) + c.pieces + 1 ≡ length (marks_with lead room c us) = omega (arith, more, length-marks lead room c us there, few (nat_lt (spent lead c us) room)) in
+    placed_all (marks_with lead room c us) now (subst (λ k. IsPlaced (marks_with lead room c us) k now) all is)
+  where
+    few : (t : Bool) → length (cond {A = List ℕ} t (127 ∷ []) []) ≤ 1
+    few true = omega arith
+    few false = omega arith
+
+pub all_ended : (lead : Option ℕ) (room ends : ℕ) (c : Cut) (us : List (List ℕ)) (out : List ℕ) → IsThere c us → length out ≡ length (marks_with lead room c us) → take (length (led_by lead) + c.pieces) out ≡ take (length (led_by lead) + c.pieces) (indicators (marks_with lead room c us)) → ends ≡ length (led_by lead) + c.pieces → length out ≤ ends → out ≡ indicators (marks_with lead room c us)
+all_ended lead room ends c us out there same front e l =
+    let all : length (led_by lead) + c.pieces ≡ length (marks_with lead room c us) = omega (arith, l, same, e, length-marks lead room c us there) in
+    placed_all (marks_with lead room c us) out (subst (λ k. IsPlaced (marks_with lead room c us) k out) all (record { same = same; front = front }))
+
+byte_is : (b : Bool) → bool_byte b ≡ cond b 1 0
+byte_is true = refl
+byte_is false = refl
+
+-- a PDU's room is split into length indicators and octets
+pub record IsSplit (lead : Option ℕ) (room n m : ℕ) (c : Cut) (us : List (List ℕ)) : Type 0 where
+  pub whole : n + m ≡ room
+  pub count : n ≡ length (marks_with lead (n + m) c us)
+  pub rest : m ≡ room - length (marks_with lead room c us)
+
+pub split_is : (lead : Option ℕ) (room n m ends carried b : ℕ) (c : Cut) (us : List (List ℕ)) → IsThere c us → n ≡ ends + b → n + m ≡ room → ends ≡ length (led_by lead) + c.pieces → carried ≡ length (octets_of c us) → b ≡ bool_byte (nat_lt (ends + carried) room) → IsSplit lead room n m c us
+split_is lead room n m ends carried b c us there e whole f g h =
+    let sum : ends + carried ≡ spent lead c us = omega (arith, f, g) in
+    let count : n ≡ length (marks_with lead room c us) = count_is lead room n b c us there (omega (arith, e, f)) (h ∙ (byte_is (nat_lt (ends + carried) room) ∙ ap (λ k. cond (nat_lt k room) 1 0) sum)) in
+    record { whole = whole; count = count ∙ ap (λ r. length (marks_with lead r c us)) (sym whole); rest = omega (arith, count, whole) }

@@ -1,0 +1,163 @@
+ghost use Rattle.std.specs.Prelude.{◌≡◌, ◌+◌, ◌<◌, ◌≤◌, ◌++◌, [], All, drop, length, slice_index_or, take};
+ghost use Rattle.dch_rlcpdu.specs.Body.{body_text, padded};
+ghost use Rattle.dch_rlcpdu.specs.Marks.{indicators, more};
+ghost use Rattle.dch_txbuf.specs.Cuts.{IsStart, IsThere, led_by, left_at, marks_with, octets_of, with_lead, with_mark};
+
+use crate::store::SduBuffer;
+use crate::taken::{Cut, Start};
+
+/// The length indicator of padding.
+const PADDING: u8 = 127;
+
+/// Writes what stands behind the header of a PDU: length indicators, octets of SDUs, and zeros for padding. Answers the bit of the header
+/// that tells whether a length indicator follows.
+pub fn write_body(
+    sdus: &SduBuffer,
+    start: &Start,
+    cut: &Cut,
+    lead: Option<u8>,
+    out: &mut [u8],
+) -> u8
+    requires start { IsStart sdus.now.items start.now }
+    requires there { IsThere cut.now (left_at start.now sdus.now.items) }
+    requires few { length (led_by lead) + length (octets_of cut.now (left_at start.now sdus.now.items)) + cut.now.pieces ≤ length out.old }
+    requires small { length out.old ≤ 126 }
+    requires lead { All (λ m. m < 128) (led_by lead) }
+    ensures text { out.new ≡ body_text (marks_with lead (length out.old) cut.now (left_at start.now sdus.now.items)) (octets_of cut.now (left_at start.now sdus.now.items)) (length out.old) }
+    ensures more { result ≡ more (marks_with lead (length out.old) cut.now (left_at start.now sdus.now.items)) }
+{
+    let ends = count_ends(cut, lead);
+    let carried = count_octets(sdus, start, cut);
+    let count = ends + usize::from(ends + carried < out.len());
+    let (marks, octets) = out.split_at_mut(count);
+    write_parts(sdus, start, cut, lead, marks, octets);
+    u8::from(count > 0)
+}
+
+/// How many length indicators a PDU has but for that of padding.
+fn count_ends(cut: &Cut, lead: Option<u8>) -> usize
+    ensures { result ≡ length (led_by lead) + cut.now.pieces }
+{
+    match lead {
+        Some(_) => 1 + cut.pieces as usize,
+        None => cut.pieces as usize,
+    }
+}
+
+/// How many octets of SDUs a PDU carries.
+fn count_octets(sdus: &SduBuffer, start: &Start, cut: &Cut) -> usize
+    requires start { IsStart sdus.now.items start.now }
+    requires there { IsThere cut.now (left_at start.now sdus.now.items) }
+    requires small { length (octets_of cut.now (left_at start.now sdus.now.items)) ≤ 126 }
+    ensures { result ≡ length (octets_of cut.now (left_at start.now sdus.now.items)) }
+{
+    let first = start.sdu as usize;
+    let mut at = 0;
+    let mut used = start.used as usize;
+    for i in first..first + cut.pieces as usize {
+        at += sdus.octets(i) as usize - used;
+        used = 0;
+    }
+    at + cut.rest as usize
+}
+
+/// Writes the length indicators, all of them, and the octets with zeros behind them.
+fn write_parts(
+    sdus: &SduBuffer,
+    start: &Start,
+    cut: &Cut,
+    lead: Option<u8>,
+    marks: &mut [u8],
+    octets: &mut [u8],
+)
+    requires start { IsStart sdus.now.items start.now }
+    requires there { IsThere cut.now (left_at start.now sdus.now.items) }
+    requires count { length marks.old ≡ length (marks_with lead (length marks.old + length octets.old) cut.now (left_at start.now sdus.now.items)) }
+    requires room { length (octets_of cut.now (left_at start.now sdus.now.items)) ≤ length octets.old }
+    requires small { length marks.old + length octets.old ≤ 126 }
+    requires lead { All (λ m. m < 128) (led_by lead) }
+    ensures marks { marks.new ≡ indicators (marks_with lead (length marks.old + length octets.old) cut.now (left_at start.now sdus.now.items)) }
+    ensures octets { octets.new ≡ padded (length octets.old) (octets_of cut.now (left_at start.now sdus.now.items)) }
+{
+    let carried = write_pieces(sdus, start, cut, lead, marks, octets);
+    octets[carried..].fill(0);
+    let ends = count_ends(cut, lead);
+    if ends < marks.len() {
+        write_mark(PADDING, ends, marks);
+    }
+}
+
+/// Writes the length indicators but for that of padding, and the octets. Answers how many octets they are.
+fn write_pieces(
+    sdus: &SduBuffer,
+    start: &Start,
+    cut: &Cut,
+    lead: Option<u8>,
+    marks: &mut [u8],
+    octets: &mut [u8],
+) -> usize
+    requires start { IsStart sdus.now.items start.now }
+    requires there { IsThere cut.now (left_at start.now sdus.now.items) }
+    requires count { length marks.old ≡ length (marks_with lead (length marks.old + length octets.old) cut.now (left_at start.now sdus.now.items)) }
+    requires room { length (octets_of cut.now (left_at start.now sdus.now.items)) ≤ length octets.old }
+    requires small { length marks.old + length octets.old ≤ 126 }
+    requires lead { All (λ m. m < 128) (led_by lead) }
+    ensures octets { take result octets.new ≡ octets_of cut.now (left_at start.now sdus.now.items) }
+    ensures count { result ≡ length (octets_of cut.now (left_at start.now sdus.now.items)) }
+    ensures same { length octets.new ≡ length octets.old }
+    ensures marks { take (length (led_by lead) + cut.now.pieces) marks.new ≡ take (length (led_by lead) + cut.now.pieces) (indicators (marks_with lead (length marks.old + length octets.old) cut.now (left_at start.now sdus.now.items))) }
+    ensures number { length marks.new ≡ length marks.old }
+{
+    let first = start.sdu as usize;
+    let pieces = cut.pieces as usize;
+    let rest = cut.rest as usize;
+    let before = write_lead(lead, marks);
+    let mut at = 0;
+    let mut used = start.used as usize;
+    for i in first..first + pieces {
+        let count = sdus.octets(i) as usize - used;
+        copy_part(sdus, i, used, count, at, octets);
+        at += count;
+        write_mark(at as u8, before + (i - first), marks);
+        used = 0;
+    }
+    if rest > 0 {
+        copy_part(sdus, first + pieces, used, rest, at, octets);
+    }
+    at + rest
+}
+
+/// Writes the length indicator that stands first, where there is one. Answers how many they are.
+fn write_lead(lead: Option<u8>, marks: &mut [u8]) -> usize
+    requires room { length (led_by lead) ≤ length marks.old }
+    requires small { All (λ m. m < 128) (led_by lead) }
+    ensures count { result ≡ length (led_by lead) }
+    ensures mark { marks.new ≡ with_lead lead marks.old }
+{
+    match lead {
+        Some(mark) => {
+            write_mark(mark, 0, marks);
+            1
+        }
+        None => 0,
+    }
+}
+
+/// Writes a length indicator at its place among all of them.
+fn write_mark(mark: u8, at: usize, marks: &mut [u8])
+    requires small { mark < 128 }
+    requires inside { at < length marks.old }
+    ensures { marks.new ≡ with_mark mark at marks.old }
+{
+    marks[at] = 2 * mark + u8::from(at + 1 < marks.len());
+}
+
+/// Copies so many octets of an SDU, from one of them on, to a place of `octets`.
+fn copy_part(sdus: &SduBuffer, i: usize, from: usize, count: usize, at: usize, octets: &mut [u8])
+    requires there { i < length sdus.now.items }
+    requires inside { from + count ≤ length (slice_index_or sdus.now.items i []) }
+    requires room { at + count ≤ length octets.old }
+    ensures { octets.new ≡ take at octets.old ++ (take count (drop from (slice_index_or sdus.now.items i [])) ++ drop (at + count) octets.old) }
+{
+    sdus.copy(i, from, &mut octets[at..at + count]);
+}
