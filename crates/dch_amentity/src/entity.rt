@@ -5,7 +5,7 @@ ghost use Rattle.dch_am.specs.Restart.{restarted_entity};
 ghost use Rattle.dch_am.specs.Rules.{Rules, rules_of};
 ghost use Rattle.dch_am.specs.Sender.{Sender, discarded, offered};
 ghost use Rattle.dch_amsend.specs.Standing.{IsSame as IsSameSide, Stands};
-ghost use Rattle.dch_held.specs.Held.{capped};
+ghost use Rattle.dch_amsend.specs.SduDiscard.{capped};
 ghost use Rattle.dch_sar.specs.Taking.{handed_of, written};
 ghost use Rattle.dch_amentity.specs.Answers.{IsToldAt, built_at, is_refused, is_refused_riding, received, riding_answer, waiting};
 ghost use Rattle.dch_amentity.specs.Standing.{AreSizes, IsSame, Represents, available_in, is_due, is_settled, size_in, size_of, waiting_in};

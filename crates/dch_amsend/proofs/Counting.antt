@@ -3,7 +3,7 @@ use Rattle.std.proofs.Common.{◌≡◌, ◌+◌, ◌-◌, ◌*◌, ◌<◌, ◌
 use Rattle.std.specs.Prelude.{nat_lt, nat_le}
 use Rattle.std.proofs.lemmas.Bool.{and_parts, lt-ltb, ltb-true, ltb-false}
 use Rattle.dch_retx.specs.declared.sent_pdu.SentPdu.{SentPdu}
-use Rattle.dch_retx.specs.Flights.{at, built, first_wanted, no_extent, sent_once, wanted_in}
+use Rattle.dch_retx.specs.Flights.{at, built, first_wanted, sent_once, wanted_in}
 use Rattle.dch_am.specs.Numbers.{has}
 use Rattle.dch_am.specs.Rules.{Rules}
 use Rattle.dch_am.specs.Bodies.{Unsent, after_body, ends_of, is_left, next_body}
@@ -12,10 +12,10 @@ use Rattle.dch_am.specs.Building.{Choice, Again as Requested, New as Fresh, Last
 use Rattle.dch_retx.specs.declared.buffer.Pick.TheVariants.{Again, New, Last, NoPdu}
 use Rattle.dch_retx.specs.RetxBuffer.{RetxBuffer}
 use Rattle.dch_retx.specs.Polling.{again_line, last_line, new_line}
-use Rattle.dch_retx.specs.Standing.{Stands, chosen}
+use Rattle.dch_retx.specs.Standing.{Stands as LineStands, chosen}
 use Rattle.dch_retx.proofs.Picking.{picked_is}
 use Rattle.dch_retx.proofs.Sending.{again_sends, last_sends, new_sends}
-use Rattle.dch_unsent.specs.Keeping.{fills}
+use Rattle.dch_amsend.specs.BufferStanding.{fills}
 use Rattle.dch_amsend.specs.Counting.{builds_of}
 
 -- one that is requested is built
@@ -132,7 +132,7 @@ count_last n flying one = let first : suc (min n 0) ≡ min (suc n) 1 = omega ar
 
 -- what a build leaves: the poll is paid, and nothing else counts
 record Left (rules : Rules) (l : RetxBuffer) (s : Sender) (requested flying : ℕ) (q : Unsent) : Type 0 where
-  stands : Stands rules l s
+  stands : LineStands rules l s
   none_owed : s.owed ≡ false
   wanted_is : wanted_in l.flown ≡ requested
   flying_is : length l.flown ≡ flying
@@ -147,7 +147,7 @@ left_counted n rules d l s requested flying q is e =
     e ∙ (ap₂ (λ (w : ℕ) (k : ℕ). min n (builds_of w (min (rules.window - k) (fills n d s.unsent)) s.owed k)) is.wanted_is is.flying_is
     ∙ ap₂ (λ (x : Unsent) (b : Bool). min n (builds_of requested (min (rules.window - flying) (fills n d x)) b flying)) is.unsent_is is.none_owed)
 
-again_left : (rules : Rules) (d : ℕ) (l : RetxBuffer) (s : Sender) → first_wanted l.flown < length l.flown → Stands rules l s → (w : ℕ) → wanted_in l.flown ≡ suc w → Left rules (again_line (first_wanted l.flown) l) (after_choice (Requested (vt_a s + first_wanted l.flown)) rules d s) w (length l.flown) s.unsent
+again_left : (rules : Rules) (d : ℕ) (l : RetxBuffer) (s : Sender) → first_wanted l.flown < length l.flown → LineStands rules l s → (w : ℕ) → wanted_in l.flown ≡ suc w → Left rules (again_line (first_wanted l.flown) l) (after_choice (Requested (vt_a s + first_wanted l.flown)) rules d s) w (length l.flown) s.unsent
 again_left rules d l s inside is w e = record {
   stands = (again_sends rules l s (first_wanted l.flown) d inside is).stands;
   none_owed = paid rules (again s (vt_a s + first_wanted l.flown)) _;
@@ -156,23 +156,27 @@ again_left rules d l s inside is w e = record {
   unsent_is = refl;
 }
 
-new_left : (rules : Rules) (d : ℕ) (l : RetxBuffer) (s : Sender) → length l.flown < rules.window → Stands rules l s → Left rules (new_line (sent_once no_extent false (ends_of (next_body d s.unsent)) false) (is_left (after_body d s.unsent)) l) (after_choice Fresh rules d s) (wanted_in l.flown) (length l.flown + 1) (after_body d s.unsent)
+-- a PDU in which so many SDUs end
+abbrev new_pdu : ℕ → SentPdu
+new_pdu n = sent_once (record { sdu = 0; used = 0; pieces = n; rest = 0 }) false
+
+new_left : (rules : Rules) (d : ℕ) (l : RetxBuffer) (s : Sender) → length l.flown < rules.window → LineStands rules l s → Left rules (new_line (new_pdu (ends_of (next_body d s.unsent))) (is_left (after_body d s.unsent)) l) (after_choice Fresh rules d s) (wanted_in l.flown) (length l.flown + 1) (after_body d s.unsent)
 new_left rules d l s room is = record {
-  stands = (new_sends rules l s (sent_once no_extent false (ends_of (next_body d s.unsent)) false) (is_left (after_body d s.unsent)) d room (record { acked = refl; requested = refl; named = refl; builds = refl; ends_are = refl }) refl is).stands;
+  stands = (new_sends rules l s (new_pdu (ends_of (next_body d s.unsent))) (is_left (after_body d s.unsent)) d room (record { acked = refl; requested = refl; named = refl; builds = refl; ends_are = omega arith }) refl is).stands;
   none_owed = paid rules (anew d s) _;
-  wanted_is = wanted_new l.flown (sent_once no_extent false (ends_of (next_body d s.unsent)) false) refl;
-  flying_is = length-append l.flown (sent_once no_extent false (ends_of (next_body d s.unsent)) false ∷ []);
+  wanted_is = wanted_new l.flown (new_pdu (ends_of (next_body d s.unsent))) refl;
+  flying_is = length-append l.flown (new_pdu (ends_of (next_body d s.unsent)) ∷ []);
   unsent_is = refl;
 }
 
 -- the last PDU's number, and that it isn't requested where none is requested
-pub last_is : (rules : Rules) (l : RetxBuffer) (s : Sender) → 0 < length l.flown → Stands rules l s → vt_a s + (length l.flown - 1) ≡ vt_s s - 1
+pub last_is : (rules : Rules) (l : RetxBuffer) (s : Sender) → 0 < length l.flown → LineStands rules l s → vt_a s + (length l.flown - 1) ≡ vt_s s - 1
 last_is rules l s one is = omega (arith, is.flying)
 
-pub last_not : (rules : Rules) (l : RetxBuffer) (s : Sender) → 0 < length l.flown → length l.flown ≤ first_wanted l.flown → Stands rules l s → has (vt_a s + (length l.flown - 1)) s.requested ≡ false
+pub last_not : (rules : Rules) (l : RetxBuffer) (s : Sender) → 0 < length l.flown → length l.flown ≤ first_wanted l.flown → LineStands rules l s → has (vt_a s + (length l.flown - 1)) s.requested ≡ false
 last_not rules l s one none is = sym (is.flown (length l.flown - 1) (omega arith)).requested ∙ none_at l.flown (length l.flown - 1) (omega arith) none
 
-last_left : (rules : Rules) (d : ℕ) (l : RetxBuffer) (s : Sender) → 0 < length l.flown → length l.flown ≤ first_wanted l.flown → Stands rules l s → Left rules (last_line (length l.flown - 1) l) (after_choice (Latest (vt_a s + (length l.flown - 1))) rules d s) (wanted_in l.flown) (length l.flown) s.unsent
+last_left : (rules : Rules) (d : ℕ) (l : RetxBuffer) (s : Sender) → 0 < length l.flown → length l.flown ≤ first_wanted l.flown → LineStands rules l s → Left rules (last_line (length l.flown - 1) l) (after_choice (Latest (vt_a s + (length l.flown - 1))) rules d s) (wanted_in l.flown) (length l.flown) s.unsent
 last_left rules d l s one none is = record {
   stands = (last_sends rules l s (length l.flown - 1) d (omega arith) (last_is rules l s one is) (last_not rules l s one none is) is).stands;
   none_owed = paid rules (once_more s) false;
@@ -194,7 +198,7 @@ chosen_cond low false true c x z = refl
 chosen_cond low false false true x z = refl
 chosen_cond low false false false x z = refl
 
-is_choice : (rules : Rules) (l : RetxBuffer) (s : Sender) (a b c : Bool) → Stands rules l s → nat_lt (first_wanted l.flown) (length l.flown) ≡ a → (nat_lt (length l.flown) rules.window && is_left s.unsent) ≡ b → (s.owed && nat_lt 0 (length l.flown)) ≡ c → IsChoice rules l s a b c
+is_choice : (rules : Rules) (l : RetxBuffer) (s : Sender) (a b c : Bool) → LineStands rules l s → nat_lt (first_wanted l.flown) (length l.flown) ≡ a → (nat_lt (length l.flown) rules.window && is_left s.unsent) ≡ b → (s.owed && nat_lt 0 (length l.flown)) ≡ c → IsChoice rules l s a b c
 is_choice rules l s a b c is e1 e2 e3 = record {
   first = e1;
   second = e2;
@@ -215,14 +219,14 @@ none_fresh m d len room q e = go (nat_lt len room) (is_left q) refl refl e
     go false b e1 e2 h = omega (arith, ltb-false _ _ e1)
 
 -- the count of a definition's builds is that of a line
-pub counts : (n : ℕ) (rules : Rules) (d : ℕ) (l : RetxBuffer) (s : Sender) → Stands rules l s → builds_within n rules d s ≡ counted n rules d l s
+pub counts : (n : ℕ) (rules : Rules) (d : ℕ) (l : RetxBuffer) (s : Sender) → LineStands rules l s → builds_within n rules d s ≡ counted n rules d l s
 counts zero rules d l s is = omega arith
 counts (suc n) rules d l s is = go (nat_lt (first_wanted l.flown) (length l.flown)) (nat_lt (length l.flown) rules.window && is_left s.unsent) (s.owed && nat_lt 0 (length l.flown)) (is_choice rules l s _ _ _ is refl refl refl) (λ m t st. counts n rules d m t st)
   where
     room : ℕ
     room = rules.window - length l.flown
 
-    go : (a b c : Bool) → IsChoice rules l s a b c → ((m : RetxBuffer) (t : Sender) → Stands rules m t → builds_within n rules d t ≡ counted n rules d m t) → builds_within (suc n) rules d s ≡ counted (suc n) rules d l s
+    go : (a b c : Bool) → IsChoice rules l s a b c → ((m : RetxBuffer) (t : Sender) → LineStands rules m t → builds_within n rules d t ≡ counted n rules d m t) → builds_within (suc n) rules d s ≡ counted (suc n) rules d l s
     go true b c ch rest =
         let inside : first_wanted l.flown < length l.flown = ltb-true _ _ ch.first in
         let w : ℕ = wanted_in (set l.flown (first_wanted l.flown) (built (at l.flown (first_wanted l.flown)))) in
@@ -237,7 +241,7 @@ counts (suc n) rules d l s is = go (nat_lt (first_wanted l.flown) (length l.flow
         let none : wanted_in l.flown ≡ 0 = none_wanted l.flown (ltb-false _ _ ch.first) in
         let parts = and_parts _ _ ch.second in
         let below : length l.flown < rules.window = ltb-true _ _ parts.0 in
-        let m : RetxBuffer = new_line (sent_once no_extent false (ends_of (next_body d s.unsent)) false) (is_left (after_body d s.unsent)) l in
+        let m : RetxBuffer = new_line (new_pdu (ends_of (next_body d s.unsent))) (is_left (after_body d s.unsent)) l in
         let t : Sender = after_choice Fresh rules d s in
         let lf : Left rules m t (wanted_in l.flown) (length l.flown + 1) (after_body d s.unsent) = new_left rules d l s below is in
         let less : rules.window - (length l.flown + 1) ≡ rules.window - length l.flown - 1 = omega arith in

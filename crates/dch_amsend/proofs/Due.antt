@@ -1,33 +1,37 @@
 -- Whether a PDU can be built, and calls that are refused.
-use Rattle.std.proofs.Common.{◌≡◌, ◌≢◌, ◌+◌, ◌-◌, ◌<◌, ℕ, suc, List, Bool, true, false, cond, ◌&&◌, ◌||◌, length, min, arith, refl, sym, ap, ap₂, ◌∙◌}
-use Rattle.std.specs.Prelude.{nat_lt}
-use Rattle.std.proofs.lemmas.Bool.{le-ltb, lt-ltb, ltb-false, ltb-true}
+use Rattle.std.proofs.Common.{◌≡◌, ◌≢◌, ◌+◌, ◌-◌, ◌<◌, ℕ, suc, List, [], ◌∷◌, ◌≤◌, subst, length-append, Bool, true, false, cond, ◌&&◌, ◌||◌, length, min, arith, refl, sym, ap, ◌∙◌}
+use Rattle.std.specs.Prelude.{nat_le, nat_lt}
+use Rattle.std.proofs.lemmas.Bool.{le-ltb, leb-true, lt-ltb, ltb-false, ltb-true}
 use Rattle.dch_bits.specs.declared.offer.Offer.{Offer}
 use Rattle.dch_bits.specs.declared.offer.Offer.TheVariants.{Accepted, Full, WrongSize}
 use Rattle.dch_retx.specs.Flights.{wanted_in}
-use Rattle.dch_am.specs.Bodies.{is_left}
+use Rattle.dch_am.specs.Bodies.{is_empty, is_left}
+use Rattle.dch_am.specs.Cuts.{AllFull}
+use Rattle.dch_am.proofs.Restarting.{cut_full, full_drop}
+use Rattle.dch_txbuf.specs.Chunks.{blocks_for}
+use Rattle.dch_txbuf.specs.Sdus.{blocks_in}
+use Rattle.dch_amsend.specs.DiscardStanding.{released}
 use Rattle.dch_am.specs.Building.{available, builds_within, after_build, gives}
 use Rattle.dch_am.specs.Rules.{Rules}
 use Rattle.dch_am.specs.Sender.{Sender}
-use Rattle.dch_held.specs.Held.{Held, left}
-use Rattle.dch_unsent.specs.Keeping.{fills}
-use Rattle.dch_unsent.specs.Waiting.{Waiting, after_offer, unsent_of}
-use Rattle.dch_unsent.proofs.Counting.{fills_some}
+use Rattle.dch_amsend.specs.BufferStanding.{fills}
+use Rattle.dch_amsend.specs.TxBuffer.{TxBuffer, answer_of, buffer_after_offer, unsent_of}
+use Rattle.dch_amsend.proofs.Fills.{fills_some}
 use Rattle.dch_amsend.specs.Outgoing.{IsOutgoing, Outgoing, available_of, can_build}
 use Rattle.dch_amsend.proofs.Events.{available_is}
 
 -- a PDU can be built where one is requested, a new one can follow, or the last one is to go again
-pub can_build_is : (v : Outgoing) → (nat_lt 0 (wanted_in v.line.flown) || ((nat_lt (length v.line.flown) v.line.window && is_left (unsent_of v.waiting)) || (v.line.owed && nat_lt 0 (length v.line.flown)))) ≡ can_build v
-can_build_is v = go (nat_lt 0 (wanted_in v.line.flown)) (nat_lt (length v.line.flown) v.line.window) (is_left (unsent_of v.waiting)) (v.line.owed && nat_lt 0 (length v.line.flown)) refl refl refl refl
+pub can_build_is : (v : Outgoing) → (nat_lt 0 (wanted_in v.line.flown) || ((nat_lt (length v.line.flown) v.line.window && is_left (unsent_of v.tx_buffer)) || (v.line.owed && nat_lt 0 (length v.line.flown)))) ≡ can_build v
+can_build_is v = go (nat_lt 0 (wanted_in v.line.flown)) (nat_lt (length v.line.flown) v.line.window) (is_left (unsent_of v.tx_buffer)) (v.line.owed && nat_lt 0 (length v.line.flown)) refl refl refl refl
   where
     fresh : ℕ
-    fresh = fills 64 (v.waiting.size - 2) (unsent_of v.waiting)
+    fresh = fills 64 (v.tx_buffer.size - 2) (unsent_of v.tx_buffer)
 
     all : ℕ
     all = min 64 (wanted_in v.line.flown) + min (v.line.window - length v.line.flown) fresh
 
-    some : nat_lt 0 fresh ≡ is_left (unsent_of v.waiting)
-    some = fills_some 63 (v.waiting.size - 2) (unsent_of v.waiting)
+    some : nat_lt 0 fresh ≡ is_left (unsent_of v.tx_buffer)
+    some = fills_some 63 (v.tx_buffer.size - 2) (unsent_of v.tx_buffer)
 
     many : 0 < all → true ≡ can_build v
     many l = sym (lt-ltb 0 (available_of v) (omega (arith, ap {B = ℕ} (λ b. cond b all (cond (v.line.owed && nat_lt 0 (length v.line.flown)) 1 0)) (lt-ltb 0 all l), l)))
@@ -36,7 +40,7 @@ can_build_is v = go (nat_lt 0 (wanted_in v.line.flown)) (nat_lt (length v.line.f
     few true none e = sym (lt-ltb 0 (available_of v) (omega (arith, ap {B = ℕ} (λ b. cond b all (cond (v.line.owed && nat_lt 0 (length v.line.flown)) 1 0)) (le-ltb 0 all (omega (arith, none))), ap {B = ℕ} (λ b. cond b 1 0) e)))
     few false none e = sym (le-ltb 0 (available_of v) (omega (arith, ap {B = ℕ} (λ b. cond b all (cond (v.line.owed && nat_lt 0 (length v.line.flown)) 1 0)) (le-ltb 0 all (omega (arith, none))), ap {B = ℕ} (λ b. cond b 1 0) e)))
 
-    go : (a r u c : Bool) → nat_lt 0 (wanted_in v.line.flown) ≡ a → nat_lt (length v.line.flown) v.line.window ≡ r → is_left (unsent_of v.waiting) ≡ u → (v.line.owed && nat_lt 0 (length v.line.flown)) ≡ c → (a || ((r && u) || c)) ≡ can_build v
+    go : (a r u c : Bool) → nat_lt 0 (wanted_in v.line.flown) ≡ a → nat_lt (length v.line.flown) v.line.window ≡ r → is_left (unsent_of v.tx_buffer) ≡ u → (v.line.owed && nat_lt 0 (length v.line.flown)) ≡ c → (a || ((r && u) || c)) ≡ can_build v
     go true r u c ea er eu ec = many (omega (arith, ltb-true _ _ ea))
     go false true true c ea er eu ec = many (omega (arith, ltb-true _ _ er, ltb-true _ _ (some ∙ eu)))
     go false true false c ea er eu ec = few c (omega (arith, ltb-false _ _ ea, ltb-false _ _ (some ∙ eu))) ec
@@ -55,15 +59,38 @@ pub can_build_gives : (rules : Rules) (d : ℕ) (v : Outgoing) (s : Sender) → 
 can_build_gives rules d v s is = ap (nat_lt 0) (available_is rules d v s is) ∙ gives_is rules d s
 
 -- a unit that is refused changes nothing
-pub refused_same : (unit : List ℕ) (s now : Waiting) (answer : Offer) → now ≡ after_offer answer unit s → answer ≢ Accepted → now ≡ s
+pub refused_same : (unit : List ℕ) (s now : TxBuffer) (answer : Offer) → now ≡ buffer_after_offer answer unit s → answer ≢ Accepted → now ≡ s
 refused_same unit s now Accepted e other = absurd (other refl)
 refused_same unit s now Full e other = e
 refused_same unit s now WrongSize e other = e
 
--- where no PDU leaves, no unit does
-pub none_left : (h : Held) → left 0 h ≡ h
-none_left h =
-    let none : min 0 (length h.units) ≡ 0 = omega arith in
-    let same : h.passed - 0 ≡ h.passed = omega arith in
-    let blocks : h.blocks - 0 ≡ h.blocks = omega arith in
-    rw none (ap₂ (λ b p. record h { blocks = b; passed = p }) blocks same)
+-- an SDU that is accepted is one more, in as many blocks
+pub one_more : (unit : List ℕ) (s now : TxBuffer) (answer : Offer) → now ≡ buffer_after_offer answer unit s → answer ≡ Accepted → length now.sdus ≡ length s.sdus + 1
+one_more unit s now answer e taken = ap (λ (w : TxBuffer). length w.sdus) (e ∙ ap (λ o. buffer_after_offer o unit s) taken) ∙ omega (arith, length-append s.sdus (unit ∷ []))
+
+pub blocks_stay : (unit : List ℕ) (s now : TxBuffer) (answer : Offer) → now ≡ buffer_after_offer answer unit s → now.blocks ≡ s.blocks
+blocks_stay unit s now Accepted e = ap (λ (w : TxBuffer). w.blocks) e
+blocks_stay unit s now Full e = ap (λ (w : TxBuffer). w.blocks) e
+blocks_stay unit s now WrongSize e = ap (λ (w : TxBuffer). w.blocks) e
+
+-- none that is held is empty, so there are no more than blocks
+few_sdus : (us : List (List ℕ)) → AllFull us → length us ≤ blocks_in us
+few_sdus [] f = omega arith
+few_sdus (u ∷ us) f = omega (arith, f.0, few_sdus us f.1)
+
+-- and an SDU that is accepted finds room
+pub room_left : (rules : Rules) (d : ℕ) (v : Outgoing) (s : Sender) (unit : List ℕ) (answer : Offer) → IsOutgoing rules d v s → answer ≡ answer_of unit v.tx_buffer → answer ≡ Accepted → length v.tx_buffer.sdus < v.tx_buffer.blocks
+room_left rules d v s unit answer is e taken = go (is_empty unit) (nat_lt 1500 (length unit)) (nat_le (blocks_in v.tx_buffer.sdus + blocks_for (length unit)) v.tx_buffer.blocks) refl refl (sym taken ∙ e)
+  where
+    full : AllFull v.tx_buffer.sdus
+    full = subst AllFull (sym is.tx_buffer.sdus) (full_drop (released s) s.accepted (cut_full s.accepted s.unsent s.bodies is.cut))
+
+    some : (us : List ℕ) → is_empty us ≡ false → 0 < length us
+    some [] e = absurd (cc)
+    some (x ∷ xs) e = omega arith
+
+    go : (a b c : Bool) → is_empty unit ≡ a → nat_le (blocks_in v.tx_buffer.sdus + blocks_for (length unit)) v.tx_buffer.blocks ≡ c → Accepted ≡ cond (a || b) WrongSize (cond c Accepted Full) → length v.tx_buffer.sdus < v.tx_buffer.blocks
+    go true b c ea ec q = absurd (cc)
+    go false true c ea ec q = absurd (cc)
+    go false false true ea ec q = omega (arith, few_sdus v.tx_buffer.sdus full, leb-true _ _ ec, some unit ea)
+    go false false false ea ec q = absurd (cc)

@@ -6,6 +6,7 @@ use Rattle.std.proofs.lemmas.List.{get_or_append_left}
 use Rattle.std.proofs.Math.Seq.{get_or-append_seam}
 use Rattle.dch_bits.specs.declared.offer.Offer.{Offer}
 use Rattle.dch_bits.specs.declared.offer.Offer.TheVariants.{Accepted, Full, WrongSize}
+use Rattle.dch_retx.specs.declared.sent_pdu.Extent.{Extent}
 use Rattle.dch_retx.specs.declared.sent_pdu.SentPdu.{SentPdu}
 use Rattle.dch_retx.specs.Flights.{at, blank, built, first_wanted, unwanted, wanted_in}
 use Rattle.dch_retx.proofs.Changes.{length-changed}
@@ -27,26 +28,27 @@ use Rattle.dch_status.specs.Fields.{Field}
 use Rattle.dch_retx.specs.declared.buffer.Pick.TheVariants.{Again, New, Last, NoPdu}
 use Rattle.dch_retx.specs.RetxBuffer.{RetxBuffer, discarding, number_at}
 use Rattle.dch_retx.specs.Polling.{again_line, again_poll, last_line, last_poll, new_line, new_poll, picked}
-use Rattle.dch_retx.specs.Standing.{AreKept, IsAlike, IsFlown, IsPolled, IsWanted, Sends, Stands, timed}
+use Rattle.dch_retx.specs.Standing.{AreKept, IsAlike, IsFlown, IsPolled, IsWanted, Sends, Stands as LineStands, timed}
 use Rattle.dch_retx.proofs.Keeping.{discarding_kept, resent_kept}
 use Rattle.dch_retx.proofs.Sending.{again_sends, last_sends, new_sends}
 use Rattle.dch_retx.proofs.Ticking.{discards_stand, number_is}
-use Rattle.dch_unsent.specs.Keeping.{Has, Keeps, Takes, fills, released}
-use Rattle.dch_unsent.specs.Waiting.{IsHere, Waiting, after_build as after_filling, after_offer as after_offering, ended_before, next_flown, released_by, unsent_of}
-use Rattle.dch_unsent.proofs.Offering.{takes_more}
-use Rattle.dch_unsent.proofs.Placing.{IsWhole, here_is}
-use Rattle.dch_unsent.proofs.Taking.{IsFirst, IsLater, ended_few, ended_is, released_keeps, takes_later, takes_longer}
+use Rattle.dch_amsend.specs.BufferStanding.{HasBody, BufferStands, Takes, fills}
+use Rattle.dch_amsend.specs.DiscardStanding.{released}
+use Rattle.dch_amsend.specs.TxBuffer.{IsHere, TxBuffer, buffer_after_build, buffer_after_offer, ended_before, next_flown, released_by, unsent_of}
+use Rattle.dch_amsend.proofs.Offering.{takes_more}
+use Rattle.dch_amsend.proofs.Placing.{IsWhole, here_is}
+use Rattle.dch_amsend.proofs.Extents.{IsFirst, IsLater, ended_few, ended_is, released_keeps, takes_later, takes_longer}
 use Rattle.dch_amsend.specs.Counting.{builds_of}
 use Rattle.dch_am.specs.Texts.{next_pdu, pdu_of_choice}
-use Rattle.dch_amsend.specs.Outgoing.{IsLast, IsOutgoing, IsRunning, Outgoing, available_of, first_flown, new_ends, pdu_in, with_line}
+use Rattle.dch_amsend.specs.Outgoing.{IsLast, IsOutgoing, IsRunning, Outgoing, available_of, first_flown, pdu_in, with_line}
 use Rattle.dch_amsend.proofs.Counting.{counts, no_more}
 
 -- a PDU that is sent alike has the same body
-has_alike : (d : ℕ) (f g : SentPdu) (b : Body) → IsAlike f g → Has d g b → Has d f b
-has_alike d f g b a h = record { full = a.full ∙ h.full; ends = a.ends ∙ h.ends; continues = a.continues ∙ h.continues; short = h.short }
+has_alike : (d : ℕ) (f g : SentPdu) (b : Body) → IsAlike f g → HasBody d g b → HasBody d f b
+has_alike d f g b a h = record { full = a.full ∙ h.full; ends = ap₂ {C = ℕ} (λ (x : Extent) q. x.pieces + cond q 1 0) a.extent a.full ∙ h.ends; continues = ap (λ (x : Extent). nat_lt 0 x.rest) a.extent ∙ h.continues; short = h.short }
 
 -- PDUs in front leave, or are marked, and nothing else is sent
-later : (rules : Rules) (d : ℕ) (v : Outgoing) (s now : Sender) (l : RetxBuffer) → IsOutgoing rules d v s → Stands rules l now → AreKept v.line.flown l.flown → Alike s now → IsLater s now
+later : (rules : Rules) (d : ℕ) (v : Outgoing) (s now : Sender) (l : RetxBuffer) → IsOutgoing rules d v s → LineStands rules l now → AreKept v.line.flown l.flown → Alike s now → IsLater s now
 later rules d v s now l is stands kept same = record {
   accepted = same.accepted;
   bodies = same.bodies;
@@ -56,10 +58,10 @@ later rules d v s now l is stands kept same = record {
 
 -- a PDU that stays in flight
 pub record IsKept (d : ℕ) (s : Sender) (k : ℕ) (f : SentPdu) : Type 0 where
-  pub has : Has d f (body_at s.bodies k)
+  pub has : HasBody d f (body_at s.bodies k)
   pub takes : Takes s k f.extent
 
-stays : (rules : Rules) (d : ℕ) (v : Outgoing) (s now : Sender) (l : RetxBuffer) (i : ℕ) → i < length l.flown → IsOutgoing rules d v s → Stands rules l now → AreKept v.line.flown l.flown → Alike s now → IsKept d now (vt_a now + i) (at l.flown i)
+stays : (rules : Rules) (d : ℕ) (v : Outgoing) (s now : Sender) (l : RetxBuffer) (i : ℕ) → i < length l.flown → IsOutgoing rules d v s → LineStands rules l now → AreKept v.line.flown l.flown → Alike s now → IsKept d now (vt_a now + i) (at l.flown i)
 stays rules d v s now l i inside is stands kept same =
     let place : ℕ = length v.line.flown - length l.flown + i in
     let within : length v.line.flown - length l.flown + i < length v.line.flown = omega (arith, kept.few, inside) in
@@ -68,12 +70,12 @@ stays rules d v s now l i inside is stands kept same =
     let alike = kept.same i inside in
     let takes : Takes s (vt_a now + i) (at v.line.flown place).extent = subst (λ k. Takes s k (at v.line.flown place).extent) number (is.taken place within) in
     record {
-      has = subst (Has d (at l.flown i)) body (has_alike d (at l.flown i) (at v.line.flown place) (body_at s.bodies (vt_a s + place)) alike (is.flown place within));
+      has = subst (HasBody d (at l.flown i)) body (has_alike d (at l.flown i) (at v.line.flown place) (body_at s.bodies (vt_a s + place)) alike (is.flown place within));
       takes = takes_later s now (vt_a now + i) (at l.flown i).extent (later rules d v s now l is stands kept same) (subst (λ x. Takes s (vt_a now + i) x) (sym alike.extent) takes);
     }
 
 -- the first PDU in flight is the one of the lowest open number
-first_is : (rules : Rules) (d : ℕ) (l : RetxBuffer) (s : Sender) → Stands rules l s → ((i : ℕ) → i < length l.flown → IsKept d s (vt_a s + i) (at l.flown i)) → IsFirst s (first_flown l.flown)
+first_is : (rules : Rules) (d : ℕ) (l : RetxBuffer) (s : Sender) → LineStands rules l s → ((i : ℕ) → i < length l.flown → IsKept d s (vt_a s + i) (at l.flown i)) → IsFirst s (first_flown l.flown)
 first_is rules d l s stands kept = go l.flown stands.flying kept
   where
     go : (fs : List SentPdu) → vt_a s + length fs ≡ vt_s s → ((i : ℕ) → i < length fs → IsKept d s (vt_a s + i) (at fs i)) → IsFirst s (first_flown fs)
@@ -84,22 +86,22 @@ first_is rules d l s stands kept = go l.flown stands.flying kept
         (omega (arith, e), here.takes, here.has.full)
 
 -- PDUs in front leave, with the SDUs that end before those that stay
-pub leave_goes : (rules : Rules) (d : ℕ) (v : Outgoing) (s now : Sender) (l : RetxBuffer) → IsOutgoing rules d v s → Stands rules l now → AreKept v.line.flown l.flown → Alike s now → IsOutgoing rules d (record { size = v.size; line = l; waiting = released_by (ended_before (first_flown l.flown) v.waiting) v.waiting }) now
+pub leave_goes : (rules : Rules) (d : ℕ) (v : Outgoing) (s now : Sender) (l : RetxBuffer) → IsOutgoing rules d v s → LineStands rules l now → AreKept v.line.flown l.flown → Alike s now → IsOutgoing rules d (record { size = v.size; line = l; tx_buffer = released_by (ended_before (first_flown l.flown) v.tx_buffer) v.tx_buffer }) now
 leave_goes rules d v s now l is stands kept same = record {
   size = is.size;
   line = stands;
-  waiting = released_keeps d v.waiting s now (first_flown l.flown) is.waiting (later rules d v s now l is stands kept same) (first_is rules d l now stands (λ i inside. stays rules d v s now l i inside is stands kept same));
+  tx_buffer = released_keeps d v.tx_buffer s now (first_flown l.flown) is.tx_buffer (later rules d v s now l is stands kept same) (first_is rules d l now stands (λ i inside. stays rules d v s now l i inside is stands kept same));
   room = is.room;
   cut = subst (λ us. IsCut us now.unsent now.bodies) (sym same.accepted) (subst (λ q. IsCut s.accepted q now.bodies) (sym same.unsent) (subst (λ bs. IsCut s.accepted s.unsent bs) (sym same.bodies) is.cut));
   flown = λ i inside. (stays rules d v s now l i inside is stands kept same).has;
   taken = λ i inside. (stays rules d v s now l i inside is stands kept same).takes;
 }
 
-pub leave_few : (rules : Rules) (d : ℕ) (v : Outgoing) (s now : Sender) (l : RetxBuffer) → IsOutgoing rules d v s → Stands rules l now → AreKept v.line.flown l.flown → Alike s now → ended_before (first_flown l.flown) v.waiting ≤ v.waiting.start.sdu
-leave_few rules d v s now l is stands kept same = ended_few d v.waiting s now (first_flown l.flown) is.waiting (later rules d v s now l is stands kept same) (first_is rules d l now stands (λ i inside. stays rules d v s now l i inside is stands kept same))
+pub leave_few : (rules : Rules) (d : ℕ) (v : Outgoing) (s now : Sender) (l : RetxBuffer) → IsOutgoing rules d v s → LineStands rules l now → AreKept v.line.flown l.flown → Alike s now → ended_before (first_flown l.flown) v.tx_buffer ≤ v.tx_buffer.start.sdu
+leave_few rules d v s now l is stands kept same = ended_few d v.tx_buffer s now (first_flown l.flown) is.tx_buffer (later rules d v s now l is stands kept same) (first_is rules d l now stands (λ i inside. stays rules d v s now l i inside is stands kept same))
 
 -- no PDU leaves, and nothing else is sent
-keeps_same : (d : ℕ) (w : Waiting) (s now : Sender) → Alike s now → vt_a now ≡ vt_a s → Keeps d w s → Keeps d w now
+keeps_same : (d : ℕ) (w : TxBuffer) (s now : Sender) → Alike s now → vt_a now ≡ vt_a s → BufferStands d w s → BufferStands d w now
 keeps_same d w s now same low keeps =
     let r : released now ≡ released s = ap₂ (λ k bs. ends (take k bs)) low same.bodies in
     record {
@@ -113,11 +115,11 @@ keeps_same d w s now same low keeps =
       small = keeps.small;
     }
 
-pub line_goes : (rules : Rules) (d : ℕ) (v : Outgoing) (s now : Sender) (l : RetxBuffer) → IsOutgoing rules d v s → Stands rules l now → AreKept v.line.flown l.flown → length l.flown ≡ length v.line.flown → Alike s now → IsOutgoing rules d (with_line l v) now
+pub line_goes : (rules : Rules) (d : ℕ) (v : Outgoing) (s now : Sender) (l : RetxBuffer) → IsOutgoing rules d v s → LineStands rules l now → AreKept v.line.flown l.flown → length l.flown ≡ length v.line.flown → Alike s now → IsOutgoing rules d (with_line l v) now
 line_goes rules d v s now l is stands kept all same = record {
   size = is.size;
   line = stands;
-  waiting = keeps_same d v.waiting s now same (omega (arith, all, is.line.flying, stands.flying, ap (λ (bs : List Body). length bs) same.bodies)) is.waiting;
+  tx_buffer = keeps_same d v.tx_buffer s now same (omega (arith, all, is.line.flying, stands.flying, ap (λ (bs : List Body). length bs) same.bodies)) is.tx_buffer;
   room = is.room;
   cut = subst (λ us. IsCut us now.unsent now.bodies) (sym same.accepted) (subst (λ q. IsCut s.accepted q now.bodies) (sym same.unsent) (subst (λ bs. IsCut s.accepted s.unsent bs) (sym same.bodies) is.cut));
   flown = λ i inside. (stays rules d v s now l i inside is stands kept same).has;
@@ -125,29 +127,29 @@ line_goes rules d v s now l is stands kept all same = record {
 }
 
 -- a status
-pub hears_goes : (rules : Rules) (d : ℕ) (v : Outgoing) (s : Sender) (l : RetxBuffer) (fields : List Field) → IsOutgoing rules d v s → Stands rules l (after_fields rules s fields) → AreKept v.line.flown l.flown → IsOutgoing rules d (record { size = v.size; line = l; waiting = released_by (ended_before (first_flown l.flown) v.waiting) v.waiting }) (after_fields rules s fields)
+pub hears_goes : (rules : Rules) (d : ℕ) (v : Outgoing) (s : Sender) (l : RetxBuffer) (fields : List Field) → IsOutgoing rules d v s → LineStands rules l (after_fields rules s fields) → AreKept v.line.flown l.flown → IsOutgoing rules d (record { size = v.size; line = l; tx_buffer = released_by (ended_before (first_flown l.flown) v.tx_buffer) v.tx_buffer }) (after_fields rules s fields)
 hears_goes rules d v s l fields is stands kept = leave_goes rules d v s (after_fields rules s fields) l is stands kept (alike_answer s fields (status_answer rules s fields))
 
-pub hears_few : (rules : Rules) (d : ℕ) (v : Outgoing) (s : Sender) (l : RetxBuffer) (fields : List Field) → IsOutgoing rules d v s → Stands rules l (after_fields rules s fields) → AreKept v.line.flown l.flown → ended_before (first_flown l.flown) v.waiting ≤ v.waiting.start.sdu
+pub hears_few : (rules : Rules) (d : ℕ) (v : Outgoing) (s : Sender) (l : RetxBuffer) (fields : List Field) → IsOutgoing rules d v s → LineStands rules l (after_fields rules s fields) → AreKept v.line.flown l.flown → ended_before (first_flown l.flown) v.tx_buffer ≤ v.tx_buffer.start.sdu
 hears_few rules d v s l fields is stands kept = leave_few rules d v s (after_fields rules s fields) l is stands kept (alike_answer s fields (status_answer rules s fields))
 
 kept_all : (fs : List SentPdu) → AreKept fs fs
 kept_all fs = record {
   few = omega arith;
-  same = λ i inside. let e : length fs - length fs + i ≡ i = omega arith in subst (λ j. IsAlike (at fs i) (at fs j)) (sym e) (record { extent = refl; full = refl; ends = refl; continues = refl });
+  same = λ i inside. let e : length fs - length fs + i ≡ i = omega arith in subst (λ j. IsAlike (at fs i) (at fs j)) (sym e) (record { extent = refl; full = refl });
 }
 
 -- one that is refused lets no SDU leave
-pub none_leaves : (rules : Rules) (d : ℕ) (v : Outgoing) (s : Sender) (l : RetxBuffer) → IsOutgoing rules d v s → l ≡ v.line → released_by (ended_before (first_flown l.flown) v.waiting) v.waiting ≡ v.waiting
+pub none_leaves : (rules : Rules) (d : ℕ) (v : Outgoing) (s : Sender) (l : RetxBuffer) → IsOutgoing rules d v s → l ≡ v.line → released_by (ended_before (first_flown l.flown) v.tx_buffer) v.tx_buffer ≡ v.tx_buffer
 none_leaves rules d v s l is e =
     let same : Alike s s = record { accepted = refl; cuts = refl; bodies = refl; unsent = refl } in
     let stay : AreKept v.line.flown v.line.flown = kept_all v.line.flown in
-    let none : ended_before (first_flown v.line.flown) v.waiting ≡ 0 = omega (arith, ended_is d v.waiting s s (first_flown v.line.flown) is.waiting (later rules d v s s v.line is is.line stay same) (first_is rules d v.line s is.line (λ i inside. stays rules d v s s v.line i inside is is.line stay same))) in
-    let start : v.waiting.start.sdu - 0 ≡ v.waiting.start.sdu = omega arith in
-    let gone : (v.waiting.gone + 0) % 65536 ≡ v.waiting.gone = omega (arith, is.waiting.gone) in
-    ap (λ (x : RetxBuffer). released_by (ended_before (first_flown x.flown) v.waiting) v.waiting) e
-    ∙ (ap (λ n. released_by n v.waiting) none
-    ∙ ap₂ (λ a b. record v.waiting { start = record { sdu = a; used = v.waiting.start.used }; gone = b }) start gone)
+    let none : ended_before (first_flown v.line.flown) v.tx_buffer ≡ 0 = omega (arith, ended_is d v.tx_buffer s s (first_flown v.line.flown) is.tx_buffer (later rules d v s s v.line is is.line stay same) (first_is rules d v.line s is.line (λ i inside. stays rules d v s s v.line i inside is is.line stay same))) in
+    let start : v.tx_buffer.start.sdu - 0 ≡ v.tx_buffer.start.sdu = omega arith in
+    let gone : (v.tx_buffer.gone + 0) % 65536 ≡ v.tx_buffer.gone = omega (arith, is.tx_buffer.gone) in
+    ap (λ (x : RetxBuffer). released_by (ended_before (first_flown x.flown) v.tx_buffer) v.tx_buffer) e
+    ∙ (ap (λ n. released_by n v.tx_buffer) none
+    ∙ ap₂ (λ a b. record v.tx_buffer { start = record { sdu = a; used = v.tx_buffer.start.used }; gone = b }) start gone)
 
 -- the beginning of a discard
 pub discards_goes : (rules : Rules) (d : ℕ) (v : Outgoing) (s : Sender) (l : RetxBuffer) (place n i : ℕ) → place < length v.line.flown → l ≡ discarding place n v.line → IsOutgoing rules d v s → IsOutgoing rules d (with_line l v) (discards_at s i (Some (vt_a s + place, n)))
@@ -164,13 +166,13 @@ cut_short n w k f b one = go (nat_lt 0 (min n w + k)) (nat_lt 0 (w + k)) refl re
     go false true ex ey = absurd (omega (arith, ltb-false _ _ ex, ltb-true _ _ ey))
     go false false ex ey = refl
 
-octets_is : (d : ℕ) (w : Waiting) (s : Sender) → Keeps d w s → w.size - 2 ≡ d
+octets_is : (d : ℕ) (w : TxBuffer) (s : Sender) → BufferStands d w s → w.size - 2 ≡ d
 octets_is d w s keeps = omega (arith, keeps.size)
 
-available_within : (n : ℕ) (rules : Rules) (d : ℕ) (v : Outgoing) (s : Sender) → 0 < n → IsOutgoing rules d v s → min n (builds_of (min n (wanted_in v.line.flown)) (min (v.line.window - length v.line.flown) (fills n (v.waiting.size - 2) (unsent_of v.waiting))) v.line.owed (length v.line.flown)) ≡ builds_within n rules d s
+available_within : (n : ℕ) (rules : Rules) (d : ℕ) (v : Outgoing) (s : Sender) → 0 < n → IsOutgoing rules d v s → min n (builds_of (min n (wanted_in v.line.flown)) (min (v.line.window - length v.line.flown) (fills n (v.tx_buffer.size - 2) (unsent_of v.tx_buffer))) v.line.owed (length v.line.flown)) ≡ builds_within n rules d s
 available_within n rules d v s one is =
-    cut_short n (wanted_in v.line.flown) (min (v.line.window - length v.line.flown) (fills n (v.waiting.size - 2) (unsent_of v.waiting))) (length v.line.flown) v.line.owed one
-    ∙ (ap₂ (λ w k. min n (builds_of (wanted_in v.line.flown) (min (w - length v.line.flown) k) v.line.owed (length v.line.flown))) is.line.window (ap₂ (fills n) (octets_is d v.waiting s is.waiting) is.waiting.unsent)
+    cut_short n (wanted_in v.line.flown) (min (v.line.window - length v.line.flown) (fills n (v.tx_buffer.size - 2) (unsent_of v.tx_buffer))) (length v.line.flown) v.line.owed one
+    ∙ (ap₂ (λ w k. min n (builds_of (wanted_in v.line.flown) (min (w - length v.line.flown) k) v.line.owed (length v.line.flown))) is.line.window (ap₂ (fills n) (octets_is d v.tx_buffer s is.tx_buffer) is.tx_buffer.unsent)
     ∙ (ap (λ b. min n (builds_of (wanted_in v.line.flown) (min (rules.window - length v.line.flown) (fills n d s.unsent)) b (length v.line.flown))) is.line.owed
     ∙ sym (counts n rules d v.line s is.line)))
 
@@ -178,41 +180,39 @@ pub available_is : (rules : Rules) (d : ℕ) (v : Outgoing) (s : Sender) → IsO
 unfolding available
 available_is rules d v s is = available_within 64 rules d v s (omega arith) is
 
--- what a build gives: the octets, how many units end in it where it is new, and what is left standing
-pub record Built (rules : Rules) (d : ℕ) (s : Sender) (out : List ℕ) (ends : Option ℕ) (v : Outgoing) (c : Choice) : Type 0 where
+-- what a build gives: the octets, and what is left standing
+pub record Built (rules : Rules) (d : ℕ) (s : Sender) (out : List ℕ) (v : Outgoing) (c : Choice) : Type 0 where
   pub text : out ≡ pdu_of_choice rules d s c
-  pub new : ends ≡ new_ends d s c
   pub goes : IsOutgoing rules d v (after_choice c rules d s)
   pub short : IsShort d (body_of_choice c d s)
 
-pub built_by : (rules : Rules) (d : ℕ) (s : Sender) (out : List ℕ) (ends : Option ℕ) (v : Outgoing) (c : Choice) → c ≡ choice rules s → Built rules d s out ends v c → (out ≡ next_pdu rules d s) × (ends ≡ new_ends d s (choice rules s)) × IsOutgoing rules d v (after_build rules d s) × IsShort d (body_of_choice (choice rules s) d s)
-built_by rules d s out ends v c e is = let b : Built rules d s out ends v (choice rules s) = subst (Built rules d s out ends v) e is in (b.text, b.new, b.goes, b.short)
+pub built_by : (rules : Rules) (d : ℕ) (s : Sender) (out : List ℕ) (v : Outgoing) (c : Choice) → c ≡ choice rules s → Built rules d s out v c → (out ≡ next_pdu rules d s) × IsOutgoing rules d v (after_build rules d s) × IsShort d (body_of_choice (choice rules s) d s)
+built_by rules d s out v c e is = let b : Built rules d s out v (choice rules s) = subst (Built rules d s out v) e is in (b.text, b.goes, b.short)
 
 -- the octets of a PDU in flight
-pdu_is : (rules : Rules) (d : ℕ) (v : Outgoing) (s : Sender) (k number : ℕ) (poll : Bool) (f : SentPdu) → Keeps d v.waiting s → Takes s k f.extent → Has d f (body_at s.bodies k) → vt_a s ≤ k → k < vt_s s → pdu_in number poll f v ≡ am_pdu number poll (marks_of d (body_at s.bodies k)) (carried (body_at s.bodies k)) (d + 2)
+pdu_is : (rules : Rules) (d : ℕ) (v : Outgoing) (s : Sender) (k number : ℕ) (poll : Bool) (f : SentPdu) → BufferStands d v.tx_buffer s → Takes s k f.extent → HasBody d f (body_at s.bodies k) → vt_a s ≤ k → k < vt_s s → pdu_in number poll f v ≡ am_pdu number poll (marks_of d (body_at s.bodies k)) (carried (body_at s.bodies k)) (d + 2)
 pdu_is rules d v s k number poll f keeps takes has low inside =
-    let is : IsWhole v.waiting f (body_at s.bodies k) = here_is d v.waiting s k f keeps takes has low inside in
-    ap₂ (λ n b. am_pdu number poll (marks_of n b) (carried b) v.waiting.size) (octets_is d v.waiting s keeps) is.body ∙ ap (am_pdu number poll (marks_of d (body_at s.bodies k)) (carried (body_at s.bodies k))) keeps.size
+    let is : IsWhole v.tx_buffer f (body_at s.bodies k) = here_is d v.tx_buffer s k f keeps takes has low inside in
+    ap₂ (λ n b. am_pdu number poll (marks_of n b) (carried b) v.tx_buffer.size) (octets_is d v.tx_buffer s keeps) is.body ∙ ap (am_pdu number poll (marks_of d (body_at s.bodies k)) (carried (body_at s.bodies k))) keeps.size
 
 -- a PDU has as many octets
-pub size_same : (v : Outgoing) → IsRunning v → v.waiting.size ≡ v.size
-size_same v run = run.stands.waiting.size ∙ sym run.stands.size
+pub size_same : (v : Outgoing) → IsRunning v → v.tx_buffer.size ≡ v.size
+size_same v run = run.stands.tx_buffer.size ∙ sym run.stands.size
 
-pub place_here : (rules : Rules) (d : ℕ) (v : Outgoing) (s : Sender) (place : ℕ) → place < length v.line.flown → IsOutgoing rules d v s → IsHere v.waiting (at v.line.flown place)
-place_here rules d v s place inside is = (here_is d v.waiting s (vt_a s + place) (at v.line.flown place) is.waiting (is.taken place inside) (is.flown place inside) (omega arith) (omega (arith, inside, is.line.flying))).here
+pub place_here : (rules : Rules) (d : ℕ) (v : Outgoing) (s : Sender) (place : ℕ) → place < length v.line.flown → IsOutgoing rules d v s → IsHere v.tx_buffer (at v.line.flown place)
+place_here rules d v s place inside is = (here_is d v.tx_buffer s (vt_a s + place) (at v.line.flown place) is.tx_buffer (is.taken place inside) (is.flown place inside) (omega arith) (omega (arith, inside, is.line.flying))).here
 
 -- a PDU in flight is built again
 pub again_stands : (rules : Rules) (d : ℕ) (v : Outgoing) (s : Sender) (place : ℕ) → place < length v.line.flown → IsOutgoing rules d v s → IsOutgoing rules d (with_line (again_line place v.line) v) (after_choice (Requested (vt_a s + place)) rules d s)
 again_stands rules d v s place inside is = line_goes rules d v s (after_choice (Requested (vt_a s + place)) rules d s) (again_line place v.line) is (again_sends rules v.line s place d inside is.line).stands (resent_kept place v.line) (length-set v.line.flown place (built (at v.line.flown place))) (record { accepted = refl; cuts = refl; bodies = refl; unsent = refl })
 
-pub again_goes : (rules : Rules) (d : ℕ) (v now : Outgoing) (s : Sender) (place : ℕ) (out : List ℕ) → place < length v.line.flown → IsOutgoing rules d v s → now ≡ with_line (again_line place v.line) v → out ≡ pdu_in (number_at place v.line) (again_poll place v.line) (at v.line.flown place) v → Built rules d s out None now (Requested (vt_a s + place))
+pub again_goes : (rules : Rules) (d : ℕ) (v now : Outgoing) (s : Sender) (place : ℕ) (out : List ℕ) → place < length v.line.flown → IsOutgoing rules d v s → now ≡ with_line (again_line place v.line) v → out ≡ pdu_in (number_at place v.line) (again_poll place v.line) (at v.line.flown place) v → Built rules d s out now (Requested (vt_a s + place))
 again_goes rules d v now s place out inside is e text =
     let sends = again_sends rules v.line s place d inside is.line in
-    let h : Has d (at v.line.flown place) (body_at s.bodies (vt_a s + place)) = is.flown place inside in
+    let h : HasBody d (at v.line.flown place) (body_at s.bodies (vt_a s + place)) = is.flown place inside in
     record {
-      text = text ∙ (pdu_is rules d v s (vt_a s + place) (number_at place v.line) (again_poll place v.line) (at v.line.flown place) is.waiting (is.taken place inside) h (omega arith) (omega (arith, inside, is.line.flying))
+      text = text ∙ (pdu_is rules d v s (vt_a s + place) (number_at place v.line) (again_poll place v.line) (at v.line.flown place) is.tx_buffer (is.taken place inside) h (omega arith) (omega (arith, inside, is.line.flying))
           ∙ ap₂ (λ n p. am_pdu n p (marks_of d (body_at s.bodies (vt_a s + place))) (carried (body_at s.bodies (vt_a s + place))) (d + 2)) (number_is rules v.line s place (omega (arith, inside)) is.line) sends.poll);
-      new = refl;
       goes = subst (λ x. IsOutgoing rules d x (after_choice (Requested (vt_a s + place)) rules d s)) (sym e) (again_stands rules d v s place inside is);
       short = h.short;
     }
@@ -220,14 +220,13 @@ again_goes rules d v now s place out inside is e text =
 pub last_stands : (rules : Rules) (d : ℕ) (v : Outgoing) (s : Sender) (place : ℕ) → place < length v.line.flown → vt_a s + place ≡ vt_s s - 1 → has (vt_a s + place) s.requested ≡ false → IsOutgoing rules d v s → IsOutgoing rules d (with_line (last_line place v.line) v) (after_choice (Latest (vt_a s + place)) rules d s)
 last_stands rules d v s place inside last none is = line_goes rules d v s (after_choice (Latest (vt_a s + place)) rules d s) (last_line place v.line) is (last_sends rules v.line s place d inside last none is.line).stands (resent_kept place v.line) (length-set v.line.flown place (built (at v.line.flown place))) (record { accepted = refl; cuts = refl; bodies = refl; unsent = refl })
 
-pub last_goes : (rules : Rules) (d : ℕ) (v now : Outgoing) (s : Sender) (place : ℕ) (out : List ℕ) → place < length v.line.flown → vt_a s + place ≡ vt_s s - 1 → has (vt_a s + place) s.requested ≡ false → IsOutgoing rules d v s → now ≡ with_line (last_line place v.line) v → out ≡ pdu_in (number_at place v.line) (last_poll place v.line) (at v.line.flown place) v → Built rules d s out None now (Latest (vt_a s + place))
+pub last_goes : (rules : Rules) (d : ℕ) (v now : Outgoing) (s : Sender) (place : ℕ) (out : List ℕ) → place < length v.line.flown → vt_a s + place ≡ vt_s s - 1 → has (vt_a s + place) s.requested ≡ false → IsOutgoing rules d v s → now ≡ with_line (last_line place v.line) v → out ≡ pdu_in (number_at place v.line) (last_poll place v.line) (at v.line.flown place) v → Built rules d s out now (Latest (vt_a s + place))
 last_goes rules d v now s place out inside last none is e text =
     let sends = last_sends rules v.line s place d inside last none is.line in
-    let h : Has d (at v.line.flown place) (body_at s.bodies (vt_a s + place)) = is.flown place inside in
+    let h : HasBody d (at v.line.flown place) (body_at s.bodies (vt_a s + place)) = is.flown place inside in
     record {
-      text = text ∙ (pdu_is rules d v s (vt_a s + place) (number_at place v.line) (last_poll place v.line) (at v.line.flown place) is.waiting (is.taken place inside) h (omega arith) (omega (arith, inside, is.line.flying))
+      text = text ∙ (pdu_is rules d v s (vt_a s + place) (number_at place v.line) (last_poll place v.line) (at v.line.flown place) is.tx_buffer (is.taken place inside) h (omega arith) (omega (arith, inside, is.line.flying))
           ∙ ap₂ (λ n p. am_pdu n p (marks_of d (body_at s.bodies (vt_a s + place))) (carried (body_at s.bodies (vt_a s + place))) (d + 2)) (number_is rules v.line s place (omega (arith, inside)) is.line) sends.poll);
-      new = refl;
       goes = subst (λ x. IsOutgoing rules d x (after_choice (Latest (vt_a s + place)) rules d s)) (sym e) (last_stands rules d v s place inside last none is);
       short = h.short;
     }
@@ -238,15 +237,15 @@ unfolding available
 none_goes rules d v s some is e = omega (arith, available_is rules d v s is, no_more 63 rules d s e)
 
 -- a new PDU
-pub record IsFilled (d : ℕ) (v : Outgoing) (s : Sender) (f : SentPdu) (waiting : Waiting) : Type 0 where
-  pub fresh : f ≡ next_flown v.waiting
-  pub has : Has d f (next_body d s.unsent)
+pub record IsFilled (d : ℕ) (v : Outgoing) (s : Sender) (f : SentPdu) (tx_buffer : TxBuffer) : Type 0 where
+  pub fresh : f ≡ next_flown v.tx_buffer
+  pub has : HasBody d f (next_body d s.unsent)
   pub takes : Takes (anew d s) (vt_s s) f.extent
-  pub keeps : Keeps d waiting (anew d s)
-  pub after : waiting ≡ after_filling v.waiting
+  pub keeps : BufferStands d tx_buffer (anew d s)
+  pub after : tx_buffer ≡ buffer_after_build v.tx_buffer
 
 -- the lowest open number stays
-pub low_next : (rules : Rules) (d : ℕ) (l : RetxBuffer) (s : Sender) → Stands rules l s → vt_a (anew d s) ≡ vt_a s
+pub low_next : (rules : Rules) (d : ℕ) (l : RetxBuffer) (s : Sender) → LineStands rules l s → vt_a (anew d s) ≡ vt_a s
 low_next rules d l s is =
     let none : has (vt_s s) s.acked ≡ false = not_sent (has (vt_s s) s.acked) refl in
     let longer : length (s.bodies ++ next_body d s.unsent ∷ []) ≡ suc (vt_s s) = omega (arith, length-append s.bodies (next_body d s.unsent ∷ [])) in
@@ -256,8 +255,8 @@ low_next rules d l s is =
     not_sent true e = absurd (omega (arith, is.acked_sent (vt_s s) e))
     not_sent false e = refl
 
-new_sent : (rules : Rules) (d : ℕ) (v : Outgoing) (s : Sender) (f : SentPdu) (waiting : Waiting) (left : Bool) → length v.line.flown < v.line.window → IsOutgoing rules d v s → IsFilled d v s f waiting → left ≡ is_left (after_body d s.unsent) → Sends rules (new_poll f left v.line) (new_line f left v.line) (anew_polls rules d s) (after_choice Fresh rules d s)
-new_sent rules d v s f waiting left room is filled left_e = new_sends rules v.line s f left d (omega (arith, room, is.line.window)) (record {
+new_sent : (rules : Rules) (d : ℕ) (v : Outgoing) (s : Sender) (f : SentPdu) (tx_buffer : TxBuffer) (left : Bool) → length v.line.flown < v.line.window → IsOutgoing rules d v s → IsFilled d v s f tx_buffer → left ≡ is_left (after_body d s.unsent) → Sends rules (new_poll f left v.line) (new_line f left v.line) (anew_polls rules d s) (after_choice Fresh rules d s)
+new_sent rules d v s f tx_buffer left room is filled left_e = new_sends rules v.line s f left d (omega (arith, room, is.line.window)) (record {
   acked = ap (λ (g : SentPdu). g.acked) filled.fresh;
   requested = ap (λ (g : SentPdu). g.requested) filled.fresh;
   named = ap (λ (g : SentPdu). g.named) filled.fresh;
@@ -269,15 +268,15 @@ new_sent rules d v s f waiting left room is filled left_e = new_sends rules v.li
 record IsWith (rules : Rules) (d : ℕ) (s : Sender) (fs : List SentPdu) (f : SentPdu) (i : ℕ) : Type 0 where
   kept : IsKept d (anew d s) (vt_a s + i) (at (fs ++ f ∷ []) i)
 
-with_new : (rules : Rules) (d : ℕ) (v : Outgoing) (s : Sender) (f : SentPdu) (waiting : Waiting) (i : ℕ) → i < length v.line.flown + 1 → IsOutgoing rules d v s → IsFilled d v s f waiting → IsWith rules d s v.line.flown f i
-with_new rules d v s f waiting i inner is filled = ⊎_elim
+with_new : (rules : Rules) (d : ℕ) (v : Outgoing) (s : Sender) (f : SentPdu) (tx_buffer : TxBuffer) (i : ℕ) → i < length v.line.flown + 1 → IsOutgoing rules d v s → IsFilled d v s f tx_buffer → IsWith rules d s v.line.flown f i
+with_new rules d v s f tx_buffer i inner is filled = ⊎_elim
     (λ (m : i < length v.line.flown).
     let place : at (v.line.flown ++ f ∷ []) i ≡ at v.line.flown i = get_or_append_left v.line.flown (f ∷ []) blank i m in
     let inside : vt_a s + i < length s.bodies = omega (arith, m, is.line.flying) in
     let body_is : body_at (s.bodies ++ next_body d s.unsent ∷ []) (vt_a s + i) ≡ body_at s.bodies (vt_a s + i) = get_or_append_left s.bodies (next_body d s.unsent ∷ []) no_body (vt_a s + i) inside in
     record {
       kept = subst (λ g. IsKept d (anew d s) (vt_a s + i) g) (sym place) (record {
-        has = subst (Has d (at v.line.flown i)) (sym body_is) (is.flown i m);
+        has = subst (HasBody d (at v.line.flown i)) (sym body_is) (is.flown i m);
         takes = takes_longer d s (vt_a s + i) (at v.line.flown i).extent inside (is.taken i m);
       });
     })
@@ -288,18 +287,18 @@ with_new rules d v s f waiting i inner is filled = ⊎_elim
     let body_is : body_at (s.bodies ++ next_body d s.unsent ∷ []) (vt_a s + i) ≡ next_body d s.unsent = ap (body_at (s.bodies ++ next_body d s.unsent ∷ [])) number ∙ get_or-append_seam s.bodies (next_body d s.unsent) [] no_body in
     record {
       kept = subst (λ g. IsKept d (anew d s) (vt_a s + i) g) (sym place) (record {
-        has = subst (Has d f) (sym body_is) filled.has;
+        has = subst (HasBody d f) (sym body_is) filled.has;
         takes = subst (λ k. Takes (anew d s) k f.extent) (sym number) filled.takes;
       });
     })
     (cases_lt i (length v.line.flown))
 
-pub new_stands : (rules : Rules) (d : ℕ) (v : Outgoing) (s : Sender) (f : SentPdu) (waiting : Waiting) (l : RetxBuffer) (left : Bool) → length v.line.flown < v.line.window → IsOutgoing rules d v s → IsFilled d v s f waiting → left ≡ is_left (after_body d s.unsent) → l ≡ new_line f left v.line → IsOutgoing rules d (record { size = v.size; line = l; waiting = waiting }) (after_choice Fresh rules d s)
-new_stands rules d v s f waiting l left room is filled left_e line_e = record {
+pub new_stands : (rules : Rules) (d : ℕ) (v : Outgoing) (s : Sender) (f : SentPdu) (tx_buffer : TxBuffer) (l : RetxBuffer) (left : Bool) → length v.line.flown < v.line.window → IsOutgoing rules d v s → IsFilled d v s f tx_buffer → left ≡ is_left (after_body d s.unsent) → l ≡ new_line f left v.line → IsOutgoing rules d (record { size = v.size; line = l; tx_buffer = tx_buffer }) (after_choice Fresh rules d s)
+new_stands rules d v s f tx_buffer l left room is filled left_e line_e = record {
   size = is.size;
-  line = subst (λ x. Stands rules x (after_choice Fresh rules d s)) (sym line_e) (new_sent rules d v s f waiting left room is filled left_e).stands;
-  waiting = keeps_same d waiting (anew d s) (after_choice Fresh rules d s) (record { accepted = refl; cuts = refl; bodies = refl; unsent = refl }) refl filled.keeps;
-  room = ap (λ (w : Waiting). w.blocks) filled.after ∙ is.room;
+  line = subst (λ x. LineStands rules x (after_choice Fresh rules d s)) (sym line_e) (new_sent rules d v s f tx_buffer left room is filled left_e).stands;
+  tx_buffer = keeps_same d tx_buffer (anew d s) (after_choice Fresh rules d s) (record { accepted = refl; cuts = refl; bodies = refl; unsent = refl }) refl filled.keeps;
+  room = ap (λ (w : TxBuffer). w.blocks) filled.after ∙ is.room;
   cut = cut_next d s.accepted s.unsent s.bodies is.cut;
   flown = λ i inner. (kept i inner).has;
   taken = λ i inner. takes_later (anew d s) (after_choice Fresh rules d s) (vt_a (after_choice Fresh rules d s) + i) (at l.flown i).extent (record { accepted = refl; bodies = refl; unsent = refl; low = omega arith }) (kept i inner).takes;
@@ -315,34 +314,33 @@ new_stands rules d v s f waiting l left room is filled left_e line_e = record {
     kept i inner =
         let less : i < length v.line.flown + 1 = omega (arith, inner, ap (λ (fs : List SentPdu). length fs) flown_line, length-append v.line.flown (f ∷ [])) in
         subst (λ fs. IsKept d (anew d s) (vt_a (anew d s) + i) (at fs i)) (sym flown_line)
-        (subst (λ a. IsKept d (anew d s) (a + i) (at (v.line.flown ++ f ∷ []) i)) (sym low) (with_new rules d v s f waiting i less is filled).kept)
+        (subst (λ a. IsKept d (anew d s) (a + i) (at (v.line.flown ++ f ∷ []) i)) (sym low) (with_new rules d v s f tx_buffer i less is filled).kept)
 
 -- its octets are in the buffer
-new_whole : (rules : Rules) (d : ℕ) (v : Outgoing) (s : Sender) (f : SentPdu) (waiting : Waiting) → IsOutgoing rules d v s → IsFilled d v s f waiting → IsWhole waiting f (next_body d s.unsent)
-new_whole rules d v s f waiting is filled =
+new_whole : (rules : Rules) (d : ℕ) (v : Outgoing) (s : Sender) (f : SentPdu) (tx_buffer : TxBuffer) → IsOutgoing rules d v s → IsFilled d v s f tx_buffer → IsWhole tx_buffer f (next_body d s.unsent)
+new_whole rules d v s f tx_buffer is filled =
     let here : body_at (s.bodies ++ next_body d s.unsent ∷ []) (vt_s s) ≡ next_body d s.unsent = get_or-append_seam s.bodies (next_body d s.unsent) [] no_body in
-    subst (IsWhole waiting f) here (here_is d waiting (anew d s) (vt_s s) f filled.keeps filled.takes (subst (Has d f) (sym here) filled.has)
+    subst (IsWhole tx_buffer f) here (here_is d tx_buffer (anew d s) (vt_s s) f filled.keeps filled.takes (subst (HasBody d f) (sym here) filled.has)
     (omega (arith, low_next rules d v.line s is.line, is.line.flying))
     (omega (arith, length-append s.bodies (next_body d s.unsent ∷ []))))
 
-pub new_here : (rules : Rules) (d : ℕ) (v : Outgoing) (s : Sender) (f : SentPdu) (waiting : Waiting) → IsOutgoing rules d v s → IsFilled d v s f waiting → IsHere waiting f
-new_here rules d v s f waiting is filled = (new_whole rules d v s f waiting is filled).here
+pub new_here : (rules : Rules) (d : ℕ) (v : Outgoing) (s : Sender) (f : SentPdu) (tx_buffer : TxBuffer) → IsOutgoing rules d v s → IsFilled d v s f tx_buffer → IsHere tx_buffer f
+new_here rules d v s f tx_buffer is filled = (new_whole rules d v s f tx_buffer is filled).here
 
-pub new_goes : (rules : Rules) (d : ℕ) (v : Outgoing) (s : Sender) (f : SentPdu) (waiting : Waiting) (l : RetxBuffer) (left poll : Bool) (number : ℕ) (out : List ℕ) → length v.line.flown < v.line.window → IsOutgoing rules d v s → IsFilled d v s f waiting → number ≡ number_at (length v.line.flown) v.line → left ≡ is_left (after_body d s.unsent) → poll ≡ new_poll f left v.line → l ≡ new_line f left v.line → out ≡ pdu_in number poll f (record { size = v.size; line = l; waiting = waiting }) → Built rules d s out (Some f.ends) (record { size = v.size; line = l; waiting = waiting }) Fresh
-new_goes rules d v s f waiting l left poll number out room is filled number_e left_e poll_e line_e text =
+pub new_goes : (rules : Rules) (d : ℕ) (v : Outgoing) (s : Sender) (f : SentPdu) (tx_buffer : TxBuffer) (l : RetxBuffer) (left poll : Bool) (number : ℕ) (out : List ℕ) → length v.line.flown < v.line.window → IsOutgoing rules d v s → IsFilled d v s f tx_buffer → number ≡ number_at (length v.line.flown) v.line → left ≡ is_left (after_body d s.unsent) → poll ≡ new_poll f left v.line → l ≡ new_line f left v.line → out ≡ pdu_in number poll f (record { size = v.size; line = l; tx_buffer = tx_buffer }) → Built rules d s out (record { size = v.size; line = l; tx_buffer = tx_buffer }) Fresh
+new_goes rules d v s f tx_buffer l left poll number out room is filled number_e left_e poll_e line_e text =
     let number_is_next : number ≡ wrapped (vt_s s) = number_e ∙ (number_is rules v.line s (length v.line.flown) (omega arith) is.line ∙ ap wrapped is.line.flying) in
-    let whole : pdu_in number poll f (record { size = v.size; line = l; waiting = waiting }) ≡ am_pdu number poll (marks_of d (next_body d s.unsent)) (carried (next_body d s.unsent)) (d + 2) =
-    ap₂ (λ n b. am_pdu number poll (marks_of n b) (carried b) waiting.size) (octets_is d waiting (anew d s) filled.keeps) (new_whole rules d v s f waiting is filled).body
+    let whole : pdu_in number poll f (record { size = v.size; line = l; tx_buffer = tx_buffer }) ≡ am_pdu number poll (marks_of d (next_body d s.unsent)) (carried (next_body d s.unsent)) (d + 2) =
+    ap₂ (λ n b. am_pdu number poll (marks_of n b) (carried b) tx_buffer.size) (octets_is d tx_buffer (anew d s) filled.keeps) (new_whole rules d v s f tx_buffer is filled).body
     ∙ ap (am_pdu number poll (marks_of d (next_body d s.unsent)) (carried (next_body d s.unsent))) filled.keeps.size in
     record {
-      text = text ∙ (whole ∙ ap₂ (λ n p. am_pdu n p (marks_of d (next_body d s.unsent)) (carried (next_body d s.unsent)) (d + 2)) number_is_next (poll_e ∙ (new_sent rules d v s f waiting left room is filled left_e).poll));
-      new = ap Some filled.has.ends;
-      goes = new_stands rules d v s f waiting l left room is filled left_e line_e;
+      text = text ∙ (whole ∙ ap₂ (λ n p. am_pdu n p (marks_of d (next_body d s.unsent)) (carried (next_body d s.unsent)) (d + 2)) number_is_next (poll_e ∙ (new_sent rules d v s f tx_buffer left room is filled left_e).poll));
+      goes = new_stands rules d v s f tx_buffer l left room is filled left_e line_e;
       short = filled.has.short;
     }
 
 -- a line that stands for a sender stands for one with a unit more
-line_unit : (rules : Rules) (l : RetxBuffer) (s : Sender) (unit : List ℕ) → Stands rules l s → Stands rules l (after_offer Accepted s unit)
+line_unit : (rules : Rules) (l : RetxBuffer) (s : Sender) (unit : List ℕ) → LineStands rules l s → LineStands rules l (after_offer Accepted s unit)
 line_unit rules l s unit is = record {
   window = is.window;
   rules_are = is.rules_are;
@@ -367,21 +365,21 @@ unit_full : (rules : Rules) (s : Sender) (unit : List ℕ) → offered rules s u
 unit_full rules s [] e = absurd (cc)
 unit_full rules s (x ∷ xs) e = omega arith
 
-pub unit_goes : (rules : Rules) (d : ℕ) (v : Outgoing) (s : Sender) (unit : List ℕ) (waiting : Waiting) → IsOutgoing rules d v s → offered rules s unit ≡ Accepted → waiting ≡ after_offering Accepted unit v.waiting → Keeps d waiting (after_offer Accepted s unit) → IsOutgoing rules d (record { size = v.size; line = v.line; waiting = waiting }) (after_offer Accepted s unit)
-unit_goes rules d v s unit waiting is offered_e waiting_e keeps = record {
+pub unit_goes : (rules : Rules) (d : ℕ) (v : Outgoing) (s : Sender) (unit : List ℕ) (tx_buffer : TxBuffer) → IsOutgoing rules d v s → offered rules s unit ≡ Accepted → tx_buffer ≡ buffer_after_offer Accepted unit v.tx_buffer → BufferStands d tx_buffer (after_offer Accepted s unit) → IsOutgoing rules d (record { size = v.size; line = v.line; tx_buffer = tx_buffer }) (after_offer Accepted s unit)
+unit_goes rules d v s unit tx_buffer is offered_e waiting_e keeps = record {
   size = is.size;
   line = line_unit rules v.line s unit is.line;
-  waiting = keeps;
-  room = ap (λ (w : Waiting). w.blocks) waiting_e ∙ is.room;
+  tx_buffer = keeps;
+  room = ap (λ (w : TxBuffer). w.blocks) waiting_e ∙ is.room;
   cut = cut_unit s.accepted s.unsent s.bodies unit (unit_full rules s unit offered_e) is.cut;
   flown = λ i inside. is.flown i inside;
   taken = λ i inside. takes_more s (vt_a s + i) (at v.line.flown i).extent unit (is.taken i inside);
 }
 
-pub offer_goes : (rules : Rules) (d : ℕ) (v : Outgoing) (s : Sender) (unit : List ℕ) (answer : Offer) (waiting : Waiting) → IsOutgoing rules d v s → answer ≡ offered rules s unit → waiting ≡ after_offering answer unit v.waiting → Keeps d waiting (after_offer answer s unit) → IsOutgoing rules d (record { size = v.size; line = v.line; waiting = waiting }) (after_offer answer s unit)
-offer_goes rules d v s unit Accepted waiting is e waiting_e keeps = unit_goes rules d v s unit waiting is (sym e) waiting_e keeps
-offer_goes rules d v s unit Full waiting is e waiting_e keeps = subst (λ w. IsOutgoing rules d (record { size = v.size; line = v.line; waiting = w }) s) (sym waiting_e) is
-offer_goes rules d v s unit WrongSize waiting is e waiting_e keeps = subst (λ w. IsOutgoing rules d (record { size = v.size; line = v.line; waiting = w }) s) (sym waiting_e) is
+pub offer_goes : (rules : Rules) (d : ℕ) (v : Outgoing) (s : Sender) (unit : List ℕ) (answer : Offer) (tx_buffer : TxBuffer) → IsOutgoing rules d v s → answer ≡ offered rules s unit → tx_buffer ≡ buffer_after_offer answer unit v.tx_buffer → BufferStands d tx_buffer (after_offer answer s unit) → IsOutgoing rules d (record { size = v.size; line = v.line; tx_buffer = tx_buffer }) (after_offer answer s unit)
+offer_goes rules d v s unit Accepted tx_buffer is e waiting_e keeps = unit_goes rules d v s unit tx_buffer is (sym e) waiting_e keeps
+offer_goes rules d v s unit Full tx_buffer is e waiting_e keeps = subst (λ w. IsOutgoing rules d (record { size = v.size; line = v.line; tx_buffer = w }) s) (sym waiting_e) is
+offer_goes rules d v s unit WrongSize tx_buffer is e waiting_e keeps = subst (λ w. IsOutgoing rules d (record { size = v.size; line = v.line; tx_buffer = w }) s) (sym waiting_e) is
 
 -- what a pick says of the line
 pub picked_again : (left : Bool) (l : RetxBuffer) (place : ℕ) → Again place ≡ picked left l → place < length l.flown
@@ -403,11 +401,11 @@ picked_last left l place e = go (nat_lt (first_wanted l.flown) (length l.flown))
     go false false false t u q = absurd (cc)
 
 -- the sender begins anew
-pub restart_goes : (rules : Rules) (d : ℕ) (v : Outgoing) (s : Sender) (l : RetxBuffer) (waiting : Waiting) → length l.flown ≡ 0 → waiting.blocks ≡ v.waiting.blocks → IsOutgoing rules d v s → Stands rules l (restarted_sender s) → Keeps d waiting (restarted_sender s) → IsOutgoing rules d (record { size = v.size; line = l; waiting = waiting }) (restarted_sender s)
-restart_goes rules d v s l waiting none room is stands keeps = record {
+pub restart_goes : (rules : Rules) (d : ℕ) (v : Outgoing) (s : Sender) (l : RetxBuffer) (tx_buffer : TxBuffer) → length l.flown ≡ 0 → tx_buffer.blocks ≡ v.tx_buffer.blocks → IsOutgoing rules d v s → LineStands rules l (restarted_sender s) → BufferStands d tx_buffer (restarted_sender s) → IsOutgoing rules d (record { size = v.size; line = l; tx_buffer = tx_buffer }) (restarted_sender s)
+restart_goes rules d v s l tx_buffer none room is stands keeps = record {
   size = is.size;
   line = stands;
-  waiting = keeps;
+  tx_buffer = keeps;
   room = room ∙ is.room;
   cut = cut_fresh (restarted_sender s).accepted (full_drop (begun s) s.accepted (cut_full s.accepted s.unsent s.bodies is.cut));
   flown = λ i less. absurd (omega (arith, less, none));
@@ -415,13 +413,13 @@ restart_goes rules d v s l waiting none room is stands keeps = record {
 }
 
 -- a tick of the timers, and an MRW that is written
-pub tick_goes : (rules : Rules) (d : ℕ) (v : Outgoing) (s : Sender) (l : RetxBuffer) → l.flown ≡ v.line.flown → IsOutgoing rules d v s → Stands rules l (timed s) → IsOutgoing rules d (with_line l v) (timed s)
+pub tick_goes : (rules : Rules) (d : ℕ) (v : Outgoing) (s : Sender) (l : RetxBuffer) → l.flown ≡ v.line.flown → IsOutgoing rules d v s → LineStands rules l (timed s) → IsOutgoing rules d (with_line l v) (timed s)
 tick_goes rules d v s l e is stands = line_goes rules d v s (timed s) l is stands (subst (λ fs. AreKept v.line.flown fs) (sym e) (kept_all v.line.flown)) (ap (λ (fs : List SentPdu). length fs) e) (record { accepted = refl; cuts = refl; bodies = refl; unsent = refl })
 
-pub mrw_goes : (rules : Rules) (d : ℕ) (v : Outgoing) (s : Sender) (x : Discard) (l : RetxBuffer) → l.flown ≡ v.line.flown → IsOutgoing rules d v s → Stands rules l (after_mrw rules s x) → IsOutgoing rules d (with_line l v) (after_mrw rules s x)
+pub mrw_goes : (rules : Rules) (d : ℕ) (v : Outgoing) (s : Sender) (x : Discard) (l : RetxBuffer) → l.flown ≡ v.line.flown → IsOutgoing rules d v s → LineStands rules l (after_mrw rules s x) → IsOutgoing rules d (with_line l v) (after_mrw rules s x)
 mrw_goes rules d v s x l e is stands = line_goes rules d v s (after_mrw rules s x) l is stands (subst (λ fs. AreKept v.line.flown fs) (sym e) (kept_all v.line.flown)) (ap (λ (fs : List SentPdu). length fs) e) (record { accepted = refl; cuts = refl; bodies = refl; unsent = refl })
 
-pub mrw_runs : (rules : Rules) (d : ℕ) (v : Outgoing) (s : Sender) (l : RetxBuffer) → mrw_due s.discard ≡ true → l.flown ≡ v.line.flown → IsOutgoing rules d v s → ((x : Discard) → s.discard ≡ Some x → Stands rules l (after_mrw rules s x)) → IsOutgoing rules d (with_line l v) (after_moving rules s s.discard)
+pub mrw_runs : (rules : Rules) (d : ℕ) (v : Outgoing) (s : Sender) (l : RetxBuffer) → mrw_due s.discard ≡ true → l.flown ≡ v.line.flown → IsOutgoing rules d v s → ((x : Discard) → s.discard ≡ Some x → LineStands rules l (after_mrw rules s x)) → IsOutgoing rules d (with_line l v) (after_moving rules s s.discard)
 mrw_runs rules d v s l due e is stands = go s.discard refl due
   where
     go : (x : Option Discard) → s.discard ≡ x → mrw_due x ≡ true → IsOutgoing rules d (with_line l v) (after_moving rules s x)

@@ -1,4 +1,16 @@
+pub mod Aging
 pub mod Counting
+pub mod Discards
 pub mod Due
+pub mod Ending
 pub mod Events
+pub mod Extents
+pub mod Fills
+pub mod Finding
+pub mod Offering
+pub mod Passing
+pub mod Placing
+pub mod Requested
+pub mod Restarting
 pub mod Sending
+pub mod Within

@@ -1,33 +1,33 @@
 -- Each event leaves a running sender standing for the sender after it.
-use Rattle.std.proofs.Common.{◌≡◌, ◌⊎◌, ⊎_elim, ◌+◌, ◌-◌, ◌<◌, ◌≤◌, ℕ, zero, suc, List, [], ◌∷◌, Bool, true, false, cond, not, ◌&&◌, ◌||◌, length, Option, Some, None, arith, refl, sym, ap, ap₂, ◌∙◌, subst, length-append}
+use Rattle.std.proofs.Common.{◌≡◌, ◌+◌, ◌-◌, ◌<◌, ◌≤◌, ℕ, zero, suc, List, [], ◌∷◌, Bool, true, false, cond, not, ◌&&◌, ◌||◌, length, Option, Some, None, arith, refl, sym, ap, ap₂, ◌∙◌, subst, length-drop}
 use Rattle.std.specs.Prelude.{nat_lt, nat_le, is_some, slice_index, ◌==◌}
-use Rattle.std.proofs.lemmas.Bool.{cond_both, le-ltb, lt-ltb, ltb-false, or_right}
-use Rattle.std.proofs.lemmas.Bool.Decides.{nat_tests}
+use Rattle.std.proofs.lemmas.Bool.{cond_both, ltb-false}
 use Rattle.dch_bits.specs.declared.offer.Offer.{Offer}
 use Rattle.dch_bits.specs.declared.offer.Offer.TheVariants.{Accepted, Full, WrongSize}
 use Rattle.dch_am.specs.declared.answers.StatusTaken.{StatusTaken}
 use Rattle.dch_am.specs.declared.answers.StatusTaken.TheVariants.{Taken, Outside}
 use Rattle.dch_am.specs.Acknowledging.{after_ack, after_acks, after_answer, after_fields, after_telling_of, all_names, ended_at, ends_discard, lsn_of, status_answer, reports, told}
-use Rattle.dch_am.specs.Bodies.{ends_of, is_empty, next_body}
-use Rattle.dch_am.specs.Building.{Choice, Again, New, Last, NoPdu, after_build, after_choice, anew, body_at, choice}
+use Rattle.dch_am.specs.Building.{Choice, Again, New, Last, NoPdu, after_build, after_choice, body_at, choice}
 use Rattle.dch_am.specs.Discards.{after_moving, after_mrw, after_tick, can_take, discards, discards_at, due_by_age, due_by_sending, mrw_due, place_from, sent_enough, tick_sender}
 use Rattle.dch_am.specs.Texts.{IsMoved, IsMrw}
 use Rattle.dch_am.specs.Rules.{Rules, rules_of}
-use Rattle.dch_am.specs.Sender.{Discard, Sender, after_offer, blocks, discarded, vt_a, held, vt_s, offered}
-use Rattle.dch_held.specs.Held.{Held}
-use Rattle.dch_held.specs.Holding.{AreAcknowledged, Holds, IsAlike, IsTicked}
-use Rattle.dch_held.proofs.Holding.{holds_as}
-use Rattle.dch_overdue.specs.declared.scan.Overdue.{Overdue}
-use Rattle.dch_overdue.specs.Discarding.{discarded_by}
+use Rattle.dch_am.specs.Sender.{Discard, Sender, after_offer, discarded, vt_a, vt_s, offered}
+use Rattle.dch_amsend.specs.SduDiscard.{SduDiscard}
+use Rattle.dch_amsend.specs.DiscardStanding.{AreReleased, DiscardStands, HasSameSdus, IsTicked, released}
+use Rattle.dch_amsend.proofs.Discards.{alike_stands, few_released}
+use Rattle.dch_amsend.proofs.Events.{low_next}
+use Rattle.dch_amsend.proofs.Extents.{released_next}
+use Rattle.dch_amsend.specs.declared.scan.Overdue.{Overdue}
+use Rattle.dch_amsend.specs.Discarding.{discarded_by}
 use Rattle.dch_retx.specs.RetxBuffer.{RetxBuffer}
 use Rattle.dch_retx.specs.Standing.{Stands as LineStands}
-use Rattle.dch_unsent.specs.Keeping.{Has}
+use Rattle.dch_amsend.specs.BufferStanding.{HasBody}
 use Rattle.dch_retx.specs.Flights.{at}
 use Rattle.dch_am.specs.Cuts.{IsCut}
 use Rattle.dch_retx.specs.Standing.{IsRunning, timed, timer_of}
 use Rattle.dch_retx.specs.declared.buffer.Running.{Running}
 use Rattle.dch_status.specs.Fields.{Field, NoMoreField, WindowField, AckField, ListField, BitmapField, MrwField, MrwAckField}
-use Rattle.dch_amsend.specs.Outgoing.{IsOutgoing, Outgoing, new_ends}
+use Rattle.dch_amsend.specs.Outgoing.{IsOutgoing, Outgoing}
 use Rattle.dch_amsend.specs.Standing.{Sending, Stands}
 
 -- a status changes neither units nor PDUs nor what is counted of them
@@ -69,60 +69,37 @@ unchanged_answer s fields (Outside i) = unchanged_itself s
 unchanged_fields : (rules : Rules) (s : Sender) (fields : List Field) → Unchanged s (after_fields rules s fields)
 unchanged_fields rules s fields = unchanged_answer s fields (status_answer rules s fields)
 
--- PDUs in front are acknowledged
-pub acknowledged : (rules : Rules) (d : ℕ) (v w : Outgoing) (s : Sender) (fields : List Field) → IsOutgoing rules d v s → IsOutgoing rules d w (after_fields rules s fields) → length w.line.flown ≤ length v.line.flown → AreAcknowledged (length v.line.flown - length w.line.flown) s (after_fields rules s fields)
-acknowledged rules d v w s fields is now fewer = let u : Unchanged s (after_fields rules s fields) = unchanged_fields rules s fields in record {
-  accepted = u.accepted;
-  bodies = u.bodies;
-  accepted_at = u.accepted_at;
-  ticks = u.ticks;
-  dropped = u.dropped;
-  gone = u.gone;
-  low = omega (arith, is.line.flying, now.line.flying, fewer, ap length u.bodies);
-}
+-- the SDUs that have left are released
+pub released_more : (rules : Rules) (d : ℕ) (v w : Outgoing) (s : Sender) (fields : List Field) → IsOutgoing rules d v s → IsOutgoing rules d w (after_fields rules s fields) → length w.tx_buffer.sdus ≤ length v.tx_buffer.sdus → AreReleased (length v.tx_buffer.sdus - length w.tx_buffer.sdus) s (after_fields rules s fields)
+released_more rules d v w s fields is now fewer =
+    let u : Unchanged s (after_fields rules s fields) = unchanged_fields rules s fields in
+    record {
+      accepted = u.accepted;
+      accepted_at = u.accepted_at;
+      ticks = u.ticks;
+      dropped = u.dropped;
+      gone = u.gone;
+      low = omega (arith, fewer, few_released s is.cut, few_released (after_fields rules s fields) now.cut, ap (λ (us : List (List ℕ)). length us) is.tx_buffer.sdus, ap (λ (us : List (List ℕ)). length us) now.tx_buffer.sdus, length-drop (released s) s.accepted, length-drop (released (after_fields rules s fields)) (after_fields rules s fields).accepted, ap (λ (us : List (List ℕ)). length us) u.accepted);
+    }
 
--- a build of a PDU in flight changes nothing that is held
-again_alike : (rules : Rules) (d : ℕ) (s : Sender) (c : Choice) → None ≡ new_ends d s c → IsAlike s (after_choice c rules d s)
-again_alike rules d s (Again k) e = record { accepted = refl; bodies = refl; accepted_at = refl; ticks = refl; dropped = refl; gone = refl; low = refl }
-again_alike rules d s New e = absurd (cc)
-again_alike rules d s (Last k) e = record { accepted = refl; bodies = refl; accepted_at = refl; ticks = refl; dropped = refl; gone = refl; low = refl }
-again_alike rules d s NoPdu e = record { accepted = refl; bodies = refl; accepted_at = refl; ticks = refl; dropped = refl; gone = refl; low = refl }
+-- a build changes nothing of which ages and discards tell
+build_same : (rules : Rules) (d : ℕ) (v : Outgoing) (s : Sender) (c : Choice) → IsOutgoing rules d v s → HasSameSdus s (after_choice c rules d s)
+build_same rules d v s (Again k) is = record { accepted = refl; accepted_at = refl; ticks = refl; dropped = refl; gone = refl; low = refl }
+build_same rules d v s New is = record { accepted = refl; accepted_at = refl; ticks = refl; dropped = refl; gone = refl; low = released_next d s (low_next rules d v.line s is.line) }
+build_same rules d v s (Last k) is = record { accepted = refl; accepted_at = refl; ticks = refl; dropped = refl; gone = refl; low = refl }
+build_same rules d v s NoPdu is = record { accepted = refl; accepted_at = refl; ticks = refl; dropped = refl; gone = refl; low = refl }
 
-pub again_holds : (rules : Rules) (d : ℕ) (h : Held) (s : Sender) → None ≡ new_ends d s (choice rules s) → Holds rules h s → Holds rules h (after_build rules d s)
-again_holds rules d h s e is = holds_as rules h s (after_build rules d s) (again_alike rules d s (choice rules s) e) is
-
--- a new PDU
-pub record IsFresh (rules : Rules) (d : ℕ) (s : Sender) (n : ℕ) : Type 0 where
-  pub chosen : choice rules s ≡ New
-  pub ends : n ≡ ends_of (next_body d s.unsent)
-
-fresh_by : (rules : Rules) (d : ℕ) (s : Sender) (n : ℕ) (c : Choice) → choice rules s ≡ c → Some n ≡ new_ends d s c → IsFresh rules d s n
-fresh_by rules d s n (Again k) e q = absurd (cc)
-fresh_by rules d s n New e q = record { chosen = e; ends = cc }
-fresh_by rules d s n (Last k) e q = absurd (cc)
-fresh_by rules d s n NoPdu e q = absurd (cc)
-
-pub is_fresh : (rules : Rules) (d : ℕ) (s : Sender) (n : ℕ) → Some n ≡ new_ends d s (choice rules s) → IsFresh rules d s n
-is_fresh rules d s n q = fresh_by rules d s n (choice rules s) refl q
-
--- the lowest open number stays
-pub fresh_low : (rules : Rules) (d : ℕ) (v w : Outgoing) (s : Sender) → IsOutgoing rules d v s → IsOutgoing rules d w (after_choice New rules d s) → length w.line.flown ≡ length v.line.flown + 1 → vt_a (anew d s) ≡ vt_a s
-fresh_low rules d v w s is now longer = omega (arith, is.line.flying, now.line.flying, longer, length-append s.bodies (next_body d s.unsent ∷ []))
-
-pub fresh_holds : (rules : Rules) (d : ℕ) (h : Held) (s : Sender) → choice rules s ≡ New → Holds rules h (anew d s) → Holds rules h (after_build rules d s)
-fresh_holds rules d h s chosen is = subst (λ c. Holds rules h (after_choice c rules d s)) (sym chosen) (holds_as rules h (anew d s) (after_choice New rules d s) (record { accepted = refl; bodies = refl; accepted_at = refl; ticks = refl; dropped = refl; gone = refl; low = refl }) is)
+pub build_stands : (rules : Rules) (d : ℕ) (v : Outgoing) (h : SduDiscard) (s : Sender) → IsOutgoing rules d v s → DiscardStands rules h s → DiscardStands rules h (after_build rules d s)
+build_stands rules d v h s is stands = alike_stands rules h s (after_build rules d s) (build_same rules d v s (choice rules s) is) stands
 
 -- one tick
 pub ticked : (s : Sender) → IsTicked s (timed s)
-ticked s = record { accepted = refl; bodies = refl; accepted_at = refl; ticks = refl; dropped = refl; gone = refl; low = refl }
+ticked s = record { accepted = refl; accepted_at = refl; ticks = refl; dropped = refl; gone = refl; low = refl }
 
 -- where no unit is discarded by age, its age isn't kept
-pub holds_still : (rules : Rules) (h : Held) (s : Sender) → rules.discard_age ≡ 0 → Holds rules h s → Holds rules h (timed s)
+pub holds_still : (rules : Rules) (h : SduDiscard) (s : Sender) → rules.discard_age ≡ 0 → DiscardStands rules h s → DiscardStands rules h (timed s)
 holds_still rules h s off is = record {
-  buffer = is.buffer;
-  window = is.window;
-  sizes = is.sizes;
-  ends = is.ends;
+  count = is.count;
   ages = λ i inside some. absurd (omega (arith, some, off));
   early = λ i. omega (arith, is.early i);
   times = is.times;
@@ -174,45 +151,31 @@ pub nothing_due : (rules : Rules) (s : Sender) (n : ℕ) → rules.discard_age �
 nothing_due rules s zero age sent = refl
 nothing_due rules s (suc i) age sent = ap (λ b. cond b (discards_at s i (place_from s.bodies 0 i)) (discards rules s i)) (cannot rules s i (place_from s.bodies 0 i) age sent) ∙ nothing_due rules s i age sent
 
--- the sizes of an offer
-pub empty_is : (xs : List ℕ) → (length xs == 0) ≡ is_empty xs
-empty_is [] = refl
-empty_is (x ∷ xs) = longer (length xs)
-  where
-    longer : (n : ℕ) → (suc n == 0) ≡ false
-    longer n = grind (arith, nat_tests)
-
 -- what was sent and what is held stand for the same sender
-pub stands_by : (rules : Rules) (v : Sending) (s now : Sender) (out : Outgoing) (h : Held) → Stands rules v s → out.size ≡ v.outgoing.size → IsOutgoing rules (v.outgoing.size - 2) out now → Holds rules h now → Stands rules (record { outgoing = out; held = h; rules = v.rules }) now
+pub stands_by : (rules : Rules) (v : Sending) (s now : Sender) (out : Outgoing) (h : SduDiscard) → Stands rules v s → out.size ≡ v.outgoing.size → IsOutgoing rules (v.outgoing.size - 2) out now → DiscardStands rules h now → Stands rules (record { outgoing = out; sdu_discard = h; rules = v.rules }) now
 stands_by rules v s now out h is size goes holds = record {
   rules_are = is.rules_are;
   outgoing = subst (λ n. IsOutgoing rules (n - 2) out now) (sym size) goes;
-  held = holds;
+  sdu_discard = holds;
 }
-
--- what an offer is answered
-pub offered_wrong : (rules : Rules) (s : Sender) (unit : List ℕ) (none : Bool) → none ≡ (length unit == 0) → (none ≡ true) ⊎ ((none ≡ false) × (1500 < length unit)) → offered rules s unit ≡ WrongSize
-offered_wrong rules s unit none e size = ap (λ b. cond b WrongSize (cond (nat_lt rules.buffer (blocks (held s) + blocks (unit ∷ []))) Full Accepted)) (⊎_elim
-    (λ (m : none ≡ true). ap (λ b. b || nat_lt 1500 (length unit)) (sym (empty_is unit) ∙ (sym e ∙ m)))
-    (λ (m : (none ≡ false) × (1500 < length unit)). or_right _ _ (lt-ltb 1500 (length unit) m.1))
-    size)
-
-pub offered_accepted : (rules : Rules) (s : Sender) (unit : List ℕ) (none full : Bool) → none ≡ (length unit == 0) → none ≡ false → length unit ≤ 1500 → full ≡ nat_lt rules.buffer (blocks (held s) + blocks (unit ∷ [])) → full ≡ false → offered rules s unit ≡ Accepted
-offered_accepted rules s unit none full e none_e size full_e full_is =
-    ap₂ (λ a b. cond (a || b) WrongSize (cond (nat_lt rules.buffer (blocks (held s) + blocks (unit ∷ []))) Full Accepted)) (sym (empty_is unit) ∙ (sym e ∙ none_e)) (le-ltb 1500 (length unit) size)
-    ∙ ap (λ b. cond b Full Accepted) (sym full_e ∙ full_is)
 
 -- the sender after an offer
 pub offer_stands : (rules : Rules) (v : Sending) (s : Sender) (unit : List ℕ) (o : Offer) → offered rules s unit ≡ o → Stands rules v (after_offer o s unit) → Stands rules v (after_offer (offered rules s unit) s unit)
 offer_stands rules v s unit o e is = subst (λ x. Stands rules v (after_offer x s unit)) (sym e) is
 
+-- an SDU that is refused changes nothing
+pub other_offer : (rules : Rules) (h : SduDiscard) (s : Sender) (unit : List ℕ) (o : Offer) → (o ≡ Accepted → ⊥) → DiscardStands rules h s → DiscardStands rules h (after_offer o s unit)
+other_offer rules h s unit Accepted not is = absurd (not refl)
+other_offer rules h s unit Full not is = is
+other_offer rules h s unit WrongSize not is = is
+
 -- an MRW is written
-pub moving_stands : (rules : Rules) (v : Sending) (s : Sender) (out : Outgoing) → Stands rules v s → mrw_due s.discard ≡ true → out.size ≡ v.outgoing.size → ((x : Discard) → s.discard ≡ Some x → IsOutgoing rules (v.outgoing.size - 2) out (after_mrw rules s x)) → Stands rules (record { outgoing = out; held = v.held; rules = v.rules }) (after_moving rules s s.discard)
+pub moving_stands : (rules : Rules) (v : Sending) (s : Sender) (out : Outgoing) → Stands rules v s → mrw_due s.discard ≡ true → out.size ≡ v.outgoing.size → ((x : Discard) → s.discard ≡ Some x → IsOutgoing rules (v.outgoing.size - 2) out (after_mrw rules s x)) → Stands rules (record { outgoing = out; sdu_discard = v.sdu_discard; rules = v.rules }) (after_moving rules s s.discard)
 moving_stands rules v s out is due size goes = go s.discard refl due
   where
-    go : (x : Option Discard) → s.discard ≡ x → mrw_due x ≡ true → Stands rules (record { outgoing = out; held = v.held; rules = v.rules }) (after_moving rules s x)
+    go : (x : Option Discard) → s.discard ≡ x → mrw_due x ≡ true → Stands rules (record { outgoing = out; sdu_discard = v.sdu_discard; rules = v.rules }) (after_moving rules s x)
     go None e d = absurd (cc)
-    go (Some x) e d = stands_by rules v s (after_mrw rules s x) out v.held is size (goes x e) (holds_as rules v.held s (after_mrw rules s x) (record { accepted = refl; bodies = refl; accepted_at = refl; ticks = refl; dropped = refl; gone = refl; low = refl }) is.held)
+    go (Some x) e d = stands_by rules v s (after_mrw rules s x) out v.sdu_discard is size (goes x e) (alike_stands rules v.sdu_discard s (after_mrw rules s x) (record { accepted = refl; accepted_at = refl; ticks = refl; dropped = refl; gone = refl; low = refl }) is.sdu_discard)
 
 pub mrw_by : (s : Sender) (out : List ℕ) → mrw_due s.discard ≡ true → ((x : Discard) → s.discard ≡ Some x → IsMoved out x) → IsMrw out s.discard
 mrw_by s out due is = go s.discard refl due
@@ -222,8 +185,8 @@ mrw_by s out due is = go s.discard refl due
     go (Some x) e d = is x e
 
 -- the unit that is found
-pub found_by : (rules : Rules) (v : Sending) (s : Sender) (l : RetxBuffer) (found : Option Overdue) → Stands rules v s → l ≡ v.outgoing.line → (rules ≡ rules_of rules.buffer v.rules → LineStands rules l s → Holds rules v.held s → IsCut s.accepted s.unsent s.bodies → ((i : ℕ) → i < length l.flown → Has (v.outgoing.size - 2) (at l.flown i) (body_at s.bodies (vt_a s + i))) → discards rules s (length s.accepted) ≡ discarded_by found s) → discards rules s (length s.accepted) ≡ discarded_by found s
-found_by rules v s l found is e h = h is.rules_are (subst (λ x. LineStands rules x s) (sym e) is.outgoing.line) is.held is.outgoing.cut (subst (λ (x : RetxBuffer). (i : ℕ) → i < length x.flown → Has (v.outgoing.size - 2) (at x.flown i) (body_at s.bodies (vt_a s + i))) (sym e) is.outgoing.flown)
+pub found_by : (rules : Rules) (v : Sending) (s : Sender) (l : RetxBuffer) (found : Option Overdue) → Stands rules v s → l ≡ v.outgoing.line → (rules ≡ rules_of rules.buffer v.rules → LineStands rules l s → DiscardStands rules v.sdu_discard s → IsCut s.accepted s.unsent s.bodies → ((i : ℕ) → i < length l.flown → HasBody (v.outgoing.size - 2) (at l.flown i) (body_at s.bodies (vt_a s + i))) → discards rules s (length s.accepted) ≡ discarded_by found s) → discards rules s (length s.accepted) ≡ discarded_by found s
+found_by rules v s l found is e h = h is.rules_are (subst (λ x. LineStands rules x s) (sym e) is.outgoing.line) is.sdu_discard is.outgoing.cut (subst (λ (x : RetxBuffer). (i : ℕ) → i < length x.flown → HasBody (v.outgoing.size - 2) (at x.flown i) (body_at s.bodies (vt_a s + i))) (sym e) is.outgoing.flown)
 
 some_by : (r : Option Running) (d : Option Discard) (low n : ℕ) → IsRunning r d low n → is_some r ≡ is_some d
 some_by None None low n is = refl

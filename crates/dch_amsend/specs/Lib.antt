@@ -1,3 +1,10 @@
+pub mod Ages
+pub mod BufferStanding
 pub mod Counting
+pub mod DiscardStanding
+pub mod Discarding
 pub mod Outgoing
+pub mod Scanning
+pub mod SduDiscard
 pub mod Standing
+pub mod TxBuffer

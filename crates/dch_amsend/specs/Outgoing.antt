@@ -4,29 +4,29 @@ use Rattle.std.specs.Prelude.{◌≡◌, ◌+◌, ◌-◌, ◌<◌, ◌≤◌, �
 use Rattle.dch_retx.specs.declared.sent_pdu.SentPdu.{SentPdu}
 use Rattle.dch_retx.specs.Flights.{at, first_wanted, wanted_in}
 use Rattle.dch_am.specs.Rules.{Rules}
-use Rattle.dch_am.specs.Bodies.{carried, ends_of, marks_of, next_body}
+use Rattle.dch_am.specs.Bodies.{carried, marks_of}
 use Rattle.dch_am.specs.Cuts.{IsCut}
 use Rattle.dch_am.specs.Sender.{Sender, vt_a}
-use Rattle.dch_am.specs.Building.{Choice, Again, New, Last, NoPdu, body_at}
+use Rattle.dch_am.specs.Building.{body_at}
 use Rattle.dch_rlcpdu.specs.Am.{am_pdu}
 use Rattle.dch_retx.specs.RetxBuffer.{RetxBuffer}
-use Rattle.dch_retx.specs.Standing.{Stands}
-use Rattle.dch_unsent.specs.Keeping.{Has, Keeps, Takes, fills}
-use Rattle.dch_unsent.specs.Waiting.{Waiting, body_in, unsent_of}
+use Rattle.dch_retx.specs.Standing.{Stands as LineStands}
+use Rattle.dch_amsend.specs.BufferStanding.{HasBody, BufferStands, Takes, fills}
+use Rattle.dch_amsend.specs.TxBuffer.{TxBuffer, body_in, unsent_of}
 use Rattle.dch_amsend.specs.Counting.{builds_of}
 
 -- the octets of a PDU, the PDUs that were sent, and the SDUs that are held
 pub record Outgoing : Type 0 where
   pub size : ℕ
   pub line : RetxBuffer
-  pub waiting : Waiting
+  pub tx_buffer : TxBuffer
 
 abbrev pub with_line : RetxBuffer → Outgoing → Outgoing
-with_line l v = record { size = v.size; line = l; waiting = v.waiting }
+with_line l v = record { size = v.size; line = l; tx_buffer = v.tx_buffer }
 
 -- how many PDUs could be built one after another, at most 64
 abbrev pub available_of : Outgoing → ℕ
-available_of v = min 64 (builds_of (min 64 (wanted_in v.line.flown)) (min (v.line.window - length v.line.flown) (fills 64 (v.waiting.size - 2) (unsent_of v.waiting))) v.line.owed (length v.line.flown))
+available_of v = min 64 (builds_of (min 64 (wanted_in v.line.flown)) (min (v.line.window - length v.line.flown) (fills 64 (v.tx_buffer.size - 2) (unsent_of v.tx_buffer))) v.line.owed (length v.line.flown))
 
 -- a PDU can be built
 abbrev pub can_build : Outgoing → Bool
@@ -34,7 +34,7 @@ can_build v = nat_lt 0 (available_of v)
 
 -- the octets of a PDU in flight, with its number and its poll bit
 abbrev pub pdu_in : ℕ → Bool → SentPdu → Outgoing → List ℕ
-pdu_in number poll f v = am_pdu number poll (marks_of (v.waiting.size - 2) (body_in v.waiting f)) (carried (body_in v.waiting f)) v.waiting.size
+pdu_in number poll f v = am_pdu number poll (marks_of (v.tx_buffer.size - 2) (body_in v.tx_buffer f)) (carried (body_in v.tx_buffer f)) v.tx_buffer.size
 
 -- the first PDU in flight
 abbrev pub first_flown : List SentPdu → Option SentPdu
@@ -50,11 +50,11 @@ pub record IsLast (l : RetxBuffer) (place : ℕ) : Type 0 where
 -- it stands for this sender, whose PDUs have d octets behind the header
 pub record IsOutgoing (rules : Rules) (d : ℕ) (v : Outgoing) (s : Sender) : Type 0 where
   pub size : v.size ≡ d + 2
-  pub line : Stands rules v.line s
-  pub waiting : Keeps d v.waiting s
-  pub room : v.waiting.blocks ≡ rules.buffer
+  pub line : LineStands rules v.line s
+  pub tx_buffer : BufferStands d v.tx_buffer s
+  pub room : v.tx_buffer.blocks ≡ rules.buffer
   pub cut : IsCut s.accepted s.unsent s.bodies
-  pub flown : (i : ℕ) → i < length v.line.flown → Has d (at v.line.flown i) (body_at s.bodies (vt_a s + i))
+  pub flown : (i : ℕ) → i < length v.line.flown → HasBody d (at v.line.flown i) (body_at s.bodies (vt_a s + i))
   pub taken : (i : ℕ) → i < length v.line.flown → Takes s (vt_a s + i) (at v.line.flown i).extent
 
 -- it stands for a sender
@@ -65,14 +65,7 @@ pub record IsRunning (v : Outgoing) : Type 0 where
   pub sender : Sender
   pub stands : IsOutgoing rules (v.size - 2) v sender
 
--- how many units end in it, where it is a new one
-abbrev pub new_ends : ℕ → Sender → Choice → Option ℕ
-new_ends d s (Again k) = None
-new_ends d s New = Some (ends_of (next_body d s.unsent))
-new_ends d s (Last k) = None
-new_ends d s NoPdu = None
-
--- how many PDUs more are in flight
-abbrev pub more_of : Option ℕ → ℕ
-more_of None = 0
-more_of (Some n) = 1
+-- the same SDUs are held in as many blocks
+pub record HoldsSame (old new : TxBuffer) : Type 0 where
+  pub sdus : new.sdus ≡ old.sdus
+  pub blocks : new.blocks ≡ old.blocks

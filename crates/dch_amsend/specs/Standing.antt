@@ -3,15 +3,15 @@ use Rattle.std.specs.Prelude.{◌≡◌, ◌-◌, ℕ, Bool}
 use Rattle.dch_types.specs.declared.bearer.AmRules.{AmRules}
 use Rattle.dch_am.specs.Rules.{Rules, rules_of}
 use Rattle.dch_am.specs.Sender.{Sender}
-use Rattle.dch_held.specs.Held.{Held}
-use Rattle.dch_held.specs.Holding.{Holds}
+use Rattle.dch_amsend.specs.SduDiscard.{SduDiscard}
+use Rattle.dch_amsend.specs.DiscardStanding.{DiscardStands}
 use Rattle.dch_retx.specs.RetxBuffer.{is_due as mrw_due}
 use Rattle.dch_amsend.specs.Outgoing.{IsOutgoing, Outgoing, can_build}
 
 -- what was sent and waits, the units that are held, and the rules
 pub record Sending : Type 0 where
   pub outgoing : Outgoing
-  pub held : Held
+  pub sdu_discard : SduDiscard
   pub rules : AmRules
 
 -- how many octets a PDU has
@@ -34,7 +34,7 @@ room_in v = v.outgoing.size - 2
 pub record Stands (rules : Rules) (v : Sending) (s : Sender) : Type 0 where
   pub rules_are : rules ≡ rules_of rules.buffer v.rules
   pub outgoing : IsOutgoing rules (v.outgoing.size - 2) v.outgoing s
-  pub held : Holds rules v.held s
+  pub sdu_discard : DiscardStands rules v.sdu_discard s
 
 -- the octets of a PDU stay
 pub record IsSame (a b : Sending) : Type 0 where

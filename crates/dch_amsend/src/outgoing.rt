@@ -4,7 +4,7 @@ ghost use Rattle.dch_bits.specs.declared.offer.Offer.TheVariants.{Accepted};
 ghost use Rattle.dch_am.specs.declared.answers.StatusTaken.TheVariants.{Taken};
 ghost use Rattle.dch_am.specs.Acknowledging.{after_fields, status_answer};
 ghost use Rattle.dch_am.specs.Building.{after_build, after_choice, available, body_of_choice, choice, gives, New};
-ghost use Rattle.dch_am.specs.Bodies.{ends_of, is_left, next_body};
+ghost use Rattle.dch_am.specs.Bodies.{is_left, next_body};
 ghost use Rattle.dch_am.specs.Discards.{after_mrw, discards_at, mrw_due};
 ghost use Rattle.dch_am.specs.Numbers.{wrapped};
 ghost use Rattle.dch_am.specs.Restart.{restarted_sender};
@@ -18,15 +18,15 @@ ghost use Rattle.dch_status.specs.Fields.{mrw_fields};
 ghost use Rattle.dch_status.specs.Reading.{status_of};
 ghost use Rattle.dch_status.specs.Writing.{IsText, mrw_text};
 ghost use Rattle.dch_am.specs.Texts.{next_pdu, pdu_of_choice};
-ghost use Rattle.dch_unsent.specs.Waiting.{unsent_of};
-ghost use Rattle.dch_amsend.specs.Outgoing.{IsLast, IsOutgoing, available_of, can_build, first_flown, more_of, new_ends, pdu_in, with_line};
+ghost use Rattle.dch_amsend.specs.TxBuffer.{unsent_of};
+ghost use Rattle.dch_amsend.specs.Outgoing.{IsLast, IsOutgoing, available_of, can_build, HoldsSame, first_flown, pdu_in, with_line};
 
+use crate::tx_buffer::TxBuffer;
 use dch_am::StatusTaken;
 use dch_bits::{NoMemory, Offer};
 use dch_retx::{Pick, RetxBuffer, SentPdu};
 use dch_status::{StatusView, write_mrw};
 use dch_types::AmRules;
-use dch_unsent::Unsent;
 use std::alloc::Global;
 use std::marker::Model;
 
@@ -34,7 +34,7 @@ use std::marker::Model;
 #[derive(Drop)]
 pub struct Outgoing {
     line: RetxBuffer,
-    waiting: Unsent,
+    tx_buffer: TxBuffer,
     size: usize,
 }
 
@@ -43,9 +43,9 @@ impl Model for Outgoing {
 
     ghost Value = { Outgoing };
 
-    ghost view = { λ v. record { size = v.size; line = v.line; waiting = v.waiting } };
+    ghost view = { λ v. record { size = v.size; line = v.line; tx_buffer = v.tx_buffer } };
 
-    ghost invariant = { λ v. IsRunning (record { size = v.size; line = v.line; waiting = v.waiting }) };
+    ghost invariant = { λ v. IsRunning (record { size = v.size; line = v.line; tx_buffer = v.tx_buffer }) };
 }
 
 impl Outgoing {
@@ -60,27 +60,29 @@ impl Outgoing {
         requires most { pdu ≤ 126 }
         requires window { rules.window ≤ 2048 }
         ensures size { IfOk result (λ v. v.size ≡ pdu) }
-        ensures none { IfOk result (λ v. length v.line.flown ≡ 0) }
-        ensures window { IfOk result (λ v. v.line.window ≡ rules.window) }
+        ensures none { IfOk result (λ v. length v.tx_buffer.sdus ≡ 0) }
+        ensures blocks { IfOk result (λ v. v.tx_buffer.blocks ≡ buffer) }
         ensures history { IfOk result (λ v. IsOutgoing (rules_of buffer rules) (pdu - 2) v opened_sender) }
     {
         let line = RetxBuffer::open(alloc, buffer, rules)?;
-        let waiting = Unsent::open(alloc, pdu, buffer)?;
+        let tx_buffer = TxBuffer::open(alloc, pdu, buffer)?;
         Ok(Outgoing {
             line,
-            waiting,
+            tx_buffer,
             size: pdu,
         })
     }
 
-    /// A unit waits, which the sender has accepted.
+    /// Offers an SDU, which is accepted where it has 1 to 1,500 octets and its blocks find room.
     pub fn offer(&mut self, unit: &[u8]) -> Offer
         ensures size { self.new.size ≡ self.old.size }
-        ensures line { self.new.line ≡ self.old.line }
+        ensures blocks { self.new.tx_buffer.blocks ≡ self.old.tx_buffer.blocks }
         ensures refused { result ≢ Accepted → self.new ≡ self.old }
-        ensures history { (rules : Rules) (d : ℕ) (s : Sender) → IsOutgoing rules d self.old s → offered rules s unit.now ≡ Accepted → (result ≡ Accepted) × IsOutgoing rules d self.new (after_offer Accepted s unit.now) }
+        ensures accepted { result ≡ Accepted → length self.new.tx_buffer.sdus ≡ length self.old.tx_buffer.sdus + 1 }
+        ensures room { result ≡ Accepted → length self.old.tx_buffer.sdus < self.old.tx_buffer.blocks }
+        ensures history { (rules : Rules) (d : ℕ) (s : Sender) → IsOutgoing rules d self.old s → (result ≡ offered rules s unit.now) × IsOutgoing rules d self.new (after_offer result s unit.now) }
     {
-        self.waiting.offer(unit)
+        self.tx_buffer.offer(unit)
     }
 
     /// How many PDUs could be built one after another, at most 64.
@@ -96,7 +98,7 @@ impl Outgoing {
     {
         let room = self.line.window() - self.line.len();
         let requested = self.line.requested(64);
-        let fresh = room.min(self.waiting.available() as usize);
+        let fresh = room.min(self.tx_buffer.available() as usize);
         let builds = if requested + fresh > 0 {
             requested + fresh
         } else if self.line.is_owed() && self.line.len() > 0 {
@@ -123,16 +125,16 @@ impl Outgoing {
 
     /// A PDU can be built that isn't requested: a new one, or the last one again.
     fn has_unrequested(&self) -> bool
-        ensures { result ≡ ((nat_lt (length self.now.line.flown) self.now.line.window && is_left (unsent_of self.now.waiting)) || (self.now.line.owed && nat_lt 0 (length self.now.line.flown))) }
+        ensures { result ≡ ((nat_lt (length self.now.line.flown) self.now.line.window && is_left (unsent_of self.now.tx_buffer)) || (self.now.line.owed && nat_lt 0 (length self.now.line.flown))) }
     {
         self.has_new() || self.has_last()
     }
 
     /// A new PDU can be built: unsent matter is left, and the window has room.
     fn has_new(&self) -> bool
-        ensures { result ≡ (nat_lt (length self.now.line.flown) self.now.line.window && is_left (unsent_of self.now.waiting)) }
+        ensures { result ≡ (nat_lt (length self.now.line.flown) self.now.line.window && is_left (unsent_of self.now.tx_buffer)) }
     {
-        self.line.len() < self.line.window() && self.waiting.is_left()
+        self.line.len() < self.line.window() && self.tx_buffer.is_left()
     }
 
     /// The last PDU can be built again: a poll is owed.
@@ -142,12 +144,11 @@ impl Outgoing {
         self.line.is_owed() && self.line.len() > 0
     }
 
-    /// How many PDUs are in flight.
-    pub fn len(&self) -> usize
-        ensures count { result ≡ length self.now.line.flown }
-        ensures few { result ≤ 2048 }
+    /// How many SDUs are held.
+    pub fn sdus(&self) -> usize
+        ensures { result ≡ length self.now.tx_buffer.sdus }
     {
-        self.line.len()
+        self.tx_buffer.len()
     }
 
     /// What was sent.
@@ -157,28 +158,20 @@ impl Outgoing {
         &self.line
     }
 
-    /// Builds the next PDU. Answers how many units end in it, where it is a new one.
-    pub fn build(&mut self, out: &mut [u8]) -> Option<u8>
+    /// Builds the next PDU.
+    pub fn build(&mut self, out: &mut [u8])
         requires due { can_build self.old ≡ true }
         requires size { length out.old ≡ self.old.size }
         ensures size { self.new.size ≡ self.old.size }
-        ensures window { self.new.line.window ≡ self.old.line.window }
-        ensures count { length self.new.line.flown ≡ length self.old.line.flown + more_of result }
-        ensures room { IfSome result (λ n. length self.old.line.flown < self.old.line.window) }
+        ensures same { HoldsSame self.old.tx_buffer self.new.tx_buffer }
         ensures history { (rules : Rules) (d : ℕ) (s : Sender) → IsOutgoing rules d self.old s →
-            (out.new ≡ next_pdu rules d s) × (result ≡ new_ends d s (choice rules s)) × IsOutgoing rules d self.new (after_build rules d s) × IsShort d (body_of_choice (choice rules s) d s) }
+            (out.new ≡ next_pdu rules d s) × IsOutgoing rules d self.new (after_build rules d s) × IsShort d (body_of_choice (choice rules s) d s) }
     {
-        match self.line.pick(self.waiting.is_left()) {
-            Pick::Again(place) => {
-                self.again(place, out);
-                None
-            }
-            Pick::New => Some(self.anew(out)),
-            Pick::Last(place) => {
-                self.last(place, out);
-                None
-            }
-            Pick::NoPdu => None,
+        match self.line.pick(self.tx_buffer.is_left()) {
+            Pick::Again(place) => self.again(place, out),
+            Pick::New => self.anew(out),
+            Pick::Last(place) => self.last(place, out),
+            Pick::NoPdu => {}
         }
     }
 
@@ -192,7 +185,7 @@ impl Outgoing {
         let number = self.line.number_at(place);
         let flown = self.line.at(place);
         let poll = self.line.again(place);
-        self.waiting.write(&flown, number, poll, out);
+        self.tx_buffer.write(&flown, number, poll, out);
     }
 
     /// The last PDU is built again, for an owed poll.
@@ -205,47 +198,44 @@ impl Outgoing {
         let number = self.line.number_at(place);
         let flown = self.line.at(place);
         let poll = self.line.last(place);
-        self.waiting.write(&flown, number, poll, out);
+        self.tx_buffer.write(&flown, number, poll, out);
     }
 
-    /// A new PDU is built. Answers how many units end in it.
-    fn anew(&mut self, out: &mut [u8]) -> u8
+    /// A new PDU is built.
+    fn anew(&mut self, out: &mut [u8])
         requires room { length self.old.line.flown < self.old.line.window }
         requires size { length out.old ≡ self.old.size }
         ensures size { self.new.size ≡ self.old.size }
-        ensures window { self.new.line.window ≡ self.old.line.window }
-        ensures count { length self.new.line.flown ≡ length self.old.line.flown + 1 }
+        ensures same { HoldsSame self.old.tx_buffer self.new.tx_buffer }
         ensures history { (rules : Rules) (d : ℕ) (s : Sender) → IsOutgoing rules d self.old s →
-            (out.new ≡ pdu_of_choice rules d s New) × (result ≡ ends_of (next_body d s.unsent)) × IsOutgoing rules d self.new (after_choice New rules d s) × IsShort d (next_body d s.unsent) }
+            (out.new ≡ pdu_of_choice rules d s New) × IsOutgoing rules d self.new (after_choice New rules d s) × IsShort d (next_body d s.unsent) }
     {
         let number = self.line.number_at(self.line.len() as u16);
-        let flown = self.waiting.build();
-        let left = self.waiting.is_left();
+        let flown = self.tx_buffer.build();
+        let left = self.tx_buffer.is_left();
         let poll = self.line.push(flown, left);
-        self.waiting.write(&flown, number, poll, out);
-        flown.ends
+        self.tx_buffer.write(&flown, number, poll, out);
     }
 
     /// Hears a status.
     pub fn status(&mut self, status: &StatusView<'_>) -> StatusTaken
         ensures size { self.new.size ≡ self.old.size }
-        ensures window { self.new.line.window ≡ self.old.line.window }
-        ensures fewer { length self.new.line.flown ≤ length self.old.line.flown }
+        ensures blocks { self.new.tx_buffer.blocks ≡ self.old.tx_buffer.blocks }
+        ensures fewer { length self.new.tx_buffer.sdus ≤ length self.old.tx_buffer.sdus }
         ensures outside { result ≢ Taken → self.new ≡ self.old }
         ensures history { (rules : Rules) (d : ℕ) (s : Sender) → IsOutgoing rules d self.old s →
             (result ≡ status_answer rules s status.now) × IsOutgoing rules d self.new (after_fields rules s status.now) }
     {
         let taken = self.line.hear(status);
         let first = first_in_flight(&self.line);
-        self.waiting.release(first);
+        self.tx_buffer.release(first);
         taken
     }
 
     /// One tick of the timers.
     pub fn tick(&mut self)
         ensures size { self.new.size ≡ self.old.size }
-        ensures window { self.new.line.window ≡ self.old.line.window }
-        ensures count { length self.new.line.flown ≡ length self.old.line.flown }
+        ensures same { self.new.tx_buffer ≡ self.old.tx_buffer }
         ensures history { (rules : Rules) (d : ℕ) (s : Sender) → IsOutgoing rules d self.old s → IsOutgoing rules d self.new (timed s) }
     {
         self.line.tick()
@@ -256,8 +246,7 @@ impl Outgoing {
         requires place { place < length self.old.line.flown }
         requires mark { mark < 16 }
         ensures size { self.new.size ≡ self.old.size }
-        ensures window { self.new.line.window ≡ self.old.line.window }
-        ensures count { length self.new.line.flown ≡ length self.old.line.flown }
+        ensures same { self.new.tx_buffer ≡ self.old.tx_buffer }
         ensures history { (rules : Rules) (d : ℕ) (s : Sender) (i : ℕ) → IsOutgoing rules d self.old s → IsOutgoing rules d self.new (discards_at s i (Some (vt_a s + place, mark))) }
     {
         self.line.discard(place, mark)
@@ -283,8 +272,7 @@ impl Outgoing {
         requires due { is_due self.old.line.running ≡ true }
         requires size { length out.old ≡ self.old.size }
         ensures size { self.new.size ≡ self.old.size }
-        ensures window { self.new.line.window ≡ self.old.line.window }
-        ensures count { length self.new.line.flown ≡ length self.old.line.flown }
+        ensures same { self.new.tx_buffer ≡ self.old.tx_buffer }
         ensures history { (rules : Rules) (d : ℕ) (s : Sender) (x : Discard) → IsOutgoing rules d self.old s → s.discard ≡ Some x →
             IsText out.new (0 ∷ mrw_text (wrapped x.k) x.n) × (status_of out.new ≡ Some (mrw_fields (wrapped x.k) x.n)) × IsOutgoing rules d self.new (after_mrw rules s x) }
     {
@@ -296,12 +284,13 @@ impl Outgoing {
     /// Begins anew with the units of which no octet was built. Answers how many they are.
     pub fn restart(&mut self) -> usize
         ensures size { self.new.size ≡ self.old.size }
-        ensures window { self.new.line.window ≡ self.old.line.window }
-        ensures count { length self.new.line.flown ≡ 0 }
+        ensures blocks { self.new.tx_buffer.blocks ≡ self.old.tx_buffer.blocks }
+        ensures last { result ≡ length self.new.tx_buffer.sdus }
+        ensures few { length self.new.tx_buffer.sdus ≤ length self.old.tx_buffer.sdus }
         ensures history { (rules : Rules) (d : ℕ) (s : Sender) → IsOutgoing rules d self.old s → (result ≡ length (restarted_sender s).accepted) × IsOutgoing rules d self.new (restarted_sender s) }
     {
         self.line.restart();
-        self.waiting.restart()
+        self.tx_buffer.restart()
     }
 }
 

@@ -9,16 +9,16 @@ ghost use Rattle.dch_am.specs.Rules.{Rules, rules_of};
 ghost use Rattle.dch_am.specs.Sender.{Sender, after_offer, discarded, offered, opened_sender};
 ghost use Rattle.dch_am.specs.Short.{IsShort};
 ghost use Rattle.dch_am.specs.Texts.{IsMrw, next_pdu};
-ghost use Rattle.dch_held.specs.Held.{capped};
+ghost use Rattle.dch_amsend.specs.SduDiscard.{capped};
 ghost use Rattle.dch_retx.specs.Standing.{timed};
 ghost use Rattle.dch_amsend.specs.Outgoing.{available_of};
 ghost use Rattle.dch_amsend.specs.Standing.{IsSame, Stands, is_control_due, is_due, pdu_octets, room_in};
 
+use crate::discard::SduDiscard;
 use crate::outgoing::Outgoing;
+use crate::pass::overdue;
 use dch_am::StatusTaken;
 use dch_bits::{NoMemory, Offer};
-use dch_held::Held;
-use dch_overdue::overdue;
 use dch_status::StatusView;
 use dch_types::AmRules;
 use std::alloc::Global;
@@ -27,7 +27,7 @@ use std::marker::Model;
 /// The sending side of an acknowledged bearer (TS 25.322 4.2.1.3). All memory is taken when it is opened.
 pub struct AmSend {
     outgoing: Outgoing,
-    held: Held,
+    discard: SduDiscard,
     rules: AmRules,
 }
 
@@ -36,7 +36,7 @@ impl Drop for AmSend {
     fn drop(self) {
         let AmSend {
             outgoing: _outgoing,
-            held: _held,
+            discard: _discard,
             rules: _rules,
         } = self;
     }
@@ -48,9 +48,9 @@ impl Model for AmSend {
 
     ghost Value = { Sending };
 
-    ghost view = { λ v. record { outgoing = v.outgoing; held = v.held; rules = v.rules } };
+    ghost view = { λ v. record { outgoing = v.outgoing; sdu_discard = v.discard; rules = v.rules } };
 
-    ghost invariant = { λ v. (length v.held.ends ≡ length v.outgoing.line.flown) × (v.held.window ≡ v.outgoing.line.window) };
+    ghost invariant = { λ v. (length v.discard.ages ≡ length v.outgoing.tx_buffer.sdus) × (v.discard.most ≡ v.outgoing.tx_buffer.blocks) };
 }
 
 impl AmSend {
@@ -63,10 +63,10 @@ impl AmSend {
         ensures stands { IfOk result (λ v. Stands (rules_of buffer rules) v opened_sender) }
     {
         let outgoing = Outgoing::open(alloc, pdu, buffer, rules)?;
-        let held = Held::open(alloc, buffer, rules.window)?;
+        let discard = SduDiscard::open(alloc, buffer)?;
         Ok(AmSend {
             outgoing,
-            held,
+            discard,
             rules,
         })
     }
@@ -79,15 +79,9 @@ impl AmSend {
         ensures stands { (rules : Rules) (s : Sender) → Stands rules self.old s → Stands rules self.new (after_offer (offered rules s unit.now) s unit.now) }
         ensures same { IsSame self.old self.new }
     {
-        if unit.is_empty() || unit.len() > 1500 {
-            return Offer::WrongSize;
-        }
-        if !self.held.has_room(unit.len()) {
-            return Offer::Full;
-        }
         match self.outgoing.offer(unit) {
             Offer::Accepted => {
-                self.held.offer(unit.len());
+                self.discard.accept();
                 Offer::Accepted
             }
             answer => answer,
@@ -121,9 +115,7 @@ impl AmSend {
         ensures stands { (rules : Rules) (s : Sender) → Stands rules self.old s → Stands rules self.new (after_build rules (room_in self.old) s) }
         ensures same { IsSame self.old self.new }
     {
-        if let Some(ends) = self.outgoing.build(out) {
-            self.held.built(ends);
-        }
+        self.outgoing.build(out)
     }
 
     /// Hears a status (TS 25.322 11.5.3): its MRW_ACKs act first; then the first number that isn't in the window refuses it whole.
@@ -133,9 +125,9 @@ impl AmSend {
         ensures stands { (rules : Rules) (s : Sender) → Stands rules self.old s → Stands rules self.new (after_fields rules s status.now) }
         ensures same { IsSame self.old self.new }
     {
-        let before = self.outgoing.len();
+        let before = self.outgoing.sdus();
         let taken = self.outgoing.status(status);
-        self.held.leave(before - self.outgoing.len());
+        self.discard.release(before - self.outgoing.sdus());
         taken
     }
 
@@ -166,7 +158,7 @@ impl AmSend {
     {
         self.outgoing.tick();
         if self.rules.discard_age > 0 {
-            self.held.tick();
+            self.discard.tick();
         }
     }
 
@@ -175,9 +167,9 @@ impl AmSend {
         ensures stands { (rules : Rules) (s : Sender) → Stands rules self.old s → Stands rules self.new (discards rules s (length s.accepted)) }
         ensures same { IsSame self.old self.new }
     {
-        if let Some(found) = overdue(self.outgoing.line(), &self.held, &self.rules) {
+        if let Some(found) = overdue(self.outgoing.line(), &self.discard, &self.rules) {
             self.outgoing.discard(found.place, found.mark);
-            self.held.discard(found.unit as usize + 1);
+            self.discard.discard(found.unit as usize + 1);
         }
     }
 
@@ -185,7 +177,7 @@ impl AmSend {
     pub fn discarded(&self) -> u64
         ensures { (rules : Rules) (s : Sender) → Stands rules self.now s → result ≡ capped (discarded s) }
     {
-        self.held.discarded()
+        self.discard.discarded()
     }
 
     /// An MRW is due, which tells the receiver of discarded units (TS 25.322 11.6.2).
@@ -214,7 +206,7 @@ impl AmSend {
         ensures same { IsSame self.old self.new }
     {
         let kept = self.outgoing.restart();
-        self.held.restart(kept);
+        self.discard.restart(kept);
     }
 
     /// Gives all memory back.

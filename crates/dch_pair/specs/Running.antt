@@ -3,7 +3,7 @@ use Rattle.std.specs.Prelude.{◌≡◌, ◌+◌, ◌<◌, ◌≤◌, ◌⊎◌,
 use Rattle.dch_am.specs.Bodies.{ends}
 use Rattle.dch_am.specs.Numbers.{has}
 use Rattle.dch_am.specs.Sender.{discarded}
-use Rattle.dch_held.specs.Held.{capped}
+use Rattle.dch_amsend.specs.SduDiscard.{capped}
 use Rattle.dch_pair.specs.declared.peer.Record.{Record}
 use Rattle.dch_pair.specs.declared.setup.End.{End as Side}
 use Rattle.dch_pair.specs.declared.setup.End.TheVariants.{First, Second}

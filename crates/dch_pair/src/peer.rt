@@ -2,7 +2,7 @@ ghost use Rattle.std.specs.Prelude.{◌≡◌, ◌+◌, ◌<◌, ◌≤◌, ◌^
 ghost use Rattle.dch_am.specs.Entities.{Build, Entity, HandUp, IsWritten, Offer as Offers, Tick, opened_entity, step, turn, writes};
 ghost use Rattle.dch_am.specs.Rules.{Rules, rules_of};
 ghost use Rattle.dch_am.specs.Sender.{discarded};
-ghost use Rattle.dch_held.specs.Held.{capped};
+ghost use Rattle.dch_amsend.specs.SduDiscard.{capped};
 ghost use Rattle.dch_rlcpdu.specs.Am.{am_reading};
 ghost use Rattle.dch_amlaw.specs.Pair.{all_handed};
 ghost use Rattle.dch_amentity.specs.Standing.{AreSizes, Represents, is_settled, waiting_in};

@@ -3,7 +3,7 @@ use Rattle.std.proofs.Common.{◌≡◌, ◌+◌, ◌-◌, ◌%◌, ◌^◌, ℕ
 use Rattle.dch_am.specs.Entities.{Come as Comes, Pdu, step as entity_step}
 use Rattle.dch_am.specs.Rules.{Rules}
 use Rattle.dch_amentity.specs.Standing.{Represents as StandsFor, Running as RunningEntity}
-use Rattle.dch_held.specs.Held.{capped}
+use Rattle.dch_amsend.specs.SduDiscard.{capped}
 use Rattle.dch_resetlaw.specs.Ends.{Pending, hfni_of}
 use Rattle.dch_reset.specs.Answers.{unless_pending}
 use Rattle.dch_reset.specs.Standing.{Represents, Running, pending_of}

@@ -4,7 +4,7 @@ ghost use Rattle.dch_am.specs.Entities.{IsSmall, ResetAckPdu, ResetPdu, pdu_of};
 ghost use Rattle.dch_am.specs.Rules.{Rules, rules_of};
 ghost use Rattle.dch_am.specs.Sender.{offered};
 ghost use Rattle.dch_amentity.specs.Answers.{received, waiting};
-ghost use Rattle.dch_held.specs.Held.{capped};
+ghost use Rattle.dch_amsend.specs.SduDiscard.{capped};
 ghost use Rattle.dch_resetlaw.specs.Ends.{is_asked, is_heard};
 ghost use Rattle.dch_rlcpdu.specs.Am.{am_reading};
 ghost use Rattle.dch_sar.specs.Taking.{handed_of, written};

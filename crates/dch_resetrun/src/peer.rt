@@ -1,6 +1,6 @@
 ghost use Rattle.std.specs.Prelude.{◌≡◌, ◌+◌, ◌<◌, ◌≤◌, ◌^◌, ◌++◌, IfOk, drop, false, is_some, length, take, true};
 ghost use Rattle.dch_am.specs.Rules.{Rules, rules_of};
-ghost use Rattle.dch_held.specs.Held.{capped};
+ghost use Rattle.dch_amsend.specs.SduDiscard.{capped};
 ghost use Rattle.dch_pair.specs.Standing.{whole};
 ghost use Rattle.dch_reset.specs.History.{handed_up};
 ghost use Rattle.dch_reset.specs.Standing.{AreSizes, Represents, is_settled, waiting_in};

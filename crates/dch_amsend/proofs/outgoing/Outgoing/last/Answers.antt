@@ -3,7 +3,7 @@ use Rattle.dch_am.specs.Building.{Last, after_choice}
 use Rattle.dch_am.specs.Numbers.{has}
 use Rattle.dch_am.specs.Sender.{vt_a, vt_s}
 use Rattle.dch_retx.specs.declared.sent_pdu.SentPdu.{SentPdu}
-use Rattle.dch_unsent.specs.Waiting.{IsHere}
+use Rattle.dch_amsend.specs.TxBuffer.{IsHere}
 use Rattle.dch_retx.specs.RetxBuffer.{RetxBuffer}
 use Rattle.dch_amsend.specs.Outgoing.{IsLast, IsOutgoing, IsRunning, Outgoing, with_line}
 use Rattle.dch_amsend.proofs.Counting.{last_is, last_not}
@@ -27,21 +27,21 @@ last-poll-requires c =
 
 pub write-requires-clause-here : goal.write-requires-clause-here
 write-requires-clause-here c =
-    let v : Outgoing = record { size = c.self.inside.size; line = c.self.inside.line; waiting = c.self.inside.waiting } in
+    let v : Outgoing = record { size = c.self.inside.size; line = c.self.inside.line; tx_buffer = c.self.inside.tx_buffer } in
     let run : IsRunning v = c.self.invariant in
     let last : IsLast c.self.inside.line c.args.place = subst (λ (x : Outgoing). IsLast x.line c.args.place) (sym c.self.view_is) c.requires.last in
     let inside : c.args.place < length c.self.inside.line.flown = omega (arith, last.place_is, last.some) in
-    subst (λ (f : SentPdu). IsHere c.self.inside.waiting f) (sym c.at-flown.ensures) (place_here run.rules (c.self.inside.size - 2) v run.sender c.args.place inside run.stands)
+    subst (λ (f : SentPdu). IsHere c.self.inside.tx_buffer f) (sym c.at-flown.ensures) (place_here run.rules (c.self.inside.size - 2) v run.sender c.args.place inside run.stands)
 
 pub write-requires-clause-size : goal.write-requires-clause-size
 write-requires-clause-size c =
-    let v : Outgoing = record { size = c.self.inside.size; line = c.self.inside.line; waiting = c.self.inside.waiting } in
+    let v : Outgoing = record { size = c.self.inside.size; line = c.self.inside.line; tx_buffer = c.self.inside.tx_buffer } in
     let run : IsRunning v = c.self.invariant in
     c.requires.size ∙ (ap (λ (x : Outgoing). x.size) (sym c.self.view_is) ∙ sym (size_same v run))
 
 pub invariant_of-self : goal.invariant_of-self
 invariant_of-self c =
-    let v : Outgoing = record { size = c.self.inside.size; line = c.self.inside.line; waiting = c.self.inside.waiting } in
+    let v : Outgoing = record { size = c.self.inside.size; line = c.self.inside.line; tx_buffer = c.self.inside.tx_buffer } in
     let run : IsRunning v = c.self.invariant in
     let last : IsLast c.self.inside.line c.args.place = subst (λ (x : Outgoing). IsLast x.line c.args.place) (sym c.self.view_is) c.requires.last in
     let inside : c.args.place < length c.self.inside.line.flown = omega (arith, last.place_is, last.some) in

@@ -10,7 +10,7 @@ use Rattle.dch_amsend.proofs.outgoing.Outgoing.write_mrw.Goals as goal
 
 pub invariant_of-self : goal.invariant_of-self
 invariant_of-self c =
-    let v : Outgoing = record { size = c.self.inside.size; line = c.self.inside.line; waiting = c.self.inside.waiting } in
+    let v : Outgoing = record { size = c.self.inside.size; line = c.self.inside.line; tx_buffer = c.self.inside.tx_buffer } in
     let run : IsRunning v = c.self.invariant in
     let due : is_due c.self.inside.line.running ≡ true = subst (λ (x : Outgoing). is_due x.line.running ≡ true) (sym c.self.view_is) c.requires.due in
     record {
@@ -23,7 +23,7 @@ invariant_of-self c =
 
 pub returns-clause-history : goal.returns-clause-history
 returns-clause-history c = λ rules d s x is e.
-    let v : Outgoing = record { size = c.self.inside.size; line = c.self.inside.line; waiting = c.self.inside.waiting } in
+    let v : Outgoing = record { size = c.self.inside.size; line = c.self.inside.line; tx_buffer = c.self.inside.tx_buffer } in
     let here : IsOutgoing rules d v s = subst (λ y. IsOutgoing rules d y s) (sym c.self.view_is) is in
     let told = c.mrw-number.ensures.history rules s x here.line e in (
       subst (λ n. IsText c.write_mrw.new.out (0 ∷ mrw_text n x.n)) told.0 (subst (λ m. IsText c.write_mrw.new.out (0 ∷ mrw_text c.mrw-number.result.0 m)) told.1 c.write_mrw.ensures.text),

@@ -8,5 +8,5 @@ pub returns-clause-stands : goal.returns-clause-stands
 returns-clause-stands c = record {
   rules_are = refl;
   outgoing = subst (λ n. IsOutgoing (rules_of c.args.buffer c.args.rules) (n - 2) c.in_ok-outgoing.outgoing opened_sender) (sym c.in_ok-outgoing.ensures.size) c.in_ok-outgoing.ensures.history;
-  held = c.in_ok-held.ensures.history (rules_of c.args.buffer c.args.rules) refl refl;
+  sdu_discard = c.in_ok-discard.ensures.history (rules_of c.args.buffer c.args.rules);
 }

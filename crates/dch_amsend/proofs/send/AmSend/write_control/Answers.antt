@@ -12,14 +12,14 @@ use Rattle.dch_amsend.proofs.send.AmSend.write_control.Goals as goal
 
 pub returns-clause-stands : goal.returns-clause-stands
 returns-clause-stands c = λ rules s is.
-    let v : Sending = record { outgoing = c.self.inside.outgoing; held = c.self.inside.held; rules = c.self.inside.rules } in
+    let v : Sending = record { outgoing = c.self.inside.outgoing; sdu_discard = c.self.inside.discard; rules = c.self.inside.rules } in
     let here : Stands rules v s = subst (λ x. Stands rules x s) (sym c.self.view_is) is in
     let due : is_due c.self.inside.outgoing.line.running ≡ true = subst (λ (x : Sending). is_due x.outgoing.line.running ≡ true) (sym c.self.view_is) c.requires.due in
     moving_stands rules v s c.write_mrw.new.self here (sym (due_is rules c.self.inside.outgoing.line s here.outgoing.line) ∙ due) c.write_mrw.ensures.size (λ x e. (c.write_mrw.ensures.history rules (c.self.inside.outgoing.size - 2) s x here.outgoing e).2)
 
 pub returns-clause-mrw : goal.returns-clause-mrw
 returns-clause-mrw c = λ rules s is.
-    let v : Sending = record { outgoing = c.self.inside.outgoing; held = c.self.inside.held; rules = c.self.inside.rules } in
+    let v : Sending = record { outgoing = c.self.inside.outgoing; sdu_discard = c.self.inside.discard; rules = c.self.inside.rules } in
     let here : Stands rules v s = subst (λ x. Stands rules x s) (sym c.self.view_is) is in
     let due : is_due c.self.inside.outgoing.line.running ≡ true = subst (λ (x : Sending). is_due x.outgoing.line.running ≡ true) (sym c.self.view_is) c.requires.due in
     mrw_by s c.write_mrw.new.out (sym (due_is rules c.self.inside.outgoing.line s here.outgoing.line) ∙ due) (λ x e.

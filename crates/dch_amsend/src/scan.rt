@@ -1,0 +1,109 @@
+ghost use Rattle.std.specs.Prelude.{◌≡◌, ℕ, ◌+◌, ◌*◌, ◌<◌, ◌≤◌, false, length, true};
+ghost use Rattle.dch_retx.specs.Flights.{ends_in};
+ghost use Rattle.dch_amsend.specs.Scanning.{after_pdu, can_discard, is_often, is_old, last_in, mark_of};
+
+use crate::discard::SduDiscard;
+use dch_retx::SentPdu;
+use dch_types::AmRules;
+
+/// A unit that is discarded: its place among the units that are held, its PDU's place among those in flight, and the
+/// place of its end mark there, 0 to 15.
+#[derive(Clone, Copy, Debug, PartialEq, Eq)]
+pub struct Overdue {
+    pub unit: u16,
+    pub place: u16,
+    pub mark: u8,
+}
+
+/// How far a pass over the PDUs in flight has come.
+#[derive(Clone, Copy)]
+pub struct Scan {
+    /// How many units end in them.
+    pub unit: usize,
+    /// The next of them began in a PDU that was requested after it was built often enough.
+    pub begun: bool,
+    /// The last that can be discarded.
+    pub found: Option<Overdue>,
+}
+
+/// The pass goes over one more PDU. At most 256 units end in each of 2048 of them.
+pub fn after_pdu(
+    held: &SduDiscard,
+    rules: &AmRules,
+    flown: &SentPdu,
+    place: u16,
+    scan: Scan,
+) -> Scan
+    requires { scan.unit ≤ 256 * 2048 }
+    ensures { result ≡ after_pdu rules.now held.now place flown.now scan }
+{
+    let often = is_often(rules, flown);
+    let found = last_in(held, rules, flown, place, scan);
+    let begun = often && flown.continues() || flown.ends() == 0 && scan.begun;
+    Scan {
+        unit: scan.unit + flown.ends() as usize,
+        begun,
+        found,
+    }
+}
+
+/// A PDU is requested and was built often enough.
+fn is_often(rules: &AmRules, flown: &SentPdu) -> bool
+    ensures { result ≡ is_often rules.now flown.now }
+{
+    rules.discard_sent > 0 && flown.requested && flown.builds >= rules.discard_sent
+}
+
+/// The last unit that can be discarded, up to those that end in a PDU.
+fn last_in(
+    held: &SduDiscard,
+    rules: &AmRules,
+    flown: &SentPdu,
+    place: u16,
+    scan: Scan,
+) -> Option<Overdue>
+    requires { scan.unit ≤ 256 * 2048 }
+    ensures { result ≡ last_in rules.now held.now place flown.now scan (ends_in flown.now) }
+{
+    let mut found = scan.found;
+    for j in 0..flown.ends() {
+        if can_discard(held, rules, flown, scan, j) {
+            found = Some(Overdue {
+                unit: (scan.unit + j as usize) as u16,
+                place,
+                mark: mark_of(flown, j) as u8,
+            });
+        }
+    }
+    found
+}
+
+/// One of the units that end in a PDU can be discarded.
+fn can_discard(held: &SduDiscard, rules: &AmRules, flown: &SentPdu, scan: Scan, j: u16) -> bool
+    requires { scan.unit ≤ 256 * 2048 }
+    ensures answer { result ≡ can_discard rules.now held.now flown.now scan j }
+    ensures small { result ≡ true → (scan.unit + j < 65535) × (mark_of flown.now j ≤ 15) }
+{
+    let unit = scan.unit + j as usize;
+    if unit >= held.len() || unit < held.passed() || mark_of(flown, j) > 15 {
+        return false;
+    }
+    is_old(held, rules, unit) || is_often(rules, flown) || j == 0 && scan.begun
+}
+
+/// A unit is old enough. Where it isn't, none behind it is.
+pub fn is_old(held: &SduDiscard, rules: &AmRules, unit: usize) -> bool
+    requires { unit < length held.now.ages }
+    ensures value { result ≡ is_old rules.now held.now unit }
+    ensures behind { result ≡ false → (i : ℕ) → unit ≤ i → is_old rules.now held.now i ≡ false }
+{
+    rules.discard_age > 0 && held.age(unit) >= rules.discard_age
+}
+
+/// The place of the end mark of the unit that ends in a PDU behind so many others.
+fn mark_of(flown: &SentPdu, j: u16) -> u16
+    requires { j < 65535 }
+    ensures { result ≡ mark_of flown.now j }
+{
+    if flown.full && j == 0 { 0 } else { j + 1 }
+}

@@ -1,6 +1,0 @@
-use Rattle.std.proofs.Common.{◌≡◌}
-use Rattle.dch_overdue.specs.Scanning.{last_in}
-use Rattle.dch_overdue.proofs.scan.last_in.Given as goal
-
-abbrev pub invariant-loop-j : goal.invariant-loop-j
-invariant-loop-j l = l.found ≡ last_in l.rules l.held l.place l.flown l.scan l.j

@@ -1,5 +1,0 @@
-pub mod Counting
-pub mod Offering
-pub mod Placing
-pub mod Restarting
-pub mod Taking

@@ -1,5 +1,0 @@
-use Rattle.dch_unsent.proofs.Counting.{Counts}
-use Rattle.dch_unsent.proofs.left.count_pdus.Given as goal
-
-abbrev pub invariant-loop-count : goal.invariant-loop-count
-invariant-loop-count l = Counts l.sdus.items l.fn.first l.first_owed l.octets l.start l.owed l.count
