@@ -1,19 +1,17 @@
 -- The blocks in which PDUs stand, as PDUs come and leave.
-use Rattle.std.proofs.Common.{◌≡◌, ◌≢◌, ◌+◌, ◌-◌, ◌<◌, ◌≤◌, ℕ, zero, suc, List, [], ◌∷◌, Bool, true, false, cond, Option, Some, None, map, length, drop, set, get_or, slice_get, arith, refl, sym, ap, ap₂, ◌∙◌, subst, inl, inr}
-use Rattle.std.specs.Prelude.{IsSome, IfSome, is_none, count_by, replicate}
-use Rattle.std.proofs.lemmas.List.Folds.{sum_by-replicate}
-use Rattle.std.proofs.lemmas.List.{length-replicate, length-drop}
+use Rattle.std.proofs.Common.{◌≡◌, ◌≢◌, ◌+◌, ◌-◌, ◌<◌, ◌≤◌, ℕ, zero, suc, List, [], ◌∷◌, false, cond, Option, Some, None, map, length, drop, set, get_or, slice_get, arith, refl, sym, ap, ap₂, ◌∙◌, subst}
+use Rattle.std.specs.Prelude.{IsSome, IfSome, is_none, count_by}
+use Rattle.std.proofs.lemmas.List.{length-drop}
 use Rattle.std.specs.Option.{option_flatten}
-use Rattle.std.proofs.lemmas.Bool.{cases_eq}
 use Rattle.std.proofs.lemmas.List.{length-set, get_or-set_same, get_or-set_other}
 use Rattle.std.proofs.lemmas.List.Sums.{sum_by-set}
 use Rattle.circular_buffer.specs.Buffer.{buffer}
 use Rattle.dch_am.specs.Contents.{body_in}
 use Rattle.dch_rlcpdu.specs.Parts.{Content}
 use Rattle.dch_pool.specs.Blocks.{Blocks, IsLent, octets_of, spare_of, with_octets, without}
-use Rattle.dch_amrecv.specs.Places.{Places, is_kept, put, with_ring}
+use Rattle.dch_amrecv.specs.Places.{is_kept, put, with_ring}
 use Rattle.dch_amrecv.specs.Stored.{IsStored, Stores}
-use Rattle.dch_amrecv.specs.Kept.{IsKept, Left, Lends, blocks_in, body_at, given, kept, seen}
+use Rattle.dch_amrecv.specs.Kept.{IsKept, Left, Lends, blocks_in, given, kept, seen}
 use Rattle.dch_amrecv.proofs.Putting.{length-put}
 use Rattle.dch_amrecv.proofs.Seeing.{drop-seen, put-seen}
 

@@ -1,8 +1,8 @@
 -- A PDU in the octets of a block.
-use Rattle.std.proofs.Common.{◌≡◌, ◌+◌, ◌-◌, ◌≤◌, ◌<◌, ℕ, zero, suc, List, [], ◌∷◌, ◌++◌, Option, Some, None, length, take, drop, map, set, get_or, arith, refl, sym, ap, ap₂, ◌∙◌, subst, length-append, length-drop, length-take}
+use Rattle.std.proofs.Common.{◌≡◌, ◌+◌, ◌≤◌, ◌<◌, ℕ, zero, suc, List, [], ◌∷◌, ◌++◌, Option, Some, None, length, take, drop, map, set, get_or, arith, refl, sym, ap, ap₂, ◌∙◌, subst, length-append, length-take}
 use Rattle.std.specs.Prelude.{replicate}
 use Rattle.std.proofs.Math.Seq.{take-append_seam, drop-append_seam}
-use Rattle.std.proofs.lemmas.List.{length-replicate, length-set, get_or-set_same, length-map}
+use Rattle.std.proofs.lemmas.List.{get_or-set_same, length-map}
 use Rattle.dch_rlcpdu.specs.Marks.{AreMarks, mark_of}
 use Rattle.dch_rlcpdu.specs.Parts.{Content}
 use Rattle.dch_pool.proofs.Lent.{IsLent-with_octets}

@@ -1,5 +1,5 @@
 -- How a PDU is kept in a block: the number of its marks, that of its octets, the marks as they stand in the PDU, and the octets.
-use Rattle.std.specs.Prelude.{◌≡◌, ◌+◌, ◌<◌, ◌≤◌, ℕ, List, length, map, take, drop, Option, None, slice_index, slice_index_or}
+use Rattle.std.specs.Prelude.{◌≡◌, ◌+◌, ◌<◌, ◌≤◌, ℕ, List, length, map, take, drop, None, slice_index, slice_index_or}
 use Rattle.dch_rlcpdu.specs.Marks.{AreMarks, mark_of}
 use Rattle.dch_rlcpdu.specs.Parts.{Content}
 use Rattle.dch_pool.specs.Blocks.{Blocks, octets_of, with_octets}

@@ -1,4 +1,4 @@
-ghost use Rattle.std.specs.Prelude.{◌≡◌, ◌+◌, ◌*◌, ◌<◌, ◌≤◌, ◌==◌, [], ◌∷◌, All, IfOk, Some, length, take, true};
+ghost use Rattle.std.specs.Prelude.{◌≡◌, ◌+◌, ◌*◌, ◌%◌, ◌<◌, ◌≤◌, ◌==◌, [], ◌∷◌, All, IfOk, Some, length, take, true};
 ghost use Rattle.dch_sar.specs.Taking.{handed_of, written};
 ghost use Rattle.dch_am.specs.Contents.{body_in};
 ghost use Rattle.dch_amrecv.specs.Holding.{after_answer, after_move, after_telling, after_tick, after_unit, answer, fields_told, is_due, lsn_told, move_answer, opened, pairs_told, plain_due};
@@ -12,7 +12,7 @@ use crate::telling::{most, number};
 use dch_am::{MrwTaken, Taken};
 use dch_bits::NoMemory;
 use dch_rlcpdu::{Body, Handed};
-use dch_status::{write_ack, write_mrw_ack, write_mrw_status};
+use dch_status::{MrwPlace, NUMBERS, SnRun, write_ack, write_mrw_ack, write_mrw_status};
 use dch_types::AmRules;
 use std::alloc::Global;
 use std::marker::Model;
@@ -25,7 +25,7 @@ pub struct Holder {
     reply: usize,
     next: u16,
     buffer: RxBuffer,
-    ack: Option<(u16, u8)>,
+    ack: Option<MrwPlace>,
     owed: bool,
     status_prohibit_timer: u16,
     period: u16,
@@ -81,8 +81,8 @@ impl Holder {
         ensures value { result ≡ answer sn self.old }
         ensures after { self.new ≡ after_answer result sn poll (body_in body.now) self.old }
     {
-        let ahead = (sn + 4096 - self.next) % 4096;
-        if ahead >= 4096 - self.rules.window || self.buffer.has(ahead as usize) {
+        let ahead = (sn + NUMBERS - self.next) % NUMBERS;
+        if ahead >= NUMBERS - self.rules.window || self.buffer.has(ahead as usize) {
             self.owed = self.owed || poll;
             return Taken::Duplicate;
         }
@@ -92,7 +92,7 @@ impl Holder {
         let missing = self.rules.missing && self.buffer.len() < ahead as usize;
         self.owed = self.owed || (poll || missing);
         let run = self.buffer.keep(ahead as usize, body);
-        self.next = ((self.next as usize + run % 4096) % 4096) as u16;
+        self.next = moved(self.next, run);
         Taken::Kept
     }
 
@@ -104,18 +104,20 @@ impl Holder {
         ensures value { result ≡ move_answer sn self.old }
         ensures after { self.new ≡ after_move result sn n self.old }
     {
-        let ahead = (sn + 4096 - self.next) % 4096;
-        if ahead >= self.rules.window && ahead < 4096 - self.rules.window {
+        let ahead = (sn + NUMBERS - self.next) % NUMBERS;
+        if ahead >= self.rules.window && ahead < NUMBERS - self.rules.window {
             return MrwTaken::Outside(sn);
         }
         let mut answer = MrwTaken::Old;
-        if ahead < 4096 - self.rules.window {
+        if ahead < NUMBERS - self.rules.window {
             let run = self.buffer.pass(ahead as usize, n);
-            self.next = ((self.next as usize + (ahead as usize + run % 4096)) % 4096) as u16;
+            self.next = moved(moved(self.next, ahead as usize), run);
             answer = MrwTaken::Obeyed;
         }
-        let place = if self.next == sn { n } else { 0 };
-        self.ack = Some((self.next, place));
+        self.ack = Some(MrwPlace {
+            sn: self.next,
+            n: if self.next == sn { n } else { 0 },
+        });
         answer
     }
 
@@ -188,21 +190,21 @@ impl Holder {
     {
         match self.ack {
             None => {
-                let mut pairs = [(0, 0); 62];
+                let mut pairs = [SnRun { first: 0, more: 0 }; 62];
                 let (count, lsn) = self.gaps(8 * self.reply, &mut pairs);
                 write_ack(&pairs[..count], lsn, out);
             }
-            Some((sn, n)) if self.owed && self.status_prohibit_timer == 0 => {
-                let mut pairs = [(0, 0); 62];
+            Some(place) if self.owed && self.status_prohibit_timer == 0 => {
+                let mut pairs = [SnRun { first: 0, more: 0 }; 62];
                 let (count, lsn) = self.gaps(8 * self.reply - 20, &mut pairs);
-                write_mrw_status(n, sn, &pairs[..count], lsn, out);
+                write_mrw_status(place.n, place.sn, &pairs[..count], lsn, out);
             }
-            Some((sn, n)) => write_mrw_ack(n, sn, out),
+            Some(place) => write_mrw_ack(place.n, place.sn, out),
         }
     }
 
     /// The runs of missing numbers that fit so many bits, and the LSN.
-    fn gaps(&self, bits: usize, pairs: &mut [(u16, u8)]) -> (usize, u16)
+    fn gaps(&self, bits: usize, pairs: &mut [SnRun]) -> (usize, u16)
         requires least { 20 ≤ bits }
         requires bits { bits ≤ 1008 }
         requires room { length pairs.old ≡ 62 }
@@ -217,6 +219,16 @@ impl Holder {
         let count = most(bits, total);
         number(&mut pairs[..count], self.next);
         let ahead = if count == total { self.buffer.len() } else { 0 };
-        (count, ((self.next as usize + ahead % 4096) % 4096) as u16)
+        (count, moved(self.next, ahead))
     }
+}
+
+/// The number of 12 bits that is so many further.
+fn moved(number: u16, count: usize) -> u16
+    requires { number < 4096 }
+    ensures value { result ≡ (number + count) % 4096 }
+    ensures small { result < 4096 }
+{
+    let numbers = NUMBERS as usize;
+    ((number as usize + count % numbers) % numbers) as u16
 }

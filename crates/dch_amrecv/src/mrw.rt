@@ -3,10 +3,10 @@ ghost use Rattle.dch_am.specs.Moves.{move_in};
 ghost use Rattle.dch_status.specs.Sufis.{IsInRange};
 ghost use Rattle.dch_amrecv.specs.Moves.{seen};
 
-use dch_status::{StatusView, Sufi};
+use dch_status::{MrwPlace, StatusView, Sufi};
 
-/// The last MRW of a status: its number, and the place in that PDU.
-pub fn last_move(status: &StatusView<'_>) -> Option<(u16, u8)>
+/// Where the last MRW of a status moves the window.
+pub fn last_move(status: &StatusView<'_>) -> Option<MrwPlace>
     ensures value { result ≡ move_in status.now }
     ensures range { IfSome result (λ p. (p.0 < 4096) × (p.1 < 16)) }
 {
@@ -20,14 +20,14 @@ pub fn last_move(status: &StatusView<'_>) -> Option<(u16, u8)>
 }
 
 /// What was found, where a field more is looked at.
-fn seen(found: Option<(u16, u8)>, field: Sufi) -> Option<(u16, u8)>
+fn seen(found: Option<MrwPlace>, field: Sufi) -> Option<MrwPlace>
     requires found { IfSome found (λ p. (p.0 < 4096) × (p.1 < 16)) }
     requires field { IsInRange field }
     ensures value { result ≡ seen found field }
     ensures range { IfSome result (λ p. (p.0 < 4096) × (p.1 < 16)) }
 {
     match field {
-        Sufi::Mrw { last, n } => Some((last, n)),
+        Sufi::Mrw { last, n } => Some(MrwPlace { sn: last, n }),
         _ => found,
     }
 }

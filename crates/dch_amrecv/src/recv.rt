@@ -132,7 +132,7 @@ impl AmRecv {
         ensures same { IsSame self.old self.new }
     {
         match last_move(status) {
-            Some((sn, n)) => self.holder.obey(sn, n),
+            Some(place) => self.holder.obey(place.sn, place.n),
             None => MrwTaken::Nothing,
         }
     }

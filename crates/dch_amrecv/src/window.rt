@@ -11,6 +11,7 @@ use circular_buffer::HeapCircularBuffer;
 use dch_bits::NoMemory;
 use dch_pool::{Block, Pool};
 use dch_rlcpdu::Body;
+use dch_status::SnRun;
 use std::alloc::Global;
 use std::marker::Model;
 
@@ -122,7 +123,7 @@ impl RxWindow {
 
     /// The places without a PDU as runs of at most 16, from a place on that has none: the first of each run, counted from there, and
     /// how many follow it. As many are written as find room. Answers how many runs there are.
-    pub fn gaps(&self, from: usize, out: &mut [(u16, u8)]) -> usize
+    pub fn gaps(&self, from: usize, out: &mut [SnRun]) -> usize
         requires from { from ≤ length self.now.ring.items }
         requires first { front (drop from self.now.ring.items) ≡ 0 }
         requires few { self.now.ring.capacity ≤ 2048 }

@@ -22,7 +22,7 @@ use crate::sent_pdu::SentPdu;
 use crate::tell::{Told, tell};
 use dch_am::StatusTaken;
 use dch_bits::NoMemory;
-use dch_status::StatusView;
+use dch_status::{MrwPlace, NUMBERS, StatusView};
 use dch_types::AmRules;
 use std::alloc::Global;
 use std::marker::Model;
@@ -264,7 +264,7 @@ impl RetxBuffer {
         let ends = flown.ends();
         let due = crosses(self.rules.poll_units, self.ended, ends);
         self.ended = counted(self.rules.poll_units, self.ended, ends);
-        self.next = (self.next + 1) % 4096;
+        self.next = (self.next + 1) % NUMBERS;
         self.flight.push(flown);
         self.sent(!left || due)
     }
@@ -346,7 +346,7 @@ impl RetxBuffer {
     }
 
     /// The 12-bit number and the mark of the running discard, which an MRW tells of.
-    pub fn mrw(&self) -> (u16, u8)
+    pub fn mrw(&self) -> MrwPlace
         requires { is_due self.now.running ≡ true }
         ensures number { result ≡ (number_at (place_in self.now.running) self.now, mark_in self.now.running) }
         ensures small { (result.0 < 4096) × (result.1 < 16) }
@@ -355,14 +355,20 @@ impl RetxBuffer {
         self.moved_to()
     }
 
-    fn moved_to(&self) -> (u16, u8)
+    fn moved_to(&self) -> MrwPlace
         requires { is_due self.now.running ≡ true }
         ensures number { result ≡ (number_at (place_in self.now.running) self.now, mark_in self.now.running) }
         ensures small { (result.0 < 4096) × (result.1 < 16) }
     {
         match self.running {
-            None => (self.number_at(0), 0),
-            Some(running) => (self.number_at(running.at), running.n),
+            None => MrwPlace {
+                sn: self.number_at(0),
+                n: 0,
+            },
+            Some(running) => MrwPlace {
+                sn: self.number_at(running.at),
+                n: running.n,
+            },
         }
     }
 
@@ -396,7 +402,7 @@ impl RetxBuffer {
         ensures small { result < 4096 }
     {
         let ahead = self.flight.len() as u16 - place;
-        (self.next + 4096 - ahead) % 4096
+        (self.next + NUMBERS - ahead) % NUMBERS
     }
 
     /// Begins anew: no PDU is in flight, no poll is out or owed, and no discard runs.

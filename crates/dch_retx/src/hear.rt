@@ -4,7 +4,7 @@ ghost use Rattle.dch_am.specs.Numbers.{range};
 ghost use Rattle.dch_retx.specs.StatusItems.{first_of, missing_of, said_by, said_in};
 ghost use Rattle.dch_retx.specs.StatusItem.{first_outside, is_unknown, place_of};
 
-use dch_status::{Cursor, StatusView, Sufi};
+use dch_status::{Cursor, NUMBERS, SnRun, StatusView, Sufi};
 
 /// Where a number stands among PDUs in flight, the first of which has another one.
 pub fn place_of(first: u16, number: u16) -> u16
@@ -12,7 +12,7 @@ pub fn place_of(first: u16, number: u16) -> u16
     ensures place { result ≡ place_of first number }
     ensures small { result < 4096 }
 {
-    (number % 4096 + 4096 - first) % 4096
+    (number % NUMBERS + NUMBERS - first) % NUMBERS
 }
 
 /// The PDUs in flight that a status is judged by: the window, the number of the first one, and how many there are.
@@ -62,7 +62,7 @@ fn outside_ack(lsn: u16, flying: Flying) -> Option<u16>
     ensures { result ≡ first_outside flying.window flying.first flying.count (said_in (AckField lsn)) }
 {
     if place_of(flying.first, lsn) > flying.count {
-        Some(lsn % 4096)
+        Some(lsn % NUMBERS)
     } else {
         None
     }
@@ -75,8 +75,8 @@ fn outside_list(cursor: &Cursor<'_>, pairs: u8, flying: Flying) -> Option<u16>
     ensures { result ≡ first_outside flying.window flying.first flying.count (said_in (ListField (pairs_of (first_of cursor.now)))) }
 {
     for j in 0..pairs as usize {
-        let (number, more) = cursor.pair(j);
-        let found = outside_run(number, more, flying);
+        let run = cursor.run(j);
+        let found = outside_run(run, flying);
         if found.is_some() {
             return found;
         }
@@ -84,21 +84,21 @@ fn outside_list(cursor: &Cursor<'_>, pairs: u8, flying: Flying) -> Option<u16>
     None
 }
 
-/// The first number that is outside of a run: a number, and so many that follow it.
-fn outside_run(number: u16, more: u8, flying: Flying) -> Option<u16>
-    requires number { number < 4096 }
-    requires more { more < 16 }
+/// The first number of a run that is outside.
+fn outside_run(run: SnRun, flying: Flying) -> Option<u16>
+    requires number { run.0 < 4096 }
+    requires more { run.1 < 16 }
     requires flying { (flying.window ≤ 2048) × (flying.first < 4096) × (flying.count ≤ 2048) }
-    ensures { result ≡ first_outside flying.window flying.first flying.count (map missing_of (range number (more + 1))) }
+    ensures { result ≡ first_outside flying.window flying.first flying.count (map missing_of (range run.0 (run.1 + 1))) }
 {
-    let place = place_of(flying.first, number);
+    let place = place_of(flying.first, run.first);
     if place >= flying.count {
-        return Some(number);
+        return Some(run.first);
     }
-    if place + (more as u16) < flying.count {
+    if place + (run.more as u16) < flying.count {
         return None;
     }
-    Some((number + (flying.count - place)) % 4096)
+    Some((run.first + (flying.count - place)) % NUMBERS)
 }
 
 /// The first number of a BITMAP that is outside.
@@ -110,7 +110,7 @@ fn outside_bits(cursor: &Cursor<'_>, first: u16, bits: u16, flying: Flying) -> O
     ensures { result ≡ first_outside flying.window flying.first flying.count (said_in (BitmapField first (bits_of (first_of cursor.now)))) }
 {
     for j in 0..bits {
-        let number = (first + j) % 4096;
+        let number = (first + j) % NUMBERS;
         if cursor.bit(j as usize) && is_unknown(number, flying) {
             return Some(number);
         }
@@ -124,5 +124,5 @@ fn is_unknown(number: u16, flying: Flying) -> bool
     ensures { result ≡ is_unknown flying.window flying.first flying.count number }
 {
     let place = place_of(flying.first, number);
-    place >= flying.count && place < 4096 - flying.window
+    place >= flying.count && place < NUMBERS - flying.window
 }

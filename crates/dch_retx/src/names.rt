@@ -7,7 +7,7 @@ ghost use Rattle.dch_retx.specs.StatusItem.{is_named, names_place, with_name, wi
 
 use crate::flight::Flight;
 use crate::hear::place_of;
-use dch_status::{Cursor, StatusView, Sufi};
+use dch_status::{Cursor, NUMBERS, SnRun, StatusView, Sufi};
 
 /// What names do: the number of the first PDU in flight, the place from which named PDUs are requested, the place before which they are marked, and
 /// the place of the PDU that is asked for.
@@ -62,23 +62,24 @@ fn name_list(flight: &mut Flight, cursor: &Cursor<'_>, pairs: u8, naming: Naming
 {
     let mut named = false;
     for j in 0..pairs as usize {
-        let (number, more) = cursor.pair(j);
-        let here = name_run(flight, number, more, naming);
+        let run = cursor.run(j);
+        let here = name_run(flight, run, naming);
         named = named || here;
     }
     named
 }
 
-/// A number, and so many that follow it.
-fn name_run(flight: &mut Flight, number: u16, more: u8, naming: Naming) -> bool
-    requires number { number < 4096 }
+/// The numbers of a run.
+fn name_run(flight: &mut Flight, run: SnRun, naming: Naming) -> bool
+    requires number { run.0 < 4096 }
     requires first { naming.first < 4096 }
-    ensures named { result ≡ is_named naming.first naming.polled (map missing_of (range number (more + 1))) }
-    ensures after { flight.new ≡ buffer (with_names naming.first naming.from naming.to (map missing_of (range number (more + 1))) flight.old.items) flight.old.capacity }
+    ensures named { result ≡ is_named naming.first naming.polled (map missing_of (range run.0 (run.1 + 1))) }
+    ensures after { flight.new ≡ buffer (with_names naming.first naming.from naming.to (map missing_of (range run.0 (run.1 + 1))) flight.old.items) flight.old.capacity }
 {
+    let SnRun { first, more } = run;
     let mut named = false;
     for k in 0..more as u16 + 1 {
-        let here = name_one(flight, (number + k) % 4096, naming);
+        let here = name_one(flight, (first + k) % NUMBERS, naming);
         named = named || here;
     }
     named
@@ -102,7 +103,7 @@ fn name_bits(
     let mut named = false;
     for j in 0..bits {
         let bit = cursor.bit(j as usize);
-        let here = name_bit(flight, bit, (first + j) % 4096, naming);
+        let here = name_bit(flight, bit, (first + j) % NUMBERS, naming);
         named = named || here;
     }
     named

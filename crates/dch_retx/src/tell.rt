@@ -8,10 +8,10 @@ ghost use Rattle.dch_retx.specs.Telling.{ends_by, told_more, IsPassed, IsTold};
 
 use crate::buffer::Running;
 use crate::hear::{Flying, place_of};
-use dch_status::{Cursor, StatusView, Sufi};
+use dch_status::{Cursor, NUMBERS, SnRun, StatusView, Sufi};
 
 /// Nothing is outside, wherever the lowest open PDU stands.
-const NO_LIMIT: u16 = 4097;
+const NO_LIMIT: u16 = NUMBERS + 1;
 
 /// What a status tells as a whole.
 #[derive(Clone, Copy)]
@@ -126,21 +126,21 @@ fn limit_list(cursor: &Cursor<'_>, pairs: u8, flying: Flying) -> u16
 {
     let mut limit = NO_LIMIT;
     for j in 0..pairs as usize {
-        let (number, more) = cursor.pair(j);
-        limit = limit.min(limit_run(number, more, flying));
+        let run = cursor.run(j);
+        limit = limit.min(limit_run(run, flying));
     }
     limit
 }
 
-/// The same for a run: a number, and so many that follow it.
-fn limit_run(number: u16, more: u8, flying: Flying) -> u16
-    requires number { number < 4096 }
-    requires more { more < 16 }
+/// The same for a run.
+fn limit_run(run: SnRun, flying: Flying) -> u16
+    requires number { run.0 < 4096 }
+    requires more { run.1 < 16 }
     requires flying { (flying.window ≤ 2048) × (flying.first < 4096) × (flying.count ≤ 2048) }
-    ensures { result ≡ limit_in flying.window flying.first flying.count (map missing_of (range number (more + 1))) }
+    ensures { result ≡ limit_in flying.window flying.first flying.count (map missing_of (range run.0 (run.1 + 1))) }
 {
-    let place = place_of(flying.first, number);
-    if place + (more as u16) < flying.count {
+    let place = place_of(flying.first, run.first);
+    if place + (run.more as u16) < flying.count {
         place + 1
     } else {
         0
@@ -158,7 +158,7 @@ fn limit_bits(cursor: &Cursor<'_>, first: u16, bits: u16, flying: Flying) -> u16
     let mut limit = NO_LIMIT;
     for j in 0..bits {
         let bit = cursor.bit(j as usize);
-        limit = limit.min(limit_bit(bit, (first + j) % 4096, flying));
+        limit = limit.min(limit_bit(bit, (first + j) % NUMBERS, flying));
     }
     limit
 }
@@ -175,7 +175,7 @@ fn limit_bit(bit: bool, number: u16, flying: Flying) -> u16
     if place < flying.count {
         NO_LIMIT
     } else {
-        (place + 1).saturating_sub(4096 - flying.window)
+        (place + 1).saturating_sub(NUMBERS - flying.window)
     }
 }
 
@@ -204,7 +204,7 @@ fn ends_at(flying: Flying, running: Running, n: u8, sn: u16) -> Option<u16>
     ensures place { result ≡ ends_at flying.first flying.count running.at running.n n sn }
 {
     let at = running.at;
-    let place = place_of((flying.first + at) % 4096, sn);
+    let place = place_of((flying.first + at) % NUMBERS, sn);
     if place == 0 && n == running.n {
         return Some(at);
     }

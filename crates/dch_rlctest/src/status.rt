@@ -7,7 +7,10 @@ fn said(octets: &[u8], i: usize) -> Option<(Sufi, (u16, u8), bool)> {
         return None;
     }
     Some(match view.field(i) {
-        Sufi::List { pairs } if pairs > 0 => (Sufi::List { pairs }, view.pair(i, 0), false),
+        Sufi::List { pairs } if pairs > 0 => {
+            let run = view.run(i, 0);
+            (Sufi::List { pairs }, (run.first, run.more), false)
+        }
         Sufi::Bitmap { first, bits } if bits > 0 => (
             Sufi::Bitmap { first, bits },
             (0, 0),

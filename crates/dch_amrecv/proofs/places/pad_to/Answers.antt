@@ -1,6 +1,5 @@
 use Rattle.std.proofs.Common.{◌≡◌, ◌++◌, [], ◌∷◌, None, Option, ℕ, max, ◌∙◌, arith, ap, sym, length, refl}
 use Rattle.circular_buffer.specs.Buffer.{Buffer, buffer}
-use Rattle.dch_amrecv.specs.Places.{pad}
 use Rattle.dch_amrecv.specs.Kept.{given}
 use Rattle.dch_amrecv.proofs.Putting.{length-pad, pad_most, pad_next, pad_short}
 use Rattle.dch_amrecv.proofs.places.pad_to.Goals as goal

@@ -6,4 +6,4 @@ use Rattle.dch_retx.proofs.Fields.{IsNaming}
 use Rattle.dch_retx.proofs.names.name_run.Given as goal
 
 abbrev pub invariant-loop-k : goal.invariant-loop-k
-invariant-loop-k l = IsNaming l.naming.first l.naming.polled l.naming.from l.naming.to (map missing_of (range l.number (l.more + 1))) (map missing_of (range (l.number + l.k) (l.more + 1 - l.k))) l.named l.fn.flight l.flight
+invariant-loop-k l = IsNaming l.naming.first l.naming.polled l.naming.from l.naming.to (map missing_of (range l.first (l.more + 1))) (map missing_of (range (l.first + l.k) (l.more + 1 - l.k))) l.named l.fn.flight l.flight
