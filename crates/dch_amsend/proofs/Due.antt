@@ -1,10 +1,10 @@
 -- Whether a PDU can be built, and calls that are refused.
-use Rattle.std.proofs.Common.{◌≡◌, ◌≢◌, ◌+◌, ◌-◌, ◌<◌, ℕ, suc, List, [], ◌∷◌, ◌≤◌, subst, length-append, Bool, true, false, cond, ◌&&◌, ◌||◌, length, min, arith, refl, sym, ap, ◌∙◌}
-use Rattle.std.specs.Prelude.{nat_le, nat_lt}
+use Rattle.std.proofs.Common.{◌≡◌, ◌≢◌, ◌+◌, ◌-◌, ◌<◌, ℕ, zero, suc, take, List, [], ◌∷◌, ◌≤◌, subst, length-append, Bool, true, false, cond, ◌&&◌, ◌||◌, length, min, arith, refl, sym, ap, ◌∙◌}
+use Rattle.std.specs.Prelude.{None, Some, nat_le, nat_lt}
 use Rattle.std.proofs.lemmas.Bool.{le-ltb, leb-true, lt-ltb, ltb-false, ltb-true}
 use Rattle.dch_bits.specs.declared.offer.Offer.{Offer}
 use Rattle.dch_bits.specs.declared.offer.Offer.TheVariants.{Accepted, Full, WrongSize}
-use Rattle.dch_retx.specs.Flights.{wanted_in}
+use Rattle.dch_retx.specs.Flights.{at, ends_in, wanted_in}
 use Rattle.dch_am.specs.Bodies.{is_empty, is_left}
 use Rattle.dch_am.specs.Cuts.{AllFull}
 use Rattle.dch_am.proofs.Restarting.{cut_full, full_drop}
@@ -18,6 +18,15 @@ use Rattle.dch_amsend.specs.BufferStanding.{fills}
 use Rattle.dch_amsend.specs.TxBuffer.{TxBuffer, answer_of, buffer_after_offer, unsent_of}
 use Rattle.dch_amsend.proofs.Fills.{fills_some}
 use Rattle.dch_amsend.specs.Outgoing.{IsOutgoing, Outgoing, available_of, can_build}
+use Rattle.dch_retx.specs.declared.sent_pdu.SentPdu.{SentPdu}
+use Rattle.dch_am.specs.Building.{body_at}
+use Rattle.dch_am.specs.Bodies.{ends}
+use Rattle.dch_am.specs.Sender.{vt_a, vt_s}
+use Rattle.std.proofs.lemmas.List.{take_all}
+use Rattle.dch_amsend.specs.Scanning.{ends_below}
+use Rattle.dch_amsend.specs.TxBuffer.{ended_before}
+use Rattle.dch_amsend.proofs.Ending.{ends-step}
+use Rattle.dch_amsend.proofs.Placing.{place_is}
 use Rattle.dch_amsend.proofs.Events.{available_is}
 
 -- a PDU can be built where one is requested, a new one can follow, or the last one is to go again
@@ -94,3 +103,26 @@ room_left rules d v s unit answer is e taken = go (is_empty unit) (nat_lt 1500 (
     go false true c ea ec q = absurd (cc)
     go false false true ea ec q = omega (arith, few_sdus v.tx_buffer.sdus full, leb-true _ _ ec, some unit ea)
     go false false false ea ec q = absurd (cc)
+
+-- how many SDUs end before a PDU in flight is read off its extent
+below_next : (flown : List SentPdu) (n : ℕ) → n < length flown → ends_below (suc n) flown ≡ ends_below n flown + ends_in (at flown n)
+below_next [] n l = absurd (omega arith)
+below_next (f ∷ flown) zero l = omega arith
+below_next (f ∷ flown) (suc n) l = omega (arith, below_next flown n (omega arith))
+
+below_is : (rules : Rules) (d : ℕ) (v : Outgoing) (s : Sender) (n : ℕ) → n ≤ length v.line.flown → IsOutgoing rules d v s → ends (take (vt_a s + n) s.bodies) ≡ released s + ends_below n v.line.flown
+below_is rules d v s zero l is = let e : vt_a s + 0 ≡ vt_a s = omega arith in ap (λ k. ends (take k s.bodies)) e ∙ omega arith
+below_is rules d v s (suc n) l is =
+    let e : vt_a s + suc n ≡ vt_a s + n + 1 = omega arith in
+    ap (λ k. ends (take k s.bodies)) e ∙ omega (arith, ends-step s.bodies (vt_a s + n) (omega (arith, is.line.flying, l)), below_is rules d v s n (omega arith) is, (is.flown n (omega arith)).ends, below_next v.line.flown n (omega arith))
+
+pub ended_all : (rules : Rules) (d : ℕ) (v : Outgoing) (s : Sender) → IsOutgoing rules d v s → ended_before None v.tx_buffer ≡ ends_below (length v.line.flown) v.line.flown
+ended_all rules d v s is =
+    let all : ends (take (vt_a s + length v.line.flown) s.bodies) ≡ ends s.bodies = ap (λ k. ends (take k s.bodies)) is.line.flying ∙ ap ends (take_all (vt_s s) s.bodies (omega arith)) in
+    omega (arith, all, below_is rules d v s (length v.line.flown) (omega arith) is, is.tx_buffer.place)
+
+pub ended_below : (rules : Rules) (d : ℕ) (v : Outgoing) (s : Sender) (place : ℕ) → place < length v.line.flown → IsOutgoing rules d v s → ended_before (Some (at v.line.flown place)) v.tx_buffer ≡ ends_below place v.line.flown
+ended_below rules d v s place inside is =
+    let p = place_is d v.tx_buffer s (vt_a s + place) (at v.line.flown place).extent is.tx_buffer (is.taken place inside).sdu (omega arith) (omega (arith, inside, is.line.flying)) in
+    let full : cond {A = ℕ} (at v.line.flown place).full 1 0 ≡ cond (body_at s.bodies (vt_a s + place)).full 1 0 = ap (λ b. cond b 1 0) (is.flown place inside).full in
+    omega (arith, p.place, p.from, full, below_is rules d v s place (omega arith) is)

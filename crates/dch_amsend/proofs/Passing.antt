@@ -1,13 +1,18 @@
 -- Where no PDU is requested often enough and no unit is old enough, none is found.
-use Rattle.std.proofs.Common.{◌≡◌, ◌+◌, ◌≤◌, ℕ, zero, suc, List, [], ◌∷◌, Bool, true, false, cond, ◌&&◌, ◌||◌, length, arith, refl, ap, ap₂, ◌∙◌}
-use Rattle.std.specs.Prelude.{◌==◌, Some, None, nat_le, nat_lt}
-use Rattle.std.proofs.lemmas.Bool.{both_ways, leb-true, lt-ltb}
+use Rattle.std.proofs.Common.{◌≡◌, ◌⊎◌, ⊎_elim, ◌+◌, ◌-◌, ◌<◌, ◌≤◌, ℕ, zero, suc, List, [], ◌∷◌, Bool, true, false, cond, ◌&&◌, ◌||◌, length, drop, arith, refl, sym, ap, ap₂, ◌∙◌}
+use Rattle.std.specs.Prelude.{◌==◌, Option, Some, None, nat_le, nat_lt}
+use Rattle.std.proofs.lemmas.Bool.{both_ways, leb-true, lt-leb, lt-ltb}
 use Rattle.dch_types.specs.declared.bearer.AmRules.{AmRules}
 use Rattle.dch_retx.specs.declared.sent_pdu.SentPdu.{SentPdu}
-use Rattle.dch_retx.specs.Flights.{continues_in, ends_in, wanted_in}
+use Rattle.dch_retx.specs.Flights.{at, continues_in, ends_in, first_wanted, wanted_in}
+use Rattle.dch_retx.specs.RetxBuffer.{RetxBuffer}
+use Rattle.dch_retx.specs.declared.buffer.Pick.{Pick}
+use Rattle.dch_retx.specs.declared.buffer.Pick.TheVariants.{Again, New, Last, NoPdu}
+use Rattle.dch_retx.specs.Polling.{picked}
 use Rattle.dch_amsend.specs.SduDiscard.{SduDiscard}
 use Rattle.dch_amsend.specs.declared.scan.Scan.{Scan}
-use Rattle.dch_amsend.specs.Scanning.{after_pdu, after_pdus, can_discard, is_often, is_old, last_in, mark_of, no_scan, overdue}
+use Rattle.dch_amsend.specs.declared.scan.Overdue.{Overdue}
+use Rattle.dch_amsend.specs.Scanning.{after_pdu, after_pdus, can_discard, ends_below, is_often, is_old, last_in, mark_of, no_scan, overdue}
 
 -- no unit that was not discarded is old enough
 abbrev pub NoneOld : AmRules → SduDiscard → Type 0
@@ -39,15 +44,22 @@ none_one rules h f scan j often begun young = go (nat_le h.passed (scan.unit + j
         ap₂ (λ o c. nat_lt (scan.unit + j) (length h.ages) && nat_le (mark_of f j) 15 && nat_le h.passed (scan.unit + j) && (is_old rules h (scan.unit + j) || (o || ((j == 0) && c)))) often begun
         ∙ all (nat_lt (scan.unit + j) (length h.ages) && nat_le (mark_of f j) 15) (nat_le h.passed (scan.unit + j)) (is_old rules h (scan.unit + j)) (young (scan.unit + j) (leb-true h.passed (scan.unit + j) e))
 
-none_last : (rules : AmRules) (h : SduDiscard) (place : ℕ) (f : SentPdu) (scan : Scan) (n : ℕ) → is_often rules f ≡ false → scan.begun ≡ false → scan.found ≡ None → NoneOld rules h → last_in rules h place f scan n ≡ None
-none_last rules h place f scan zero often begun found young = found
-none_last rules h place f scan (suc j) often begun found young =
+none_last : (rules : AmRules) (h : SduDiscard) (place : ℕ) (f : SentPdu) (scan : Scan) (n : ℕ) → is_often rules f ≡ false → scan.begun ≡ false → NoneOld rules h → last_in rules h place f scan n ≡ scan.found
+none_last rules h place f scan zero often begun young = refl
+none_last rules h place f scan (suc j) often begun young =
     ap (λ b. cond b (Some (record { unit = scan.unit + j; place = place; mark = mark_of f j })) (last_in rules h place f scan j)) (none_one rules h f scan j often begun young)
-    ∙ none_last rules h place f scan j often begun found young
+    ∙ none_last rules h place f scan j often begun young
 
 -- none is requested often enough
 abbrev pub none_often : AmRules → List SentPdu → Bool
 none_often rules flown = nat_lt 0 rules.discard_sent && nat_lt 0 (wanted_in flown)
+
+pub none_left : (rules : AmRules) (flown : List SentPdu) → wanted_in flown ≡ 0 → none_often rules flown ≡ false
+none_left rules flown e = ap (λ n. nat_lt 0 rules.discard_sent && nat_lt 0 n) e ∙ off (nat_lt 0 rules.discard_sent)
+  where
+    off : (b : Bool) → (b && false) ≡ false
+    off true = refl
+    off false = refl
 
 none_first : (rules : AmRules) (f : SentPdu) (flown : List SentPdu) → none_often rules (f ∷ flown) ≡ false → (is_often rules f ≡ false) × (none_often rules flown ≡ false)
 none_first rules f flown e = go (nat_lt 0 rules.discard_sent) f.requested e
@@ -64,11 +76,111 @@ none_begun rules f scan often begun = ap₂ (λ o c. (o && (continues_in f)) || 
     last true = refl
     last false = refl
 
-none_pdus : (rules : AmRules) (h : SduDiscard) (place : ℕ) (flown : List SentPdu) (scan : Scan) → none_often rules flown ≡ false → scan.begun ≡ false → scan.found ≡ None → NoneOld rules h → (after_pdus rules h place flown scan).found ≡ None
-none_pdus rules h place [] scan often begun found young = found
-none_pdus rules h place (f ∷ flown) scan often begun found young =
+pub none_more : (rules : AmRules) (h : SduDiscard) (place : ℕ) (flown : List SentPdu) (scan : Scan) → none_often rules flown ≡ false → scan.begun ≡ false → NoneOld rules h → (after_pdus rules h place flown scan).found ≡ scan.found
+none_more rules h place [] scan often begun young = refl
+none_more rules h place (f ∷ flown) scan often begun young =
     let parts = none_first rules f flown often in
-    none_pdus rules h (place + 1) flown (after_pdu rules h place f scan) parts.1 (none_begun rules f scan parts.0 begun) (none_last rules h place f scan (ends_in f) parts.0 begun found young) young
+    none_more rules h (place + 1) flown (after_pdu rules h place f scan) parts.1 (none_begun rules f scan parts.0 begun) young ∙ none_last rules h place f scan (ends_in f) parts.0 begun young
 
 pub none_found : (rules : AmRules) (h : SduDiscard) (flown : List SentPdu) → none_often rules flown ≡ false → NoneOld rules h → overdue rules h flown ≡ None
-none_found rules h flown often young = none_pdus rules h 0 flown no_scan often refl refl young
+none_found rules h flown often young = none_more rules h 0 flown no_scan often refl young
+
+-- where all units that end in a PDU are discarded, none is found
+behind_none : (rules : AmRules) (h : SduDiscard) (place : ℕ) (f : SentPdu) (scan : Scan) (n : ℕ) → scan.unit + n ≤ h.passed → last_in rules h place f scan n ≡ scan.found
+behind_none rules h place f scan zero l = refl
+behind_none rules h place f scan (suc j) l =
+    ap (λ b. cond b (Some (record { unit = scan.unit + j; place = place; mark = mark_of f j })) (last_in rules h place f scan j)) (ap (λ b. nat_lt (scan.unit + j) (length h.ages) && nat_le (mark_of f j) 15 && b && (is_old rules h (scan.unit + j) || (is_often rules f || ((j == 0) && scan.begun)))) (lt-leb h.passed (scan.unit + j) (omega (arith, l))) ∙ off (nat_lt (scan.unit + j) (length h.ages) && nat_le (mark_of f j) 15) (is_old rules h (scan.unit + j) || (is_often rules f || ((j == 0) && scan.begun))))
+    ∙ behind_none rules h place f scan j (omega (arith, l))
+  where
+    off : (a c : Bool) → (a && false && c) ≡ false
+    off true c = refl
+    off false c = refl
+
+passed_more : (rules : AmRules) (h : SduDiscard) (place : ℕ) (flown : List SentPdu) (scan : Scan) → scan.unit + ends_below (length flown) flown ≤ h.passed → (after_pdus rules h place flown scan).found ≡ scan.found
+passed_more rules h place [] scan l = refl
+passed_more rules h place (f ∷ flown) scan l = passed_more rules h (place + 1) flown (after_pdu rules h place f scan) (omega (arith, l)) ∙ behind_none rules h place f scan (ends_in f) (omega (arith, l))
+
+pub passed_all : (rules : AmRules) (h : SduDiscard) (flown : List SentPdu) → ends_below (length flown) flown ≤ h.passed → overdue rules h flown ≡ None
+passed_all rules h flown l = passed_more rules h 0 flown no_scan (omega (arith, l))
+
+-- so the pass may begin with the first that is requested
+abbrev pub BeginsAt : AmRules → SduDiscard → ℕ → List SentPdu → Scan → ℕ → Type 0
+BeginsAt rules h place flown scan n = (after_pdus rules h place flown scan).found ≡ (after_pdus rules h (place + n) (drop n flown) (record { unit = scan.unit + ends_below n flown; begun = false; found = scan.found })).found
+
+from_place : (rules : AmRules) (h : SduDiscard) (flown : List SentPdu) (p q u v : ℕ) (a b : Option Overdue) → p ≡ q → u ≡ v → a ≡ b → (after_pdus rules h p flown (record { unit = u; begun = false; found = a })).found ≡ (after_pdus rules h q flown (record { unit = v; begun = false; found = b })).found
+from_place rules h flown p q u v a b e f g =
+    ap (λ k. (after_pdus rules h k flown (record { unit = u; begun = false; found = a })).found) e
+    ∙ ap₂ (λ n o. (after_pdus rules h q flown (record { unit = n; begun = false; found = o })).found) f g
+
+begins : (rules : AmRules) (h : SduDiscard) (n place : ℕ) (flown : List SentPdu) (scan : Scan) → n ≤ first_wanted flown → scan.begun ≡ false → NoneOld rules h → BeginsAt rules h place flown scan n
+begins rules h zero place flown scan l begun young =
+    ap (λ b. (after_pdus rules h place flown (record { unit = scan.unit; begun = b; found = scan.found })).found) begun
+    ∙ from_place rules h flown place (place + 0) scan.unit (scan.unit + 0) scan.found scan.found (omega arith) (omega arith) refl
+begins rules h (suc n) place [] scan l begun young = absurd (omega (arith, l))
+begins rules h (suc n) place (f ∷ flown) scan l begun young = go f.requested refl l (λ m often. begins rules h n (place + 1) flown (after_pdu rules h place f scan) m (none_begun rules f scan often begun) young)
+  where
+    off : (a c : Bool) → (a && false && c) ≡ false
+    off true c = refl
+    off false c = refl
+
+    go : (b : Bool) → f.requested ≡ b → suc n ≤ cond b 0 (suc (first_wanted flown)) → (n ≤ first_wanted flown → is_often rules f ≡ false → BeginsAt rules h (place + 1) flown (after_pdu rules h place f scan) n) → BeginsAt rules h place (f ∷ flown) scan (suc n)
+    go true e m rest = absurd (omega (arith, m))
+    go false e m rest =
+        let often : is_often rules f ≡ false = ap (λ b. nat_lt 0 rules.discard_sent && b && nat_le rules.discard_sent f.builds) e ∙ off (nat_lt 0 rules.discard_sent) (nat_le rules.discard_sent f.builds) in
+        rest (omega (arith, m)) often
+        ∙ from_place rules h (drop n flown) (place + 1 + n) (place + suc n) (scan.unit + ends_in f + ends_below n flown) (scan.unit + (ends_in f + ends_below n flown)) (last_in rules h place f scan (ends_in f)) scan.found (omega arith) (omega arith) (none_last rules h place f scan (ends_in f) often begun young)
+
+pub begins_first : (rules : AmRules) (h : SduDiscard) (flown : List SentPdu) (unit : ℕ) → unit ≡ ends_below (first_wanted flown) flown → NoneOld rules h → (after_pdus rules h (first_wanted flown) (drop (first_wanted flown) flown) (record { unit = unit; begun = false; found = None })).found ≡ overdue rules h flown
+begins_first rules h flown unit e young =
+    from_place rules h (drop (first_wanted flown) flown) (first_wanted flown) (0 + first_wanted flown) unit (0 + ends_below (first_wanted flown) flown) None None (omega arith) (omega (arith, e)) refl
+    ∙ sym (begins rules h (first_wanted flown) 0 flown no_scan (omega arith) refl young)
+
+-- how many are requested from there on
+pub wanted_from : (flown : List SentPdu) → wanted_in (drop (first_wanted flown) flown) ≡ wanted_in flown
+wanted_from [] = refl
+wanted_from (f ∷ flown) = go f.requested refl (wanted_from flown)
+  where
+    go : (b : Bool) → f.requested ≡ b → wanted_in (drop (first_wanted flown) flown) ≡ wanted_in flown → wanted_in (drop (cond b 0 (suc (first_wanted flown))) (f ∷ flown)) ≡ wanted_in (f ∷ flown)
+    go true e rest = refl
+    go false e rest = rest ∙ sym (ap (λ b. cond b (suc (wanted_in flown)) (wanted_in flown)) e)
+
+pub wanted_few : (flown : List SentPdu) → wanted_in flown ≤ length flown
+wanted_few [] = omega arith
+wanted_few (f ∷ flown) = go f.requested (wanted_few flown)
+  where
+    go : (b : Bool) → wanted_in flown ≤ length flown → cond b (suc (wanted_in flown)) (wanted_in flown) ≤ suc (length flown)
+    go true rest = omega (arith, rest)
+    go false rest = omega (arith, rest)
+
+pub wanted_inside : (flown : List SentPdu) → 0 < wanted_in flown → first_wanted flown < length flown
+wanted_inside [] l = absurd (omega (arith, l))
+wanted_inside (f ∷ flown) l = go f.requested l (λ m. wanted_inside flown m)
+  where
+    go : (b : Bool) → 0 < cond b (suc (wanted_in flown)) (wanted_in flown) → (0 < wanted_in flown → first_wanted flown < length flown) → cond b 0 (suc (first_wanted flown)) < suc (length flown)
+    go true m rest = omega arith
+    go false m rest = omega (arith, rest m)
+
+-- one PDU less
+pub wanted_next : (flown : List SentPdu) (i : ℕ) → i < length flown → wanted_in (drop i flown) ≡ cond (at flown i).requested 1 0 + wanted_in (drop (i + 1) flown)
+wanted_next [] i l = absurd (omega arith)
+wanted_next (f ∷ flown) zero l = go f.requested
+  where
+    go : (b : Bool) → cond b (suc (wanted_in flown)) (wanted_in flown) ≡ cond b 1 0 + wanted_in flown
+    go true = omega arith
+    go false = omega arith
+wanted_next (f ∷ flown) (suc i) l = let e : suc i + 1 ≡ suc (i + 1) = omega arith in wanted_next flown i (omega arith) ∙ ap (λ k. cond (at flown i).requested 1 0 + wanted_in (drop k (f ∷ flown))) (sym e)
+
+pub picks_first : (l : RetxBuffer) → 0 < wanted_in l.flown → picked false l ≡ Again (first_wanted l.flown)
+picks_first l some = ap (λ b. cond b (Again (first_wanted l.flown)) (cond (nat_lt (length l.flown) l.window && false) New (cond (l.owed && nat_lt 0 (length l.flown)) (Last (length l.flown - 1)) NoPdu))) (lt-ltb (first_wanted l.flown) (length l.flown) (wanted_inside l.flown some))
+
+pub no_other : (p : Pick) (n : ℕ) → p ≡ Again n → (p ≡ New) ⊎ (((x : ℕ) × (p ≡ Last x)) ⊎ (p ≡ NoPdu)) → ⊥
+no_other p n e other = ⊎_elim (λ a. new n (sym e ∙ a)) (λ r. ⊎_elim (λ x. last n x.0 (sym e ∙ x.1)) (λ a. none n (sym e ∙ a)) r) other
+  where
+    new : (n : ℕ) → Again n ≡ New → ⊥
+    new n e = absurd (cc)
+
+    last : (n x : ℕ) → Again n ≡ Last x → ⊥
+    last n x e = absurd (cc)
+
+    none : (n : ℕ) → Again n ≡ NoPdu → ⊥
+    none n e = absurd (cc)

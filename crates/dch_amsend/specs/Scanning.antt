@@ -45,6 +45,12 @@ abbrev pub after_pdus : AmRules → SduDiscard → ℕ → List SentPdu → Scan
 after_pdus rules h place [] scan = scan
 after_pdus rules h place (f ∷ flown) scan = after_pdus rules h (place + 1) flown (after_pdu rules h place f scan)
 
+-- how many units end in so many PDUs in front
+abbrev pub ends_below : ℕ → List SentPdu → ℕ
+ends_below zero flown = 0
+ends_below (suc n) [] = 0
+ends_below (suc n) (f ∷ flown) = ends_in f + ends_below n flown
+
 -- before the first
 abbrev pub no_scan : Scan
 no_scan = record { unit = 0; begun = false; found = None }

@@ -19,6 +19,7 @@ ghost use Rattle.dch_status.specs.Reading.{status_of};
 ghost use Rattle.dch_status.specs.Writing.{IsText, mrw_text};
 ghost use Rattle.dch_am.specs.Texts.{next_pdu, pdu_of_choice};
 ghost use Rattle.dch_amsend.specs.TxBuffer.{unsent_of};
+ghost use Rattle.dch_amsend.specs.Scanning.{ends_below};
 ghost use Rattle.dch_amsend.specs.Outgoing.{IsLast, IsOutgoing, available_of, can_build, HoldsSame, first_flown, pdu_in, with_line};
 
 use crate::tx_buffer::TxBuffer;
@@ -39,6 +40,7 @@ pub struct Outgoing {
 }
 
 impl Model for Outgoing {
+    ghost use Rattle.dch_amsend.specs.Scanning.{ends_below};
     ghost use Rattle.dch_amsend.specs.Outgoing.{IsRunning, Outgoing};
 
     ghost Value = { Outgoing };
@@ -149,6 +151,22 @@ impl Outgoing {
         ensures { result ≡ length self.now.tx_buffer.sdus }
     {
         self.tx_buffer.len()
+    }
+
+    /// How many of the SDUs that are held end in a PDU in flight.
+    pub fn ended(&self) -> u16
+        ensures { result ≡ ends_below (length self.now.line.flown) self.now.line.flown }
+    {
+        self.tx_buffer.ended()
+    }
+
+    /// How many of the SDUs that are held end before the PDU in flight at a place.
+    pub fn ended_before(&self, place: u16) -> u16
+        requires { place < length self.now.line.flown }
+        ensures value { result ≡ ends_below place self.now.line.flown }
+        ensures small { result ≤ 65535 }
+    {
+        self.tx_buffer.ended_before(&self.line.at(place))
     }
 
     /// What was sent.

@@ -26,7 +26,7 @@ pub struct Scan {
     pub found: Option<Overdue>,
 }
 
-/// The pass goes over one more PDU. At most 256 units end in each of 2048 of them.
+/// The pass goes over one more PDU. At most 256 units end in each of 2048 of them, behind 65,535 others.
 pub fn after_pdu(
     held: &SduDiscard,
     rules: &AmRules,
@@ -34,7 +34,7 @@ pub fn after_pdu(
     place: u16,
     scan: Scan,
 ) -> Scan
-    requires { scan.unit ≤ 256 * 2048 }
+    requires { scan.unit ≤ 65535 + 256 * 2048 }
     ensures { result ≡ after_pdu rules.now held.now place flown.now scan }
 {
     let often = is_often(rules, flown);
@@ -62,7 +62,7 @@ fn last_in(
     place: u16,
     scan: Scan,
 ) -> Option<Overdue>
-    requires { scan.unit ≤ 256 * 2048 }
+    requires { scan.unit ≤ 65535 + 256 * 2048 }
     ensures { result ≡ last_in rules.now held.now place flown.now scan (ends_in flown.now) }
 {
     let mut found = scan.found;
@@ -80,7 +80,7 @@ fn last_in(
 
 /// One of the units that end in a PDU can be discarded.
 fn can_discard(held: &SduDiscard, rules: &AmRules, flown: &SentPdu, scan: Scan, j: u16) -> bool
-    requires { scan.unit ≤ 256 * 2048 }
+    requires { scan.unit ≤ 65535 + 256 * 2048 }
     ensures answer { result ≡ can_discard rules.now held.now flown.now scan j }
     ensures small { result ≡ true → (scan.unit + j < 65535) × (mark_of flown.now j ≤ 15) }
 {

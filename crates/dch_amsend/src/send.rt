@@ -167,7 +167,7 @@ impl AmSend {
         ensures stands { (rules : Rules) (s : Sender) → Stands rules self.old s → Stands rules self.new (discards rules s (length s.accepted)) }
         ensures same { IsSame self.old self.new }
     {
-        if let Some(found) = overdue(self.outgoing.line(), &self.discard, &self.rules) {
+        if let Some(found) = overdue(&self.outgoing, &self.discard, &self.rules) {
             self.outgoing.discard(found.place, found.mark);
             self.discard.discard(found.unit as usize + 1);
         }

@@ -1,4 +1,4 @@
-ghost use Rattle.std.specs.Prelude.{◌≡◌, ◌+◌, ◌-◌, ◌<◌, ◌≤◌, ℕ, IfOk, length};
+ghost use Rattle.std.specs.Prelude.{◌≡◌, ◌+◌, ◌-◌, ◌<◌, ◌≤◌, ℕ, IfOk, None, Some, length};
 ghost use Rattle.dch_am.specs.Bodies.{carried, is_left, marks_of, next_body};
 ghost use Rattle.dch_am.specs.Building.{anew};
 ghost use Rattle.dch_am.specs.Cuts.{IsCut};
@@ -156,17 +156,29 @@ impl TxBuffer {
         write_taken(&self.sdus, &start, &cut, &header, out);
     }
 
+    /// How many SDUs end in the PDUs that were built.
+    pub fn ended(&self) -> u16
+        ensures { result ≡ ended_before None self.now }
+    {
+        self.start.sdu.saturating_sub(u16::from(self.owed))
+    }
+
+    /// How many SDUs end before a PDU in flight.
+    pub fn ended_before(&self, flown: &SentPdu) -> u16
+        ensures { result ≡ ended_before (Some flown.now) self.now }
+    {
+        let sdu = flown.extent.sdu.wrapping_sub(self.gone);
+        sdu.saturating_sub(u16::from(flown.full))
+    }
+
     /// The SDUs that end before the first PDU in flight leave, or, where none is in flight, those that end in the PDUs that were built.
     pub fn release(&mut self, first: Option<SentPdu>)
         requires { ended_before first self.old ≤ self.old.start.sdu }
         ensures after { self.new ≡ released_by (ended_before first self.old) self.old }
     {
         let count = match first {
-            None => self.start.sdu.saturating_sub(u16::from(self.owed)),
-            Some(flown) => {
-                let sdu = flown.extent.sdu.wrapping_sub(self.gone);
-                sdu.saturating_sub(u16::from(flown.full))
-            }
+            None => self.ended(),
+            Some(flown) => self.ended_before(&flown),
         };
         self.sdus.release(count as usize);
         self.start.sdu -= count;

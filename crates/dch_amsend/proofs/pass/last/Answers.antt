@@ -1,6 +1,14 @@
-use Rattle.std.proofs.Common.{◌∙◌, sym}
-use Rattle.dch_amsend.proofs.Passing.{none_found}
+use Rattle.std.proofs.Common.{◌≡◌, ◌∙◌, ◌&&◌, ap, arith, false, sym}
+use Rattle.std.specs.Prelude.{nat_lt}
+use Rattle.dch_retx.specs.Flights.{wanted_in}
+use Rattle.dch_retx.specs.RetxBuffer.{RetxBuffer}
+use Rattle.dch_amsend.proofs.Passing.{none_found, none_often, passed_all}
 use Rattle.dch_amsend.proofs.pass.last.Goals as goal
 
-pub returns-then-not-is_first_old-clause-value : goal.returns-then-not-is_first_old-clause-value
-returns-then-not-is_first_old-clause-value c = sym (none_found c.args.rules c.args.held.now c.args.line.now.flown (sym c.is_requested.ensures ∙ c.if-not-is_requested.true) (c.is_first_old.ensures c.if-not-is_first_old.true))
+pub returns-then-passed-ended-clause-value : goal.returns-then-passed-ended-clause-value
+returns-then-passed-ended-clause-value c = sym (passed_all c.args.rules c.args.held.now c.args.outgoing.now.line.flown (omega (arith, c.passed.ensures, c.ended.ensures, c.if-passed-ended.true)))
+
+pub returns-else-is_requested-clause-value : goal.returns-else-is_requested-clause-value
+returns-else-is_requested-clause-value c =
+    let often : none_often c.args.rules c.args.outgoing.now.line.flown ≡ false = sym (c.is_requested.ensures.value ∙ ap (λ (l : RetxBuffer). nat_lt 0 c.args.rules.discard_sent && nat_lt 0 (wanted_in l.flown)) c.line-else-is_first_old.ensures) ∙ c.if-is_requested.false in
+    sym (none_found c.args.rules c.args.held.now c.args.outgoing.now.line.flown often (c.is_first_old.ensures c.if-is_first_old.false))
