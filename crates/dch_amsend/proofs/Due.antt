@@ -4,7 +4,7 @@ use Rattle.std.specs.Prelude.{None, Some, nat_le, nat_lt}
 use Rattle.std.proofs.lemmas.Bool.{le-ltb, leb-true, lt-ltb, ltb-false, ltb-true}
 use Rattle.dch_bits.specs.declared.offer.Offer.{Offer}
 use Rattle.dch_bits.specs.declared.offer.Offer.TheVariants.{Accepted, Full, WrongSize}
-use Rattle.dch_retx.specs.Flights.{at, ends_in, wanted_in}
+use Rattle.dch_retx.specs.Flights.{at, ends_in, requested_in}
 use Rattle.dch_am.specs.Bodies.{is_empty, is_left}
 use Rattle.dch_am.specs.Cuts.{AllFull}
 use Rattle.dch_am.proofs.Restarting.{cut_full, full_drop}
@@ -30,14 +30,14 @@ use Rattle.dch_amsend.proofs.Placing.{place_is}
 use Rattle.dch_amsend.proofs.Events.{available_is}
 
 -- a PDU can be built where one is requested, a new one can follow, or the last one is to go again
-pub can_build_is : (v : Outgoing) → (nat_lt 0 (wanted_in v.line.flown) || ((nat_lt (length v.line.flown) v.line.window && is_left (unsent_of v.tx_buffer)) || (v.line.owed && nat_lt 0 (length v.line.flown)))) ≡ can_build v
-can_build_is v = go (nat_lt 0 (wanted_in v.line.flown)) (nat_lt (length v.line.flown) v.line.window) (is_left (unsent_of v.tx_buffer)) (v.line.owed && nat_lt 0 (length v.line.flown)) refl refl refl refl
+pub can_build_is : (v : Outgoing) → (nat_lt 0 (requested_in v.line.flown) || ((nat_lt (length v.line.flown) v.line.window && is_left (unsent_of v.tx_buffer)) || (v.line.owed && nat_lt 0 (length v.line.flown)))) ≡ can_build v
+can_build_is v = go (nat_lt 0 (requested_in v.line.flown)) (nat_lt (length v.line.flown) v.line.window) (is_left (unsent_of v.tx_buffer)) (v.line.owed && nat_lt 0 (length v.line.flown)) refl refl refl refl
   where
     fresh : ℕ
     fresh = fills 64 (v.tx_buffer.size - 2) (unsent_of v.tx_buffer)
 
     all : ℕ
-    all = min 64 (wanted_in v.line.flown) + min (v.line.window - length v.line.flown) fresh
+    all = min 64 (requested_in v.line.flown) + min (v.line.window - length v.line.flown) fresh
 
     some : nat_lt 0 fresh ≡ is_left (unsent_of v.tx_buffer)
     some = fills_some 63 (v.tx_buffer.size - 2) (unsent_of v.tx_buffer)
@@ -49,7 +49,7 @@ can_build_is v = go (nat_lt 0 (wanted_in v.line.flown)) (nat_lt (length v.line.f
     few true none e = sym (lt-ltb 0 (available_of v) (omega (arith, ap {B = ℕ} (λ b. cond b all (cond (v.line.owed && nat_lt 0 (length v.line.flown)) 1 0)) (le-ltb 0 all (omega (arith, none))), ap {B = ℕ} (λ b. cond b 1 0) e)))
     few false none e = sym (le-ltb 0 (available_of v) (omega (arith, ap {B = ℕ} (λ b. cond b all (cond (v.line.owed && nat_lt 0 (length v.line.flown)) 1 0)) (le-ltb 0 all (omega (arith, none))), ap {B = ℕ} (λ b. cond b 1 0) e)))
 
-    go : (a r u c : Bool) → nat_lt 0 (wanted_in v.line.flown) ≡ a → nat_lt (length v.line.flown) v.line.window ≡ r → is_left (unsent_of v.tx_buffer) ≡ u → (v.line.owed && nat_lt 0 (length v.line.flown)) ≡ c → (a || ((r && u) || c)) ≡ can_build v
+    go : (a r u c : Bool) → nat_lt 0 (requested_in v.line.flown) ≡ a → nat_lt (length v.line.flown) v.line.window ≡ r → is_left (unsent_of v.tx_buffer) ≡ u → (v.line.owed && nat_lt 0 (length v.line.flown)) ≡ c → (a || ((r && u) || c)) ≡ can_build v
     go true r u c ea er eu ec = many (omega (arith, ltb-true _ _ ea))
     go false true true c ea er eu ec = many (omega (arith, ltb-true _ _ er, ltb-true _ _ (some ∙ eu)))
     go false true false c ea er eu ec = few c (omega (arith, ltb-false _ _ ea, ltb-false _ _ (some ∙ eu))) ec

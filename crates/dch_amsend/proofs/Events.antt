@@ -8,7 +8,7 @@ use Rattle.dch_bits.specs.declared.offer.Offer.{Offer}
 use Rattle.dch_bits.specs.declared.offer.Offer.TheVariants.{Accepted, Full, WrongSize}
 use Rattle.dch_retx.specs.declared.sent_pdu.Extent.{Extent}
 use Rattle.dch_retx.specs.declared.sent_pdu.SentPdu.{SentPdu}
-use Rattle.dch_retx.specs.Flights.{at, blank, built, first_wanted, unwanted, wanted_in}
+use Rattle.dch_retx.specs.Flights.{at, blank, built, first_requested, request_cleared, requested_in}
 use Rattle.dch_retx.proofs.Changes.{length-changed}
 use Rattle.dch_am.specs.Acknowledging.{after_fields, status_answer}
 use Rattle.dch_am.specs.Bodies.{Body, after_body, carried, ends, is_left, marks_of, next_body, no_body}
@@ -28,7 +28,7 @@ use Rattle.dch_status.specs.Fields.{Field}
 use Rattle.dch_retx.specs.declared.buffer.Pick.TheVariants.{Again, New, Last, NoPdu}
 use Rattle.dch_retx.specs.RetxBuffer.{RetxBuffer, discarding, number_at}
 use Rattle.dch_retx.specs.Polling.{again_line, again_poll, last_line, last_poll, new_line, new_poll, picked}
-use Rattle.dch_retx.specs.Standing.{AreKept, IsAlike, IsFlown, IsPolled, IsWanted, Sends, Stands as LineStands, timed}
+use Rattle.dch_retx.specs.Standing.{AreKept, IsAlike, IsFlown, IsPolled, IsRequested, Sends, Stands as LineStands, timed}
 use Rattle.dch_retx.proofs.Keeping.{discarding_kept, resent_kept}
 use Rattle.dch_retx.proofs.Sending.{again_sends, last_sends, new_sends}
 use Rattle.dch_retx.proofs.Ticking.{discards_stand, number_is}
@@ -154,7 +154,7 @@ none_leaves rules d v s l is e =
 -- the beginning of a discard
 pub discards_goes : (rules : Rules) (d : ℕ) (v : Outgoing) (s : Sender) (l : RetxBuffer) (place n i : ℕ) → place < length v.line.flown → l ≡ discarding place n v.line → IsOutgoing rules d v s → IsOutgoing rules d (with_line l v) (discards_at s i (Some (vt_a s + place, n)))
 discards_goes rules d v s l place n i inside e is = subst (λ x. IsOutgoing rules d (with_line x v) (discards_at s i (Some (vt_a s + place, n)))) (sym e)
-    (line_goes rules d v s (discards_at s i (Some (vt_a s + place, n))) (discarding place n v.line) is (discards_stand rules v.line s place n i inside is.line) (discarding_kept place n v.line) (length-changed unwanted place v.line.flown) (alike_place s i (Some (vt_a s + place, n))))
+    (line_goes rules d v s (discards_at s i (Some (vt_a s + place, n))) (discarding place n v.line) is (discards_stand rules v.line s place n i inside is.line) (discarding_kept place n v.line) (length-changed request_cleared place v.line.flown) (alike_place s i (Some (vt_a s + place, n))))
 
 -- how many PDUs could be built
 cut_short : (n w k f : ℕ) (b : Bool) → 0 < n → min n (builds_of (min n w) k b f) ≡ min n (builds_of w k b f)
@@ -169,11 +169,11 @@ cut_short n w k f b one = go (nat_lt 0 (min n w + k)) (nat_lt 0 (w + k)) refl re
 octets_is : (d : ℕ) (w : TxBuffer) (s : Sender) → BufferStands d w s → w.size - 2 ≡ d
 octets_is d w s keeps = omega (arith, keeps.size)
 
-available_within : (n : ℕ) (rules : Rules) (d : ℕ) (v : Outgoing) (s : Sender) → 0 < n → IsOutgoing rules d v s → min n (builds_of (min n (wanted_in v.line.flown)) (min (v.line.window - length v.line.flown) (fills n (v.tx_buffer.size - 2) (unsent_of v.tx_buffer))) v.line.owed (length v.line.flown)) ≡ builds_within n rules d s
+available_within : (n : ℕ) (rules : Rules) (d : ℕ) (v : Outgoing) (s : Sender) → 0 < n → IsOutgoing rules d v s → min n (builds_of (min n (requested_in v.line.flown)) (min (v.line.window - length v.line.flown) (fills n (v.tx_buffer.size - 2) (unsent_of v.tx_buffer))) v.line.owed (length v.line.flown)) ≡ builds_within n rules d s
 available_within n rules d v s one is =
-    cut_short n (wanted_in v.line.flown) (min (v.line.window - length v.line.flown) (fills n (v.tx_buffer.size - 2) (unsent_of v.tx_buffer))) (length v.line.flown) v.line.owed one
-    ∙ (ap₂ (λ w k. min n (builds_of (wanted_in v.line.flown) (min (w - length v.line.flown) k) v.line.owed (length v.line.flown))) is.line.window (ap₂ (fills n) (octets_is d v.tx_buffer s is.tx_buffer) is.tx_buffer.unsent)
-    ∙ (ap (λ b. min n (builds_of (wanted_in v.line.flown) (min (rules.window - length v.line.flown) (fills n d s.unsent)) b (length v.line.flown))) is.line.owed
+    cut_short n (requested_in v.line.flown) (min (v.line.window - length v.line.flown) (fills n (v.tx_buffer.size - 2) (unsent_of v.tx_buffer))) (length v.line.flown) v.line.owed one
+    ∙ (ap₂ (λ w k. min n (builds_of (requested_in v.line.flown) (min (w - length v.line.flown) k) v.line.owed (length v.line.flown))) is.line.window (ap₂ (fills n) (octets_is d v.tx_buffer s is.tx_buffer) is.tx_buffer.unsent)
+    ∙ (ap (λ b. min n (builds_of (requested_in v.line.flown) (min (rules.window - length v.line.flown) (fills n d s.unsent)) b (length v.line.flown))) is.line.owed
     ∙ sym (counts n rules d v.line s is.line)))
 
 pub available_is : (rules : Rules) (d : ℕ) (v : Outgoing) (s : Sender) → IsOutgoing rules d v s → available_of v ≡ available rules d s
@@ -352,7 +352,7 @@ line_unit rules l s unit is = record {
   next = is.next;
   flown = λ i less. let f : IsFlown s (vt_a s + i) (at l.flown i) = is.flown i less in record { acked = f.acked; requested = f.requested; named = f.named; builds = f.builds };
   acked_sent = is.acked_sent;
-  requested = λ k e. let w : IsWanted s k = is.requested k e in record { from = w.from; sent = w.sent; is_open = w.is_open; high = w.high };
+  requested = λ k e. let w : IsRequested s k = is.requested k e in record { from = w.from; sent = w.sent; is_open = w.is_open; high = w.high };
   unsent = is.unsent;
   timer = is.timer;
   owed = is.owed;
@@ -383,18 +383,18 @@ offer_goes rules d v s unit WrongSize tx_buffer is e waiting_e keeps = subst (λ
 
 -- what a pick says of the line
 pub picked_again : (left : Bool) (l : RetxBuffer) (place : ℕ) → Again place ≡ picked left l → place < length l.flown
-picked_again left l place e = go (nat_lt (first_wanted l.flown) (length l.flown)) (nat_lt (length l.flown) l.window && left) (l.owed && nat_lt 0 (length l.flown)) refl e
+picked_again left l place e = go (nat_lt (first_requested l.flown) (length l.flown)) (nat_lt (length l.flown) l.window && left) (l.owed && nat_lt 0 (length l.flown)) refl e
   where
-    go : (a b c : Bool) → nat_lt (first_wanted l.flown) (length l.flown) ≡ a → Again place ≡ cond a (Again (first_wanted l.flown)) (cond b New (cond c (Last (length l.flown - 1)) NoPdu)) → place < length l.flown
-    go true b c t q = let same : place ≡ first_wanted l.flown = cc in omega (arith, ltb-true _ _ t, same)
+    go : (a b c : Bool) → nat_lt (first_requested l.flown) (length l.flown) ≡ a → Again place ≡ cond a (Again (first_requested l.flown)) (cond b New (cond c (Last (length l.flown - 1)) NoPdu)) → place < length l.flown
+    go true b c t q = let same : place ≡ first_requested l.flown = cc in omega (arith, ltb-true _ _ t, same)
     go false true c t q = absurd (cc)
     go false false true t q = absurd (cc)
     go false false false t q = absurd (cc)
 
 pub picked_last : (left : Bool) (l : RetxBuffer) (place : ℕ) → Last place ≡ picked left l → IsLast l place
-picked_last left l place e = go (nat_lt (first_wanted l.flown) (length l.flown)) (nat_lt (length l.flown) l.window && left) (l.owed && nat_lt 0 (length l.flown)) refl refl e
+picked_last left l place e = go (nat_lt (first_requested l.flown) (length l.flown)) (nat_lt (length l.flown) l.window && left) (l.owed && nat_lt 0 (length l.flown)) refl refl e
   where
-    go : (a b c : Bool) → nat_lt (first_wanted l.flown) (length l.flown) ≡ a → (l.owed && nat_lt 0 (length l.flown)) ≡ c → Last place ≡ cond a (Again (first_wanted l.flown)) (cond b New (cond c (Last (length l.flown - 1)) NoPdu)) → IsLast l place
+    go : (a b c : Bool) → nat_lt (first_requested l.flown) (length l.flown) ≡ a → (l.owed && nat_lt 0 (length l.flown)) ≡ c → Last place ≡ cond a (Again (first_requested l.flown)) (cond b New (cond c (Last (length l.flown - 1)) NoPdu)) → IsLast l place
     go true b c t u q = absurd (cc)
     go false true c t u q = absurd (cc)
     go false false true t u q = record { some = ltb-true _ _ (and_parts _ _ u).1; none = ltb-false _ _ t; place_is = cc }

@@ -4,7 +4,7 @@ use Rattle.std.specs.Prelude.{◌==◌, Option, Some, None, nat_le, nat_lt}
 use Rattle.std.proofs.lemmas.Bool.{both_ways, leb-true, lt-leb, lt-ltb}
 use Rattle.dch_types.specs.declared.bearer.AmRules.{AmRules}
 use Rattle.dch_retx.specs.declared.sent_pdu.SentPdu.{SentPdu}
-use Rattle.dch_retx.specs.Flights.{at, continues_in, ends_in, first_wanted, wanted_in}
+use Rattle.dch_retx.specs.Flights.{at, continues_in, ends_in, first_requested, requested_in}
 use Rattle.dch_retx.specs.RetxBuffer.{RetxBuffer}
 use Rattle.dch_retx.specs.declared.buffer.Pick.{Pick}
 use Rattle.dch_retx.specs.declared.buffer.Pick.TheVariants.{Again, New, Last, NoPdu}
@@ -52,9 +52,9 @@ none_last rules h place f scan (suc j) often begun young =
 
 -- none is requested often enough
 abbrev pub none_often : AmRules → List SentPdu → Bool
-none_often rules flown = nat_lt 0 rules.discard_sent && nat_lt 0 (wanted_in flown)
+none_often rules flown = nat_lt 0 rules.discard_sent && nat_lt 0 (requested_in flown)
 
-pub none_left : (rules : AmRules) (flown : List SentPdu) → wanted_in flown ≡ 0 → none_often rules flown ≡ false
+pub none_left : (rules : AmRules) (flown : List SentPdu) → requested_in flown ≡ 0 → none_often rules flown ≡ false
 none_left rules flown e = ap (λ n. nat_lt 0 rules.discard_sent && nat_lt 0 n) e ∙ off (nat_lt 0 rules.discard_sent)
   where
     off : (b : Bool) → (b && false) ≡ false
@@ -64,9 +64,9 @@ none_left rules flown e = ap (λ n. nat_lt 0 rules.discard_sent && nat_lt 0 n) e
 none_first : (rules : AmRules) (f : SentPdu) (flown : List SentPdu) → none_often rules (f ∷ flown) ≡ false → (is_often rules f ≡ false) × (none_often rules flown ≡ false)
 none_first rules f flown e = go (nat_lt 0 rules.discard_sent) f.requested e
   where
-    go : (b r : Bool) → (b && nat_lt 0 (cond r (suc (wanted_in flown)) (wanted_in flown))) ≡ false → ((b && r && nat_le rules.discard_sent f.builds) ≡ false) × ((b && nat_lt 0 (wanted_in flown)) ≡ false)
+    go : (b r : Bool) → (b && nat_lt 0 (cond r (suc (requested_in flown)) (requested_in flown))) ≡ false → ((b && r && nat_le rules.discard_sent f.builds) ≡ false) × ((b && nat_lt 0 (requested_in flown)) ≡ false)
     go false r e = (refl, refl)
-    go true true e = absurd (both_ways (nat_lt 0 (suc (wanted_in flown))) e (lt-ltb 0 (suc (wanted_in flown)) (omega arith)))
+    go true true e = absurd (both_ways (nat_lt 0 (suc (requested_in flown))) e (lt-ltb 0 (suc (requested_in flown)) (omega arith)))
     go true false e = (refl, e)
 
 none_begun : (rules : AmRules) (f : SentPdu) (scan : Scan) → is_often rules f ≡ false → scan.begun ≡ false → ((is_often rules f && (continues_in f)) || (((ends_in f) == 0) && scan.begun)) ≡ false
@@ -112,7 +112,7 @@ from_place rules h flown p q u v a b e f g =
     ap (λ k. (after_pdus rules h k flown (record { unit = u; begun = false; found = a })).found) e
     ∙ ap₂ (λ n o. (after_pdus rules h q flown (record { unit = n; begun = false; found = o })).found) f g
 
-begins : (rules : AmRules) (h : SduDiscard) (n place : ℕ) (flown : List SentPdu) (scan : Scan) → n ≤ first_wanted flown → scan.begun ≡ false → NoneOld rules h → BeginsAt rules h place flown scan n
+begins : (rules : AmRules) (h : SduDiscard) (n place : ℕ) (flown : List SentPdu) (scan : Scan) → n ≤ first_requested flown → scan.begun ≡ false → NoneOld rules h → BeginsAt rules h place flown scan n
 begins rules h zero place flown scan l begun young =
     ap (λ b. (after_pdus rules h place flown (record { unit = scan.unit; begun = b; found = scan.found })).found) begun
     ∙ from_place rules h flown place (place + 0) scan.unit (scan.unit + 0) scan.found scan.found (omega arith) (omega arith) refl
@@ -123,55 +123,55 @@ begins rules h (suc n) place (f ∷ flown) scan l begun young = go f.requested r
     off true c = refl
     off false c = refl
 
-    go : (b : Bool) → f.requested ≡ b → suc n ≤ cond b 0 (suc (first_wanted flown)) → (n ≤ first_wanted flown → is_often rules f ≡ false → BeginsAt rules h (place + 1) flown (after_pdu rules h place f scan) n) → BeginsAt rules h place (f ∷ flown) scan (suc n)
+    go : (b : Bool) → f.requested ≡ b → suc n ≤ cond b 0 (suc (first_requested flown)) → (n ≤ first_requested flown → is_often rules f ≡ false → BeginsAt rules h (place + 1) flown (after_pdu rules h place f scan) n) → BeginsAt rules h place (f ∷ flown) scan (suc n)
     go true e m rest = absurd (omega (arith, m))
     go false e m rest =
         let often : is_often rules f ≡ false = ap (λ b. nat_lt 0 rules.discard_sent && b && nat_le rules.discard_sent f.builds) e ∙ off (nat_lt 0 rules.discard_sent) (nat_le rules.discard_sent f.builds) in
         rest (omega (arith, m)) often
         ∙ from_place rules h (drop n flown) (place + 1 + n) (place + suc n) (scan.unit + ends_in f + ends_below n flown) (scan.unit + (ends_in f + ends_below n flown)) (last_in rules h place f scan (ends_in f)) scan.found (omega arith) (omega arith) (none_last rules h place f scan (ends_in f) often begun young)
 
-pub begins_first : (rules : AmRules) (h : SduDiscard) (flown : List SentPdu) (unit : ℕ) → unit ≡ ends_below (first_wanted flown) flown → NoneOld rules h → (after_pdus rules h (first_wanted flown) (drop (first_wanted flown) flown) (record { unit = unit; begun = false; found = None })).found ≡ overdue rules h flown
+pub begins_first : (rules : AmRules) (h : SduDiscard) (flown : List SentPdu) (unit : ℕ) → unit ≡ ends_below (first_requested flown) flown → NoneOld rules h → (after_pdus rules h (first_requested flown) (drop (first_requested flown) flown) (record { unit = unit; begun = false; found = None })).found ≡ overdue rules h flown
 begins_first rules h flown unit e young =
-    from_place rules h (drop (first_wanted flown) flown) (first_wanted flown) (0 + first_wanted flown) unit (0 + ends_below (first_wanted flown) flown) None None (omega arith) (omega (arith, e)) refl
-    ∙ sym (begins rules h (first_wanted flown) 0 flown no_scan (omega arith) refl young)
+    from_place rules h (drop (first_requested flown) flown) (first_requested flown) (0 + first_requested flown) unit (0 + ends_below (first_requested flown) flown) None None (omega arith) (omega (arith, e)) refl
+    ∙ sym (begins rules h (first_requested flown) 0 flown no_scan (omega arith) refl young)
 
 -- how many are requested from there on
-pub wanted_from : (flown : List SentPdu) → wanted_in (drop (first_wanted flown) flown) ≡ wanted_in flown
+pub wanted_from : (flown : List SentPdu) → requested_in (drop (first_requested flown) flown) ≡ requested_in flown
 wanted_from [] = refl
 wanted_from (f ∷ flown) = go f.requested refl (wanted_from flown)
   where
-    go : (b : Bool) → f.requested ≡ b → wanted_in (drop (first_wanted flown) flown) ≡ wanted_in flown → wanted_in (drop (cond b 0 (suc (first_wanted flown))) (f ∷ flown)) ≡ wanted_in (f ∷ flown)
+    go : (b : Bool) → f.requested ≡ b → requested_in (drop (first_requested flown) flown) ≡ requested_in flown → requested_in (drop (cond b 0 (suc (first_requested flown))) (f ∷ flown)) ≡ requested_in (f ∷ flown)
     go true e rest = refl
-    go false e rest = rest ∙ sym (ap (λ b. cond b (suc (wanted_in flown)) (wanted_in flown)) e)
+    go false e rest = rest ∙ sym (ap (λ b. cond b (suc (requested_in flown)) (requested_in flown)) e)
 
-pub wanted_few : (flown : List SentPdu) → wanted_in flown ≤ length flown
-wanted_few [] = omega arith
-wanted_few (f ∷ flown) = go f.requested (wanted_few flown)
+pub requested_few : (flown : List SentPdu) → requested_in flown ≤ length flown
+requested_few [] = omega arith
+requested_few (f ∷ flown) = go f.requested (requested_few flown)
   where
-    go : (b : Bool) → wanted_in flown ≤ length flown → cond b (suc (wanted_in flown)) (wanted_in flown) ≤ suc (length flown)
+    go : (b : Bool) → requested_in flown ≤ length flown → cond b (suc (requested_in flown)) (requested_in flown) ≤ suc (length flown)
     go true rest = omega (arith, rest)
     go false rest = omega (arith, rest)
 
-pub wanted_inside : (flown : List SentPdu) → 0 < wanted_in flown → first_wanted flown < length flown
+pub wanted_inside : (flown : List SentPdu) → 0 < requested_in flown → first_requested flown < length flown
 wanted_inside [] l = absurd (omega (arith, l))
 wanted_inside (f ∷ flown) l = go f.requested l (λ m. wanted_inside flown m)
   where
-    go : (b : Bool) → 0 < cond b (suc (wanted_in flown)) (wanted_in flown) → (0 < wanted_in flown → first_wanted flown < length flown) → cond b 0 (suc (first_wanted flown)) < suc (length flown)
+    go : (b : Bool) → 0 < cond b (suc (requested_in flown)) (requested_in flown) → (0 < requested_in flown → first_requested flown < length flown) → cond b 0 (suc (first_requested flown)) < suc (length flown)
     go true m rest = omega arith
     go false m rest = omega (arith, rest m)
 
 -- one PDU less
-pub wanted_next : (flown : List SentPdu) (i : ℕ) → i < length flown → wanted_in (drop i flown) ≡ cond (at flown i).requested 1 0 + wanted_in (drop (i + 1) flown)
+pub wanted_next : (flown : List SentPdu) (i : ℕ) → i < length flown → requested_in (drop i flown) ≡ cond (at flown i).requested 1 0 + requested_in (drop (i + 1) flown)
 wanted_next [] i l = absurd (omega arith)
 wanted_next (f ∷ flown) zero l = go f.requested
   where
-    go : (b : Bool) → cond b (suc (wanted_in flown)) (wanted_in flown) ≡ cond b 1 0 + wanted_in flown
+    go : (b : Bool) → cond b (suc (requested_in flown)) (requested_in flown) ≡ cond b 1 0 + requested_in flown
     go true = omega arith
     go false = omega arith
-wanted_next (f ∷ flown) (suc i) l = let e : suc i + 1 ≡ suc (i + 1) = omega arith in wanted_next flown i (omega arith) ∙ ap (λ k. cond (at flown i).requested 1 0 + wanted_in (drop k (f ∷ flown))) (sym e)
+wanted_next (f ∷ flown) (suc i) l = let e : suc i + 1 ≡ suc (i + 1) = omega arith in wanted_next flown i (omega arith) ∙ ap (λ k. cond (at flown i).requested 1 0 + requested_in (drop k (f ∷ flown))) (sym e)
 
-pub picks_first : (l : RetxBuffer) → 0 < wanted_in l.flown → picked false l ≡ Again (first_wanted l.flown)
-picks_first l some = ap (λ b. cond b (Again (first_wanted l.flown)) (cond (nat_lt (length l.flown) l.window && false) New (cond (l.owed && nat_lt 0 (length l.flown)) (Last (length l.flown - 1)) NoPdu))) (lt-ltb (first_wanted l.flown) (length l.flown) (wanted_inside l.flown some))
+pub picks_first : (l : RetxBuffer) → 0 < requested_in l.flown → picked false l ≡ Again (first_requested l.flown)
+picks_first l some = ap (λ b. cond b (Again (first_requested l.flown)) (cond (nat_lt (length l.flown) l.window && false) New (cond (l.owed && nat_lt 0 (length l.flown)) (Last (length l.flown - 1)) NoPdu))) (lt-ltb (first_requested l.flown) (length l.flown) (wanted_inside l.flown some))
 
 pub no_other : (p : Pick) (n : ℕ) → p ≡ Again n → (p ≡ New) ⊎ (((x : ℕ) × (p ≡ Last x)) ⊎ (p ≡ NoPdu)) → ⊥
 no_other p n e other = ⊎_elim (λ a. new n (sym e ∙ a)) (λ r. ⊎_elim (λ x. last n x.0 (sym e ∙ x.1)) (λ a. none n (sym e ∙ a)) r) other

@@ -1,23 +1,30 @@
 -- The ages of SDUs, read off the ticks at which they were accepted. Ages end at 65,535.
-use Rattle.std.specs.Prelude.{◌+◌, ◌-◌, ◌≤◌, ℕ, List, [], ◌∷◌, min}
+use Rattle.std.specs.Prelude.{◌+◌, ◌-◌, ◌%◌, ◌<◌, ◌≤◌, ℕ, zero, suc, List, [], ◌∷◌, length, min, slice_index}
 
--- how old SDUs are at a tick that were accepted at these
-abbrev pub ages_at : ℕ → List ℕ → List ℕ
-ages_at now [] = []
-ages_at now (t ∷ ts) = min 65535 (now - t) ∷ ages_at now ts
+-- how many ticks ago that was, counted up to 65,536
+abbrev pub since : ℕ → ℕ → ℕ
+since now at = (now + (65536 - at)) % 65536
 
--- each was accepted no earlier than the one in front of it, and none later than now
-abbrev pub AreRising : ℕ → ℕ → List ℕ → Type 0
-AreRising low now [] = Unit {0}
-AreRising low now (t ∷ ts) = (low ≤ t) × (t ≤ now) × AreRising t now ts
+abbrev pub all_since : ℕ → List ℕ → List ℕ
+all_since now [] = []
+all_since now (t ∷ ts) = since now t ∷ all_since now ts
 
--- the same age at the tick 65,535
-abbrev pub rebased : ℕ → ℕ → ℕ
-rebased now t = 65535 - min 65535 (now - t)
+-- the ages at a tick of SDUs that were accepted at these, where so many in front are 65,535 ticks old
+abbrev pub ages_at : ℕ → ℕ → List ℕ → List ℕ
+ages_at zero now ts = all_since now ts
+ages_at (suc n) now [] = []
+ages_at (suc n) now (t ∷ ts) = 65535 ∷ ages_at n now ts
 
-abbrev pub all_rebased : ℕ → List ℕ → List ℕ
-all_rebased now [] = []
-all_rebased now (t ∷ ts) = rebased now t ∷ all_rebased now ts
+-- none is older than the one in front of it
+abbrev pub AreFalling : ℕ → List ℕ → Type 0
+AreFalling most [] = Unit {0}
+AreFalling most (a ∷ ages) = (a ≤ most) × AreFalling a ages
+
+-- just so many are 65,535 ticks old
+pub record AreAges (oldest now : ℕ) (ts : List ℕ) : Type 0 where
+  pub within : oldest ≤ length ts
+  pub falling : AreFalling 65535 (ages_at oldest now ts)
+  pub younger : slice_index (ages_at oldest now ts) oldest < 65535
 
 -- one tick older
 abbrev pub aged : List ℕ → List ℕ

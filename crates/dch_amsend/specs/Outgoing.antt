@@ -2,7 +2,7 @@
 -- without wrap.
 use Rattle.std.specs.Prelude.{◌≡◌, ◌+◌, ◌-◌, ◌<◌, ◌≤◌, ℕ, List, [], ◌∷◌, Bool, length, min, nat_lt, Option, Some, None}
 use Rattle.dch_retx.specs.declared.sent_pdu.SentPdu.{SentPdu}
-use Rattle.dch_retx.specs.Flights.{at, first_wanted, wanted_in}
+use Rattle.dch_retx.specs.Flights.{at, first_requested, requested_in}
 use Rattle.dch_am.specs.Rules.{Rules}
 use Rattle.dch_am.specs.Bodies.{carried, marks_of}
 use Rattle.dch_am.specs.Cuts.{IsCut}
@@ -26,7 +26,7 @@ with_line l v = record { size = v.size; line = l; tx_buffer = v.tx_buffer }
 
 -- how many PDUs could be built one after another, at most 64
 abbrev pub available_of : Outgoing → ℕ
-available_of v = min 64 (builds_of (min 64 (wanted_in v.line.flown)) (min (v.line.window - length v.line.flown) (fills 64 (v.tx_buffer.size - 2) (unsent_of v.tx_buffer))) v.line.owed (length v.line.flown))
+available_of v = min 64 (builds_of (min 64 (requested_in v.line.flown)) (min (v.line.window - length v.line.flown) (fills 64 (v.tx_buffer.size - 2) (unsent_of v.tx_buffer))) v.line.owed (length v.line.flown))
 
 -- a PDU can be built
 abbrev pub can_build : Outgoing → Bool
@@ -44,7 +44,7 @@ first_flown (f ∷ fs) = Some f
 -- the last PDU in flight stands at this place, and none is requested
 pub record IsLast (l : RetxBuffer) (place : ℕ) : Type 0 where
   pub some : 0 < length l.flown
-  pub none : length l.flown ≤ first_wanted l.flown
+  pub none : length l.flown ≤ first_requested l.flown
   pub place_is : place ≡ length l.flown - 1
 
 -- it stands for this sender, whose PDUs have d octets behind the header

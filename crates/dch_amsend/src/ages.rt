@@ -1,29 +1,31 @@
-ghost use Rattle.std.specs.Prelude.{◌≡◌, ℕ, ◌-◌, ◌^◌, ◌<◌, ◌≤◌, ◌++◌, [], ◌∷◌, IfOk, drop, length, min, slice_index, slice_set};
+ghost use Rattle.std.specs.Prelude.{◌≡◌, ℕ, ◌-◌, ◌^◌, ◌<◌, ◌≤◌, ◌++◌, [], ◌∷◌, IfOk, drop, length, slice_index};
 ghost use Rattle.circular_buffer.specs.Buffer.{buffer};
-ghost use Rattle.dch_amsend.specs.Ages.{aged, all_rebased, rebased};
+ghost use Rattle.dch_amsend.specs.Ages.{aged, ages_at, since};
 
 use circular_buffer::HeapCircularBuffer;
 use dch_bits::NoMemory;
 use std::alloc::Global;
 use std::marker::Model;
 
-/// The ages of SDUs in ticks, at most 65,535, the oldest first. Kept is the tick at which each was accepted.
+/// The ages of SDUs in ticks, at most 65,535, the oldest first. Kept is the tick at which each was accepted, counted up to 65,536, and how
+/// many in front are 65,535 ticks old.
 #[derive(Drop)]
 pub struct Ages {
-    kept: HeapCircularBuffer<u32>,
-    ticks: u32,
+    kept: HeapCircularBuffer<u16>,
+    tick: u16,
+    oldest: usize,
 }
 
 impl Model for Ages {
     ghost use Rattle.std.specs.Prelude.{ℕ};
     ghost use Rattle.circular_buffer.specs.Buffer.{Buffer, buffer};
-    ghost use Rattle.dch_amsend.specs.Ages.{AreRising, ages_at};
+    ghost use Rattle.dch_amsend.specs.Ages.{AreAges, ages_at};
 
     ghost Value = { Buffer ℕ };
 
-    ghost view = { λ u. buffer (ages_at u.ticks u.kept.items) u.kept.capacity };
+    ghost view = { λ u. buffer (ages_at u.oldest u.tick u.kept.items) u.kept.capacity };
 
-    ghost invariant = { λ u. AreRising 0 u.ticks u.kept.items };
+    ghost invariant = { λ u. AreAges u.oldest u.tick u.kept.items };
 }
 
 impl Ages {
@@ -32,7 +34,11 @@ impl Ages {
         ensures { IfOk result (λ u. u ≡ buffer [] most) }
     {
         let kept = HeapCircularBuffer::with_capacity(alloc, most as usize)?;
-        Ok(Ages { kept, ticks: 0 })
+        Ok(Ages {
+            kept,
+            tick: 0,
+            oldest: 0,
+        })
     }
 
     /// How many SDUs there are.
@@ -49,7 +55,11 @@ impl Ages {
         ensures value { result ≡ slice_index self.now.items i }
         ensures oldest { (j : ℕ) → i ≤ j → slice_index self.now.items j ≤ result }
     {
-        age_of(self.ticks, tick_at(&self.kept, i))
+        if i < self.oldest {
+            65535
+        } else {
+            since(self.tick, tick_at(&self.kept, i))
+        }
     }
 
     /// An SDU that is accepted now comes behind the others.
@@ -57,59 +67,54 @@ impl Ages {
         requires { length self.old.items < self.old.capacity }
         ensures { self.new ≡ buffer (self.old.items ++ 0 ∷ []) self.old.capacity }
     {
-        self.kept.push_back(self.ticks);
+        self.kept.push_back(self.tick);
     }
 
     /// Only the last ones stay, so many.
     pub fn truncate_front(&mut self, len: usize)
         ensures { self.new ≡ buffer (drop (length self.old.items - len) self.old.items) self.old.capacity }
     {
+        let gone = self.kept.len().saturating_sub(len);
         self.kept.truncate_front(len);
+        self.oldest = self.oldest.saturating_sub(gone);
     }
 
     /// All are one tick older.
     pub fn tick(&mut self)
         ensures { self.new ≡ buffer (aged self.old.items) self.old.capacity }
     {
-        if self.ticks == u32::MAX {
-            rebase(&mut self.kept, self.ticks);
-            self.ticks = 65536;
-        } else {
-            self.ticks += 1;
-        }
+        let now = self.tick.wrapping_add(1);
+        self.oldest = oldest_from(&self.kept, now, self.oldest);
+        self.tick = now;
     }
 }
 
-/// How many ticks ago that was, at most 65,535.
-fn age_of(now: u32, at: u32) -> u16
-    ensures { result ≡ min 65535 (now - at) }
+/// How many ticks ago that was, up to 65,535.
+fn since(now: u16, at: u16) -> u16
+    ensures { result ≡ since now at }
 {
-    now.saturating_sub(at).min(65535) as u16
+    now.wrapping_sub(at)
 }
 
 /// The tick that is kept at a place.
-fn tick_at(ticks: &HeapCircularBuffer<u32>, i: usize) -> u32
-    requires { i < length ticks.now.items }
-    ensures { result ≡ slice_index ticks.now.items i }
+fn tick_at(kept: &HeapCircularBuffer<u16>, i: usize) -> u16
+    requires { i < length kept.now.items }
+    ensures { result ≡ slice_index kept.now.items i }
 {
-    *ticks.get(i).unwrap()
+    *kept.get(i).unwrap()
 }
 
-/// The SDU at a place has its age of a tick at the tick 65,535.
-fn rebase_at(ticks: &mut HeapCircularBuffer<u32>, i: usize, now: u32)
-    requires { i < length ticks.old.items }
-    ensures { ticks.new ≡ buffer (slice_set ticks.old.items i (rebased now (slice_index ticks.old.items i))) ticks.old.capacity }
+/// How many SDUs in front are 65,535 ticks old, where so many were before.
+fn oldest_from(kept: &HeapCircularBuffer<u16>, now: u16, before: usize) -> usize
+    requires { before ≤ length kept.now.items }
+    ensures within { result ≤ length kept.now.items }
+    ensures same { ages_at result now kept.now.items ≡ ages_at before now kept.now.items }
+    ensures younger { slice_index (ages_at before now kept.now.items) result < 65535 }
 {
-    if let Some(at) = ticks.get_mut(i) {
-        *at = 65535 - age_of(now, *at) as u32;
+    for i in before..kept.len() {
+        if since(now, tick_at(kept, i)) < 65535 {
+            return i;
+        }
     }
-}
-
-/// All SDUs have their ages of a tick at the tick 65,535.
-fn rebase(ticks: &mut HeapCircularBuffer<u32>, now: u32)
-    ensures { ticks.new ≡ buffer (all_rebased now ticks.old.items) ticks.old.capacity }
-{
-    for i in 0..ticks.len() {
-        rebase_at(ticks, i, now);
-    }
+    kept.len()
 }

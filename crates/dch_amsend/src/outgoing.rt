@@ -122,7 +122,7 @@ impl Outgoing {
     fn can_build(&self) -> bool
         ensures { result ≡ can_build self.now }
     {
-        self.line.is_wanted() || self.has_unrequested()
+        self.line.is_requested() || self.has_unrequested()
     }
 
     /// A PDU can be built that isn't requested: a new one, or the last one again.
@@ -294,8 +294,8 @@ impl Outgoing {
         ensures history { (rules : Rules) (d : ℕ) (s : Sender) (x : Discard) → IsOutgoing rules d self.old s → s.discard ≡ Some x →
             IsText out.new (0 ∷ mrw_text (wrapped x.k) x.n) × (status_of out.new ≡ Some (mrw_fields (wrapped x.k) x.n)) × IsOutgoing rules d self.new (after_mrw rules s x) }
     {
-        let (number, mark) = self.line.mrw();
-        write_mrw(number, mark, out);
+        let place = self.line.mrw();
+        write_mrw(place.sn, place.n, out);
         self.line.write_mrw();
     }
 

@@ -4,7 +4,7 @@ ghost use Rattle.dch_am.specs.Building.{body_at};
 ghost use Rattle.dch_am.specs.Discards.{discards};
 ghost use Rattle.dch_am.specs.Rules.{Rules, rules_of};
 ghost use Rattle.dch_am.specs.Sender.{Sender, vt_a};
-ghost use Rattle.dch_retx.specs.Flights.{at, first_wanted, wanted_in};
+ghost use Rattle.dch_retx.specs.Flights.{at, first_requested, requested_in};
 ghost use Rattle.dch_amsend.specs.DiscardStanding.{DiscardStands};
 ghost use Rattle.dch_retx.specs.Standing.{Stands as LineStands};
 ghost use Rattle.dch_amsend.specs.BufferStanding.{HasBody};
@@ -61,7 +61,7 @@ fn last_of_all(line: &RetxBuffer, held: &SduDiscard, rules: &AmRules) -> Option<
 /// Where no unit is, those from the first requested PDU on, up to the last one and the end of a unit that goes on behind it.
 fn last_requested(outgoing: &Outgoing, held: &SduDiscard, rules: &AmRules) -> Option<Overdue>
     requires none { (i : ℕ) → held.now.passed ≤ i → is_old rules.now held.now i ≡ false }
-    requires some { 0 < wanted_in outgoing.now.line.flown }
+    requires some { 0 < requested_in outgoing.now.line.flown }
     ensures { result ≡ overdue rules.now held.now outgoing.now.line.flown }
 {
     let line = outgoing.line();
@@ -85,8 +85,8 @@ fn last_requested(outgoing: &Outgoing, held: &SduDiscard, rules: &AmRules) -> Op
 
 /// The place of the first PDU that is requested.
 fn first_requested(line: &RetxBuffer) -> u16
-    requires { 0 < wanted_in line.now.flown }
-    ensures place { result ≡ first_wanted line.now.flown }
+    requires { 0 < requested_in line.now.flown }
+    ensures place { result ≡ first_requested line.now.flown }
     ensures inside { result < length line.now.flown }
 {
     match line.pick(false) {
@@ -97,10 +97,10 @@ fn first_requested(line: &RetxBuffer) -> u16
 
 /// A PDU is requested where one that was built often enough is discarded.
 fn is_requested(line: &RetxBuffer, rules: &AmRules) -> bool
-    ensures value { result ≡ (nat_lt 0 rules.now.discard_sent && nat_lt 0 (wanted_in line.now.flown)) }
-    ensures some { result ≡ true → 0 < wanted_in line.now.flown }
+    ensures value { result ≡ (nat_lt 0 rules.now.discard_sent && nat_lt 0 (requested_in line.now.flown)) }
+    ensures some { result ≡ true → 0 < requested_in line.now.flown }
 {
-    rules.discard_sent > 0 && line.is_wanted()
+    rules.discard_sent > 0 && line.is_requested()
 }
 
 /// The first unit that was not discarded is old enough. Where it isn't, none is.

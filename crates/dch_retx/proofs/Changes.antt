@@ -7,7 +7,7 @@ use Rattle.std.proofs.lemmas.Bool.Decides.{nat_tests}
 use Rattle.std.proofs.lemmas.List.{get_or-drop, get_or_append_left}
 use Rattle.circular_buffer.specs.Buffer.{Buffer, buffer}
 use Rattle.dch_retx.specs.declared.sent_pdu.SentPdu.{SentPdu}
-use Rattle.dch_retx.specs.Flights.{at, blank, acknowledged, named_from, unwanted, changed_below, first_wanted, lowered, wanted_in, AreLinked, IsCounted, IsFirstWanted, IsFlight, IsFrom}
+use Rattle.dch_retx.specs.Flights.{at, blank, acknowledged, named_from, request_cleared, changed_below, first_requested, lowered, requested_in, AreLinked, IsCounted, IsFirstRequested, IsFlight, IsFrom}
 
 -- one place more is changed
 pub changed_next : (change : SentPdu → SentPdu) (i : ℕ) (flown : List SentPdu) → i < length flown → set (changed_below change i flown) i (change (at (changed_below change i flown) i)) ≡ changed_below change (i + 1) flown
@@ -20,12 +20,12 @@ length-changed change zero flown = refl
 length-changed change (suc i) [] = refl
 length-changed change (suc i) (f ∷ flown) = ap suc (length-changed change i flown)
 
--- what is requested after a change that wants nothing was requested before
-wanted_before : (change : SentPdu → SentPdu) → ((f : SentPdu) → (change f).requested ≡ true → f.requested ≡ true) → (to : ℕ) (flown : List SentPdu) (i : ℕ) → (at (changed_below change to flown) i).requested ≡ true → (at flown i).requested ≡ true
-wanted_before change less zero flown i e = e
-wanted_before change less (suc to) [] i e = e
-wanted_before change less (suc to) (f ∷ flown) zero e = less f e
-wanted_before change less (suc to) (f ∷ flown) (suc i) e = wanted_before change less to flown i e
+-- what is requested after a change that requests nothing was requested before
+requested_before : (change : SentPdu → SentPdu) → ((f : SentPdu) → (change f).requested ≡ true → f.requested ≡ true) → (to : ℕ) (flown : List SentPdu) (i : ℕ) → (at (changed_below change to flown) i).requested ≡ true → (at flown i).requested ≡ true
+requested_before change less zero flown i e = e
+requested_before change less (suc to) [] i e = e
+requested_before change less (suc to) (f ∷ flown) zero e = less f e
+requested_before change less (suc to) (f ∷ flown) (suc i) e = requested_before change less to flown i e
 
 pub acknowledged_less : (f : SentPdu) → (acknowledged f).requested ≡ true → f.requested ≡ true
 acknowledged_less f e = either f.named e
@@ -41,15 +41,15 @@ named_more from to i f e = either f.acked
     either true = e
     either false = or_left _ _ e
 
-unwanted_less : (f : SentPdu) → (unwanted f).requested ≡ true → f.requested ≡ true
-unwanted_less f e = absurd (cc)
+cleared_less : (f : SentPdu) → (request_cleared f).requested ≡ true → f.requested ≡ true
+cleared_less f e = absurd (cc)
 
 -- the first that is requested
-pub first_is : (flown : List SentPdu) (k : ℕ) → IsFirstWanted flown k → k ≡ first_wanted flown
+pub first_is : (flown : List SentPdu) (k : ℕ) → IsFirstRequested flown k → k ≡ first_requested flown
 first_is [] k is = omega (arith, is.within)
 first_is (f ∷ flown) k is = go f.requested refl k is (λ j h. first_is flown j h)
   where
-    go : (b : Bool) → f.requested ≡ b → (k : ℕ) → IsFirstWanted (f ∷ flown) k → ((j : ℕ) → IsFirstWanted flown j → j ≡ first_wanted flown) → k ≡ cond b 0 (suc (first_wanted flown))
+    go : (b : Bool) → f.requested ≡ b → (k : ℕ) → IsFirstRequested (f ∷ flown) k → ((j : ℕ) → IsFirstRequested flown j → j ≡ first_requested flown) → k ≡ cond b 0 (suc (first_requested flown))
     go true e zero is rest = refl
     go true e (suc k) is rest = absurd (both_ways f.requested (is.before 0 (omega arith)) e)
     go false e zero is rest = absurd (both_ways f.requested e (is.here (omega arith)))
@@ -62,98 +62,98 @@ inside (x ∷ xs) zero e = omega arith
 inside (x ∷ xs) (suc j) e = omega (arith, inside xs j e)
 
 -- how many are requested
-wanted_none : (flown : List SentPdu) → ((j : ℕ) → (at flown j).requested ≡ false) → wanted_in flown ≡ 0
-wanted_none [] none = refl
-wanted_none (f ∷ flown) none = ap (λ b. cond b (suc (wanted_in flown)) (wanted_in flown)) (none 0) ∙ wanted_none flown (λ j. none (suc j))
+requested_none : (flown : List SentPdu) → ((j : ℕ) → (at flown j).requested ≡ false) → requested_in flown ≡ 0
+requested_none [] none = refl
+requested_none (f ∷ flown) none = ap (λ b. cond b (suc (requested_in flown)) (requested_in flown)) (none 0) ∙ requested_none flown (λ j. none (suc j))
 
-wanted_some : (flown : List SentPdu) (k : ℕ) → (at flown k).requested ≡ true → 0 < wanted_in flown
-wanted_some [] k e = absurd (cc)
-wanted_some (f ∷ flown) zero e = rw e (omega arith)
-wanted_some (f ∷ flown) (suc k) e = go f.requested (wanted_some flown k e)
+requested_some : (flown : List SentPdu) (k : ℕ) → (at flown k).requested ≡ true → 0 < requested_in flown
+requested_some [] k e = absurd (cc)
+requested_some (f ∷ flown) zero e = rw e (omega arith)
+requested_some (f ∷ flown) (suc k) e = go f.requested (requested_some flown k e)
   where
-    go : (b : Bool) → 0 < wanted_in flown → 0 < cond b (suc (wanted_in flown)) (wanted_in flown)
+    go : (b : Bool) → 0 < requested_in flown → 0 < cond b (suc (requested_in flown)) (requested_in flown)
     go true l = omega arith
     go false l = l
 
 -- no more are requested than there are
-pub wanted_few : (flown : List SentPdu) → wanted_in flown ≤ length flown
-wanted_few [] = omega arith
-wanted_few (f ∷ flown) = go f.requested (wanted_few flown)
+pub requested_few : (flown : List SentPdu) → requested_in flown ≤ length flown
+requested_few [] = omega arith
+requested_few (f ∷ flown) = go f.requested (requested_few flown)
   where
-    go : (b : Bool) → wanted_in flown ≤ length flown → cond b (suc (wanted_in flown)) (wanted_in flown) ≤ suc (length flown)
+    go : (b : Bool) → requested_in flown ≤ length flown → cond b (suc (requested_in flown)) (requested_in flown) ≤ suc (length flown)
     go true l = omega arith
     go false l = omega arith
 
 -- where one place is changed, what was requested there is what is requested there now
-pub counted_set : (flown : List SentPdu) (i : ℕ) (f : SentPdu) → i < length flown → cond (at flown i).requested 1 0 + wanted_in (set flown i f) ≡ cond f.requested 1 0 + wanted_in flown
+pub counted_set : (flown : List SentPdu) (i : ℕ) (f : SentPdu) → i < length flown → cond (at flown i).requested 1 0 + requested_in (set flown i f) ≡ cond f.requested 1 0 + requested_in flown
 counted_set [] i f l = absurd (omega arith)
 counted_set (x ∷ flown) zero f l = go x.requested f.requested
   where
-    go : (a b : Bool) → cond a 1 0 + cond b (suc (wanted_in flown)) (wanted_in flown) ≡ cond b 1 0 + cond a (suc (wanted_in flown)) (wanted_in flown)
+    go : (a b : Bool) → cond a 1 0 + cond b (suc (requested_in flown)) (requested_in flown) ≡ cond b 1 0 + cond a (suc (requested_in flown)) (requested_in flown)
     go true true = omega arith
     go true false = omega arith
     go false true = omega arith
     go false false = omega arith
 counted_set (x ∷ flown) (suc i) f l = go x.requested (counted_set flown i f (omega arith))
   where
-    go : (a : Bool) → cond (at flown i).requested 1 0 + wanted_in (set flown i f) ≡ cond f.requested 1 0 + wanted_in flown → cond (at flown i).requested 1 0 + cond a (suc (wanted_in (set flown i f))) (wanted_in (set flown i f)) ≡ cond f.requested 1 0 + cond a (suc (wanted_in flown)) (wanted_in flown)
+    go : (a : Bool) → cond (at flown i).requested 1 0 + requested_in (set flown i f) ≡ cond f.requested 1 0 + requested_in flown → cond (at flown i).requested 1 0 + cond a (suc (requested_in (set flown i f))) (requested_in (set flown i f)) ≡ cond f.requested 1 0 + cond a (suc (requested_in flown)) (requested_in flown)
     go true e = omega (arith, e)
     go false e = omega (arith, e)
 
 -- what holds of each place of a PDU that is requested
-wanted_all : (P : ℕ → Type 0) (flown : List SentPdu) (i : ℕ) (f : SentPdu) → P i → ((j : ℕ) → (at flown j).requested ≡ true → P j) → (j : ℕ) → (at (set flown i f) j).requested ≡ true → P j
-wanted_all P [] i f p given j e = given j e
-wanted_all P (x ∷ flown) zero f p given zero e = p
-wanted_all P (x ∷ flown) zero f p given (suc j) e = given (suc j) e
-wanted_all P (x ∷ flown) (suc i) f p given zero e = given zero e
-wanted_all P (x ∷ flown) (suc i) f p given (suc j) e = wanted_all (λ k. P (suc k)) flown i f p (λ k w. given (suc k) w) j e
+requested_all : (P : ℕ → Type 0) (flown : List SentPdu) (i : ℕ) (f : SentPdu) → P i → ((j : ℕ) → (at flown j).requested ≡ true → P j) → (j : ℕ) → (at (set flown i f) j).requested ≡ true → P j
+requested_all P [] i f p given j e = given j e
+requested_all P (x ∷ flown) zero f p given zero e = p
+requested_all P (x ∷ flown) zero f p given (suc j) e = given (suc j) e
+requested_all P (x ∷ flown) (suc i) f p given zero e = given zero e
+requested_all P (x ∷ flown) (suc i) f p given (suc j) e = requested_all (λ k. P (suc k)) flown i f p (λ k w. given (suc k) w) j e
 
 -- the same, where the one that is changed is requested only if it was
-wanted_old : (flown : List SentPdu) (i : ℕ) (f : SentPdu) → (f.requested ≡ true → (at flown i).requested ≡ true) → (j : ℕ) → (at (set flown i f) j).requested ≡ true → (at flown j).requested ≡ true
-wanted_old [] i f less j e = e
-wanted_old (x ∷ flown) zero f less zero e = less e
-wanted_old (x ∷ flown) zero f less (suc j) e = e
-wanted_old (x ∷ flown) (suc i) f less zero e = e
-wanted_old (x ∷ flown) (suc i) f less (suc j) e = wanted_old flown i f less j e
+requested_old : (flown : List SentPdu) (i : ℕ) (f : SentPdu) → (f.requested ≡ true → (at flown i).requested ≡ true) → (j : ℕ) → (at (set flown i f) j).requested ≡ true → (at flown j).requested ≡ true
+requested_old [] i f less j e = e
+requested_old (x ∷ flown) zero f less zero e = less e
+requested_old (x ∷ flown) zero f less (suc j) e = e
+requested_old (x ∷ flown) (suc i) f less zero e = e
+requested_old (x ∷ flown) (suc i) f less (suc j) e = requested_old flown i f less j e
 
 -- what leaves the count where one isn't requested any more
-pub gone_set : (flown : List SentPdu) (i : ℕ) (f : SentPdu) → i < length flown → (f.requested ≡ true → (at flown i).requested ≡ true) → cond ((at flown i).requested && not f.requested) 1 0 + wanted_in (set flown i f) ≡ wanted_in flown
+pub gone_set : (flown : List SentPdu) (i : ℕ) (f : SentPdu) → i < length flown → (f.requested ≡ true → (at flown i).requested ≡ true) → cond ((at flown i).requested && not f.requested) 1 0 + requested_in (set flown i f) ≡ requested_in flown
 gone_set flown i f l less = go (at flown i).requested f.requested less (counted_set flown i f l)
   where
-    go : (a b : Bool) → (b ≡ true → a ≡ true) → cond a 1 0 + wanted_in (set flown i f) ≡ cond b 1 0 + wanted_in flown → cond (a && not b) 1 0 + wanted_in (set flown i f) ≡ wanted_in flown
+    go : (a b : Bool) → (b ≡ true → a ≡ true) → cond a 1 0 + requested_in (set flown i f) ≡ cond b 1 0 + requested_in flown → cond (a && not b) 1 0 + requested_in (set flown i f) ≡ requested_in flown
     go true true h e = omega (arith, e)
     go true false h e = omega (arith, e)
     go false true h e = absurd (both_ways false refl (h refl))
     go false false h e = omega (arith, e)
 
 -- the first that is requested, by a count
-pub counted_first : (flown : List SentPdu) (low count : ℕ) → 0 < count → IsCounted flown low count → IsFirstWanted flown low
+pub counted_first : (flown : List SentPdu) (low count : ℕ) → 0 < count → IsCounted flown low count → IsFirstRequested flown low
 counted_first flown low count some is = record {
   before = λ i less. false_from_ne_true (at flown i).requested (λ e. omega (arith, less, is.below.from i e));
   here = λ within. is.first some;
   within = omega (arith, inside flown low (is.first some));
 }
 
-pub counted_none : (flown : List SentPdu) (low count : ℕ) → count ≡ 0 → IsCounted flown low count → IsFirstWanted flown (length flown)
+pub counted_none : (flown : List SentPdu) (low count : ℕ) → count ≡ 0 → IsCounted flown low count → IsFirstRequested flown (length flown)
 counted_none flown low count none is = record {
-  before = λ i less. false_from_ne_true (at flown i).requested (λ e. omega (arith, none, is.count_is, wanted_some flown i e));
+  before = λ i less. false_from_ne_true (at flown i).requested (λ e. omega (arith, none, is.count_is, requested_some flown i e));
   here = λ within. absurd (omega (arith, within));
   within = omega arith;
 }
 
 -- a search for the first
-pub none_from : (flown : List SentPdu) (count : ℕ) → count ≡ wanted_in flown → count ≡ 0 → IsCounted flown 0 count
+pub none_from : (flown : List SentPdu) (count : ℕ) → count ≡ requested_in flown → count ≡ 0 → IsCounted flown 0 count
 none_from flown count e none = record { below = record { from = λ i w. omega arith }; count_is = e; first = λ some. absurd (omega (arith, some, none)) }
 
-pub found_from : (flown : List SentPdu) (count i : ℕ) → count ≡ wanted_in flown → ((j : ℕ) → j < i → (at flown j).requested ≡ false) → (at flown i).requested ≡ true → IsCounted flown i count
+pub found_from : (flown : List SentPdu) (count i : ℕ) → count ≡ requested_in flown → ((j : ℕ) → j < i → (at flown j).requested ≡ false) → (at flown i).requested ≡ true → IsCounted flown i count
 found_from flown count i e before here = record {
   below = record { from = λ j w. ⊎_elim (λ (l : j < i). absurd (both_ways (at flown j).requested (before j l) w)) (λ (l : i ≤ j). l) (cases_lt j i) };
   count_is = e;
   first = λ some. here;
 }
 
-pub exhausted : (flown : List SentPdu) → ((j : ℕ) → j < length flown → (at flown j).requested ≡ false) → wanted_in flown ≡ 0
-exhausted flown none = wanted_none flown (λ j. false_from_ne_true (at flown j).requested (λ e. both_ways (at flown j).requested (none j (inside flown j e)) e))
+pub exhausted : (flown : List SentPdu) → ((j : ℕ) → j < length flown → (at flown j).requested ≡ false) → requested_in flown ≡ 0
+exhausted flown none = requested_none flown (λ j. false_from_ne_true (at flown j).requested (λ e. both_ways (at flown j).requested (none j (inside flown j e)) e))
 
 -- one that is named is requested since
 pub flight_named : (flight : Buffer SentPdu) (skips : Buffer ℕ) (low count i : ℕ) (f : SentPdu) → i < length flight.items → (not (at flight.items i).requested && f.requested) ≡ true → AreLinked (set flight.items i f) skips.items → IsFlight flight skips low count → IsFlight (buffer (set flight.items i f) flight.capacity) skips (lowered low count i) (count + 1)
@@ -183,7 +183,7 @@ flight_named flight skips low count i f l newly linked is = record {
 
     below : (b : Bool) → ((count == 0) || nat_lt i low) ≡ b → (j : ℕ) → (at flight.items j).requested ≡ true → cond b i low ≤ j
     below true e j w = ⊎_elim
-        (λ (h : (count == 0) ≡ true). absurd (omega (arith, eqb-true count 0 h, is.counted.count_is, wanted_some flight.items j w)))
+        (λ (h : (count == 0) ≡ true). absurd (omega (arith, eqb-true count 0 h, is.counted.count_is, requested_some flight.items j w)))
         (λ (h : nat_lt i low ≡ true). omega (arith, ltb-true i low h, is.counted.below.from j w))
         (or_cases (count == 0) (nat_lt i low) e)
     below false e j w = is.counted.below.from j w
@@ -193,7 +193,7 @@ flight_named flight skips low count i f l newly linked is = record {
     lower false e = ltb-false i low (or_parts (count == 0) (nat_lt i low) e).1
 
     from : (j : ℕ) → (at (set flight.items i f) j).requested ≡ true → lowered low count i ≤ j
-    from = wanted_all (λ j. lowered low count i ≤ j) flight.items i f (lower ((count == 0) || nat_lt i low) refl) (below ((count == 0) || nat_lt i low) refl)
+    from = requested_all (λ j. lowered low count i ≤ j) flight.items i f (lower ((count == 0) || nat_lt i low) refl) (below ((count == 0) || nat_lt i low) refl)
 
     first : (b : Bool) → ((count == 0) || nat_lt i low) ≡ b → (at (set flight.items i f) (cond b i low)).requested ≡ true
     first true e = here
@@ -215,9 +215,9 @@ flight_named flight skips low count i f l newly linked is = record {
 pub flight_set : (flight : Buffer SentPdu) (skips : Buffer ℕ) (low count i : ℕ) (f : SentPdu) → i < length flight.items → f.requested ≡ (at flight.items i).requested → AreLinked (set flight.items i f) skips.items → IsFlight flight skips low count → IsFlight (buffer (set flight.items i f) flight.capacity) skips low count
 flight_set flight skips low count i f l e linked is = record {
   counted = record {
-    below = record { from = λ j w. is.counted.below.from j (wanted_old flight.items i f (λ h. sym e ∙ h) j w) };
+    below = record { from = λ j w. is.counted.below.from j (requested_old flight.items i f (λ h. sym e ∙ h) j w) };
     count_is = omega (arith, is.counted.count_is, counted_set flight.items i f l, ap (λ b. cond {A = ℕ} b 1 0) e);
-    first = λ some. wanted_new (is.counted.first some);
+    first = λ some. requested_new (is.counted.first some);
   };
   few = omega (arith, is.few, length-set flight.items i f);
   small = is.small;
@@ -225,8 +225,8 @@ flight_set flight skips low count i f l e linked is = record {
   room = is.room;
 }
   where
-    wanted_new : (at flight.items low).requested ≡ true → (at (set flight.items i f) low).requested ≡ true
-    wanted_new w = ⊎_elim
+    requested_new : (at flight.items low).requested ≡ true → (at (set flight.items i f) low).requested ≡ true
+    requested_new w = ⊎_elim
         (λ (q : low ≡ i). subst (λ k. (at (set flight.items i f) k).requested ≡ true) (sym q) (ap (λ (x : SentPdu). x.requested) (get_or-set_same flight.items i f blank l) ∙ (e ∙ subst (λ k. (at flight.items k).requested ≡ true) q w)))
         (λ (q : low ≢ i). ap (λ (x : SentPdu). x.requested) (get_or-set_other flight.items i low f blank q) ∙ w)
         (cases_eq low i)
@@ -242,10 +242,10 @@ flight_as flight skips low count i f l more none linked is = flight_set flight s
 
 -- one that isn't requested any more
 pub acknowledged_from : (to : ℕ) (flown : List SentPdu) (low : ℕ) → IsFrom flown low → IsFrom (changed_below acknowledged to flown) low
-acknowledged_from to flown low is = record { from = λ i e. is.from i (wanted_before acknowledged acknowledged_less to flown i e) }
+acknowledged_from to flown low is = record { from = λ i e. is.from i (requested_before acknowledged acknowledged_less to flown i e) }
 
-pub unwanted_from : (to : ℕ) (flown : List SentPdu) (low : ℕ) → IsFrom flown low → IsFrom (changed_below unwanted to flown) low
-unwanted_from to flown low is = record { from = λ i e. is.from i (wanted_before unwanted unwanted_less to flown i e) }
+pub cleared_from : (to : ℕ) (flown : List SentPdu) (low : ℕ) → IsFrom flown low → IsFrom (changed_below request_cleared to flown) low
+cleared_from to flown low is = record { from = λ i e. is.from i (requested_before request_cleared cleared_less to flown i e) }
 
 pub left_from : (count : ℕ) (flown : List SentPdu) (low : ℕ) → IsFrom flown low → IsFrom (drop count flown) (low - count)
 left_from count flown low is = record { from = λ i e. omega (arith, is.from (count + i) (ap (λ (x : SentPdu). x.requested) (sym (get_or-drop count flown i blank)) ∙ e)) }
@@ -270,7 +270,7 @@ flight_push flight skips low count f room e linked is = record {
     old (x ∷ xs) zero w = w
     old (x ∷ xs) (suc j) w = old xs j w
 
-    more : (xs : List SentPdu) → wanted_in (xs ++ f ∷ []) ≡ wanted_in xs
+    more : (xs : List SentPdu) → requested_in (xs ++ f ∷ []) ≡ requested_in xs
     more [] = ap (λ b. cond {A = ℕ} b 1 0) e
     more (x ∷ xs) = ap (λ n. cond x.requested (suc n) n) (more xs)
 

@@ -18,7 +18,7 @@ use Rattle.dch_retx.specs.Standing.{IsFlown, IsRunning, IsSame, Stands}
 use Rattle.dch_retx.proofs.Lengths.{length-acked}
 use Rattle.dch_retx.proofs.Fronts.{IsHeard, IsTold, heard_stands}
 use Rattle.dch_retx.proofs.Naming.{IsOne, at-changed_below, one_is}
-use Rattle.dch_retx.proofs.Saying.{base_is, wanted_spec}
+use Rattle.dch_retx.proofs.Saying.{base_is, requested_spec}
 
 -- no discard
 abbrev pub settled : Sender → Sender
@@ -70,7 +70,7 @@ freed_heard rules l s m is le = record {
         let e : nat_lt i (min m (length l.flown)) ≡ nat_lt (vt_a s + i) (vt_a s + m) = under (vt_a s) i (length l.flown) inside in
         record {
           acked = ap (λ (g : SentPdu). g.acked) place ∙ (one.acked ∙ ap (λ u. (u && not false) || has (vt_a s + i) s.acked) e);
-          requested = ap (λ (g : SentPdu). g.requested) place ∙ (one.requested ∙ (ap (λ u. ((false || has (vt_a s + i) s.requested) && not ((u && not false) || has (vt_a s + i) s.acked)) && not (nat_lt (vt_a s + i) 0)) e ∙ sym (wanted_spec (vt_a s + i) s.requested s.acked [] (vt_a s + m) 0)));
+          requested = ap (λ (g : SentPdu). g.requested) place ∙ (one.requested ∙ (ap (λ u. ((false || has (vt_a s + i) s.requested) && not ((u && not false) || has (vt_a s + i) s.acked)) && not (nat_lt (vt_a s + i) 0)) e ∙ sym (requested_spec (vt_a s + i) s.requested s.acked [] (vt_a s + m) 0)));
           named = ap (λ (g : SentPdu). g.named) place ∙ one.named_is;
           builds = ap (λ (g : SentPdu). g.builds) place ∙ (one.builds ∙ f.builds);
         }

@@ -14,7 +14,7 @@ use Rattle.dch_am.specs.Discards.{count}
 use Rattle.dch_am.proofs.Lists.{Is, has-append, has-less, has-below, run_in, run_le, run_reaches}
 use Rattle.dch_retx.specs.declared.buffer.Running.{Running}
 use Rattle.dch_retx.specs.RetxBuffer.{RetxBuffer, left_front, run_on}
-use Rattle.dch_retx.specs.Standing.{IsFlown, IsPolled, IsRunning, IsWanted, Stands}
+use Rattle.dch_retx.specs.Standing.{IsFlown, IsPolled, IsRunning, IsRequested, Stands}
 
 pub front_in : (flown : List SentPdu) (i : ℕ) → i < front_acked flown → (at flown i).acked ≡ true
 front_in [] i l = absurd (omega arith)
@@ -119,7 +119,7 @@ heard_stands rules l s names lsn named flown h = record {
   next = h.stands.next;
   flown = λ i less. flown_is i less;
   acked_sent = acked_sent;
-  requested = wanted_is;
+  requested = requested_is;
   unsent = h.stands.unsent;
   timer = ⊎_elim (λ (m : 0 < s.poll_timer). ap₂ (λ b n. cond b 0 n) (same_test (inl m)) h.stands.timer) (λ (m : s.poll_timer ≤ 0). zero_both (named || nat_lt l.polled gone) told_now l.timer s.poll_timer h.stands.timer (omega arith)) (cases_lt 0 s.poll_timer);
   owed = ⊎_elim (λ (q : s.owed ≡ true). ap₂ (λ b c. cond b false c) (same_test (inr q)) h.stands.owed) (λ (q : s.owed ≡ false). false_both (named || nat_lt l.polled gone) told_now l.owed s.owed h.stands.owed q) (cases_Bool s.owed);
@@ -177,8 +177,8 @@ heard_stands rules l s names lsn named flown h = record {
         (λ (q : has k s.acked ≡ true). h.stands.acked_sent k q)
         (or_cases _ _ (sym (acked_is k) ∙ e))
 
-    wanted_is : (k : ℕ) → has k (less (less (names ++ s.requested) acked) (below (floor s.discard))) ≡ true → IsWanted (told s names lsn) k
-    wanted_is k e =
+    requested_is : (k : ℕ) → has k (less (less (names ++ s.requested) acked) (below (floor s.discard))) ≡ true → IsRequested (told s names lsn) k
+    requested_is k e =
         let one = and_parts _ _ (sym (has-less k (less (names ++ s.requested) acked) (below (floor s.discard))) ∙ e) in
         let two = and_parts _ _ (sym (has-less k (names ++ s.requested) acked) ∙ one.0) in
         let free : has k acked ≡ false = not-true _ two.1 in

@@ -6,7 +6,7 @@ use Rattle.std.proofs.lemmas.List.{get_or-drop, get_or-set_same, get_or-set_othe
 use Rattle.dch_am.specs.declared.answers.StatusTaken.{StatusTaken}
 use Rattle.dch_am.specs.declared.answers.StatusTaken.TheVariants.{Taken, Outside}
 use Rattle.dch_retx.specs.declared.sent_pdu.SentPdu.{SentPdu}
-use Rattle.dch_retx.specs.Flights.{at, acknowledged, blank, changed_below, front_acked, named_as, built, unwanted}
+use Rattle.dch_retx.specs.Flights.{at, acknowledged, blank, changed_below, front_acked, named_as, built, request_cleared}
 use Rattle.dch_retx.proofs.Changes.{length-changed}
 use Rattle.dch_retx.specs.StatusItems.{StatusItem}
 use Rattle.dch_retx.specs.StatusItem.{is_named, tells_some}
@@ -95,5 +95,5 @@ resent_kept place l = kept_front l.flown (resent place l).flown 0 (length-set l.
         go false e = subst (λ f. IsAlike f (at l.flown i)) (sym (get_or-set_other l.flown place i (built (at l.flown place)) blank (eqb-false i place e))) (alike_itself (at l.flown i))
 
 pub discarding_kept : (place n : ℕ) (l : RetxBuffer) → AreKept l.flown (discarding place n l).flown
-discarding_kept place n l = kept_front l.flown (changed_below unwanted place l.flown) 0 (length-changed unwanted place l.flown) (omega arith)
-    (λ i less. subst (λ f. IsAlike f (at l.flown i)) (sym (at-changed_below unwanted place l.flown i less)) (cond_both {A = SentPdu} (nat_lt i place) (unwanted (at l.flown i)) (at l.flown i) (λ f. IsAlike f (at l.flown i)) (λ _. record { extent = refl; full = refl }) (λ _. alike_itself (at l.flown i))))
+discarding_kept place n l = kept_front l.flown (changed_below request_cleared place l.flown) 0 (length-changed request_cleared place l.flown) (omega arith)
+    (λ i less. subst (λ f. IsAlike f (at l.flown i)) (sym (at-changed_below request_cleared place l.flown i less)) (cond_both {A = SentPdu} (nat_lt i place) (request_cleared (at l.flown i)) (at l.flown i) (λ f. IsAlike f (at l.flown i)) (λ _. record { extent = refl; full = refl }) (λ _. alike_itself (at l.flown i))))

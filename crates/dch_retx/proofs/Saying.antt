@@ -131,8 +131,8 @@ floor_test low j n (Some r) (Some d) is = same low j r.at ∙ ap (λ k. not (nat
 acked_spec : (k : ℕ) (acked names : List ℕ) (lsn : ℕ) → has k (now_acked acked names lsn) ≡ ((nat_lt k lsn && not (has k names)) || has k acked)
 acked_spec k acked names lsn = has-append k (less (below lsn) names) acked ∙ ap (λ b. b || has k acked) (has-less k (below lsn) names ∙ ap (λ b. b && not (has k names)) (has-below k lsn))
 
-pub wanted_spec : (k : ℕ) (requested acked names : List ℕ) (lsn low : ℕ) → has k (less (less (names ++ requested) (now_acked acked names lsn)) (below low)) ≡ (((has k names || has k requested) && not ((nat_lt k lsn && not (has k names)) || has k acked)) && not (nat_lt k low))
-wanted_spec k requested acked names lsn low =
+pub requested_spec : (k : ℕ) (requested acked names : List ℕ) (lsn low : ℕ) → has k (less (less (names ++ requested) (now_acked acked names lsn)) (below low)) ≡ (((has k names || has k requested) && not ((nat_lt k lsn && not (has k names)) || has k acked)) && not (nat_lt k low))
+requested_spec k requested acked names lsn low =
     has-less k (less (names ++ requested) (now_acked acked names lsn)) (below low)
     ∙ ap₂ (λ a b. a && not b) (has-less k (names ++ requested) (now_acked acked names lsn) ∙ ap₂ (λ a b. a && not b) (has-append k names requested) (acked_spec k acked names lsn)) (has-below k low)
 
@@ -161,7 +161,7 @@ listened_heard rules l s said is none = record {
         let place : at (told_line (below_said (first_number l) said) said l) i ≡ heard_one (nat_le (floor_of l.running) i) (is_named (first_number l) i said) (nat_lt i (min (below_said (first_number l) said) (length l.flown))) (at l.flown i) = at-told (below_said (first_number l) said) said l i less in
         record {
           acked = ap (λ (g : SentPdu). g.acked) place ∙ (one.acked ∙ ap₂ (λ u m. (u && not m) || has (vt_a s + i) s.acked) under named);
-          requested = ap (λ (g : SentPdu). g.requested) place ∙ (one.requested ∙ (ap₂ (λ u m. ((m || has (vt_a s + i) s.requested) && not ((u && not m) || has (vt_a s + i) s.acked)) && not (nat_lt (vt_a s + i) (floor s.discard))) under named ∙ sym (wanted_spec (vt_a s + i) s.requested s.acked (said_names (vt_a s) (vt_s s) said) (said_lsn (vt_a s) said) (floor s.discard))));
+          requested = ap (λ (g : SentPdu). g.requested) place ∙ (one.requested ∙ (ap₂ (λ u m. ((m || has (vt_a s + i) s.requested) && not ((u && not m) || has (vt_a s + i) s.acked)) && not (nat_lt (vt_a s + i) (floor s.discard))) under named ∙ sym (requested_spec (vt_a s + i) s.requested s.acked (said_names (vt_a s) (vt_s s) said) (said_lsn (vt_a s) said) (floor s.discard))));
           named = ap (λ (g : SentPdu). g.named) place ∙ one.named_is;
           builds = ap (λ (g : SentPdu). g.builds) place ∙ (one.builds ∙ f.builds);
         }

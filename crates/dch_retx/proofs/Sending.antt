@@ -6,7 +6,7 @@ use Rattle.std.proofs.lemmas.Bool.Decides.{nat_tests}
 use Rattle.std.proofs.lemmas.List.{get_or-set_same, get_or-set_other, get_or_append_left}
 use Rattle.std.proofs.Math.Seq.{get_or-append_seam}
 use Rattle.dch_retx.specs.declared.sent_pdu.SentPdu.{SentPdu}
-use Rattle.dch_retx.specs.Flights.{at, blank, built, ends_in, first_wanted}
+use Rattle.dch_retx.specs.Flights.{at, blank, built, ends_in, first_requested}
 use Rattle.dch_am.specs.Numbers.{has, less, grown, run_of, wrapped}
 use Rattle.dch_am.specs.Rules.{Rules}
 use Rattle.dch_am.specs.Bodies.{Body, ends, ends_of, is_empty, is_left, next_body, after_body}
@@ -18,8 +18,8 @@ use Rattle.dch_am.proofs.Lists.{has-less}
 use Rattle.dch_am.proofs.Reading.{ends-append}
 use Rattle.dch_retx.specs.declared.buffer.Running.{Running}
 use Rattle.dch_retx.specs.RetxBuffer.{RetxBuffer}
-use Rattle.dch_retx.specs.Polling.{after_bit, counted, crosses, fresh, is_far, poll_of, resent, sent_line, none_wanted, again_poll, again_line, last_poll, last_line, new_poll, new_line}
-use Rattle.dch_retx.specs.Standing.{IsFlown, IsNew, IsPolled, IsRunning, IsWanted, Sends, Stands, left_of}
+use Rattle.dch_retx.specs.Polling.{after_bit, counted, crosses, fresh, is_far, poll_of, resent, sent_line, none_requested, again_poll, again_line, last_poll, last_line, new_poll, new_line}
+use Rattle.dch_retx.specs.Standing.{IsFlown, IsNew, IsPolled, IsRunning, IsRequested, Sends, Stands, left_of}
 use Rattle.dch_retx.proofs.Counting.{counted_is, crosses_is}
 use Rattle.dch_retx.proofs.Picking.{first_all, first_low}
 
@@ -37,7 +37,7 @@ pub record IsOut (rules : Rules) (l : RetxBuffer) (s : Sender) : Type 0 where
   pub next : l.next ≡ wrapped (vt_s s)
   pub flown : (i : ℕ) → i < length l.flown → IsFlown s (vt_a s + i) (at l.flown i)
   pub acked_sent : (k : ℕ) → has k s.acked ≡ true → k < vt_s s
-  pub requested : (k : ℕ) → has k s.requested ≡ true → IsWanted s k
+  pub requested : (k : ℕ) → has k s.requested ≡ true → IsRequested s k
   pub unsent : (k : ℕ) → vt_s s ≤ k → count k s.sendings ≡ 0
   pub timer : l.timer ≡ s.poll_timer
   pub owed : l.owed ≡ s.owed
@@ -69,7 +69,7 @@ out_stands rules l s poll o = record {
   next = o.next;
   flown = λ i less. let f : IsFlown s (vt_a s + i) (at l.flown i) = o.flown i less in record { acked = f.acked; requested = f.requested; named = f.named; builds = f.builds };
   acked_sent = o.acked_sent;
-  requested = λ k e. let w : IsWanted s k = o.requested k e in record { from = w.from; sent = w.sent; is_open = w.is_open; high = w.high };
+  requested = λ k e. let w : IsRequested s k = o.requested k e in record { from = w.from; sent = w.sent; is_open = w.is_open; high = w.high };
   unsent = o.unsent;
   timer = ap₂ (λ (r : Rules) t. cond (poll && nat_lt 0 r.poll_timer) r.poll_timer t) o.rules_are o.timer;
   owed = ap (λ b. cond poll false b) o.owed;
@@ -128,7 +128,7 @@ again_out rules l s place inside is = record {
   next = is.next;
   flown = λ i inner. flown_is i (omega (arith, size));
   acked_sent = is.acked_sent;
-  requested = λ x e. let w : IsWanted s x = is.requested x (and_parts _ _ (sym (requested x) ∙ e)).0 in record { from = w.from; sent = w.sent; is_open = w.is_open; high = w.high };
+  requested = λ x e. let w : IsRequested s x = is.requested x (and_parts _ _ (sym (requested x) ∙ e)).0 in record { from = w.from; sent = w.sent; is_open = w.is_open; high = w.high };
   unsent = λ x le. ap (λ b. cond b (suc (count x s.sendings)) (count x s.sendings)) (differ x (omega (arith, is.flying))) ∙ is.unsent x le;
   timer = is.timer;
   owed = is.owed;
@@ -208,7 +208,7 @@ last_out rules l s place inside last none is = record {
   next = o.next;
   flown = λ i inner. let f : IsFlown (again s (vt_a s + place)) (vt_a s + i) (at (resent place l).flown i) = o.flown i inner in record { acked = f.acked; requested = f.requested ∙ same (vt_a s + i); named = f.named; builds = f.builds ∙ ap (λ k. min 255 (count (vt_a s + i) (k ∷ s.sendings))) last };
   acked_sent = o.acked_sent;
-  requested = λ k e. let w : IsWanted s k = is.requested k e in record { from = w.from; sent = w.sent; is_open = w.is_open; high = w.high };
+  requested = λ k e. let w : IsRequested s k = is.requested k e in record { from = w.from; sent = w.sent; is_open = w.is_open; high = w.high };
   unsent = λ x le. ap (λ k. count x (k ∷ s.sendings)) (sym last) ∙ o.unsent x le;
   timer = o.timer;
   owed = o.owed;
@@ -255,7 +255,7 @@ new_out rules d l s f room new is = record {
   next = next_is l.next (vt_s s) is.next ∙ ap wrapped (sym bodies);
   flown = λ i inner. flown_is i inner;
   acked_sent = λ k e. omega (arith, is.acked_sent k e, bodies);
-  requested = λ k e. let w : IsWanted s k = is.requested k e in record { from = omega (arith, w.from, low_is); sent = omega (arith, w.sent, bodies); is_open = w.is_open; high = w.high };
+  requested = λ k e. let w : IsRequested s k = is.requested k e in record { from = omega (arith, w.from, low_is); sent = omega (arith, w.sent, bodies); is_open = w.is_open; high = w.high };
   unsent = λ k le. ap (λ b. cond b (suc (count k s.sendings)) (count k s.sendings)) (above k (vt_s s) (omega (arith, bodies))) ∙ is.unsent k (omega (arith, bodies));
   timer = is.timer;
   owed = is.owed;
@@ -327,23 +327,23 @@ sends rules l s reason other e o =
     let bit : poll_of reason l ≡ polls rules s other = poll_is rules l s reason o ∙ ap (polls rules s) e in
     record { poll = bit; stands = subst (λ p. Stands rules (after_bit (poll_of reason l) l) (after_poll rules s p)) bit (out_stands rules l s (poll_of reason l) o) }
 
-none_is : (rules : Rules) (l : RetxBuffer) (s : Sender) → IsOut rules l s → none_wanted l.flown ≡ is_empty s.requested
+none_is : (rules : Rules) (l : RetxBuffer) (s : Sender) → IsOut rules l s → none_requested l.flown ≡ is_empty s.requested
 none_is rules l s o = go s.requested refl
   where
-    go : (xs : List ℕ) → s.requested ≡ xs → none_wanted l.flown ≡ is_empty xs
-    go [] e = le-leb (length l.flown) (first_wanted l.flown) (first_all l.flown (λ i less. (o.flown i less).requested ∙ ap (has (vt_a s + i)) e))
+    go : (xs : List ℕ) → s.requested ≡ xs → none_requested l.flown ≡ is_empty xs
+    go [] e = le-leb (length l.flown) (first_requested l.flown) (first_all l.flown (λ i less. (o.flown i less).requested ∙ ap (has (vt_a s + i)) e))
     go (x ∷ xs) e =
         let member : has x s.requested ≡ true = ap (has x) e ∙ or_left _ _ (eq-eqb x x refl) in
-        let w : IsWanted s x = o.requested x member in
+        let w : IsRequested s x = o.requested x member in
         let number : vt_a s + (x - vt_a s) ≡ x = omega (arith, w.from) in
         let inside : x - vt_a s < length l.flown = omega (arith, w.from, w.sent, o.flying) in
         let flag : (at l.flown (x - vt_a s)).requested ≡ true = (o.flown (x - vt_a s) inside).requested ∙ (ap (λ k. has k s.requested) number ∙ member) in
-        lt-leb (length l.flown) (first_wanted l.flown) (omega (arith, inside, first_low l.flown (x - vt_a s) flag))
+        lt-leb (length l.flown) (first_requested l.flown) (omega (arith, inside, first_low l.flown (x - vt_a s) flag))
 
 pub again_sends : (rules : Rules) (l : RetxBuffer) (s : Sender) (place d : ℕ) → place < length l.flown → Stands rules l s → Sends rules (again_poll place l) (again_line place l) (again_polls rules s (vt_a s + place)) (after_choice (Requested (vt_a s + place)) rules d s)
 again_sends rules l s place d inside is =
     let o : IsOut rules (resent place l) (again s (vt_a s + place)) = again_out rules l s place inside is in
-    sends rules (resent place l) (again s (vt_a s + place)) (none_wanted (resent place l).flown) (is_empty (again s (vt_a s + place)).requested) (none_is rules (resent place l) (again s (vt_a s + place)) o) o
+    sends rules (resent place l) (again s (vt_a s + place)) (none_requested (resent place l).flown) (is_empty (again s (vt_a s + place)).requested) (none_is rules (resent place l) (again s (vt_a s + place)) o) o
 
 pub last_sends : (rules : Rules) (l : RetxBuffer) (s : Sender) (place d : ℕ) → place < length l.flown → vt_a s + place ≡ vt_s s - 1 → has (vt_a s + place) s.requested ≡ false → Stands rules l s → Sends rules (last_poll place l) (last_line place l) (once_more_polls rules s) (after_choice (Latest (vt_a s + place)) rules d s)
 last_sends rules l s place d inside last none is = sends rules (resent place l) (once_more s) false false refl (last_out rules l s place inside last none is)

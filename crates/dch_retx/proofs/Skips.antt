@@ -6,7 +6,7 @@ use Rattle.std.proofs.lemmas.List.{get_or-drop}
 use Rattle.dch_retx.specs.declared.sent_pdu.SentPdu.{SentPdu}
 use Rattle.dch_retx.proofs.Changes.{changed_next, left_from, length-changed}
 use Rattle.dch_retx.proofs.Fronts.{front_in, front_le, front_out}
-use Rattle.dch_retx.specs.Flights.{AreLinked, IsBefore, IsCounted, IsLinked, IsSettled, IsWalk, acknowledged, at, before_next, blank, built, changed_below, front_acked, joined, named_from, unwanted, wanted_in}
+use Rattle.dch_retx.specs.Flights.{AreLinked, IsBefore, IsCounted, IsLinked, IsSettled, IsWalk, acknowledged, at, before_next, blank, built, changed_below, front_acked, joined, named_from, request_cleared, requested_in}
 
 -- one place is changed
 front_same : (flown : List SentPdu) (i : ℕ) (g : SentPdu) → g.acked ≡ (at flown i).acked → front_acked (set flown i g) ≡ front_acked flown
@@ -85,18 +85,18 @@ linked_drop (suc n) (f ∷ flown) [] is = absurd is
 linked_drop (suc n) (f ∷ flown) (s ∷ skips) is = linked_drop n flown skips is.1
 
 -- those that leave are acknowledged, so that none of them is requested
-wanted_drop : (n : ℕ) (flown : List SentPdu) (skips : List ℕ) → n ≤ front_acked flown → AreLinked flown skips → wanted_in (drop n flown) ≡ wanted_in flown
-wanted_drop zero flown skips l is = refl
-wanted_drop (suc n) [] skips l is = refl
-wanted_drop (suc n) (f ∷ flown) [] l is = absurd is
-wanted_drop (suc n) (f ∷ flown) (s ∷ skips) l is = go f.acked refl l (λ m. wanted_drop n flown skips m is.1)
+requested_drop : (n : ℕ) (flown : List SentPdu) (skips : List ℕ) → n ≤ front_acked flown → AreLinked flown skips → requested_in (drop n flown) ≡ requested_in flown
+requested_drop zero flown skips l is = refl
+requested_drop (suc n) [] skips l is = refl
+requested_drop (suc n) (f ∷ flown) [] l is = absurd is
+requested_drop (suc n) (f ∷ flown) (s ∷ skips) l is = go f.acked refl l (λ m. requested_drop n flown skips m is.1)
   where
-    go : (b : Bool) → f.acked ≡ b → suc n ≤ cond b (suc (front_acked flown)) 0 → (n ≤ front_acked flown → wanted_in (drop n flown) ≡ wanted_in flown) → wanted_in (drop n flown) ≡ wanted_in (f ∷ flown)
-    go true a m rest = rest (omega arith) ∙ sym (ap (λ b. cond b (suc (wanted_in flown)) (wanted_in flown)) (is.0.settled a).0)
+    go : (b : Bool) → f.acked ≡ b → suc n ≤ cond b (suc (front_acked flown)) 0 → (n ≤ front_acked flown → requested_in (drop n flown) ≡ requested_in flown) → requested_in (drop n flown) ≡ requested_in (f ∷ flown)
+    go true a m rest = rest (omega arith) ∙ sym (ap (λ b. cond b (suc (requested_in flown)) (requested_in flown)) (is.0.settled a).0)
     go false a m rest = absurd (omega arith)
 
-wanted_high : (flown : List SentPdu) (skips : List ℕ) (i : ℕ) → AreLinked flown skips → (at flown i).requested ≡ true → front_acked flown ≤ i
-wanted_high flown skips i is e = ⊎_elim
+requested_high : (flown : List SentPdu) (skips : List ℕ) (i : ℕ) → AreLinked flown skips → (at flown i).requested ≡ true → front_acked flown ≤ i
+requested_high flown skips i is e = ⊎_elim
     (λ (m : i < front_acked flown). absurd (both_ways (at flown i).requested ((linked_at flown skips i (omega (arith, front_le flown)) is).settled (front_in flown i m)).0 e))
     (λ (m : front_acked flown ≤ i). m)
     (cases_lt i (front_acked flown))
@@ -104,23 +104,23 @@ wanted_high flown skips i is e = ⊎_elim
 pub left_counted : (n : ℕ) (flown : List SentPdu) (skips : List ℕ) (low count : ℕ) → n ≤ front_acked flown → AreLinked flown skips → IsCounted flown low count → IsCounted (drop n flown) (low - n) count
 left_counted n flown skips low count l linked is = record {
   below = left_from n flown low is.below;
-  count_is = is.count_is ∙ sym (wanted_drop n flown skips l linked);
+  count_is = is.count_is ∙ sym (requested_drop n flown skips l linked);
   first = λ some.
-      let place : low ≡ n + (low - n) = omega (arith, wanted_high flown skips low linked (is.first some)) in
+      let place : low ≡ n + (low - n) = omega (arith, requested_high flown skips low linked (is.first some)) in
       ap (λ (f : SentPdu). f.requested) (get_or-drop n flown (low - n) blank) ∙ subst (λ k. (at flown k).requested ≡ true) place (is.first some);
 }
 
 -- those before a place aren't requested
-front_unwanted : (n : ℕ) (flown : List SentPdu) → front_acked (changed_below unwanted n flown) ≡ front_acked flown
-front_unwanted zero flown = refl
-front_unwanted (suc n) [] = refl
-front_unwanted (suc n) (f ∷ flown) = ap (λ k. cond f.acked (suc k) 0) (front_unwanted n flown)
+front_cleared : (n : ℕ) (flown : List SentPdu) → front_acked (changed_below request_cleared n flown) ≡ front_acked flown
+front_cleared zero flown = refl
+front_cleared (suc n) [] = refl
+front_cleared (suc n) (f ∷ flown) = ap (λ k. cond f.acked (suc k) 0) (front_cleared n flown)
 
-pub linked_unwanted : (n : ℕ) (flown : List SentPdu) (skips : List ℕ) → AreLinked flown skips → AreLinked (changed_below unwanted n flown) skips
-linked_unwanted zero flown skips is = is
-linked_unwanted (suc n) [] skips is = is
-linked_unwanted (suc n) (f ∷ flown) [] is = absurd is
-linked_unwanted (suc n) (f ∷ flown) (s ∷ skips) is = (record { skip_is = λ o. is.0.skip_is o ∙ sym (front_unwanted n flown); settled = λ a. (refl, (is.0.settled a).1) }, linked_unwanted n flown skips is.1)
+pub linked_cleared : (n : ℕ) (flown : List SentPdu) (skips : List ℕ) → AreLinked flown skips → AreLinked (changed_below request_cleared n flown) skips
+linked_cleared zero flown skips is = is
+linked_cleared (suc n) [] skips is = is
+linked_cleared (suc n) (f ∷ flown) [] is = absurd is
+linked_cleared (suc n) (f ∷ flown) (s ∷ skips) is = (record { skip_is = λ o. is.0.skip_is o ∙ sym (front_cleared n flown); settled = λ a. (refl, (is.0.settled a).1) }, linked_cleared n flown skips is.1)
 
 -- the first open one is acknowledged
 linked_first : (flown : List SentPdu) (skips : List ℕ) (i : ℕ) (g : SentPdu) → i ≤ front_acked flown → g.acked ≡ true → IsSettled g → AreLinked flown skips → AreLinked (set flown i g) skips

@@ -3,7 +3,7 @@ use Rattle.std.proofs.Common.{◌≡◌, ◌⊎◌, ◌+◌, ◌-◌, ◌<◌, �
 use Rattle.std.specs.Prelude.{nat_lt, ◌==◌}
 use Rattle.std.proofs.lemmas.Bool.{and_parts, cases_lt, eqb-true, le-ltb, lt-ltb, ltb-false, not-true, or_cases}
 use Rattle.dch_retx.specs.declared.sent_pdu.SentPdu.{SentPdu}
-use Rattle.dch_retx.specs.Flights.{at, changed_below, unwanted}
+use Rattle.dch_retx.specs.Flights.{at, changed_below, request_cleared}
 use Rattle.dch_retx.proofs.Changes.{length-changed}
 use Rattle.dch_am.specs.Numbers.{has, less, below, wrapped}
 use Rattle.dch_am.specs.Rules.{Rules}
@@ -13,7 +13,7 @@ use Rattle.dch_am.specs.Discards.{after_mrw, discards_at, mrw_due}
 use Rattle.dch_am.proofs.Lists.{has-less, has-below}
 use Rattle.dch_retx.specs.declared.buffer.Running.{Running}
 use Rattle.dch_retx.specs.RetxBuffer.{RetxBuffer, discarding, is_due, mark_in, moving, number_at, place_in, repeating, run_timer, ticked}
-use Rattle.dch_retx.specs.Standing.{IsFlown, IsPolled, IsRunning, IsWanted, Stands, timed, timer_of}
+use Rattle.dch_retx.specs.Standing.{IsFlown, IsPolled, IsRunning, IsRequested, Stands, timed, timer_of}
 use Rattle.dch_retx.proofs.Naming.{at-changed_below}
 
 floor_timer : (d : Option Discard) → floor (timer_of d) ≡ floor d
@@ -38,7 +38,7 @@ ticks_stand rules l s is = record {
   next = is.next;
   flown = λ i less. let f : IsFlown s (vt_a s + i) (at l.flown i) = is.flown i less in record { acked = f.acked; requested = f.requested; named = f.named; builds = f.builds };
   acked_sent = is.acked_sent;
-  requested = λ k e. let w : IsWanted s k = is.requested k e in record { from = w.from; sent = w.sent; is_open = w.is_open; high = omega (arith, w.high, floor_timer s.discard) };
+  requested = λ k e. let w : IsRequested s k = is.requested k e in record { from = w.from; sent = w.sent; is_open = w.is_open; high = omega (arith, w.high, floor_timer s.discard) };
   unsent = is.unsent;
   timer = ap (λ t. t - 1) is.timer;
   owed = ap₂ (λ b t. b || (t == 1)) is.owed is.timer;
@@ -66,7 +66,7 @@ discards_stand rules l s place n i inside is = record {
   acked_sent = is.acked_sent;
   requested = λ k e.
       let parts = and_parts _ _ (sym (requested k) ∙ e) in
-      let w : IsWanted s k = is.requested k parts.0 in
+      let w : IsRequested s k = is.requested k parts.0 in
       record { from = w.from; sent = w.sent; is_open = w.is_open; high = ltb-false k (vt_a s + place) (not-true _ parts.1) };
   unsent = is.unsent;
   timer = is.timer;
@@ -75,16 +75,16 @@ discards_stand rules l s place n i inside is = record {
   running = record { k = refl; n = refl; due = refl; timer = refl; inside = omega (arith, size) };
 }
   where
-    size : length (changed_below unwanted place l.flown) ≡ length l.flown
-    size = length-changed unwanted place l.flown
+    size : length (changed_below request_cleared place l.flown) ≡ length l.flown
+    size = length-changed request_cleared place l.flown
 
     requested : (k : ℕ) → has k (less s.requested (below (vt_a s + place))) ≡ (has k s.requested && not (nat_lt k (vt_a s + place)))
     requested k = has-less k s.requested (below (vt_a s + place)) ∙ ap (λ b. has k s.requested && not b) (has-below k (vt_a s + place))
 
-    flown_is : (j : ℕ) → j < length l.flown → IsFlown (discards_at s i (Some (vt_a s + place, n))) (vt_a s + j) (at (changed_below unwanted place l.flown) j)
+    flown_is : (j : ℕ) → j < length l.flown → IsFlown (discards_at s i (Some (vt_a s + place, n))) (vt_a s + j) (at (changed_below request_cleared place l.flown) j)
     flown_is j within = ⊎_elim
         (λ (m : j < place).
-        let here : at (changed_below unwanted place l.flown) j ≡ unwanted (at l.flown j) = at-changed_below unwanted place l.flown j within ∙ ap (λ b. cond b (unwanted (at l.flown j)) (at l.flown j)) (lt-ltb j place m) in
+        let here : at (changed_below request_cleared place l.flown) j ≡ request_cleared (at l.flown j) = at-changed_below request_cleared place l.flown j within ∙ ap (λ b. cond b (request_cleared (at l.flown j)) (at l.flown j)) (lt-ltb j place m) in
         let f : IsFlown s (vt_a s + j) (at l.flown j) = is.flown j within in
         record {
           acked = ap (λ (g : SentPdu). g.acked) here ∙ f.acked;
@@ -93,7 +93,7 @@ discards_stand rules l s place n i inside is = record {
           builds = ap (λ (g : SentPdu). g.builds) here ∙ f.builds;
         })
         (λ (m : place ≤ j).
-        let here : at (changed_below unwanted place l.flown) j ≡ at l.flown j = at-changed_below unwanted place l.flown j within ∙ ap (λ b. cond b (unwanted (at l.flown j)) (at l.flown j)) (le-ltb j place m) in
+        let here : at (changed_below request_cleared place l.flown) j ≡ at l.flown j = at-changed_below request_cleared place l.flown j within ∙ ap (λ b. cond b (request_cleared (at l.flown j)) (at l.flown j)) (le-ltb j place m) in
         let f : IsFlown s (vt_a s + j) (at l.flown j) = is.flown j within in
         record {
           acked = ap (λ (g : SentPdu). g.acked) here ∙ f.acked;
@@ -136,7 +136,7 @@ moves_stand rules l s d is e = record {
   next = is.next;
   flown = λ i less. let f : IsFlown s (vt_a s + i) (at l.flown i) = is.flown i less in record { acked = f.acked; requested = f.requested; named = f.named; builds = f.builds };
   acked_sent = is.acked_sent;
-  requested = λ k q. let w : IsWanted s k = is.requested k q in record { from = w.from; sent = w.sent; is_open = w.is_open; high = omega (arith, w.high, ap floor e) };
+  requested = λ k q. let w : IsRequested s k = is.requested k q in record { from = w.from; sent = w.sent; is_open = w.is_open; high = omega (arith, w.high, ap floor e) };
   unsent = is.unsent;
   timer = is.timer;
   owed = is.owed;

@@ -41,8 +41,8 @@ abbrev pub acknowledged : SentPdu → SentPdu
 acknowledged f = if f.named then record f { named = false } else record f { acked = true; requested = false }
 
 -- it is not requested
-abbrev pub unwanted : SentPdu → SentPdu
-unwanted f = record f { requested = false }
+abbrev pub request_cleared : SentPdu → SentPdu
+request_cleared f = record f { requested = false }
 
 -- it is built once more. More than 255 times are not counted
 abbrev pub built : SentPdu → SentPdu
@@ -55,20 +55,20 @@ changed_below change (suc to) [] = []
 changed_below change (suc to) (f ∷ flown) = change f ∷ changed_below change to flown
 
 -- the first PDU that is requested stands there, or none is and this is the end
-pub record IsFirstWanted (flown : List SentPdu) (first : ℕ) : Type 0 where
+pub record IsFirstRequested (flown : List SentPdu) (first : ℕ) : Type 0 where
   pub before : (i : ℕ) → i < first → (at flown i).requested ≡ false
   pub here : first < length flown → (at flown first).requested ≡ true
   pub within : first ≤ length flown
 
 -- where that is
-abbrev pub first_wanted : List SentPdu → ℕ
-first_wanted [] = 0
-first_wanted (f ∷ flown) = if f.requested then 0 else suc (first_wanted flown)
+abbrev pub first_requested : List SentPdu → ℕ
+first_requested [] = 0
+first_requested (f ∷ flown) = if f.requested then 0 else suc (first_requested flown)
 
 -- how many are requested
-abbrev pub wanted_in : List SentPdu → ℕ
-wanted_in [] = 0
-wanted_in (f ∷ flown) = if f.requested then suc (wanted_in flown) else wanted_in flown
+abbrev pub requested_in : List SentPdu → ℕ
+requested_in [] = 0
+requested_in (f ∷ flown) = if f.requested then suc (requested_in flown) else requested_in flown
 
 -- how many PDUs in front are acknowledged
 abbrev pub front_acked : List SentPdu → ℕ
@@ -82,7 +82,7 @@ pub record IsFrom (flown : List SentPdu) (low : ℕ) : Type 0 where
 -- so many are requested, and where some are this is the first
 pub record IsCounted (flown : List SentPdu) (low count : ℕ) : Type 0 where
   pub below : IsFrom flown low
-  pub count_is : count ≡ wanted_in flown
+  pub count_is : count ≡ requested_in flown
   pub first : 0 < count → (at flown low).requested ≡ true
 
 -- the place of the first with that of one more that is requested

@@ -1,7 +1,7 @@
 -- Which PDU is built next of those in flight, and whether it polls (TS 25.322 9.7.1, 11.3.2).
 use Rattle.std.specs.Prelude.{◌+◌, ◌-◌, ◌*◌, ◌%◌, ◌++◌, ◌&&◌, ◌||◌, not, ℕ, List, [], ◌∷◌, Bool, false, length, nat_lt, nat_le, slice_set, if◌then◌else◌}
 use Rattle.dch_retx.specs.declared.sent_pdu.SentPdu.{SentPdu}
-use Rattle.dch_retx.specs.Flights.{at, built, ends_in, first_wanted}
+use Rattle.dch_retx.specs.Flights.{at, built, ends_in, first_requested}
 use Rattle.dch_am.specs.Numbers.{wrapped}
 use Rattle.dch_am.specs.Rules.{Rules}
 use Rattle.dch_retx.specs.declared.buffer.Pick.{Pick}
@@ -11,7 +11,7 @@ use Rattle.dch_retx.specs.RetxBuffer.{RetxBuffer}
 -- the lowest one that is requested, else a new one where the window and unsent matter allow it, else the last one where a poll is owed
 abbrev pub picked : Bool → RetxBuffer → Pick
 picked left l =
-    if nat_lt (first_wanted l.flown) (length l.flown) then Again (first_wanted l.flown)
+    if nat_lt (first_requested l.flown) (length l.flown) then Again (first_requested l.flown)
     else (if nat_lt (length l.flown) l.window && left then New
     else (if l.owed && nat_lt 0 (length l.flown) then Last (length l.flown - 1)
     else NoPdu))
@@ -48,14 +48,14 @@ abbrev pub resent : ℕ → RetxBuffer → RetxBuffer
 resent place l = record l { flown = slice_set l.flown place (built (at l.flown place)) }
 
 -- a requested PDU polls where none is requested behind it
-abbrev pub none_wanted : List SentPdu → Bool
-none_wanted flown = nat_le (length flown) (first_wanted flown)
+abbrev pub none_requested : List SentPdu → Bool
+none_requested flown = nat_le (length flown) (first_requested flown)
 
 abbrev pub again_poll : ℕ → RetxBuffer → Bool
-again_poll place l = poll_of (none_wanted (resent place l).flown) (resent place l)
+again_poll place l = poll_of (none_requested (resent place l).flown) (resent place l)
 
 abbrev pub again_line : ℕ → RetxBuffer → RetxBuffer
-again_line place l = sent_line (none_wanted (resent place l).flown) (resent place l)
+again_line place l = sent_line (none_requested (resent place l).flown) (resent place l)
 
 abbrev pub last_poll : ℕ → RetxBuffer → Bool
 last_poll place l = poll_of false (resent place l)

@@ -1,7 +1,7 @@
 -- What a sender keeps of the PDUs that it has sent (TS 25.322 9.4): those in flight, the poll that is out and the discard that runs.
 use Rattle.std.specs.Prelude.{◌≡◌, ◌<◌, ◌≤◌, IfSome, ◌+◌, ◌-◌, ◌||◌, ◌==◌, true, ℕ, List, [], Bool, false, drop, length, min, nat_lt, Option, Some, None, if◌then◌else◌}
 use Rattle.dch_retx.specs.declared.sent_pdu.SentPdu.{SentPdu}
-use Rattle.dch_retx.specs.Flights.{acknowledged, unwanted, changed_below, front_acked}
+use Rattle.dch_retx.specs.Flights.{acknowledged, request_cleared, changed_below, front_acked}
 use Rattle.dch_am.specs.Rules.{Rules}
 use Rattle.dch_am.specs.Numbers.{wrapped}
 use Rattle.dch_am.specs.declared.answers.StatusTaken.{StatusTaken}
@@ -134,7 +134,7 @@ ticked l = record l { timer = l.timer - 1; owed = l.owed || (l.timer == 1); runn
 
 -- a discard begins with this PDU in flight and this mark: those before aren't requested
 abbrev pub discarding : ℕ → ℕ → RetxBuffer → RetxBuffer
-discarding place n l = record l { flown = changed_below unwanted place l.flown; running = Some (record { at = place; n = n; due = true; timer = 0 }) }
+discarding place n l = record l { flown = changed_below request_cleared place l.flown; running = Some (record { at = place; n = n; due = true; timer = 0 }) }
 
 -- an MRW is due
 abbrev pub is_due : Option Running → Bool

@@ -22,7 +22,7 @@ pub record IsFlown (s : Sender) (k : ℕ) (f : SentPdu) : Type 0 where
   pub builds : f.builds ≡ min 255 (count k s.sendings)
 
 -- a requested number is sent, open, and not below the running discard
-pub record IsWanted (s : Sender) (k : ℕ) : Type 0 where
+pub record IsRequested (s : Sender) (k : ℕ) : Type 0 where
   pub from : vt_a s ≤ k
   pub sent : k < vt_s s
   pub is_open : has k s.acked ≡ false
@@ -63,7 +63,7 @@ pub record Stands (rules : Rules) (l : RetxBuffer) (s : Sender) : Type 0 where
   pub next : l.next ≡ wrapped (vt_s s)
   pub flown : (i : ℕ) → i < length l.flown → IsFlown s (vt_a s + i) (at l.flown i)
   pub acked_sent : (k : ℕ) → has k s.acked ≡ true → k < vt_s s
-  pub requested : (k : ℕ) → has k s.requested ≡ true → IsWanted s k
+  pub requested : (k : ℕ) → has k s.requested ≡ true → IsRequested s k
   pub unsent : (k : ℕ) → vt_s s ≤ k → count k s.sendings ≡ 0
   pub timer : l.timer ≡ s.poll_timer
   pub owed : l.owed ≡ s.owed

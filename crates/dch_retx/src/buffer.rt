@@ -1,5 +1,5 @@
 ghost use Rattle.std.specs.Prelude.{ℕ, Some, true, ◌≡◌, ◌≢◌, ◌+◌, ◌-◌, ◌<◌, ◌≤◌, ◌++◌, ◌∷◌, false, IfOk, is_some, length, min, nat_lt, slice_set};
-ghost use Rattle.dch_retx.specs.Flights.{at, built, front_acked, wanted_in};
+ghost use Rattle.dch_retx.specs.Flights.{at, built, front_acked, requested_in};
 ghost use Rattle.dch_retx.specs.StatusItems.{said_by};
 ghost use Rattle.dch_am.specs.declared.answers.StatusTaken.TheVariants.{Taken};
 ghost use Rattle.dch_am.specs.Acknowledging.{after_fields, status_answer};
@@ -103,16 +103,16 @@ impl RetxBuffer {
 
     /// How many PDUs are requested, at most so many.
     pub fn requested(&self, most: usize) -> usize
-        ensures { result ≡ min most (wanted_in self.now.flown) }
+        ensures { result ≡ min most (requested_in self.now.flown) }
     {
         self.flight.requested(most)
     }
 
     /// A PDU is requested.
-    pub fn is_wanted(&self) -> bool
-        ensures { result ≡ nat_lt 0 (wanted_in self.now.flown) }
+    pub fn is_requested(&self) -> bool
+        ensures { result ≡ nat_lt 0 (requested_in self.now.flown) }
     {
-        self.flight.is_wanted()
+        self.flight.is_requested()
     }
 
     /// How many PDUs may be in flight.

@@ -1,9 +1,9 @@
 ghost use Rattle.std.specs.Prelude.{◌≡◌, ◌+◌, ◌<◌, ◌≤◌, ◌++◌, [], ◌∷◌, false, IfOk, length, drop, min, nat_lt, slice_set, if◌then◌else◌};
 ghost use Rattle.circular_buffer.specs.Buffer.{buffer};
-ghost use Rattle.dch_retx.specs.Flights.{at, named_from, acknowledged, unwanted, built, changed_below, first_wanted, front_acked, lowered, wanted_in, AreLinked, IsCounted, IsFirstWanted, IsFrom};
+ghost use Rattle.dch_retx.specs.Flights.{at, named_from, acknowledged, request_cleared, built, changed_below, first_requested, front_acked, lowered, requested_in, AreLinked, IsCounted, IsFirstRequested, IsFrom};
 
 use crate::links::{acked_from, acknowledge_below, next_from};
-use crate::places::{at_place, build_at, is_requested, name_at, one, unwant_at};
+use crate::places::{at_place, build_at, clear_request_at, is_requested, name_at, one};
 use crate::sent_pdu::SentPdu;
 use circular_buffer::HeapCircularBuffer;
 use dch_bits::NoMemory;
@@ -108,17 +108,17 @@ impl Flight {
     /// The PDUs before a place aren't requested any more.
     pub fn clear_request(&mut self, to: usize)
         requires { to ≤ length self.old.items }
-        ensures { self.new ≡ buffer (changed_below unwanted to self.old.items) self.old.capacity }
+        ensures { self.new ≡ buffer (changed_below request_cleared to self.old.items) self.old.capacity }
     {
-        let gone = unwant_below(&mut self.ring, to);
+        let gone = clear_requests(&mut self.ring, to);
         self.count -= gone;
         self.low = first_from(&self.ring, &self.skips, self.low, self.count);
     }
 
     /// The first PDU that is requested; their number where none is.
     pub fn lowest(&self) -> usize
-        ensures place { IsFirstWanted self.now.items result }
-        ensures first { result ≡ first_wanted self.now.items }
+        ensures place { IsFirstRequested self.now.items result }
+        ensures first { result ≡ first_requested self.now.items }
     {
         if self.count > 0 {
             self.low
@@ -128,15 +128,15 @@ impl Flight {
     }
 
     /// A PDU is requested.
-    pub fn is_wanted(&self) -> bool
-        ensures { result ≡ nat_lt 0 (wanted_in self.now.items) }
+    pub fn is_requested(&self) -> bool
+        ensures { result ≡ nat_lt 0 (requested_in self.now.items) }
     {
         self.count > 0
     }
 
     /// How many PDUs are requested, at most so many.
     pub fn requested(&self, most: usize) -> usize
-        ensures { result ≡ min most (wanted_in self.now.items) }
+        ensures { result ≡ min most (requested_in self.now.items) }
     {
         self.count.min(most)
     }
@@ -188,7 +188,7 @@ fn first_from(
 ) -> usize
     requires low { IsFrom ring.now.items low }
     requires linked { AreLinked ring.now.items skips.now.items }
-    requires count { count ≡ wanted_in ring.now.items }
+    requires count { count ≡ requested_in ring.now.items }
     ensures { IsCounted ring.now.items result count }
 {
     if count == 0 {
@@ -205,14 +205,14 @@ fn first_from(
 }
 
 /// The PDUs before a place aren't requested. Answers how many of them were.
-fn unwant_below(ring: &mut HeapCircularBuffer<SentPdu>, to: usize) -> usize
+fn clear_requests(ring: &mut HeapCircularBuffer<SentPdu>, to: usize) -> usize
     requires { to ≤ length ring.old.items }
-    ensures gone { result + wanted_in ring.new.items ≡ wanted_in ring.old.items }
-    ensures after { ring.new ≡ buffer (changed_below unwanted to ring.old.items) ring.old.capacity }
+    ensures gone { result + requested_in ring.new.items ≡ requested_in ring.old.items }
+    ensures after { ring.new ≡ buffer (changed_below request_cleared to ring.old.items) ring.old.capacity }
 {
     let mut gone = 0;
     for i in 0..to {
-        gone += one(unwant_at(ring, i));
+        gone += one(clear_request_at(ring, i));
     }
     gone
 }

@@ -1,6 +1,6 @@
 ghost use Rattle.std.specs.Prelude.{◌≡◌, ℕ, ◌+◌, ◌^◌, ◌<◌, ◌≤◌, false, IfSome, drop, length, slice_index, slice_set};
 ghost use Rattle.circular_buffer.specs.Buffer.{buffer};
-ghost use Rattle.dch_retx.specs.Flights.{at, acknowledged, before_next, changed_below, front_acked, joined, wanted_in, AreLinked};
+ghost use Rattle.dch_retx.specs.Flights.{at, acknowledged, before_next, changed_below, front_acked, joined, requested_in, AreLinked};
 
 use crate::places::{acknowledge_at, is_acked, one};
 use crate::sent_pdu::SentPdu;
@@ -68,7 +68,7 @@ pub fn acknowledge_below(
     requires to { to ≤ length ring.old.items }
     requires small { length ring.old.items ≤ 65535 }
     requires linked { AreLinked ring.old.items skips.old.items }
-    ensures gone { result + wanted_in ring.new.items ≡ wanted_in ring.old.items }
+    ensures gone { result + requested_in ring.new.items ≡ requested_in ring.old.items }
     ensures after { ring.new ≡ buffer (changed_below acknowledged to ring.old.items) ring.old.capacity }
     ensures linked { AreLinked ring.new.items skips.new.items }
     ensures room { skips.new.capacity ≡ skips.old.capacity }

@@ -1,6 +1,6 @@
 ghost use Rattle.std.specs.Prelude.{◌≡◌, ◌<◌, ◌≤◌, ◌&&◌, not, length, slice_set, if◌then◌else◌};
 ghost use Rattle.circular_buffer.specs.Buffer.{buffer};
-ghost use Rattle.dch_retx.specs.Flights.{at, named_from, acknowledged, unwanted, built};
+ghost use Rattle.dch_retx.specs.Flights.{at, named_from, acknowledged, request_cleared, built};
 
 use crate::sent_pdu::SentPdu;
 use circular_buffer::HeapCircularBuffer;
@@ -67,10 +67,10 @@ pub fn acknowledge_at(ring: &mut HeapCircularBuffer<SentPdu>, i: usize) -> bool
 }
 
 /// It isn't requested. Answers whether it was.
-pub fn unwant_at(ring: &mut HeapCircularBuffer<SentPdu>, i: usize) -> bool
+pub fn clear_request_at(ring: &mut HeapCircularBuffer<SentPdu>, i: usize) -> bool
     requires { i < length ring.old.items }
     ensures gone { result ≡ (at ring.old.items i).requested }
-    ensures after { ring.new ≡ buffer (slice_set ring.old.items i (unwanted (at ring.old.items i))) ring.old.capacity }
+    ensures after { ring.new ≡ buffer (slice_set ring.old.items i (request_cleared (at ring.old.items i))) ring.old.capacity }
 {
     let Some(flown) = ring.get_mut(i) else {
         return false;

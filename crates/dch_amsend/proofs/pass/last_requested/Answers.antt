@@ -1,16 +1,16 @@
 use Rattle.std.proofs.Common.{◌≡◌, ◌∙◌, None, ap, arith, drop, false, length, subst, sym}
 use Rattle.std.proofs.lemmas.Bool.{not-true}
-use Rattle.dch_retx.specs.Flights.{first_wanted, wanted_in}
+use Rattle.dch_retx.specs.Flights.{first_requested, requested_in}
 use Rattle.dch_retx.specs.RetxBuffer.{RetxBuffer}
 use Rattle.dch_amsend.specs.Scanning.{after_pdus, ends_below, overdue}
-use Rattle.dch_amsend.proofs.Passing.{begins_first, none_left, none_more, wanted_few, wanted_from}
+use Rattle.dch_amsend.proofs.Passing.{begins_first, none_left, none_more, requested_few, wanted_from}
 use Rattle.dch_amsend.proofs.pass.last_requested.Goals as goal
 
 pub loop-place-init : goal.loop-place-init
 loop-place-init c =
-    let e : c.first_requested-first.result ≡ first_wanted c.args.outgoing.now.line.flown = c.first_requested-first.ensures.place ∙ ap (λ (l : RetxBuffer). first_wanted l.flown) c.line-line.ensures in (
+    let e : c.first_requested-first.result ≡ first_requested c.args.outgoing.now.line.flown = c.first_requested-first.ensures.place ∙ ap (λ (l : RetxBuffer). first_requested l.flown) c.line-line.ensures in (
       subst (λ n. (after_pdus c.args.rules.now c.args.held.now n (drop n c.args.outgoing.now.line.flown) (record { unit = c.ended_before.result; begun = false; found = None })).found ≡ overdue c.args.rules.now c.args.held.now c.args.outgoing.now.line.flown) (sym e) (begins_first c.args.rules.now c.args.held.now c.args.outgoing.now.line.flown c.ended_before.result (c.ended_before.ensures.value ∙ ap (λ n. ends_below n c.args.outgoing.now.line.flown) e) c.requires.none),
-      omega (arith, c.requested-left.ensures, ap (λ (l : RetxBuffer). wanted_in l.flown) c.line-line.ensures, ap (λ (l : RetxBuffer). length l.flown) c.line-line.ensures, wanted_few c.args.outgoing.now.line.flown, wanted_from c.args.outgoing.now.line.flown, ap (λ n. wanted_in (drop n c.args.outgoing.now.line.flown)) e, c.len-place-end.ensures.few, c.len-place-end.ensures.count),
+      omega (arith, c.requested-left.ensures, ap (λ (l : RetxBuffer). requested_in l.flown) c.line-line.ensures, ap (λ (l : RetxBuffer). length l.flown) c.line-line.ensures, requested_few c.args.outgoing.now.line.flown, wanted_from c.args.outgoing.now.line.flown, ap (λ n. requested_in (drop n c.args.outgoing.now.line.flown)) e, c.len-place-end.ensures.few, c.len-place-end.ensures.count),
       omega (arith, c.ended_before.ensures.small),
     )
 

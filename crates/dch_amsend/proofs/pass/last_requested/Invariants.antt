@@ -1,7 +1,7 @@
 use Rattle.std.proofs.Common.{◌≡◌, ◌+◌, ◌*◌, ◌≤◌, drop}
-use Rattle.dch_retx.specs.Flights.{wanted_in}
+use Rattle.dch_retx.specs.Flights.{requested_in}
 use Rattle.dch_amsend.specs.Scanning.{after_pdus, overdue}
 use Rattle.dch_amsend.proofs.pass.last_requested.Given as goal
 
 abbrev pub invariant-loop-place : goal.invariant-loop-place
-invariant-loop-place l = ((after_pdus l.rules l.held l.place (drop l.place l.outgoing.line.flown) l.scan).found ≡ overdue l.rules l.held l.outgoing.line.flown) × (l.left ≡ wanted_in (drop l.place l.outgoing.line.flown)) × (l.scan.unit ≤ 65535 + 256 * l.place)
+invariant-loop-place l = ((after_pdus l.rules l.held l.place (drop l.place l.outgoing.line.flown) l.scan).found ≡ overdue l.rules l.held l.outgoing.line.flown) × (l.left ≡ requested_in (drop l.place l.outgoing.line.flown)) × (l.scan.unit ≤ 65535 + 256 * l.place)

@@ -2,7 +2,7 @@ use Rattle.std.proofs.Common.{◌≡◌, ◌+◌, ◌<◌, ◌∙◌, ℕ, None,
 use Rattle.std.specs.Prelude.{min}
 use Rattle.circular_buffer.specs.Buffer.{Buffer, buffer}
 use Rattle.dch_retx.specs.declared.sent_pdu.SentPdu.{SentPdu}
-use Rattle.dch_retx.specs.Flights.{IsWalk, acknowledged, at, changed_below, wanted_in}
+use Rattle.dch_retx.specs.Flights.{IsWalk, acknowledged, at, changed_below, requested_in}
 use Rattle.dch_retx.proofs.Changes.{acknowledged_less, gone_set, length-changed}
 use Rattle.dch_retx.proofs.Skips.{front_settled, linked_size, walk_before, walk_begins, walk_changed, walk_joins, walk_next}
 use Rattle.dch_retx.proofs.links.acknowledge_below.Goals as goal
@@ -27,7 +27,7 @@ loop-i-preserved c =
           c.acknowledge_at.ensures.after
           ∙ (ap (λ xs. buffer xs c.loop-i.ring.capacity) (walk_changed c.args.ring.now.items c.loop-i.ring.items c.loop-i.skips.items c.loop-i.i c.skip_at.result c.args.to c.loop-i.before (omega arith) c.requires.to c.skip_at.ensures (ap (λ (b : Buffer SentPdu). b.items) c.loop-i.invariant.after) c.loop-i.invariant.walk)
           ∙ ap (λ n. buffer (changed_below acknowledged (min (c.loop-i.i + 1 + c.skip_at.result) c.args.to) c.args.ring.now.items) n) (ap (λ (b : Buffer SentPdu). b.capacity) c.loop-i.invariant.after));
-      gone = omega (arith, less, c.loop-i.invariant.gone, ap (λ b. cond {A = ℕ} b 1 0) c.acknowledge_at.ensures.gone, ap (λ (b : Buffer SentPdu). wanted_in b.items) c.acknowledge_at.ensures.after);
+      gone = omega (arith, less, c.loop-i.invariant.gone, ap (λ b. cond {A = ℕ} b 1 0) c.acknowledge_at.ensures.gone, ap (λ (b : Buffer SentPdu). requested_in b.items) c.acknowledge_at.ensures.after);
       few = omega (arith, c.loop-i.invariant.few);
       room = ap (λ (b : Buffer ℕ). b.capacity) c.join-before.ensures.after ∙ c.loop-i.invariant.room;
     }

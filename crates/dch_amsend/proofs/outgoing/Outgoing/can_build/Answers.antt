@@ -10,12 +10,12 @@ use Rattle.dch_amsend.proofs.outgoing.Outgoing.can_build.Goals as goal
 abbrev others : Outgoing → Bool
 others v = (nat_lt (length v.line.flown) v.line.window && is_left (unsent_of v.tx_buffer)) || (v.line.owed && nat_lt 0 (length v.line.flown))
 
-pub returns-then-is_wanted : goal.returns-then-is_wanted
-returns-then-is_wanted c =
+pub returns-then-is_requested : goal.returns-then-is_requested
+returns-then-is_requested c =
     let v : Outgoing = record { size = c.self.inside.size; line = c.self.inside.line; tx_buffer = c.self.inside.tx_buffer } in
-    c.if-is_wanted.true ∙ (ap (λ b. b || others v) (sym c.if-is_wanted.true ∙ c.is_wanted.ensures) ∙ (can_build_is v ∙ ap can_build c.self.view_is))
+    c.if-is_requested.true ∙ (ap (λ b. b || others v) (sym c.if-is_requested.true ∙ c.is_requested.ensures) ∙ (can_build_is v ∙ ap can_build c.self.view_is))
 
-pub returns-else-is_wanted : goal.returns-else-is_wanted
-returns-else-is_wanted c =
+pub returns-else-is_requested : goal.returns-else-is_requested
+returns-else-is_requested c =
     let v : Outgoing = record { size = c.self.inside.size; line = c.self.inside.line; tx_buffer = c.self.inside.tx_buffer } in
-    c.has_unrequested.ensures ∙ (ap others (sym c.self.view_is) ∙ (ap (λ b. b || others v) (sym c.if-is_wanted.false ∙ c.is_wanted.ensures) ∙ (can_build_is v ∙ ap can_build c.self.view_is)))
+    c.has_unrequested.ensures ∙ (ap others (sym c.self.view_is) ∙ (ap (λ b. b || others v) (sym c.if-is_requested.false ∙ c.is_requested.ensures) ∙ (can_build_is v ∙ ap can_build c.self.view_is)))

@@ -1,5 +1,6 @@
 use Rattle.std.proofs.Common.{◌≡◌, ◌-◌, ◌∷◌, ◌∙◌, Some, ap, ap₂, subst, sym, true}
 use Rattle.dch_am.specs.Discards.{after_moving}
+use Rattle.dch_am.specs.Numbers.{wrapped}
 use Rattle.dch_retx.specs.RetxBuffer.{RetxBuffer, is_due}
 use Rattle.dch_retx.proofs.Ticking.{due_is}
 use Rattle.dch_status.specs.Fields.{mrw_fields}
@@ -25,8 +26,10 @@ pub returns-clause-history : goal.returns-clause-history
 returns-clause-history c = λ rules d s x is e.
     let v : Outgoing = record { size = c.self.inside.size; line = c.self.inside.line; tx_buffer = c.self.inside.tx_buffer } in
     let here : IsOutgoing rules d v s = subst (λ y. IsOutgoing rules d y s) (sym c.self.view_is) is in
-    let told = c.mrw-number.ensures.history rules s x here.line e in (
-      subst (λ n. IsText c.write_mrw.new.out (0 ∷ mrw_text n x.n)) told.0 (subst (λ m. IsText c.write_mrw.new.out (0 ∷ mrw_text c.mrw-number.result.0 m)) told.1 c.write_mrw.ensures.text),
-      c.write_mrw.ensures.back ∙ ap₂ (λ n m. Some (mrw_fields n m)) told.0 told.1,
+    let told = c.mrw-place.ensures.history rules s x here.line e in
+    let sn : c.place.inside.sn ≡ wrapped x.k = ap (λ p. p.0) c.place.view_is ∙ told.0 in
+    let n : c.place.inside.n ≡ x.n = ap (λ p. p.1) c.place.view_is ∙ told.1 in (
+      subst (λ k. IsText c.write_mrw.new.out (0 ∷ mrw_text k x.n)) sn (subst (λ m. IsText c.write_mrw.new.out (0 ∷ mrw_text c.place.inside.sn m)) n c.write_mrw.ensures.text),
+      c.write_mrw.ensures.back ∙ ap₂ (λ k m. Some (mrw_fields k m)) sn n,
       mrw_goes rules d v s x c.write_mrw-2.new.self (ap (λ (l : RetxBuffer). l.flown) c.write_mrw-2.ensures.after) here (c.write_mrw-2.ensures.history rules s x here.line e),
     )

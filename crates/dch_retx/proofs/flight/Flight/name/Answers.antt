@@ -2,12 +2,12 @@ use Rattle.std.proofs.Common.{◌+◌, ◌<◌, ◌∙◌, arith, length, set, s
 use Rattle.circular_buffer.specs.Buffer.{Buffer, buffer}
 use Rattle.dch_retx.specs.declared.sent_pdu.SentPdu.{SentPdu}
 use Rattle.dch_retx.specs.Flights.{AreLinked, IsFlight, at, named_from}
-use Rattle.dch_retx.proofs.Changes.{flight_as, flight_named, named_more, wanted_few}
+use Rattle.dch_retx.proofs.Changes.{flight_as, flight_named, named_more, requested_few}
 use Rattle.dch_retx.proofs.Skips.{linked_at, linked_set, named_acked, named_settled}
 use Rattle.dch_retx.proofs.flight.Flight.name.Goals as goal
 
 pub overflow_add-self : goal.overflow_add-self
-overflow_add-self c = omega (arith, wanted_few c.self.inside.ring.items, c.self.invariant.counted.count_is, c.self.invariant.few, c.self.invariant.small)
+overflow_add-self c = omega (arith, requested_few c.self.inside.ring.items, c.self.invariant.counted.count_is, c.self.invariant.few, c.self.invariant.small)
 
 pub invariant_of-self : goal.invariant_of-self
 invariant_of-self c =

@@ -1,9 +1,0 @@
-use Rattle.std.proofs.Common.{◌∙◌, ap}
-use Rattle.std.specs.Prelude.{nat_lt}
-use Rattle.circular_buffer.specs.Buffer.{Buffer}
-use Rattle.dch_retx.specs.declared.sent_pdu.SentPdu.{SentPdu}
-use Rattle.dch_retx.specs.Flights.{wanted_in}
-use Rattle.dch_retx.proofs.flight.Flight.is_wanted.Goals as goal
-
-pub returns : goal.returns
-returns c = ap (nat_lt 0) c.self.invariant.counted.count_is ∙ ap (λ (b : Buffer SentPdu). nat_lt 0 (wanted_in b.items)) c.self.view_is
