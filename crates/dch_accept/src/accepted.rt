@@ -23,7 +23,6 @@ use std::alloc::Global;
 use std::marker::Model;
 
 /// A configuration that was accepted, with the plans of its rate matching and the tables of its second interleavers.
-#[derive(Debug)]
 pub struct Accepted {
     config: Config,
     uplink: Sequence<UplinkPlan>,

@@ -3,7 +3,7 @@ use dch_types::{Dir, Sequence};
 use std::alloc::AllocFailed;
 
 /// Why a configuration is not accepted.
-#[derive(Debug, Drop)]
+#[derive(Drop)]
 pub enum Refusal {
     /// Memory was wanted and not found.
     NoMemory,

@@ -7,7 +7,7 @@ use dch_coding::CodingRoom;
 use dch_types::Dir;
 
 /// For how large TTIs of a channel, or of all channels of a direction, there is room.
-#[derive(Clone, Copy, Debug, PartialEq, Eq)]
+#[derive(Clone, Copy)]
 pub struct TtiRoom {
     /// What coding and decoding want.
     pub coding: CodingRoom,

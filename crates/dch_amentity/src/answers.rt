@@ -1,7 +1,7 @@
 use dch_am::{MrwTaken, StatusTaken, Taken};
 
 /// What an entity has built.
-#[derive(Clone, Copy, Debug, PartialEq, Eq)]
+#[derive(Clone, Copy)]
 pub enum Built {
     /// A status of its receiving side: of PDUs that came and are missing, or of an MRW that was obeyed.
     Status,
@@ -12,7 +12,7 @@ pub enum Built {
 }
 
 /// What an entity answers to a PDU.
-#[derive(Clone, Copy, Debug, PartialEq, Eq)]
+#[derive(Clone, Copy)]
 pub enum Received {
     /// A data PDU, and the status behind its units: each is judged by itself.
     Data {

@@ -8,7 +8,7 @@ use dch_types::AmRules;
 
 /// A unit that is discarded: its place among the units that are held, its PDU's place among those in flight, and the
 /// place of its end mark there, 0 to 15.
-#[derive(Clone, Copy, Debug, PartialEq, Eq)]
+#[derive(Clone, Copy)]
 pub struct Overdue {
     pub unit: u16,
     pub place: u16,

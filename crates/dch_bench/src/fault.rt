@@ -3,7 +3,7 @@ use std::alloc::{AllocError, AllocFailed};
 use std::io;
 
 /// Why the program ends before it is done.
-#[derive(Debug, Drop)]
+#[derive(Drop)]
 pub enum Fault {
     /// Memory was wanted and not found.
     NoMemory,

@@ -139,7 +139,7 @@ fn pass<C: Clock, E: Ends + Drop>(
 
 /// The radio frames with which each TTI that ended was read as it was sent: how many there are and how many cells they have, and how long they took to send and to
 /// read, in nanoseconds.
-#[derive(Clone, Copy, Debug)]
+#[derive(Clone, Copy)]
 struct Passed {
     frames: u64,
     cells: u64,

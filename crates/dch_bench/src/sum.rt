@@ -1,7 +1,7 @@
 use dch_bits::{Bit, number};
 
 /// A checksum over what a piece of work made (FNV-1a of 32 bits).
-#[derive(Clone, Copy, Debug)]
+#[derive(Clone, Copy)]
 pub struct Sum {
     value: u32,
 }

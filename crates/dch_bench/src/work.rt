@@ -5,7 +5,7 @@ use std::time::{Duration, Instant};
 use std::{fmt, io};
 
 /// What is counted of a piece of work.
-#[derive(Clone, Copy, Debug, PartialEq, Eq)]
+#[derive(Clone, Copy)]
 pub enum Unit {
     /// Code blocks, of 504 bits.
     Blocks,
@@ -50,7 +50,7 @@ pub trait Work {
 }
 
 /// What the program does.
-#[derive(Clone, Copy, Debug, PartialEq, Eq)]
+#[derive(Clone, Copy)]
 pub enum Mode {
     /// Each piece of work once, and what came out.
     Once,
@@ -59,7 +59,7 @@ pub enum Mode {
 }
 
 /// How much is done in a second.
-#[derive(Clone, Copy, Debug)]
+#[derive(Clone, Copy)]
 pub struct Speed {
     unit: Unit,
     in_a_second: u64,

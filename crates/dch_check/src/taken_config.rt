@@ -11,7 +11,7 @@ use dch_io::{InputOffset, Pending, ReadStop, Source, read_next};
 use std::alloc::Global;
 
 /// Why the configuration at the front of an input is not taken.
-#[derive(Clone, Copy, Debug, PartialEq, Eq)]
+#[derive(Clone, Copy)]
 pub enum ConfigFault {
     /// The source failed.
     ReadFault,

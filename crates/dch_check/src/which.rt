@@ -2,7 +2,7 @@ ghost use Rattle.std.specs.Prelude.{◌≡◌};
 ghost use Rattle.dch_check.specs.Refusals.{which_word};
 
 /// Which configuration of an input a refusal is about.
-#[derive(Clone, Copy, Debug, PartialEq, Eq)]
+#[derive(Clone, Copy)]
 pub enum Which {
     /// The first one, or the only one.
     First,

@@ -5,7 +5,7 @@ ghost use Rattle.dch_coding.specs.Rooms.{Holds, HoldsSide, channel_room, format_
 use dch_types::{Coding, Format, Side, Trch, block_size};
 
 /// For how large TTIs there is room in the memory of coding and decoding.
-#[derive(Clone, Copy, Debug, PartialEq, Eq)]
+#[derive(Clone, Copy)]
 pub struct CodingRoom {
     /// The coded bits of a TTI, padded to whole radio frames (TS 25.212 4.2.4).
     pub bits: usize,

@@ -8,7 +8,7 @@ use std::alloc::Global;
 
 /// A collision of code blocks: that of the block of zeros and `second`, in a format of a channel, under a legal sequence of
 /// combinations, in the place of a code block of the TTI.
-#[derive(Debug, Drop)]
+#[derive(Drop)]
 pub struct Found {
     pub channel: u8,
     pub format: u8,

@@ -6,7 +6,7 @@ ghost use Rattle.dch_damage.specs.Turns.{bit_after, cell_after, next_turned};
 use dch_bits::{Bit, Trit};
 
 /// How often a place of a radio frame is turned over.
-#[derive(Clone, Copy, Debug, PartialEq, Eq)]
+#[derive(Clone, Copy)]
 pub enum Turned {
     /// Not at all.
     Not,

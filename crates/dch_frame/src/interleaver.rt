@@ -9,7 +9,7 @@ use std::alloc::Global;
 use std::marker::Model;
 
 /// The second interleaver for codes of one length, as a table (TS 25.212 4.2.11). Contracts see that length in cells.
-#[derive(Debug, Drop)]
+#[derive(Drop)]
 pub struct Interleaver {
     places: Vec<u16>,
 }

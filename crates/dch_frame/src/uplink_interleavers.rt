@@ -9,7 +9,7 @@ use std::alloc::Global;
 const LONGEST: usize = 9600;
 
 /// The second interleaver for each length that an uplink code can have.
-#[derive(Debug, Drop)]
+#[derive(Drop)]
 pub struct UplinkInterleavers {
     of_150: Interleaver,
     of_300: Interleaver,

@@ -6,7 +6,7 @@ use dch_bits::Bit;
 use dch_types::Dir;
 
 /// How long a unit is: in bits for a transparent bearer, and in octets for the others.
-#[derive(Clone, Copy, Debug)]
+#[derive(Clone, Copy)]
 pub enum UnitSize {
     Bits(usize),
     Octets(usize),

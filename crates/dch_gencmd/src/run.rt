@@ -15,7 +15,7 @@ use dch_ue::Ue;
 use std::alloc::Global;
 
 /// Why no whole summary was written.
-#[derive(Clone, Copy, Debug, PartialEq, Eq)]
+#[derive(Clone, Copy)]
 pub enum GenFault {
     /// The sink failed within the summary.
     WriteFault,

@@ -15,18 +15,18 @@ pub const LIMIT: usize = 67_108_864;
 pub const PIECE: usize = 65_536;
 
 /// The sink failed.
-#[derive(Clone, Copy, Debug, PartialEq, Eq)]
+#[derive(Clone, Copy)]
 pub struct WriteFailed;
 
 /// What a run took before the lines of a script.
-#[derive(Clone, Copy, Debug)]
+#[derive(Clone, Copy)]
 pub struct InputOffset {
     pub bytes: usize,
     pub lines: u64,
 }
 
 /// What was read of an input and not followed yet: the bytes of the piece from `from` to `to`.
-#[derive(Clone, Copy, Debug, PartialEq, Eq)]
+#[derive(Clone, Copy)]
 pub struct Pending {
     pub from: usize,
     pub to: usize,
@@ -35,7 +35,7 @@ pub struct Pending {
 }
 
 /// Why the next piece of an input doesn't come.
-#[derive(Clone, Copy, Debug, PartialEq, Eq)]
+#[derive(Clone, Copy)]
 pub enum ReadStop {
     /// The source failed.
     Failed,

@@ -1,7 +1,7 @@
 use dch_script::LineError;
 
 /// Why a line is not handled.
-#[derive(Clone, Copy, Debug, PartialEq, Eq)]
+#[derive(Clone, Copy)]
 pub enum LineFault {
     /// The line is malformed.
     Malformed(LineError),
@@ -10,7 +10,7 @@ pub enum LineFault {
 }
 
 /// Why the lines of a piece are not all good and written.
-#[derive(Clone, Copy, Debug, PartialEq, Eq)]
+#[derive(Clone, Copy)]
 pub enum Stop {
     /// A line is not handled.
     Fault(LineFault),
@@ -19,7 +19,7 @@ pub enum Stop {
 }
 
 /// How following an input ended.
-#[derive(Clone, Copy, Debug, PartialEq, Eq)]
+#[derive(Clone, Copy)]
 pub enum Outcome {
     /// Each line was good, and all was written.
     Ok,

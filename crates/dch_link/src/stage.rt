@@ -5,7 +5,7 @@ ghost use Rattle.dch_link.specs.Passing.{IsStage, is_first, next_stage, stages_l
 pub const STAGES: u32 = 20;
 
 /// A stage of a radio frame of 10 ms on its way through the nodes. They come in this order, set by set.
-#[derive(Clone, Copy, Debug, PartialEq, Eq)]
+#[derive(Clone, Copy)]
 pub enum Stage {
     /// 10 ms pass at the network controller, which sends downlink Iub frames.
     RncTick,

@@ -16,14 +16,14 @@ use std::alloc::Global;
 use std::marker::Model;
 
 /// The rate matching of a channel in one format: its pattern over a TTI, and its places in a radio frame.
-#[derive(Clone, Copy, Debug, PartialEq, Eq)]
+#[derive(Clone, Copy)]
 pub struct RateMatching {
     pub pattern: Pattern,
     pub cells: u32,
 }
 
 /// The rate matching of the downlink, for each channel and format.
-#[derive(Debug, Drop)]
+#[derive(Drop)]
 pub struct DownlinkPlan {
     rows: Sequence<Sequence<RateMatching>>,
 }

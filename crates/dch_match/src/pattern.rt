@@ -3,7 +3,7 @@ ghost use Rattle.dch_match.specs.Patterns.{IsWellFormed, InRange, copies, copies
 
 /// The three numbers of the error counter. It starts at `e_ini`, each bit takes `e_minus` off, and where it is then 0 or
 /// below a bit is removed or repeated and `e_plus` is added (TS 25.212 4.2.7.5).
-#[derive(Clone, Copy, Debug, PartialEq, Eq)]
+#[derive(Clone, Copy)]
 pub struct Steps {
     pub e_ini: u64,
     pub e_plus: u64,
@@ -11,7 +11,7 @@ pub struct Steps {
 }
 
 /// What is done with a stream of bits: it is left as it is, or bits of it are repeated or removed.
-#[derive(Clone, Copy, Debug, PartialEq, Eq)]
+#[derive(Clone, Copy)]
 pub enum Kind {
     Same,
     Repeat(Steps),
@@ -19,7 +19,7 @@ pub enum Kind {
 }
 
 /// The rate matching of a stream of `len` bits.
-#[derive(Clone, Copy, Debug, PartialEq, Eq)]
+#[derive(Clone, Copy)]
 pub struct Pattern {
     pub len: u32,
     pub kind: Kind,

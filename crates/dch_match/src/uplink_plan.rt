@@ -35,7 +35,7 @@ pub struct UplinkPlan {
 
 /// What a combination asks of a frame: the sum of RM*N, the least RM, the largest size that is allowed, and the
 /// puncturing limit in hundredths.
-#[derive(Clone, Copy, Debug, PartialEq, Eq)]
+#[derive(Clone, Copy)]
 pub struct Demand {
     pub weight: u64,
     pub least: u64,

@@ -6,7 +6,7 @@ use std::marker::Model;
 
 /// A walk over the bits of a stream by the error counter (TS 25.212 4.2.7.5). It gives the number of copies of one bit
 /// after another, in a step that neither divides nor multiplies.
-#[derive(Debug, Drop)]
+#[derive(Drop)]
 pub struct Walk {
     pattern: Pattern,
     bit: u32,

@@ -13,7 +13,7 @@ pub const MOST_PDUS: usize = 1024;
 pub const MOST_OCTETS: usize = 126;
 
 /// A PDU in flight: its octets stand in front, and it has `size` of them, at most 126.
-#[derive(Clone, Copy, Debug)]
+#[derive(Clone, Copy)]
 pub struct QueuedPdu {
     pub octets: [u8; MOST_OCTETS],
     pub size: usize,

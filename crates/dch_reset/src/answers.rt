@@ -1,7 +1,7 @@
 use dch_rlcpdu::PduError;
 
 /// What an end that can be reset answers to a PDU (TS 25.322 11.3.3, 11.3.4, 11.4.3, 11.4.4).
-#[derive(Clone, Copy, Debug, PartialEq, Eq)]
+#[derive(Clone, Copy)]
 pub enum Got {
     /// The octets read as no PDU, for this reason. Nothing changed.
     Bad(PduError),

@@ -6,7 +6,7 @@ ghost use Rattle.dch_reset.specs.Standing.{pending_of};
 pub const REPEAT: u8 = 30;
 
 /// A reset that an end has begun and that isn't answered yet (TS 25.322 11.4.2).
-#[derive(Clone, Copy, Debug, PartialEq, Eq)]
+#[derive(Clone, Copy)]
 pub struct Pending {
     pub rsn: bool,
     /// Ticks until the RESET is due, 0 where it is due.

@@ -1,7 +1,7 @@
 use dch_pair::End;
 
 /// What is done at an end that can be reset.
-#[derive(Clone, Copy, Debug, PartialEq, Eq)]
+#[derive(Clone, Copy)]
 pub enum ResetEvent {
     /// A unit is offered: so many octets from this place on.
     Offer { end: End, from: usize, len: usize },

@@ -28,7 +28,7 @@ use std::alloc::Global;
 use std::marker::Model;
 
 /// A discard that runs: its PDU's place among those in flight, the place of its mark in it, and when an MRW is due.
-#[derive(Clone, Copy, Debug, PartialEq, Eq)]
+#[derive(Clone, Copy)]
 pub struct Running {
     pub at: u16,
     pub n: u8,
@@ -37,7 +37,7 @@ pub struct Running {
 }
 
 /// Which PDU a build gives: the one at a place again, a new one, the last one again for an owed poll, or none.
-#[derive(Clone, Copy, Debug, PartialEq, Eq)]
+#[derive(Clone, Copy)]
 pub enum Pick {
     Again(u16),
     New,

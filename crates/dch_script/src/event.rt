@@ -1,7 +1,7 @@
 use dch_types::{Coding, Crc, Dir};
 
 /// A command whose script has event lines.
-#[derive(Clone, Copy, Debug, PartialEq, Eq)]
+#[derive(Clone, Copy)]
 pub enum Command {
     Encode,
     Link,
@@ -11,7 +11,7 @@ pub enum Command {
 }
 
 /// What an event line says. Texts are lent as they stand in the line, an empty one as `.`.
-#[derive(Clone, Copy, Debug, PartialEq, Eq)]
+#[derive(Clone, Copy)]
 pub enum Event<'a> {
     /// Code one transport block: `bits` is the text of its bits.
     Code {

@@ -10,7 +10,7 @@ use crate::words::{cut_word, four_words, is_word, one_word, two_words};
 use dch_types::Mode;
 
 /// What a line of `pair` says; an end is 0 for `a` and 1 for `b`.
-#[derive(Clone, Copy, Debug, PartialEq, Eq)]
+#[derive(Clone, Copy)]
 pub enum PairLine<'a> {
     /// Open the two ends: the octets of the PDUs that `a` and `b` build, 6 to 126, the blocks of 64 octets that an end may hold,
     /// 1 to 4096, and the PDUs of the window, 1 to 2048.

@@ -2,7 +2,7 @@ ghost use Rattle.std.specs.Prelude.{◌≡◌, ◌≤◌, ◌+◌, ◌*◌, IfSo
 ghost use Rattle.dch_soft.specs.Passing.{IsStage, leg_of, next_stage, stages_left};
 
 /// A stage of a radio frame of 10 ms on its way through the nodes. They come in this order, leg by leg and set by set.
-#[derive(Clone, Copy, Debug, PartialEq, Eq)]
+#[derive(Clone, Copy)]
 pub enum Stage {
     /// 10 ms pass at the network controller, which sends downlink Iub frames.
     RncTick,

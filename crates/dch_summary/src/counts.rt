@@ -15,7 +15,7 @@ use memchr::memchr;
 pub const BEARERS: usize = 6;
 
 /// What is counted of a direction.
-#[derive(Clone, Copy, Debug)]
+#[derive(Clone, Copy)]
 pub struct DirCounts {
     /// Units that were accepted, by bearer.
     pub took: [u64; BEARERS],
@@ -28,7 +28,7 @@ pub struct DirCounts {
 }
 
 /// What is counted of both directions.
-#[derive(Clone, Copy, Debug)]
+#[derive(Clone, Copy)]
 pub struct Counts {
     pub up: DirCounts,
     pub down: DirCounts,

@@ -6,7 +6,7 @@ ghost use Rattle.dch_summary.specs.LineWords.{word_at};
 use memchr::memchr;
 
 /// The first three words of a line. One that the line doesn't have is empty.
-#[derive(Clone, Copy, Debug)]
+#[derive(Clone, Copy)]
 pub struct LineWords<'a> {
     pub first: &'a [u8],
     pub second: &'a [u8],

@@ -14,7 +14,7 @@ use std::alloc::Global;
 use toml::Table;
 
 /// Why a document is no configuration.
-#[derive(Debug, Drop)]
+#[derive(Drop)]
 pub enum TreeError {
     /// Memory was wanted and not found.
     NoMemory,
@@ -23,7 +23,7 @@ pub enum TreeError {
 }
 
 /// The keys of the Iub.
-#[derive(Clone, Copy, Debug, PartialEq, Eq)]
+#[derive(Clone, Copy)]
 pub(crate) struct Iub {
     pub payload_check: bool,
     pub qe: u8,

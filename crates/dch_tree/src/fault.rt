@@ -7,7 +7,7 @@ use dch_bits::NoMemory;
 use std::alloc::Global;
 
 /// What is wrong with a key.
-#[derive(Debug, Drop)]
+#[derive(Drop)]
 pub enum Fault {
     /// It is required and missing, or it is there and unknown.
     Key(KeyPath),
@@ -29,7 +29,7 @@ impl Fault {
 }
 
 /// The first of the faults found so far.
-#[derive(Debug, Drop)]
+#[derive(Drop)]
 pub(crate) struct Faults {
     pub alloc: Global,
     pub first: Option<Fault>,

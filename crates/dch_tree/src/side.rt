@@ -24,7 +24,7 @@ const FRAME_SIZES: [u32; 12] = [
 const SPREADING_FACTORS: [u32; 8] = [4, 8, 16, 32, 64, 128, 256, 512];
 
 /// A channel's set, and the radio frames of its TTI.
-#[derive(Clone, Copy, Debug, PartialEq, Eq)]
+#[derive(Clone, Copy)]
 pub(crate) struct SetTti {
     pub set: u8,
     pub frames: u8,

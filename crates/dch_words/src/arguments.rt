@@ -13,7 +13,7 @@ use dch_bits::NoMemory;
 use std::alloc::Global;
 
 /// What the program is to do.
-#[derive(Clone, Copy, Debug, PartialEq, Eq)]
+#[derive(Clone, Copy)]
 pub enum Subcommand {
     /// Judge a configuration.
     Check,
@@ -36,7 +36,7 @@ pub enum Subcommand {
 }
 
 /// What the words of the command line say.
-#[derive(Clone, Copy, Debug, PartialEq, Eq)]
+#[derive(Clone, Copy)]
 pub struct Arguments {
     pub subcommand: Subcommand,
     /// How much is wanted, 1 to 100,000, and 1,000 where the words give no count; of `soft` how many legs, 1 to 6, which the words give.
