@@ -63,7 +63,8 @@ fn run<R: Print + Clock>(rt: &R, alloc: Global, mode: Mode) -> Result<(), Fault>
     run_nearest(rt, alloc, mode)?;
     run_codes(rt, alloc, mode)?;
     run_parity(rt, alloc, mode)?;
-    report(rt, mode, "rlc", Entities::open(alloc))?;
+    report(rt, mode, "rlc", Entities::open(alloc, false))?;
+    report(rt, mode, "rlc lossy", Entities::open(alloc, true))?;
     run_frames(rt, alloc, mode)?;
     run_generator(rt, alloc, mode)
 }
