@@ -9,7 +9,7 @@ use Rattle.dch_am.specs.Status.{MrwAck, fields_of, missing, most, runs, runs_fro
 use Rattle.dch_am.specs.Telling.{after_telling as after_told, due_of, is_due as is_told, plain_due as plain_told, telling, tells_now}
 use Rattle.dch_status.specs.Fields.{status_fields, mrw_status_fields}
 use Rattle.dch_amrecv.specs.Places.{is_kept, vacant}
-use Rattle.dch_amrecv.specs.Holding.{Holding, after_telling, fields_told, gaps, is_due, lsn_told, numbered, pairs_told, plain_due, some_ack}
+use Rattle.dch_amrecv.specs.Holding.{Holding, after_telling, fields_told, missing_runs, is_due, lsn_told, numbered, pairs_told, plain_due, some_ack}
 use Rattle.dch_am.specs.Rules.{rules_of}
 use Rattle.dch_amrecv.specs.Standing.{Stands, said, sent_ack}
 use Rattle.dch_am.specs.Texts.{IsHeard, IsTold, told_text}
@@ -81,7 +81,7 @@ less_vacant from (Some b ∷ ps) xs all =
     rw here (less_vacant (from + 1) ps xs (λ i. let e : from + 1 + i ≡ from + suc i = omega arith in ap (λ k. has k xs) e ∙ all (suc i)))
 
 -- the runs of what is missing
-runs_are : (h : Holding) (given : ℕ) (r : Receiver) → Stands h given r → runs (missing (got r) (vr_r r) (vr_h r)) ≡ map (shift (vr_r r)) (gaps h)
+runs_are : (h : Holding) (given : ℕ) (r : Receiver) → Stands h given r → runs (missing (got r) (vr_r r) (vr_h r)) ≡ map (shift (vr_r r)) (missing_runs h)
 runs_are h given r s =
     let count : vr_h r - vr_r r ≡ length h.kept.places = omega (arith, s.highest) in
     let at : vr_r r + 0 ≡ vr_r r = omega arith in
@@ -105,13 +105,13 @@ lsn_same next low high count false e f = omega arith
 pub pairs_are : (h : Holding) (bits given : ℕ) (r : Receiver) → Stands h given r → map wrapped_pair (status_of bits (got r)).pairs ≡ pairs_told bits h
 pairs_are h bits given r s =
     ap (λ (ps : List (ℕ × ℕ)). map wrapped_pair (take (most bits (length ps)) ps)) (runs_are h given r s)
-    ∙ (ap (λ n. map wrapped_pair (take (most bits n) (map (shift (vr_r r)) (gaps h)))) (length-shift (vr_r r) (gaps h))
-    ∙ wrapped_shift (vr_r r) h.next (most bits (length (gaps h))) (gaps h) s.next)
+    ∙ (ap (λ n. map wrapped_pair (take (most bits n) (map (shift (vr_r r)) (missing_runs h)))) (length-shift (vr_r r) (missing_runs h))
+    ∙ wrapped_shift (vr_r r) h.next (most bits (length (missing_runs h))) (missing_runs h) s.next)
 
 pub lsn_is : (h : Holding) (bits given : ℕ) (r : Receiver) → Stands h given r → wrapped (status_of bits (got r)).lsn ≡ lsn_told bits h
 lsn_is h bits given r s =
-    ap (λ (n : ℕ). wrapped (if most bits n == n then vr_h r else vr_r r)) (ap length (runs_are h given r s) ∙ length-shift (vr_r r) (gaps h))
-    ∙ lsn_same h.next (vr_r r) (vr_h r) (length h.kept.places) (most bits (length (gaps h)) == length (gaps h)) s.next s.highest
+    ap (λ (n : ℕ). wrapped (if most bits n == n then vr_h r else vr_r r)) (ap length (runs_are h given r s) ∙ length-shift (vr_r r) (missing_runs h))
+    ∙ lsn_same h.next (vr_r r) (vr_h r) (length h.kept.places) (most bits (length (missing_runs h)) == length (missing_runs h)) s.next s.highest
 
 told_same : (h : Holding) (bits given : ℕ) (r : Receiver) (o : Option MrwAck) (plain : Bool) → Stands h given r → (some_ack (sent_ack o) || plain) ≡ true → Some (fields_told (sent_ack o) plain bits h) ≡ said (telling bits r o plain)
 told_same h bits given r None false s due = absurd (cc)

@@ -124,15 +124,15 @@ after_unit h = record h { kept = handed h.kept }
 abbrev pub numbered : ℕ → ℕ × ℕ → ℕ × ℕ
 numbered next p = ((next + p.0) % 4096, p.1)
 
-abbrev pub gaps : Holding → List (ℕ × ℕ)
-gaps h = runs (vacant 0 h.kept.places)
+abbrev pub missing_runs : Holding → List (ℕ × ℕ)
+missing_runs h = runs (vacant 0 h.kept.places)
 
 -- the status in so many bits
 abbrev pub pairs_told : ℕ → Holding → List (ℕ × ℕ)
-pairs_told bits h = map (numbered h.next) (take (most bits (length (gaps h))) (gaps h))
+pairs_told bits h = map (numbered h.next) (take (most bits (length (missing_runs h))) (missing_runs h))
 
 abbrev pub lsn_told : ℕ → Holding → ℕ
-lsn_told bits h = (h.next + (if most bits (length (gaps h)) == length (gaps h) then length h.kept.places else 0)) % 4096
+lsn_told bits h = (h.next + (if most bits (length (missing_runs h)) == length (missing_runs h) then length h.kept.places else 0)) % 4096
 
 -- the fields that are written where an MRW_ACK, or a status, is due
 abbrev pub fields_told : Option (ℕ × ℕ) → Bool → ℕ → Holding → List Field

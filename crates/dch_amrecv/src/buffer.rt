@@ -138,11 +138,11 @@ impl RxBuffer {
 
     /// The missing PDUs as runs of at most 16: the place of the first of each run, and how many follow it. As many are written as find
     /// room. Answers how many runs there are.
-    pub fn gaps(&self, out: &mut [SnRun]) -> usize
+    pub fn missing_runs(&self, out: &mut [SnRun]) -> usize
         requires { self.now.kept.capacity ≤ 2048 }
         ensures count { result ≡ length (runs (vacant 0 self.now.kept.places)) }
         ensures runs { out.new ≡ laid (runs (vacant 0 self.now.kept.places)) out.old }
     {
-        self.window.gaps(self.todo, out)
+        self.window.missing_runs(self.todo, out)
     }
 }

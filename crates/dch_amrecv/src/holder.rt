@@ -191,12 +191,12 @@ impl Holder {
         match self.ack {
             None => {
                 let mut pairs = [SnRun { first: 0, more: 0 }; 62];
-                let (count, lsn) = self.gaps(8 * self.reply, &mut pairs);
+                let (count, lsn) = self.missing_runs(8 * self.reply, &mut pairs);
                 write_ack(&pairs[..count], lsn, out);
             }
             Some(place) if self.owed && self.status_prohibit_timer == 0 => {
                 let mut pairs = [SnRun { first: 0, more: 0 }; 62];
-                let (count, lsn) = self.gaps(8 * self.reply - 20, &mut pairs);
+                let (count, lsn) = self.missing_runs(8 * self.reply - 20, &mut pairs);
                 write_mrw_status(place.n, place.sn, &pairs[..count], lsn, out);
             }
             Some(place) => write_mrw_ack(place.n, place.sn, out),
@@ -204,7 +204,7 @@ impl Holder {
     }
 
     /// The runs of missing numbers that fit so many bits, and the LSN.
-    fn gaps(&self, bits: usize, pairs: &mut [SnRun]) -> (usize, u16)
+    fn missing_runs(&self, bits: usize, pairs: &mut [SnRun]) -> (usize, u16)
         requires least { 20 ≤ bits }
         requires bits { bits ≤ 1008 }
         requires room { length pairs.old ≡ 62 }
@@ -215,7 +215,7 @@ impl Holder {
         ensures lsn { result.1 ≡ lsn_told bits self.now }
         ensures number { result.1 < 4096 }
     {
-        let total = self.buffer.gaps(pairs);
+        let total = self.buffer.missing_runs(pairs);
         let count = most(bits, total);
         number(&mut pairs[..count], self.next);
         let ahead = if count == total { self.buffer.len() } else { 0 };

@@ -2,8 +2,8 @@
 #![tactic(auto)]
 
 mod buffer;
-mod gaps;
 mod holder;
+mod missing_runs;
 mod mrw;
 mod places;
 mod reading;

@@ -4,7 +4,7 @@ ghost use Rattle.dch_am.specs.Status.{runs};
 ghost use Rattle.dch_am.specs.Contents.{body_in};
 ghost use Rattle.dch_amrecv.specs.Places.{front, is_kept, laid, put, vacant, with_ring};
 
-use crate::gaps::write_gaps;
+use crate::missing_runs::write_missing_runs;
 use crate::places::{count_front, first_of, give_front, is_taken, put_at};
 use crate::stored::{store, stored};
 use circular_buffer::HeapCircularBuffer;
@@ -123,13 +123,13 @@ impl RxWindow {
 
     /// The places without a PDU as runs of at most 16, from a place on that has none: the first of each run, counted from there, and
     /// how many follow it. As many are written as find room. Answers how many runs there are.
-    pub fn gaps(&self, from: usize, out: &mut [SnRun]) -> usize
+    pub fn missing_runs(&self, from: usize, out: &mut [SnRun]) -> usize
         requires from { from ≤ length self.now.ring.items }
         requires first { front (drop from self.now.ring.items) ≡ 0 }
         requires few { self.now.ring.capacity ≤ 2048 }
         ensures count { result ≡ length (runs (vacant 0 (drop from self.now.ring.items))) }
         ensures runs { out.new ≡ laid (runs (vacant 0 (drop from self.now.ring.items))) out.old }
     {
-        write_gaps(&self.ring, from, out)
+        write_missing_runs(&self.ring, from, out)
     }
 }

@@ -134,25 +134,25 @@ count_last n flying one = let first : suc (min n 0) ≡ min (suc n) 1 = omega ar
 record Left (rules : Rules) (l : RetxBuffer) (s : Sender) (requested flying : ℕ) (q : Unsent) : Type 0 where
   stands : LineStands rules l s
   none_owed : s.owed ≡ false
-  requested_is : requested_in l.flown ≡ requested
-  flying_is : length l.flown ≡ flying
+  requested_is : requested_in l.in_flight ≡ requested
+  flying_is : length l.in_flight ≡ flying
   unsent_is : s.unsent ≡ q
 
 -- the count for a line and a sender
 abbrev counted : ℕ → Rules → ℕ → RetxBuffer → Sender → ℕ
-counted n rules d l s = min n (builds_of (requested_in l.flown) (min (rules.window - length l.flown) (fills n d s.unsent)) s.owed (length l.flown))
+counted n rules d l s = min n (builds_of (requested_in l.in_flight) (min (rules.window - length l.in_flight) (fills n d s.unsent)) s.owed (length l.in_flight))
 
-left_counted : (n : ℕ) (rules : Rules) (d : ℕ) (l : RetxBuffer) (s : Sender) (requested flying : ℕ) (q : Unsent) → Left rules l s requested flying q → builds_within n rules d s ≡ min n (builds_of (requested_in l.flown) (min (rules.window - length l.flown) (fills n d s.unsent)) s.owed (length l.flown)) → builds_within n rules d s ≡ min n (builds_of requested (min (rules.window - flying) (fills n d q)) false flying)
+left_counted : (n : ℕ) (rules : Rules) (d : ℕ) (l : RetxBuffer) (s : Sender) (requested flying : ℕ) (q : Unsent) → Left rules l s requested flying q → builds_within n rules d s ≡ min n (builds_of (requested_in l.in_flight) (min (rules.window - length l.in_flight) (fills n d s.unsent)) s.owed (length l.in_flight)) → builds_within n rules d s ≡ min n (builds_of requested (min (rules.window - flying) (fills n d q)) false flying)
 left_counted n rules d l s requested flying q is e =
     e ∙ (ap₂ (λ (w : ℕ) (k : ℕ). min n (builds_of w (min (rules.window - k) (fills n d s.unsent)) s.owed k)) is.requested_is is.flying_is
     ∙ ap₂ (λ (x : Unsent) (b : Bool). min n (builds_of requested (min (rules.window - flying) (fills n d x)) b flying)) is.unsent_is is.none_owed)
 
-again_left : (rules : Rules) (d : ℕ) (l : RetxBuffer) (s : Sender) → first_requested l.flown < length l.flown → LineStands rules l s → (w : ℕ) → requested_in l.flown ≡ suc w → Left rules (again_line (first_requested l.flown) l) (after_choice (Requested (vt_a s + first_requested l.flown)) rules d s) w (length l.flown) s.unsent
+again_left : (rules : Rules) (d : ℕ) (l : RetxBuffer) (s : Sender) → first_requested l.in_flight < length l.in_flight → LineStands rules l s → (w : ℕ) → requested_in l.in_flight ≡ suc w → Left rules (again_line (first_requested l.in_flight) l) (after_choice (Requested (vt_a s + first_requested l.in_flight)) rules d s) w (length l.in_flight) s.unsent
 again_left rules d l s inside is w e = record {
-  stands = (again_sends rules l s (first_requested l.flown) d inside is).stands;
-  none_owed = paid rules (again s (vt_a s + first_requested l.flown)) _;
-  requested_is = omega (arith, e, requested_less l.flown (first_requested l.flown) (built (at l.flown (first_requested l.flown))) inside (first_is_requested l.flown inside) refl);
-  flying_is = length-set l.flown (first_requested l.flown) (built (at l.flown (first_requested l.flown)));
+  stands = (again_sends rules l s (first_requested l.in_flight) d inside is).stands;
+  none_owed = paid rules (again s (vt_a s + first_requested l.in_flight)) _;
+  requested_is = omega (arith, e, requested_less l.in_flight (first_requested l.in_flight) (built (at l.in_flight (first_requested l.in_flight))) inside (first_is_requested l.in_flight inside) refl);
+  flying_is = length-set l.in_flight (first_requested l.in_flight) (built (at l.in_flight (first_requested l.in_flight)));
   unsent_is = refl;
 }
 
@@ -160,37 +160,37 @@ again_left rules d l s inside is w e = record {
 abbrev new_pdu : ℕ → SentPdu
 new_pdu n = sent_once (record { sdu = 0; used = 0; pieces = n; rest = 0 }) false
 
-new_left : (rules : Rules) (d : ℕ) (l : RetxBuffer) (s : Sender) → length l.flown < rules.window → LineStands rules l s → Left rules (new_line (new_pdu (ends_of (next_body d s.unsent))) (is_left (after_body d s.unsent)) l) (after_choice Fresh rules d s) (requested_in l.flown) (length l.flown + 1) (after_body d s.unsent)
+new_left : (rules : Rules) (d : ℕ) (l : RetxBuffer) (s : Sender) → length l.in_flight < rules.window → LineStands rules l s → Left rules (new_line (new_pdu (ends_of (next_body d s.unsent))) (is_left (after_body d s.unsent)) l) (after_choice Fresh rules d s) (requested_in l.in_flight) (length l.in_flight + 1) (after_body d s.unsent)
 new_left rules d l s room is = record {
   stands = (new_sends rules l s (new_pdu (ends_of (next_body d s.unsent))) (is_left (after_body d s.unsent)) d room (record { acked = refl; requested = refl; named = refl; builds = refl; ends_are = omega arith }) refl is).stands;
   none_owed = paid rules (anew d s) _;
-  requested_is = requested_new l.flown (new_pdu (ends_of (next_body d s.unsent))) refl;
-  flying_is = length-append l.flown (new_pdu (ends_of (next_body d s.unsent)) ∷ []);
+  requested_is = requested_new l.in_flight (new_pdu (ends_of (next_body d s.unsent))) refl;
+  flying_is = length-append l.in_flight (new_pdu (ends_of (next_body d s.unsent)) ∷ []);
   unsent_is = refl;
 }
 
 -- the last PDU's number, and that it isn't requested where none is requested
-pub last_is : (rules : Rules) (l : RetxBuffer) (s : Sender) → 0 < length l.flown → LineStands rules l s → vt_a s + (length l.flown - 1) ≡ vt_s s - 1
+pub last_is : (rules : Rules) (l : RetxBuffer) (s : Sender) → 0 < length l.in_flight → LineStands rules l s → vt_a s + (length l.in_flight - 1) ≡ vt_s s - 1
 last_is rules l s one is = omega (arith, is.flying)
 
-pub last_not : (rules : Rules) (l : RetxBuffer) (s : Sender) → 0 < length l.flown → length l.flown ≤ first_requested l.flown → LineStands rules l s → has (vt_a s + (length l.flown - 1)) s.requested ≡ false
-last_not rules l s one none is = sym (is.flown (length l.flown - 1) (omega arith)).requested ∙ none_at l.flown (length l.flown - 1) (omega arith) none
+pub last_not : (rules : Rules) (l : RetxBuffer) (s : Sender) → 0 < length l.in_flight → length l.in_flight ≤ first_requested l.in_flight → LineStands rules l s → has (vt_a s + (length l.in_flight - 1)) s.requested ≡ false
+last_not rules l s one none is = sym (is.in_flight (length l.in_flight - 1) (omega arith)).requested ∙ none_at l.in_flight (length l.in_flight - 1) (omega arith) none
 
-last_left : (rules : Rules) (d : ℕ) (l : RetxBuffer) (s : Sender) → 0 < length l.flown → length l.flown ≤ first_requested l.flown → LineStands rules l s → Left rules (last_line (length l.flown - 1) l) (after_choice (Latest (vt_a s + (length l.flown - 1))) rules d s) (requested_in l.flown) (length l.flown) s.unsent
+last_left : (rules : Rules) (d : ℕ) (l : RetxBuffer) (s : Sender) → 0 < length l.in_flight → length l.in_flight ≤ first_requested l.in_flight → LineStands rules l s → Left rules (last_line (length l.in_flight - 1) l) (after_choice (Latest (vt_a s + (length l.in_flight - 1))) rules d s) (requested_in l.in_flight) (length l.in_flight) s.unsent
 last_left rules d l s one none is = record {
-  stands = (last_sends rules l s (length l.flown - 1) d (omega arith) (last_is rules l s one is) (last_not rules l s one none is) is).stands;
+  stands = (last_sends rules l s (length l.in_flight - 1) d (omega arith) (last_is rules l s one is) (last_not rules l s one none is) is).stands;
   none_owed = paid rules (once_more s) false;
-  requested_is = requested_same l.flown (length l.flown - 1) (built (at l.flown (length l.flown - 1))) (omega arith) (none_at l.flown (length l.flown - 1) (omega arith) none) refl;
-  flying_is = length-set l.flown (length l.flown - 1) (built (at l.flown (length l.flown - 1)));
+  requested_is = requested_same l.in_flight (length l.in_flight - 1) (built (at l.in_flight (length l.in_flight - 1))) (omega arith) (none_at l.in_flight (length l.in_flight - 1) (omega arith) none) refl;
+  flying_is = length-set l.in_flight (length l.in_flight - 1) (built (at l.in_flight (length l.in_flight - 1)));
   unsent_is = refl;
 }
 
 -- the tests of a choice
 record IsChoice (rules : Rules) (l : RetxBuffer) (s : Sender) (a b c : Bool) : Type 0 where
-  first : nat_lt (first_requested l.flown) (length l.flown) ≡ a
-  second : (nat_lt (length l.flown) rules.window && is_left s.unsent) ≡ b
-  third : (s.owed && nat_lt 0 (length l.flown)) ≡ c
-  choice_is : choice rules s ≡ cond a (Requested (vt_a s + first_requested l.flown)) (cond b Fresh (cond c (Latest (vt_a s + (length l.flown - 1))) Nothing))
+  first : nat_lt (first_requested l.in_flight) (length l.in_flight) ≡ a
+  second : (nat_lt (length l.in_flight) rules.window && is_left s.unsent) ≡ b
+  third : (s.owed && nat_lt 0 (length l.in_flight)) ≡ c
+  choice_is : choice rules s ≡ cond a (Requested (vt_a s + first_requested l.in_flight)) (cond b Fresh (cond c (Latest (vt_a s + (length l.in_flight - 1))) Nothing))
 
 chosen_cond : (low : ℕ) (a b c : Bool) (x z : ℕ) → chosen low (cond a (Again x) (cond b New (cond c (Last z) NoPdu))) ≡ cond a (Requested (low + x)) (cond b Fresh (cond c (Latest (low + z)) Nothing))
 chosen_cond low true b c x z = refl
@@ -198,16 +198,16 @@ chosen_cond low false true c x z = refl
 chosen_cond low false false true x z = refl
 chosen_cond low false false false x z = refl
 
-is_choice : (rules : Rules) (l : RetxBuffer) (s : Sender) (a b c : Bool) → LineStands rules l s → nat_lt (first_requested l.flown) (length l.flown) ≡ a → (nat_lt (length l.flown) rules.window && is_left s.unsent) ≡ b → (s.owed && nat_lt 0 (length l.flown)) ≡ c → IsChoice rules l s a b c
+is_choice : (rules : Rules) (l : RetxBuffer) (s : Sender) (a b c : Bool) → LineStands rules l s → nat_lt (first_requested l.in_flight) (length l.in_flight) ≡ a → (nat_lt (length l.in_flight) rules.window && is_left s.unsent) ≡ b → (s.owed && nat_lt 0 (length l.in_flight)) ≡ c → IsChoice rules l s a b c
 is_choice rules l s a b c is e1 e2 e3 = record {
   first = e1;
   second = e2;
   third = e3;
   choice_is =
       sym (picked_is rules l s (is_left s.unsent) is refl)
-      ∙ (chosen_cond (vt_a s) (nat_lt (first_requested l.flown) (length l.flown)) (nat_lt (length l.flown) l.window && is_left s.unsent) (l.owed && nat_lt 0 (length l.flown)) (first_requested l.flown) (length l.flown - 1)
-      ∙ (ap₂ (λ x y. cond x (Requested (vt_a s + first_requested l.flown)) (cond y Fresh (cond (l.owed && nat_lt 0 (length l.flown)) (Latest (vt_a s + (length l.flown - 1))) Nothing))) e1 (ap (λ w. nat_lt (length l.flown) w && is_left s.unsent) is.window ∙ e2)
-      ∙ ap (λ z. cond a (Requested (vt_a s + first_requested l.flown)) (cond b Fresh (cond z (Latest (vt_a s + (length l.flown - 1))) Nothing))) (ap (λ o. o && nat_lt 0 (length l.flown)) is.owed ∙ e3)));
+      ∙ (chosen_cond (vt_a s) (nat_lt (first_requested l.in_flight) (length l.in_flight)) (nat_lt (length l.in_flight) l.window && is_left s.unsent) (l.owed && nat_lt 0 (length l.in_flight)) (first_requested l.in_flight) (length l.in_flight - 1)
+      ∙ (ap₂ (λ x y. cond x (Requested (vt_a s + first_requested l.in_flight)) (cond y Fresh (cond (l.owed && nat_lt 0 (length l.in_flight)) (Latest (vt_a s + (length l.in_flight - 1))) Nothing))) e1 (ap (λ w. nat_lt (length l.in_flight) w && is_left s.unsent) is.window ∙ e2)
+      ∙ ap (λ z. cond a (Requested (vt_a s + first_requested l.in_flight)) (cond b Fresh (cond z (Latest (vt_a s + (length l.in_flight - 1))) Nothing))) (ap (λ o. o && nat_lt 0 (length l.in_flight)) is.owed ∙ e3)));
 }
 
 none_fresh : (m d len room : ℕ) (q : Unsent) → (nat_lt len room && is_left q) ≡ false → min (room - len) (fills m d q) ≡ 0
@@ -221,51 +221,51 @@ none_fresh m d len room q e = go (nat_lt len room) (is_left q) refl refl e
 -- the count of a definition's builds is that of a line
 pub counts : (n : ℕ) (rules : Rules) (d : ℕ) (l : RetxBuffer) (s : Sender) → LineStands rules l s → builds_within n rules d s ≡ counted n rules d l s
 counts zero rules d l s is = omega arith
-counts (suc n) rules d l s is = go (nat_lt (first_requested l.flown) (length l.flown)) (nat_lt (length l.flown) rules.window && is_left s.unsent) (s.owed && nat_lt 0 (length l.flown)) (is_choice rules l s _ _ _ is refl refl refl) (λ m t st. counts n rules d m t st)
+counts (suc n) rules d l s is = go (nat_lt (first_requested l.in_flight) (length l.in_flight)) (nat_lt (length l.in_flight) rules.window && is_left s.unsent) (s.owed && nat_lt 0 (length l.in_flight)) (is_choice rules l s _ _ _ is refl refl refl) (λ m t st. counts n rules d m t st)
   where
     room : ℕ
-    room = rules.window - length l.flown
+    room = rules.window - length l.in_flight
 
     go : (a b c : Bool) → IsChoice rules l s a b c → ((m : RetxBuffer) (t : Sender) → LineStands rules m t → builds_within n rules d t ≡ counted n rules d m t) → builds_within (suc n) rules d s ≡ counted (suc n) rules d l s
     go true b c ch rest =
-        let inside : first_requested l.flown < length l.flown = ltb-true _ _ ch.first in
-        let w : ℕ = requested_in (set l.flown (first_requested l.flown) (built (at l.flown (first_requested l.flown)))) in
-        let e : requested_in l.flown ≡ suc w = requested_less l.flown (first_requested l.flown) (built (at l.flown (first_requested l.flown))) inside (first_is_requested l.flown inside) refl in
-        let t : Sender = after_choice (Requested (vt_a s + first_requested l.flown)) rules d s in
-        let lf : Left rules (again_line (first_requested l.flown) l) t w (length l.flown) s.unsent = again_left rules d l s inside is w e in
-        one_more n rules d s (Requested (vt_a s + first_requested l.flown)) ch.choice_is refl
-        ∙ (ap suc (left_counted n rules d (again_line (first_requested l.flown) l) t w (length l.flown) s.unsent lf (rest (again_line (first_requested l.flown) l) t lf.stands))
-        ∙ (count_again n w (rules.window - length l.flown) (fills n d s.unsent) (fills (suc n) d s.unsent) (length l.flown) s.owed (fills_next n d s.unsent)
-        ∙ ap (λ k. min (suc n) (builds_of k (min (rules.window - length l.flown) (fills (suc n) d s.unsent)) s.owed (length l.flown))) (sym e)))
+        let inside : first_requested l.in_flight < length l.in_flight = ltb-true _ _ ch.first in
+        let w : ℕ = requested_in (set l.in_flight (first_requested l.in_flight) (built (at l.in_flight (first_requested l.in_flight)))) in
+        let e : requested_in l.in_flight ≡ suc w = requested_less l.in_flight (first_requested l.in_flight) (built (at l.in_flight (first_requested l.in_flight))) inside (first_is_requested l.in_flight inside) refl in
+        let t : Sender = after_choice (Requested (vt_a s + first_requested l.in_flight)) rules d s in
+        let lf : Left rules (again_line (first_requested l.in_flight) l) t w (length l.in_flight) s.unsent = again_left rules d l s inside is w e in
+        one_more n rules d s (Requested (vt_a s + first_requested l.in_flight)) ch.choice_is refl
+        ∙ (ap suc (left_counted n rules d (again_line (first_requested l.in_flight) l) t w (length l.in_flight) s.unsent lf (rest (again_line (first_requested l.in_flight) l) t lf.stands))
+        ∙ (count_again n w (rules.window - length l.in_flight) (fills n d s.unsent) (fills (suc n) d s.unsent) (length l.in_flight) s.owed (fills_next n d s.unsent)
+        ∙ ap (λ k. min (suc n) (builds_of k (min (rules.window - length l.in_flight) (fills (suc n) d s.unsent)) s.owed (length l.in_flight))) (sym e)))
     go false true c ch rest =
-        let none : requested_in l.flown ≡ 0 = none_requested l.flown (ltb-false _ _ ch.first) in
+        let none : requested_in l.in_flight ≡ 0 = none_requested l.in_flight (ltb-false _ _ ch.first) in
         let parts = and_parts _ _ ch.second in
-        let below : length l.flown < rules.window = ltb-true _ _ parts.0 in
+        let below : length l.in_flight < rules.window = ltb-true _ _ parts.0 in
         let m : RetxBuffer = new_line (new_pdu (ends_of (next_body d s.unsent))) (is_left (after_body d s.unsent)) l in
         let t : Sender = after_choice Fresh rules d s in
-        let lf : Left rules m t (requested_in l.flown) (length l.flown + 1) (after_body d s.unsent) = new_left rules d l s below is in
-        let less : rules.window - (length l.flown + 1) ≡ rules.window - length l.flown - 1 = omega arith in
+        let lf : Left rules m t (requested_in l.in_flight) (length l.in_flight + 1) (after_body d s.unsent) = new_left rules d l s below is in
+        let less : rules.window - (length l.in_flight + 1) ≡ rules.window - length l.in_flight - 1 = omega arith in
         one_more n rules d s Fresh ch.choice_is refl
-        ∙ (ap suc (left_counted n rules d m t (requested_in l.flown) (length l.flown + 1) (after_body d s.unsent) lf (rest m t lf.stands))
-        ∙ (ap₂ (λ w k. suc (min n (builds_of w (min k (fills n d (after_body d s.unsent))) false (length l.flown + 1)))) none less
-        ∙ (count_new n (rules.window - length l.flown) (fills n d (after_body d s.unsent)) (length l.flown) s.owed (omega arith)
-        ∙ ap₂ (λ w k. min (suc n) (builds_of w (min (rules.window - length l.flown) k) s.owed (length l.flown))) (sym none) (sym (fills_left n d s.unsent parts.1)))))
+        ∙ (ap suc (left_counted n rules d m t (requested_in l.in_flight) (length l.in_flight + 1) (after_body d s.unsent) lf (rest m t lf.stands))
+        ∙ (ap₂ (λ w k. suc (min n (builds_of w (min k (fills n d (after_body d s.unsent))) false (length l.in_flight + 1)))) none less
+        ∙ (count_new n (rules.window - length l.in_flight) (fills n d (after_body d s.unsent)) (length l.in_flight) s.owed (omega arith)
+        ∙ ap₂ (λ w k. min (suc n) (builds_of w (min (rules.window - length l.in_flight) k) s.owed (length l.in_flight))) (sym none) (sym (fills_left n d s.unsent parts.1)))))
     go false false true ch rest =
-        let first : length l.flown ≤ first_requested l.flown = ltb-false _ _ ch.first in
-        let none : requested_in l.flown ≡ 0 = none_requested l.flown first in
+        let first : length l.in_flight ≤ first_requested l.in_flight = ltb-false _ _ ch.first in
+        let none : requested_in l.in_flight ≡ 0 = none_requested l.in_flight first in
         let parts = and_parts _ _ ch.third in
-        let one : 0 < length l.flown = ltb-true _ _ parts.1 in
-        let t : Sender = after_choice (Latest (vt_a s + (length l.flown - 1))) rules d s in
-        let lf : Left rules (last_line (length l.flown - 1) l) t (requested_in l.flown) (length l.flown) s.unsent = last_left rules d l s one first is in
-        one_more n rules d s (Latest (vt_a s + (length l.flown - 1))) ch.choice_is refl
-        ∙ (ap suc (left_counted n rules d (last_line (length l.flown - 1) l) t (requested_in l.flown) (length l.flown) s.unsent lf (rest (last_line (length l.flown - 1) l) t lf.stands))
-        ∙ (ap₂ (λ w k. suc (min n (builds_of w k false (length l.flown)))) none (none_fresh n d (length l.flown) rules.window s.unsent ch.second)
-        ∙ (count_last n (length l.flown) one
-        ∙ (ap (λ b. min (suc n) (builds_of 0 0 b (length l.flown))) (sym parts.0)
-        ∙ ap₂ (λ w k. min (suc n) (builds_of w k s.owed (length l.flown))) (sym none) (sym (none_fresh (suc n) d (length l.flown) rules.window s.unsent ch.second))))))
+        let one : 0 < length l.in_flight = ltb-true _ _ parts.1 in
+        let t : Sender = after_choice (Latest (vt_a s + (length l.in_flight - 1))) rules d s in
+        let lf : Left rules (last_line (length l.in_flight - 1) l) t (requested_in l.in_flight) (length l.in_flight) s.unsent = last_left rules d l s one first is in
+        one_more n rules d s (Latest (vt_a s + (length l.in_flight - 1))) ch.choice_is refl
+        ∙ (ap suc (left_counted n rules d (last_line (length l.in_flight - 1) l) t (requested_in l.in_flight) (length l.in_flight) s.unsent lf (rest (last_line (length l.in_flight - 1) l) t lf.stands))
+        ∙ (ap₂ (λ w k. suc (min n (builds_of w k false (length l.in_flight)))) none (none_fresh n d (length l.in_flight) rules.window s.unsent ch.second)
+        ∙ (count_last n (length l.in_flight) one
+        ∙ (ap (λ b. min (suc n) (builds_of 0 0 b (length l.in_flight))) (sym parts.0)
+        ∙ ap₂ (λ w k. min (suc n) (builds_of w k s.owed (length l.in_flight))) (sym none) (sym (none_fresh (suc n) d (length l.in_flight) rules.window s.unsent ch.second))))))
     go false false false ch rest =
-        let none : requested_in l.flown ≡ 0 = none_requested l.flown (ltb-false _ _ ch.first) in
+        let none : requested_in l.in_flight ≡ 0 = none_requested l.in_flight (ltb-false _ _ ch.first) in
         let zero_of : 0 ≡ min (suc n) 0 = omega arith in
         no_more n rules d s ch.choice_is
         ∙ (zero_of ∙ (ap (λ b. min (suc n) (cond b 1 0)) (sym ch.third)
-        ∙ ap₂ (λ w k. min (suc n) (builds_of w k s.owed (length l.flown))) (sym none) (sym (none_fresh (suc n) d (length l.flown) rules.window s.unsent ch.second))))
+        ∙ ap₂ (λ w k. min (suc n) (builds_of w k s.owed (length l.in_flight))) (sym none) (sym (none_fresh (suc n) d (length l.in_flight) rules.window s.unsent ch.second))))

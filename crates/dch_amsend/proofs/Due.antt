@@ -30,26 +30,26 @@ use Rattle.dch_amsend.proofs.Placing.{place_is}
 use Rattle.dch_amsend.proofs.Events.{available_is}
 
 -- a PDU can be built where one is requested, a new one can follow, or the last one is to go again
-pub can_build_is : (v : Outgoing) → (nat_lt 0 (requested_in v.line.flown) || ((nat_lt (length v.line.flown) v.line.window && is_left (unsent_of v.tx_buffer)) || (v.line.owed && nat_lt 0 (length v.line.flown)))) ≡ can_build v
-can_build_is v = go (nat_lt 0 (requested_in v.line.flown)) (nat_lt (length v.line.flown) v.line.window) (is_left (unsent_of v.tx_buffer)) (v.line.owed && nat_lt 0 (length v.line.flown)) refl refl refl refl
+pub can_build_is : (v : Outgoing) → (nat_lt 0 (requested_in v.line.in_flight) || ((nat_lt (length v.line.in_flight) v.line.window && is_left (unsent_of v.tx_buffer)) || (v.line.owed && nat_lt 0 (length v.line.in_flight)))) ≡ can_build v
+can_build_is v = go (nat_lt 0 (requested_in v.line.in_flight)) (nat_lt (length v.line.in_flight) v.line.window) (is_left (unsent_of v.tx_buffer)) (v.line.owed && nat_lt 0 (length v.line.in_flight)) refl refl refl refl
   where
     fresh : ℕ
     fresh = fills 64 (v.tx_buffer.size - 2) (unsent_of v.tx_buffer)
 
     all : ℕ
-    all = min 64 (requested_in v.line.flown) + min (v.line.window - length v.line.flown) fresh
+    all = min 64 (requested_in v.line.in_flight) + min (v.line.window - length v.line.in_flight) fresh
 
     some : nat_lt 0 fresh ≡ is_left (unsent_of v.tx_buffer)
     some = fills_some 63 (v.tx_buffer.size - 2) (unsent_of v.tx_buffer)
 
     many : 0 < all → true ≡ can_build v
-    many l = sym (lt-ltb 0 (available_of v) (omega (arith, ap {B = ℕ} (λ b. cond b all (cond (v.line.owed && nat_lt 0 (length v.line.flown)) 1 0)) (lt-ltb 0 all l), l)))
+    many l = sym (lt-ltb 0 (available_of v) (omega (arith, ap {B = ℕ} (λ b. cond b all (cond (v.line.owed && nat_lt 0 (length v.line.in_flight)) 1 0)) (lt-ltb 0 all l), l)))
 
-    few : (c : Bool) → all ≡ 0 → (v.line.owed && nat_lt 0 (length v.line.flown)) ≡ c → c ≡ can_build v
-    few true none e = sym (lt-ltb 0 (available_of v) (omega (arith, ap {B = ℕ} (λ b. cond b all (cond (v.line.owed && nat_lt 0 (length v.line.flown)) 1 0)) (le-ltb 0 all (omega (arith, none))), ap {B = ℕ} (λ b. cond b 1 0) e)))
-    few false none e = sym (le-ltb 0 (available_of v) (omega (arith, ap {B = ℕ} (λ b. cond b all (cond (v.line.owed && nat_lt 0 (length v.line.flown)) 1 0)) (le-ltb 0 all (omega (arith, none))), ap {B = ℕ} (λ b. cond b 1 0) e)))
+    few : (c : Bool) → all ≡ 0 → (v.line.owed && nat_lt 0 (length v.line.in_flight)) ≡ c → c ≡ can_build v
+    few true none e = sym (lt-ltb 0 (available_of v) (omega (arith, ap {B = ℕ} (λ b. cond b all (cond (v.line.owed && nat_lt 0 (length v.line.in_flight)) 1 0)) (le-ltb 0 all (omega (arith, none))), ap {B = ℕ} (λ b. cond b 1 0) e)))
+    few false none e = sym (le-ltb 0 (available_of v) (omega (arith, ap {B = ℕ} (λ b. cond b all (cond (v.line.owed && nat_lt 0 (length v.line.in_flight)) 1 0)) (le-ltb 0 all (omega (arith, none))), ap {B = ℕ} (λ b. cond b 1 0) e)))
 
-    go : (a r u c : Bool) → nat_lt 0 (requested_in v.line.flown) ≡ a → nat_lt (length v.line.flown) v.line.window ≡ r → is_left (unsent_of v.tx_buffer) ≡ u → (v.line.owed && nat_lt 0 (length v.line.flown)) ≡ c → (a || ((r && u) || c)) ≡ can_build v
+    go : (a r u c : Bool) → nat_lt 0 (requested_in v.line.in_flight) ≡ a → nat_lt (length v.line.in_flight) v.line.window ≡ r → is_left (unsent_of v.tx_buffer) ≡ u → (v.line.owed && nat_lt 0 (length v.line.in_flight)) ≡ c → (a || ((r && u) || c)) ≡ can_build v
     go true r u c ea er eu ec = many (omega (arith, ltb-true _ _ ea))
     go false true true c ea er eu ec = many (omega (arith, ltb-true _ _ er, ltb-true _ _ (some ∙ eu)))
     go false true false c ea er eu ec = few c (omega (arith, ltb-false _ _ ea, ltb-false _ _ (some ∙ eu))) ec
@@ -105,24 +105,24 @@ room_left rules d v s unit answer is e taken = go (is_empty unit) (nat_lt 1500 (
     go false false false ea ec q = absurd (cc)
 
 -- how many SDUs end before a PDU in flight is read off its extent
-below_next : (flown : List SentPdu) (n : ℕ) → n < length flown → ends_below (suc n) flown ≡ ends_below n flown + ends_in (at flown n)
+below_next : (in_flight : List SentPdu) (n : ℕ) → n < length in_flight → ends_below (suc n) in_flight ≡ ends_below n in_flight + ends_in (at in_flight n)
 below_next [] n l = absurd (omega arith)
-below_next (f ∷ flown) zero l = omega arith
-below_next (f ∷ flown) (suc n) l = omega (arith, below_next flown n (omega arith))
+below_next (f ∷ in_flight) zero l = omega arith
+below_next (f ∷ in_flight) (suc n) l = omega (arith, below_next in_flight n (omega arith))
 
-below_is : (rules : Rules) (d : ℕ) (v : Outgoing) (s : Sender) (n : ℕ) → n ≤ length v.line.flown → IsOutgoing rules d v s → ends (take (vt_a s + n) s.bodies) ≡ released s + ends_below n v.line.flown
+below_is : (rules : Rules) (d : ℕ) (v : Outgoing) (s : Sender) (n : ℕ) → n ≤ length v.line.in_flight → IsOutgoing rules d v s → ends (take (vt_a s + n) s.bodies) ≡ released s + ends_below n v.line.in_flight
 below_is rules d v s zero l is = let e : vt_a s + 0 ≡ vt_a s = omega arith in ap (λ k. ends (take k s.bodies)) e ∙ omega arith
 below_is rules d v s (suc n) l is =
     let e : vt_a s + suc n ≡ vt_a s + n + 1 = omega arith in
-    ap (λ k. ends (take k s.bodies)) e ∙ omega (arith, ends-step s.bodies (vt_a s + n) (omega (arith, is.line.flying, l)), below_is rules d v s n (omega arith) is, (is.flown n (omega arith)).ends, below_next v.line.flown n (omega arith))
+    ap (λ k. ends (take k s.bodies)) e ∙ omega (arith, ends-step s.bodies (vt_a s + n) (omega (arith, is.line.flying, l)), below_is rules d v s n (omega arith) is, (is.in_flight n (omega arith)).ends, below_next v.line.in_flight n (omega arith))
 
-pub ended_all : (rules : Rules) (d : ℕ) (v : Outgoing) (s : Sender) → IsOutgoing rules d v s → ended_before None v.tx_buffer ≡ ends_below (length v.line.flown) v.line.flown
+pub ended_all : (rules : Rules) (d : ℕ) (v : Outgoing) (s : Sender) → IsOutgoing rules d v s → ended_before None v.tx_buffer ≡ ends_below (length v.line.in_flight) v.line.in_flight
 ended_all rules d v s is =
-    let all : ends (take (vt_a s + length v.line.flown) s.bodies) ≡ ends s.bodies = ap (λ k. ends (take k s.bodies)) is.line.flying ∙ ap ends (take_all (vt_s s) s.bodies (omega arith)) in
-    omega (arith, all, below_is rules d v s (length v.line.flown) (omega arith) is, is.tx_buffer.place)
+    let all : ends (take (vt_a s + length v.line.in_flight) s.bodies) ≡ ends s.bodies = ap (λ k. ends (take k s.bodies)) is.line.flying ∙ ap ends (take_all (vt_s s) s.bodies (omega arith)) in
+    omega (arith, all, below_is rules d v s (length v.line.in_flight) (omega arith) is, is.tx_buffer.place)
 
-pub ended_below : (rules : Rules) (d : ℕ) (v : Outgoing) (s : Sender) (place : ℕ) → place < length v.line.flown → IsOutgoing rules d v s → ended_before (Some (at v.line.flown place)) v.tx_buffer ≡ ends_below place v.line.flown
+pub ended_below : (rules : Rules) (d : ℕ) (v : Outgoing) (s : Sender) (place : ℕ) → place < length v.line.in_flight → IsOutgoing rules d v s → ended_before (Some (at v.line.in_flight place)) v.tx_buffer ≡ ends_below place v.line.in_flight
 ended_below rules d v s place inside is =
-    let p = place_is d v.tx_buffer s (vt_a s + place) (at v.line.flown place).extent is.tx_buffer (is.taken place inside).sdu (omega arith) (omega (arith, inside, is.line.flying)) in
-    let full : cond {A = ℕ} (at v.line.flown place).full 1 0 ≡ cond (body_at s.bodies (vt_a s + place)).full 1 0 = ap (λ b. cond b 1 0) (is.flown place inside).full in
+    let p = place_is d v.tx_buffer s (vt_a s + place) (at v.line.in_flight place).extent is.tx_buffer (is.taken place inside).sdu (omega arith) (omega (arith, inside, is.line.flying)) in
+    let full : cond {A = ℕ} (at v.line.in_flight place).full 1 0 ≡ cond (body_at s.bodies (vt_a s + place)).full 1 0 = ap (λ b. cond b 1 0) (is.in_flight place inside).full in
     omega (arith, p.place, p.from, full, below_is rules d v s place (omega arith) is)

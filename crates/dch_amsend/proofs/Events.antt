@@ -28,19 +28,19 @@ use Rattle.dch_status.specs.Fields.{Field}
 use Rattle.dch_retx.specs.declared.buffer.Pick.TheVariants.{Again, New, Last, NoPdu}
 use Rattle.dch_retx.specs.RetxBuffer.{RetxBuffer, discarding, number_at}
 use Rattle.dch_retx.specs.Polling.{again_line, again_poll, last_line, last_poll, new_line, new_poll, picked}
-use Rattle.dch_retx.specs.Standing.{AreKept, IsAlike, IsFlown, IsPolled, IsRequested, Sends, Stands as LineStands, timed}
+use Rattle.dch_retx.specs.Standing.{AreKept, IsAlike, IsInFlight, IsPolled, IsRequested, Sends, Stands as LineStands, timed}
 use Rattle.dch_retx.proofs.Keeping.{discarding_kept, resent_kept}
 use Rattle.dch_retx.proofs.Sending.{again_sends, last_sends, new_sends}
 use Rattle.dch_retx.proofs.Ticking.{discards_stand, number_is}
 use Rattle.dch_amsend.specs.BufferStanding.{HasBody, BufferStands, Takes, fills}
 use Rattle.dch_amsend.specs.DiscardStanding.{released}
-use Rattle.dch_amsend.specs.TxBuffer.{IsHere, TxBuffer, buffer_after_build, buffer_after_offer, ended_before, next_flown, released_by, unsent_of}
+use Rattle.dch_amsend.specs.TxBuffer.{IsHere, TxBuffer, buffer_after_build, buffer_after_offer, ended_before, next_in_flight, released_by, unsent_of}
 use Rattle.dch_amsend.proofs.Offering.{takes_more}
 use Rattle.dch_amsend.proofs.Placing.{IsWhole, here_is}
 use Rattle.dch_amsend.proofs.Extents.{IsFirst, IsLater, ended_few, ended_is, released_keeps, takes_later, takes_longer}
 use Rattle.dch_amsend.specs.Counting.{builds_of}
 use Rattle.dch_am.specs.Texts.{next_pdu, pdu_of_choice}
-use Rattle.dch_amsend.specs.Outgoing.{IsLast, IsOutgoing, IsRunning, Outgoing, available_of, first_flown, pdu_in, with_line}
+use Rattle.dch_amsend.specs.Outgoing.{IsLast, IsOutgoing, IsRunning, Outgoing, available_of, first_in_flight, pdu_in, with_line}
 use Rattle.dch_amsend.proofs.Counting.{counts, no_more}
 
 -- a PDU that is sent alike has the same body
@@ -48,7 +48,7 @@ has_alike : (d : ℕ) (f g : SentPdu) (b : Body) → IsAlike f g → HasBody d g
 has_alike d f g b a h = record { full = a.full ∙ h.full; ends = ap₂ {C = ℕ} (λ (x : Extent) q. x.pieces + cond q 1 0) a.extent a.full ∙ h.ends; continues = ap (λ (x : Extent). nat_lt 0 x.rest) a.extent ∙ h.continues; short = h.short }
 
 -- PDUs in front leave, or are marked, and nothing else is sent
-later : (rules : Rules) (d : ℕ) (v : Outgoing) (s now : Sender) (l : RetxBuffer) → IsOutgoing rules d v s → LineStands rules l now → AreKept v.line.flown l.flown → Alike s now → IsLater s now
+later : (rules : Rules) (d : ℕ) (v : Outgoing) (s now : Sender) (l : RetxBuffer) → IsOutgoing rules d v s → LineStands rules l now → AreKept v.line.in_flight l.in_flight → Alike s now → IsLater s now
 later rules d v s now l is stands kept same = record {
   accepted = same.accepted;
   bodies = same.bodies;
@@ -61,24 +61,24 @@ pub record IsKept (d : ℕ) (s : Sender) (k : ℕ) (f : SentPdu) : Type 0 where
   pub has : HasBody d f (body_at s.bodies k)
   pub takes : Takes s k f.extent
 
-stays : (rules : Rules) (d : ℕ) (v : Outgoing) (s now : Sender) (l : RetxBuffer) (i : ℕ) → i < length l.flown → IsOutgoing rules d v s → LineStands rules l now → AreKept v.line.flown l.flown → Alike s now → IsKept d now (vt_a now + i) (at l.flown i)
+stays : (rules : Rules) (d : ℕ) (v : Outgoing) (s now : Sender) (l : RetxBuffer) (i : ℕ) → i < length l.in_flight → IsOutgoing rules d v s → LineStands rules l now → AreKept v.line.in_flight l.in_flight → Alike s now → IsKept d now (vt_a now + i) (at l.in_flight i)
 stays rules d v s now l i inside is stands kept same =
-    let place : ℕ = length v.line.flown - length l.flown + i in
-    let within : length v.line.flown - length l.flown + i < length v.line.flown = omega (arith, kept.few, inside) in
-    let number : vt_a s + (length v.line.flown - length l.flown + i) ≡ vt_a now + i = omega (arith, kept.few, is.line.flying, stands.flying, ap (λ (bs : List Body). length bs) same.bodies) in
-    let body : body_at s.bodies (vt_a s + (length v.line.flown - length l.flown + i)) ≡ body_at now.bodies (vt_a now + i) = ap₂ (λ bs k. body_at bs k) (sym same.bodies) number in
+    let place : ℕ = length v.line.in_flight - length l.in_flight + i in
+    let within : length v.line.in_flight - length l.in_flight + i < length v.line.in_flight = omega (arith, kept.few, inside) in
+    let number : vt_a s + (length v.line.in_flight - length l.in_flight + i) ≡ vt_a now + i = omega (arith, kept.few, is.line.flying, stands.flying, ap (λ (bs : List Body). length bs) same.bodies) in
+    let body : body_at s.bodies (vt_a s + (length v.line.in_flight - length l.in_flight + i)) ≡ body_at now.bodies (vt_a now + i) = ap₂ (λ bs k. body_at bs k) (sym same.bodies) number in
     let alike = kept.same i inside in
-    let takes : Takes s (vt_a now + i) (at v.line.flown place).extent = subst (λ k. Takes s k (at v.line.flown place).extent) number (is.taken place within) in
+    let takes : Takes s (vt_a now + i) (at v.line.in_flight place).extent = subst (λ k. Takes s k (at v.line.in_flight place).extent) number (is.taken place within) in
     record {
-      has = subst (HasBody d (at l.flown i)) body (has_alike d (at l.flown i) (at v.line.flown place) (body_at s.bodies (vt_a s + place)) alike (is.flown place within));
-      takes = takes_later s now (vt_a now + i) (at l.flown i).extent (later rules d v s now l is stands kept same) (subst (λ x. Takes s (vt_a now + i) x) (sym alike.extent) takes);
+      has = subst (HasBody d (at l.in_flight i)) body (has_alike d (at l.in_flight i) (at v.line.in_flight place) (body_at s.bodies (vt_a s + place)) alike (is.in_flight place within));
+      takes = takes_later s now (vt_a now + i) (at l.in_flight i).extent (later rules d v s now l is stands kept same) (subst (λ x. Takes s (vt_a now + i) x) (sym alike.extent) takes);
     }
 
 -- the first PDU in flight is the one of the lowest open number
-first_is : (rules : Rules) (d : ℕ) (l : RetxBuffer) (s : Sender) → LineStands rules l s → ((i : ℕ) → i < length l.flown → IsKept d s (vt_a s + i) (at l.flown i)) → IsFirst s (first_flown l.flown)
-first_is rules d l s stands kept = go l.flown stands.flying kept
+first_is : (rules : Rules) (d : ℕ) (l : RetxBuffer) (s : Sender) → LineStands rules l s → ((i : ℕ) → i < length l.in_flight → IsKept d s (vt_a s + i) (at l.in_flight i)) → IsFirst s (first_in_flight l.in_flight)
+first_is rules d l s stands kept = go l.in_flight stands.flying kept
   where
-    go : (fs : List SentPdu) → vt_a s + length fs ≡ vt_s s → ((i : ℕ) → i < length fs → IsKept d s (vt_a s + i) (at fs i)) → IsFirst s (first_flown fs)
+    go : (fs : List SentPdu) → vt_a s + length fs ≡ vt_s s → ((i : ℕ) → i < length fs → IsKept d s (vt_a s + i) (at fs i)) → IsFirst s (first_in_flight fs)
     go [] e all = omega (arith, e)
     go (f ∷ fs) e all =
         let z : vt_a s + 0 ≡ vt_a s = omega arith in
@@ -86,19 +86,19 @@ first_is rules d l s stands kept = go l.flown stands.flying kept
         (omega (arith, e), here.takes, here.has.full)
 
 -- PDUs in front leave, with the SDUs that end before those that stay
-pub leave_goes : (rules : Rules) (d : ℕ) (v : Outgoing) (s now : Sender) (l : RetxBuffer) → IsOutgoing rules d v s → LineStands rules l now → AreKept v.line.flown l.flown → Alike s now → IsOutgoing rules d (record { size = v.size; line = l; tx_buffer = released_by (ended_before (first_flown l.flown) v.tx_buffer) v.tx_buffer }) now
+pub leave_goes : (rules : Rules) (d : ℕ) (v : Outgoing) (s now : Sender) (l : RetxBuffer) → IsOutgoing rules d v s → LineStands rules l now → AreKept v.line.in_flight l.in_flight → Alike s now → IsOutgoing rules d (record { size = v.size; line = l; tx_buffer = released_by (ended_before (first_in_flight l.in_flight) v.tx_buffer) v.tx_buffer }) now
 leave_goes rules d v s now l is stands kept same = record {
   size = is.size;
   line = stands;
-  tx_buffer = released_keeps d v.tx_buffer s now (first_flown l.flown) is.tx_buffer (later rules d v s now l is stands kept same) (first_is rules d l now stands (λ i inside. stays rules d v s now l i inside is stands kept same));
+  tx_buffer = released_keeps d v.tx_buffer s now (first_in_flight l.in_flight) is.tx_buffer (later rules d v s now l is stands kept same) (first_is rules d l now stands (λ i inside. stays rules d v s now l i inside is stands kept same));
   room = is.room;
   cut = subst (λ us. IsCut us now.unsent now.bodies) (sym same.accepted) (subst (λ q. IsCut s.accepted q now.bodies) (sym same.unsent) (subst (λ bs. IsCut s.accepted s.unsent bs) (sym same.bodies) is.cut));
-  flown = λ i inside. (stays rules d v s now l i inside is stands kept same).has;
+  in_flight = λ i inside. (stays rules d v s now l i inside is stands kept same).has;
   taken = λ i inside. (stays rules d v s now l i inside is stands kept same).takes;
 }
 
-pub leave_few : (rules : Rules) (d : ℕ) (v : Outgoing) (s now : Sender) (l : RetxBuffer) → IsOutgoing rules d v s → LineStands rules l now → AreKept v.line.flown l.flown → Alike s now → ended_before (first_flown l.flown) v.tx_buffer ≤ v.tx_buffer.start.sdu
-leave_few rules d v s now l is stands kept same = ended_few d v.tx_buffer s now (first_flown l.flown) is.tx_buffer (later rules d v s now l is stands kept same) (first_is rules d l now stands (λ i inside. stays rules d v s now l i inside is stands kept same))
+pub leave_few : (rules : Rules) (d : ℕ) (v : Outgoing) (s now : Sender) (l : RetxBuffer) → IsOutgoing rules d v s → LineStands rules l now → AreKept v.line.in_flight l.in_flight → Alike s now → ended_before (first_in_flight l.in_flight) v.tx_buffer ≤ v.tx_buffer.start.sdu
+leave_few rules d v s now l is stands kept same = ended_few d v.tx_buffer s now (first_in_flight l.in_flight) is.tx_buffer (later rules d v s now l is stands kept same) (first_is rules d l now stands (λ i inside. stays rules d v s now l i inside is stands kept same))
 
 -- no PDU leaves, and nothing else is sent
 keeps_same : (d : ℕ) (w : TxBuffer) (s now : Sender) → Alike s now → vt_a now ≡ vt_a s → BufferStands d w s → BufferStands d w now
@@ -115,22 +115,22 @@ keeps_same d w s now same low keeps =
       small = keeps.small;
     }
 
-pub line_goes : (rules : Rules) (d : ℕ) (v : Outgoing) (s now : Sender) (l : RetxBuffer) → IsOutgoing rules d v s → LineStands rules l now → AreKept v.line.flown l.flown → length l.flown ≡ length v.line.flown → Alike s now → IsOutgoing rules d (with_line l v) now
+pub line_goes : (rules : Rules) (d : ℕ) (v : Outgoing) (s now : Sender) (l : RetxBuffer) → IsOutgoing rules d v s → LineStands rules l now → AreKept v.line.in_flight l.in_flight → length l.in_flight ≡ length v.line.in_flight → Alike s now → IsOutgoing rules d (with_line l v) now
 line_goes rules d v s now l is stands kept all same = record {
   size = is.size;
   line = stands;
   tx_buffer = keeps_same d v.tx_buffer s now same (omega (arith, all, is.line.flying, stands.flying, ap (λ (bs : List Body). length bs) same.bodies)) is.tx_buffer;
   room = is.room;
   cut = subst (λ us. IsCut us now.unsent now.bodies) (sym same.accepted) (subst (λ q. IsCut s.accepted q now.bodies) (sym same.unsent) (subst (λ bs. IsCut s.accepted s.unsent bs) (sym same.bodies) is.cut));
-  flown = λ i inside. (stays rules d v s now l i inside is stands kept same).has;
+  in_flight = λ i inside. (stays rules d v s now l i inside is stands kept same).has;
   taken = λ i inside. (stays rules d v s now l i inside is stands kept same).takes;
 }
 
 -- a status
-pub hears_goes : (rules : Rules) (d : ℕ) (v : Outgoing) (s : Sender) (l : RetxBuffer) (fields : List Field) → IsOutgoing rules d v s → LineStands rules l (after_fields rules s fields) → AreKept v.line.flown l.flown → IsOutgoing rules d (record { size = v.size; line = l; tx_buffer = released_by (ended_before (first_flown l.flown) v.tx_buffer) v.tx_buffer }) (after_fields rules s fields)
+pub hears_goes : (rules : Rules) (d : ℕ) (v : Outgoing) (s : Sender) (l : RetxBuffer) (fields : List Field) → IsOutgoing rules d v s → LineStands rules l (after_fields rules s fields) → AreKept v.line.in_flight l.in_flight → IsOutgoing rules d (record { size = v.size; line = l; tx_buffer = released_by (ended_before (first_in_flight l.in_flight) v.tx_buffer) v.tx_buffer }) (after_fields rules s fields)
 hears_goes rules d v s l fields is stands kept = leave_goes rules d v s (after_fields rules s fields) l is stands kept (alike_answer s fields (status_answer rules s fields))
 
-pub hears_few : (rules : Rules) (d : ℕ) (v : Outgoing) (s : Sender) (l : RetxBuffer) (fields : List Field) → IsOutgoing rules d v s → LineStands rules l (after_fields rules s fields) → AreKept v.line.flown l.flown → ended_before (first_flown l.flown) v.tx_buffer ≤ v.tx_buffer.start.sdu
+pub hears_few : (rules : Rules) (d : ℕ) (v : Outgoing) (s : Sender) (l : RetxBuffer) (fields : List Field) → IsOutgoing rules d v s → LineStands rules l (after_fields rules s fields) → AreKept v.line.in_flight l.in_flight → ended_before (first_in_flight l.in_flight) v.tx_buffer ≤ v.tx_buffer.start.sdu
 hears_few rules d v s l fields is stands kept = leave_few rules d v s (after_fields rules s fields) l is stands kept (alike_answer s fields (status_answer rules s fields))
 
 kept_all : (fs : List SentPdu) → AreKept fs fs
@@ -140,21 +140,21 @@ kept_all fs = record {
 }
 
 -- one that is refused lets no SDU leave
-pub none_leaves : (rules : Rules) (d : ℕ) (v : Outgoing) (s : Sender) (l : RetxBuffer) → IsOutgoing rules d v s → l ≡ v.line → released_by (ended_before (first_flown l.flown) v.tx_buffer) v.tx_buffer ≡ v.tx_buffer
+pub none_leaves : (rules : Rules) (d : ℕ) (v : Outgoing) (s : Sender) (l : RetxBuffer) → IsOutgoing rules d v s → l ≡ v.line → released_by (ended_before (first_in_flight l.in_flight) v.tx_buffer) v.tx_buffer ≡ v.tx_buffer
 none_leaves rules d v s l is e =
     let same : Alike s s = record { accepted = refl; cuts = refl; bodies = refl; unsent = refl } in
-    let stay : AreKept v.line.flown v.line.flown = kept_all v.line.flown in
-    let none : ended_before (first_flown v.line.flown) v.tx_buffer ≡ 0 = omega (arith, ended_is d v.tx_buffer s s (first_flown v.line.flown) is.tx_buffer (later rules d v s s v.line is is.line stay same) (first_is rules d v.line s is.line (λ i inside. stays rules d v s s v.line i inside is is.line stay same))) in
+    let stay : AreKept v.line.in_flight v.line.in_flight = kept_all v.line.in_flight in
+    let none : ended_before (first_in_flight v.line.in_flight) v.tx_buffer ≡ 0 = omega (arith, ended_is d v.tx_buffer s s (first_in_flight v.line.in_flight) is.tx_buffer (later rules d v s s v.line is is.line stay same) (first_is rules d v.line s is.line (λ i inside. stays rules d v s s v.line i inside is is.line stay same))) in
     let start : v.tx_buffer.start.sdu - 0 ≡ v.tx_buffer.start.sdu = omega arith in
     let gone : (v.tx_buffer.gone + 0) % 65536 ≡ v.tx_buffer.gone = omega (arith, is.tx_buffer.gone) in
-    ap (λ (x : RetxBuffer). released_by (ended_before (first_flown x.flown) v.tx_buffer) v.tx_buffer) e
+    ap (λ (x : RetxBuffer). released_by (ended_before (first_in_flight x.in_flight) v.tx_buffer) v.tx_buffer) e
     ∙ (ap (λ n. released_by n v.tx_buffer) none
     ∙ ap₂ (λ a b. record v.tx_buffer { start = record { sdu = a; used = v.tx_buffer.start.used }; gone = b }) start gone)
 
 -- the beginning of a discard
-pub discards_goes : (rules : Rules) (d : ℕ) (v : Outgoing) (s : Sender) (l : RetxBuffer) (place n i : ℕ) → place < length v.line.flown → l ≡ discarding place n v.line → IsOutgoing rules d v s → IsOutgoing rules d (with_line l v) (discards_at s i (Some (vt_a s + place, n)))
+pub discards_goes : (rules : Rules) (d : ℕ) (v : Outgoing) (s : Sender) (l : RetxBuffer) (place n i : ℕ) → place < length v.line.in_flight → l ≡ discarding place n v.line → IsOutgoing rules d v s → IsOutgoing rules d (with_line l v) (discards_at s i (Some (vt_a s + place, n)))
 discards_goes rules d v s l place n i inside e is = subst (λ x. IsOutgoing rules d (with_line x v) (discards_at s i (Some (vt_a s + place, n)))) (sym e)
-    (line_goes rules d v s (discards_at s i (Some (vt_a s + place, n))) (discarding place n v.line) is (discards_stand rules v.line s place n i inside is.line) (discarding_kept place n v.line) (length-changed request_cleared place v.line.flown) (alike_place s i (Some (vt_a s + place, n))))
+    (line_goes rules d v s (discards_at s i (Some (vt_a s + place, n))) (discarding place n v.line) is (discards_stand rules v.line s place n i inside is.line) (discarding_kept place n v.line) (length-changed request_cleared place v.line.in_flight) (alike_place s i (Some (vt_a s + place, n))))
 
 -- how many PDUs could be built
 cut_short : (n w k f : ℕ) (b : Bool) → 0 < n → min n (builds_of (min n w) k b f) ≡ min n (builds_of w k b f)
@@ -169,11 +169,11 @@ cut_short n w k f b one = go (nat_lt 0 (min n w + k)) (nat_lt 0 (w + k)) refl re
 octets_is : (d : ℕ) (w : TxBuffer) (s : Sender) → BufferStands d w s → w.size - 2 ≡ d
 octets_is d w s keeps = omega (arith, keeps.size)
 
-available_within : (n : ℕ) (rules : Rules) (d : ℕ) (v : Outgoing) (s : Sender) → 0 < n → IsOutgoing rules d v s → min n (builds_of (min n (requested_in v.line.flown)) (min (v.line.window - length v.line.flown) (fills n (v.tx_buffer.size - 2) (unsent_of v.tx_buffer))) v.line.owed (length v.line.flown)) ≡ builds_within n rules d s
+available_within : (n : ℕ) (rules : Rules) (d : ℕ) (v : Outgoing) (s : Sender) → 0 < n → IsOutgoing rules d v s → min n (builds_of (min n (requested_in v.line.in_flight)) (min (v.line.window - length v.line.in_flight) (fills n (v.tx_buffer.size - 2) (unsent_of v.tx_buffer))) v.line.owed (length v.line.in_flight)) ≡ builds_within n rules d s
 available_within n rules d v s one is =
-    cut_short n (requested_in v.line.flown) (min (v.line.window - length v.line.flown) (fills n (v.tx_buffer.size - 2) (unsent_of v.tx_buffer))) (length v.line.flown) v.line.owed one
-    ∙ (ap₂ (λ w k. min n (builds_of (requested_in v.line.flown) (min (w - length v.line.flown) k) v.line.owed (length v.line.flown))) is.line.window (ap₂ (fills n) (octets_is d v.tx_buffer s is.tx_buffer) is.tx_buffer.unsent)
-    ∙ (ap (λ b. min n (builds_of (requested_in v.line.flown) (min (rules.window - length v.line.flown) (fills n d s.unsent)) b (length v.line.flown))) is.line.owed
+    cut_short n (requested_in v.line.in_flight) (min (v.line.window - length v.line.in_flight) (fills n (v.tx_buffer.size - 2) (unsent_of v.tx_buffer))) (length v.line.in_flight) v.line.owed one
+    ∙ (ap₂ (λ w k. min n (builds_of (requested_in v.line.in_flight) (min (w - length v.line.in_flight) k) v.line.owed (length v.line.in_flight))) is.line.window (ap₂ (fills n) (octets_is d v.tx_buffer s is.tx_buffer) is.tx_buffer.unsent)
+    ∙ (ap (λ b. min n (builds_of (requested_in v.line.in_flight) (min (rules.window - length v.line.in_flight) (fills n d s.unsent)) b (length v.line.in_flight))) is.line.owed
     ∙ sym (counts n rules d v.line s is.line)))
 
 pub available_is : (rules : Rules) (d : ℕ) (v : Outgoing) (s : Sender) → IsOutgoing rules d v s → available_of v ≡ available rules d s
@@ -199,33 +199,33 @@ pdu_is rules d v s k number poll f keeps takes has low inside =
 pub size_same : (v : Outgoing) → IsRunning v → v.tx_buffer.size ≡ v.size
 size_same v run = run.stands.tx_buffer.size ∙ sym run.stands.size
 
-pub place_here : (rules : Rules) (d : ℕ) (v : Outgoing) (s : Sender) (place : ℕ) → place < length v.line.flown → IsOutgoing rules d v s → IsHere v.tx_buffer (at v.line.flown place)
-place_here rules d v s place inside is = (here_is d v.tx_buffer s (vt_a s + place) (at v.line.flown place) is.tx_buffer (is.taken place inside) (is.flown place inside) (omega arith) (omega (arith, inside, is.line.flying))).here
+pub place_here : (rules : Rules) (d : ℕ) (v : Outgoing) (s : Sender) (place : ℕ) → place < length v.line.in_flight → IsOutgoing rules d v s → IsHere v.tx_buffer (at v.line.in_flight place)
+place_here rules d v s place inside is = (here_is d v.tx_buffer s (vt_a s + place) (at v.line.in_flight place) is.tx_buffer (is.taken place inside) (is.in_flight place inside) (omega arith) (omega (arith, inside, is.line.flying))).here
 
 -- a PDU in flight is built again
-pub again_stands : (rules : Rules) (d : ℕ) (v : Outgoing) (s : Sender) (place : ℕ) → place < length v.line.flown → IsOutgoing rules d v s → IsOutgoing rules d (with_line (again_line place v.line) v) (after_choice (Requested (vt_a s + place)) rules d s)
-again_stands rules d v s place inside is = line_goes rules d v s (after_choice (Requested (vt_a s + place)) rules d s) (again_line place v.line) is (again_sends rules v.line s place d inside is.line).stands (resent_kept place v.line) (length-set v.line.flown place (built (at v.line.flown place))) (record { accepted = refl; cuts = refl; bodies = refl; unsent = refl })
+pub again_stands : (rules : Rules) (d : ℕ) (v : Outgoing) (s : Sender) (place : ℕ) → place < length v.line.in_flight → IsOutgoing rules d v s → IsOutgoing rules d (with_line (again_line place v.line) v) (after_choice (Requested (vt_a s + place)) rules d s)
+again_stands rules d v s place inside is = line_goes rules d v s (after_choice (Requested (vt_a s + place)) rules d s) (again_line place v.line) is (again_sends rules v.line s place d inside is.line).stands (resent_kept place v.line) (length-set v.line.in_flight place (built (at v.line.in_flight place))) (record { accepted = refl; cuts = refl; bodies = refl; unsent = refl })
 
-pub again_goes : (rules : Rules) (d : ℕ) (v now : Outgoing) (s : Sender) (place : ℕ) (out : List ℕ) → place < length v.line.flown → IsOutgoing rules d v s → now ≡ with_line (again_line place v.line) v → out ≡ pdu_in (number_at place v.line) (again_poll place v.line) (at v.line.flown place) v → Built rules d s out now (Requested (vt_a s + place))
+pub again_goes : (rules : Rules) (d : ℕ) (v now : Outgoing) (s : Sender) (place : ℕ) (out : List ℕ) → place < length v.line.in_flight → IsOutgoing rules d v s → now ≡ with_line (again_line place v.line) v → out ≡ pdu_in (number_at place v.line) (again_poll place v.line) (at v.line.in_flight place) v → Built rules d s out now (Requested (vt_a s + place))
 again_goes rules d v now s place out inside is e text =
     let sends = again_sends rules v.line s place d inside is.line in
-    let h : HasBody d (at v.line.flown place) (body_at s.bodies (vt_a s + place)) = is.flown place inside in
+    let h : HasBody d (at v.line.in_flight place) (body_at s.bodies (vt_a s + place)) = is.in_flight place inside in
     record {
-      text = text ∙ (pdu_is rules d v s (vt_a s + place) (number_at place v.line) (again_poll place v.line) (at v.line.flown place) is.tx_buffer (is.taken place inside) h (omega arith) (omega (arith, inside, is.line.flying))
+      text = text ∙ (pdu_is rules d v s (vt_a s + place) (number_at place v.line) (again_poll place v.line) (at v.line.in_flight place) is.tx_buffer (is.taken place inside) h (omega arith) (omega (arith, inside, is.line.flying))
           ∙ ap₂ (λ n p. am_pdu n p (marks_of d (body_at s.bodies (vt_a s + place))) (carried (body_at s.bodies (vt_a s + place))) (d + 2)) (number_is rules v.line s place (omega (arith, inside)) is.line) sends.poll);
       goes = subst (λ x. IsOutgoing rules d x (after_choice (Requested (vt_a s + place)) rules d s)) (sym e) (again_stands rules d v s place inside is);
       short = h.short;
     }
 
-pub last_stands : (rules : Rules) (d : ℕ) (v : Outgoing) (s : Sender) (place : ℕ) → place < length v.line.flown → vt_a s + place ≡ vt_s s - 1 → has (vt_a s + place) s.requested ≡ false → IsOutgoing rules d v s → IsOutgoing rules d (with_line (last_line place v.line) v) (after_choice (Latest (vt_a s + place)) rules d s)
-last_stands rules d v s place inside last none is = line_goes rules d v s (after_choice (Latest (vt_a s + place)) rules d s) (last_line place v.line) is (last_sends rules v.line s place d inside last none is.line).stands (resent_kept place v.line) (length-set v.line.flown place (built (at v.line.flown place))) (record { accepted = refl; cuts = refl; bodies = refl; unsent = refl })
+pub last_stands : (rules : Rules) (d : ℕ) (v : Outgoing) (s : Sender) (place : ℕ) → place < length v.line.in_flight → vt_a s + place ≡ vt_s s - 1 → has (vt_a s + place) s.requested ≡ false → IsOutgoing rules d v s → IsOutgoing rules d (with_line (last_line place v.line) v) (after_choice (Latest (vt_a s + place)) rules d s)
+last_stands rules d v s place inside last none is = line_goes rules d v s (after_choice (Latest (vt_a s + place)) rules d s) (last_line place v.line) is (last_sends rules v.line s place d inside last none is.line).stands (resent_kept place v.line) (length-set v.line.in_flight place (built (at v.line.in_flight place))) (record { accepted = refl; cuts = refl; bodies = refl; unsent = refl })
 
-pub last_goes : (rules : Rules) (d : ℕ) (v now : Outgoing) (s : Sender) (place : ℕ) (out : List ℕ) → place < length v.line.flown → vt_a s + place ≡ vt_s s - 1 → has (vt_a s + place) s.requested ≡ false → IsOutgoing rules d v s → now ≡ with_line (last_line place v.line) v → out ≡ pdu_in (number_at place v.line) (last_poll place v.line) (at v.line.flown place) v → Built rules d s out now (Latest (vt_a s + place))
+pub last_goes : (rules : Rules) (d : ℕ) (v now : Outgoing) (s : Sender) (place : ℕ) (out : List ℕ) → place < length v.line.in_flight → vt_a s + place ≡ vt_s s - 1 → has (vt_a s + place) s.requested ≡ false → IsOutgoing rules d v s → now ≡ with_line (last_line place v.line) v → out ≡ pdu_in (number_at place v.line) (last_poll place v.line) (at v.line.in_flight place) v → Built rules d s out now (Latest (vt_a s + place))
 last_goes rules d v now s place out inside last none is e text =
     let sends = last_sends rules v.line s place d inside last none is.line in
-    let h : HasBody d (at v.line.flown place) (body_at s.bodies (vt_a s + place)) = is.flown place inside in
+    let h : HasBody d (at v.line.in_flight place) (body_at s.bodies (vt_a s + place)) = is.in_flight place inside in
     record {
-      text = text ∙ (pdu_is rules d v s (vt_a s + place) (number_at place v.line) (last_poll place v.line) (at v.line.flown place) is.tx_buffer (is.taken place inside) h (omega arith) (omega (arith, inside, is.line.flying))
+      text = text ∙ (pdu_is rules d v s (vt_a s + place) (number_at place v.line) (last_poll place v.line) (at v.line.in_flight place) is.tx_buffer (is.taken place inside) h (omega arith) (omega (arith, inside, is.line.flying))
           ∙ ap₂ (λ n p. am_pdu n p (marks_of d (body_at s.bodies (vt_a s + place))) (carried (body_at s.bodies (vt_a s + place))) (d + 2)) (number_is rules v.line s place (omega (arith, inside)) is.line) sends.poll);
       goes = subst (λ x. IsOutgoing rules d x (after_choice (Latest (vt_a s + place)) rules d s)) (sym e) (last_stands rules d v s place inside last none is);
       short = h.short;
@@ -238,7 +238,7 @@ none_goes rules d v s some is e = omega (arith, available_is rules d v s is, no_
 
 -- a new PDU
 pub record IsFilled (d : ℕ) (v : Outgoing) (s : Sender) (f : SentPdu) (tx_buffer : TxBuffer) : Type 0 where
-  pub fresh : f ≡ next_flown v.tx_buffer
+  pub fresh : f ≡ next_in_flight v.tx_buffer
   pub has : HasBody d f (next_body d s.unsent)
   pub takes : Takes (anew d s) (vt_s s) f.extent
   pub keeps : BufferStands d tx_buffer (anew d s)
@@ -255,7 +255,7 @@ low_next rules d l s is =
     not_sent true e = absurd (omega (arith, is.acked_sent (vt_s s) e))
     not_sent false e = refl
 
-new_sent : (rules : Rules) (d : ℕ) (v : Outgoing) (s : Sender) (f : SentPdu) (tx_buffer : TxBuffer) (left : Bool) → length v.line.flown < v.line.window → IsOutgoing rules d v s → IsFilled d v s f tx_buffer → left ≡ is_left (after_body d s.unsent) → Sends rules (new_poll f left v.line) (new_line f left v.line) (anew_polls rules d s) (after_choice Fresh rules d s)
+new_sent : (rules : Rules) (d : ℕ) (v : Outgoing) (s : Sender) (f : SentPdu) (tx_buffer : TxBuffer) (left : Bool) → length v.line.in_flight < v.line.window → IsOutgoing rules d v s → IsFilled d v s f tx_buffer → left ≡ is_left (after_body d s.unsent) → Sends rules (new_poll f left v.line) (new_line f left v.line) (anew_polls rules d s) (after_choice Fresh rules d s)
 new_sent rules d v s f tx_buffer left room is filled left_e = new_sends rules v.line s f left d (omega (arith, room, is.line.window)) (record {
   acked = ap (λ (g : SentPdu). g.acked) filled.fresh;
   requested = ap (λ (g : SentPdu). g.requested) filled.fresh;
@@ -268,21 +268,21 @@ new_sent rules d v s f tx_buffer left room is filled left_e = new_sends rules v.
 record IsWith (rules : Rules) (d : ℕ) (s : Sender) (fs : List SentPdu) (f : SentPdu) (i : ℕ) : Type 0 where
   kept : IsKept d (anew d s) (vt_a s + i) (at (fs ++ f ∷ []) i)
 
-with_new : (rules : Rules) (d : ℕ) (v : Outgoing) (s : Sender) (f : SentPdu) (tx_buffer : TxBuffer) (i : ℕ) → i < length v.line.flown + 1 → IsOutgoing rules d v s → IsFilled d v s f tx_buffer → IsWith rules d s v.line.flown f i
+with_new : (rules : Rules) (d : ℕ) (v : Outgoing) (s : Sender) (f : SentPdu) (tx_buffer : TxBuffer) (i : ℕ) → i < length v.line.in_flight + 1 → IsOutgoing rules d v s → IsFilled d v s f tx_buffer → IsWith rules d s v.line.in_flight f i
 with_new rules d v s f tx_buffer i inner is filled = ⊎_elim
-    (λ (m : i < length v.line.flown).
-    let place : at (v.line.flown ++ f ∷ []) i ≡ at v.line.flown i = get_or_append_left v.line.flown (f ∷ []) blank i m in
+    (λ (m : i < length v.line.in_flight).
+    let place : at (v.line.in_flight ++ f ∷ []) i ≡ at v.line.in_flight i = get_or_append_left v.line.in_flight (f ∷ []) blank i m in
     let inside : vt_a s + i < length s.bodies = omega (arith, m, is.line.flying) in
     let body_is : body_at (s.bodies ++ next_body d s.unsent ∷ []) (vt_a s + i) ≡ body_at s.bodies (vt_a s + i) = get_or_append_left s.bodies (next_body d s.unsent ∷ []) no_body (vt_a s + i) inside in
     record {
       kept = subst (λ g. IsKept d (anew d s) (vt_a s + i) g) (sym place) (record {
-        has = subst (HasBody d (at v.line.flown i)) (sym body_is) (is.flown i m);
-        takes = takes_longer d s (vt_a s + i) (at v.line.flown i).extent inside (is.taken i m);
+        has = subst (HasBody d (at v.line.in_flight i)) (sym body_is) (is.in_flight i m);
+        takes = takes_longer d s (vt_a s + i) (at v.line.in_flight i).extent inside (is.taken i m);
       });
     })
-    (λ (m : length v.line.flown ≤ i).
-    let at_end : i ≡ length v.line.flown = omega (arith, m, inner) in
-    let place : at (v.line.flown ++ f ∷ []) i ≡ f = ap (at (v.line.flown ++ f ∷ [])) at_end ∙ get_or-append_seam v.line.flown f [] blank in
+    (λ (m : length v.line.in_flight ≤ i).
+    let at_end : i ≡ length v.line.in_flight = omega (arith, m, inner) in
+    let place : at (v.line.in_flight ++ f ∷ []) i ≡ f = ap (at (v.line.in_flight ++ f ∷ [])) at_end ∙ get_or-append_seam v.line.in_flight f [] blank in
     let number : vt_a s + i ≡ vt_s s = omega (arith, at_end, is.line.flying) in
     let body_is : body_at (s.bodies ++ next_body d s.unsent ∷ []) (vt_a s + i) ≡ next_body d s.unsent = ap (body_at (s.bodies ++ next_body d s.unsent ∷ [])) number ∙ get_or-append_seam s.bodies (next_body d s.unsent) [] no_body in
     record {
@@ -291,30 +291,30 @@ with_new rules d v s f tx_buffer i inner is filled = ⊎_elim
         takes = subst (λ k. Takes (anew d s) k f.extent) (sym number) filled.takes;
       });
     })
-    (cases_lt i (length v.line.flown))
+    (cases_lt i (length v.line.in_flight))
 
-pub new_stands : (rules : Rules) (d : ℕ) (v : Outgoing) (s : Sender) (f : SentPdu) (tx_buffer : TxBuffer) (l : RetxBuffer) (left : Bool) → length v.line.flown < v.line.window → IsOutgoing rules d v s → IsFilled d v s f tx_buffer → left ≡ is_left (after_body d s.unsent) → l ≡ new_line f left v.line → IsOutgoing rules d (record { size = v.size; line = l; tx_buffer = tx_buffer }) (after_choice Fresh rules d s)
+pub new_stands : (rules : Rules) (d : ℕ) (v : Outgoing) (s : Sender) (f : SentPdu) (tx_buffer : TxBuffer) (l : RetxBuffer) (left : Bool) → length v.line.in_flight < v.line.window → IsOutgoing rules d v s → IsFilled d v s f tx_buffer → left ≡ is_left (after_body d s.unsent) → l ≡ new_line f left v.line → IsOutgoing rules d (record { size = v.size; line = l; tx_buffer = tx_buffer }) (after_choice Fresh rules d s)
 new_stands rules d v s f tx_buffer l left room is filled left_e line_e = record {
   size = is.size;
   line = subst (λ x. LineStands rules x (after_choice Fresh rules d s)) (sym line_e) (new_sent rules d v s f tx_buffer left room is filled left_e).stands;
   tx_buffer = keeps_same d tx_buffer (anew d s) (after_choice Fresh rules d s) (record { accepted = refl; cuts = refl; bodies = refl; unsent = refl }) refl filled.keeps;
   room = ap (λ (w : TxBuffer). w.blocks) filled.after ∙ is.room;
   cut = cut_next d s.accepted s.unsent s.bodies is.cut;
-  flown = λ i inner. (kept i inner).has;
-  taken = λ i inner. takes_later (anew d s) (after_choice Fresh rules d s) (vt_a (after_choice Fresh rules d s) + i) (at l.flown i).extent (record { accepted = refl; bodies = refl; unsent = refl; low = omega arith }) (kept i inner).takes;
+  in_flight = λ i inner. (kept i inner).has;
+  taken = λ i inner. takes_later (anew d s) (after_choice Fresh rules d s) (vt_a (after_choice Fresh rules d s) + i) (at l.in_flight i).extent (record { accepted = refl; bodies = refl; unsent = refl; low = omega arith }) (kept i inner).takes;
 }
   where
     low : vt_a (anew d s) ≡ vt_a s
     low = low_next rules d v.line s is.line
 
-    flown_line : l.flown ≡ v.line.flown ++ f ∷ []
-    flown_line = ap (λ (x : RetxBuffer). x.flown) line_e
+    in_flight_line : l.in_flight ≡ v.line.in_flight ++ f ∷ []
+    in_flight_line = ap (λ (x : RetxBuffer). x.in_flight) line_e
 
-    kept : (i : ℕ) → i < length l.flown → IsKept d (anew d s) (vt_a (anew d s) + i) (at l.flown i)
+    kept : (i : ℕ) → i < length l.in_flight → IsKept d (anew d s) (vt_a (anew d s) + i) (at l.in_flight i)
     kept i inner =
-        let less : i < length v.line.flown + 1 = omega (arith, inner, ap (λ (fs : List SentPdu). length fs) flown_line, length-append v.line.flown (f ∷ [])) in
-        subst (λ fs. IsKept d (anew d s) (vt_a (anew d s) + i) (at fs i)) (sym flown_line)
-        (subst (λ a. IsKept d (anew d s) (a + i) (at (v.line.flown ++ f ∷ []) i)) (sym low) (with_new rules d v s f tx_buffer i less is filled).kept)
+        let less : i < length v.line.in_flight + 1 = omega (arith, inner, ap (λ (fs : List SentPdu). length fs) in_flight_line, length-append v.line.in_flight (f ∷ [])) in
+        subst (λ fs. IsKept d (anew d s) (vt_a (anew d s) + i) (at fs i)) (sym in_flight_line)
+        (subst (λ a. IsKept d (anew d s) (a + i) (at (v.line.in_flight ++ f ∷ []) i)) (sym low) (with_new rules d v s f tx_buffer i less is filled).kept)
 
 -- its octets are in the buffer
 new_whole : (rules : Rules) (d : ℕ) (v : Outgoing) (s : Sender) (f : SentPdu) (tx_buffer : TxBuffer) → IsOutgoing rules d v s → IsFilled d v s f tx_buffer → IsWhole tx_buffer f (next_body d s.unsent)
@@ -327,9 +327,9 @@ new_whole rules d v s f tx_buffer is filled =
 pub new_here : (rules : Rules) (d : ℕ) (v : Outgoing) (s : Sender) (f : SentPdu) (tx_buffer : TxBuffer) → IsOutgoing rules d v s → IsFilled d v s f tx_buffer → IsHere tx_buffer f
 new_here rules d v s f tx_buffer is filled = (new_whole rules d v s f tx_buffer is filled).here
 
-pub new_goes : (rules : Rules) (d : ℕ) (v : Outgoing) (s : Sender) (f : SentPdu) (tx_buffer : TxBuffer) (l : RetxBuffer) (left poll : Bool) (number : ℕ) (out : List ℕ) → length v.line.flown < v.line.window → IsOutgoing rules d v s → IsFilled d v s f tx_buffer → number ≡ number_at (length v.line.flown) v.line → left ≡ is_left (after_body d s.unsent) → poll ≡ new_poll f left v.line → l ≡ new_line f left v.line → out ≡ pdu_in number poll f (record { size = v.size; line = l; tx_buffer = tx_buffer }) → Built rules d s out (record { size = v.size; line = l; tx_buffer = tx_buffer }) Fresh
+pub new_goes : (rules : Rules) (d : ℕ) (v : Outgoing) (s : Sender) (f : SentPdu) (tx_buffer : TxBuffer) (l : RetxBuffer) (left poll : Bool) (number : ℕ) (out : List ℕ) → length v.line.in_flight < v.line.window → IsOutgoing rules d v s → IsFilled d v s f tx_buffer → number ≡ number_at (length v.line.in_flight) v.line → left ≡ is_left (after_body d s.unsent) → poll ≡ new_poll f left v.line → l ≡ new_line f left v.line → out ≡ pdu_in number poll f (record { size = v.size; line = l; tx_buffer = tx_buffer }) → Built rules d s out (record { size = v.size; line = l; tx_buffer = tx_buffer }) Fresh
 new_goes rules d v s f tx_buffer l left poll number out room is filled number_e left_e poll_e line_e text =
-    let number_is_next : number ≡ wrapped (vt_s s) = number_e ∙ (number_is rules v.line s (length v.line.flown) (omega arith) is.line ∙ ap wrapped is.line.flying) in
+    let number_is_next : number ≡ wrapped (vt_s s) = number_e ∙ (number_is rules v.line s (length v.line.in_flight) (omega arith) is.line ∙ ap wrapped is.line.flying) in
     let whole : pdu_in number poll f (record { size = v.size; line = l; tx_buffer = tx_buffer }) ≡ am_pdu number poll (marks_of d (next_body d s.unsent)) (carried (next_body d s.unsent)) (d + 2) =
     ap₂ (λ n b. am_pdu number poll (marks_of n b) (carried b) tx_buffer.size) (octets_is d tx_buffer (anew d s) filled.keeps) (new_whole rules d v s f tx_buffer is filled).body
     ∙ ap (am_pdu number poll (marks_of d (next_body d s.unsent)) (carried (next_body d s.unsent))) filled.keeps.size in
@@ -350,13 +350,13 @@ line_unit rules l s unit is = record {
   few = is.few;
   flying = is.flying;
   next = is.next;
-  flown = λ i less. let f : IsFlown s (vt_a s + i) (at l.flown i) = is.flown i less in record { acked = f.acked; requested = f.requested; named = f.named; builds = f.builds };
+  in_flight = λ i less. let f : IsInFlight s (vt_a s + i) (at l.in_flight i) = is.in_flight i less in record { acked = f.acked; requested = f.requested; named = f.named; builds = f.builds };
   acked_sent = is.acked_sent;
   requested = λ k e. let w : IsRequested s k = is.requested k e in record { from = w.from; sent = w.sent; is_open = w.is_open; high = w.high };
   unsent = is.unsent;
-  timer = is.timer;
+  poll_timer = is.poll_timer;
   owed = is.owed;
-  polled = λ out. let p : IsPolled s l.polled (length l.flown) = is.polled out in record { number = p.number; inside = p.inside };
+  polled = λ out. let p : IsPolled s l.polled (length l.in_flight) = is.polled out in record { number = p.number; inside = p.inside };
   running = is.running;
 }
 
@@ -372,8 +372,8 @@ unit_goes rules d v s unit tx_buffer is offered_e waiting_e keeps = record {
   tx_buffer = keeps;
   room = ap (λ (w : TxBuffer). w.blocks) waiting_e ∙ is.room;
   cut = cut_unit s.accepted s.unsent s.bodies unit (unit_full rules s unit offered_e) is.cut;
-  flown = λ i inside. is.flown i inside;
-  taken = λ i inside. takes_more s (vt_a s + i) (at v.line.flown i).extent unit (is.taken i inside);
+  in_flight = λ i inside. is.in_flight i inside;
+  taken = λ i inside. takes_more s (vt_a s + i) (at v.line.in_flight i).extent unit (is.taken i inside);
 }
 
 pub offer_goes : (rules : Rules) (d : ℕ) (v : Outgoing) (s : Sender) (unit : List ℕ) (answer : Offer) (tx_buffer : TxBuffer) → IsOutgoing rules d v s → answer ≡ offered rules s unit → tx_buffer ≡ buffer_after_offer answer unit v.tx_buffer → BufferStands d tx_buffer (after_offer answer s unit) → IsOutgoing rules d (record { size = v.size; line = v.line; tx_buffer = tx_buffer }) (after_offer answer s unit)
@@ -382,44 +382,44 @@ offer_goes rules d v s unit Full tx_buffer is e waiting_e keeps = subst (λ w. I
 offer_goes rules d v s unit WrongSize tx_buffer is e waiting_e keeps = subst (λ w. IsOutgoing rules d (record { size = v.size; line = v.line; tx_buffer = w }) s) (sym waiting_e) is
 
 -- what a pick says of the line
-pub picked_again : (left : Bool) (l : RetxBuffer) (place : ℕ) → Again place ≡ picked left l → place < length l.flown
-picked_again left l place e = go (nat_lt (first_requested l.flown) (length l.flown)) (nat_lt (length l.flown) l.window && left) (l.owed && nat_lt 0 (length l.flown)) refl e
+pub picked_again : (left : Bool) (l : RetxBuffer) (place : ℕ) → Again place ≡ picked left l → place < length l.in_flight
+picked_again left l place e = go (nat_lt (first_requested l.in_flight) (length l.in_flight)) (nat_lt (length l.in_flight) l.window && left) (l.owed && nat_lt 0 (length l.in_flight)) refl e
   where
-    go : (a b c : Bool) → nat_lt (first_requested l.flown) (length l.flown) ≡ a → Again place ≡ cond a (Again (first_requested l.flown)) (cond b New (cond c (Last (length l.flown - 1)) NoPdu)) → place < length l.flown
-    go true b c t q = let same : place ≡ first_requested l.flown = cc in omega (arith, ltb-true _ _ t, same)
+    go : (a b c : Bool) → nat_lt (first_requested l.in_flight) (length l.in_flight) ≡ a → Again place ≡ cond a (Again (first_requested l.in_flight)) (cond b New (cond c (Last (length l.in_flight - 1)) NoPdu)) → place < length l.in_flight
+    go true b c t q = let same : place ≡ first_requested l.in_flight = cc in omega (arith, ltb-true _ _ t, same)
     go false true c t q = absurd (cc)
     go false false true t q = absurd (cc)
     go false false false t q = absurd (cc)
 
 pub picked_last : (left : Bool) (l : RetxBuffer) (place : ℕ) → Last place ≡ picked left l → IsLast l place
-picked_last left l place e = go (nat_lt (first_requested l.flown) (length l.flown)) (nat_lt (length l.flown) l.window && left) (l.owed && nat_lt 0 (length l.flown)) refl refl e
+picked_last left l place e = go (nat_lt (first_requested l.in_flight) (length l.in_flight)) (nat_lt (length l.in_flight) l.window && left) (l.owed && nat_lt 0 (length l.in_flight)) refl refl e
   where
-    go : (a b c : Bool) → nat_lt (first_requested l.flown) (length l.flown) ≡ a → (l.owed && nat_lt 0 (length l.flown)) ≡ c → Last place ≡ cond a (Again (first_requested l.flown)) (cond b New (cond c (Last (length l.flown - 1)) NoPdu)) → IsLast l place
+    go : (a b c : Bool) → nat_lt (first_requested l.in_flight) (length l.in_flight) ≡ a → (l.owed && nat_lt 0 (length l.in_flight)) ≡ c → Last place ≡ cond a (Again (first_requested l.in_flight)) (cond b New (cond c (Last (length l.in_flight - 1)) NoPdu)) → IsLast l place
     go true b c t u q = absurd (cc)
     go false true c t u q = absurd (cc)
     go false false true t u q = record { some = ltb-true _ _ (and_parts _ _ u).1; none = ltb-false _ _ t; place_is = cc }
     go false false false t u q = absurd (cc)
 
 -- the sender begins anew
-pub restart_goes : (rules : Rules) (d : ℕ) (v : Outgoing) (s : Sender) (l : RetxBuffer) (tx_buffer : TxBuffer) → length l.flown ≡ 0 → tx_buffer.blocks ≡ v.tx_buffer.blocks → IsOutgoing rules d v s → LineStands rules l (restarted_sender s) → BufferStands d tx_buffer (restarted_sender s) → IsOutgoing rules d (record { size = v.size; line = l; tx_buffer = tx_buffer }) (restarted_sender s)
+pub restart_goes : (rules : Rules) (d : ℕ) (v : Outgoing) (s : Sender) (l : RetxBuffer) (tx_buffer : TxBuffer) → length l.in_flight ≡ 0 → tx_buffer.blocks ≡ v.tx_buffer.blocks → IsOutgoing rules d v s → LineStands rules l (restarted_sender s) → BufferStands d tx_buffer (restarted_sender s) → IsOutgoing rules d (record { size = v.size; line = l; tx_buffer = tx_buffer }) (restarted_sender s)
 restart_goes rules d v s l tx_buffer none room is stands keeps = record {
   size = is.size;
   line = stands;
   tx_buffer = keeps;
   room = room ∙ is.room;
   cut = cut_fresh (restarted_sender s).accepted (full_drop (begun s) s.accepted (cut_full s.accepted s.unsent s.bodies is.cut));
-  flown = λ i less. absurd (omega (arith, less, none));
+  in_flight = λ i less. absurd (omega (arith, less, none));
   taken = λ i less. absurd (omega (arith, less, none));
 }
 
 -- a tick of the timers, and an MRW that is written
-pub tick_goes : (rules : Rules) (d : ℕ) (v : Outgoing) (s : Sender) (l : RetxBuffer) → l.flown ≡ v.line.flown → IsOutgoing rules d v s → LineStands rules l (timed s) → IsOutgoing rules d (with_line l v) (timed s)
-tick_goes rules d v s l e is stands = line_goes rules d v s (timed s) l is stands (subst (λ fs. AreKept v.line.flown fs) (sym e) (kept_all v.line.flown)) (ap (λ (fs : List SentPdu). length fs) e) (record { accepted = refl; cuts = refl; bodies = refl; unsent = refl })
+pub tick_goes : (rules : Rules) (d : ℕ) (v : Outgoing) (s : Sender) (l : RetxBuffer) → l.in_flight ≡ v.line.in_flight → IsOutgoing rules d v s → LineStands rules l (timed s) → IsOutgoing rules d (with_line l v) (timed s)
+tick_goes rules d v s l e is stands = line_goes rules d v s (timed s) l is stands (subst (λ fs. AreKept v.line.in_flight fs) (sym e) (kept_all v.line.in_flight)) (ap (λ (fs : List SentPdu). length fs) e) (record { accepted = refl; cuts = refl; bodies = refl; unsent = refl })
 
-pub mrw_goes : (rules : Rules) (d : ℕ) (v : Outgoing) (s : Sender) (x : Discard) (l : RetxBuffer) → l.flown ≡ v.line.flown → IsOutgoing rules d v s → LineStands rules l (after_mrw rules s x) → IsOutgoing rules d (with_line l v) (after_mrw rules s x)
-mrw_goes rules d v s x l e is stands = line_goes rules d v s (after_mrw rules s x) l is stands (subst (λ fs. AreKept v.line.flown fs) (sym e) (kept_all v.line.flown)) (ap (λ (fs : List SentPdu). length fs) e) (record { accepted = refl; cuts = refl; bodies = refl; unsent = refl })
+pub mrw_goes : (rules : Rules) (d : ℕ) (v : Outgoing) (s : Sender) (x : Discard) (l : RetxBuffer) → l.in_flight ≡ v.line.in_flight → IsOutgoing rules d v s → LineStands rules l (after_mrw rules s x) → IsOutgoing rules d (with_line l v) (after_mrw rules s x)
+mrw_goes rules d v s x l e is stands = line_goes rules d v s (after_mrw rules s x) l is stands (subst (λ fs. AreKept v.line.in_flight fs) (sym e) (kept_all v.line.in_flight)) (ap (λ (fs : List SentPdu). length fs) e) (record { accepted = refl; cuts = refl; bodies = refl; unsent = refl })
 
-pub mrw_runs : (rules : Rules) (d : ℕ) (v : Outgoing) (s : Sender) (l : RetxBuffer) → mrw_due s.discard ≡ true → l.flown ≡ v.line.flown → IsOutgoing rules d v s → ((x : Discard) → s.discard ≡ Some x → LineStands rules l (after_mrw rules s x)) → IsOutgoing rules d (with_line l v) (after_moving rules s s.discard)
+pub mrw_runs : (rules : Rules) (d : ℕ) (v : Outgoing) (s : Sender) (l : RetxBuffer) → mrw_due s.discard ≡ true → l.in_flight ≡ v.line.in_flight → IsOutgoing rules d v s → ((x : Discard) → s.discard ≡ Some x → LineStands rules l (after_mrw rules s x)) → IsOutgoing rules d (with_line l v) (after_moving rules s s.discard)
 mrw_runs rules d v s l due e is stands = go s.discard refl due
   where
     go : (x : Option Discard) → s.discard ≡ x → mrw_due x ≡ true → IsOutgoing rules d (with_line l v) (after_moving rules s x)

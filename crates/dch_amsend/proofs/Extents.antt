@@ -20,7 +20,7 @@ use Rattle.dch_retx.specs.declared.sent_pdu.Extent.{Extent}
 use Rattle.dch_retx.specs.declared.sent_pdu.SentPdu.{SentPdu}
 use Rattle.dch_amsend.specs.BufferStanding.{HasBody, BufferStands, Takes, first_in, start_of}
 use Rattle.dch_amsend.specs.DiscardStanding.{released}
-use Rattle.dch_amsend.specs.TxBuffer.{TxBuffer, buffer_after_build, cut_next, ended_before, next_extent, next_flown, released_by, taken_by, unsent_of}
+use Rattle.dch_amsend.specs.TxBuffer.{TxBuffer, buffer_after_build, cut_next, ended_before, next_extent, next_in_flight, released_by, taken_by, unsent_of}
 use Rattle.dch_amsend.proofs.Fills.{unsent_next}
 use Rattle.dch_amsend.proofs.Placing.{ends_most, ends_rise, left_same, place_is, start_same}
 
@@ -61,7 +61,7 @@ next_ends d w s keeps =
     let n : length (take (cut_next w).pieces (left_at w.start w.sdus)) ≡ (cut_next w).pieces = length-take-le (cut_next w).pieces (left_at w.start w.sdus) is.there.pieces in
     ap (λ k. cond w.owed 1 0 + k) (sym n) ∙ ap ends_of is.body
 
-pub next_has : (d : ℕ) (w : TxBuffer) (s : Sender) → BufferStands d w s → IsCut s.accepted s.unsent s.bodies → HasBody d (next_flown w) (next_body d s.unsent)
+pub next_has : (d : ℕ) (w : TxBuffer) (s : Sender) → BufferStands d w s → IsCut s.accepted s.unsent s.bodies → HasBody d (next_in_flight w) (next_body d s.unsent)
 next_has d w s keeps cut =
     let is = next_is d w s keeps in
     let n : length (take (cut_next w).rest (first_of (drop (cut_next w).pieces (left_at w.start w.sdus)))) ≡ (cut_next w).rest = length-take-le (cut_next w).rest (first_of (drop (cut_next w).pieces (left_at w.start w.sdus))) is.there.rest in

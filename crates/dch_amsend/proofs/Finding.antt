@@ -17,7 +17,7 @@ use Rattle.dch_am.proofs.Reading.{cut_few, ends_split}
 use Rattle.dch_amsend.specs.SduDiscard.{SduDiscard, age_at}
 use Rattle.dch_amsend.specs.DiscardStanding.{DiscardStands, released}
 use Rattle.dch_retx.specs.RetxBuffer.{RetxBuffer}
-use Rattle.dch_retx.specs.Standing.{IsFlown, Stands as LineStands}
+use Rattle.dch_retx.specs.Standing.{IsInFlight, Stands as LineStands}
 use Rattle.dch_amsend.specs.BufferStanding.{HasBody}
 use Rattle.dch_amsend.specs.declared.scan.Overdue.{Overdue}
 use Rattle.dch_amsend.specs.declared.scan.Scan.{Scan}
@@ -95,15 +95,15 @@ pdu_is buffer rules h s k place f scan units is pdu =
     }
 
 -- the PDUs from one on
-pdus_are : (buffer : ℕ) (rules : AmRules) (h : SduDiscard) (s : Sender) (flown : List SentPdu) (k place : ℕ) (scan : Scan) → AreUnits buffer rules h s → IsAt buffer rules s k place scan → k + length flown ≡ length s.bodies → ((i : ℕ) → i < length flown → IsPdu rules s (k + i) (at flown i)) → discards (rules_of buffer rules) s (ends s.bodies) ≡ discarded_by (after_pdus rules h place flown scan).found s
+pdus_are : (buffer : ℕ) (rules : AmRules) (h : SduDiscard) (s : Sender) (in_flight : List SentPdu) (k place : ℕ) (scan : Scan) → AreUnits buffer rules h s → IsAt buffer rules s k place scan → k + length in_flight ≡ length s.bodies → ((i : ℕ) → i < length in_flight → IsPdu rules s (k + i) (at in_flight i)) → discards (rules_of buffer rules) s (ends s.bodies) ≡ discarded_by (after_pdus rules h place in_flight scan).found s
 pdus_are buffer rules h s [] k place scan units is long all =
     let all_of : k ≡ length s.bodies = omega (arith, long) in
     let same : ends s.bodies ≡ ends (take k s.bodies) = sym (ap (λ n. ends (take n s.bodies)) all_of ∙ ap ends (take-length s.bodies)) in
     ap (discards (rules_of buffer rules) s) same ∙ is.found
-pdus_are buffer rules h s (f ∷ flown) k place scan units is long all =
+pdus_are buffer rules h s (f ∷ in_flight) k place scan units is long all =
     let none : k + 0 ≡ k = omega arith in
     let pdu : IsPdu rules s k f = subst (λ n. IsPdu rules s n f) none (all 0 (omega arith)) in
-    pdus_are buffer rules h s flown (k + 1) (place + 1) (after_pdu rules h place f scan) units (pdu_is buffer rules h s k place f scan units is pdu) (omega (arith, long)) (λ i l. let e : k + suc i ≡ (k + 1) + i = omega arith in subst (λ n. IsPdu rules s n (at flown i)) e (all (suc i) (omega arith)))
+    pdus_are buffer rules h s in_flight (k + 1) (place + 1) (after_pdu rules h place f scan) units (pdu_is buffer rules h s k place f scan units is pdu) (omega (arith, long)) (λ i l. let e : k + suc i ≡ (k + 1) + i = omega arith in subst (λ n. IsPdu rules s n (at in_flight i)) e (all (suc i) (omega arith)))
 
 -- units of PDUs that are acknowledged aren't discarded
 low_is : (rules : Rules) (s : Sender) (i : ℕ) (p : Option (ℕ × ℕ)) → IfSome p (λ q. q.0 < 0 + vt_a s) → can_take rules s i p ≡ false
@@ -151,7 +151,7 @@ units_hold buffer rules h s small is cut = record {
         go false e = refl
 
 -- what is kept of a PDU stands for it so
-pdu_holds : (rules : AmRules) (s : Sender) (d k : ℕ) (f : SentPdu) → rules.discard_sent ≤ 255 → k < length s.bodies → IsFlown s k f → HasBody d f (body_at s.bodies k) → IsPdu rules s k f
+pdu_holds : (rules : AmRules) (s : Sender) (d k : ℕ) (f : SentPdu) → rules.discard_sent ≤ 255 → k < length s.bodies → IsInFlight s k f → HasBody d f (body_at s.bodies k) → IsPdu rules s k f
 pdu_holds rules s d k f small inside is has = record {
   requested = is.requested;
   enough = ap (nat_le rules.discard_sent) is.builds ∙ saturated rules.discard_sent 255 (count k s.sendings) small;
@@ -162,10 +162,10 @@ pdu_holds rules s d k f small inside is has = record {
 }
 
 -- after all PDUs, and with the units that end in none
-pub overdue_is : (buffer d : ℕ) (rules : AmRules) (l : RetxBuffer) (h : SduDiscard) (s : Sender) → rules.discard_age ≤ 65535 → rules.discard_sent ≤ 255 → LineStands (rules_of buffer rules) l s → DiscardStands (rules_of buffer rules) h s → IsCut s.accepted s.unsent s.bodies → ((i : ℕ) → i < length l.flown → HasBody d (at l.flown i) (body_at s.bodies (vt_a s + i))) → discards (rules_of buffer rules) s (length s.accepted) ≡ discarded_by (overdue rules h l.flown) s
+pub overdue_is : (buffer d : ℕ) (rules : AmRules) (l : RetxBuffer) (h : SduDiscard) (s : Sender) → rules.discard_age ≤ 65535 → rules.discard_sent ≤ 255 → LineStands (rules_of buffer rules) l s → DiscardStands (rules_of buffer rules) h s → IsCut s.accepted s.unsent s.bodies → ((i : ℕ) → i < length l.in_flight → HasBody d (at l.in_flight i) (body_at s.bodies (vt_a s + i))) → discards (rules_of buffer rules) s (length s.accepted) ≡ discarded_by (overdue rules h l.in_flight) s
 overdue_is buffer d rules l h s age sent stands holds cut has =
     discards-past (rules_of buffer rules) s (length s.accepted) (cut_few s.accepted s.unsent s.bodies cut)
-    ∙ pdus_are buffer rules h s l.flown (vt_a s) 0 no_scan (units_hold buffer rules h s age holds cut) begins stands.flying (λ i less. pdu_holds rules s d (vt_a s + i) (at l.flown i) sent (omega (arith, stands.flying)) (stands.flown i less) (has i less))
+    ∙ pdus_are buffer rules h s l.in_flight (vt_a s) 0 no_scan (units_hold buffer rules h s age holds cut) begins stands.flying (λ i less. pdu_holds rules s d (vt_a s + i) (at l.in_flight i) sent (omega (arith, stands.flying)) (stands.in_flight i less) (has i less))
   where
     begins : IsAt buffer rules s (vt_a s) 0 no_scan
     begins = record {

@@ -52,21 +52,21 @@ none_last rules h place f scan (suc j) often begun young =
 
 -- none is requested often enough
 abbrev pub none_often : AmRules → List SentPdu → Bool
-none_often rules flown = nat_lt 0 rules.discard_sent && nat_lt 0 (requested_in flown)
+none_often rules in_flight = nat_lt 0 rules.discard_sent && nat_lt 0 (requested_in in_flight)
 
-pub none_left : (rules : AmRules) (flown : List SentPdu) → requested_in flown ≡ 0 → none_often rules flown ≡ false
-none_left rules flown e = ap (λ n. nat_lt 0 rules.discard_sent && nat_lt 0 n) e ∙ off (nat_lt 0 rules.discard_sent)
+pub none_left : (rules : AmRules) (in_flight : List SentPdu) → requested_in in_flight ≡ 0 → none_often rules in_flight ≡ false
+none_left rules in_flight e = ap (λ n. nat_lt 0 rules.discard_sent && nat_lt 0 n) e ∙ off (nat_lt 0 rules.discard_sent)
   where
     off : (b : Bool) → (b && false) ≡ false
     off true = refl
     off false = refl
 
-none_first : (rules : AmRules) (f : SentPdu) (flown : List SentPdu) → none_often rules (f ∷ flown) ≡ false → (is_often rules f ≡ false) × (none_often rules flown ≡ false)
-none_first rules f flown e = go (nat_lt 0 rules.discard_sent) f.requested e
+none_first : (rules : AmRules) (f : SentPdu) (in_flight : List SentPdu) → none_often rules (f ∷ in_flight) ≡ false → (is_often rules f ≡ false) × (none_often rules in_flight ≡ false)
+none_first rules f in_flight e = go (nat_lt 0 rules.discard_sent) f.requested e
   where
-    go : (b r : Bool) → (b && nat_lt 0 (cond r (suc (requested_in flown)) (requested_in flown))) ≡ false → ((b && r && nat_le rules.discard_sent f.builds) ≡ false) × ((b && nat_lt 0 (requested_in flown)) ≡ false)
+    go : (b r : Bool) → (b && nat_lt 0 (cond r (suc (requested_in in_flight)) (requested_in in_flight))) ≡ false → ((b && r && nat_le rules.discard_sent f.builds) ≡ false) × ((b && nat_lt 0 (requested_in in_flight)) ≡ false)
     go false r e = (refl, refl)
-    go true true e = absurd (both_ways (nat_lt 0 (suc (requested_in flown))) e (lt-ltb 0 (suc (requested_in flown)) (omega arith)))
+    go true true e = absurd (both_ways (nat_lt 0 (suc (requested_in in_flight))) e (lt-ltb 0 (suc (requested_in in_flight)) (omega arith)))
     go true false e = (refl, e)
 
 none_begun : (rules : AmRules) (f : SentPdu) (scan : Scan) → is_often rules f ≡ false → scan.begun ≡ false → ((is_often rules f && (continues_in f)) || (((ends_in f) == 0) && scan.begun)) ≡ false
@@ -76,14 +76,14 @@ none_begun rules f scan often begun = ap₂ (λ o c. (o && (continues_in f)) || 
     last true = refl
     last false = refl
 
-pub none_more : (rules : AmRules) (h : SduDiscard) (place : ℕ) (flown : List SentPdu) (scan : Scan) → none_often rules flown ≡ false → scan.begun ≡ false → NoneOld rules h → (after_pdus rules h place flown scan).found ≡ scan.found
+pub none_more : (rules : AmRules) (h : SduDiscard) (place : ℕ) (in_flight : List SentPdu) (scan : Scan) → none_often rules in_flight ≡ false → scan.begun ≡ false → NoneOld rules h → (after_pdus rules h place in_flight scan).found ≡ scan.found
 none_more rules h place [] scan often begun young = refl
-none_more rules h place (f ∷ flown) scan often begun young =
-    let parts = none_first rules f flown often in
-    none_more rules h (place + 1) flown (after_pdu rules h place f scan) parts.1 (none_begun rules f scan parts.0 begun) young ∙ none_last rules h place f scan (ends_in f) parts.0 begun young
+none_more rules h place (f ∷ in_flight) scan often begun young =
+    let parts = none_first rules f in_flight often in
+    none_more rules h (place + 1) in_flight (after_pdu rules h place f scan) parts.1 (none_begun rules f scan parts.0 begun) young ∙ none_last rules h place f scan (ends_in f) parts.0 begun young
 
-pub none_found : (rules : AmRules) (h : SduDiscard) (flown : List SentPdu) → none_often rules flown ≡ false → NoneOld rules h → overdue rules h flown ≡ None
-none_found rules h flown often young = none_more rules h 0 flown no_scan often refl young
+pub none_found : (rules : AmRules) (h : SduDiscard) (in_flight : List SentPdu) → none_often rules in_flight ≡ false → NoneOld rules h → overdue rules h in_flight ≡ None
+none_found rules h in_flight often young = none_more rules h 0 in_flight no_scan often refl young
 
 -- where all units that end in a PDU are discarded, none is found
 behind_none : (rules : AmRules) (h : SduDiscard) (place : ℕ) (f : SentPdu) (scan : Scan) (n : ℕ) → scan.unit + n ≤ h.passed → last_in rules h place f scan n ≡ scan.found
@@ -96,82 +96,82 @@ behind_none rules h place f scan (suc j) l =
     off true c = refl
     off false c = refl
 
-passed_more : (rules : AmRules) (h : SduDiscard) (place : ℕ) (flown : List SentPdu) (scan : Scan) → scan.unit + ends_below (length flown) flown ≤ h.passed → (after_pdus rules h place flown scan).found ≡ scan.found
+passed_more : (rules : AmRules) (h : SduDiscard) (place : ℕ) (in_flight : List SentPdu) (scan : Scan) → scan.unit + ends_below (length in_flight) in_flight ≤ h.passed → (after_pdus rules h place in_flight scan).found ≡ scan.found
 passed_more rules h place [] scan l = refl
-passed_more rules h place (f ∷ flown) scan l = passed_more rules h (place + 1) flown (after_pdu rules h place f scan) (omega (arith, l)) ∙ behind_none rules h place f scan (ends_in f) (omega (arith, l))
+passed_more rules h place (f ∷ in_flight) scan l = passed_more rules h (place + 1) in_flight (after_pdu rules h place f scan) (omega (arith, l)) ∙ behind_none rules h place f scan (ends_in f) (omega (arith, l))
 
-pub passed_all : (rules : AmRules) (h : SduDiscard) (flown : List SentPdu) → ends_below (length flown) flown ≤ h.passed → overdue rules h flown ≡ None
-passed_all rules h flown l = passed_more rules h 0 flown no_scan (omega (arith, l))
+pub passed_all : (rules : AmRules) (h : SduDiscard) (in_flight : List SentPdu) → ends_below (length in_flight) in_flight ≤ h.passed → overdue rules h in_flight ≡ None
+passed_all rules h in_flight l = passed_more rules h 0 in_flight no_scan (omega (arith, l))
 
 -- so the pass may begin with the first that is requested
 abbrev pub BeginsAt : AmRules → SduDiscard → ℕ → List SentPdu → Scan → ℕ → Type 0
-BeginsAt rules h place flown scan n = (after_pdus rules h place flown scan).found ≡ (after_pdus rules h (place + n) (drop n flown) (record { unit = scan.unit + ends_below n flown; begun = false; found = scan.found })).found
+BeginsAt rules h place in_flight scan n = (after_pdus rules h place in_flight scan).found ≡ (after_pdus rules h (place + n) (drop n in_flight) (record { unit = scan.unit + ends_below n in_flight; begun = false; found = scan.found })).found
 
-from_place : (rules : AmRules) (h : SduDiscard) (flown : List SentPdu) (p q u v : ℕ) (a b : Option Overdue) → p ≡ q → u ≡ v → a ≡ b → (after_pdus rules h p flown (record { unit = u; begun = false; found = a })).found ≡ (after_pdus rules h q flown (record { unit = v; begun = false; found = b })).found
-from_place rules h flown p q u v a b e f g =
-    ap (λ k. (after_pdus rules h k flown (record { unit = u; begun = false; found = a })).found) e
-    ∙ ap₂ (λ n o. (after_pdus rules h q flown (record { unit = n; begun = false; found = o })).found) f g
+from_place : (rules : AmRules) (h : SduDiscard) (in_flight : List SentPdu) (p q u v : ℕ) (a b : Option Overdue) → p ≡ q → u ≡ v → a ≡ b → (after_pdus rules h p in_flight (record { unit = u; begun = false; found = a })).found ≡ (after_pdus rules h q in_flight (record { unit = v; begun = false; found = b })).found
+from_place rules h in_flight p q u v a b e f g =
+    ap (λ k. (after_pdus rules h k in_flight (record { unit = u; begun = false; found = a })).found) e
+    ∙ ap₂ (λ n o. (after_pdus rules h q in_flight (record { unit = n; begun = false; found = o })).found) f g
 
-begins : (rules : AmRules) (h : SduDiscard) (n place : ℕ) (flown : List SentPdu) (scan : Scan) → n ≤ first_requested flown → scan.begun ≡ false → NoneOld rules h → BeginsAt rules h place flown scan n
-begins rules h zero place flown scan l begun young =
-    ap (λ b. (after_pdus rules h place flown (record { unit = scan.unit; begun = b; found = scan.found })).found) begun
-    ∙ from_place rules h flown place (place + 0) scan.unit (scan.unit + 0) scan.found scan.found (omega arith) (omega arith) refl
+begins : (rules : AmRules) (h : SduDiscard) (n place : ℕ) (in_flight : List SentPdu) (scan : Scan) → n ≤ first_requested in_flight → scan.begun ≡ false → NoneOld rules h → BeginsAt rules h place in_flight scan n
+begins rules h zero place in_flight scan l begun young =
+    ap (λ b. (after_pdus rules h place in_flight (record { unit = scan.unit; begun = b; found = scan.found })).found) begun
+    ∙ from_place rules h in_flight place (place + 0) scan.unit (scan.unit + 0) scan.found scan.found (omega arith) (omega arith) refl
 begins rules h (suc n) place [] scan l begun young = absurd (omega (arith, l))
-begins rules h (suc n) place (f ∷ flown) scan l begun young = go f.requested refl l (λ m often. begins rules h n (place + 1) flown (after_pdu rules h place f scan) m (none_begun rules f scan often begun) young)
+begins rules h (suc n) place (f ∷ in_flight) scan l begun young = go f.requested refl l (λ m often. begins rules h n (place + 1) in_flight (after_pdu rules h place f scan) m (none_begun rules f scan often begun) young)
   where
     off : (a c : Bool) → (a && false && c) ≡ false
     off true c = refl
     off false c = refl
 
-    go : (b : Bool) → f.requested ≡ b → suc n ≤ cond b 0 (suc (first_requested flown)) → (n ≤ first_requested flown → is_often rules f ≡ false → BeginsAt rules h (place + 1) flown (after_pdu rules h place f scan) n) → BeginsAt rules h place (f ∷ flown) scan (suc n)
+    go : (b : Bool) → f.requested ≡ b → suc n ≤ cond b 0 (suc (first_requested in_flight)) → (n ≤ first_requested in_flight → is_often rules f ≡ false → BeginsAt rules h (place + 1) in_flight (after_pdu rules h place f scan) n) → BeginsAt rules h place (f ∷ in_flight) scan (suc n)
     go true e m rest = absurd (omega (arith, m))
     go false e m rest =
         let often : is_often rules f ≡ false = ap (λ b. nat_lt 0 rules.discard_sent && b && nat_le rules.discard_sent f.builds) e ∙ off (nat_lt 0 rules.discard_sent) (nat_le rules.discard_sent f.builds) in
         rest (omega (arith, m)) often
-        ∙ from_place rules h (drop n flown) (place + 1 + n) (place + suc n) (scan.unit + ends_in f + ends_below n flown) (scan.unit + (ends_in f + ends_below n flown)) (last_in rules h place f scan (ends_in f)) scan.found (omega arith) (omega arith) (none_last rules h place f scan (ends_in f) often begun young)
+        ∙ from_place rules h (drop n in_flight) (place + 1 + n) (place + suc n) (scan.unit + ends_in f + ends_below n in_flight) (scan.unit + (ends_in f + ends_below n in_flight)) (last_in rules h place f scan (ends_in f)) scan.found (omega arith) (omega arith) (none_last rules h place f scan (ends_in f) often begun young)
 
-pub begins_first : (rules : AmRules) (h : SduDiscard) (flown : List SentPdu) (unit : ℕ) → unit ≡ ends_below (first_requested flown) flown → NoneOld rules h → (after_pdus rules h (first_requested flown) (drop (first_requested flown) flown) (record { unit = unit; begun = false; found = None })).found ≡ overdue rules h flown
-begins_first rules h flown unit e young =
-    from_place rules h (drop (first_requested flown) flown) (first_requested flown) (0 + first_requested flown) unit (0 + ends_below (first_requested flown) flown) None None (omega arith) (omega (arith, e)) refl
-    ∙ sym (begins rules h (first_requested flown) 0 flown no_scan (omega arith) refl young)
+pub begins_first : (rules : AmRules) (h : SduDiscard) (in_flight : List SentPdu) (unit : ℕ) → unit ≡ ends_below (first_requested in_flight) in_flight → NoneOld rules h → (after_pdus rules h (first_requested in_flight) (drop (first_requested in_flight) in_flight) (record { unit = unit; begun = false; found = None })).found ≡ overdue rules h in_flight
+begins_first rules h in_flight unit e young =
+    from_place rules h (drop (first_requested in_flight) in_flight) (first_requested in_flight) (0 + first_requested in_flight) unit (0 + ends_below (first_requested in_flight) in_flight) None None (omega arith) (omega (arith, e)) refl
+    ∙ sym (begins rules h (first_requested in_flight) 0 in_flight no_scan (omega arith) refl young)
 
 -- how many are requested from there on
-pub wanted_from : (flown : List SentPdu) → requested_in (drop (first_requested flown) flown) ≡ requested_in flown
+pub wanted_from : (in_flight : List SentPdu) → requested_in (drop (first_requested in_flight) in_flight) ≡ requested_in in_flight
 wanted_from [] = refl
-wanted_from (f ∷ flown) = go f.requested refl (wanted_from flown)
+wanted_from (f ∷ in_flight) = go f.requested refl (wanted_from in_flight)
   where
-    go : (b : Bool) → f.requested ≡ b → requested_in (drop (first_requested flown) flown) ≡ requested_in flown → requested_in (drop (cond b 0 (suc (first_requested flown))) (f ∷ flown)) ≡ requested_in (f ∷ flown)
+    go : (b : Bool) → f.requested ≡ b → requested_in (drop (first_requested in_flight) in_flight) ≡ requested_in in_flight → requested_in (drop (cond b 0 (suc (first_requested in_flight))) (f ∷ in_flight)) ≡ requested_in (f ∷ in_flight)
     go true e rest = refl
-    go false e rest = rest ∙ sym (ap (λ b. cond b (suc (requested_in flown)) (requested_in flown)) e)
+    go false e rest = rest ∙ sym (ap (λ b. cond b (suc (requested_in in_flight)) (requested_in in_flight)) e)
 
-pub requested_few : (flown : List SentPdu) → requested_in flown ≤ length flown
+pub requested_few : (in_flight : List SentPdu) → requested_in in_flight ≤ length in_flight
 requested_few [] = omega arith
-requested_few (f ∷ flown) = go f.requested (requested_few flown)
+requested_few (f ∷ in_flight) = go f.requested (requested_few in_flight)
   where
-    go : (b : Bool) → requested_in flown ≤ length flown → cond b (suc (requested_in flown)) (requested_in flown) ≤ suc (length flown)
+    go : (b : Bool) → requested_in in_flight ≤ length in_flight → cond b (suc (requested_in in_flight)) (requested_in in_flight) ≤ suc (length in_flight)
     go true rest = omega (arith, rest)
     go false rest = omega (arith, rest)
 
-pub wanted_inside : (flown : List SentPdu) → 0 < requested_in flown → first_requested flown < length flown
+pub wanted_inside : (in_flight : List SentPdu) → 0 < requested_in in_flight → first_requested in_flight < length in_flight
 wanted_inside [] l = absurd (omega (arith, l))
-wanted_inside (f ∷ flown) l = go f.requested l (λ m. wanted_inside flown m)
+wanted_inside (f ∷ in_flight) l = go f.requested l (λ m. wanted_inside in_flight m)
   where
-    go : (b : Bool) → 0 < cond b (suc (requested_in flown)) (requested_in flown) → (0 < requested_in flown → first_requested flown < length flown) → cond b 0 (suc (first_requested flown)) < suc (length flown)
+    go : (b : Bool) → 0 < cond b (suc (requested_in in_flight)) (requested_in in_flight) → (0 < requested_in in_flight → first_requested in_flight < length in_flight) → cond b 0 (suc (first_requested in_flight)) < suc (length in_flight)
     go true m rest = omega arith
     go false m rest = omega (arith, rest m)
 
 -- one PDU less
-pub wanted_next : (flown : List SentPdu) (i : ℕ) → i < length flown → requested_in (drop i flown) ≡ cond (at flown i).requested 1 0 + requested_in (drop (i + 1) flown)
+pub wanted_next : (in_flight : List SentPdu) (i : ℕ) → i < length in_flight → requested_in (drop i in_flight) ≡ cond (at in_flight i).requested 1 0 + requested_in (drop (i + 1) in_flight)
 wanted_next [] i l = absurd (omega arith)
-wanted_next (f ∷ flown) zero l = go f.requested
+wanted_next (f ∷ in_flight) zero l = go f.requested
   where
-    go : (b : Bool) → cond b (suc (requested_in flown)) (requested_in flown) ≡ cond b 1 0 + requested_in flown
+    go : (b : Bool) → cond b (suc (requested_in in_flight)) (requested_in in_flight) ≡ cond b 1 0 + requested_in in_flight
     go true = omega arith
     go false = omega arith
-wanted_next (f ∷ flown) (suc i) l = let e : suc i + 1 ≡ suc (i + 1) = omega arith in wanted_next flown i (omega arith) ∙ ap (λ k. cond (at flown i).requested 1 0 + requested_in (drop k (f ∷ flown))) (sym e)
+wanted_next (f ∷ in_flight) (suc i) l = let e : suc i + 1 ≡ suc (i + 1) = omega arith in wanted_next in_flight i (omega arith) ∙ ap (λ k. cond (at in_flight i).requested 1 0 + requested_in (drop k (f ∷ in_flight))) (sym e)
 
-pub picks_first : (l : RetxBuffer) → 0 < requested_in l.flown → picked false l ≡ Again (first_requested l.flown)
-picks_first l some = ap (λ b. cond b (Again (first_requested l.flown)) (cond (nat_lt (length l.flown) l.window && false) New (cond (l.owed && nat_lt 0 (length l.flown)) (Last (length l.flown - 1)) NoPdu))) (lt-ltb (first_requested l.flown) (length l.flown) (wanted_inside l.flown some))
+pub picks_first : (l : RetxBuffer) → 0 < requested_in l.in_flight → picked false l ≡ Again (first_requested l.in_flight)
+picks_first l some = ap (λ b. cond b (Again (first_requested l.in_flight)) (cond (nat_lt (length l.in_flight) l.window && false) New (cond (l.owed && nat_lt 0 (length l.in_flight)) (Last (length l.in_flight - 1)) NoPdu))) (lt-ltb (first_requested l.in_flight) (length l.in_flight) (wanted_inside l.in_flight some))
 
 pub no_other : (p : Pick) (n : ℕ) → p ≡ Again n → (p ≡ New) ⊎ (((x : ℕ) × (p ≡ Last x)) ⊎ (p ≡ NoPdu)) → ⊥
 no_other p n e other = ⊎_elim (λ a. new n (sym e ∙ a)) (λ r. ⊎_elim (λ x. last n x.0 (sym e ∙ x.1)) (λ a. none n (sym e ∙ a)) r) other

@@ -185,8 +185,8 @@ mrw_by s out due is = go s.discard refl due
     go (Some x) e d = is x e
 
 -- the unit that is found
-pub found_by : (rules : Rules) (v : Sending) (s : Sender) (l : RetxBuffer) (found : Option Overdue) → Stands rules v s → l ≡ v.outgoing.line → (rules ≡ rules_of rules.buffer v.rules → LineStands rules l s → DiscardStands rules v.sdu_discard s → IsCut s.accepted s.unsent s.bodies → ((i : ℕ) → i < length l.flown → HasBody (v.outgoing.size - 2) (at l.flown i) (body_at s.bodies (vt_a s + i))) → discards rules s (length s.accepted) ≡ discarded_by found s) → discards rules s (length s.accepted) ≡ discarded_by found s
-found_by rules v s l found is e h = h is.rules_are (subst (λ x. LineStands rules x s) (sym e) is.outgoing.line) is.sdu_discard is.outgoing.cut (subst (λ (x : RetxBuffer). (i : ℕ) → i < length x.flown → HasBody (v.outgoing.size - 2) (at x.flown i) (body_at s.bodies (vt_a s + i))) (sym e) is.outgoing.flown)
+pub found_by : (rules : Rules) (v : Sending) (s : Sender) (l : RetxBuffer) (found : Option Overdue) → Stands rules v s → l ≡ v.outgoing.line → (rules ≡ rules_of rules.buffer v.rules → LineStands rules l s → DiscardStands rules v.sdu_discard s → IsCut s.accepted s.unsent s.bodies → ((i : ℕ) → i < length l.in_flight → HasBody (v.outgoing.size - 2) (at l.in_flight i) (body_at s.bodies (vt_a s + i))) → discards rules s (length s.accepted) ≡ discarded_by found s) → discards rules s (length s.accepted) ≡ discarded_by found s
+found_by rules v s l found is e h = h is.rules_are (subst (λ x. LineStands rules x s) (sym e) is.outgoing.line) is.sdu_discard is.outgoing.cut (subst (λ (x : RetxBuffer). (i : ℕ) → i < length x.in_flight → HasBody (v.outgoing.size - 2) (at x.in_flight i) (body_at s.bodies (vt_a s + i))) (sym e) is.outgoing.in_flight)
 
 some_by : (r : Option Running) (d : Option Discard) (low n : ℕ) → IsRunning r d low n → is_some r ≡ is_some d
 some_by None None low n is = refl
@@ -199,7 +199,7 @@ pub tick_by : (rules : Rules) (v : Sending) (s : Sender) (may : Bool) → Stands
 tick_by rules v s may is e = go (is_some s.discard) (nat_lt 0 rules.discard_age) (nat_lt 0 rules.discard_sent) refl refl refl ∙ ap (λ b. cond b (discards rules (timed s) (length s.accepted)) (timed s)) (sym may_is)
   where
     same : is_some v.outgoing.line.running ≡ is_some s.discard
-    same = some_by v.outgoing.line.running (timed s).discard (vt_a (timed s)) (length v.outgoing.line.flown) is.outgoing.line.running ∙ still_some s
+    same = some_by v.outgoing.line.running (timed s).discard (vt_a (timed s)) (length v.outgoing.line.in_flight) is.outgoing.line.running ∙ still_some s
 
     may_is : may ≡ ((nat_lt 0 rules.discard_age || nat_lt 0 rules.discard_sent) && not (is_some s.discard))
     may_is = e ∙ (ap (λ b. (nat_lt 0 v.rules.discard_age || nat_lt 0 v.rules.discard_sent) && not b) same ∙ ap₂ (λ a b. (nat_lt 0 a || nat_lt 0 b) && not (is_some s.discard)) (sym (ap (λ (r : Rules). r.discard_age) is.rules_are)) (sym (ap (λ (r : Rules). r.discard_sent) is.rules_are)))

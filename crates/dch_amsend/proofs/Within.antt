@@ -29,10 +29,10 @@ last_within rules h place flying f scan zero l w = w
 last_within rules h place flying f scan (suc j) l w = cond_both (can_discard rules h f scan j) _ _ (λ (o : Option Overdue). IfSome o (IsWithin h flying)) (λ e. one_within rules h place flying f scan j l e) (λ _. last_within rules h place flying f scan j l w)
 
 -- and of the PDUs from one on
-pdus_within : (rules : AmRules) (h : SduDiscard) (place flying : ℕ) (flown : List SentPdu) (scan : Scan) → place + length flown ≤ flying → IfSome scan.found (IsWithin h flying) → IfSome (after_pdus rules h place flown scan).found (IsWithin h flying)
+pdus_within : (rules : AmRules) (h : SduDiscard) (place flying : ℕ) (in_flight : List SentPdu) (scan : Scan) → place + length in_flight ≤ flying → IfSome scan.found (IsWithin h flying) → IfSome (after_pdus rules h place in_flight scan).found (IsWithin h flying)
 pdus_within rules h place flying [] scan l w = w
-pdus_within rules h place flying (f ∷ flown) scan l w = pdus_within rules h (place + 1) flying flown (after_pdu rules h place f scan) (omega arith) (last_within rules h place flying f scan (ends_in f) (omega arith) w)
+pdus_within rules h place flying (f ∷ in_flight) scan l w = pdus_within rules h (place + 1) flying in_flight (after_pdu rules h place f scan) (omega arith) (last_within rules h place flying f scan (ends_in f) (omega arith) w)
 
 -- and of all
-pub overdue_within : (rules : AmRules) (h : SduDiscard) (flown : List SentPdu) → IfSome (overdue rules h flown) (IsWithin h (length flown))
-overdue_within rules h flown = pdus_within rules h 0 (length flown) flown no_scan (omega arith) tt
+pub overdue_within : (rules : AmRules) (h : SduDiscard) (in_flight : List SentPdu) → IfSome (overdue rules h in_flight) (IsWithin h (length in_flight))
+overdue_within rules h in_flight = pdus_within rules h 0 (length in_flight) in_flight no_scan (omega arith) tt

@@ -26,7 +26,7 @@ with_line l v = record { size = v.size; line = l; tx_buffer = v.tx_buffer }
 
 -- how many PDUs could be built one after another, at most 64
 abbrev pub available_of : Outgoing → ℕ
-available_of v = min 64 (builds_of (min 64 (requested_in v.line.flown)) (min (v.line.window - length v.line.flown) (fills 64 (v.tx_buffer.size - 2) (unsent_of v.tx_buffer))) v.line.owed (length v.line.flown))
+available_of v = min 64 (builds_of (min 64 (requested_in v.line.in_flight)) (min (v.line.window - length v.line.in_flight) (fills 64 (v.tx_buffer.size - 2) (unsent_of v.tx_buffer))) v.line.owed (length v.line.in_flight))
 
 -- a PDU can be built
 abbrev pub can_build : Outgoing → Bool
@@ -37,15 +37,15 @@ abbrev pub pdu_in : ℕ → Bool → SentPdu → Outgoing → List ℕ
 pdu_in number poll f v = am_pdu number poll (marks_of (v.tx_buffer.size - 2) (body_in v.tx_buffer f)) (carried (body_in v.tx_buffer f)) v.tx_buffer.size
 
 -- the first PDU in flight
-abbrev pub first_flown : List SentPdu → Option SentPdu
-first_flown [] = None
-first_flown (f ∷ fs) = Some f
+abbrev pub first_in_flight : List SentPdu → Option SentPdu
+first_in_flight [] = None
+first_in_flight (f ∷ fs) = Some f
 
 -- the last PDU in flight stands at this place, and none is requested
 pub record IsLast (l : RetxBuffer) (place : ℕ) : Type 0 where
-  pub some : 0 < length l.flown
-  pub none : length l.flown ≤ first_requested l.flown
-  pub place_is : place ≡ length l.flown - 1
+  pub some : 0 < length l.in_flight
+  pub none : length l.in_flight ≤ first_requested l.in_flight
+  pub place_is : place ≡ length l.in_flight - 1
 
 -- it stands for this sender, whose PDUs have d octets behind the header
 pub record IsOutgoing (rules : Rules) (d : ℕ) (v : Outgoing) (s : Sender) : Type 0 where
@@ -54,8 +54,8 @@ pub record IsOutgoing (rules : Rules) (d : ℕ) (v : Outgoing) (s : Sender) : Ty
   pub tx_buffer : BufferStands d v.tx_buffer s
   pub room : v.tx_buffer.blocks ≡ rules.buffer
   pub cut : IsCut s.accepted s.unsent s.bodies
-  pub flown : (i : ℕ) → i < length v.line.flown → HasBody d (at v.line.flown i) (body_at s.bodies (vt_a s + i))
-  pub taken : (i : ℕ) → i < length v.line.flown → Takes s (vt_a s + i) (at v.line.flown i).extent
+  pub in_flight : (i : ℕ) → i < length v.line.in_flight → HasBody d (at v.line.in_flight i) (body_at s.bodies (vt_a s + i))
+  pub taken : (i : ℕ) → i < length v.line.in_flight → Takes s (vt_a s + i) (at v.line.in_flight i).extent
 
 -- it stands for a sender
 pub record IsRunning (v : Outgoing) : Type 0 where

@@ -43,13 +43,13 @@ after_pdu rules h place f scan = record {
 -- after the PDUs from a place on
 abbrev pub after_pdus : AmRules → SduDiscard → ℕ → List SentPdu → Scan → Scan
 after_pdus rules h place [] scan = scan
-after_pdus rules h place (f ∷ flown) scan = after_pdus rules h (place + 1) flown (after_pdu rules h place f scan)
+after_pdus rules h place (f ∷ in_flight) scan = after_pdus rules h (place + 1) in_flight (after_pdu rules h place f scan)
 
 -- how many units end in so many PDUs in front
 abbrev pub ends_below : ℕ → List SentPdu → ℕ
-ends_below zero flown = 0
+ends_below zero in_flight = 0
 ends_below (suc n) [] = 0
-ends_below (suc n) (f ∷ flown) = ends_in f + ends_below n flown
+ends_below (suc n) (f ∷ in_flight) = ends_in f + ends_below n in_flight
 
 -- before the first
 abbrev pub no_scan : Scan
@@ -57,4 +57,4 @@ no_scan = record { unit = 0; begun = false; found = None }
 
 -- the last unit that can be discarded
 abbrev pub overdue : AmRules → SduDiscard → List SentPdu → Option Overdue
-overdue rules h flown = (after_pdus rules h 0 flown no_scan).found
+overdue rules h in_flight = (after_pdus rules h 0 in_flight no_scan).found

@@ -59,8 +59,8 @@ buffer_after_build w = record w { start = next_start w.start (cut_next w); owed 
 abbrev pub next_extent : TxBuffer → Extent
 next_extent w = record { sdu = (w.gone + w.start.sdu) % 65536; used = w.start.used; pieces = (cut_next w).pieces; rest = (cut_next w).rest }
 
-abbrev pub next_flown : TxBuffer → SentPdu
-next_flown w = sent_once (next_extent w) w.owed
+abbrev pub next_in_flight : TxBuffer → SentPdu
+next_in_flight w = sent_once (next_extent w) w.owed
 
 -- where the octets of a PDU in flight begin, and what it takes from there
 abbrev pub start_in : TxBuffer → Extent → Start

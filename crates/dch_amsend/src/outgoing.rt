@@ -20,7 +20,7 @@ ghost use Rattle.dch_status.specs.Writing.{IsText, mrw_text};
 ghost use Rattle.dch_am.specs.Texts.{next_pdu, pdu_of_choice};
 ghost use Rattle.dch_amsend.specs.TxBuffer.{unsent_of};
 ghost use Rattle.dch_amsend.specs.Scanning.{ends_below};
-ghost use Rattle.dch_amsend.specs.Outgoing.{IsLast, IsOutgoing, available_of, can_build, HoldsSame, first_flown, pdu_in, with_line};
+ghost use Rattle.dch_amsend.specs.Outgoing.{IsLast, IsOutgoing, available_of, can_build, HoldsSame, first_in_flight, pdu_in, with_line};
 
 use crate::tx_buffer::TxBuffer;
 use dch_am::StatusTaken;
@@ -127,21 +127,21 @@ impl Outgoing {
 
     /// A PDU can be built that isn't requested: a new one, or the last one again.
     fn has_unrequested(&self) -> bool
-        ensures { result ≡ ((nat_lt (length self.now.line.flown) self.now.line.window && is_left (unsent_of self.now.tx_buffer)) || (self.now.line.owed && nat_lt 0 (length self.now.line.flown))) }
+        ensures { result ≡ ((nat_lt (length self.now.line.in_flight) self.now.line.window && is_left (unsent_of self.now.tx_buffer)) || (self.now.line.owed && nat_lt 0 (length self.now.line.in_flight))) }
     {
         self.has_new() || self.has_last()
     }
 
     /// A new PDU can be built: unsent matter is left, and the window has room.
     fn has_new(&self) -> bool
-        ensures { result ≡ (nat_lt (length self.now.line.flown) self.now.line.window && is_left (unsent_of self.now.tx_buffer)) }
+        ensures { result ≡ (nat_lt (length self.now.line.in_flight) self.now.line.window && is_left (unsent_of self.now.tx_buffer)) }
     {
         self.line.len() < self.line.window() && self.tx_buffer.is_left()
     }
 
     /// The last PDU can be built again: a poll is owed.
     fn has_last(&self) -> bool
-        ensures { result ≡ (self.now.line.owed && nat_lt 0 (length self.now.line.flown)) }
+        ensures { result ≡ (self.now.line.owed && nat_lt 0 (length self.now.line.in_flight)) }
     {
         self.line.is_owed() && self.line.len() > 0
     }
@@ -155,15 +155,15 @@ impl Outgoing {
 
     /// How many of the SDUs that are held end in a PDU in flight.
     pub fn ended(&self) -> u16
-        ensures { result ≡ ends_below (length self.now.line.flown) self.now.line.flown }
+        ensures { result ≡ ends_below (length self.now.line.in_flight) self.now.line.in_flight }
     {
         self.tx_buffer.ended()
     }
 
     /// How many of the SDUs that are held end before the PDU in flight at a place.
     pub fn ended_before(&self, place: u16) -> u16
-        requires { place < length self.now.line.flown }
-        ensures value { result ≡ ends_below place self.now.line.flown }
+        requires { place < length self.now.line.in_flight }
+        ensures value { result ≡ ends_below place self.now.line.in_flight }
         ensures small { result ≤ 65535 }
     {
         self.tx_buffer.ended_before(&self.line.at(place))
@@ -195,15 +195,15 @@ impl Outgoing {
 
     /// The PDU at a place, which is requested, is built again.
     fn again(&mut self, place: u16, out: &mut [u8])
-        requires place { place < length self.old.line.flown }
+        requires place { place < length self.old.line.in_flight }
         requires size { length out.old ≡ self.old.size }
         ensures after { self.new ≡ with_line (again_line place self.old.line) self.old }
-        ensures text { out.new ≡ pdu_in (number_at place self.old.line) (again_poll place self.old.line) (at self.old.line.flown place) self.old }
+        ensures text { out.new ≡ pdu_in (number_at place self.old.line) (again_poll place self.old.line) (at self.old.line.in_flight place) self.old }
     {
         let number = self.line.number_at(place);
-        let flown = self.line.at(place);
+        let pdu = self.line.at(place);
         let poll = self.line.again(place);
-        self.tx_buffer.write(&flown, number, poll, out);
+        self.tx_buffer.write(&pdu, number, poll, out);
     }
 
     /// The last PDU is built again, for an owed poll.
@@ -211,17 +211,17 @@ impl Outgoing {
         requires last { IsLast self.old.line place }
         requires size { length out.old ≡ self.old.size }
         ensures after { self.new ≡ with_line (last_line place self.old.line) self.old }
-        ensures text { out.new ≡ pdu_in (number_at place self.old.line) (last_poll place self.old.line) (at self.old.line.flown place) self.old }
+        ensures text { out.new ≡ pdu_in (number_at place self.old.line) (last_poll place self.old.line) (at self.old.line.in_flight place) self.old }
     {
         let number = self.line.number_at(place);
-        let flown = self.line.at(place);
+        let pdu = self.line.at(place);
         let poll = self.line.last(place);
-        self.tx_buffer.write(&flown, number, poll, out);
+        self.tx_buffer.write(&pdu, number, poll, out);
     }
 
     /// A new PDU is built.
     fn anew(&mut self, out: &mut [u8])
-        requires room { length self.old.line.flown < self.old.line.window }
+        requires room { length self.old.line.in_flight < self.old.line.window }
         requires size { length out.old ≡ self.old.size }
         ensures size { self.new.size ≡ self.old.size }
         ensures same { HoldsSame self.old.tx_buffer self.new.tx_buffer }
@@ -229,10 +229,10 @@ impl Outgoing {
             (out.new ≡ pdu_of_choice rules d s New) × IsOutgoing rules d self.new (after_choice New rules d s) × IsShort d (next_body d s.unsent) }
     {
         let number = self.line.number_at(self.line.len() as u16);
-        let flown = self.tx_buffer.build();
+        let pdu = self.tx_buffer.build();
         let left = self.tx_buffer.is_left();
-        let poll = self.line.push(flown, left);
-        self.tx_buffer.write(&flown, number, poll, out);
+        let poll = self.line.push(pdu, left);
+        self.tx_buffer.write(&pdu, number, poll, out);
     }
 
     /// Hears a status.
@@ -261,7 +261,7 @@ impl Outgoing {
 
     /// A discard begins with the PDU at a place and its mark.
     pub fn discard(&mut self, place: u16, mark: u8)
-        requires place { place < length self.old.line.flown }
+        requires place { place < length self.old.line.in_flight }
         requires mark { mark < 16 }
         ensures size { self.new.size ≡ self.old.size }
         ensures same { self.new.tx_buffer ≡ self.old.tx_buffer }
@@ -314,7 +314,7 @@ impl Outgoing {
 
 /// The first PDU in flight.
 fn first_in_flight(line: &RetxBuffer) -> Option<SentPdu>
-    ensures { result ≡ first_flown line.now.flown }
+    ensures { result ≡ first_in_flight line.now.in_flight }
 {
     if line.len() > 0 {
         Some(line.at(0))

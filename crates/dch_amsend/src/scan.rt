@@ -27,51 +27,45 @@ pub struct Scan {
 }
 
 /// The pass goes over one more PDU. At most 256 units end in each of 2048 of them, behind 65,535 others.
-pub fn after_pdu(
-    held: &SduDiscard,
-    rules: &AmRules,
-    flown: &SentPdu,
-    place: u16,
-    scan: Scan,
-) -> Scan
+pub fn after_pdu(held: &SduDiscard, rules: &AmRules, pdu: &SentPdu, place: u16, scan: Scan) -> Scan
     requires { scan.unit ≤ 65535 + 256 * 2048 }
-    ensures { result ≡ after_pdu rules.now held.now place flown.now scan }
+    ensures { result ≡ after_pdu rules.now held.now place pdu.now scan }
 {
-    let often = is_often(rules, flown);
-    let found = last_in(held, rules, flown, place, scan);
-    let begun = often && flown.continues() || flown.ends() == 0 && scan.begun;
+    let often = is_often(rules, pdu);
+    let found = last_in(held, rules, pdu, place, scan);
+    let begun = often && pdu.continues() || pdu.ends() == 0 && scan.begun;
     Scan {
-        unit: scan.unit + flown.ends() as usize,
+        unit: scan.unit + pdu.ends() as usize,
         begun,
         found,
     }
 }
 
 /// A PDU is requested and was built often enough.
-fn is_often(rules: &AmRules, flown: &SentPdu) -> bool
-    ensures { result ≡ is_often rules.now flown.now }
+fn is_often(rules: &AmRules, pdu: &SentPdu) -> bool
+    ensures { result ≡ is_often rules.now pdu.now }
 {
-    rules.discard_sent > 0 && flown.requested && flown.builds >= rules.discard_sent
+    rules.discard_sent > 0 && pdu.requested && pdu.builds >= rules.discard_sent
 }
 
 /// The last unit that can be discarded, up to those that end in a PDU.
 fn last_in(
     held: &SduDiscard,
     rules: &AmRules,
-    flown: &SentPdu,
+    pdu: &SentPdu,
     place: u16,
     scan: Scan,
 ) -> Option<Overdue>
     requires { scan.unit ≤ 65535 + 256 * 2048 }
-    ensures { result ≡ last_in rules.now held.now place flown.now scan (ends_in flown.now) }
+    ensures { result ≡ last_in rules.now held.now place pdu.now scan (ends_in pdu.now) }
 {
     let mut found = scan.found;
-    for j in 0..flown.ends() {
-        if can_discard(held, rules, flown, scan, j) {
+    for j in 0..pdu.ends() {
+        if can_discard(held, rules, pdu, scan, j) {
             found = Some(Overdue {
                 unit: (scan.unit + j as usize) as u16,
                 place,
-                mark: mark_of(flown, j) as u8,
+                mark: mark_of(pdu, j) as u8,
             });
         }
     }
@@ -79,16 +73,16 @@ fn last_in(
 }
 
 /// One of the units that end in a PDU can be discarded.
-fn can_discard(held: &SduDiscard, rules: &AmRules, flown: &SentPdu, scan: Scan, j: u16) -> bool
+fn can_discard(held: &SduDiscard, rules: &AmRules, pdu: &SentPdu, scan: Scan, j: u16) -> bool
     requires { scan.unit ≤ 65535 + 256 * 2048 }
-    ensures answer { result ≡ can_discard rules.now held.now flown.now scan j }
-    ensures small { result ≡ true → (scan.unit + j < 65535) × (mark_of flown.now j ≤ 15) }
+    ensures answer { result ≡ can_discard rules.now held.now pdu.now scan j }
+    ensures small { result ≡ true → (scan.unit + j < 65535) × (mark_of pdu.now j ≤ 15) }
 {
     let unit = scan.unit + j as usize;
-    if unit >= held.len() || unit < held.passed() || mark_of(flown, j) > 15 {
+    if unit >= held.len() || unit < held.passed() || mark_of(pdu, j) > 15 {
         return false;
     }
-    is_old(held, rules, unit) || is_often(rules, flown) || j == 0 && scan.begun
+    is_old(held, rules, unit) || is_often(rules, pdu) || j == 0 && scan.begun
 }
 
 /// A unit is old enough. Where it isn't, none behind it is.
@@ -101,9 +95,9 @@ pub fn is_old(held: &SduDiscard, rules: &AmRules, unit: usize) -> bool
 }
 
 /// The place of the end mark of the unit that ends in a PDU behind so many others.
-fn mark_of(flown: &SentPdu, j: u16) -> u16
+fn mark_of(pdu: &SentPdu, j: u16) -> u16
     requires { j < 65535 }
-    ensures { result ≡ mark_of flown.now j }
+    ensures { result ≡ mark_of pdu.now j }
 {
-    if flown.full && j == 0 { 0 } else { j + 1 }
+    if pdu.full && j == 0 { 0 } else { j + 1 }
 }

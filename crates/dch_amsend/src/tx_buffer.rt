@@ -8,7 +8,7 @@ ghost use Rattle.dch_am.specs.Sender.{Sender, after_offer, offered, opened_sende
 ghost use Rattle.dch_rlcpdu.specs.Am.{am_pdu};
 ghost use Rattle.dch_txbuf.specs.Cuts.{next_start};
 ghost use Rattle.dch_amsend.specs.BufferStanding.{fills, HasBody, BufferStands, Takes};
-ghost use Rattle.dch_amsend.specs.TxBuffer.{buffer_after_build, answer_of, body_in, cut_next, ended_before, next_flown, empty_buffer, IsHere, released_by, restarted_buffer, unsent_of};
+ghost use Rattle.dch_amsend.specs.TxBuffer.{buffer_after_build, answer_of, body_in, cut_next, ended_before, next_in_flight, empty_buffer, IsHere, released_by, restarted_buffer, unsent_of};
 ghost use Rattle.dch_amsend.specs.TxBuffer.{buffer_after_offer};
 
 use crate::left::{count_pdus, is_left_at, room_for};
@@ -106,7 +106,7 @@ impl TxBuffer {
     /// What the next PDU takes of the SDUs. It isn't left any more.
     pub fn build(&mut self) -> SentPdu
         ensures after { self.new ≡ buffer_after_build self.old }
-        ensures taken { result ≡ next_flown self.old }
+        ensures taken { result ≡ next_in_flight self.old }
         ensures history { (d : ℕ) (s : Sender) → BufferStands d self.old s → IsCut s.accepted s.unsent s.bodies → vt_a (anew d s) ≡ vt_a s →
             HasBody d result (next_body d s.unsent) × Takes (anew d s) (vt_s s) result.extent × BufferStands d self.new (anew d s) }
     {
@@ -116,7 +116,7 @@ impl TxBuffer {
     /// The same, by places.
     fn take(&mut self) -> SentPdu
         ensures after { self.new ≡ buffer_after_build self.old }
-        ensures taken { result ≡ next_flown self.old }
+        ensures taken { result ≡ next_in_flight self.old }
         ensures small { (next_start self.old.start (cut_next self.old)).sdu ≤ 65535 }
     {
         let cut = next_cut(&self.sdus, &self.start, room_for(self.size - 2, self.owed));
@@ -126,32 +126,32 @@ impl TxBuffer {
             pieces: cut.pieces,
             rest: cut.rest,
         };
-        let flown = SentPdu::new(extent, self.owed);
+        let pdu = SentPdu::new(extent, self.owed);
         self.start = next_start(&self.start, &cut);
         self.owed = cut.owed;
-        flown
+        pdu
     }
 
     /// Writes a PDU in flight with its number and its poll bit, for the first time or again.
-    pub fn write(&self, flown: &SentPdu, number: u16, poll: bool, out: &mut [u8])
-        requires here { IsHere self.now flown.now }
+    pub fn write(&self, pdu: &SentPdu, number: u16, poll: bool, out: &mut [u8])
+        requires here { IsHere self.now pdu.now }
         requires number { number < 4096 }
         requires size { length out.old ≡ self.now.size }
-        ensures { out.new ≡ am_pdu number poll (marks_of (self.now.size - 2) (body_in self.now flown.now)) (carried (body_in self.now flown.now)) self.now.size }
+        ensures { out.new ≡ am_pdu number poll (marks_of (self.now.size - 2) (body_in self.now pdu.now)) (carried (body_in self.now pdu.now)) self.now.size }
     {
         let start = Start {
-            sdu: flown.extent.sdu.wrapping_sub(self.gone),
-            used: flown.extent.used,
+            sdu: pdu.extent.sdu.wrapping_sub(self.gone),
+            used: pdu.extent.used,
         };
         let cut = Cut {
-            pieces: flown.extent.pieces,
-            rest: flown.extent.rest,
+            pieces: pdu.extent.pieces,
+            rest: pdu.extent.rest,
             owed: false,
         };
         let header = Header {
             number,
             poll,
-            full: flown.full,
+            full: pdu.full,
         };
         write_taken(&self.sdus, &start, &cut, &header, out);
     }
@@ -164,11 +164,11 @@ impl TxBuffer {
     }
 
     /// How many SDUs end before a PDU in flight.
-    pub fn ended_before(&self, flown: &SentPdu) -> u16
-        ensures { result ≡ ended_before (Some flown.now) self.now }
+    pub fn ended_before(&self, pdu: &SentPdu) -> u16
+        ensures { result ≡ ended_before (Some pdu.now) self.now }
     {
-        let sdu = flown.extent.sdu.wrapping_sub(self.gone);
-        sdu.saturating_sub(u16::from(flown.full))
+        let sdu = pdu.extent.sdu.wrapping_sub(self.gone);
+        sdu.saturating_sub(u16::from(pdu.full))
     }
 
     /// The SDUs that end before the first PDU in flight leave, or, where none is in flight, those that end in the PDUs that were built.
@@ -178,7 +178,7 @@ impl TxBuffer {
     {
         let count = match first {
             None => self.ended(),
-            Some(flown) => self.ended_before(&flown),
+            Some(pdu) => self.ended_before(&pdu),
         };
         self.sdus.release(count as usize);
         self.start.sdu -= count;

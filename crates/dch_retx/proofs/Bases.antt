@@ -101,13 +101,13 @@ below_moved window first count b l most (Moved n sn ∷ said) e = below_moved wi
 number_behind : (next n b : ℕ) → b ≤ n → n ≤ 2048 → wrapped (next + 4096 - (n - b)) ≡ wrapped (wrapped (next + 4096 - (n - 0)) + b)
 number_behind next n b l most = omega arith
 
-pub outside_none : (l : RetxBuffer) (b : ℕ) (said : List StatusItem) → b ≤ length l.flown → length l.flown ≤ l.window → l.window ≤ 2048 → b < limit_in l.window (first_number l) (length l.flown) said → outside_from b said l ≡ None
+pub outside_none : (l : RetxBuffer) (b : ℕ) (said : List StatusItem) → b ≤ length l.in_flight → length l.in_flight ≤ l.window → l.window ≤ 2048 → b < limit_in l.window (first_number l) (length l.in_flight) said → outside_from b said l ≡ None
 outside_none l b said le few most h =
-    ap (λ f. first_outside l.window f (length l.flown - b) said) (number_behind l.next (length l.flown) b le (omega arith))
-    ∙ none_below l.window (first_number l) (length l.flown) b le few most said h
+    ap (λ f. first_outside l.window f (length l.in_flight - b) said) (number_behind l.next (length l.in_flight) b le (omega arith))
+    ∙ none_below l.window (first_number l) (length l.in_flight) b le few most said h
 
 -- what is told is heard
-pub heard_after : (l now : RetxBuffer) (said : List StatusItem) (told : Told) (b below : ℕ) → b ≤ length l.flown → length l.flown ≤ l.window → l.window ≤ 2048 → IsTold told l.window (first_number l) (length l.flown) l.running said → b ≡ base_after told.ending l → outside_from b said l ≡ None → told.reports ≡ true → below ≡ unwrap_or told.below 0 - b → now ≡ listened below said (after_ending told.ending l) → now ≡ after_hearing said l
+pub heard_after : (l now : RetxBuffer) (said : List StatusItem) (told : Told) (b below : ℕ) → b ≤ length l.in_flight → length l.in_flight ≤ l.window → l.window ≤ 2048 → IsTold told l.window (first_number l) (length l.in_flight) l.running said → b ≡ base_after told.ending l → outside_from b said l ≡ None → told.reports ≡ true → below ≡ unwrap_or told.below 0 - b → now ≡ listened below said (after_ending told.ending l) → now ≡ after_hearing said l
 heard_after l now said told b below le few most is base none reports below_is e = sym
     (ap (λ a. after_answer a said l) (ap answered (ap (λ o. outside_from (base_after o l) said l) (sym is.ending) ∙ (ap (λ k. outside_from k said l) (sym base) ∙ none)))
     ∙ (ap after (sym is.ending)
@@ -120,8 +120,8 @@ heard_after l now said told b below le few most is base none reports below_is e 
 
     place : below_from b said l ≡ below
     place =
-        ap (λ f. below_said f said) (number_behind l.next (length l.flown) b le (omega arith))
-        ∙ (below_moved l.window (first_number l) (length l.flown) b le (omega arith) said (ap (λ f. first_outside l.window f (length l.flown - b) said) (sym (number_behind l.next (length l.flown) b le (omega arith))) ∙ none)
+        ap (λ f. below_said f said) (number_behind l.next (length l.in_flight) b le (omega arith))
+        ∙ (below_moved l.window (first_number l) (length l.in_flight) b le (omega arith) said (ap (λ f. first_outside l.window f (length l.in_flight - b) said) (sym (number_behind l.next (length l.in_flight) b le (omega arith))) ∙ none)
         ∙ (ap (λ k. k - b) (sym is.below) ∙ sym below_is))
 
 pub none_of : (o : Option ℕ) → ((k : ℕ) → o ≡ Some k → ⊥) → o ≡ None

@@ -10,22 +10,22 @@ use Rattle.dch_retx.specs.declared.sent_pdu.SentPdu.{SentPdu}
 use Rattle.dch_retx.specs.Flights.{at, blank, acknowledged, named_from, request_cleared, changed_below, first_requested, lowered, requested_in, AreLinked, IsCounted, IsFirstRequested, IsFlight, IsFrom}
 
 -- one place more is changed
-pub changed_next : (change : SentPdu → SentPdu) (i : ℕ) (flown : List SentPdu) → i < length flown → set (changed_below change i flown) i (change (at (changed_below change i flown) i)) ≡ changed_below change (i + 1) flown
+pub changed_next : (change : SentPdu → SentPdu) (i : ℕ) (in_flight : List SentPdu) → i < length in_flight → set (changed_below change i in_flight) i (change (at (changed_below change i in_flight) i)) ≡ changed_below change (i + 1) in_flight
 changed_next change i [] l = absurd (omega arith)
-changed_next change zero (f ∷ flown) l = refl
-changed_next change (suc i) (f ∷ flown) l = let e : suc i + 1 ≡ suc (i + 1) = omega arith in ap (λ xs. change f ∷ xs) (changed_next change i flown (omega arith)) ∙ ap (λ k. changed_below change k (f ∷ flown)) (sym e)
+changed_next change zero (f ∷ in_flight) l = refl
+changed_next change (suc i) (f ∷ in_flight) l = let e : suc i + 1 ≡ suc (i + 1) = omega arith in ap (λ xs. change f ∷ xs) (changed_next change i in_flight (omega arith)) ∙ ap (λ k. changed_below change k (f ∷ in_flight)) (sym e)
 
-pub length-changed : (change : SentPdu → SentPdu) (i : ℕ) (flown : List SentPdu) → length (changed_below change i flown) ≡ length flown
-length-changed change zero flown = refl
+pub length-changed : (change : SentPdu → SentPdu) (i : ℕ) (in_flight : List SentPdu) → length (changed_below change i in_flight) ≡ length in_flight
+length-changed change zero in_flight = refl
 length-changed change (suc i) [] = refl
-length-changed change (suc i) (f ∷ flown) = ap suc (length-changed change i flown)
+length-changed change (suc i) (f ∷ in_flight) = ap suc (length-changed change i in_flight)
 
 -- what is requested after a change that requests nothing was requested before
-requested_before : (change : SentPdu → SentPdu) → ((f : SentPdu) → (change f).requested ≡ true → f.requested ≡ true) → (to : ℕ) (flown : List SentPdu) (i : ℕ) → (at (changed_below change to flown) i).requested ≡ true → (at flown i).requested ≡ true
-requested_before change less zero flown i e = e
+requested_before : (change : SentPdu → SentPdu) → ((f : SentPdu) → (change f).requested ≡ true → f.requested ≡ true) → (to : ℕ) (in_flight : List SentPdu) (i : ℕ) → (at (changed_below change to in_flight) i).requested ≡ true → (at in_flight i).requested ≡ true
+requested_before change less zero in_flight i e = e
 requested_before change less (suc to) [] i e = e
-requested_before change less (suc to) (f ∷ flown) zero e = less f e
-requested_before change less (suc to) (f ∷ flown) (suc i) e = requested_before change less to flown i e
+requested_before change less (suc to) (f ∷ in_flight) zero e = less f e
+requested_before change less (suc to) (f ∷ in_flight) (suc i) e = requested_before change less to in_flight i e
 
 pub acknowledged_less : (f : SentPdu) → (acknowledged f).requested ≡ true → f.requested ≡ true
 acknowledged_less f e = either f.named e
@@ -45,11 +45,11 @@ cleared_less : (f : SentPdu) → (request_cleared f).requested ≡ true → f.re
 cleared_less f e = absurd (cc)
 
 -- the first that is requested
-pub first_is : (flown : List SentPdu) (k : ℕ) → IsFirstRequested flown k → k ≡ first_requested flown
+pub first_is : (in_flight : List SentPdu) (k : ℕ) → IsFirstRequested in_flight k → k ≡ first_requested in_flight
 first_is [] k is = omega (arith, is.within)
-first_is (f ∷ flown) k is = go f.requested refl k is (λ j h. first_is flown j h)
+first_is (f ∷ in_flight) k is = go f.requested refl k is (λ j h. first_is in_flight j h)
   where
-    go : (b : Bool) → f.requested ≡ b → (k : ℕ) → IsFirstRequested (f ∷ flown) k → ((j : ℕ) → IsFirstRequested flown j → j ≡ first_requested flown) → k ≡ cond b 0 (suc (first_requested flown))
+    go : (b : Bool) → f.requested ≡ b → (k : ℕ) → IsFirstRequested (f ∷ in_flight) k → ((j : ℕ) → IsFirstRequested in_flight j → j ≡ first_requested in_flight) → k ≡ cond b 0 (suc (first_requested in_flight))
     go true e zero is rest = refl
     go true e (suc k) is rest = absurd (both_ways f.requested (is.before 0 (omega arith)) e)
     go false e zero is rest = absurd (both_ways f.requested e (is.here (omega arith)))
@@ -62,98 +62,98 @@ inside (x ∷ xs) zero e = omega arith
 inside (x ∷ xs) (suc j) e = omega (arith, inside xs j e)
 
 -- how many are requested
-requested_none : (flown : List SentPdu) → ((j : ℕ) → (at flown j).requested ≡ false) → requested_in flown ≡ 0
+requested_none : (in_flight : List SentPdu) → ((j : ℕ) → (at in_flight j).requested ≡ false) → requested_in in_flight ≡ 0
 requested_none [] none = refl
-requested_none (f ∷ flown) none = ap (λ b. cond b (suc (requested_in flown)) (requested_in flown)) (none 0) ∙ requested_none flown (λ j. none (suc j))
+requested_none (f ∷ in_flight) none = ap (λ b. cond b (suc (requested_in in_flight)) (requested_in in_flight)) (none 0) ∙ requested_none in_flight (λ j. none (suc j))
 
-requested_some : (flown : List SentPdu) (k : ℕ) → (at flown k).requested ≡ true → 0 < requested_in flown
+requested_some : (in_flight : List SentPdu) (k : ℕ) → (at in_flight k).requested ≡ true → 0 < requested_in in_flight
 requested_some [] k e = absurd (cc)
-requested_some (f ∷ flown) zero e = rw e (omega arith)
-requested_some (f ∷ flown) (suc k) e = go f.requested (requested_some flown k e)
+requested_some (f ∷ in_flight) zero e = rw e (omega arith)
+requested_some (f ∷ in_flight) (suc k) e = go f.requested (requested_some in_flight k e)
   where
-    go : (b : Bool) → 0 < requested_in flown → 0 < cond b (suc (requested_in flown)) (requested_in flown)
+    go : (b : Bool) → 0 < requested_in in_flight → 0 < cond b (suc (requested_in in_flight)) (requested_in in_flight)
     go true l = omega arith
     go false l = l
 
 -- no more are requested than there are
-pub requested_few : (flown : List SentPdu) → requested_in flown ≤ length flown
+pub requested_few : (in_flight : List SentPdu) → requested_in in_flight ≤ length in_flight
 requested_few [] = omega arith
-requested_few (f ∷ flown) = go f.requested (requested_few flown)
+requested_few (f ∷ in_flight) = go f.requested (requested_few in_flight)
   where
-    go : (b : Bool) → requested_in flown ≤ length flown → cond b (suc (requested_in flown)) (requested_in flown) ≤ suc (length flown)
+    go : (b : Bool) → requested_in in_flight ≤ length in_flight → cond b (suc (requested_in in_flight)) (requested_in in_flight) ≤ suc (length in_flight)
     go true l = omega arith
     go false l = omega arith
 
 -- where one place is changed, what was requested there is what is requested there now
-pub counted_set : (flown : List SentPdu) (i : ℕ) (f : SentPdu) → i < length flown → cond (at flown i).requested 1 0 + requested_in (set flown i f) ≡ cond f.requested 1 0 + requested_in flown
+pub counted_set : (in_flight : List SentPdu) (i : ℕ) (f : SentPdu) → i < length in_flight → cond (at in_flight i).requested 1 0 + requested_in (set in_flight i f) ≡ cond f.requested 1 0 + requested_in in_flight
 counted_set [] i f l = absurd (omega arith)
-counted_set (x ∷ flown) zero f l = go x.requested f.requested
+counted_set (x ∷ in_flight) zero f l = go x.requested f.requested
   where
-    go : (a b : Bool) → cond a 1 0 + cond b (suc (requested_in flown)) (requested_in flown) ≡ cond b 1 0 + cond a (suc (requested_in flown)) (requested_in flown)
+    go : (a b : Bool) → cond a 1 0 + cond b (suc (requested_in in_flight)) (requested_in in_flight) ≡ cond b 1 0 + cond a (suc (requested_in in_flight)) (requested_in in_flight)
     go true true = omega arith
     go true false = omega arith
     go false true = omega arith
     go false false = omega arith
-counted_set (x ∷ flown) (suc i) f l = go x.requested (counted_set flown i f (omega arith))
+counted_set (x ∷ in_flight) (suc i) f l = go x.requested (counted_set in_flight i f (omega arith))
   where
-    go : (a : Bool) → cond (at flown i).requested 1 0 + requested_in (set flown i f) ≡ cond f.requested 1 0 + requested_in flown → cond (at flown i).requested 1 0 + cond a (suc (requested_in (set flown i f))) (requested_in (set flown i f)) ≡ cond f.requested 1 0 + cond a (suc (requested_in flown)) (requested_in flown)
+    go : (a : Bool) → cond (at in_flight i).requested 1 0 + requested_in (set in_flight i f) ≡ cond f.requested 1 0 + requested_in in_flight → cond (at in_flight i).requested 1 0 + cond a (suc (requested_in (set in_flight i f))) (requested_in (set in_flight i f)) ≡ cond f.requested 1 0 + cond a (suc (requested_in in_flight)) (requested_in in_flight)
     go true e = omega (arith, e)
     go false e = omega (arith, e)
 
 -- what holds of each place of a PDU that is requested
-requested_all : (P : ℕ → Type 0) (flown : List SentPdu) (i : ℕ) (f : SentPdu) → P i → ((j : ℕ) → (at flown j).requested ≡ true → P j) → (j : ℕ) → (at (set flown i f) j).requested ≡ true → P j
+requested_all : (P : ℕ → Type 0) (in_flight : List SentPdu) (i : ℕ) (f : SentPdu) → P i → ((j : ℕ) → (at in_flight j).requested ≡ true → P j) → (j : ℕ) → (at (set in_flight i f) j).requested ≡ true → P j
 requested_all P [] i f p given j e = given j e
-requested_all P (x ∷ flown) zero f p given zero e = p
-requested_all P (x ∷ flown) zero f p given (suc j) e = given (suc j) e
-requested_all P (x ∷ flown) (suc i) f p given zero e = given zero e
-requested_all P (x ∷ flown) (suc i) f p given (suc j) e = requested_all (λ k. P (suc k)) flown i f p (λ k w. given (suc k) w) j e
+requested_all P (x ∷ in_flight) zero f p given zero e = p
+requested_all P (x ∷ in_flight) zero f p given (suc j) e = given (suc j) e
+requested_all P (x ∷ in_flight) (suc i) f p given zero e = given zero e
+requested_all P (x ∷ in_flight) (suc i) f p given (suc j) e = requested_all (λ k. P (suc k)) in_flight i f p (λ k w. given (suc k) w) j e
 
 -- the same, where the one that is changed is requested only if it was
-requested_old : (flown : List SentPdu) (i : ℕ) (f : SentPdu) → (f.requested ≡ true → (at flown i).requested ≡ true) → (j : ℕ) → (at (set flown i f) j).requested ≡ true → (at flown j).requested ≡ true
+requested_old : (in_flight : List SentPdu) (i : ℕ) (f : SentPdu) → (f.requested ≡ true → (at in_flight i).requested ≡ true) → (j : ℕ) → (at (set in_flight i f) j).requested ≡ true → (at in_flight j).requested ≡ true
 requested_old [] i f less j e = e
-requested_old (x ∷ flown) zero f less zero e = less e
-requested_old (x ∷ flown) zero f less (suc j) e = e
-requested_old (x ∷ flown) (suc i) f less zero e = e
-requested_old (x ∷ flown) (suc i) f less (suc j) e = requested_old flown i f less j e
+requested_old (x ∷ in_flight) zero f less zero e = less e
+requested_old (x ∷ in_flight) zero f less (suc j) e = e
+requested_old (x ∷ in_flight) (suc i) f less zero e = e
+requested_old (x ∷ in_flight) (suc i) f less (suc j) e = requested_old in_flight i f less j e
 
 -- what leaves the count where one isn't requested any more
-pub gone_set : (flown : List SentPdu) (i : ℕ) (f : SentPdu) → i < length flown → (f.requested ≡ true → (at flown i).requested ≡ true) → cond ((at flown i).requested && not f.requested) 1 0 + requested_in (set flown i f) ≡ requested_in flown
-gone_set flown i f l less = go (at flown i).requested f.requested less (counted_set flown i f l)
+pub gone_set : (in_flight : List SentPdu) (i : ℕ) (f : SentPdu) → i < length in_flight → (f.requested ≡ true → (at in_flight i).requested ≡ true) → cond ((at in_flight i).requested && not f.requested) 1 0 + requested_in (set in_flight i f) ≡ requested_in in_flight
+gone_set in_flight i f l less = go (at in_flight i).requested f.requested less (counted_set in_flight i f l)
   where
-    go : (a b : Bool) → (b ≡ true → a ≡ true) → cond a 1 0 + requested_in (set flown i f) ≡ cond b 1 0 + requested_in flown → cond (a && not b) 1 0 + requested_in (set flown i f) ≡ requested_in flown
+    go : (a b : Bool) → (b ≡ true → a ≡ true) → cond a 1 0 + requested_in (set in_flight i f) ≡ cond b 1 0 + requested_in in_flight → cond (a && not b) 1 0 + requested_in (set in_flight i f) ≡ requested_in in_flight
     go true true h e = omega (arith, e)
     go true false h e = omega (arith, e)
     go false true h e = absurd (both_ways false refl (h refl))
     go false false h e = omega (arith, e)
 
 -- the first that is requested, by a count
-pub counted_first : (flown : List SentPdu) (low count : ℕ) → 0 < count → IsCounted flown low count → IsFirstRequested flown low
-counted_first flown low count some is = record {
-  before = λ i less. false_from_ne_true (at flown i).requested (λ e. omega (arith, less, is.below.from i e));
+pub counted_first : (in_flight : List SentPdu) (low count : ℕ) → 0 < count → IsCounted in_flight low count → IsFirstRequested in_flight low
+counted_first in_flight low count some is = record {
+  before = λ i less. false_from_ne_true (at in_flight i).requested (λ e. omega (arith, less, is.below.from i e));
   here = λ within. is.first some;
-  within = omega (arith, inside flown low (is.first some));
+  within = omega (arith, inside in_flight low (is.first some));
 }
 
-pub counted_none : (flown : List SentPdu) (low count : ℕ) → count ≡ 0 → IsCounted flown low count → IsFirstRequested flown (length flown)
-counted_none flown low count none is = record {
-  before = λ i less. false_from_ne_true (at flown i).requested (λ e. omega (arith, none, is.count_is, requested_some flown i e));
+pub counted_none : (in_flight : List SentPdu) (low count : ℕ) → count ≡ 0 → IsCounted in_flight low count → IsFirstRequested in_flight (length in_flight)
+counted_none in_flight low count none is = record {
+  before = λ i less. false_from_ne_true (at in_flight i).requested (λ e. omega (arith, none, is.count_is, requested_some in_flight i e));
   here = λ within. absurd (omega (arith, within));
   within = omega arith;
 }
 
 -- a search for the first
-pub none_from : (flown : List SentPdu) (count : ℕ) → count ≡ requested_in flown → count ≡ 0 → IsCounted flown 0 count
-none_from flown count e none = record { below = record { from = λ i w. omega arith }; count_is = e; first = λ some. absurd (omega (arith, some, none)) }
+pub none_from : (in_flight : List SentPdu) (count : ℕ) → count ≡ requested_in in_flight → count ≡ 0 → IsCounted in_flight 0 count
+none_from in_flight count e none = record { below = record { from = λ i w. omega arith }; count_is = e; first = λ some. absurd (omega (arith, some, none)) }
 
-pub found_from : (flown : List SentPdu) (count i : ℕ) → count ≡ requested_in flown → ((j : ℕ) → j < i → (at flown j).requested ≡ false) → (at flown i).requested ≡ true → IsCounted flown i count
-found_from flown count i e before here = record {
-  below = record { from = λ j w. ⊎_elim (λ (l : j < i). absurd (both_ways (at flown j).requested (before j l) w)) (λ (l : i ≤ j). l) (cases_lt j i) };
+pub found_from : (in_flight : List SentPdu) (count i : ℕ) → count ≡ requested_in in_flight → ((j : ℕ) → j < i → (at in_flight j).requested ≡ false) → (at in_flight i).requested ≡ true → IsCounted in_flight i count
+found_from in_flight count i e before here = record {
+  below = record { from = λ j w. ⊎_elim (λ (l : j < i). absurd (both_ways (at in_flight j).requested (before j l) w)) (λ (l : i ≤ j). l) (cases_lt j i) };
   count_is = e;
   first = λ some. here;
 }
 
-pub exhausted : (flown : List SentPdu) → ((j : ℕ) → j < length flown → (at flown j).requested ≡ false) → requested_in flown ≡ 0
-exhausted flown none = requested_none flown (λ j. false_from_ne_true (at flown j).requested (λ e. both_ways (at flown j).requested (none j (inside flown j e)) e))
+pub exhausted : (in_flight : List SentPdu) → ((j : ℕ) → j < length in_flight → (at in_flight j).requested ≡ false) → requested_in in_flight ≡ 0
+exhausted in_flight none = requested_none in_flight (λ j. false_from_ne_true (at in_flight j).requested (λ e. both_ways (at in_flight j).requested (none j (inside in_flight j e)) e))
 
 -- one that is named is requested since
 pub flight_named : (flight : Buffer SentPdu) (skips : Buffer ℕ) (low count i : ℕ) (f : SentPdu) → i < length flight.items → (not (at flight.items i).requested && f.requested) ≡ true → AreLinked (set flight.items i f) skips.items → IsFlight flight skips low count → IsFlight (buffer (set flight.items i f) flight.capacity) skips (lowered low count i) (count + 1)
@@ -241,14 +241,14 @@ flight_as flight skips low count i f l more none linked is = flight_set flight s
     go false false h e = refl
 
 -- one that isn't requested any more
-pub acknowledged_from : (to : ℕ) (flown : List SentPdu) (low : ℕ) → IsFrom flown low → IsFrom (changed_below acknowledged to flown) low
-acknowledged_from to flown low is = record { from = λ i e. is.from i (requested_before acknowledged acknowledged_less to flown i e) }
+pub acknowledged_from : (to : ℕ) (in_flight : List SentPdu) (low : ℕ) → IsFrom in_flight low → IsFrom (changed_below acknowledged to in_flight) low
+acknowledged_from to in_flight low is = record { from = λ i e. is.from i (requested_before acknowledged acknowledged_less to in_flight i e) }
 
-pub cleared_from : (to : ℕ) (flown : List SentPdu) (low : ℕ) → IsFrom flown low → IsFrom (changed_below request_cleared to flown) low
-cleared_from to flown low is = record { from = λ i e. is.from i (requested_before request_cleared cleared_less to flown i e) }
+pub cleared_from : (to : ℕ) (in_flight : List SentPdu) (low : ℕ) → IsFrom in_flight low → IsFrom (changed_below request_cleared to in_flight) low
+cleared_from to in_flight low is = record { from = λ i e. is.from i (requested_before request_cleared cleared_less to in_flight i e) }
 
-pub left_from : (count : ℕ) (flown : List SentPdu) (low : ℕ) → IsFrom flown low → IsFrom (drop count flown) (low - count)
-left_from count flown low is = record { from = λ i e. omega (arith, is.from (count + i) (ap (λ (x : SentPdu). x.requested) (sym (get_or-drop count flown i blank)) ∙ e)) }
+pub left_from : (count : ℕ) (in_flight : List SentPdu) (low : ℕ) → IsFrom in_flight low → IsFrom (drop count in_flight) (low - count)
+left_from count in_flight low is = record { from = λ i e. omega (arith, is.from (count + i) (ap (λ (x : SentPdu). x.requested) (sym (get_or-drop count in_flight i blank)) ∙ e)) }
 
 -- one more that isn't requested
 pub flight_push : (flight : Buffer SentPdu) (skips : Buffer ℕ) (low count : ℕ) (f : SentPdu) → length flight.items < flight.capacity → f.requested ≡ false → AreLinked (flight.items ++ f ∷ []) (skips.items ++ 0 ∷ []) → IsFlight flight skips low count → IsFlight (buffer (flight.items ++ f ∷ []) flight.capacity) (buffer (skips.items ++ 0 ∷ []) skips.capacity) low count

@@ -115,9 +115,9 @@ named-append : (first i : ℕ) (xs ys : List StatusItem) → is_named first i (x
 named-append first i [] ys = refl
 named-append first i (x ∷ xs) ys = ap (λ b. names_place first i x || b) (named-append first i xs ys) ∙ or_three (names_place first i x) (is_named first i xs) (is_named first i ys)
 
-with-append : (first from to : ℕ) (xs ys : List StatusItem) (flown : List SentPdu) → with_names first from to (xs ++ ys) flown ≡ with_names first from to ys (with_names first from to xs flown)
-with-append first from to [] ys flown = refl
-with-append first from to (x ∷ xs) ys flown = with-append first from to xs ys (with_name first from to x flown)
+with-append : (first from to : ℕ) (xs ys : List StatusItem) (in_flight : List SentPdu) → with_names first from to (xs ++ ys) in_flight ≡ with_names first from to ys (with_names first from to xs in_flight)
+with-append first from to [] ys in_flight = refl
+with-append first from to (x ∷ xs) ys in_flight = with-append first from to xs ys (with_name first from to x in_flight)
 
 pub naming_part : (first polled from to : ℕ) (all rest here more : List StatusItem) (is h : Bool) (flight now next : Buffer SentPdu) → rest ≡ here ++ more → h ≡ is_named first polled here → next ≡ buffer (with_names first from to here now.items) now.capacity → IsNaming first polled from to all rest is flight now → IsNaming first polled from to all more (is || h) flight next
 naming_part first polled from to all rest here more is h flight now next e q n w = record {

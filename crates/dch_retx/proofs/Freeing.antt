@@ -14,7 +14,7 @@ use Rattle.dch_retx.specs.StatusItems.{Missing, Unset, Set, Below, Moved}
 use Rattle.dch_retx.specs.declared.buffer.Running.{Running}
 use Rattle.dch_retx.specs.StatusItem.{ends_at, first_ending, or_else, place_of}
 use Rattle.dch_retx.specs.RetxBuffer.{RetxBuffer, acked_below, after_ending, base_after, ending, first_number, freed}
-use Rattle.dch_retx.specs.Standing.{IsFlown, IsRunning, IsSame, Stands}
+use Rattle.dch_retx.specs.Standing.{IsInFlight, IsRunning, IsSame, Stands}
 use Rattle.dch_retx.proofs.Lengths.{length-acked}
 use Rattle.dch_retx.proofs.Fronts.{IsHeard, IsTold, heard_stands}
 use Rattle.dch_retx.proofs.Naming.{IsOne, at-changed_below, one_is}
@@ -37,20 +37,20 @@ settled_stands rules l s is = record {
   few = is.few;
   flying = is.flying;
   next = is.next;
-  flown = λ i less. let f : IsFlown s (vt_a s + i) (at l.flown i) = is.flown i less in record { acked = f.acked; requested = f.requested; named = f.named; builds = f.builds };
+  in_flight = λ i less. let f : IsInFlight s (vt_a s + i) (at l.in_flight i) = is.in_flight i less in record { acked = f.acked; requested = f.requested; named = f.named; builds = f.builds };
   acked_sent = is.acked_sent;
   requested = λ k e. record { from = (is.requested k e).from; sent = (is.requested k e).sent; is_open = (is.requested k e).is_open; high = omega arith };
   unsent = is.unsent;
-  timer = is.timer;
+  poll_timer = is.poll_timer;
   owed = is.owed;
   polled = λ out. record { number = (is.polled out).number; inside = (is.polled out).inside };
   running = tt;
 }
 
-freed_heard : (rules : Rules) (l : RetxBuffer) (s : Sender) (m : ℕ) → Stands rules l s → m ≤ length l.flown → IsHeard rules (settled_line l) (settled s) [] (vt_a s + m) false (acked_below m l.flown)
+freed_heard : (rules : Rules) (l : RetxBuffer) (s : Sender) (m : ℕ) → Stands rules l s → m ≤ length l.in_flight → IsHeard rules (settled_line l) (settled s) [] (vt_a s + m) false (acked_below m l.in_flight)
 freed_heard rules l s m is le = record {
   stands = settled_stands rules l s is;
-  size = length-acked m l.flown;
+  size = length-acked m l.in_flight;
   told = λ i inside. told_is i inside;
   names_in = λ k e. absurd (both_ways false refl e);
   lsn_in = omega (arith, is.flying);
@@ -60,14 +60,14 @@ freed_heard rules l s m is le = record {
     under : (low i n : ℕ) → i < n → nat_lt i (min m n) ≡ nat_lt (low + i) (low + m)
     under low i n inside = grind (arith, nat_tests)
 
-    told_is : (i : ℕ) → i < length l.flown → IsTold (settled s) [] (vt_a s + m) (vt_a s + i) (at (acked_below m l.flown) i)
+    told_is : (i : ℕ) → i < length l.in_flight → IsTold (settled s) [] (vt_a s + m) (vt_a s + i) (at (acked_below m l.in_flight) i)
     told_is i inside =
-        let f : IsFlown s (vt_a s + i) (at l.flown i) = is.flown i inside in
-        let one : IsOne (at l.flown i) (nat_le 0 i) (has (vt_a s + i) s.acked) (has (vt_a s + i) s.requested) false (nat_lt i (min m (length l.flown))) (nat_lt (vt_a s + i) 0) =
-        one_is (at l.flown i) (nat_le 0 i) _ _ false (nat_lt i (min m (length l.flown))) (nat_lt (vt_a s + i) 0) f.acked f.requested f.named (le-leb 0 i (omega arith) ∙ ap not (sym (le-ltb (vt_a s + i) 0 (omega arith))))
+        let f : IsInFlight s (vt_a s + i) (at l.in_flight i) = is.in_flight i inside in
+        let one : IsOne (at l.in_flight i) (nat_le 0 i) (has (vt_a s + i) s.acked) (has (vt_a s + i) s.requested) false (nat_lt i (min m (length l.in_flight))) (nat_lt (vt_a s + i) 0) =
+        one_is (at l.in_flight i) (nat_le 0 i) _ _ false (nat_lt i (min m (length l.in_flight))) (nat_lt (vt_a s + i) 0) f.acked f.requested f.named (le-leb 0 i (omega arith) ∙ ap not (sym (le-ltb (vt_a s + i) 0 (omega arith))))
         (λ w. ((is.requested (vt_a s + i) w).is_open, le-ltb (vt_a s + i) 0 (omega arith))) in
-        let place : at (acked_below m l.flown) i ≡ cond (nat_lt i (min m (length l.flown))) (acknowledged (at l.flown i)) (at l.flown i) = at-changed_below acknowledged (min m (length l.flown)) l.flown i inside in
-        let e : nat_lt i (min m (length l.flown)) ≡ nat_lt (vt_a s + i) (vt_a s + m) = under (vt_a s) i (length l.flown) inside in
+        let place : at (acked_below m l.in_flight) i ≡ cond (nat_lt i (min m (length l.in_flight))) (acknowledged (at l.in_flight i)) (at l.in_flight i) = at-changed_below acknowledged (min m (length l.in_flight)) l.in_flight i inside in
+        let e : nat_lt i (min m (length l.in_flight)) ≡ nat_lt (vt_a s + i) (vt_a s + m) = under (vt_a s) i (length l.in_flight) inside in
         record {
           acked = ap (λ (g : SentPdu). g.acked) place ∙ (one.acked ∙ ap (λ u. (u && not false) || has (vt_a s + i) s.acked) e);
           requested = ap (λ (g : SentPdu). g.requested) place ∙ (one.requested ∙ (ap (λ u. ((false || has (vt_a s + i) s.requested) && not ((u && not false) || has (vt_a s + i) s.acked)) && not (nat_lt (vt_a s + i) 0)) e ∙ sym (requested_spec (vt_a s + i) s.requested s.acked [] (vt_a s + m) 0)));
@@ -75,19 +75,19 @@ freed_heard rules l s m is le = record {
           builds = ap (λ (g : SentPdu). g.builds) place ∙ (one.builds ∙ f.builds);
         }
 
-pub freed_stands : (rules : Rules) (l : RetxBuffer) (s : Sender) (m : ℕ) → Stands rules l s → m ≤ length l.flown → Stands rules (freed m l) (told (settled s) [] (vt_a s + m))
-freed_stands rules l s m is le = heard_stands rules (settled_line l) (settled s) [] (vt_a s + m) false (acked_below m l.flown) (freed_heard rules l s m is le)
+pub freed_stands : (rules : Rules) (l : RetxBuffer) (s : Sender) (m : ℕ) → Stands rules l s → m ≤ length l.in_flight → Stands rules (freed m l) (told (settled s) [] (vt_a s + m))
+freed_stands rules l s m is le = heard_stands rules (settled_line l) (settled s) [] (vt_a s + m) false (acked_below m l.in_flight) (freed_heard rules l s m is le)
 
 -- how many leave
-front_freed : (k : ℕ) (flown : List SentPdu) → k ≤ length flown → ((i : ℕ) → i < length flown → (at flown i).named ≡ false) → front_acked (changed_below acknowledged k flown) ≡ k + front_acked (drop k flown)
-front_freed zero flown le none = omega arith
+front_freed : (k : ℕ) (in_flight : List SentPdu) → k ≤ length in_flight → ((i : ℕ) → i < length in_flight → (at in_flight i).named ≡ false) → front_acked (changed_below acknowledged k in_flight) ≡ k + front_acked (drop k in_flight)
+front_freed zero in_flight le none = omega arith
 front_freed (suc k) [] le none = absurd (omega arith)
-front_freed (suc k) (f ∷ flown) le none =
-    ap (λ b. cond (cond b (record f { named = false }) (record f { acked = true; requested = false })).acked (suc (front_acked (changed_below acknowledged k flown))) 0) (none 0 (omega arith))
-    ∙ (ap suc (front_freed k flown (omega arith) (λ i less. none (suc i) (omega arith))) ∙ omega arith)
+front_freed (suc k) (f ∷ in_flight) le none =
+    ap (λ b. cond (cond b (record f { named = false }) (record f { acked = true; requested = false })).acked (suc (front_acked (changed_below acknowledged k in_flight))) 0) (none 0 (omega arith))
+    ∙ (ap suc (front_freed k in_flight (omega arith) (λ i less. none (suc i) (omega arith))) ∙ omega arith)
 
-pub base_freed : (rules : Rules) (l : RetxBuffer) (s : Sender) (m : ℕ) → Stands rules l s → base_after (Some m) l ≡ front_acked (acked_below m l.flown)
-base_freed rules l s m is = sym (front_freed (min m (length l.flown)) l.flown (omega arith) (λ i less. (is.flown i less).named))
+pub base_freed : (rules : Rules) (l : RetxBuffer) (s : Sender) (m : ℕ) → Stands rules l s → base_after (Some m) l ≡ front_acked (acked_below m l.in_flight)
+base_freed rules l s m is = sym (front_freed (min m (length l.in_flight)) l.in_flight (omega arith) (λ i less. (is.in_flight i less).named))
 
 -- one MRW_ACK, as a place and as a number
 abbrev pub raised : ℕ → Option ℕ → Option ℕ
@@ -182,27 +182,27 @@ ending_le first n k mark m (Below x ∷ said) l e = ending_le first n k mark m s
 -- the line after the MRW_ACKs, and how many have left
 pub record HasMoved (rules : Rules) (l : RetxBuffer) (s : Sender) (o : Option ℕ) (t : Sender) : Type 0 where
   pub stands : Stands rules (after_ending o l) t
-  pub left : length (after_ending o l).flown ≡ length l.flown - base_after o l
+  pub left : length (after_ending o l).in_flight ≡ length l.in_flight - base_after o l
   pub next : (after_ending o l).next ≡ l.next
   pub window : (after_ending o l).window ≡ l.window
 
-by_ending : (rules : Rules) (l : RetxBuffer) (s : Sender) (o : Option ℕ) → ((m : ℕ) → o ≡ Some m → m ≤ length l.flown) → Stands rules l s → HasMoved rules l s o (ends_discard s (raised (vt_a s) o))
+by_ending : (rules : Rules) (l : RetxBuffer) (s : Sender) (o : Option ℕ) → ((m : ℕ) → o ≡ Some m → m ≤ length l.in_flight) → Stands rules l s → HasMoved rules l s o (ends_discard s (raised (vt_a s) o))
 by_ending rules l s None le is = record { stands = is; left = omega arith; next = refl; window = refl }
 by_ending rules l s (Some m) le is = record {
   stands = freed_stands rules l s m is (le m refl);
-  left = length-drop (front_acked (acked_below m l.flown)) (acked_below m l.flown) ∙ ap₂ (λ a b. a - b) (length-acked m l.flown) (sym (base_freed rules l s m is));
+  left = length-drop (front_acked (acked_below m l.in_flight)) (acked_below m l.in_flight) ∙ ap₂ (λ a b. a - b) (length-acked m l.in_flight) (sym (base_freed rules l s m is));
   next = refl;
   window = refl;
 }
 
-moves_by : (rules : Rules) (l : RetxBuffer) (s : Sender) (said : List StatusItem) (r : Option Running) (d : Option Discard) → s.discard ≡ d → IsRunning r d (vt_a s) (length l.flown) → Stands rules l s → HasMoved rules l s (ending said l r) (said_acks s said)
+moves_by : (rules : Rules) (l : RetxBuffer) (s : Sender) (said : List StatusItem) (r : Option Running) (d : Option Discard) → s.discard ≡ d → IsRunning r d (vt_a s) (length l.in_flight) → Stands rules l s → HasMoved rules l s (ending said l r) (said_acks s said)
 moves_by rules l s said None None e run is = subst (λ t. HasMoved rules l s None t) (sym (settled_acks s said e)) (by_ending rules l s None (λ m q. absurd (cc)) is)
 moves_by rules l s said None (Some d) e run is = absurd run
 moves_by rules l s said (Some r) None e run is = absurd run
 moves_by rules l s said (Some r) (Some d) e run is =
-    subst (λ t. HasMoved rules l s (first_ending (first_number l) (length l.flown) r.at r.n said) t)
-    (sym (acks_by (vt_a s) (length l.flown) (vt_s s) (first_number l) r s d said (record { count = sym is.flying; first_is = (base_is rules l s is).first_is; same = run; discard = e })))
-    (by_ending rules l s (first_ending (first_number l) (length l.flown) r.at r.n said) (λ m q. ending_le (first_number l) (length l.flown) r.at r.n m said run.inside q) is)
+    subst (λ t. HasMoved rules l s (first_ending (first_number l) (length l.in_flight) r.at r.n said) t)
+    (sym (acks_by (vt_a s) (length l.in_flight) (vt_s s) (first_number l) r s d said (record { count = sym is.flying; first_is = (base_is rules l s is).first_is; same = run; discard = e })))
+    (by_ending rules l s (first_ending (first_number l) (length l.in_flight) r.at r.n said) (λ m q. ending_le (first_number l) (length l.in_flight) r.at r.n m said run.inside q) is)
 
 pub moves_stand : (rules : Rules) (l : RetxBuffer) (s : Sender) (said : List StatusItem) → Stands rules l s → HasMoved rules l s (ending said l l.running) (said_acks s said)
 moves_stand rules l s said is = moves_by rules l s said l.running s.discard refl is.running is

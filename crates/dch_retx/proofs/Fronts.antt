@@ -14,29 +14,29 @@ use Rattle.dch_am.specs.Discards.{count}
 use Rattle.dch_am.proofs.Lists.{Is, has-append, has-less, has-below, run_in, run_le, run_reaches}
 use Rattle.dch_retx.specs.declared.buffer.Running.{Running}
 use Rattle.dch_retx.specs.RetxBuffer.{RetxBuffer, left_front, run_on}
-use Rattle.dch_retx.specs.Standing.{IsFlown, IsPolled, IsRunning, IsRequested, Stands}
+use Rattle.dch_retx.specs.Standing.{IsInFlight, IsPolled, IsRunning, IsRequested, Stands}
 
-pub front_in : (flown : List SentPdu) (i : ℕ) → i < front_acked flown → (at flown i).acked ≡ true
+pub front_in : (in_flight : List SentPdu) (i : ℕ) → i < front_acked in_flight → (at in_flight i).acked ≡ true
 front_in [] i l = absurd (omega arith)
-front_in (f ∷ flown) i l = go f.acked refl l (λ j m. front_in flown j m) i
+front_in (f ∷ in_flight) i l = go f.acked refl l (λ j m. front_in in_flight j m) i
   where
-    go : (b : Bool) → f.acked ≡ b → i < cond b (suc (front_acked flown)) 0 → ((j : ℕ) → j < front_acked flown → (at flown j).acked ≡ true) → (j : ℕ) → (at (f ∷ flown) i).acked ≡ true
+    go : (b : Bool) → f.acked ≡ b → i < cond b (suc (front_acked in_flight)) 0 → ((j : ℕ) → j < front_acked in_flight → (at in_flight j).acked ≡ true) → (j : ℕ) → (at (f ∷ in_flight) i).acked ≡ true
     go true e l rest j = here i l
       where
-        here : (k : ℕ) → k < suc (front_acked flown) → (at (f ∷ flown) k).acked ≡ true
+        here : (k : ℕ) → k < suc (front_acked in_flight) → (at (f ∷ in_flight) k).acked ≡ true
         here zero m = e
         here (suc k) m = rest k (omega arith)
     go false e l rest j = absurd (omega arith)
 
-pub front_le : (flown : List SentPdu) → front_acked flown ≤ length flown
+pub front_le : (in_flight : List SentPdu) → front_acked in_flight ≤ length in_flight
 front_le [] = omega arith
-front_le (f ∷ flown) = cond_both {A = ℕ} f.acked (suc (front_acked flown)) 0 (λ k. k ≤ suc (length flown)) (λ _. omega (arith, front_le flown)) (λ _. omega arith)
+front_le (f ∷ in_flight) = cond_both {A = ℕ} f.acked (suc (front_acked in_flight)) 0 (λ k. k ≤ suc (length in_flight)) (λ _. omega (arith, front_le in_flight)) (λ _. omega arith)
 
-pub front_out : (flown : List SentPdu) → front_acked flown < length flown → (at flown (front_acked flown)).acked ≡ false
+pub front_out : (in_flight : List SentPdu) → front_acked in_flight < length in_flight → (at in_flight (front_acked in_flight)).acked ≡ false
 front_out [] l = absurd (omega arith)
-front_out (f ∷ flown) l = go f.acked refl l (front_out flown)
+front_out (f ∷ in_flight) l = go f.acked refl l (front_out in_flight)
   where
-    go : (b : Bool) → f.acked ≡ b → cond b (suc (front_acked flown)) 0 < suc (length flown) → (front_acked flown < length flown → (at flown (front_acked flown)).acked ≡ false) → (at (f ∷ flown) (cond b (suc (front_acked flown)) 0)).acked ≡ false
+    go : (b : Bool) → f.acked ≡ b → cond b (suc (front_acked in_flight)) 0 < suc (length in_flight) → (front_acked in_flight < length in_flight → (at in_flight (front_acked in_flight)).acked ≡ false) → (at (f ∷ in_flight) (cond b (suc (front_acked in_flight)) 0)).acked ≡ false
     go true e m rest = rest (omega arith)
     go false e m rest = e
 
@@ -54,13 +54,13 @@ pub record IsTold (s : Sender) (names : List ℕ) (lsn k : ℕ) (f : SentPdu) : 
   pub builds : f.builds ≡ min 255 (count k s.sendings)
 
 -- what is told of PDUs that are in flight
-pub record IsHeard (rules : Rules) (l : RetxBuffer) (s : Sender) (names : List ℕ) (lsn : ℕ) (named : Bool) (flown : List SentPdu) : Type 0 where
+pub record IsHeard (rules : Rules) (l : RetxBuffer) (s : Sender) (names : List ℕ) (lsn : ℕ) (named : Bool) (in_flight : List SentPdu) : Type 0 where
   pub stands : Stands rules l s
-  pub size : length flown ≡ length l.flown
-  pub told : (i : ℕ) → i < length l.flown → IsTold s names lsn (vt_a s + i) (at flown i)
+  pub size : length in_flight ≡ length l.in_flight
+  pub told : (i : ℕ) → i < length l.in_flight → IsTold s names lsn (vt_a s + i) (at in_flight i)
   pub names_in : (k : ℕ) → has k names ≡ true → (vt_a s ≤ k) × (k < vt_s s)
   pub lsn_in : lsn ≤ vt_s s
-  pub polled : l.polled < length l.flown → named ≡ has (vt_a s + l.polled) names
+  pub polled : l.polled < length l.in_flight → named ≡ has (vt_a s + l.polled) names
 
 floor_less : (low : ℕ) (d : Option Discard) → floor (ended_by low d) ≤ floor d
 floor_less low None = omega arith
@@ -107,8 +107,8 @@ run_step gone low now n m (Some r) (Some d) e1 e2 is = go (nat_lt r.at gone) ref
     go false ea b e = subst (λ c. IsRunning (Some (record r { at = r.at - gone })) (cond c None (Some d)) now m) (sym (e ∙ ea)) (record { k = omega (arith, is.k, ltb-false r.at gone ea); n = is.n; due = is.due; timer = is.timer; inside = omega (arith, is.inside, ltb-false r.at gone ea) })
 
 -- the line once the PDUs in front have left
-pub heard_stands : (rules : Rules) (l : RetxBuffer) (s : Sender) (names : List ℕ) (lsn : ℕ) (named : Bool) (flown : List SentPdu) → IsHeard rules l s names lsn named flown → Stands rules (left_front (front_acked flown) named flown l) (told s names lsn)
-heard_stands rules l s names lsn named flown h = record {
+pub heard_stands : (rules : Rules) (l : RetxBuffer) (s : Sender) (names : List ℕ) (lsn : ℕ) (named : Bool) (in_flight : List SentPdu) → IsHeard rules l s names lsn named in_flight → Stands rules (left_front (front_acked in_flight) named in_flight l) (told s names lsn)
+heard_stands rules l s names lsn named in_flight h = record {
   window = h.stands.window;
   rules_are = h.stands.rules_are;
   built = h.stands.built;
@@ -117,21 +117,21 @@ heard_stands rules l s names lsn named flown h = record {
   few = omega (arith, shorter, h.stands.few);
   flying = omega (arith, low_is, shorter, within, h.stands.flying);
   next = h.stands.next;
-  flown = λ i less. flown_is i less;
+  in_flight = λ i less. in_flight_is i less;
   acked_sent = acked_sent;
   requested = requested_is;
   unsent = h.stands.unsent;
-  timer = ⊎_elim (λ (m : 0 < s.poll_timer). ap₂ (λ b n. cond b 0 n) (same_test (inl m)) h.stands.timer) (λ (m : s.poll_timer ≤ 0). zero_both (named || nat_lt l.polled gone) told_now l.timer s.poll_timer h.stands.timer (omega arith)) (cases_lt 0 s.poll_timer);
+  poll_timer = ⊎_elim (λ (m : 0 < s.poll_timer). ap₂ (λ b n. cond b 0 n) (same_test (inl m)) h.stands.poll_timer) (λ (m : s.poll_timer ≤ 0). zero_both (named || nat_lt l.polled gone) told_now l.poll_timer s.poll_timer h.stands.poll_timer (omega arith)) (cases_lt 0 s.poll_timer);
   owed = ⊎_elim (λ (q : s.owed ≡ true). ap₂ (λ b c. cond b false c) (same_test (inr q)) h.stands.owed) (λ (q : s.owed ≡ false). false_both (named || nat_lt l.polled gone) told_now l.owed s.owed h.stands.owed q) (cases_Bool s.owed);
   polled = λ out. polled_is out;
-  running = run_step gone low (run_of acked next) (length l.flown) (length (drop gone flown)) l.running s.discard low_is shorter h.stands.running;
+  running = run_step gone low (run_of acked next) (length l.in_flight) (length (drop gone in_flight)) l.running s.discard low_is shorter h.stands.running;
 }
   where
     low : ℕ
     low = vt_a s
 
     gone : ℕ
-    gone = front_acked flown
+    gone = front_acked in_flight
 
     next : ℕ
     next = vt_s s
@@ -139,36 +139,36 @@ heard_stands rules l s names lsn named flown h = record {
     acked : List ℕ
     acked = now_acked s.acked names lsn
 
-    within : gone ≤ length l.flown
-    within = omega (arith, front_le flown, h.size)
+    within : gone ≤ length l.in_flight
+    within = omega (arith, front_le in_flight, h.size)
 
-    shorter : length (drop gone flown) ≡ length l.flown - gone
-    shorter = length-drop gone flown ∙ ap (λ n. n - gone) h.size
+    shorter : length (drop gone in_flight) ≡ length l.in_flight - gone
+    shorter = length-drop gone in_flight ∙ ap (λ n. n - gone) h.size
 
     acked_is : (k : ℕ) → has k acked ≡ ((nat_lt k lsn && not (has k names)) || has k s.acked)
     acked_is k = has-append k (less (below lsn) names) s.acked ∙ ap (λ b. b || has k s.acked) (has-less k (below lsn) names ∙ ap (λ b. b && not (has k names)) (has-below k lsn))
 
-    flag : (i : ℕ) → i < length l.flown → (at flown i).acked ≡ has (low + i) acked
+    flag : (i : ℕ) → i < length l.in_flight → (at in_flight i).acked ≡ has (low + i) acked
     flag i less = (h.told i less).acked ∙ sym (acked_is (low + i))
 
     all_in : (k : ℕ) → k < low + gone → Is k acked
     all_in k less = ⊎_elim
         (λ (m : k < low). acked_is k ∙ or_right _ _ (run_in s.acked next k m))
-        (λ (m : low ≤ k). let e : low + (k - low) ≡ k = omega arith in subst (λ j. Is j acked) e (sym (flag (k - low) (omega (arith, within))) ∙ front_in flown (k - low) (omega arith)))
+        (λ (m : low ≤ k). let e : low + (k - low) ≡ k = omega arith in subst (λ j. Is j acked) e (sym (flag (k - low) (omega (arith, within))) ∙ front_in in_flight (k - low) (omega arith)))
         (cases_lt k low)
 
     one_out : low + gone < next → has (low + gone) acked ≡ false
-    one_out less = sym (flag gone (omega (arith, h.stands.flying))) ∙ front_out flown (omega (arith, h.stands.flying, h.size))
+    one_out less = sym (flag gone (omega (arith, h.stands.flying))) ∙ front_out in_flight (omega (arith, h.stands.flying, h.size))
 
     low_is : run_of acked next ≡ low + gone
     low_is = run_is acked next (low + gone) (omega (arith, within, h.stands.flying)) all_in one_out
 
-    flown_is : (i : ℕ) → i < length (drop gone flown) → IsFlown (told s names lsn) (run_of acked next + i) (at (drop gone flown) i)
-    flown_is i less =
-        let there : gone + i < length l.flown = omega (arith, shorter) in
+    in_flight_is : (i : ℕ) → i < length (drop gone in_flight) → IsInFlight (told s names lsn) (run_of acked next + i) (at (drop gone in_flight) i)
+    in_flight_is i less =
+        let there : gone + i < length l.in_flight = omega (arith, shorter) in
         let number : low + (gone + i) ≡ run_of acked next + i = omega (arith, low_is) in
-        let place : at (drop gone flown) i ≡ at flown (gone + i) = get_or-drop gone flown i blank in
-        let t : IsTold s names lsn (run_of acked next + i) (at (drop gone flown) i) = subst (λ k. IsTold s names lsn k (at (drop gone flown) i)) number (subst (λ f. IsTold s names lsn (low + (gone + i)) f) (sym place) (h.told (gone + i) there)) in
+        let place : at (drop gone in_flight) i ≡ at in_flight (gone + i) = get_or-drop gone in_flight i blank in
+        let t : IsTold s names lsn (run_of acked next + i) (at (drop gone in_flight) i) = subst (λ k. IsTold s names lsn k (at (drop gone in_flight) i)) number (subst (λ f. IsTold s names lsn (low + (gone + i)) f) (sym place) (h.told (gone + i) there)) in
         record { acked = t.acked ∙ sym (acked_is (run_of acked next + i)); requested = t.requested; named = t.named; builds = t.builds }
 
     acked_sent : (k : ℕ) → has k acked ≡ true → k < next
@@ -195,15 +195,15 @@ heard_stands rules l s names lsn named flown h = record {
 
     same_test : (0 < s.poll_timer) ⊎ (s.owed ≡ true) → (named || nat_lt l.polled gone) ≡ is_told s.polled (run_of acked next) names
     same_test out =
-        let p : IsPolled s l.polled (length l.flown) = h.stands.polled out in
+        let p : IsPolled s l.polled (length l.in_flight) = h.stands.polled out in
         ap₂ (λ a b. a || b) (h.polled p.inside) (sym (same_order low l.polled gone) ∙ ap (λ m. nat_lt (low + l.polled) m) (sym low_is))
         ∙ (or_comm (has (low + l.polled) names) (nat_lt (low + l.polled) (run_of acked next))
         ∙ ap (λ o. is_told o (run_of acked next) names) (sym p.number))
 
-    polled_is : (0 < cond told_now 0 s.poll_timer) ⊎ (cond told_now false s.owed ≡ true) → IsPolled (told s names lsn) (l.polled - gone) (length (drop gone flown))
+    polled_is : (0 < cond told_now 0 s.poll_timer) ⊎ (cond told_now false s.owed ≡ true) → IsPolled (told s names lsn) (l.polled - gone) (length (drop gone in_flight))
     polled_is out =
         let before : (told_now ≡ false) × ((0 < s.poll_timer) ⊎ (s.owed ≡ true)) = still_out told_now s.poll_timer s.owed out in
-        let p : IsPolled s l.polled (length l.flown) = h.stands.polled before.1 in
+        let p : IsPolled s l.polled (length l.in_flight) = h.stands.polled before.1 in
         let stays : gone ≤ l.polled = ltb-false l.polled gone (or_false named (nat_lt l.polled gone) (same_test before.1 ∙ before.0)) in
         let number : low + l.polled ≡ run_of acked next + (l.polled - gone) = omega (arith, low_is) in
         record { number = p.number ∙ ap Some number; inside = omega (arith, p.inside, shorter) }

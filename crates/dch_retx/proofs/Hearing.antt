@@ -170,7 +170,7 @@ answered_is (Some i) = refl
 pub hears : (rules : Rules) (l : RetxBuffer) (s : Sender) (fields : List Field) → Stands rules l s → Hears rules l s fields
 hears rules l s fields is = record {
   answer = answer;
-  after = go (first_outside now.window (first_number now) (length now.flown) said) refl;
+  after = go (first_outside now.window (first_number now) (length now.in_flight) said) refl;
 }
   where
     said : List StatusItem
@@ -185,11 +185,11 @@ hears rules l s fields is = record {
     m : HasMoved rules l s (ending said l l.running) after
     m = moves_stand rules l s said is
 
-    b : IsBase (vt_a after) (vt_s after) (first_number now) (length now.flown)
+    b : IsBase (vt_a after) (vt_s after) (first_number now) (length now.in_flight)
     b = base_is rules now after m.stands
 
-    place : outside_from (base_after (ending said l l.running) l) said l ≡ first_outside now.window (first_number now) (length now.flown) said
-    place = same l.window now.window (length l.flown - base_after (ending said l l.running) l) (length now.flown) l.next now.next (sym m.window) (sym m.left) (sym m.next)
+    place : outside_from (base_after (ending said l l.running) l) said l ≡ first_outside now.window (first_number now) (length now.in_flight) said
+    place = same l.window now.window (length l.in_flight - base_after (ending said l l.running) l) (length now.in_flight) l.next now.next (sym m.window) (sym m.left) (sym m.next)
       where
         same : (w v a c x y : ℕ) → w ≡ v → a ≡ c → x ≡ y → first_outside w (wrapped (x + 4096 - a)) a said ≡ first_outside v (wrapped (y + 4096 - (c - 0))) c said
         same w v a c x y e1 e2 e3 = let e4 : x + 4096 - a ≡ y + 4096 - (c - 0) = omega arith in ap₂ (λ p q. first_outside p (wrapped q) a said) e1 e4 ∙ ap (λ q. first_outside v (wrapped (y + 4096 - (c - 0))) q said) e2
@@ -197,8 +197,8 @@ hears rules l s fields is = record {
     acks : after_acks s fields ≡ after
     acks = acks_are s fields
 
-    found : first_outside now.window (first_number now) (length now.flown) said ≡ offending rules.window (vt_a (after_acks s fields)) (vt_s (after_acks s fields)) fields
-    found = ap (λ w. first_outside w (first_number now) (length now.flown) said) m.stands.window ∙ (sym (outside_is rules.window (vt_a after) (vt_s after) (first_number now) (length now.flown) b fields) ∙ ap (λ t. offending rules.window (vt_a t) (vt_s t) fields) (sym acks))
+    found : first_outside now.window (first_number now) (length now.in_flight) said ≡ offending rules.window (vt_a (after_acks s fields)) (vt_s (after_acks s fields)) fields
+    found = ap (λ w. first_outside w (first_number now) (length now.in_flight) said) m.stands.window ∙ (sym (outside_is rules.window (vt_a after) (vt_s after) (first_number now) (length now.in_flight) b fields) ∙ ap (λ t. offending rules.window (vt_a t) (vt_s t) fields) (sym acks))
 
     answer : answer_of said l ≡ status_answer rules s fields
     answer = ap answered (place ∙ found) ∙ answered_is (offending rules.window (vt_a (after_acks s fields)) (vt_s (after_acks s fields)) fields)
@@ -208,15 +208,15 @@ hears rules l s fields is = record {
 
     -- the LSN stands at the same place among those that are left
     below_is : below ≡ below_said (first_number now) said
-    below_is = ap (λ n. below_said n said) (same (length l.flown - base_after (ending said l l.running) l) (length now.flown) l.next now.next (sym m.left) (sym m.next))
+    below_is = ap (λ n. below_said n said) (same (length l.in_flight - base_after (ending said l l.running) l) (length now.in_flight) l.next now.next (sym m.left) (sym m.next))
       where
         same : (a c x y : ℕ) → a ≡ c → x ≡ y → wrapped (x + 4096 - a) ≡ wrapped (y + 4096 - (c - 0))
         same a c x y e1 e2 = let e : x + 4096 - a ≡ y + 4096 - (c - 0) = omega arith in ap wrapped e
 
-    listens : first_outside now.window (first_number now) (length now.flown) said ≡ None → Stands rules (listened below said now) (told after (said_names (vt_a after) (vt_s after) said) (said_lsn (vt_a after) said))
+    listens : first_outside now.window (first_number now) (length now.in_flight) said ≡ None → Stands rules (listened below said now) (told after (said_names (vt_a after) (vt_s after) said) (said_lsn (vt_a after) said))
     listens none = subst (λ k. Stands rules (listened k said now) (told after (said_names (vt_a after) (vt_s after) said) (said_lsn (vt_a after) said))) (sym below_is) (listened_stands rules now after said m.stands none)
 
-    told_is : first_outside now.window (first_number now) (length now.flown) said ≡ None → Stands rules (after_told below said now) (after_telling_of after fields)
+    told_is : first_outside now.window (first_number now) (length now.in_flight) said ≡ None → Stands rules (after_told below said now) (after_telling_of after fields)
     told_is none = subst (λ c. Stands rules (after_told below said now) (cond c (told after (all_names (vt_a after) (vt_s after) fields) (lsn_of (vt_a after) fields)) after)) (sym (tells_is fields))
         (either (tells_some said)
         (subst (λ ns. Stands rules (listened below said now) (told after ns (lsn_of (vt_a after) fields))) (sym (names_are (vt_a after) (vt_s after) fields))
@@ -227,7 +227,7 @@ hears rules l s fields is = record {
         either true x = x
         either false x = m.stands
 
-    go : (o : Option ℕ) → first_outside now.window (first_number now) (length now.flown) said ≡ o → Stands rules (after_hearing said l) (after_fields rules s fields)
+    go : (o : Option ℕ) → first_outside now.window (first_number now) (length now.in_flight) said ≡ o → Stands rules (after_hearing said l) (after_fields rules s fields)
     go None e = subst (λ t. Stands rules (line_after (answer_of said l) said l) (after_answer t s fields)) answer
         (subst (λ t. Stands rules (line_after t said l) (after_answer t s fields)) (sym (ap answered (place ∙ e)))
         (subst (λ x. Stands rules (after_told below said now) (after_telling_of x fields)) (sym acks) (told_is e)))

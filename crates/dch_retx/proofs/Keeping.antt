@@ -59,41 +59,41 @@ kept_front xs ys gone size le all = record {
     left : length (drop gone ys) ≡ length xs - gone
     left = length-drop gone ys ∙ ap (λ n. n - gone) size
 
-freed_kept : (below : ℕ) (l : RetxBuffer) → AreKept l.flown (freed below l).flown
-freed_kept below l = kept_front l.flown (acked_below below l.flown) (front_acked (acked_below below l.flown)) (length-acked below l.flown) (omega (arith, front_le (acked_below below l.flown), length-acked below l.flown))
-    (λ i less. subst (λ f. IsAlike f (at l.flown i)) (sym (at-changed_below acknowledged (min below (length l.flown)) l.flown i less)) (cond_both {A = SentPdu} (nat_lt i (min below (length l.flown))) (acknowledged (at l.flown i)) (at l.flown i) (λ f. IsAlike f (at l.flown i)) (λ _. alike_acknowledged (at l.flown i)) (λ _. alike_itself (at l.flown i))))
+freed_kept : (below : ℕ) (l : RetxBuffer) → AreKept l.in_flight (freed below l).in_flight
+freed_kept below l = kept_front l.in_flight (acked_below below l.in_flight) (front_acked (acked_below below l.in_flight)) (length-acked below l.in_flight) (omega (arith, front_le (acked_below below l.in_flight), length-acked below l.in_flight))
+    (λ i less. subst (λ f. IsAlike f (at l.in_flight i)) (sym (at-changed_below acknowledged (min below (length l.in_flight)) l.in_flight i less)) (cond_both {A = SentPdu} (nat_lt i (min below (length l.in_flight))) (acknowledged (at l.in_flight i)) (at l.in_flight i) (λ f. IsAlike f (at l.in_flight i)) (λ _. alike_acknowledged (at l.in_flight i)) (λ _. alike_itself (at l.in_flight i))))
 
-listened_kept : (below : ℕ) (said : List StatusItem) (l : RetxBuffer) → AreKept l.flown (listened below said l).flown
-listened_kept below said l = kept_front l.flown (told_line below said l) (front_acked (told_line below said l)) (length-told below said l) (omega (arith, front_le (told_line below said l), length-told below said l))
-    (λ i less. subst (λ f. IsAlike f (at l.flown i)) (sym (at-told below said l i less)) (alike_one (nat_le (floor_of l.running) i) (is_named (first_number l) i said) (nat_lt i (min below (length l.flown))) (at l.flown i)))
+listened_kept : (below : ℕ) (said : List StatusItem) (l : RetxBuffer) → AreKept l.in_flight (listened below said l).in_flight
+listened_kept below said l = kept_front l.in_flight (told_line below said l) (front_acked (told_line below said l)) (length-told below said l) (omega (arith, front_le (told_line below said l), length-told below said l))
+    (λ i less. subst (λ f. IsAlike f (at l.in_flight i)) (sym (at-told below said l i less)) (alike_one (nat_le (floor_of l.running) i) (is_named (first_number l) i said) (nat_lt i (min below (length l.in_flight))) (at l.in_flight i)))
 
-ending_kept : (o : Option ℕ) (l : RetxBuffer) → AreKept l.flown (after_ending o l).flown
-ending_kept None l = kept_itself l.flown
+ending_kept : (o : Option ℕ) (l : RetxBuffer) → AreKept l.in_flight (after_ending o l).in_flight
+ending_kept None l = kept_itself l.in_flight
 ending_kept (Some below) l = freed_kept below l
 
-told_kept : (below : ℕ) (said : List StatusItem) (l : RetxBuffer) → AreKept l.flown (after_told below said l).flown
-told_kept below said l = cond_both {A = RetxBuffer} (tells_some said) (listened below said l) l (λ m. AreKept l.flown m.flown) (λ _. listened_kept below said l) (λ _. kept_itself l.flown)
+told_kept : (below : ℕ) (said : List StatusItem) (l : RetxBuffer) → AreKept l.in_flight (after_told below said l).in_flight
+told_kept below said l = cond_both {A = RetxBuffer} (tells_some said) (listened below said l) l (λ m. AreKept l.in_flight m.in_flight) (λ _. listened_kept below said l) (λ _. kept_itself l.in_flight)
 
-answer_kept : (t : StatusTaken) (said : List StatusItem) (l : RetxBuffer) → AreKept l.flown (after_answer t said l).flown
+answer_kept : (t : StatusTaken) (said : List StatusItem) (l : RetxBuffer) → AreKept l.in_flight (after_answer t said l).in_flight
 answer_kept Taken said l =
     let below = below_from (base_after (ending said l l.running) l) said l in
-    kept_twice l.flown (after_moves said l).flown (after_told below said (after_moves said l)).flown (ending_kept (ending said l l.running) l) (told_kept below said (after_moves said l))
-answer_kept (Outside i) said l = kept_itself l.flown
+    kept_twice l.in_flight (after_moves said l).in_flight (after_told below said (after_moves said l)).in_flight (ending_kept (ending said l l.running) l) (told_kept below said (after_moves said l))
+answer_kept (Outside i) said l = kept_itself l.in_flight
 
-pub hearing_kept : (said : List StatusItem) (l : RetxBuffer) → AreKept l.flown (after_hearing said l).flown
+pub hearing_kept : (said : List StatusItem) (l : RetxBuffer) → AreKept l.in_flight (after_hearing said l).in_flight
 hearing_kept said l = answer_kept (answer_of said l) said l
 
 -- a PDU that is built again, and those that aren't requested any more, are sent as before
-pub resent_kept : (place : ℕ) (l : RetxBuffer) → AreKept l.flown (resent place l).flown
-resent_kept place l = kept_front l.flown (resent place l).flown 0 (length-set l.flown place (built (at l.flown place))) (omega arith) each
+pub resent_kept : (place : ℕ) (l : RetxBuffer) → AreKept l.in_flight (resent place l).in_flight
+resent_kept place l = kept_front l.in_flight (resent place l).in_flight 0 (length-set l.in_flight place (built (at l.in_flight place))) (omega arith) each
   where
-    each : (i : ℕ) → i < length l.flown → IsAlike (at (set l.flown place (built (at l.flown place))) i) (at l.flown i)
+    each : (i : ℕ) → i < length l.in_flight → IsAlike (at (set l.in_flight place (built (at l.in_flight place))) i) (at l.in_flight i)
     each i less = go (i == place) refl
       where
-        go : (b : Bool) → (i == place) ≡ b → IsAlike (at (set l.flown place (built (at l.flown place))) i) (at l.flown i)
-        go true e = let q : i ≡ place = eqb-true i place e in subst (λ k. IsAlike (at (set l.flown k (built (at l.flown k))) i) (at l.flown i)) q (subst (λ f. IsAlike f (at l.flown i)) (sym (get_or-set_same l.flown i (built (at l.flown i)) blank less)) (record { extent = refl; full = refl }))
-        go false e = subst (λ f. IsAlike f (at l.flown i)) (sym (get_or-set_other l.flown place i (built (at l.flown place)) blank (eqb-false i place e))) (alike_itself (at l.flown i))
+        go : (b : Bool) → (i == place) ≡ b → IsAlike (at (set l.in_flight place (built (at l.in_flight place))) i) (at l.in_flight i)
+        go true e = let q : i ≡ place = eqb-true i place e in subst (λ k. IsAlike (at (set l.in_flight k (built (at l.in_flight k))) i) (at l.in_flight i)) q (subst (λ f. IsAlike f (at l.in_flight i)) (sym (get_or-set_same l.in_flight i (built (at l.in_flight i)) blank less)) (record { extent = refl; full = refl }))
+        go false e = subst (λ f. IsAlike f (at l.in_flight i)) (sym (get_or-set_other l.in_flight place i (built (at l.in_flight place)) blank (eqb-false i place e))) (alike_itself (at l.in_flight i))
 
-pub discarding_kept : (place n : ℕ) (l : RetxBuffer) → AreKept l.flown (discarding place n l).flown
-discarding_kept place n l = kept_front l.flown (changed_below request_cleared place l.flown) 0 (length-changed request_cleared place l.flown) (omega arith)
-    (λ i less. subst (λ f. IsAlike f (at l.flown i)) (sym (at-changed_below request_cleared place l.flown i less)) (cond_both {A = SentPdu} (nat_lt i place) (request_cleared (at l.flown i)) (at l.flown i) (λ f. IsAlike f (at l.flown i)) (λ _. record { extent = refl; full = refl }) (λ _. alike_itself (at l.flown i))))
+pub discarding_kept : (place n : ℕ) (l : RetxBuffer) → AreKept l.in_flight (discarding place n l).in_flight
+discarding_kept place n l = kept_front l.in_flight (changed_below request_cleared place l.in_flight) 0 (length-changed request_cleared place l.in_flight) (omega arith)
+    (λ i less. subst (λ f. IsAlike f (at l.in_flight i)) (sym (at-changed_below request_cleared place l.in_flight i less)) (cond_both {A = SentPdu} (nat_lt i place) (request_cleared (at l.in_flight i)) (at l.in_flight i) (λ f. IsAlike f (at l.in_flight i)) (λ _. record { extent = refl; full = refl }) (λ _. alike_itself (at l.in_flight i))))

@@ -76,11 +76,11 @@ at-changed_below change (suc k) (f ∷ xs) (suc j) l = at-changed_below change k
 abbrev pub heard_one : Bool → Bool → Bool → SentPdu → SentPdu
 heard_one high named under f = cond under (acknowledged (cond named (named_as high under f) f)) (cond named (named_as high under f) f)
 
-pub at-told : (below : ℕ) (said : List StatusItem) (l : RetxBuffer) (j : ℕ) → j < length l.flown → at (told_line below said l) j ≡ heard_one (nat_le (floor_of l.running) j) (is_named (first_number l) j said) (nat_lt j (min below (length l.flown))) (at l.flown j)
+pub at-told : (below : ℕ) (said : List StatusItem) (l : RetxBuffer) (j : ℕ) → j < length l.in_flight → at (told_line below said l) j ≡ heard_one (nat_le (floor_of l.running) j) (is_named (first_number l) j said) (nat_lt j (min below (length l.in_flight))) (at l.in_flight j)
 at-told below said l j less =
-    let named : length (named_line below said l) ≡ length l.flown = length-with_names (first_number l) (floor_of l.running) (min below (length l.flown)) said l.flown in
-    at-changed_below acknowledged (min below (length l.flown)) (named_line below said l) j (omega arith)
-    ∙ ap (λ f. cond (nat_lt j (min below (length l.flown))) (acknowledged f) f) (at-with_names (first_number l) (floor_of l.running) (min below (length l.flown)) said l.flown j less)
+    let named : length (named_line below said l) ≡ length l.in_flight = length-with_names (first_number l) (floor_of l.running) (min below (length l.in_flight)) said l.in_flight in
+    at-changed_below acknowledged (min below (length l.in_flight)) (named_line below said l) j (omega arith)
+    ∙ ap (λ f. cond (nat_lt j (min below (length l.in_flight))) (acknowledged f) f) (at-with_names (first_number l) (floor_of l.running) (min below (length l.in_flight)) said l.in_flight j less)
 
 -- the facts of one PDU
 pub record IsOne (f : SentPdu) (high a w named under low : Bool) : Type 0 where

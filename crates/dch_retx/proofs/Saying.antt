@@ -15,7 +15,7 @@ use Rattle.dch_retx.specs.StatusItems.{Missing, Unset, Set, Below, Moved}
 use Rattle.dch_retx.specs.declared.buffer.Running.{Running}
 use Rattle.dch_retx.specs.StatusItem.{below_said, first_outside, is_named, offends, place_of}
 use Rattle.dch_retx.specs.RetxBuffer.{RetxBuffer, first_number, floor_of, listened, told_line}
-use Rattle.dch_retx.specs.Standing.{IsFlown, IsRunning, Stands}
+use Rattle.dch_retx.specs.Standing.{IsInFlight, IsRunning, Stands}
 use Rattle.dch_retx.proofs.Lengths.{length-told}
 use Rattle.dch_retx.proofs.Fronts.{IsHeard, IsTold, heard_stands}
 use Rattle.dch_retx.proofs.Naming.{IsOne, at-told, heard_one, one_is}
@@ -113,8 +113,8 @@ under_is base next first count b (Set x ∷ said) j l = under_is base next first
 under_is base next first count b (Moved n sn ∷ said) j l = under_is base next first count b said j l
 
 -- the line's own numbers
-pub base_is : (rules : Rules) (l : RetxBuffer) (s : Sender) → Stands rules l s → IsBase (vt_a s) (vt_s s) (first_number l) (length l.flown)
-base_is rules l s is = record { count_is = sym is.flying; first_is = same (vt_a s) (length l.flown) (vt_s s) l.next is.flying is.next (omega (arith, is.few, is.most)) }
+pub base_is : (rules : Rules) (l : RetxBuffer) (s : Sender) → Stands rules l s → IsBase (vt_a s) (vt_s s) (first_number l) (length l.in_flight)
+base_is rules l s is = record { count_is = sym is.flying; first_is = same (vt_a s) (length l.in_flight) (vt_s s) l.next is.flying is.next (omega (arith, is.few, is.most)) }
   where
     same : (a n s next : ℕ) → a + n ≡ s → next ≡ wrapped s → n ≤ 2048 → wrapped (next + 4096 - (n - 0)) ≡ wrapped a
     same a n s next e1 e2 le = omega arith
@@ -137,28 +137,28 @@ requested_spec k requested acked names lsn low =
     ∙ ap₂ (λ a b. a && not b) (has-less k (names ++ requested) (now_acked acked names lsn) ∙ ap₂ (λ a b. a && not b) (has-append k names requested) (acked_spec k acked names lsn)) (has-below k low)
 
 -- what the status says is told
-pub listened_heard : (rules : Rules) (l : RetxBuffer) (s : Sender) (said : List StatusItem) → Stands rules l s → first_outside l.window (first_number l) (length l.flown) said ≡ None → IsHeard rules l s (said_names (vt_a s) (vt_s s) said) (said_lsn (vt_a s) said) (is_named (first_number l) l.polled said) (told_line (below_said (first_number l) said) said l)
+pub listened_heard : (rules : Rules) (l : RetxBuffer) (s : Sender) (said : List StatusItem) → Stands rules l s → first_outside l.window (first_number l) (length l.in_flight) said ≡ None → IsHeard rules l s (said_names (vt_a s) (vt_s s) said) (said_lsn (vt_a s) said) (is_named (first_number l) l.polled said) (told_line (below_said (first_number l) said) said l)
 listened_heard rules l s said is none = record {
   stands = is;
   size = length-told (below_said (first_number l) said) said l;
   told = λ i less. told_is i less;
-  names_in = names_in l.window (vt_a s) (vt_s s) (first_number l) (length l.flown) b said none;
-  lsn_in = lsn_in l.window (vt_a s) (vt_s s) (first_number l) (length l.flown) b said none;
-  polled = λ less. sym (names_is (vt_a s) (vt_s s) (first_number l) (length l.flown) b said l.polled less);
+  names_in = names_in l.window (vt_a s) (vt_s s) (first_number l) (length l.in_flight) b said none;
+  lsn_in = lsn_in l.window (vt_a s) (vt_s s) (first_number l) (length l.in_flight) b said none;
+  polled = λ less. sym (names_is (vt_a s) (vt_s s) (first_number l) (length l.in_flight) b said l.polled less);
 }
   where
-    b : IsBase (vt_a s) (vt_s s) (first_number l) (length l.flown)
+    b : IsBase (vt_a s) (vt_s s) (first_number l) (length l.in_flight)
     b = base_is rules l s is
 
-    told_is : (i : ℕ) → i < length l.flown → IsTold s (said_names (vt_a s) (vt_s s) said) (said_lsn (vt_a s) said) (vt_a s + i) (at (told_line (below_said (first_number l) said) said l) i)
+    told_is : (i : ℕ) → i < length l.in_flight → IsTold s (said_names (vt_a s) (vt_s s) said) (said_lsn (vt_a s) said) (vt_a s + i) (at (told_line (below_said (first_number l) said) said l) i)
     told_is i less =
-        let f : IsFlown s (vt_a s + i) (at l.flown i) = is.flown i less in
-        let one : IsOne (at l.flown i) (nat_le (floor_of l.running) i) (has (vt_a s + i) s.acked) (has (vt_a s + i) s.requested) (is_named (first_number l) i said) (nat_lt i (min (below_said (first_number l) said) (length l.flown))) (nat_lt (vt_a s + i) (floor s.discard)) =
-        one_is (at l.flown i) (nat_le (floor_of l.running) i) _ _ (is_named (first_number l) i said) (nat_lt i (min (below_said (first_number l) said) (length l.flown))) (nat_lt (vt_a s + i) (floor s.discard)) f.acked f.requested f.named (floor_test (vt_a s) i (length l.flown) l.running s.discard is.running)
+        let f : IsInFlight s (vt_a s + i) (at l.in_flight i) = is.in_flight i less in
+        let one : IsOne (at l.in_flight i) (nat_le (floor_of l.running) i) (has (vt_a s + i) s.acked) (has (vt_a s + i) s.requested) (is_named (first_number l) i said) (nat_lt i (min (below_said (first_number l) said) (length l.in_flight))) (nat_lt (vt_a s + i) (floor s.discard)) =
+        one_is (at l.in_flight i) (nat_le (floor_of l.running) i) _ _ (is_named (first_number l) i said) (nat_lt i (min (below_said (first_number l) said) (length l.in_flight))) (nat_lt (vt_a s + i) (floor s.discard)) f.acked f.requested f.named (floor_test (vt_a s) i (length l.in_flight) l.running s.discard is.running)
         (λ w. ((is.requested (vt_a s + i) w).is_open, le-ltb (vt_a s + i) (floor s.discard) (is.requested (vt_a s + i) w).high)) in
-        let named : is_named (first_number l) i said ≡ has (vt_a s + i) (said_names (vt_a s) (vt_s s) said) = sym (names_is (vt_a s) (vt_s s) (first_number l) (length l.flown) b said i less) in
-        let under : nat_lt i (min (below_said (first_number l) said) (length l.flown)) ≡ nat_lt (vt_a s + i) (said_lsn (vt_a s) said) = under_is (vt_a s) (vt_s s) (first_number l) (length l.flown) b said i less in
-        let place : at (told_line (below_said (first_number l) said) said l) i ≡ heard_one (nat_le (floor_of l.running) i) (is_named (first_number l) i said) (nat_lt i (min (below_said (first_number l) said) (length l.flown))) (at l.flown i) = at-told (below_said (first_number l) said) said l i less in
+        let named : is_named (first_number l) i said ≡ has (vt_a s + i) (said_names (vt_a s) (vt_s s) said) = sym (names_is (vt_a s) (vt_s s) (first_number l) (length l.in_flight) b said i less) in
+        let under : nat_lt i (min (below_said (first_number l) said) (length l.in_flight)) ≡ nat_lt (vt_a s + i) (said_lsn (vt_a s) said) = under_is (vt_a s) (vt_s s) (first_number l) (length l.in_flight) b said i less in
+        let place : at (told_line (below_said (first_number l) said) said l) i ≡ heard_one (nat_le (floor_of l.running) i) (is_named (first_number l) i said) (nat_lt i (min (below_said (first_number l) said) (length l.in_flight))) (at l.in_flight i) = at-told (below_said (first_number l) said) said l i less in
         record {
           acked = ap (λ (g : SentPdu). g.acked) place ∙ (one.acked ∙ ap₂ (λ u m. (u && not m) || has (vt_a s + i) s.acked) under named);
           requested = ap (λ (g : SentPdu). g.requested) place ∙ (one.requested ∙ (ap₂ (λ u m. ((m || has (vt_a s + i) s.requested) && not ((u && not m) || has (vt_a s + i) s.acked)) && not (nat_lt (vt_a s + i) (floor s.discard))) under named ∙ sym (requested_spec (vt_a s + i) s.requested s.acked (said_names (vt_a s) (vt_s s) said) (said_lsn (vt_a s) said) (floor s.discard))));
@@ -166,5 +166,5 @@ listened_heard rules l s said is none = record {
           builds = ap (λ (g : SentPdu). g.builds) place ∙ (one.builds ∙ f.builds);
         }
 
-pub listened_stands : (rules : Rules) (l : RetxBuffer) (s : Sender) (said : List StatusItem) → Stands rules l s → first_outside l.window (first_number l) (length l.flown) said ≡ None → Stands rules (listened (below_said (first_number l) said) said l) (told s (said_names (vt_a s) (vt_s s) said) (said_lsn (vt_a s) said))
+pub listened_stands : (rules : Rules) (l : RetxBuffer) (s : Sender) (said : List StatusItem) → Stands rules l s → first_outside l.window (first_number l) (length l.in_flight) said ≡ None → Stands rules (listened (below_said (first_number l) said) said l) (told s (said_names (vt_a s) (vt_s s) said) (said_lsn (vt_a s) said))
 listened_stands rules l s said is none = heard_stands rules l s (said_names (vt_a s) (vt_s s) said) (said_lsn (vt_a s) said) (is_named (first_number l) l.polled said) (told_line (below_said (first_number l) said) said l) (listened_heard rules l s said is none)

@@ -19,7 +19,7 @@ use Rattle.dch_am.proofs.Reading.{ends-append}
 use Rattle.dch_retx.specs.declared.buffer.Running.{Running}
 use Rattle.dch_retx.specs.RetxBuffer.{RetxBuffer}
 use Rattle.dch_retx.specs.Polling.{after_bit, counted, crosses, fresh, is_far, poll_of, resent, sent_line, none_requested, again_poll, again_line, last_poll, last_line, new_poll, new_line}
-use Rattle.dch_retx.specs.Standing.{IsFlown, IsNew, IsPolled, IsRunning, IsRequested, Sends, Stands, left_of}
+use Rattle.dch_retx.specs.Standing.{IsInFlight, IsNew, IsPolled, IsRunning, IsRequested, Sends, Stands, left_of}
 use Rattle.dch_retx.proofs.Counting.{counted_is, crosses_is}
 use Rattle.dch_retx.proofs.Picking.{first_all, first_low}
 
@@ -31,22 +31,22 @@ pub record IsOut (rules : Rules) (l : RetxBuffer) (s : Sender) : Type 0 where
   pub some : 0 < s.builds
   pub ended : l.ended ≡ left_of rules.poll_units (ends s.bodies)
   pub most : rules.window ≤ 2048
-  pub few : length l.flown ≤ rules.window
-  pub flying : vt_a s + length l.flown ≡ vt_s s
-  pub one : 0 < length l.flown
+  pub few : length l.in_flight ≤ rules.window
+  pub flying : vt_a s + length l.in_flight ≡ vt_s s
+  pub one : 0 < length l.in_flight
   pub next : l.next ≡ wrapped (vt_s s)
-  pub flown : (i : ℕ) → i < length l.flown → IsFlown s (vt_a s + i) (at l.flown i)
+  pub in_flight : (i : ℕ) → i < length l.in_flight → IsInFlight s (vt_a s + i) (at l.in_flight i)
   pub acked_sent : (k : ℕ) → has k s.acked ≡ true → k < vt_s s
   pub requested : (k : ℕ) → has k s.requested ≡ true → IsRequested s k
   pub unsent : (k : ℕ) → vt_s s ≤ k → count k s.sendings ≡ 0
-  pub timer : l.timer ≡ s.poll_timer
+  pub poll_timer : l.poll_timer ≡ s.poll_timer
   pub owed : l.owed ≡ s.owed
-  pub polled : (0 < s.poll_timer) ⊎ (s.owed ≡ true) → IsPolled s l.polled (length l.flown)
-  pub running : IsRunning l.running s.discard (vt_a s) (length l.flown)
+  pub polled : (0 < s.poll_timer) ⊎ (s.owed ≡ true) → IsPolled s l.polled (length l.in_flight)
+  pub running : IsRunning l.running s.discard (vt_a s) (length l.in_flight)
 
 pub poll_is : (rules : Rules) (l : RetxBuffer) (s : Sender) (reason : Bool) → IsOut rules l s → poll_of reason l ≡ polls rules s reason
 poll_is rules l s reason o =
-    ap (λ b. reason || b || crosses l.rules.poll_pdus l.built 1 || is_far l.rules (length l.flown)) o.owed
+    ap (λ b. reason || b || crosses l.rules.poll_pdus l.built 1 || is_far l.rules (length l.in_flight)) o.owed
     ∙ ap₂ (λ a b. reason || s.owed || a || b)
     (ap₂ (λ r c. crosses r c 1) (ap (λ (r : Rules). r.poll_pdus) o.rules_are) o.built ∙ (crosses_is rules.poll_pdus (s.builds - 1) 1 ∙ ap (passes rules.poll_pdus (s.builds - 1)) number))
     (ap₂ is_far o.rules_are flying)
@@ -54,7 +54,7 @@ poll_is rules l s reason o =
     number : s.builds - 1 + 1 ≡ s.builds
     number = omega (arith, o.some)
 
-    flying : length l.flown ≡ vt_s s - vt_a s
+    flying : length l.in_flight ≡ vt_s s - vt_a s
     flying = omega (arith, o.flying)
 
 pub out_stands : (rules : Rules) (l : RetxBuffer) (s : Sender) (poll : Bool) → IsOut rules l s → Stands rules (after_bit poll l) (after_poll rules s poll)
@@ -67,11 +67,11 @@ out_stands rules l s poll o = record {
   few = o.few;
   flying = o.flying;
   next = o.next;
-  flown = λ i less. let f : IsFlown s (vt_a s + i) (at l.flown i) = o.flown i less in record { acked = f.acked; requested = f.requested; named = f.named; builds = f.builds };
+  in_flight = λ i less. let f : IsInFlight s (vt_a s + i) (at l.in_flight i) = o.in_flight i less in record { acked = f.acked; requested = f.requested; named = f.named; builds = f.builds };
   acked_sent = o.acked_sent;
   requested = λ k e. let w : IsRequested s k = o.requested k e in record { from = w.from; sent = w.sent; is_open = w.is_open; high = w.high };
   unsent = o.unsent;
-  timer = ap₂ (λ (r : Rules) t. cond (poll && nat_lt 0 r.poll_timer) r.poll_timer t) o.rules_are o.timer;
+  poll_timer = ap₂ (λ (r : Rules) t. cond (poll && nat_lt 0 r.poll_timer) r.poll_timer t) o.rules_are o.poll_timer;
   owed = ap (λ b. cond poll false b) o.owed;
   polled = λ out. polled_is out;
   running = o.running;
@@ -83,11 +83,11 @@ out_stands rules l s poll o = record {
     starts : (r : Rules) → Bool
     starts r = poll && nat_lt 0 r.poll_timer
 
-    last : vt_a s + (length l.flown - 1) ≡ vt_s s - 1
+    last : vt_a s + (length l.in_flight - 1) ≡ vt_s s - 1
     last = omega (arith, o.flying, o.one)
 
-    polled_is : (0 < cond (poll && nat_lt 0 rules.poll_timer) rules.poll_timer s.poll_timer) ⊎ (cond poll false s.owed ≡ true) → IsPolled (after_poll rules s poll) (cond (poll && nat_lt 0 l.rules.poll_timer) (length l.flown - 1) l.polled) (length l.flown)
-    polled_is out = subst (λ (r : Rules). IsPolled (after_poll rules s poll) (cond (poll && nat_lt 0 r.poll_timer) (length l.flown - 1) l.polled) (length l.flown)) (sym o.rules_are) (record { number = number_is.0; inside = number_is.1 })
+    polled_is : (0 < cond (poll && nat_lt 0 rules.poll_timer) rules.poll_timer s.poll_timer) ⊎ (cond poll false s.owed ≡ true) → IsPolled (after_poll rules s poll) (cond (poll && nat_lt 0 l.rules.poll_timer) (length l.in_flight - 1) l.polled) (length l.in_flight)
+    polled_is out = subst (λ (r : Rules). IsPolled (after_poll rules s poll) (cond (poll && nat_lt 0 r.poll_timer) (length l.in_flight - 1) l.polled) (length l.in_flight)) (sym o.rules_are) (record { number = number_is.0; inside = number_is.1 })
       where
         still : (p t : Bool) → (poll && nat_lt 0 rules.poll_timer) ≡ false → (0 < cond (poll && nat_lt 0 rules.poll_timer) rules.poll_timer s.poll_timer) ⊎ (cond poll false s.owed ≡ true) → (0 < s.poll_timer) ⊎ (s.owed ≡ true)
         still p t e x = ⊎_elim (λ (m : 0 < cond (poll && nat_lt 0 rules.poll_timer) rules.poll_timer s.poll_timer). inl (subst (λ b. 0 < cond b rules.poll_timer s.poll_timer) e m)) (λ (m : cond poll false s.owed ≡ true). inr (owed poll m)) x
@@ -96,12 +96,12 @@ out_stands rules l s poll o = record {
             owed true m = absurd (both_ways false refl m)
             owed false m = m
 
-        number_is : (cond (poll && nat_lt 0 rules.poll_timer) (Some (vt_s s - 1)) s.polled ≡ Some (vt_a s + cond (poll && nat_lt 0 rules.poll_timer) (length l.flown - 1) l.polled)) × (cond (poll && nat_lt 0 rules.poll_timer) (length l.flown - 1) l.polled < length l.flown)
+        number_is : (cond (poll && nat_lt 0 rules.poll_timer) (Some (vt_s s - 1)) s.polled ≡ Some (vt_a s + cond (poll && nat_lt 0 rules.poll_timer) (length l.in_flight - 1) l.polled)) × (cond (poll && nat_lt 0 rules.poll_timer) (length l.in_flight - 1) l.polled < length l.in_flight)
         number_is = go (poll && nat_lt 0 rules.poll_timer) refl
           where
-            go : (b : Bool) → (poll && nat_lt 0 rules.poll_timer) ≡ b → (cond b (Some (vt_s s - 1)) s.polled ≡ Some (vt_a s + cond b (length l.flown - 1) l.polled)) × (cond b (length l.flown - 1) l.polled < length l.flown)
+            go : (b : Bool) → (poll && nat_lt 0 rules.poll_timer) ≡ b → (cond b (Some (vt_s s - 1)) s.polled ≡ Some (vt_a s + cond b (length l.in_flight - 1) l.polled)) × (cond b (length l.in_flight - 1) l.polled < length l.in_flight)
             go true e = (ap Some (sym last), omega (arith, o.one))
-            go false e = let p : IsPolled s l.polled (length l.flown) = o.polled (still true true e out) in (p.number, p.inside)
+            go false e = let p : IsPolled s l.polled (length l.in_flight) = o.polled (still true true e out) in (p.number, p.inside)
 
 -- one PDU in flight is built once more
 record IsAgain (s now : Sender) (k : ℕ) : Type 0 where
@@ -114,7 +114,7 @@ record IsAgain (s now : Sender) (k : ℕ) : Type 0 where
 min_step : (b c n : ℕ) → b ≡ min 255 c → n ≡ suc c → cond (nat_lt b 255) (b + 1) b ≡ min 255 n
 min_step b c n e1 e2 = grind (arith, nat_tests)
 
-pub again_out : (rules : Rules) (l : RetxBuffer) (s : Sender) (place : ℕ) → place < length l.flown → Stands rules l s → IsOut rules (resent place l) (again s (vt_a s + place))
+pub again_out : (rules : Rules) (l : RetxBuffer) (s : Sender) (place : ℕ) → place < length l.in_flight → Stands rules l s → IsOut rules (resent place l) (again s (vt_a s + place))
 again_out rules l s place inside is = record {
   window = is.window;
   rules_are = is.rules_are;
@@ -126,21 +126,21 @@ again_out rules l s place inside is = record {
   flying = omega (arith, is.flying, size);
   one = omega (arith, size);
   next = is.next;
-  flown = λ i inner. flown_is i (omega (arith, size));
+  in_flight = λ i inner. in_flight_is i (omega (arith, size));
   acked_sent = is.acked_sent;
   requested = λ x e. let w : IsRequested s x = is.requested x (and_parts _ _ (sym (requested x) ∙ e)).0 in record { from = w.from; sent = w.sent; is_open = w.is_open; high = w.high };
   unsent = λ x le. ap (λ b. cond b (suc (count x s.sendings)) (count x s.sendings)) (differ x (omega (arith, is.flying))) ∙ is.unsent x le;
-  timer = is.timer;
+  poll_timer = is.poll_timer;
   owed = is.owed;
-  polled = λ out. let p : IsPolled s l.polled (length l.flown) = is.polled out in record { number = p.number; inside = omega (arith, p.inside, size) };
+  polled = λ out. let p : IsPolled s l.polled (length l.in_flight) = is.polled out in record { number = p.number; inside = omega (arith, p.inside, size) };
   running = subst (IsRunning l.running s.discard (vt_a s)) (sym size) is.running;
 }
   where
     k : ℕ
     k = vt_a s + place
 
-    size : length (set l.flown place (built (at l.flown place))) ≡ length l.flown
-    size = length-set l.flown place (built (at l.flown place))
+    size : length (set l.in_flight place (built (at l.in_flight place))) ≡ length l.in_flight
+    size = length-set l.in_flight place (built (at l.in_flight place))
 
     less_one : s.builds ≡ s.builds + 1 - 1
     less_one = omega arith
@@ -155,29 +155,29 @@ again_out rules l s place inside is = record {
     differ : (x : ℕ) → vt_a s + place < x → (x == vt_a s + place) ≡ false
     differ x less = grind (arith, nat_tests)
 
-    flown_is : (i : ℕ) → i < length l.flown → IsFlown (again s (vt_a s + place)) (vt_a s + i) (at (set l.flown place (built (at l.flown place))) i)
-    flown_is i within = go (i == place) refl
+    in_flight_is : (i : ℕ) → i < length l.in_flight → IsInFlight (again s (vt_a s + place)) (vt_a s + i) (at (set l.in_flight place (built (at l.in_flight place))) i)
+    in_flight_is i within = go (i == place) refl
       where
-        f : IsFlown s (vt_a s + i) (at l.flown i)
-        f = is.flown i within
+        f : IsInFlight s (vt_a s + i) (at l.in_flight i)
+        f = is.in_flight i within
 
-        go : (b : Bool) → (i == place) ≡ b → IsFlown (again s (vt_a s + place)) (vt_a s + i) (at (set l.flown place (built (at l.flown place))) i)
+        go : (b : Bool) → (i == place) ≡ b → IsInFlight (again s (vt_a s + place)) (vt_a s + i) (at (set l.in_flight place (built (at l.in_flight place))) i)
         go true e =
             let q : i ≡ place = eqb-true i place e in
-            let here : at (set l.flown place (built (at l.flown place))) i ≡ built (at l.flown i) = subst (λ j. at (set l.flown place (built (at l.flown place))) j ≡ built (at l.flown j)) (sym q) (get_or-set_same l.flown place (built (at l.flown place)) blank inside) in
+            let here : at (set l.in_flight place (built (at l.in_flight place))) i ≡ built (at l.in_flight i) = subst (λ j. at (set l.in_flight place (built (at l.in_flight place))) j ≡ built (at l.in_flight j)) (sym q) (get_or-set_same l.in_flight place (built (at l.in_flight place)) blank inside) in
             let same : (vt_a s + i == vt_a s + place) ≡ true = eq-eqb (vt_a s + i) (vt_a s + place) (ap (λ j. vt_a s + j) q) in
             record {
               acked = ap (λ (g : SentPdu). g.acked) here ∙ f.acked;
               requested = ap (λ (g : SentPdu). g.requested) here ∙ sym (requested (vt_a s + i) ∙ (ap (λ b. has (vt_a s + i) s.requested && not b) same ∙ none (has (vt_a s + i) s.requested)));
               named = ap (λ (g : SentPdu). g.named) here ∙ f.named;
-              builds = ap (λ (g : SentPdu). g.builds) here ∙ (min_step (at l.flown i).builds (count (vt_a s + i) s.sendings) (suc (count (vt_a s + i) s.sendings)) f.builds refl ∙ ap (λ b. min 255 (cond b (suc (count (vt_a s + i) s.sendings)) (count (vt_a s + i) s.sendings))) (sym same));
+              builds = ap (λ (g : SentPdu). g.builds) here ∙ (min_step (at l.in_flight i).builds (count (vt_a s + i) s.sendings) (suc (count (vt_a s + i) s.sendings)) f.builds refl ∙ ap (λ b. min 255 (cond b (suc (count (vt_a s + i) s.sendings)) (count (vt_a s + i) s.sendings))) (sym same));
             }
           where
             none : (b : Bool) → (b && false) ≡ false
             none true = refl
             none false = refl
         go false e =
-            let there : at (set l.flown place (built (at l.flown place))) i ≡ at l.flown i = get_or-set_other l.flown place i (built (at l.flown place)) blank (eqb-false i place e) in
+            let there : at (set l.in_flight place (built (at l.in_flight place))) i ≡ at l.in_flight i = get_or-set_other l.in_flight place i (built (at l.in_flight place)) blank (eqb-false i place e) in
             let other : (vt_a s + i == vt_a s + place) ≡ false = apart (vt_a s) i place e in
             record {
               acked = ap (λ (g : SentPdu). g.acked) there ∙ f.acked;
@@ -194,7 +194,7 @@ again_out rules l s place inside is = record {
             apart low i place e = grind (arith, nat_tests)
 
 -- the last PDU is built once more, where it isn't requested
-pub last_out : (rules : Rules) (l : RetxBuffer) (s : Sender) (place : ℕ) → place < length l.flown → vt_a s + place ≡ vt_s s - 1 → has (vt_a s + place) s.requested ≡ false → Stands rules l s → IsOut rules (resent place l) (once_more s)
+pub last_out : (rules : Rules) (l : RetxBuffer) (s : Sender) (place : ℕ) → place < length l.in_flight → vt_a s + place ≡ vt_s s - 1 → has (vt_a s + place) s.requested ≡ false → Stands rules l s → IsOut rules (resent place l) (once_more s)
 last_out rules l s place inside last none is = record {
   window = o.window;
   rules_are = o.rules_are;
@@ -206,11 +206,11 @@ last_out rules l s place inside last none is = record {
   flying = o.flying;
   one = o.one;
   next = o.next;
-  flown = λ i inner. let f : IsFlown (again s (vt_a s + place)) (vt_a s + i) (at (resent place l).flown i) = o.flown i inner in record { acked = f.acked; requested = f.requested ∙ same (vt_a s + i); named = f.named; builds = f.builds ∙ ap (λ k. min 255 (count (vt_a s + i) (k ∷ s.sendings))) last };
+  in_flight = λ i inner. let f : IsInFlight (again s (vt_a s + place)) (vt_a s + i) (at (resent place l).in_flight i) = o.in_flight i inner in record { acked = f.acked; requested = f.requested ∙ same (vt_a s + i); named = f.named; builds = f.builds ∙ ap (λ k. min 255 (count (vt_a s + i) (k ∷ s.sendings))) last };
   acked_sent = o.acked_sent;
   requested = λ k e. let w : IsRequested s k = is.requested k e in record { from = w.from; sent = w.sent; is_open = w.is_open; high = w.high };
   unsent = λ x le. ap (λ k. count x (k ∷ s.sendings)) (sym last) ∙ o.unsent x le;
-  timer = o.timer;
+  poll_timer = o.poll_timer;
   owed = o.owed;
   polled = λ out. record { number = (o.polled out).number; inside = (o.polled out).inside };
   running = o.running;
@@ -241,7 +241,7 @@ run_more (Some r) None low now n m e le is = absurd is
 run_more (Some r) (Some d) low now n m e le is = record { k = omega (arith, is.k); n = is.n; due = is.due; timer = is.timer; inside = omega (arith, is.inside) }
 
 -- a new PDU is in flight
-pub new_out : (rules : Rules) (d : ℕ) (l : RetxBuffer) (s : Sender) (f : SentPdu) → length l.flown < rules.window → IsNew f (ends_of (next_body d s.unsent)) → Stands rules l s → IsOut rules (fresh f l) (anew d s)
+pub new_out : (rules : Rules) (d : ℕ) (l : RetxBuffer) (s : Sender) (f : SentPdu) → length l.in_flight < rules.window → IsNew f (ends_of (next_body d s.unsent)) → Stands rules l s → IsOut rules (fresh f l) (anew d s)
 new_out rules d l s f room new is = record {
   window = is.window;
   rules_are = is.rules_are;
@@ -253,14 +253,14 @@ new_out rules d l s f room new is = record {
   flying = omega (arith, low_is, longer, bodies, is.flying);
   one = omega (arith, longer);
   next = next_is l.next (vt_s s) is.next ∙ ap wrapped (sym bodies);
-  flown = λ i inner. flown_is i inner;
+  in_flight = λ i inner. in_flight_is i inner;
   acked_sent = λ k e. omega (arith, is.acked_sent k e, bodies);
   requested = λ k e. let w : IsRequested s k = is.requested k e in record { from = omega (arith, w.from, low_is); sent = omega (arith, w.sent, bodies); is_open = w.is_open; high = w.high };
   unsent = λ k le. ap (λ b. cond b (suc (count k s.sendings)) (count k s.sendings)) (above k (vt_s s) (omega (arith, bodies))) ∙ is.unsent k (omega (arith, bodies));
-  timer = is.timer;
+  poll_timer = is.poll_timer;
   owed = is.owed;
-  polled = λ out. let p : IsPolled s l.polled (length l.flown) = is.polled out in record { number = p.number ∙ ap (λ a. Some (a + l.polled)) (sym low_is); inside = omega (arith, p.inside, longer) };
-  running = run_more l.running s.discard (vt_a s) (run_of s.acked (length (s.bodies ++ body ∷ []))) (length l.flown) (length (l.flown ++ f ∷ [])) low_is (omega (arith, longer)) is.running;
+  polled = λ out. let p : IsPolled s l.polled (length l.in_flight) = is.polled out in record { number = p.number ∙ ap (λ a. Some (a + l.polled)) (sym low_is); inside = omega (arith, p.inside, longer) };
+  running = run_more l.running s.discard (vt_a s) (run_of s.acked (length (s.bodies ++ body ∷ []))) (length l.in_flight) (length (l.in_flight ++ f ∷ [])) low_is (omega (arith, longer)) is.running;
 }
   where
     body : Body
@@ -278,8 +278,8 @@ new_out rules d l s f room new is = record {
     one_past : length (s.bodies ++ body ∷ []) ≡ suc (vt_s s)
     one_past = omega (arith, bodies)
 
-    longer : length (l.flown ++ f ∷ []) ≡ length l.flown + 1
-    longer = length-append l.flown (f ∷ []) ∙ omega arith
+    longer : length (l.in_flight ++ f ∷ []) ≡ length l.in_flight + 1
+    longer = length-append l.in_flight (f ∷ []) ∙ omega arith
 
     free : has (vt_s s) s.acked ≡ false
     free = false_from_ne_true _ (λ (e : has (vt_s s) s.acked ≡ true). absurd (omega (arith, is.acked_sent (vt_s s) e)))
@@ -296,11 +296,11 @@ new_out rules d l s f room new is = record {
     below : (k n : ℕ) → k < n → (k == n) ≡ false
     below k n l = grind (arith, nat_tests)
 
-    flown_is : (i : ℕ) → i < length (l.flown ++ f ∷ []) → IsFlown (anew d s) (run_of s.acked (length (s.bodies ++ body ∷ [])) + i) (at (l.flown ++ f ∷ []) i)
-    flown_is i inner = subst (λ a. IsFlown (anew d s) (a + i) (at (l.flown ++ f ∷ []) i)) (sym low_is) (⊎_elim
-        (λ (m : i < length l.flown).
-        let old : IsFlown s (vt_a s + i) (at l.flown i) = is.flown i m in
-        let place : at (l.flown ++ f ∷ []) i ≡ at l.flown i = get_or_append_left l.flown (f ∷ []) blank i m in
+    in_flight_is : (i : ℕ) → i < length (l.in_flight ++ f ∷ []) → IsInFlight (anew d s) (run_of s.acked (length (s.bodies ++ body ∷ [])) + i) (at (l.in_flight ++ f ∷ []) i)
+    in_flight_is i inner = subst (λ a. IsInFlight (anew d s) (a + i) (at (l.in_flight ++ f ∷ []) i)) (sym low_is) (⊎_elim
+        (λ (m : i < length l.in_flight).
+        let old : IsInFlight s (vt_a s + i) (at l.in_flight i) = is.in_flight i m in
+        let place : at (l.in_flight ++ f ∷ []) i ≡ at l.in_flight i = get_or_append_left l.in_flight (f ∷ []) blank i m in
         let other : (vt_a s + i == vt_s s) ≡ false = below (vt_a s + i) (vt_s s) (omega (arith, is.flying)) in
         record {
           acked = ap (λ (g : SentPdu). g.acked) place ∙ old.acked;
@@ -308,10 +308,10 @@ new_out rules d l s f room new is = record {
           named = ap (λ (g : SentPdu). g.named) place ∙ old.named;
           builds = ap (λ (g : SentPdu). g.builds) place ∙ (old.builds ∙ ap (λ b. min 255 (cond b (suc (count (vt_a s + i) s.sendings)) (count (vt_a s + i) s.sendings))) (sym other));
         })
-        (λ (m : length l.flown ≤ i).
-        let at_end : i ≡ length l.flown = omega (arith, longer) in
+        (λ (m : length l.in_flight ≤ i).
+        let at_end : i ≡ length l.in_flight = omega (arith, longer) in
         let number : vt_a s + i ≡ vt_s s = omega (arith, is.flying) in
-        let place : at (l.flown ++ f ∷ []) i ≡ f = ap (at (l.flown ++ f ∷ [])) at_end ∙ get_or-append_seam l.flown f [] blank in
+        let place : at (l.in_flight ++ f ∷ []) i ≡ f = ap (at (l.in_flight ++ f ∷ [])) at_end ∙ get_or-append_seam l.in_flight f [] blank in
         let same : (vt_a s + i == vt_s s) ≡ true = eq-eqb (vt_a s + i) (vt_s s) number in
         record {
           acked = ap (λ (g : SentPdu). g.acked) place ∙ (new.acked ∙ sym (ap (λ k. has k s.acked) number ∙ free));
@@ -319,7 +319,7 @@ new_out rules d l s f room new is = record {
           named = ap (λ (g : SentPdu). g.named) place ∙ new.named;
           builds = ap (λ (g : SentPdu). g.builds) place ∙ (new.builds ∙ sym (ap (λ b. min 255 (cond b (suc (count (vt_a s + i) s.sendings)) (count (vt_a s + i) s.sendings))) same ∙ ap (λ c. min 255 (suc c)) (is.unsent (vt_a s + i) (omega arith))));
         })
-        (cases_lt i (length l.flown)))
+        (cases_lt i (length l.in_flight)))
 
 -- the line after the poll bit, for each choice
 sends : (rules : Rules) (l : RetxBuffer) (s : Sender) (reason other : Bool) → reason ≡ other → IsOut rules l s → Sends rules (poll_of reason l) (sent_line reason l) (polls rules s other) (after_poll rules s (polls rules s other))
@@ -327,28 +327,28 @@ sends rules l s reason other e o =
     let bit : poll_of reason l ≡ polls rules s other = poll_is rules l s reason o ∙ ap (polls rules s) e in
     record { poll = bit; stands = subst (λ p. Stands rules (after_bit (poll_of reason l) l) (after_poll rules s p)) bit (out_stands rules l s (poll_of reason l) o) }
 
-none_is : (rules : Rules) (l : RetxBuffer) (s : Sender) → IsOut rules l s → none_requested l.flown ≡ is_empty s.requested
+none_is : (rules : Rules) (l : RetxBuffer) (s : Sender) → IsOut rules l s → none_requested l.in_flight ≡ is_empty s.requested
 none_is rules l s o = go s.requested refl
   where
-    go : (xs : List ℕ) → s.requested ≡ xs → none_requested l.flown ≡ is_empty xs
-    go [] e = le-leb (length l.flown) (first_requested l.flown) (first_all l.flown (λ i less. (o.flown i less).requested ∙ ap (has (vt_a s + i)) e))
+    go : (xs : List ℕ) → s.requested ≡ xs → none_requested l.in_flight ≡ is_empty xs
+    go [] e = le-leb (length l.in_flight) (first_requested l.in_flight) (first_all l.in_flight (λ i less. (o.in_flight i less).requested ∙ ap (has (vt_a s + i)) e))
     go (x ∷ xs) e =
         let member : has x s.requested ≡ true = ap (has x) e ∙ or_left _ _ (eq-eqb x x refl) in
         let w : IsRequested s x = o.requested x member in
         let number : vt_a s + (x - vt_a s) ≡ x = omega (arith, w.from) in
-        let inside : x - vt_a s < length l.flown = omega (arith, w.from, w.sent, o.flying) in
-        let flag : (at l.flown (x - vt_a s)).requested ≡ true = (o.flown (x - vt_a s) inside).requested ∙ (ap (λ k. has k s.requested) number ∙ member) in
-        lt-leb (length l.flown) (first_requested l.flown) (omega (arith, inside, first_low l.flown (x - vt_a s) flag))
+        let inside : x - vt_a s < length l.in_flight = omega (arith, w.from, w.sent, o.flying) in
+        let flag : (at l.in_flight (x - vt_a s)).requested ≡ true = (o.in_flight (x - vt_a s) inside).requested ∙ (ap (λ k. has k s.requested) number ∙ member) in
+        lt-leb (length l.in_flight) (first_requested l.in_flight) (omega (arith, inside, first_low l.in_flight (x - vt_a s) flag))
 
-pub again_sends : (rules : Rules) (l : RetxBuffer) (s : Sender) (place d : ℕ) → place < length l.flown → Stands rules l s → Sends rules (again_poll place l) (again_line place l) (again_polls rules s (vt_a s + place)) (after_choice (Requested (vt_a s + place)) rules d s)
+pub again_sends : (rules : Rules) (l : RetxBuffer) (s : Sender) (place d : ℕ) → place < length l.in_flight → Stands rules l s → Sends rules (again_poll place l) (again_line place l) (again_polls rules s (vt_a s + place)) (after_choice (Requested (vt_a s + place)) rules d s)
 again_sends rules l s place d inside is =
     let o : IsOut rules (resent place l) (again s (vt_a s + place)) = again_out rules l s place inside is in
-    sends rules (resent place l) (again s (vt_a s + place)) (none_requested (resent place l).flown) (is_empty (again s (vt_a s + place)).requested) (none_is rules (resent place l) (again s (vt_a s + place)) o) o
+    sends rules (resent place l) (again s (vt_a s + place)) (none_requested (resent place l).in_flight) (is_empty (again s (vt_a s + place)).requested) (none_is rules (resent place l) (again s (vt_a s + place)) o) o
 
-pub last_sends : (rules : Rules) (l : RetxBuffer) (s : Sender) (place d : ℕ) → place < length l.flown → vt_a s + place ≡ vt_s s - 1 → has (vt_a s + place) s.requested ≡ false → Stands rules l s → Sends rules (last_poll place l) (last_line place l) (once_more_polls rules s) (after_choice (Latest (vt_a s + place)) rules d s)
+pub last_sends : (rules : Rules) (l : RetxBuffer) (s : Sender) (place d : ℕ) → place < length l.in_flight → vt_a s + place ≡ vt_s s - 1 → has (vt_a s + place) s.requested ≡ false → Stands rules l s → Sends rules (last_poll place l) (last_line place l) (once_more_polls rules s) (after_choice (Latest (vt_a s + place)) rules d s)
 last_sends rules l s place d inside last none is = sends rules (resent place l) (once_more s) false false refl (last_out rules l s place inside last none is)
 
-pub new_sends : (rules : Rules) (l : RetxBuffer) (s : Sender) (f : SentPdu) (left : Bool) (d : ℕ) → length l.flown < rules.window → IsNew f (ends_of (next_body d s.unsent)) → left ≡ is_left (after_body d s.unsent) → Stands rules l s → Sends rules (new_poll f left l) (new_line f left l) (anew_polls rules d s) (after_choice Fresh rules d s)
+pub new_sends : (rules : Rules) (l : RetxBuffer) (s : Sender) (f : SentPdu) (left : Bool) (d : ℕ) → length l.in_flight < rules.window → IsNew f (ends_of (next_body d s.unsent)) → left ≡ is_left (after_body d s.unsent) → Stands rules l s → Sends rules (new_poll f left l) (new_line f left l) (anew_polls rules d s) (after_choice Fresh rules d s)
 new_sends rules l s f left d room new e is = sends rules (fresh f l) (anew d s) (not left || crosses l.rules.poll_units l.ended (ends_in f)) (not (is_left (anew d s).unsent) || passes rules.poll_units (ends s.bodies) (ends (anew d s).bodies))
     (ap₂ (λ a b. not a || b) e
     (ap₂ (λ r c. crosses r c (ends_in f)) (ap (λ (r : Rules). r.poll_units) is.rules_are) is.ended

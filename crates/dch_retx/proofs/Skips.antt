@@ -9,47 +9,47 @@ use Rattle.dch_retx.proofs.Fronts.{front_in, front_le, front_out}
 use Rattle.dch_retx.specs.Flights.{AreLinked, IsBefore, IsCounted, IsLinked, IsSettled, IsWalk, acknowledged, at, before_next, blank, built, changed_below, front_acked, joined, named_from, request_cleared, requested_in}
 
 -- one place is changed
-front_same : (flown : List SentPdu) (i : ℕ) (g : SentPdu) → g.acked ≡ (at flown i).acked → front_acked (set flown i g) ≡ front_acked flown
+front_same : (in_flight : List SentPdu) (i : ℕ) (g : SentPdu) → g.acked ≡ (at in_flight i).acked → front_acked (set in_flight i g) ≡ front_acked in_flight
 front_same [] i g e = refl
-front_same (f ∷ flown) zero g e = ap (λ b. cond b (suc (front_acked flown)) 0) e
-front_same (f ∷ flown) (suc i) g e = ap (λ n. cond f.acked (suc n) 0) (front_same flown i g e)
+front_same (f ∷ in_flight) zero g e = ap (λ b. cond b (suc (front_acked in_flight)) 0) e
+front_same (f ∷ in_flight) (suc i) g e = ap (λ n. cond f.acked (suc n) 0) (front_same in_flight i g e)
 
 -- behind an open one
-front_before : (flown : List SentPdu) (o i : ℕ) (g : SentPdu) → o < i → (at flown o).acked ≡ false → o < length flown → front_acked (set flown i g) ≡ front_acked flown
+front_before : (in_flight : List SentPdu) (o i : ℕ) (g : SentPdu) → o < i → (at in_flight o).acked ≡ false → o < length in_flight → front_acked (set in_flight i g) ≡ front_acked in_flight
 front_before [] o i g l e w = refl
-front_before (f ∷ flown) zero zero g l e w = absurd (omega arith)
-front_before (f ∷ flown) zero (suc i) g l e w = ap (λ b. cond b (suc (front_acked (set flown i g))) 0) e ∙ sym (ap (λ b. cond b (suc (front_acked flown)) 0) e)
-front_before (f ∷ flown) (suc o) zero g l e w = absurd (omega arith)
-front_before (f ∷ flown) (suc o) (suc i) g l e w = ap (λ n. cond f.acked (suc n) 0) (front_before flown o i g (omega arith) e (omega arith))
+front_before (f ∷ in_flight) zero zero g l e w = absurd (omega arith)
+front_before (f ∷ in_flight) zero (suc i) g l e w = ap (λ b. cond b (suc (front_acked (set in_flight i g))) 0) e ∙ sym (ap (λ b. cond b (suc (front_acked in_flight)) 0) e)
+front_before (f ∷ in_flight) (suc o) zero g l e w = absurd (omega arith)
+front_before (f ∷ in_flight) (suc o) (suc i) g l e w = ap (λ n. cond f.acked (suc n) 0) (front_before in_flight o i g (omega arith) e (omega arith))
 
 -- the first open one is acknowledged
-front_filled : (flown : List SentPdu) (i : ℕ) (g : SentPdu) → i ≡ front_acked flown → i < length flown → g.acked ≡ true → front_acked (set flown i g) ≡ i + 1 + front_acked (drop (i + 1) flown)
+front_filled : (in_flight : List SentPdu) (i : ℕ) (g : SentPdu) → i ≡ front_acked in_flight → i < length in_flight → g.acked ≡ true → front_acked (set in_flight i g) ≡ i + 1 + front_acked (drop (i + 1) in_flight)
 front_filled [] i g q l e = absurd (omega arith)
-front_filled (f ∷ flown) i g q l e = go f.acked refl i q l (λ j m k. front_filled flown j g m k e)
+front_filled (f ∷ in_flight) i g q l e = go f.acked refl i q l (λ j m k. front_filled in_flight j g m k e)
   where
-    go : (b : Bool) → f.acked ≡ b → (i : ℕ) → i ≡ cond b (suc (front_acked flown)) 0 → i < suc (length flown) → ((j : ℕ) → j ≡ front_acked flown → j < length flown → front_acked (set flown j g) ≡ j + 1 + front_acked (drop (j + 1) flown)) → front_acked (set (f ∷ flown) i g) ≡ i + 1 + front_acked (drop (i + 1) (f ∷ flown))
+    go : (b : Bool) → f.acked ≡ b → (i : ℕ) → i ≡ cond b (suc (front_acked in_flight)) 0 → i < suc (length in_flight) → ((j : ℕ) → j ≡ front_acked in_flight → j < length in_flight → front_acked (set in_flight j g) ≡ j + 1 + front_acked (drop (j + 1) in_flight)) → front_acked (set (f ∷ in_flight) i g) ≡ i + 1 + front_acked (drop (i + 1) (f ∷ in_flight))
     go true a zero q l rest = absurd (omega arith)
     go true a (suc j) q l rest =
         let n : suc j + 1 ≡ suc (j + 1) = omega arith in
-        let less : front_acked (set flown j g) ≡ j + 1 + front_acked (drop (j + 1) flown) = rest j (omega arith) (omega arith) in
-        ap (λ b. cond b (suc (front_acked (set flown j g))) 0) a ∙ (omega (arith, less) ∙ ap (λ k. suc j + 1 + front_acked (drop k (f ∷ flown))) (sym n))
-    go false a zero q l rest = ap (λ b. cond b (suc (front_acked flown)) 0) e ∙ omega arith
+        let less : front_acked (set in_flight j g) ≡ j + 1 + front_acked (drop (j + 1) in_flight) = rest j (omega arith) (omega arith) in
+        ap (λ b. cond b (suc (front_acked (set in_flight j g))) 0) a ∙ (omega (arith, less) ∙ ap (λ k. suc j + 1 + front_acked (drop k (f ∷ in_flight))) (sym n))
+    go false a zero q l rest = ap (λ b. cond b (suc (front_acked in_flight)) 0) e ∙ omega arith
     go false a (suc j) q l rest = absurd (omega arith)
 
 -- as many numbers as PDUs
-pub linked_size : (flown : List SentPdu) (skips : List ℕ) → AreLinked flown skips → length skips ≡ length flown
+pub linked_size : (in_flight : List SentPdu) (skips : List ℕ) → AreLinked in_flight skips → length skips ≡ length in_flight
 linked_size [] [] is = refl
 linked_size [] (s ∷ skips) is = absurd is
-linked_size (f ∷ flown) [] is = absurd is
-linked_size (f ∷ flown) (s ∷ skips) is = ap suc (linked_size flown skips is.1)
+linked_size (f ∷ in_flight) [] is = absurd is
+linked_size (f ∷ in_flight) (s ∷ skips) is = ap suc (linked_size in_flight skips is.1)
 
-pub linked_at : (flown : List SentPdu) (skips : List ℕ) (i : ℕ) → i < length flown → AreLinked flown skips → IsLinked (at flown i) (get_or skips i 0) (drop (i + 1) flown)
+pub linked_at : (in_flight : List SentPdu) (skips : List ℕ) (i : ℕ) → i < length in_flight → AreLinked in_flight skips → IsLinked (at in_flight i) (get_or skips i 0) (drop (i + 1) in_flight)
 linked_at [] skips i l is = absurd (omega arith)
-linked_at (f ∷ flown) [] i l is = absurd is
-linked_at (f ∷ flown) (s ∷ skips) zero l is = is.0
-linked_at (f ∷ flown) (s ∷ skips) (suc i) l is =
+linked_at (f ∷ in_flight) [] i l is = absurd is
+linked_at (f ∷ in_flight) (s ∷ skips) zero l is = is.0
+linked_at (f ∷ in_flight) (s ∷ skips) (suc i) l is =
     let n : suc i + 1 ≡ suc (i + 1) = omega arith in
-    subst (λ k. IsLinked (at flown i) (get_or skips i 0) (drop k (f ∷ flown))) (sym n) (linked_at flown skips i (omega arith) is.1)
+    subst (λ k. IsLinked (at in_flight i) (get_or skips i 0) (drop k (f ∷ in_flight))) (sym n) (linked_at in_flight skips i (omega arith) is.1)
 
 -- an acknowledged one is acknowledged again
 pub settled_same : (f : SentPdu) → f.acked ≡ true → IsSettled f → acknowledged f ≡ f
@@ -59,205 +59,205 @@ settled_same f e is =
     ∙ ap₂ (λ a r. record f { acked = a; requested = r }) (sym e) (sym both.0)
 
 -- one PDU is changed, and is acknowledged as before
-pub linked_set : (flown : List SentPdu) (skips : List ℕ) (i : ℕ) (g : SentPdu) → g.acked ≡ (at flown i).acked → IsSettled g → AreLinked flown skips → AreLinked (set flown i g) skips
+pub linked_set : (in_flight : List SentPdu) (skips : List ℕ) (i : ℕ) (g : SentPdu) → g.acked ≡ (at in_flight i).acked → IsSettled g → AreLinked in_flight skips → AreLinked (set in_flight i g) skips
 linked_set [] skips i g e s is = is
-linked_set (f ∷ flown) [] i g e s is = absurd is
-linked_set (f ∷ flown) (k ∷ skips) zero g e s is = (record { skip_is = λ o. is.0.skip_is (sym e ∙ o); settled = s }, is.1)
-linked_set (f ∷ flown) (k ∷ skips) (suc i) g e s is = (record { skip_is = λ o. is.0.skip_is o ∙ sym (front_same flown i g e); settled = is.0.settled }, linked_set flown skips i g e s is.1)
+linked_set (f ∷ in_flight) [] i g e s is = absurd is
+linked_set (f ∷ in_flight) (k ∷ skips) zero g e s is = (record { skip_is = λ o. is.0.skip_is (sym e ∙ o); settled = s }, is.1)
+linked_set (f ∷ in_flight) (k ∷ skips) (suc i) g e s is = (record { skip_is = λ o. is.0.skip_is o ∙ sym (front_same in_flight i g e); settled = is.0.settled }, linked_set in_flight skips i g e s is.1)
 
 -- one that is open comes behind
-front_push : (flown : List SentPdu) (g : SentPdu) → g.acked ≡ false → front_acked (flown ++ g ∷ []) ≡ front_acked flown
+front_push : (in_flight : List SentPdu) (g : SentPdu) → g.acked ≡ false → front_acked (in_flight ++ g ∷ []) ≡ front_acked in_flight
 front_push [] g e = ap (λ b. cond {A = ℕ} b 1 0) e
-front_push (f ∷ flown) g e = ap (λ n. cond f.acked (suc n) 0) (front_push flown g e)
+front_push (f ∷ in_flight) g e = ap (λ n. cond f.acked (suc n) 0) (front_push in_flight g e)
 
-pub linked_push : (flown : List SentPdu) (skips : List ℕ) (g : SentPdu) → g.acked ≡ false → AreLinked flown skips → AreLinked (flown ++ g ∷ []) (skips ++ 0 ∷ [])
+pub linked_push : (in_flight : List SentPdu) (skips : List ℕ) (g : SentPdu) → g.acked ≡ false → AreLinked in_flight skips → AreLinked (in_flight ++ g ∷ []) (skips ++ 0 ∷ [])
 linked_push [] [] g e is = (record { skip_is = λ _. refl; settled = λ a. absurd (both_ways g.acked e a) }, tt)
 linked_push [] (s ∷ skips) g e is = absurd is
-linked_push (f ∷ flown) [] g e is = absurd is
-linked_push (f ∷ flown) (s ∷ skips) g e is = (record { skip_is = λ o. is.0.skip_is o ∙ sym (front_push flown g e); settled = is.0.settled }, linked_push flown skips g e is.1)
+linked_push (f ∷ in_flight) [] g e is = absurd is
+linked_push (f ∷ in_flight) (s ∷ skips) g e is = (record { skip_is = λ o. is.0.skip_is o ∙ sym (front_push in_flight g e); settled = is.0.settled }, linked_push in_flight skips g e is.1)
 
 -- a front leaves
-pub linked_drop : (n : ℕ) (flown : List SentPdu) (skips : List ℕ) → AreLinked flown skips → AreLinked (drop n flown) (drop n skips)
-linked_drop zero flown skips is = is
+pub linked_drop : (n : ℕ) (in_flight : List SentPdu) (skips : List ℕ) → AreLinked in_flight skips → AreLinked (drop n in_flight) (drop n skips)
+linked_drop zero in_flight skips is = is
 linked_drop (suc n) [] [] is = tt
 linked_drop (suc n) [] (s ∷ skips) is = absurd is
-linked_drop (suc n) (f ∷ flown) [] is = absurd is
-linked_drop (suc n) (f ∷ flown) (s ∷ skips) is = linked_drop n flown skips is.1
+linked_drop (suc n) (f ∷ in_flight) [] is = absurd is
+linked_drop (suc n) (f ∷ in_flight) (s ∷ skips) is = linked_drop n in_flight skips is.1
 
 -- those that leave are acknowledged, so that none of them is requested
-requested_drop : (n : ℕ) (flown : List SentPdu) (skips : List ℕ) → n ≤ front_acked flown → AreLinked flown skips → requested_in (drop n flown) ≡ requested_in flown
-requested_drop zero flown skips l is = refl
+requested_drop : (n : ℕ) (in_flight : List SentPdu) (skips : List ℕ) → n ≤ front_acked in_flight → AreLinked in_flight skips → requested_in (drop n in_flight) ≡ requested_in in_flight
+requested_drop zero in_flight skips l is = refl
 requested_drop (suc n) [] skips l is = refl
-requested_drop (suc n) (f ∷ flown) [] l is = absurd is
-requested_drop (suc n) (f ∷ flown) (s ∷ skips) l is = go f.acked refl l (λ m. requested_drop n flown skips m is.1)
+requested_drop (suc n) (f ∷ in_flight) [] l is = absurd is
+requested_drop (suc n) (f ∷ in_flight) (s ∷ skips) l is = go f.acked refl l (λ m. requested_drop n in_flight skips m is.1)
   where
-    go : (b : Bool) → f.acked ≡ b → suc n ≤ cond b (suc (front_acked flown)) 0 → (n ≤ front_acked flown → requested_in (drop n flown) ≡ requested_in flown) → requested_in (drop n flown) ≡ requested_in (f ∷ flown)
-    go true a m rest = rest (omega arith) ∙ sym (ap (λ b. cond b (suc (requested_in flown)) (requested_in flown)) (is.0.settled a).0)
+    go : (b : Bool) → f.acked ≡ b → suc n ≤ cond b (suc (front_acked in_flight)) 0 → (n ≤ front_acked in_flight → requested_in (drop n in_flight) ≡ requested_in in_flight) → requested_in (drop n in_flight) ≡ requested_in (f ∷ in_flight)
+    go true a m rest = rest (omega arith) ∙ sym (ap (λ b. cond b (suc (requested_in in_flight)) (requested_in in_flight)) (is.0.settled a).0)
     go false a m rest = absurd (omega arith)
 
-requested_high : (flown : List SentPdu) (skips : List ℕ) (i : ℕ) → AreLinked flown skips → (at flown i).requested ≡ true → front_acked flown ≤ i
-requested_high flown skips i is e = ⊎_elim
-    (λ (m : i < front_acked flown). absurd (both_ways (at flown i).requested ((linked_at flown skips i (omega (arith, front_le flown)) is).settled (front_in flown i m)).0 e))
-    (λ (m : front_acked flown ≤ i). m)
-    (cases_lt i (front_acked flown))
+requested_high : (in_flight : List SentPdu) (skips : List ℕ) (i : ℕ) → AreLinked in_flight skips → (at in_flight i).requested ≡ true → front_acked in_flight ≤ i
+requested_high in_flight skips i is e = ⊎_elim
+    (λ (m : i < front_acked in_flight). absurd (both_ways (at in_flight i).requested ((linked_at in_flight skips i (omega (arith, front_le in_flight)) is).settled (front_in in_flight i m)).0 e))
+    (λ (m : front_acked in_flight ≤ i). m)
+    (cases_lt i (front_acked in_flight))
 
-pub left_counted : (n : ℕ) (flown : List SentPdu) (skips : List ℕ) (low count : ℕ) → n ≤ front_acked flown → AreLinked flown skips → IsCounted flown low count → IsCounted (drop n flown) (low - n) count
-left_counted n flown skips low count l linked is = record {
-  below = left_from n flown low is.below;
-  count_is = is.count_is ∙ sym (requested_drop n flown skips l linked);
+pub left_counted : (n : ℕ) (in_flight : List SentPdu) (skips : List ℕ) (low count : ℕ) → n ≤ front_acked in_flight → AreLinked in_flight skips → IsCounted in_flight low count → IsCounted (drop n in_flight) (low - n) count
+left_counted n in_flight skips low count l linked is = record {
+  below = left_from n in_flight low is.below;
+  count_is = is.count_is ∙ sym (requested_drop n in_flight skips l linked);
   first = λ some.
-      let place : low ≡ n + (low - n) = omega (arith, requested_high flown skips low linked (is.first some)) in
-      ap (λ (f : SentPdu). f.requested) (get_or-drop n flown (low - n) blank) ∙ subst (λ k. (at flown k).requested ≡ true) place (is.first some);
+      let place : low ≡ n + (low - n) = omega (arith, requested_high in_flight skips low linked (is.first some)) in
+      ap (λ (f : SentPdu). f.requested) (get_or-drop n in_flight (low - n) blank) ∙ subst (λ k. (at in_flight k).requested ≡ true) place (is.first some);
 }
 
 -- those before a place aren't requested
-front_cleared : (n : ℕ) (flown : List SentPdu) → front_acked (changed_below request_cleared n flown) ≡ front_acked flown
-front_cleared zero flown = refl
+front_cleared : (n : ℕ) (in_flight : List SentPdu) → front_acked (changed_below request_cleared n in_flight) ≡ front_acked in_flight
+front_cleared zero in_flight = refl
 front_cleared (suc n) [] = refl
-front_cleared (suc n) (f ∷ flown) = ap (λ k. cond f.acked (suc k) 0) (front_cleared n flown)
+front_cleared (suc n) (f ∷ in_flight) = ap (λ k. cond f.acked (suc k) 0) (front_cleared n in_flight)
 
-pub linked_cleared : (n : ℕ) (flown : List SentPdu) (skips : List ℕ) → AreLinked flown skips → AreLinked (changed_below request_cleared n flown) skips
-linked_cleared zero flown skips is = is
+pub linked_cleared : (n : ℕ) (in_flight : List SentPdu) (skips : List ℕ) → AreLinked in_flight skips → AreLinked (changed_below request_cleared n in_flight) skips
+linked_cleared zero in_flight skips is = is
 linked_cleared (suc n) [] skips is = is
-linked_cleared (suc n) (f ∷ flown) [] is = absurd is
-linked_cleared (suc n) (f ∷ flown) (s ∷ skips) is = (record { skip_is = λ o. is.0.skip_is o ∙ sym (front_cleared n flown); settled = λ a. (refl, (is.0.settled a).1) }, linked_cleared n flown skips is.1)
+linked_cleared (suc n) (f ∷ in_flight) [] is = absurd is
+linked_cleared (suc n) (f ∷ in_flight) (s ∷ skips) is = (record { skip_is = λ o. is.0.skip_is o ∙ sym (front_cleared n in_flight); settled = λ a. (refl, (is.0.settled a).1) }, linked_cleared n in_flight skips is.1)
 
 -- the first open one is acknowledged
-linked_first : (flown : List SentPdu) (skips : List ℕ) (i : ℕ) (g : SentPdu) → i ≤ front_acked flown → g.acked ≡ true → IsSettled g → AreLinked flown skips → AreLinked (set flown i g) skips
+linked_first : (in_flight : List SentPdu) (skips : List ℕ) (i : ℕ) (g : SentPdu) → i ≤ front_acked in_flight → g.acked ≡ true → IsSettled g → AreLinked in_flight skips → AreLinked (set in_flight i g) skips
 linked_first [] skips i g l e s is = is
-linked_first (f ∷ flown) [] i g l e s is = absurd is
-linked_first (f ∷ flown) (k ∷ skips) zero g l e s is = (record { skip_is = λ o. absurd (both_ways g.acked o e); settled = s }, is.1)
-linked_first (f ∷ flown) (k ∷ skips) (suc i) g l e s is = go f.acked refl l (λ m. linked_first flown skips i g m e s is.1)
+linked_first (f ∷ in_flight) [] i g l e s is = absurd is
+linked_first (f ∷ in_flight) (k ∷ skips) zero g l e s is = (record { skip_is = λ o. absurd (both_ways g.acked o e); settled = s }, is.1)
+linked_first (f ∷ in_flight) (k ∷ skips) (suc i) g l e s is = go f.acked refl l (λ m. linked_first in_flight skips i g m e s is.1)
   where
-    go : (b : Bool) → f.acked ≡ b → suc i ≤ cond b (suc (front_acked flown)) 0 → (i ≤ front_acked flown → AreLinked (set flown i g) skips) → AreLinked (set (f ∷ flown) (suc i) g) (k ∷ skips)
+    go : (b : Bool) → f.acked ≡ b → suc i ≤ cond b (suc (front_acked in_flight)) 0 → (i ≤ front_acked in_flight → AreLinked (set in_flight i g) skips) → AreLinked (set (f ∷ in_flight) (suc i) g) (k ∷ skips)
     go true a m rest = (record { skip_is = λ o. absurd (both_ways f.acked o a); settled = is.0.settled }, rest (omega arith))
     go false a m rest = absurd (omega arith)
 
 -- the one behind an open one is acknowledged: both numbers are joined
-linked_join : (flown : List SentPdu) (skips : List ℕ) (o i : ℕ) (g : SentPdu) → o + 1 + get_or skips o 0 ≡ i → i < length flown → (at flown o).acked ≡ false → (at flown i).acked ≡ false → g.acked ≡ true → IsSettled g → AreLinked flown skips → AreLinked (set flown i g) (set skips o (i - o + get_or skips i 0))
+linked_join : (in_flight : List SentPdu) (skips : List ℕ) (o i : ℕ) (g : SentPdu) → o + 1 + get_or skips o 0 ≡ i → i < length in_flight → (at in_flight o).acked ≡ false → (at in_flight i).acked ≡ false → g.acked ≡ true → IsSettled g → AreLinked in_flight skips → AreLinked (set in_flight i g) (set skips o (i - o + get_or skips i 0))
 linked_join [] skips o i g q l eo ei e s is = absurd (omega arith)
-linked_join (f ∷ flown) [] o i g q l eo ei e s is = absurd is
-linked_join (f ∷ flown) (k ∷ skips) zero zero g q l eo ei e s is = absurd (omega arith)
-linked_join (f ∷ flown) (k ∷ skips) zero (suc i) g q l eo ei e s is =
-    let first : i ≡ front_acked flown = omega (arith, is.0.skip_is eo) in
-    let here : get_or skips i 0 ≡ front_acked (drop (i + 1) flown) = (linked_at flown skips i (omega arith) is.1).skip_is ei in
-    (record { skip_is = λ _. omega (arith, here, front_filled flown i g first (omega arith) e); settled = is.0.settled }, linked_first flown skips i g (omega arith) e s is.1)
-linked_join (f ∷ flown) (k ∷ skips) (suc o) zero g q l eo ei e s is = absurd (omega arith)
-linked_join (f ∷ flown) (k ∷ skips) (suc o) (suc i) g q l eo ei e s is =
+linked_join (f ∷ in_flight) [] o i g q l eo ei e s is = absurd is
+linked_join (f ∷ in_flight) (k ∷ skips) zero zero g q l eo ei e s is = absurd (omega arith)
+linked_join (f ∷ in_flight) (k ∷ skips) zero (suc i) g q l eo ei e s is =
+    let first : i ≡ front_acked in_flight = omega (arith, is.0.skip_is eo) in
+    let here : get_or skips i 0 ≡ front_acked (drop (i + 1) in_flight) = (linked_at in_flight skips i (omega arith) is.1).skip_is ei in
+    (record { skip_is = λ _. omega (arith, here, front_filled in_flight i g first (omega arith) e); settled = is.0.settled }, linked_first in_flight skips i g (omega arith) e s is.1)
+linked_join (f ∷ in_flight) (k ∷ skips) (suc o) zero g q l eo ei e s is = absurd (omega arith)
+linked_join (f ∷ in_flight) (k ∷ skips) (suc o) (suc i) g q l eo ei e s is =
     let same : suc i - suc o + get_or skips i 0 ≡ i - o + get_or skips i 0 = omega arith in
-    let rest : AreLinked (set flown i g) (set skips o (i - o + get_or skips i 0)) = linked_join flown skips o i g (omega arith) (omega arith) eo ei e s is.1 in
-    (record { skip_is = λ a. is.0.skip_is a ∙ sym (front_before flown o i g (omega arith) eo (omega arith)); settled = is.0.settled }, subst (λ n. AreLinked (set flown i g) (set skips o n)) (sym same) rest)
+    let rest : AreLinked (set in_flight i g) (set skips o (i - o + get_or skips i 0)) = linked_join in_flight skips o i g (omega arith) (omega arith) eo ei e s is.1 in
+    (record { skip_is = λ a. is.0.skip_is a ∙ sym (front_before in_flight o i g (omega arith) eo (omega arith)); settled = is.0.settled }, subst (λ n. AreLinked (set in_flight i g) (set skips o n)) (sym same) rest)
 
 -- more places are changed where the change does nothing
-pub changed_more : (k to : ℕ) (flown : List SentPdu) → k ≤ to → ((j : ℕ) → k ≤ j → j < to → j < length flown → acknowledged (at flown j) ≡ at flown j) → changed_below acknowledged to flown ≡ changed_below acknowledged k flown
-changed_more zero zero flown l h = refl
+pub changed_more : (k to : ℕ) (in_flight : List SentPdu) → k ≤ to → ((j : ℕ) → k ≤ j → j < to → j < length in_flight → acknowledged (at in_flight j) ≡ at in_flight j) → changed_below acknowledged to in_flight ≡ changed_below acknowledged k in_flight
+changed_more zero zero in_flight l h = refl
 changed_more zero (suc to) [] l h = refl
-changed_more zero (suc to) (f ∷ flown) l h = ap₂ (λ g gs. g ∷ gs) (h 0 (omega arith) (omega arith) (omega arith)) (changed_more zero to flown (omega arith) (λ j a b c. h (suc j) (omega arith) (omega arith) (omega arith)))
-changed_more (suc k) zero flown l h = absurd (omega arith)
+changed_more zero (suc to) (f ∷ in_flight) l h = ap₂ (λ g gs. g ∷ gs) (h 0 (omega arith) (omega arith) (omega arith)) (changed_more zero to in_flight (omega arith) (λ j a b c. h (suc j) (omega arith) (omega arith) (omega arith)))
+changed_more (suc k) zero in_flight l h = absurd (omega arith)
 changed_more (suc k) (suc to) [] l h = refl
-changed_more (suc k) (suc to) (f ∷ flown) l h = ap (λ gs. acknowledged f ∷ gs) (changed_more k to flown (omega arith) (λ j a b c. h (suc j) (omega arith) (omega arith) (omega arith)))
+changed_more (suc k) (suc to) (f ∷ in_flight) l h = ap (λ gs. acknowledged f ∷ gs) (changed_more k to in_flight (omega arith) (λ j a b c. h (suc j) (omega arith) (omega arith) (omega arith)))
 
 -- those behind are as they were
-changed_behind : (k : ℕ) (flown : List SentPdu) (j : ℕ) → k ≤ j → at (changed_below acknowledged k flown) j ≡ at flown j
-changed_behind zero flown j l = refl
+changed_behind : (k : ℕ) (in_flight : List SentPdu) (j : ℕ) → k ≤ j → at (changed_below acknowledged k in_flight) j ≡ at in_flight j
+changed_behind zero in_flight j l = refl
 changed_behind (suc k) [] j l = refl
-changed_behind (suc k) (f ∷ flown) zero l = absurd (omega arith)
-changed_behind (suc k) (f ∷ flown) (suc j) l = changed_behind k flown j (omega arith)
+changed_behind (suc k) (f ∷ in_flight) zero l = absurd (omega arith)
+changed_behind (suc k) (f ∷ in_flight) (suc j) l = changed_behind k in_flight j (omega arith)
 
 -- the walk begins
-pub walk_begins : (flown : List SentPdu) (skips : List ℕ) → AreLinked flown skips → IsWalk flown skips (front_acked flown) None
-walk_begins flown skips is = record { linked = is; within = front_le flown; here = λ l. front_out flown l; before_is = omega arith }
+pub walk_begins : (in_flight : List SentPdu) (skips : List ℕ) → AreLinked in_flight skips → IsWalk in_flight skips (front_acked in_flight) None
+walk_begins in_flight skips is = record { linked = is; within = front_le in_flight; here = λ l. front_out in_flight l; before_is = omega arith }
 
-pub front_settled : (to : ℕ) (flown : List SentPdu) (skips : List ℕ) → AreLinked flown skips → changed_below acknowledged (min (front_acked flown) to) flown ≡ flown
-front_settled to flown skips is = changed_more 0 (min (front_acked flown) to) flown (omega arith) (λ j a b c. let e : (at flown j).acked ≡ true = front_in flown j (omega arith) in settled_same (at flown j) e (linked_at flown skips j c is).settled)
+pub front_settled : (to : ℕ) (in_flight : List SentPdu) (skips : List ℕ) → AreLinked in_flight skips → changed_below acknowledged (min (front_acked in_flight) to) in_flight ≡ in_flight
+front_settled to in_flight skips is = changed_more 0 (min (front_acked in_flight) to) in_flight (omega arith) (λ j a b c. let e : (at in_flight j).acked ≡ true = front_in in_flight j (omega arith) in settled_same (at in_flight j) e (linked_at in_flight skips j c is).settled)
 
 -- the next open one
-pub next_within : (flown : List SentPdu) (skips : List ℕ) (i : ℕ) → i < length flown → (at flown i).acked ≡ false → AreLinked flown skips → i + 1 + get_or skips i 0 ≤ length flown
-next_within flown skips i l e is = omega (arith, (linked_at flown skips i l is).skip_is e, front_le (drop (i + 1) flown), length-drop (i + 1) flown)
+pub next_within : (in_flight : List SentPdu) (skips : List ℕ) (i : ℕ) → i < length in_flight → (at in_flight i).acked ≡ false → AreLinked in_flight skips → i + 1 + get_or skips i 0 ≤ length in_flight
+next_within in_flight skips i l e is = omega (arith, (linked_at in_flight skips i l is).skip_is e, front_le (drop (i + 1) in_flight), length-drop (i + 1) in_flight)
 
-next_open : (flown : List SentPdu) (skips : List ℕ) (i : ℕ) → i < length flown → (at flown i).acked ≡ false → AreLinked flown skips → i + 1 + get_or skips i 0 < length flown → (at flown (i + 1 + get_or skips i 0)).acked ≡ false
-next_open flown skips i l e is w =
-    let skip : get_or skips i 0 ≡ front_acked (drop (i + 1) flown) = (linked_at flown skips i l is).skip_is e in
-    let there : front_acked (drop (i + 1) flown) < length (drop (i + 1) flown) = omega (arith, length-drop (i + 1) flown) in
-    subst (λ k. (at flown (i + 1 + k)).acked ≡ false) (sym skip) (ap (λ (f : SentPdu). f.acked) (sym (get_or-drop (i + 1) flown (front_acked (drop (i + 1) flown)) blank)) ∙ front_out (drop (i + 1) flown) there)
+next_open : (in_flight : List SentPdu) (skips : List ℕ) (i : ℕ) → i < length in_flight → (at in_flight i).acked ≡ false → AreLinked in_flight skips → i + 1 + get_or skips i 0 < length in_flight → (at in_flight (i + 1 + get_or skips i 0)).acked ≡ false
+next_open in_flight skips i l e is w =
+    let skip : get_or skips i 0 ≡ front_acked (drop (i + 1) in_flight) = (linked_at in_flight skips i l is).skip_is e in
+    let there : front_acked (drop (i + 1) in_flight) < length (drop (i + 1) in_flight) = omega (arith, length-drop (i + 1) in_flight) in
+    subst (λ k. (at in_flight (i + 1 + k)).acked ≡ false) (sym skip) (ap (λ (f : SentPdu). f.acked) (sym (get_or-drop (i + 1) in_flight (front_acked (drop (i + 1) in_flight)) blank)) ∙ front_out (drop (i + 1) in_flight) there)
 
 -- those between are acknowledged
-next_acked : (flown : List SentPdu) (skips : List ℕ) (i j : ℕ) → i < length flown → (at flown i).acked ≡ false → AreLinked flown skips → i < j → j < i + 1 + get_or skips i 0 → (at flown j).acked ≡ true
-next_acked flown skips i j l e is a b =
-    let skip : get_or skips i 0 ≡ front_acked (drop (i + 1) flown) = (linked_at flown skips i l is).skip_is e in
+next_acked : (in_flight : List SentPdu) (skips : List ℕ) (i j : ℕ) → i < length in_flight → (at in_flight i).acked ≡ false → AreLinked in_flight skips → i < j → j < i + 1 + get_or skips i 0 → (at in_flight j).acked ≡ true
+next_acked in_flight skips i j l e is a b =
+    let skip : get_or skips i 0 ≡ front_acked (drop (i + 1) in_flight) = (linked_at in_flight skips i l is).skip_is e in
     let place : i + 1 + (j - (i + 1)) ≡ j = omega arith in
-    subst (λ k. (at flown k).acked ≡ true) place (ap (λ (f : SentPdu). f.acked) (sym (get_or-drop (i + 1) flown (j - (i + 1)) blank)) ∙ front_in (drop (i + 1) flown) (j - (i + 1)) (omega arith))
+    subst (λ k. (at in_flight k).acked ≡ true) place (ap (λ (f : SentPdu). f.acked) (sym (get_or-drop (i + 1) in_flight (j - (i + 1)) blank)) ∙ front_in (drop (i + 1) in_flight) (j - (i + 1)) (omega arith))
 
-next_settled : (flown : List SentPdu) (skips : List ℕ) (i j : ℕ) → i < length flown → (at flown i).acked ≡ false → AreLinked flown skips → i < j → j < i + 1 + get_or skips i 0 → acknowledged (at flown j) ≡ at flown j
-next_settled flown skips i j l e is a b =
-    let c : j < length flown = omega (arith, next_within flown skips i l e is) in
-    settled_same (at flown j) (next_acked flown skips i j l e is a b) (linked_at flown skips j c is).settled
+next_settled : (in_flight : List SentPdu) (skips : List ℕ) (i j : ℕ) → i < length in_flight → (at in_flight i).acked ≡ false → AreLinked in_flight skips → i < j → j < i + 1 + get_or skips i 0 → acknowledged (at in_flight j) ≡ at in_flight j
+next_settled in_flight skips i j l e is a b =
+    let c : j < length in_flight = omega (arith, next_within in_flight skips i l e is) in
+    settled_same (at in_flight j) (next_acked in_flight skips i j l e is a b) (linked_at in_flight skips j c is).settled
 
 -- one that has none before it is the first
-first_of : (flown : List SentPdu) (i : ℕ) → i ≤ front_acked flown → (at flown i).acked ≡ false → i ≡ front_acked flown
-first_of flown i l e = ⊎_elim (λ (m : i < front_acked flown). absurd (both_ways (at flown i).acked e (front_in flown i m))) (λ (m : front_acked flown ≤ i). omega arith) (cases_lt i (front_acked flown))
+first_of : (in_flight : List SentPdu) (i : ℕ) → i ≤ front_acked in_flight → (at in_flight i).acked ≡ false → i ≡ front_acked in_flight
+first_of in_flight i l e = ⊎_elim (λ (m : i < front_acked in_flight). absurd (both_ways (at in_flight i).acked e (front_in in_flight i m))) (λ (m : front_acked in_flight ≤ i). omega arith) (cases_lt i (front_acked in_flight))
 
 -- one step of the walk
-pub walk_step : (flown : List SentPdu) (skips : List ℕ) (i : ℕ) (before : Option ℕ) → i < length flown → IsWalk flown skips i before → IsWalk (set flown i (acknowledged (at flown i))) (joined (acknowledged (at flown i)).acked before (i + 1 + get_or skips i 0) skips) (i + 1 + get_or skips i 0) (before_next (acknowledged (at flown i)).acked before i)
-walk_step flown skips i before l w = go (at flown i).named refl
+pub walk_step : (in_flight : List SentPdu) (skips : List ℕ) (i : ℕ) (before : Option ℕ) → i < length in_flight → IsWalk in_flight skips i before → IsWalk (set in_flight i (acknowledged (at in_flight i))) (joined (acknowledged (at in_flight i)).acked before (i + 1 + get_or skips i 0) skips) (i + 1 + get_or skips i 0) (before_next (acknowledged (at in_flight i)).acked before i)
+walk_step in_flight skips i before l w = go (at in_flight i).named refl
   where
-    is_open : (at flown i).acked ≡ false
+    is_open : (at in_flight i).acked ≡ false
     is_open = w.here l
 
-    within : (g : SentPdu) → i + 1 + get_or skips i 0 ≤ length (set flown i g)
-    within g = omega (arith, next_within flown skips i l is_open w.linked, length-set flown i g)
+    within : (g : SentPdu) → i + 1 + get_or skips i 0 ≤ length (set in_flight i g)
+    within g = omega (arith, next_within in_flight skips i l is_open w.linked, length-set in_flight i g)
 
-    opens : (g : SentPdu) → i + 1 + get_or skips i 0 < length (set flown i g) → (at (set flown i g) (i + 1 + get_or skips i 0)).acked ≡ false
+    opens : (g : SentPdu) → i + 1 + get_or skips i 0 < length (set in_flight i g) → (at (set in_flight i g) (i + 1 + get_or skips i 0)).acked ≡ false
     opens g m =
         let apart : i + 1 + get_or skips i 0 ≢ i = λ (q : i + 1 + get_or skips i 0 ≡ i). omega arith in
-        ap (λ (x : SentPdu). x.acked) (get_or-set_other flown i (i + 1 + get_or skips i 0) g blank apart) ∙ next_open flown skips i l is_open w.linked (omega (arith, length-set flown i g))
+        ap (λ (x : SentPdu). x.acked) (get_or-set_other in_flight i (i + 1 + get_or skips i 0) g blank apart) ∙ next_open in_flight skips i l is_open w.linked (omega (arith, length-set in_flight i g))
 
-    marked : (g : SentPdu) → g.acked ≡ false → IsWalk (set flown i g) skips (i + 1 + get_or skips i 0) (Some i)
+    marked : (g : SentPdu) → g.acked ≡ false → IsWalk (set in_flight i g) skips (i + 1 + get_or skips i 0) (Some i)
     marked g e = record {
-      linked = linked_set flown skips i g (e ∙ sym is_open) (λ a. absurd (both_ways g.acked e a)) w.linked;
+      linked = linked_set in_flight skips i g (e ∙ sym is_open) (λ a. absurd (both_ways g.acked e a)) w.linked;
       within = within g;
       here = opens g;
-      before_is = record { next = refl; is_open = ap (λ (x : SentPdu). x.acked) (get_or-set_same flown i g blank l) ∙ e };
+      before_is = record { next = refl; is_open = ap (λ (x : SentPdu). x.acked) (get_or-set_same in_flight i g blank l) ∙ e };
     }
 
-    taken : (g : SentPdu) → g.acked ≡ true → IsSettled g → (o : Option ℕ) → IsBefore flown skips i o → IsWalk (set flown i g) (joined true o (i + 1 + get_or skips i 0) skips) (i + 1 + get_or skips i 0) o
+    taken : (g : SentPdu) → g.acked ≡ true → IsSettled g → (o : Option ℕ) → IsBefore in_flight skips i o → IsWalk (set in_flight i g) (joined true o (i + 1 + get_or skips i 0) skips) (i + 1 + get_or skips i 0) o
     taken g e s None b = record {
-      linked = linked_first flown skips i g b e s w.linked;
+      linked = linked_first in_flight skips i g b e s w.linked;
       within = within g;
       here = opens g;
       before_is = omega (arith, filled);
     }
       where
-        first : i ≡ front_acked flown
-        first = first_of flown i b is_open
+        first : i ≡ front_acked in_flight
+        first = first_of in_flight i b is_open
 
-        filled : front_acked (set flown i g) ≡ i + 1 + get_or skips i 0
-        filled = front_filled flown i g first l e ∙ ap (λ k. i + 1 + k) (sym ((linked_at flown skips i l w.linked).skip_is is_open))
+        filled : front_acked (set in_flight i g) ≡ i + 1 + get_or skips i 0
+        filled = front_filled in_flight i g first l e ∙ ap (λ k. i + 1 + k) (sym ((linked_at in_flight skips i l w.linked).skip_is is_open))
     taken g e s (Some o) b =
         let less : o < i = omega (arith, b.next) in
-        let small : o < length skips = omega (arith, linked_size flown skips w.linked) in
+        let small : o < length skips = omega (arith, linked_size in_flight skips w.linked) in
         let apart : o ≢ i = λ (q : o ≡ i). omega arith in
         let skip : (i + 1 + get_or skips i 0) - o - 1 ≡ i - o + get_or skips i 0 = omega arith in
         record {
-          linked = subst (λ n. AreLinked (set flown i g) (set skips o n)) (sym skip) (linked_join flown skips o i g b.next l b.is_open is_open e s w.linked);
+          linked = subst (λ n. AreLinked (set in_flight i g) (set skips o n)) (sym skip) (linked_join in_flight skips o i g b.next l b.is_open is_open e s w.linked);
           within = within g;
           here = opens g;
           before_is = record {
             next = omega (arith, get_or-set_same skips o ((i + 1 + get_or skips i 0) - o - 1) 0 small);
-            is_open = ap (λ (x : SentPdu). x.acked) (get_or-set_other flown i o g blank apart) ∙ b.is_open;
+            is_open = ap (λ (x : SentPdu). x.acked) (get_or-set_other in_flight i o g blank apart) ∙ b.is_open;
           };
         }
 
-    go : (b : Bool) → (at flown i).named ≡ b → IsWalk (set flown i (acknowledged (at flown i))) (joined (acknowledged (at flown i)).acked before (i + 1 + get_or skips i 0) skips) (i + 1 + get_or skips i 0) (before_next (acknowledged (at flown i)).acked before i)
+    go : (b : Bool) → (at in_flight i).named ≡ b → IsWalk (set in_flight i (acknowledged (at in_flight i))) (joined (acknowledged (at in_flight i)).acked before (i + 1 + get_or skips i 0) skips) (i + 1 + get_or skips i 0) (before_next (acknowledged (at in_flight i)).acked before i)
     go true n =
-        let same : acknowledged (at flown i) ≡ record (at flown i) { named = false } = ap (λ b. cond b (record (at flown i) { named = false }) (record (at flown i) { acked = true; requested = false })) n in
-        let kept : (acknowledged (at flown i)).acked ≡ false = ap (λ (x : SentPdu). x.acked) same ∙ is_open in
-        subst (λ b. IsWalk (set flown i (acknowledged (at flown i))) (joined b before (i + 1 + get_or skips i 0) skips) (i + 1 + get_or skips i 0) (before_next b before i)) (sym kept) (marked (acknowledged (at flown i)) kept)
+        let same : acknowledged (at in_flight i) ≡ record (at in_flight i) { named = false } = ap (λ b. cond b (record (at in_flight i) { named = false }) (record (at in_flight i) { acked = true; requested = false })) n in
+        let kept : (acknowledged (at in_flight i)).acked ≡ false = ap (λ (x : SentPdu). x.acked) same ∙ is_open in
+        subst (λ b. IsWalk (set in_flight i (acknowledged (at in_flight i))) (joined b before (i + 1 + get_or skips i 0) skips) (i + 1 + get_or skips i 0) (before_next b before i)) (sym kept) (marked (acknowledged (at in_flight i)) kept)
     go false n =
-        let same : acknowledged (at flown i) ≡ record (at flown i) { acked = true; requested = false } = ap (λ b. cond b (record (at flown i) { named = false }) (record (at flown i) { acked = true; requested = false })) n in
-        let now : (acknowledged (at flown i)).acked ≡ true = ap (λ (x : SentPdu). x.acked) same in
-        let settled : IsSettled (acknowledged (at flown i)) = λ _. (ap (λ (x : SentPdu). x.requested) same, ap (λ (x : SentPdu). x.named) same ∙ n) in
-        subst (λ b. IsWalk (set flown i (acknowledged (at flown i))) (joined b before (i + 1 + get_or skips i 0) skips) (i + 1 + get_or skips i 0) (before_next b before i)) (sym now) (taken (acknowledged (at flown i)) now settled before w.before_is)
+        let same : acknowledged (at in_flight i) ≡ record (at in_flight i) { acked = true; requested = false } = ap (λ b. cond b (record (at in_flight i) { named = false }) (record (at in_flight i) { acked = true; requested = false })) n in
+        let now : (acknowledged (at in_flight i)).acked ≡ true = ap (λ (x : SentPdu). x.acked) same in
+        let settled : IsSettled (acknowledged (at in_flight i)) = λ _. (ap (λ (x : SentPdu). x.requested) same, ap (λ (x : SentPdu). x.named) same ∙ n) in
+        subst (λ b. IsWalk (set in_flight i (acknowledged (at in_flight i))) (joined b before (i + 1 + get_or skips i 0) skips) (i + 1 + get_or skips i 0) (before_next b before i)) (sym now) (taken (acknowledged (at in_flight i)) now settled before w.before_is)
 
 -- a name leaves it acknowledged or open
 pub named_acked : (from to i : ℕ) (f : SentPdu) → (named_from from to i f).acked ≡ f.acked
@@ -275,50 +275,50 @@ named_settled from to i f s = go f.acked refl
     go false e = λ a. absurd (both_ways f.acked e a)
 
 -- none that is acknowledged is requested
-pub next_unrequested : (flown : List SentPdu) (skips : List ℕ) (i j : ℕ) → i < length flown → (at flown i).acked ≡ false → AreLinked flown skips → i < j → j < i + 1 + get_or skips i 0 → (at flown j).requested ≡ false
-next_unrequested flown skips i j l e is a b =
-    let c : j < length flown = omega (arith, next_within flown skips i l e is) in
-    ((linked_at flown skips j c is).settled (next_acked flown skips i j l e is a b)).0
+pub next_unrequested : (in_flight : List SentPdu) (skips : List ℕ) (i j : ℕ) → i < length in_flight → (at in_flight i).acked ≡ false → AreLinked in_flight skips → i < j → j < i + 1 + get_or skips i 0 → (at in_flight j).requested ≡ false
+next_unrequested in_flight skips i j l e is a b =
+    let c : j < length in_flight = omega (arith, next_within in_flight skips i l e is) in
+    ((linked_at in_flight skips j c is).settled (next_acked in_flight skips i j l e is a b)).0
 
 -- what the walk has changed, up to a place: those behind it up to the next open one are changed by nothing
-pub walk_changed : (flown : List SentPdu) (now : List SentPdu) (skips : List ℕ) (i n to : ℕ) (before : Option ℕ) → i < to → to ≤ length flown → n ≡ get_or skips i 0 → now ≡ changed_below acknowledged (min i to) flown → IsWalk now skips i before → set now i (acknowledged (at now i)) ≡ changed_below acknowledged (min (i + 1 + n) to) flown
-walk_changed flown now skips i n to before l within q e w =
-    ap (λ xs. set xs i (acknowledged (at xs i))) (e ∙ ap (λ k. changed_below acknowledged k flown) here)
-    ∙ (changed_next acknowledged i flown (omega arith)
-    ∙ (sym (changed_more (i + 1) (min (i + 1 + get_or skips i 0) to) flown (omega arith) (λ j a b c. same j a b))
-    ∙ ap (λ k. changed_below acknowledged (min (i + 1 + k) to) flown) (sym q)))
+pub walk_changed : (in_flight : List SentPdu) (now : List SentPdu) (skips : List ℕ) (i n to : ℕ) (before : Option ℕ) → i < to → to ≤ length in_flight → n ≡ get_or skips i 0 → now ≡ changed_below acknowledged (min i to) in_flight → IsWalk now skips i before → set now i (acknowledged (at now i)) ≡ changed_below acknowledged (min (i + 1 + n) to) in_flight
+walk_changed in_flight now skips i n to before l within q e w =
+    ap (λ xs. set xs i (acknowledged (at xs i))) (e ∙ ap (λ k. changed_below acknowledged k in_flight) here)
+    ∙ (changed_next acknowledged i in_flight (omega arith)
+    ∙ (sym (changed_more (i + 1) (min (i + 1 + get_or skips i 0) to) in_flight (omega arith) (λ j a b c. same j a b))
+    ∙ ap (λ k. changed_below acknowledged (min (i + 1 + k) to) in_flight) (sym q)))
   where
     here : min i to ≡ i
     here = omega arith
 
-    size : length now ≡ length flown
-    size = ap (λ (xs : List SentPdu). length xs) e ∙ length-changed acknowledged (min i to) flown
+    size : length now ≡ length in_flight
+    size = ap (λ (xs : List SentPdu). length xs) e ∙ length-changed acknowledged (min i to) in_flight
 
     inside : i < length now
     inside = omega (arith, size)
 
-    same : (j : ℕ) → i + 1 ≤ j → j < min (i + 1 + get_or skips i 0) to → acknowledged (at flown j) ≡ at flown j
+    same : (j : ℕ) → i + 1 ≤ j → j < min (i + 1 + get_or skips i 0) to → acknowledged (at in_flight j) ≡ at in_flight j
     same j a b =
-        let place : at now j ≡ at flown j = ap (λ (xs : List SentPdu). at xs j) (e ∙ ap (λ k. changed_below acknowledged k flown) here) ∙ changed_behind i flown j (omega arith) in
+        let place : at now j ≡ at in_flight j = ap (λ (xs : List SentPdu). at xs j) (e ∙ ap (λ k. changed_below acknowledged k in_flight) here) ∙ changed_behind i in_flight j (omega arith) in
         subst (λ (f : SentPdu). acknowledged f ≡ f) place (next_settled now skips i j inside (w.here inside) w.linked (omega arith) (omega arith))
 
 -- nor is one that is built again
-pub linked_built : (flown : List SentPdu) (skips : List ℕ) (i : ℕ) → i < length flown → AreLinked flown skips → AreLinked (set flown i (built (at flown i))) skips
-linked_built flown skips i l is = linked_set flown skips i (built (at flown i)) refl (λ a. (refl, ((linked_at flown skips i l is).settled a).1)) is
+pub linked_built : (in_flight : List SentPdu) (skips : List ℕ) (i : ℕ) → i < length in_flight → AreLinked in_flight skips → AreLinked (set in_flight i (built (at in_flight i))) skips
+linked_built in_flight skips i l is = linked_set in_flight skips i (built (at in_flight i)) refl (λ a. (refl, ((linked_at in_flight skips i l is).settled a).1)) is
 
 -- a step as the code takes it
-pub walk_joins : (flown now : List SentPdu) (skips links : List ℕ) (i n : ℕ) (before next : Option ℕ) → i < length flown → now ≡ set flown i (acknowledged (at flown i)) → n ≡ get_or skips i 0 → next ≡ before_next (at now i).acked before i → links ≡ joined (at now i).acked before (i + 1 + n) skips → IsWalk flown skips i before → IsWalk now links (i + 1 + n) next
-walk_joins flown now skips links i n before next l e q en el w =
-    let same : (at now i).acked ≡ (acknowledged (at flown i)).acked = ap (λ (xs : List SentPdu). (at xs i).acked) e ∙ ap (λ (f : SentPdu). f.acked) (get_or-set_same flown i (acknowledged (at flown i)) blank l) in
+pub walk_joins : (in_flight now : List SentPdu) (skips links : List ℕ) (i n : ℕ) (before next : Option ℕ) → i < length in_flight → now ≡ set in_flight i (acknowledged (at in_flight i)) → n ≡ get_or skips i 0 → next ≡ before_next (at now i).acked before i → links ≡ joined (at now i).acked before (i + 1 + n) skips → IsWalk in_flight skips i before → IsWalk now links (i + 1 + n) next
+walk_joins in_flight now skips links i n before next l e q en el w =
+    let same : (at now i).acked ≡ (acknowledged (at in_flight i)).acked = ap (λ (xs : List SentPdu). (at xs i).acked) e ∙ ap (λ (f : SentPdu). f.acked) (get_or-set_same in_flight i (acknowledged (at in_flight i)) blank l) in
     subst (λ xs. IsWalk xs links (i + 1 + n) next) (sym e)
-    (subst (λ ls. IsWalk (set flown i (acknowledged (at flown i))) ls (i + 1 + n) next) (sym (el ∙ ap (λ b. joined b before (i + 1 + n) skips) same))
-    (subst (λ o. IsWalk (set flown i (acknowledged (at flown i))) (joined (acknowledged (at flown i)).acked before (i + 1 + n) skips) (i + 1 + n) o) (sym (en ∙ ap (λ b. before_next b before i) same))
-    (subst (λ k. IsWalk (set flown i (acknowledged (at flown i))) (joined (acknowledged (at flown i)).acked before (i + 1 + k) skips) (i + 1 + k) (before_next (acknowledged (at flown i)).acked before i)) (sym q)
-    (walk_step flown skips i before l w))))
+    (subst (λ ls. IsWalk (set in_flight i (acknowledged (at in_flight i))) ls (i + 1 + n) next) (sym (el ∙ ap (λ b. joined b before (i + 1 + n) skips) same))
+    (subst (λ o. IsWalk (set in_flight i (acknowledged (at in_flight i))) (joined (acknowledged (at in_flight i)).acked before (i + 1 + n) skips) (i + 1 + n) o) (sym (en ∙ ap (λ b. before_next b before i) same))
+    (subst (λ k. IsWalk (set in_flight i (acknowledged (at in_flight i))) (joined (acknowledged (at in_flight i)).acked before (i + 1 + k) skips) (i + 1 + k) (before_next (acknowledged (at in_flight i)).acked before i)) (sym q)
+    (walk_step in_flight skips i before l w))))
 
-pub walk_before : (flown : List SentPdu) (skips : List ℕ) (i n : ℕ) (before : Option ℕ) → i < length flown → IsWalk flown skips i before → IfSome before (λ o. (o < i + 1 + n) × (o < length skips))
-walk_before flown skips i n None l w = tt
-walk_before flown skips i n (Some o) l w = (omega (arith, w.before_is.next), omega (arith, w.before_is.next, linked_size flown skips w.linked))
+pub walk_before : (in_flight : List SentPdu) (skips : List ℕ) (i n : ℕ) (before : Option ℕ) → i < length in_flight → IsWalk in_flight skips i before → IfSome before (λ o. (o < i + 1 + n) × (o < length skips))
+walk_before in_flight skips i n None l w = tt
+walk_before in_flight skips i n (Some o) l w = (omega (arith, w.before_is.next), omega (arith, w.before_is.next, linked_size in_flight skips w.linked))
 
-pub walk_next : (flown : List SentPdu) (skips : List ℕ) (i n : ℕ) (before : Option ℕ) → i < length flown → n ≡ get_or skips i 0 → IsWalk flown skips i before → i + 1 + n ≤ length flown
-walk_next flown skips i n before l q w = omega (arith, next_within flown skips i l (w.here l) w.linked)
+pub walk_next : (in_flight : List SentPdu) (skips : List ℕ) (i n : ℕ) (before : Option ℕ) → i < length in_flight → n ≡ get_or skips i 0 → IsWalk in_flight skips i before → i + 1 + n ≤ length in_flight
+walk_next in_flight skips i n before l q w = omega (arith, next_within in_flight skips i l (w.here l) w.linked)

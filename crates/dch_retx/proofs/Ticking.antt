@@ -13,7 +13,7 @@ use Rattle.dch_am.specs.Discards.{after_mrw, discards_at, mrw_due}
 use Rattle.dch_am.proofs.Lists.{has-less, has-below}
 use Rattle.dch_retx.specs.declared.buffer.Running.{Running}
 use Rattle.dch_retx.specs.RetxBuffer.{RetxBuffer, discarding, is_due, mark_in, moving, number_at, place_in, repeating, run_timer, ticked}
-use Rattle.dch_retx.specs.Standing.{IsFlown, IsPolled, IsRunning, IsRequested, Stands, timed, timer_of}
+use Rattle.dch_retx.specs.Standing.{IsInFlight, IsPolled, IsRunning, IsRequested, Stands, timed, timer_of}
 use Rattle.dch_retx.proofs.Naming.{at-changed_below}
 
 floor_timer : (d : Option Discard) → floor (timer_of d) ≡ floor d
@@ -36,14 +36,14 @@ ticks_stand rules l s is = record {
   few = is.few;
   flying = is.flying;
   next = is.next;
-  flown = λ i less. let f : IsFlown s (vt_a s + i) (at l.flown i) = is.flown i less in record { acked = f.acked; requested = f.requested; named = f.named; builds = f.builds };
+  in_flight = λ i less. let f : IsInFlight s (vt_a s + i) (at l.in_flight i) = is.in_flight i less in record { acked = f.acked; requested = f.requested; named = f.named; builds = f.builds };
   acked_sent = is.acked_sent;
   requested = λ k e. let w : IsRequested s k = is.requested k e in record { from = w.from; sent = w.sent; is_open = w.is_open; high = omega (arith, w.high, floor_timer s.discard) };
   unsent = is.unsent;
-  timer = ap (λ t. t - 1) is.timer;
-  owed = ap₂ (λ b t. b || (t == 1)) is.owed is.timer;
-  polled = λ out. let p : IsPolled s l.polled (length l.flown) = is.polled (before out) in record { number = p.number; inside = p.inside };
-  running = run_ticks l.running s.discard (vt_a s) (length l.flown) is.running;
+  poll_timer = ap (λ t. t - 1) is.poll_timer;
+  owed = ap₂ (λ b t. b || (t == 1)) is.owed is.poll_timer;
+  polled = λ out. let p : IsPolled s l.polled (length l.in_flight) = is.polled (before out) in record { number = p.number; inside = p.inside };
+  running = run_ticks l.running s.discard (vt_a s) (length l.in_flight) is.running;
 }
   where
     before : (0 < s.poll_timer - 1) ⊎ ((s.owed || (s.poll_timer == 1)) ≡ true) → (0 < s.poll_timer) ⊎ (s.owed ≡ true)
@@ -52,7 +52,7 @@ ticks_stand rules l s is = record {
         (λ (m : (s.owed || (s.poll_timer == 1)) ≡ true). ⊎_elim (λ (q : s.owed ≡ true). inr q) (λ (q : (s.poll_timer == 1) ≡ true). let e : s.poll_timer ≡ 1 = eqb-true s.poll_timer 1 q in inl (omega arith)) (or_cases _ _ m))
         out
 
-pub discards_stand : (rules : Rules) (l : RetxBuffer) (s : Sender) (place n i : ℕ) → place < length l.flown → Stands rules l s → Stands rules (discarding place n l) (discards_at s i (Some (vt_a s + place, n)))
+pub discards_stand : (rules : Rules) (l : RetxBuffer) (s : Sender) (place n i : ℕ) → place < length l.in_flight → Stands rules l s → Stands rules (discarding place n l) (discards_at s i (Some (vt_a s + place, n)))
 discards_stand rules l s place n i inside is = record {
   window = is.window;
   rules_are = is.rules_are;
@@ -62,30 +62,30 @@ discards_stand rules l s place n i inside is = record {
   few = omega (arith, is.few, size);
   flying = omega (arith, is.flying, size);
   next = is.next;
-  flown = λ j within. flown_is j (omega (arith, size));
+  in_flight = λ j within. in_flight_is j (omega (arith, size));
   acked_sent = is.acked_sent;
   requested = λ k e.
       let parts = and_parts _ _ (sym (requested k) ∙ e) in
       let w : IsRequested s k = is.requested k parts.0 in
       record { from = w.from; sent = w.sent; is_open = w.is_open; high = ltb-false k (vt_a s + place) (not-true _ parts.1) };
   unsent = is.unsent;
-  timer = is.timer;
+  poll_timer = is.poll_timer;
   owed = is.owed;
-  polled = λ out. let p : IsPolled s l.polled (length l.flown) = is.polled out in record { number = p.number; inside = omega (arith, p.inside, size) };
+  polled = λ out. let p : IsPolled s l.polled (length l.in_flight) = is.polled out in record { number = p.number; inside = omega (arith, p.inside, size) };
   running = record { k = refl; n = refl; due = refl; timer = refl; inside = omega (arith, size) };
 }
   where
-    size : length (changed_below request_cleared place l.flown) ≡ length l.flown
-    size = length-changed request_cleared place l.flown
+    size : length (changed_below request_cleared place l.in_flight) ≡ length l.in_flight
+    size = length-changed request_cleared place l.in_flight
 
     requested : (k : ℕ) → has k (less s.requested (below (vt_a s + place))) ≡ (has k s.requested && not (nat_lt k (vt_a s + place)))
     requested k = has-less k s.requested (below (vt_a s + place)) ∙ ap (λ b. has k s.requested && not b) (has-below k (vt_a s + place))
 
-    flown_is : (j : ℕ) → j < length l.flown → IsFlown (discards_at s i (Some (vt_a s + place, n))) (vt_a s + j) (at (changed_below request_cleared place l.flown) j)
-    flown_is j within = ⊎_elim
+    in_flight_is : (j : ℕ) → j < length l.in_flight → IsInFlight (discards_at s i (Some (vt_a s + place, n))) (vt_a s + j) (at (changed_below request_cleared place l.in_flight) j)
+    in_flight_is j within = ⊎_elim
         (λ (m : j < place).
-        let here : at (changed_below request_cleared place l.flown) j ≡ request_cleared (at l.flown j) = at-changed_below request_cleared place l.flown j within ∙ ap (λ b. cond b (request_cleared (at l.flown j)) (at l.flown j)) (lt-ltb j place m) in
-        let f : IsFlown s (vt_a s + j) (at l.flown j) = is.flown j within in
+        let here : at (changed_below request_cleared place l.in_flight) j ≡ request_cleared (at l.in_flight j) = at-changed_below request_cleared place l.in_flight j within ∙ ap (λ b. cond b (request_cleared (at l.in_flight j)) (at l.in_flight j)) (lt-ltb j place m) in
+        let f : IsInFlight s (vt_a s + j) (at l.in_flight j) = is.in_flight j within in
         record {
           acked = ap (λ (g : SentPdu). g.acked) here ∙ f.acked;
           requested = ap (λ (g : SentPdu). g.requested) here ∙ sym (requested (vt_a s + j) ∙ (ap (λ b. has (vt_a s + j) s.requested && not b) (lt-ltb (vt_a s + j) (vt_a s + place) (omega arith)) ∙ none (has (vt_a s + j) s.requested)));
@@ -93,8 +93,8 @@ discards_stand rules l s place n i inside is = record {
           builds = ap (λ (g : SentPdu). g.builds) here ∙ f.builds;
         })
         (λ (m : place ≤ j).
-        let here : at (changed_below request_cleared place l.flown) j ≡ at l.flown j = at-changed_below request_cleared place l.flown j within ∙ ap (λ b. cond b (request_cleared (at l.flown j)) (at l.flown j)) (le-ltb j place m) in
-        let f : IsFlown s (vt_a s + j) (at l.flown j) = is.flown j within in
+        let here : at (changed_below request_cleared place l.in_flight) j ≡ at l.in_flight j = at-changed_below request_cleared place l.in_flight j within ∙ ap (λ b. cond b (request_cleared (at l.in_flight j)) (at l.in_flight j)) (le-ltb j place m) in
+        let f : IsInFlight s (vt_a s + j) (at l.in_flight j) = is.in_flight j within in
         record {
           acked = ap (λ (g : SentPdu). g.acked) here ∙ f.acked;
           requested = ap (λ (g : SentPdu). g.requested) here ∙ (f.requested ∙ sym (requested (vt_a s + j) ∙ (ap (λ b. has (vt_a s + j) s.requested && not b) (le-ltb (vt_a s + j) (vt_a s + place) (omega arith)) ∙ all (has (vt_a s + j) s.requested))));
@@ -118,7 +118,7 @@ due_by (Some r) None low n is = absurd is
 due_by (Some r) (Some d) low n is = is.due
 
 pub due_is : (rules : Rules) (l : RetxBuffer) (s : Sender) → Stands rules l s → is_due l.running ≡ mrw_due s.discard
-due_is rules l s is = due_by l.running s.discard (vt_a s) (length l.flown) is.running
+due_is rules l s is = due_by l.running s.discard (vt_a s) (length l.in_flight) is.running
 
 run_repeats : (ticks : ℕ) (r : Option Running) (d : Discard) (low n : ℕ) → IsRunning r (Some d) low n → IsRunning (repeating ticks r) (Some (record d { due = false; timer = ticks })) low n
 run_repeats ticks None d low n is = absurd is
@@ -134,23 +134,23 @@ moves_stand rules l s d is e = record {
   few = is.few;
   flying = is.flying;
   next = is.next;
-  flown = λ i less. let f : IsFlown s (vt_a s + i) (at l.flown i) = is.flown i less in record { acked = f.acked; requested = f.requested; named = f.named; builds = f.builds };
+  in_flight = λ i less. let f : IsInFlight s (vt_a s + i) (at l.in_flight i) = is.in_flight i less in record { acked = f.acked; requested = f.requested; named = f.named; builds = f.builds };
   acked_sent = is.acked_sent;
   requested = λ k q. let w : IsRequested s k = is.requested k q in record { from = w.from; sent = w.sent; is_open = w.is_open; high = omega (arith, w.high, ap floor e) };
   unsent = is.unsent;
-  timer = is.timer;
+  poll_timer = is.poll_timer;
   owed = is.owed;
-  polled = λ out. let p : IsPolled s l.polled (length l.flown) = is.polled out in record { number = p.number; inside = p.inside };
-  running = subst (λ ticks. IsRunning (repeating ticks l.running) (Some (record d { due = false; timer = rules.discard_repeat })) (vt_a s) (length l.flown)) (sym (ap (λ (r : Rules). r.discard_repeat) is.rules_are)) (run_repeats rules.discard_repeat l.running d (vt_a s) (length l.flown) (subst (λ x. IsRunning l.running x (vt_a s) (length l.flown)) e is.running));
+  polled = λ out. let p : IsPolled s l.polled (length l.in_flight) = is.polled out in record { number = p.number; inside = p.inside };
+  running = subst (λ ticks. IsRunning (repeating ticks l.running) (Some (record d { due = false; timer = rules.discard_repeat })) (vt_a s) (length l.in_flight)) (sym (ap (λ (r : Rules). r.discard_repeat) is.rules_are)) (run_repeats rules.discard_repeat l.running d (vt_a s) (length l.in_flight) (subst (λ x. IsRunning l.running x (vt_a s) (length l.in_flight)) e is.running));
 }
 
 -- numbers of PDUs in flight
-pub number_is : (rules : Rules) (l : RetxBuffer) (s : Sender) (place : ℕ) → place ≤ length l.flown → Stands rules l s → number_at place l ≡ wrapped (vt_a s + place)
+pub number_is : (rules : Rules) (l : RetxBuffer) (s : Sender) (place : ℕ) → place ≤ length l.in_flight → Stands rules l s → number_at place l ≡ wrapped (vt_a s + place)
 number_is rules l s place le is = omega (arith, is.flying, is.next, is.few, is.most)
 
-mrw_by : (rules : Rules) (l : RetxBuffer) (s : Sender) (r : Option Running) (d : Discard) → IsRunning r (Some d) (vt_a s) (length l.flown) → Stands rules l s → (number_at (place_in r) l ≡ wrapped d.k) × (mark_in r ≡ d.n)
+mrw_by : (rules : Rules) (l : RetxBuffer) (s : Sender) (r : Option Running) (d : Discard) → IsRunning r (Some d) (vt_a s) (length l.in_flight) → Stands rules l s → (number_at (place_in r) l ≡ wrapped d.k) × (mark_in r ≡ d.n)
 mrw_by rules l s None d is stands = absurd is
 mrw_by rules l s (Some r) d is stands = (number_is rules l s r.at (omega (arith, is.inside)) stands ∙ ap wrapped is.k, is.n)
 
 pub mrw_is : (rules : Rules) (l : RetxBuffer) (s : Sender) (d : Discard) → Stands rules l s → s.discard ≡ Some d → (number_at (place_in l.running) l ≡ wrapped d.k) × (mark_in l.running ≡ d.n)
-mrw_is rules l s d is e = mrw_by rules l s l.running d (subst (λ x. IsRunning l.running x (vt_a s) (length l.flown)) e is.running) is
+mrw_is rules l s d is e = mrw_by rules l s l.running d (subst (λ x. IsRunning l.running x (vt_a s) (length l.in_flight)) e is.running) is

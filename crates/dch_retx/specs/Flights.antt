@@ -26,7 +26,7 @@ continues_in f = nat_lt 0 f.extent.rest
 
 -- the PDU at a place
 abbrev pub at : List SentPdu → ℕ → SentPdu
-at flown i = slice_index_or flown i blank
+at in_flight i = slice_index_or in_flight i blank
 
 -- a status names it missing. Unless it is acknowledged, it is requested where it stands high enough, and marked where it stands under the LSN
 abbrev pub named_as : Bool → Bool → SentPdu → SentPdu
@@ -50,40 +50,40 @@ built f = record f { requested = false; builds = if nat_lt f.builds 255 then f.b
 
 -- the PDUs before a place are changed
 abbrev pub changed_below : (SentPdu → SentPdu) → ℕ → List SentPdu → List SentPdu
-changed_below change zero flown = flown
+changed_below change zero in_flight = in_flight
 changed_below change (suc to) [] = []
-changed_below change (suc to) (f ∷ flown) = change f ∷ changed_below change to flown
+changed_below change (suc to) (f ∷ in_flight) = change f ∷ changed_below change to in_flight
 
 -- the first PDU that is requested stands there, or none is and this is the end
-pub record IsFirstRequested (flown : List SentPdu) (first : ℕ) : Type 0 where
-  pub before : (i : ℕ) → i < first → (at flown i).requested ≡ false
-  pub here : first < length flown → (at flown first).requested ≡ true
-  pub within : first ≤ length flown
+pub record IsFirstRequested (in_flight : List SentPdu) (first : ℕ) : Type 0 where
+  pub before : (i : ℕ) → i < first → (at in_flight i).requested ≡ false
+  pub here : first < length in_flight → (at in_flight first).requested ≡ true
+  pub within : first ≤ length in_flight
 
 -- where that is
 abbrev pub first_requested : List SentPdu → ℕ
 first_requested [] = 0
-first_requested (f ∷ flown) = if f.requested then 0 else suc (first_requested flown)
+first_requested (f ∷ in_flight) = if f.requested then 0 else suc (first_requested in_flight)
 
 -- how many are requested
 abbrev pub requested_in : List SentPdu → ℕ
 requested_in [] = 0
-requested_in (f ∷ flown) = if f.requested then suc (requested_in flown) else requested_in flown
+requested_in (f ∷ in_flight) = if f.requested then suc (requested_in in_flight) else requested_in in_flight
 
 -- how many PDUs in front are acknowledged
 abbrev pub front_acked : List SentPdu → ℕ
 front_acked [] = 0
-front_acked (f ∷ flown) = if f.acked then suc (front_acked flown) else 0
+front_acked (f ∷ in_flight) = if f.acked then suc (front_acked in_flight) else 0
 
 -- no PDU before a place is requested
-pub record IsFrom (flown : List SentPdu) (low : ℕ) : Type 0 where
-  pub from : (i : ℕ) → (at flown i).requested ≡ true → low ≤ i
+pub record IsFrom (in_flight : List SentPdu) (low : ℕ) : Type 0 where
+  pub from : (i : ℕ) → (at in_flight i).requested ≡ true → low ≤ i
 
 -- so many are requested, and where some are this is the first
-pub record IsCounted (flown : List SentPdu) (low count : ℕ) : Type 0 where
-  pub below : IsFrom flown low
-  pub count_is : count ≡ requested_in flown
-  pub first : 0 < count → (at flown low).requested ≡ true
+pub record IsCounted (in_flight : List SentPdu) (low count : ℕ) : Type 0 where
+  pub below : IsFrom in_flight low
+  pub count_is : count ≡ requested_in in_flight
+  pub first : 0 < count → (at in_flight low).requested ≡ true
 
 -- the place of the first with that of one more that is requested
 abbrev pub lowered : ℕ → ℕ → ℕ → ℕ
@@ -101,25 +101,25 @@ pub record IsLinked (f : SentPdu) (skip : ℕ) (behind : List SentPdu) : Type 0 
 abbrev pub AreLinked : List SentPdu → List ℕ → Type 0
 AreLinked [] [] = Unit {0}
 AreLinked [] (skip ∷ skips) = ⊥
-AreLinked (f ∷ flown) [] = ⊥
-AreLinked (f ∷ flown) (skip ∷ skips) = IsLinked f skip flown × AreLinked flown skips
+AreLinked (f ∷ in_flight) [] = ⊥
+AreLinked (f ∷ in_flight) (skip ∷ skips) = IsLinked f skip in_flight × AreLinked in_flight skips
 
 -- an open PDU, and the place of the next one
-pub record IsNext (flown : List SentPdu) (skips : List ℕ) (i o : ℕ) : Type 0 where
+pub record IsNext (in_flight : List SentPdu) (skips : List ℕ) (i o : ℕ) : Type 0 where
   pub next : o + 1 + slice_index skips o ≡ i
-  pub is_open : (at flown o).acked ≡ false
+  pub is_open : (at in_flight o).acked ≡ false
 
 -- the open one before a place; where there is none, all before it are acknowledged
 abbrev pub IsBefore : List SentPdu → List ℕ → ℕ → Option ℕ → Type 0
-IsBefore flown skips i None = i ≤ front_acked flown
-IsBefore flown skips i (Some o) = IsNext flown skips i o
+IsBefore in_flight skips i None = i ≤ front_acked in_flight
+IsBefore in_flight skips i (Some o) = IsNext in_flight skips i o
 
 -- a walk over the open ones has come to a place
-pub record IsWalk (flown : List SentPdu) (skips : List ℕ) (i : ℕ) (before : Option ℕ) : Type 0 where
-  pub linked : AreLinked flown skips
-  pub within : i ≤ length flown
-  pub here : i < length flown → (at flown i).acked ≡ false
-  pub before_is : IsBefore flown skips i before
+pub record IsWalk (in_flight : List SentPdu) (skips : List ℕ) (i : ℕ) (before : Option ℕ) : Type 0 where
+  pub linked : AreLinked in_flight skips
+  pub within : i ≤ length in_flight
+  pub here : i < length in_flight → (at in_flight i).acked ≡ false
+  pub before_is : IsBefore in_flight skips i before
 
 -- one step of it: the one at the place is acknowledged or left open, and the next open one stands at another place
 abbrev pub before_next : Bool → Option ℕ → ℕ → Option ℕ

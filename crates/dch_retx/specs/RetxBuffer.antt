@@ -13,10 +13,10 @@ use Rattle.dch_retx.specs.StatusItem.{below_said, ending_of, first_outside, is_n
 -- the PDUs in flight, how many there may be, the number of the next one in 12 bits, the poll timer, the place of the polled PDU, and whether
 -- a poll is owed; and the discard that runs
 pub record RetxBuffer : Type 0 where
-  pub flown : List SentPdu
+  pub in_flight : List SentPdu
   pub window : ℕ
   pub next : ℕ
-  pub timer : ℕ
+  pub poll_timer : ℕ
   pub polled : ℕ
   pub owed : Bool
   pub running : Option Running
@@ -26,11 +26,11 @@ pub record RetxBuffer : Type 0 where
 
 -- at opening
 abbrev pub opened_line : Rules → RetxBuffer
-opened_line rules = record { flown = []; window = rules.window; next = 0; timer = 0; polled = 0; owed = false; running = None; rules = rules; built = 0; ended = 0 }
+opened_line rules = record { in_flight = []; window = rules.window; next = 0; poll_timer = 0; polled = 0; owed = false; running = None; rules = rules; built = 0; ended = 0 }
 
 -- the number of the PDU in flight at a place
 abbrev pub number_at : ℕ → RetxBuffer → ℕ
-number_at place l = wrapped (l.next + 4096 - (length l.flown - place))
+number_at place l = wrapped (l.next + 4096 - (length l.in_flight - place))
 
 abbrev pub first_number : RetxBuffer → ℕ
 first_number l = number_at 0 l
@@ -42,9 +42,9 @@ run_on gone (Some r) = if nat_lt r.at gone then None else Some (record r { at = 
 
 -- the PDUs in front that are acknowledged leave. The poll is told where the polled one leaves, or was named
 abbrev pub left_front : ℕ → Bool → List SentPdu → RetxBuffer → RetxBuffer
-left_front gone named flown l = record l {
-  flown = drop gone flown;
-  timer = if named || nat_lt l.polled gone then 0 else l.timer;
+left_front gone named in_flight l = record l {
+  in_flight = drop gone in_flight;
+  poll_timer = if named || nat_lt l.polled gone then 0 else l.poll_timer;
   owed = if named || nat_lt l.polled gone then false else l.owed;
   polled = l.polled - gone;
   running = run_on gone l.running;
@@ -52,11 +52,11 @@ left_front gone named flown l = record l {
 
 -- the PDUs below a place are acknowledged, but for those that are marked
 abbrev pub acked_below : ℕ → List SentPdu → List SentPdu
-acked_below below flown = changed_below acknowledged (min below (length flown)) flown
+acked_below below in_flight = changed_below acknowledged (min below (length in_flight)) in_flight
 
 -- all PDUs below a place are acknowledged, and the discard has ended
 abbrev pub freed : ℕ → RetxBuffer → RetxBuffer
-freed below l = left_front (front_acked (acked_below below l.flown)) false (acked_below below l.flown) (record l { running = None })
+freed below l = left_front (front_acked (acked_below below l.in_flight)) false (acked_below below l.in_flight) (record l { running = None })
 
 -- below this place nothing is requested while a discard runs
 abbrev pub floor_of : Option Running → ℕ
@@ -65,17 +65,17 @@ floor_of (Some r) = r.at
 
 -- what is said of numbers is heard, where the LSN stands at a place
 abbrev pub named_line : ℕ → List StatusItem → RetxBuffer → List SentPdu
-named_line below said l = with_names (first_number l) (floor_of l.running) (min below (length l.flown)) said l.flown
+named_line below said l = with_names (first_number l) (floor_of l.running) (min below (length l.in_flight)) said l.in_flight
 
 abbrev pub told_line : ℕ → List StatusItem → RetxBuffer → List SentPdu
-told_line below said l = changed_below acknowledged (min below (length l.flown)) (named_line below said l)
+told_line below said l = changed_below acknowledged (min below (length l.in_flight)) (named_line below said l)
 
 abbrev pub listened : ℕ → List StatusItem → RetxBuffer → RetxBuffer
 listened below said l = left_front (front_acked (told_line below said l)) (is_named (first_number l) l.polled said) (told_line below said l) l
 
 -- where an MRW_ACK ends the running discard, and the line after it
 abbrev pub ending : List StatusItem → RetxBuffer → Option Running → Option ℕ
-ending said l running = ending_of (first_number l) (length l.flown) running said
+ending said l running = ending_of (first_number l) (length l.in_flight) running said
 
 abbrev pub after_ending : Option ℕ → RetxBuffer → RetxBuffer
 after_ending None l = l
@@ -88,11 +88,11 @@ after_moves said l = after_ending (ending said l l.running) l
 -- the place of the first PDU that stays open where it does so
 abbrev pub base_after : Option ℕ → RetxBuffer → ℕ
 base_after None l = 0
-base_after (Some below) l = min below (length l.flown) + front_acked (drop (min below (length l.flown)) l.flown)
+base_after (Some below) l = min below (length l.in_flight) + front_acked (drop (min below (length l.in_flight)) l.in_flight)
 
 -- the first number that is outside, where the PDU at a place is the lowest open one
 abbrev pub outside_from : ℕ → List StatusItem → RetxBuffer → Option ℕ
-outside_from base said l = first_outside l.window (number_at base l) (length l.flown - base) said
+outside_from base said l = first_outside l.window (number_at base l) (length l.in_flight - base) said
 
 -- what a status is answered, and the line after it
 abbrev pub answered : Option ℕ → StatusTaken
@@ -117,12 +117,12 @@ abbrev pub after_hearing : List StatusItem → RetxBuffer → RetxBuffer
 after_hearing said l = after_answer (answer_of said l) said l
 
 -- the ring has room for the window, numbers have 12 bits, and the PDU of a discard is in flight with a place of four bits
-pub record IsLine (flown : List SentPdu) (capacity window next : ℕ) (running : Option Running) : Type 0 where
+pub record IsLine (in_flight : List SentPdu) (capacity window next : ℕ) (running : Option Running) : Type 0 where
   pub room : capacity ≡ window
-  pub few : length flown ≤ window
+  pub few : length in_flight ≤ window
   pub most : window ≤ 2048
   pub number : next < 4096
-  pub discard : IfSome running (λ r. (r.at < length flown) × (r.n < 16))
+  pub discard : IfSome running (λ r. (r.at < length in_flight) × (r.n < 16))
 
 -- a tick of the poll timer and of a discard's
 abbrev pub run_timer : Option Running → Option Running
@@ -130,11 +130,11 @@ run_timer None = None
 run_timer (Some r) = Some (record r { due = r.due || (r.timer == 1); timer = r.timer - 1 })
 
 abbrev pub ticked : RetxBuffer → RetxBuffer
-ticked l = record l { timer = l.timer - 1; owed = l.owed || (l.timer == 1); running = run_timer l.running }
+ticked l = record l { poll_timer = l.poll_timer - 1; owed = l.owed || (l.poll_timer == 1); running = run_timer l.running }
 
 -- a discard begins with this PDU in flight and this mark: those before aren't requested
 abbrev pub discarding : ℕ → ℕ → RetxBuffer → RetxBuffer
-discarding place n l = record l { flown = changed_below request_cleared place l.flown; running = Some (record { at = place; n = n; due = true; timer = 0 }) }
+discarding place n l = record l { in_flight = changed_below request_cleared place l.in_flight; running = Some (record { at = place; n = n; due = true; timer = 0 }) }
 
 -- an MRW is due
 abbrev pub is_due : Option Running → Bool

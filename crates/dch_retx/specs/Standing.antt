@@ -15,7 +15,7 @@ use Rattle.dch_retx.specs.declared.buffer.Running.{Running}
 use Rattle.dch_retx.specs.RetxBuffer.{RetxBuffer}
 
 -- the PDU in flight with a number
-pub record IsFlown (s : Sender) (k : ℕ) (f : SentPdu) : Type 0 where
+pub record IsInFlight (s : Sender) (k : ℕ) (f : SentPdu) : Type 0 where
   pub acked : f.acked ≡ has k s.acked
   pub requested : f.requested ≡ has k s.requested
   pub named : f.named ≡ false
@@ -58,17 +58,17 @@ pub record Stands (rules : Rules) (l : RetxBuffer) (s : Sender) : Type 0 where
   pub built : l.built ≡ left_of rules.poll_pdus s.builds
   pub ended : l.ended ≡ left_of rules.poll_units (ends s.bodies)
   pub most : rules.window ≤ 2048
-  pub few : length l.flown ≤ rules.window
-  pub flying : vt_a s + length l.flown ≡ vt_s s
+  pub few : length l.in_flight ≤ rules.window
+  pub flying : vt_a s + length l.in_flight ≡ vt_s s
   pub next : l.next ≡ wrapped (vt_s s)
-  pub flown : (i : ℕ) → i < length l.flown → IsFlown s (vt_a s + i) (at l.flown i)
+  pub in_flight : (i : ℕ) → i < length l.in_flight → IsInFlight s (vt_a s + i) (at l.in_flight i)
   pub acked_sent : (k : ℕ) → has k s.acked ≡ true → k < vt_s s
   pub requested : (k : ℕ) → has k s.requested ≡ true → IsRequested s k
   pub unsent : (k : ℕ) → vt_s s ≤ k → count k s.sendings ≡ 0
-  pub timer : l.timer ≡ s.poll_timer
+  pub poll_timer : l.poll_timer ≡ s.poll_timer
   pub owed : l.owed ≡ s.owed
-  pub polled : (0 < s.poll_timer) ⊎ (s.owed ≡ true) → IsPolled s l.polled (length l.flown)
-  pub running : IsRunning l.running s.discard (vt_a s) (length l.flown)
+  pub polled : (0 < s.poll_timer) ⊎ (s.owed ≡ true) → IsPolled s l.polled (length l.in_flight)
+  pub running : IsRunning l.running s.discard (vt_a s) (length l.in_flight)
 
 -- the choice, by the lowest open number
 abbrev pub chosen : ℕ → Pick → Choice

@@ -68,19 +68,19 @@ is_named first i (said ∷ rest) = names_place first i said || is_named first i 
 
 -- the PDU at a place that is in flight is changed
 abbrev pub changed_at : (SentPdu → SentPdu) → ℕ → List SentPdu → List SentPdu
-changed_at change i flown = if nat_lt i (length flown) then slice_set flown i (change (at flown i)) else flown
+changed_at change i in_flight = if nat_lt i (length in_flight) then slice_set in_flight i (change (at in_flight i)) else in_flight
 
 -- the PDUs with one thing more heard, and with all: those named at a place or behind are requested, and those before another place marked
 abbrev pub with_name : ℕ → ℕ → ℕ → StatusItem → List SentPdu → List SentPdu
-with_name first from to (Missing x) flown = changed_at (named_from from to (place_of first x)) (place_of first x) flown
-with_name first from to (Unset x) flown = changed_at (named_from from to (place_of first x)) (place_of first x) flown
-with_name first from to (Set x) flown = flown
-with_name first from to (Below x) flown = flown
-with_name first from to (Moved n sn) flown = flown
+with_name first from to (Missing x) in_flight = changed_at (named_from from to (place_of first x)) (place_of first x) in_flight
+with_name first from to (Unset x) in_flight = changed_at (named_from from to (place_of first x)) (place_of first x) in_flight
+with_name first from to (Set x) in_flight = in_flight
+with_name first from to (Below x) in_flight = in_flight
+with_name first from to (Moved n sn) in_flight = in_flight
 
 abbrev pub with_names : ℕ → ℕ → ℕ → List StatusItem → List SentPdu → List SentPdu
-with_names first from to [] flown = flown
-with_names first from to (said ∷ rest) flown = with_names first from to rest (with_name first from to said flown)
+with_names first from to [] in_flight = in_flight
+with_names first from to (said ∷ rest) in_flight = with_names first from to rest (with_name first from to said in_flight)
 
 -- the place of the LSN, the first one where there is none
 abbrev pub below_said : ℕ → List StatusItem → ℕ

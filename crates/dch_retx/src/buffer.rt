@@ -16,7 +16,7 @@ ghost use Rattle.dch_retx.specs.Telling.{IsTold};
 ghost use Rattle.dch_retx.specs.RetxBuffer.{after_ending, after_hearing, after_told, answer_of, first_number, number_at, outside_from, base_after, floor_of, freed, left_front, listened, opened_line, run_on, run_timer, repeating, ticked, discarding, is_due, moving, place_in, mark_in};
 
 use crate::flight::Flight;
-use crate::hear::{Flying, outside};
+use crate::hear::{SentNumbers, outside};
 use crate::names::{Naming, name};
 use crate::sent_pdu::SentPdu;
 use crate::tell::{Told, tell};
@@ -52,7 +52,7 @@ pub struct RetxBuffer {
     rules: AmRules,
     buffer: u16,
     next: u16,
-    timer: u16,
+    poll_timer: u16,
     polled: u16,
     owed: bool,
     running: Option<Running>,
@@ -66,7 +66,7 @@ impl Model for RetxBuffer {
 
     ghost Value = { RetxBuffer };
 
-    ghost view = { λ l. record { flown = l.flight.items; window = l.rules.window; next = l.next; timer = l.timer; polled = l.polled; owed = l.owed; running = l.running; rules = rules_of l.buffer l.rules; built = l.built; ended = l.ended } };
+    ghost view = { λ l. record { in_flight = l.flight.items; window = l.rules.window; next = l.next; poll_timer = l.poll_timer; polled = l.polled; owed = l.owed; running = l.running; rules = rules_of l.buffer l.rules; built = l.built; ended = l.ended } };
 
     ghost invariant = { λ l. IsLine l.flight.items l.flight.capacity l.rules.window l.next l.running };
 }
@@ -84,7 +84,7 @@ impl RetxBuffer {
             rules,
             buffer,
             next: 0,
-            timer: 0,
+            poll_timer: 0,
             polled: 0,
             owed: false,
             running: None,
@@ -95,22 +95,22 @@ impl RetxBuffer {
 
     /// The PDU in flight at a place.
     pub fn at(&self, place: u16) -> SentPdu
-        requires { place < length self.now.flown }
-        ensures { result ≡ at self.now.flown place }
+        requires { place < length self.now.in_flight }
+        ensures { result ≡ at self.now.in_flight place }
     {
         self.flight.at(place as usize)
     }
 
     /// How many PDUs are requested, at most so many.
     pub fn requested(&self, most: usize) -> usize
-        ensures { result ≡ min most (requested_in self.now.flown) }
+        ensures { result ≡ min most (requested_in self.now.in_flight) }
     {
         self.flight.requested(most)
     }
 
     /// A PDU is requested.
     pub fn is_requested(&self) -> bool
-        ensures { result ≡ nat_lt 0 (requested_in self.now.flown) }
+        ensures { result ≡ nat_lt 0 (requested_in self.now.in_flight) }
     {
         self.flight.is_requested()
     }
@@ -118,7 +118,7 @@ impl RetxBuffer {
     /// How many PDUs may be in flight.
     pub fn window(&self) -> usize
         ensures count { result ≡ self.now.window }
-        ensures few { length self.now.flown ≤ result }
+        ensures few { length self.now.in_flight ≤ result }
     {
         self.rules.window as usize
     }
@@ -139,7 +139,7 @@ impl RetxBuffer {
 
     /// How many PDUs are in flight.
     pub fn len(&self) -> usize
-        ensures count { result ≡ length self.now.flown }
+        ensures count { result ≡ length self.now.in_flight }
         ensures few { result ≤ 2048 }
     {
         self.flight.len()
@@ -150,7 +150,7 @@ impl RetxBuffer {
         ensures answer { result ≡ answer_of (said_by status.now) self.old }
         ensures after { self.new ≡ after_hearing (said_by status.now) self.old }
         ensures outside { result ≢ Taken → self.new ≡ self.old }
-        ensures kept { AreKept self.old.flown self.new.flown }
+        ensures kept { AreKept self.old.in_flight self.new.in_flight }
         // the same over numbers without wrap
         ensures history { (rules : Rules) (s : Sender) → Stands rules self.old s → (result ≡ status_answer rules s status.now) × Stands rules self.new (after_fields rules s status.now) }
     {
@@ -202,7 +202,7 @@ impl RetxBuffer {
 
     /// The PDU at a place, which is requested, is built again. Answers its poll bit.
     pub fn again(&mut self, place: u16) -> bool
-        requires { place < length self.old.flown }
+        requires { place < length self.old.in_flight }
         ensures poll { result ≡ again_poll place self.old }
         ensures after { self.new ≡ again_line place self.old }
         ensures history { (rules : Rules) (s : Sender) (d : ℕ) → Stands rules self.old s → Sends rules result self.new (again_polls rules s (vt_a s + place)) (after_choice (Again (vt_a s + place)) rules d s) }
@@ -212,7 +212,7 @@ impl RetxBuffer {
 
     /// The same, by places.
     fn sends_again(&mut self, place: u16) -> bool
-        requires { place < length self.old.flown }
+        requires { place < length self.old.in_flight }
         ensures poll { result ≡ again_poll place self.old }
         ensures after { self.new ≡ again_line place self.old }
     {
@@ -223,7 +223,7 @@ impl RetxBuffer {
 
     /// The PDU at a place is built again for an owed poll. Answers its poll bit.
     pub fn last(&mut self, place: u16) -> bool
-        requires { place < length self.old.flown }
+        requires { place < length self.old.in_flight }
         ensures poll { result ≡ last_poll place self.old }
         ensures after { self.new ≡ last_line place self.old }
         ensures history { (rules : Rules) (s : Sender) (d : ℕ) → Stands rules self.old s → vt_a s + place ≡ vt_s s - 1 → has (vt_a s + place) s.requested ≡ false → Sends rules result self.new (once_more_polls rules s) (after_choice (Last (vt_a s + place)) rules d s) }
@@ -233,7 +233,7 @@ impl RetxBuffer {
 
     /// The same, by places.
     fn sends_last(&mut self, place: u16) -> bool
-        requires { place < length self.old.flown }
+        requires { place < length self.old.in_flight }
         ensures poll { result ≡ last_poll place self.old }
         ensures after { self.new ≡ last_line place self.old }
     {
@@ -242,30 +242,30 @@ impl RetxBuffer {
     }
 
     /// A new PDU is built, behind which unsent matter is left or not. Answers its poll bit.
-    pub fn push(&mut self, flown: SentPdu, left: bool) -> bool
-        requires room { length self.old.flown < self.old.window }
-        requires new { flown.requested ≡ false }
-        requires is_open { flown.acked ≡ false }
-        ensures poll { result ≡ new_poll flown left self.old }
-        ensures after { self.new ≡ new_line flown left self.old }
-        ensures history { (rules : Rules) (s : Sender) (d : ℕ) → Stands rules self.old s → IsNew flown (ends_of (next_body d s.unsent)) → left ≡ is_left (after_body d s.unsent) → Sends rules result self.new (anew_polls rules d s) (after_choice New rules d s) }
+    pub fn push(&mut self, pdu: SentPdu, left: bool) -> bool
+        requires room { length self.old.in_flight < self.old.window }
+        requires new { pdu.requested ≡ false }
+        requires is_open { pdu.acked ≡ false }
+        ensures poll { result ≡ new_poll pdu left self.old }
+        ensures after { self.new ≡ new_line pdu left self.old }
+        ensures history { (rules : Rules) (s : Sender) (d : ℕ) → Stands rules self.old s → IsNew pdu (ends_of (next_body d s.unsent)) → left ≡ is_left (after_body d s.unsent) → Sends rules result self.new (anew_polls rules d s) (after_choice New rules d s) }
     {
-        self.sends_new(flown, left)
+        self.sends_new(pdu, left)
     }
 
     /// The same, by places.
-    fn sends_new(&mut self, flown: SentPdu, left: bool) -> bool
-        requires room { length self.old.flown < self.old.window }
-        requires new { flown.requested ≡ false }
-        requires is_open { flown.acked ≡ false }
-        ensures poll { result ≡ new_poll flown left self.old }
-        ensures after { self.new ≡ new_line flown left self.old }
+    fn sends_new(&mut self, pdu: SentPdu, left: bool) -> bool
+        requires room { length self.old.in_flight < self.old.window }
+        requires new { pdu.requested ≡ false }
+        requires is_open { pdu.acked ≡ false }
+        ensures poll { result ≡ new_poll pdu left self.old }
+        ensures after { self.new ≡ new_line pdu left self.old }
     {
-        let ends = flown.ends();
+        let ends = pdu.ends();
         let due = crosses(self.rules.poll_units, self.ended, ends);
         self.ended = counted(self.rules.poll_units, self.ended, ends);
         self.next = (self.next + 1) % NUMBERS;
-        self.flight.push(flown);
+        self.flight.push(pdu);
         self.sent(!left || due)
     }
 
@@ -281,7 +281,7 @@ impl RetxBuffer {
         if poll {
             self.owed = false;
             if self.rules.poll_timer > 0 {
-                self.timer = self.rules.poll_timer;
+                self.poll_timer = self.rules.poll_timer;
                 self.polled = self.flight.len().saturating_sub(1) as u16;
             }
         }
@@ -299,14 +299,14 @@ impl RetxBuffer {
     fn ticks(&mut self)
         ensures after { self.new ≡ ticked self.old }
     {
-        self.owed = self.owed || self.timer == 1;
-        self.timer = self.timer.saturating_sub(1);
+        self.owed = self.owed || self.poll_timer == 1;
+        self.poll_timer = self.poll_timer.saturating_sub(1);
         self.running = run_timer(self.running);
     }
 
     /// A discard begins with the PDU at a place and its mark `n`.
     pub fn discard(&mut self, place: u16, n: u8)
-        requires inside { place < length self.old.flown }
+        requires inside { place < length self.old.in_flight }
         requires mark { n < 16 }
         ensures after { self.new ≡ discarding place n self.old }
         ensures history { (rules : Rules) (s : Sender) (i : ℕ) → Stands rules self.old s → Stands rules self.new (discards_at s i (Some (vt_a s + place, n))) }
@@ -315,7 +315,7 @@ impl RetxBuffer {
     }
 
     fn begins(&mut self, place: u16, n: u8)
-        requires inside { place < length self.old.flown }
+        requires inside { place < length self.old.in_flight }
         requires mark { n < 16 }
         ensures after { self.new ≡ discarding place n self.old }
     {
@@ -388,7 +388,7 @@ impl RetxBuffer {
 
     /// The 12-bit number of the PDU at a place, or of the next new one.
     pub fn number_at(&self, place: u16) -> u16
-        requires { place ≤ length self.now.flown }
+        requires { place ≤ length self.now.in_flight }
         ensures number { result ≡ number_at place self.now }
         ensures small { result < 4096 }
         ensures history { (rules : Rules) (s : Sender) → Stands rules self.now s → result ≡ wrapped (vt_a s + place) }
@@ -397,7 +397,7 @@ impl RetxBuffer {
     }
 
     fn number_of(&self, place: u16) -> u16
-        requires { place ≤ length self.now.flown }
+        requires { place ≤ length self.now.in_flight }
         ensures number { result ≡ number_at place self.now }
         ensures small { result < 4096 }
     {
@@ -413,7 +413,7 @@ impl RetxBuffer {
     {
         self.flight.clear();
         self.next = 0;
-        self.timer = 0;
+        self.poll_timer = 0;
         self.polled = 0;
         self.owed = false;
         self.running = None;
@@ -422,15 +422,15 @@ impl RetxBuffer {
     }
 
     /// The PDUs in flight from a place on.
-    fn flying(&self, base: u16) -> Flying
-        requires { base ≤ length self.now.flown }
+    fn sent_numbers(&self, base: u16) -> SentNumbers
+        requires { base ≤ length self.now.in_flight }
         ensures window { result.window ≡ self.now.window }
         ensures first { result.first ≡ number_at base self.now }
-        ensures count { result.count ≡ length self.now.flown - base }
+        ensures count { result.count ≡ length self.now.in_flight - base }
         ensures range { (result.window ≤ 2048) × (result.first < 4096) × (result.count ≤ 2048) }
-        ensures few { length self.now.flown ≤ result.window }
+        ensures few { length self.now.in_flight ≤ result.window }
     {
-        Flying {
+        SentNumbers {
             window: self.rules.window,
             first: self.number_of(base),
             count: self.flight.len() as u16 - base,
@@ -439,29 +439,29 @@ impl RetxBuffer {
 
     /// What the status tells as a whole.
     fn told(&self, status: &StatusView<'_>) -> Told
-        ensures told { IsTold result self.now.window (first_number self.now) (length self.now.flown) self.now.running (said_by status.now) }
-        ensures few { (length self.now.flown ≤ self.now.window) × (self.now.window ≤ 2048) }
+        ensures told { IsTold result self.now.window (first_number self.now) (length self.now.in_flight) self.now.running (said_by status.now) }
+        ensures few { (length self.now.in_flight ≤ self.now.window) × (self.now.window ≤ 2048) }
     {
-        tell(status, self.flying(0), self.running)
+        tell(status, self.sent_numbers(0), self.running)
     }
 
     /// The first number of the status that is outside, where the PDU at a place is the lowest open one. The status is walked only where there is one.
     fn outside(&self, status: &StatusView<'_>, told: Told, base: u16) -> Option<u16>
-        requires base { base ≤ length self.now.flown }
-        requires told { IsTold told self.now.window (first_number self.now) (length self.now.flown) self.now.running (said_by status.now) }
+        requires base { base ≤ length self.now.in_flight }
+        requires told { IsTold told self.now.window (first_number self.now) (length self.now.in_flight) self.now.running (said_by status.now) }
         ensures { result ≡ outside_from base (said_by status.now) self.now }
     {
-        let flying = self.flying(base);
+        let sent_numbers = self.sent_numbers(base);
         if told.limit > base {
             return None;
         }
-        outside(status, flying)
+        outside(status, sent_numbers)
     }
 
     /// The place of the lowest open PDU, where an MRW_ACK acknowledges those below a place.
     fn base_after(&self, found: Option<u16>) -> u16
         ensures base { result ≡ base_after found self.now }
-        ensures within { result ≤ length self.now.flown }
+        ensures within { result ≤ length self.now.in_flight }
     {
         match found {
             None => 0,
@@ -511,12 +511,12 @@ impl RetxBuffer {
 
     /// The PDUs in front that are acknowledged leave. The poll is told where the polled one does, or was named.
     fn leave(&mut self, named: bool)
-        ensures { self.new ≡ left_front (front_acked self.old.flown) named self.old.flown self.old }
+        ensures { self.new ≡ left_front (front_acked self.old.in_flight) named self.old.in_flight self.old }
     {
         let gone = self.flight.acked_from(0);
         self.flight.leave(gone);
         if named || (self.polled as usize) < gone {
-            self.timer = 0;
+            self.poll_timer = 0;
             self.owed = false;
         }
         self.polled = self.polled.saturating_sub(gone as u16);

@@ -63,13 +63,13 @@ impl Flight {
     }
 
     /// A new PDU is in flight.
-    pub fn push(&mut self, flown: SentPdu)
+    pub fn push(&mut self, pdu: SentPdu)
         requires room { length self.old.items < self.old.capacity }
-        requires new { flown.requested ≡ false }
-        requires is_open { flown.acked ≡ false }
-        ensures { self.new ≡ buffer (self.old.items ++ flown ∷ []) self.old.capacity }
+        requires new { pdu.requested ≡ false }
+        requires is_open { pdu.acked ≡ false }
+        ensures { self.new ≡ buffer (self.old.items ++ pdu ∷ []) self.old.capacity }
     {
-        self.ring.push_back(flown);
+        self.ring.push_back(pdu);
         self.skips.push_back(0);
     }
 

@@ -15,22 +15,22 @@ pub fn place_of(first: u16, number: u16) -> u16
     (number % NUMBERS + NUMBERS - first) % NUMBERS
 }
 
-/// The PDUs in flight that a status is judged by: the window, the number of the first one, and how many there are.
+/// The numbers of the PDUs in flight, by which a status is judged: the window, the number of the first one, and how many there are.
 #[derive(Clone, Copy)]
-pub struct Flying {
+pub struct SentNumbers {
     pub window: u16,
     pub first: u16,
     pub count: u16,
 }
 
 /// The first number of a status that is outside.
-pub fn outside(status: &StatusView<'_>, flying: Flying) -> Option<u16>
-    requires flying { (flying.window ≤ 2048) × (flying.first < 4096) × (flying.count ≤ 2048) }
-    ensures { result ≡ first_outside flying.window flying.first flying.count (said_by status.now) }
+pub fn outside(status: &StatusView<'_>, sent: SentNumbers) -> Option<u16>
+    requires sent { (sent.window ≤ 2048) × (sent.first < 4096) × (sent.count ≤ 2048) }
+    ensures { result ≡ first_outside sent.window sent.first sent.count (said_by status.now) }
 {
     let mut cursor = status.cursor();
     while !cursor.is_done() {
-        let found = outside_field(&cursor, flying);
+        let found = outside_field(&cursor, sent);
         if found.is_some() {
             return found;
         }
@@ -40,15 +40,15 @@ pub fn outside(status: &StatusView<'_>, flying: Flying) -> Option<u16>
 }
 
 /// The first number of a field that is outside.
-fn outside_field(cursor: &Cursor<'_>, flying: Flying) -> Option<u16>
+fn outside_field(cursor: &Cursor<'_>, sent: SentNumbers) -> Option<u16>
     requires some { 0 < length cursor.now }
-    requires flying { (flying.window ≤ 2048) × (flying.first < 4096) × (flying.count ≤ 2048) }
-    ensures { result ≡ first_outside flying.window flying.first flying.count (said_in (first_of cursor.now)) }
+    requires sent { (sent.window ≤ 2048) × (sent.first < 4096) × (sent.count ≤ 2048) }
+    ensures { result ≡ first_outside sent.window sent.first sent.count (said_in (first_of cursor.now)) }
 {
     match cursor.field() {
-        Sufi::List { pairs } => outside_list(cursor, pairs, flying),
-        Sufi::Bitmap { first, bits } => outside_bits(cursor, first, bits, flying),
-        Sufi::Ack(lsn) => outside_ack(lsn, flying),
+        Sufi::List { pairs } => outside_list(cursor, pairs, sent),
+        Sufi::Bitmap { first, bits } => outside_bits(cursor, first, bits, sent),
+        Sufi::Ack(lsn) => outside_ack(lsn, sent),
         Sufi::MrwAck { n: _, sn: _ } => None,
         Sufi::NoMore => None,
         Sufi::Window(_) => None,
@@ -57,11 +57,11 @@ fn outside_field(cursor: &Cursor<'_>, flying: Flying) -> Option<u16>
 }
 
 /// An LSN that is neither the number of a PDU in flight nor that of the next one.
-fn outside_ack(lsn: u16, flying: Flying) -> Option<u16>
-    requires flying { (flying.window ≤ 2048) × (flying.first < 4096) × (flying.count ≤ 2048) }
-    ensures { result ≡ first_outside flying.window flying.first flying.count (said_in (AckField lsn)) }
+fn outside_ack(lsn: u16, sent: SentNumbers) -> Option<u16>
+    requires sent { (sent.window ≤ 2048) × (sent.first < 4096) × (sent.count ≤ 2048) }
+    ensures { result ≡ first_outside sent.window sent.first sent.count (said_in (AckField lsn)) }
 {
-    if place_of(flying.first, lsn) > flying.count {
+    if place_of(sent.first, lsn) > sent.count {
         Some(lsn % NUMBERS)
     } else {
         None
@@ -69,14 +69,14 @@ fn outside_ack(lsn: u16, flying: Flying) -> Option<u16>
 }
 
 /// The first number of a LIST that is outside.
-fn outside_list(cursor: &Cursor<'_>, pairs: u8, flying: Flying) -> Option<u16>
+fn outside_list(cursor: &Cursor<'_>, pairs: u8, sent: SentNumbers) -> Option<u16>
     requires pairs { pairs ≡ length (pairs_of (first_of cursor.now)) }
-    requires flying { (flying.window ≤ 2048) × (flying.first < 4096) × (flying.count ≤ 2048) }
-    ensures { result ≡ first_outside flying.window flying.first flying.count (said_in (ListField (pairs_of (first_of cursor.now)))) }
+    requires sent { (sent.window ≤ 2048) × (sent.first < 4096) × (sent.count ≤ 2048) }
+    ensures { result ≡ first_outside sent.window sent.first sent.count (said_in (ListField (pairs_of (first_of cursor.now)))) }
 {
     for j in 0..pairs as usize {
         let run = cursor.run(j);
-        let found = outside_run(run, flying);
+        let found = outside_run(run, sent);
         if found.is_some() {
             return found;
         }
@@ -85,33 +85,33 @@ fn outside_list(cursor: &Cursor<'_>, pairs: u8, flying: Flying) -> Option<u16>
 }
 
 /// The first number of a run that is outside.
-fn outside_run(run: SnRun, flying: Flying) -> Option<u16>
+fn outside_run(run: SnRun, sent: SentNumbers) -> Option<u16>
     requires number { run.0 < 4096 }
     requires more { run.1 < 16 }
-    requires flying { (flying.window ≤ 2048) × (flying.first < 4096) × (flying.count ≤ 2048) }
-    ensures { result ≡ first_outside flying.window flying.first flying.count (map missing_of (range run.0 (run.1 + 1))) }
+    requires sent { (sent.window ≤ 2048) × (sent.first < 4096) × (sent.count ≤ 2048) }
+    ensures { result ≡ first_outside sent.window sent.first sent.count (map missing_of (range run.0 (run.1 + 1))) }
 {
-    let place = place_of(flying.first, run.first);
-    if place >= flying.count {
+    let place = place_of(sent.first, run.first);
+    if place >= sent.count {
         return Some(run.first);
     }
-    if place + (run.more as u16) < flying.count {
+    if place + (run.more as u16) < sent.count {
         return None;
     }
-    Some((run.first + (flying.count - place)) % NUMBERS)
+    Some((run.first + (sent.count - place)) % NUMBERS)
 }
 
 /// The first number of a BITMAP that is outside.
-fn outside_bits(cursor: &Cursor<'_>, first: u16, bits: u16, flying: Flying) -> Option<u16>
+fn outside_bits(cursor: &Cursor<'_>, first: u16, bits: u16, sent: SentNumbers) -> Option<u16>
     requires bits { bits ≡ length (bits_of (first_of cursor.now)) }
     requires number { first < 4096 }
     requires most { bits ≤ 128 }
-    requires flying { (flying.window ≤ 2048) × (flying.first < 4096) × (flying.count ≤ 2048) }
-    ensures { result ≡ first_outside flying.window flying.first flying.count (said_in (BitmapField first (bits_of (first_of cursor.now)))) }
+    requires sent { (sent.window ≤ 2048) × (sent.first < 4096) × (sent.count ≤ 2048) }
+    ensures { result ≡ first_outside sent.window sent.first sent.count (said_in (BitmapField first (bits_of (first_of cursor.now)))) }
 {
     for j in 0..bits {
         let number = (first + j) % NUMBERS;
-        if cursor.bit(j as usize) && is_unknown(number, flying) {
+        if cursor.bit(j as usize) && is_unknown(number, sent) {
             return Some(number);
         }
     }
@@ -119,10 +119,10 @@ fn outside_bits(cursor: &Cursor<'_>, first: u16, bits: u16, flying: Flying) -> O
 }
 
 /// A number that is acknowledged is neither that of a PDU in flight nor of one in the window below.
-fn is_unknown(number: u16, flying: Flying) -> bool
-    requires flying { (flying.window ≤ 2048) × (flying.first < 4096) × (flying.count ≤ 2048) }
-    ensures { result ≡ is_unknown flying.window flying.first flying.count number }
+fn is_unknown(number: u16, sent: SentNumbers) -> bool
+    requires sent { (sent.window ≤ 2048) × (sent.first < 4096) × (sent.count ≤ 2048) }
+    ensures { result ≡ is_unknown sent.window sent.first sent.count number }
 {
-    let place = place_of(flying.first, number);
-    place >= flying.count && place < NUMBERS - flying.window
+    let place = place_of(sent.first, number);
+    place >= sent.count && place < NUMBERS - sent.window
 }

@@ -36,15 +36,15 @@ pub fn name_at(ring: &mut HeapCircularBuffer<SentPdu>, i: usize, from: usize, to
     ensures newly { result ≡ (not (at ring.old.items i).requested && (named_from from to i (at ring.old.items i)).requested) }
     ensures after { ring.new ≡ buffer (slice_set ring.old.items i (named_from from to i (at ring.old.items i))) ring.old.capacity }
 {
-    let Some(flown) = ring.get_mut(i) else {
+    let Some(pdu) = ring.get_mut(i) else {
         return false;
     };
-    let was = flown.requested;
-    if !flown.acked {
-        flown.named = flown.named || i < to;
-        flown.requested = flown.requested || from <= i;
+    let was = pdu.requested;
+    if !pdu.acked {
+        pdu.named = pdu.named || i < to;
+        pdu.requested = pdu.requested || from <= i;
     }
-    !was && flown.requested
+    !was && pdu.requested
 }
 
 /// It is acknowledged, or loses its mark where it has one. Answers whether it was requested and isn't any more.
@@ -53,17 +53,17 @@ pub fn acknowledge_at(ring: &mut HeapCircularBuffer<SentPdu>, i: usize) -> bool
     ensures gone { result ≡ ((at ring.old.items i).requested && not (acknowledged (at ring.old.items i)).requested) }
     ensures after { ring.new ≡ buffer (slice_set ring.old.items i (acknowledged (at ring.old.items i))) ring.old.capacity }
 {
-    let Some(flown) = ring.get_mut(i) else {
+    let Some(pdu) = ring.get_mut(i) else {
         return false;
     };
-    let was = flown.requested;
-    if flown.named {
-        flown.named = false;
+    let was = pdu.requested;
+    if pdu.named {
+        pdu.named = false;
     } else {
-        flown.acked = true;
-        flown.requested = false;
+        pdu.acked = true;
+        pdu.requested = false;
     }
-    was && !flown.requested
+    was && !pdu.requested
 }
 
 /// It isn't requested. Answers whether it was.
@@ -72,11 +72,11 @@ pub fn clear_request_at(ring: &mut HeapCircularBuffer<SentPdu>, i: usize) -> boo
     ensures gone { result ≡ (at ring.old.items i).requested }
     ensures after { ring.new ≡ buffer (slice_set ring.old.items i (request_cleared (at ring.old.items i))) ring.old.capacity }
 {
-    let Some(flown) = ring.get_mut(i) else {
+    let Some(pdu) = ring.get_mut(i) else {
         return false;
     };
-    let was = flown.requested;
-    flown.requested = false;
+    let was = pdu.requested;
+    pdu.requested = false;
     was
 }
 
@@ -86,12 +86,12 @@ pub fn build_at(ring: &mut HeapCircularBuffer<SentPdu>, i: usize) -> bool
     ensures gone { result ≡ (at ring.old.items i).requested }
     ensures after { ring.new ≡ buffer (slice_set ring.old.items i (built (at ring.old.items i))) ring.old.capacity }
 {
-    let Some(flown) = ring.get_mut(i) else {
+    let Some(pdu) = ring.get_mut(i) else {
         return false;
     };
-    let was = flown.requested;
-    flown.requested = false;
-    flown.builds = flown.builds.saturating_add(1);
+    let was = pdu.requested;
+    pdu.requested = false;
+    pdu.builds = pdu.builds.saturating_add(1);
     was
 }
 

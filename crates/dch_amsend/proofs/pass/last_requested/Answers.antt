@@ -8,11 +8,11 @@ use Rattle.dch_amsend.proofs.pass.last_requested.Goals as goal
 
 pub loop-place-init : goal.loop-place-init
 loop-place-init c =
-    let e : c.first_requested-first.result ≡ first_requested c.args.outgoing.now.line.flown = c.first_requested-first.ensures.place ∙ ap (λ (l : RetxBuffer). first_requested l.flown) c.line-line.ensures in (
-      subst (λ n. (after_pdus c.args.rules.now c.args.held.now n (drop n c.args.outgoing.now.line.flown) (record { unit = c.ended_before.result; begun = false; found = None })).found ≡ overdue c.args.rules.now c.args.held.now c.args.outgoing.now.line.flown) (sym e) (begins_first c.args.rules.now c.args.held.now c.args.outgoing.now.line.flown c.ended_before.result (c.ended_before.ensures.value ∙ ap (λ n. ends_below n c.args.outgoing.now.line.flown) e) c.requires.none),
-      omega (arith, c.requested-left.ensures, ap (λ (l : RetxBuffer). requested_in l.flown) c.line-line.ensures, ap (λ (l : RetxBuffer). length l.flown) c.line-line.ensures, requested_few c.args.outgoing.now.line.flown, wanted_from c.args.outgoing.now.line.flown, ap (λ n. requested_in (drop n c.args.outgoing.now.line.flown)) e, c.len-place-end.ensures.few, c.len-place-end.ensures.count),
+    let e : c.first_requested-first.result ≡ first_requested c.args.outgoing.now.line.in_flight = c.first_requested-first.ensures.place ∙ ap (λ (l : RetxBuffer). first_requested l.in_flight) c.line-line.ensures in (
+      subst (λ n. (after_pdus c.args.rules.now c.args.held.now n (drop n c.args.outgoing.now.line.in_flight) (record { unit = c.ended_before.result; begun = false; found = None })).found ≡ overdue c.args.rules.now c.args.held.now c.args.outgoing.now.line.in_flight) (sym e) (begins_first c.args.rules.now c.args.held.now c.args.outgoing.now.line.in_flight c.ended_before.result (c.ended_before.ensures.value ∙ ap (λ n. ends_below n c.args.outgoing.now.line.in_flight) e) c.requires.none),
+      omega (arith, c.requested-left.ensures, ap (λ (l : RetxBuffer). requested_in l.in_flight) c.line-line.ensures, ap (λ (l : RetxBuffer). length l.in_flight) c.line-line.ensures, requested_few c.args.outgoing.now.line.in_flight, wanted_from c.args.outgoing.now.line.in_flight, ap (λ n. requested_in (drop n c.args.outgoing.now.line.in_flight)) e, c.len-place-end.ensures.few, c.len-place-end.ensures.count),
       omega (arith, c.ended_before.ensures.small),
     )
 
 pub returns-then-not-scan : goal.returns-then-not-scan
-returns-then-not-scan c = sym (none_more c.args.rules.now c.args.held.now c.loop-place.place (drop c.loop-place.place c.args.outgoing.now.line.flown) c.loop-place.scan (none_left c.args.rules.now (drop c.loop-place.place c.args.outgoing.now.line.flown) (sym c.loop-place.invariant.1 ∙ c.if-left-eq0.true)) (not-true c.loop-place.scan.begun c.if-not-scan.true) c.requires.none) ∙ c.loop-place.invariant.0
+returns-then-not-scan c = sym (none_more c.args.rules.now c.args.held.now c.loop-place.place (drop c.loop-place.place c.args.outgoing.now.line.in_flight) c.loop-place.scan (none_left c.args.rules.now (drop c.loop-place.place c.args.outgoing.now.line.in_flight) (sym c.loop-place.invariant.1 ∙ c.if-left-eq0.true)) (not-true c.loop-place.scan.begun c.if-not-scan.true) c.requires.none) ∙ c.loop-place.invariant.0

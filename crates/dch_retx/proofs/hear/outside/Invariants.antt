@@ -7,4 +7,4 @@ abbrev pub decreases-loop-cursor : goal.decreases-loop-cursor
 decreases-loop-cursor l = length l.cursor
 
 abbrev pub invariant-loop-cursor : goal.invariant-loop-cursor
-invariant-loop-cursor l = first_outside l.flying.window l.flying.first l.flying.count (said_by l.fn.status) ≡ first_outside l.flying.window l.flying.first l.flying.count (said_by l.cursor)
+invariant-loop-cursor l = first_outside l.sent.window l.sent.first l.sent.count (said_by l.fn.status) ≡ first_outside l.sent.window l.sent.first l.sent.count (said_by l.cursor)

@@ -5,4 +5,4 @@ use Rattle.dch_retx.specs.StatusItem.{first_outside}
 use Rattle.dch_retx.proofs.hear.outside_bits.Given as goal
 
 abbrev pub invariant-loop-j : goal.invariant-loop-j
-invariant-loop-j l = first_outside l.flying.window l.flying.first l.flying.count (bits_from l.first (bits_of (first_of l.cursor))) ≡ first_outside l.flying.window l.flying.first l.flying.count (bits_from (l.first + l.j) (drop l.j (bits_of (first_of l.cursor))))
+invariant-loop-j l = first_outside l.sent.window l.sent.first l.sent.count (bits_from l.first (bits_of (first_of l.cursor))) ≡ first_outside l.sent.window l.sent.first l.sent.count (bits_from (l.first + l.j) (drop l.j (bits_of (first_of l.cursor))))

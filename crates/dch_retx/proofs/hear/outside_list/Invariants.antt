@@ -7,4 +7,4 @@ use Rattle.dch_retx.specs.StatusItem.{first_outside}
 use Rattle.dch_retx.proofs.hear.outside_list.Given as goal
 
 abbrev pub invariant-loop-j : goal.invariant-loop-j
-invariant-loop-j l = first_outside l.flying.window l.flying.first l.flying.count (map missing_of (named (pairs_of (first_of l.cursor)))) ≡ first_outside l.flying.window l.flying.first l.flying.count (map missing_of (named (drop l.j (pairs_of (first_of l.cursor)))))
+invariant-loop-j l = first_outside l.sent.window l.sent.first l.sent.count (map missing_of (named (pairs_of (first_of l.cursor)))) ≡ first_outside l.sent.window l.sent.first l.sent.count (map missing_of (named (drop l.j (pairs_of (first_of l.cursor)))))

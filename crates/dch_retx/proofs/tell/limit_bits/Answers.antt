@@ -9,6 +9,6 @@ pub loop-j-init : goal.loop-j-init
 loop-j-init c =
     let same : c.args.first + 0 ≡ c.args.first = omega arith in
     record {
-      so_far = omega (arith, limit_low c.args.flying.window c.args.flying.first c.args.flying.count (bits_from c.args.first (bits_of (first_of c.args.cursor.now))), ap (λ k. limit_in c.args.flying.window c.args.flying.first c.args.flying.count (bits_from k (bits_of (first_of c.args.cursor.now)))) same);
+      so_far = omega (arith, limit_low c.args.sent.window c.args.sent.first c.args.sent.count (bits_from c.args.first (bits_of (first_of c.args.cursor.now))), ap (λ k. limit_in c.args.sent.window c.args.sent.first c.args.sent.count (bits_from k (bits_of (first_of c.args.cursor.now)))) same);
       small = omega arith;
     }

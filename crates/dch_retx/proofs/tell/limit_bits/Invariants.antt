@@ -7,6 +7,6 @@ use Rattle.dch_retx.proofs.tell.limit_bits.Given as goal
 
 abbrev pub invariant-loop-j : goal.invariant-loop-j
 invariant-loop-j l = record {
-  so_far : limit_in l.flying.window l.flying.first l.flying.count (bits_from l.first (bits_of (first_of l.cursor))) ≡ min l.limit (limit_in l.flying.window l.flying.first l.flying.count (bits_from (l.first + l.j) (drop l.j (bits_of (first_of l.cursor)))));
+  so_far : limit_in l.sent.window l.sent.first l.sent.count (bits_from l.first (bits_of (first_of l.cursor))) ≡ min l.limit (limit_in l.sent.window l.sent.first l.sent.count (bits_from (l.first + l.j) (drop l.j (bits_of (first_of l.cursor)))));
   small : l.limit ≤ 4097;
 }

@@ -8,6 +8,6 @@ use Rattle.dch_retx.proofs.tell.limit_list.Given as goal
 
 abbrev pub invariant-loop-j : goal.invariant-loop-j
 invariant-loop-j l = record {
-  so_far : limit_in l.flying.window l.flying.first l.flying.count (map missing_of (named (pairs_of (first_of l.cursor)))) ≡ min l.limit (limit_in l.flying.window l.flying.first l.flying.count (map missing_of (named (drop l.j (pairs_of (first_of l.cursor))))));
+  so_far : limit_in l.sent.window l.sent.first l.sent.count (map missing_of (named (pairs_of (first_of l.cursor)))) ≡ min l.limit (limit_in l.sent.window l.sent.first l.sent.count (map missing_of (named (drop l.j (pairs_of (first_of l.cursor))))));
   small : l.limit ≤ 4097;
 }

@@ -9,9 +9,9 @@ decreases-loop-cursor l = length l.cursor
 
 abbrev pub invariant-loop-cursor : goal.invariant-loop-cursor
 invariant-loop-cursor l = record {
-  below : below_said l.flying.first (said_by l.fn.status) ≡ unwrap_or l.told.below (below_said l.flying.first (said_by l.cursor));
+  below : below_said l.sent.first (said_by l.fn.status) ≡ unwrap_or l.told.below (below_said l.sent.first (said_by l.cursor));
   reports : tells_some (said_by l.fn.status) ≡ (l.told.reports || tells_some (said_by l.cursor));
-  ending : ending_of l.flying.first l.flying.count l.running (said_by l.fn.status) ≡ or_else l.told.ending (ending_of l.flying.first l.flying.count l.running (said_by l.cursor));
-  limit_is : limit_in l.flying.window l.flying.first l.flying.count (said_by l.fn.status) ≡ min l.told.limit (limit_in l.flying.window l.flying.first l.flying.count (said_by l.cursor));
+  ending : ending_of l.sent.first l.sent.count l.running (said_by l.fn.status) ≡ or_else l.told.ending (ending_of l.sent.first l.sent.count l.running (said_by l.cursor));
+  limit_is : limit_in l.sent.window l.sent.first l.sent.count (said_by l.fn.status) ≡ min l.told.limit (limit_in l.sent.window l.sent.first l.sent.count (said_by l.cursor));
   small : l.told.limit ≤ 4097;
 }

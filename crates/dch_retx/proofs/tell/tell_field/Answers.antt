@@ -4,4 +4,4 @@ use Rattle.dch_retx.proofs.Limits.{tell_moved}
 use Rattle.dch_retx.proofs.tell.tell_field.Goals as goal
 
 pub returns-in-MrwAck : goal.returns-in-MrwAck
-returns-in-MrwAck c = tell_moved c.args.told c.args.flying.window c.args.flying.first c.args.flying.count (first_of c.args.cursor.now) c.in-MrwAck.n c.in-MrwAck.sn (sym c.in-MrwAck.is ∙ c.requires.field)
+returns-in-MrwAck c = tell_moved c.args.told c.args.sent.window c.args.sent.first c.args.sent.count (first_of c.args.cursor.now) c.in-MrwAck.n c.in-MrwAck.sn (sym c.in-MrwAck.is ∙ c.requires.field)

@@ -12,7 +12,7 @@ pub write-requires-clause-here : goal.write-requires-clause-here
 write-requires-clause-here c =
     let v : Outgoing = record { size = c.self.inside.size; line = c.self.inside.line; tx_buffer = c.self.inside.tx_buffer } in
     let run : IsRunning v = c.self.invariant in
-    subst (λ (f : SentPdu). IsHere c.self.inside.tx_buffer f) (sym c.at-flown.ensures) (place_here run.rules (c.self.inside.size - 2) v run.sender c.args.place (subst (λ (x : Outgoing). c.args.place < length x.line.flown) (sym c.self.view_is) c.requires.place) run.stands)
+    subst (λ (f : SentPdu). IsHere c.self.inside.tx_buffer f) (sym c.at-pdu.ensures) (place_here run.rules (c.self.inside.size - 2) v run.sender c.args.place (subst (λ (x : Outgoing). c.args.place < length x.line.in_flight) (sym c.self.view_is) c.requires.place) run.stands)
 
 pub write-requires-clause-size : goal.write-requires-clause-size
 write-requires-clause-size c =
@@ -30,5 +30,5 @@ invariant_of-self c =
       rules = run.rules;
       sender = after_choice (Again (vt_a run.sender + c.args.place)) run.rules (c.self.inside.size - 2) run.sender;
       stands = subst (λ (l : RetxBuffer). IsOutgoing run.rules (c.self.inside.size - 2) (with_line l v) (after_choice (Again (vt_a run.sender + c.args.place)) run.rules (c.self.inside.size - 2) run.sender)) (sym c.again-poll.ensures.after)
-          (again_stands run.rules (c.self.inside.size - 2) v run.sender c.args.place (subst (λ (x : Outgoing). c.args.place < length x.line.flown) (sym c.self.view_is) c.requires.place) run.stands);
+          (again_stands run.rules (c.self.inside.size - 2) v run.sender c.args.place (subst (λ (x : Outgoing). c.args.place < length x.line.in_flight) (sym c.self.view_is) c.requires.place) run.stands);
     }

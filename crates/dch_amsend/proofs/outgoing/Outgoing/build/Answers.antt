@@ -15,7 +15,7 @@ returns-in-Again-clause-history c = λ rules d s is.
     let here : IsOutgoing rules d v s = subst (λ x. IsOutgoing rules d x s) (sym c.self.view_is) is in
     let left : c.is_left.result ≡ is_left s.unsent = c.is_left.ensures.history d s here.tx_buffer in
     built_by rules d s c.again.new.out c.again.new.self (Requested (vt_a s + c.in-Again.place)) (c.in-Again.ensures.history rules s here.line left)
-    (again_goes rules d c.args.self.now c.again.new.self s c.in-Again.place c.again.new.out (subst (λ (x : Outgoing). c.in-Again.place < length x.line.flown) c.self.view_is (picked_again c.is_left.result c.self.inside.line c.in-Again.place c.in-Again.ensures.place)) is c.again.ensures.after c.again.ensures.text)
+    (again_goes rules d c.args.self.now c.again.new.self s c.in-Again.place c.again.new.out (subst (λ (x : Outgoing). c.in-Again.place < length x.line.in_flight) c.self.view_is (picked_again c.is_left.result c.self.inside.line c.in-Again.place c.in-Again.ensures.place)) is c.again.ensures.after c.again.ensures.text)
 
 pub returns-in-New-clause-history : goal.returns-in-New-clause-history
 returns-in-New-clause-history c = λ rules d s is.
@@ -32,11 +32,11 @@ returns-in-Last-clause-history c = λ rules d s is.
     let here : IsOutgoing rules d v s = subst (λ x. IsOutgoing rules d x s) (sym c.self.view_is) is in
     let left : c.is_left.result ≡ is_left s.unsent = c.is_left.ensures.history d s here.tx_buffer in
     let last : IsLast c.self.inside.line c.in-Last.place = picked_last c.is_left.result c.self.inside.line c.in-Last.place c.in-Last.ensures.place in
-    let inside : c.in-Last.place < length c.self.inside.line.flown = omega (arith, last.place_is, last.some) in
+    let inside : c.in-Last.place < length c.self.inside.line.in_flight = omega (arith, last.place_is, last.some) in
     let number : vt_a s + c.in-Last.place ≡ vt_s s - 1 = ap (λ k. vt_a s + k) last.place_is ∙ last_is rules c.self.inside.line s last.some here.line in
     let none = ap (λ k. has (vt_a s + k) s.requested) last.place_is ∙ last_not rules c.self.inside.line s last.some last.none here.line in
     built_by rules d s c.last.new.out c.last.new.self (Latest (vt_a s + c.in-Last.place)) (c.in-Last.ensures.history rules s here.line left)
-    (last_goes rules d c.args.self.now c.last.new.self s c.in-Last.place c.last.new.out (subst (λ (x : Outgoing). c.in-Last.place < length x.line.flown) c.self.view_is inside) number none is c.last.ensures.after c.last.ensures.text)
+    (last_goes rules d c.args.self.now c.last.new.self s c.in-Last.place c.last.new.out (subst (λ (x : Outgoing). c.in-Last.place < length x.line.in_flight) c.self.view_is inside) number none is c.last.ensures.after c.last.ensures.text)
 
 pub returns-in-NoPdu-clause-history : goal.returns-in-NoPdu-clause-history
 returns-in-NoPdu-clause-history c = λ rules d s is.

@@ -8,7 +8,7 @@ use Rattle.dch_amsend.proofs.outgoing.Outgoing.can_build.Goals as goal
 
 -- a PDU that isn't requested
 abbrev others : Outgoing → Bool
-others v = (nat_lt (length v.line.flown) v.line.window && is_left (unsent_of v.tx_buffer)) || (v.line.owed && nat_lt 0 (length v.line.flown))
+others v = (nat_lt (length v.line.in_flight) v.line.window && is_left (unsent_of v.tx_buffer)) || (v.line.owed && nat_lt 0 (length v.line.in_flight))
 
 pub returns-then-is_requested : goal.returns-then-is_requested
 returns-then-is_requested c =

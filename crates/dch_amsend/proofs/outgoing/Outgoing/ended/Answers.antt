@@ -8,4 +8,4 @@ pub returns : goal.returns
 returns c =
     let v : Outgoing = record { size = c.self.inside.size; line = c.self.inside.line; tx_buffer = c.self.inside.tx_buffer } in
     let run : IsRunning v = c.self.invariant in
-    c.ended.ensures ∙ (ended_all run.rules (c.self.inside.size - 2) v run.sender run.stands ∙ ap (λ (x : Outgoing). ends_below (length x.line.flown) x.line.flown) c.self.view_is)
+    c.ended.ensures ∙ (ended_all run.rules (c.self.inside.size - 2) v run.sender run.stands ∙ ap (λ (x : Outgoing). ends_below (length x.line.in_flight) x.line.in_flight) c.self.view_is)

@@ -11,5 +11,5 @@ returns-clause-value c =
     let v : Outgoing = record { size = c.self.inside.size; line = c.self.inside.line; tx_buffer = c.self.inside.tx_buffer } in
     let run : IsRunning v = c.self.invariant in
     c.ended_before.ensures ∙ (ap (λ (f : SentPdu). ended_before (Some f) c.self.inside.tx_buffer) c.at.ensures
-    ∙ (ended_below run.rules (c.self.inside.size - 2) v run.sender c.args.place (subst (λ (x : Outgoing). c.args.place < length x.line.flown) (sym c.self.view_is) c.requires) run.stands
-    ∙ ap (λ (x : Outgoing). ends_below c.args.place x.line.flown) c.self.view_is))
+    ∙ (ended_below run.rules (c.self.inside.size - 2) v run.sender c.args.place (subst (λ (x : Outgoing). c.args.place < length x.line.in_flight) (sym c.self.view_is) c.requires) run.stands
+    ∙ ap (λ (x : Outgoing). ends_below c.args.place x.line.in_flight) c.self.view_is))

@@ -15,8 +15,8 @@ number_at-number-requires c =
     let last : IsLast c.self.inside.line c.args.place = subst (λ (x : Outgoing). IsLast x.line c.args.place) (sym c.self.view_is) c.requires.last in
     omega (arith, last.place_is, last.some)
 
-pub at-flown-requires : goal.at-flown-requires
-at-flown-requires c =
+pub at-pdu-requires : goal.at-pdu-requires
+at-pdu-requires c =
     let last : IsLast c.self.inside.line c.args.place = subst (λ (x : Outgoing). IsLast x.line c.args.place) (sym c.self.view_is) c.requires.last in
     omega (arith, last.place_is, last.some)
 
@@ -30,8 +30,8 @@ write-requires-clause-here c =
     let v : Outgoing = record { size = c.self.inside.size; line = c.self.inside.line; tx_buffer = c.self.inside.tx_buffer } in
     let run : IsRunning v = c.self.invariant in
     let last : IsLast c.self.inside.line c.args.place = subst (λ (x : Outgoing). IsLast x.line c.args.place) (sym c.self.view_is) c.requires.last in
-    let inside : c.args.place < length c.self.inside.line.flown = omega (arith, last.place_is, last.some) in
-    subst (λ (f : SentPdu). IsHere c.self.inside.tx_buffer f) (sym c.at-flown.ensures) (place_here run.rules (c.self.inside.size - 2) v run.sender c.args.place inside run.stands)
+    let inside : c.args.place < length c.self.inside.line.in_flight = omega (arith, last.place_is, last.some) in
+    subst (λ (f : SentPdu). IsHere c.self.inside.tx_buffer f) (sym c.at-pdu.ensures) (place_here run.rules (c.self.inside.size - 2) v run.sender c.args.place inside run.stands)
 
 pub write-requires-clause-size : goal.write-requires-clause-size
 write-requires-clause-size c =
@@ -44,7 +44,7 @@ invariant_of-self c =
     let v : Outgoing = record { size = c.self.inside.size; line = c.self.inside.line; tx_buffer = c.self.inside.tx_buffer } in
     let run : IsRunning v = c.self.invariant in
     let last : IsLast c.self.inside.line c.args.place = subst (λ (x : Outgoing). IsLast x.line c.args.place) (sym c.self.view_is) c.requires.last in
-    let inside : c.args.place < length c.self.inside.line.flown = omega (arith, last.place_is, last.some) in
+    let inside : c.args.place < length c.self.inside.line.in_flight = omega (arith, last.place_is, last.some) in
     let number : vt_a run.sender + c.args.place ≡ vt_s run.sender - 1 = ap (λ k. vt_a run.sender + k) last.place_is ∙ last_is run.rules c.self.inside.line run.sender last.some run.stands.line in
     let none : has (vt_a run.sender + c.args.place) run.sender.requested ≡ false = ap (λ k. has (vt_a run.sender + k) run.sender.requested) last.place_is ∙ last_not run.rules c.self.inside.line run.sender last.some last.none run.stands.line in
     record {

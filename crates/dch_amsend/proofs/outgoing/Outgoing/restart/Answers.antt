@@ -16,7 +16,7 @@ invariant_of-self c =
       most = run.most;
       rules = run.rules;
       sender = restarted_sender run.sender;
-      stands = restart_goes run.rules (c.self.inside.size - 2) v run.sender c.restart.new.self c.restart-2.new.self (ap (λ (l : RetxBuffer). length l.flown) c.restart.ensures.after) (ap (λ (w : TxBuffer). w.blocks) c.restart-2.ensures.after) run.stands (c.restart.ensures.history run.rules run.sender run.stands.line) waits.1;
+      stands = restart_goes run.rules (c.self.inside.size - 2) v run.sender c.restart.new.self c.restart-2.new.self (ap (λ (l : RetxBuffer). length l.in_flight) c.restart.ensures.after) (ap (λ (w : TxBuffer). w.blocks) c.restart-2.ensures.after) run.stands (c.restart.ensures.history run.rules run.sender run.stands.line) waits.1;
     }
 
 pub returns-clause-history : goal.returns-clause-history
@@ -24,7 +24,7 @@ returns-clause-history c = λ rules d s is.
     let v : Outgoing = record { size = c.self.inside.size; line = c.self.inside.line; tx_buffer = c.self.inside.tx_buffer } in
     let here : IsOutgoing rules d v s = subst (λ x. IsOutgoing rules d x s) (sym c.self.view_is) is in
     let waits = c.restart-2.ensures.history d s here.tx_buffer here.cut in
-    (waits.0, restart_goes rules d v s c.restart.new.self c.restart-2.new.self (ap (λ (l : RetxBuffer). length l.flown) c.restart.ensures.after) (ap (λ (w : TxBuffer). w.blocks) c.restart-2.ensures.after) here (c.restart.ensures.history rules s here.line) waits.1)
+    (waits.0, restart_goes rules d v s c.restart.new.self c.restart-2.new.self (ap (λ (l : RetxBuffer). length l.in_flight) c.restart.ensures.after) (ap (λ (w : TxBuffer). w.blocks) c.restart-2.ensures.after) here (c.restart.ensures.history rules s here.line) waits.1)
 
 pub returns-clause-blocks : goal.returns-clause-blocks
 returns-clause-blocks c = ap (λ (w : TxBuffer). w.blocks) c.restart-2.ensures.after ∙ ap (λ (x : Outgoing). x.tx_buffer.blocks) c.self.view_is

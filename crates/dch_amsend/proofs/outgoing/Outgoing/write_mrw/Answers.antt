@@ -19,7 +19,7 @@ invariant_of-self c =
       most = run.most;
       rules = run.rules;
       sender = after_moving run.rules run.sender run.sender.discard;
-      stands = mrw_runs run.rules (c.self.inside.size - 2) v run.sender c.write_mrw-2.new.self (sym (due_is run.rules c.self.inside.line run.sender run.stands.line) ∙ due) (ap (λ (l : RetxBuffer). l.flown) c.write_mrw-2.ensures.after) run.stands (λ x e. c.write_mrw-2.ensures.history run.rules run.sender x run.stands.line e);
+      stands = mrw_runs run.rules (c.self.inside.size - 2) v run.sender c.write_mrw-2.new.self (sym (due_is run.rules c.self.inside.line run.sender run.stands.line) ∙ due) (ap (λ (l : RetxBuffer). l.in_flight) c.write_mrw-2.ensures.after) run.stands (λ x e. c.write_mrw-2.ensures.history run.rules run.sender x run.stands.line e);
     }
 
 pub returns-clause-history : goal.returns-clause-history
@@ -31,5 +31,5 @@ returns-clause-history c = λ rules d s x is e.
     let n : c.place.inside.n ≡ x.n = ap (λ p. p.1) c.place.view_is ∙ told.1 in (
       subst (λ k. IsText c.write_mrw.new.out (0 ∷ mrw_text k x.n)) sn (subst (λ m. IsText c.write_mrw.new.out (0 ∷ mrw_text c.place.inside.sn m)) n c.write_mrw.ensures.text),
       c.write_mrw.ensures.back ∙ ap₂ (λ k m. Some (mrw_fields k m)) sn n,
-      mrw_goes rules d v s x c.write_mrw-2.new.self (ap (λ (l : RetxBuffer). l.flown) c.write_mrw-2.ensures.after) here (c.write_mrw-2.ensures.history rules s x here.line e),
+      mrw_goes rules d v s x c.write_mrw-2.new.self (ap (λ (l : RetxBuffer). l.in_flight) c.write_mrw-2.ensures.after) here (c.write_mrw-2.ensures.history rules s x here.line e),
     )

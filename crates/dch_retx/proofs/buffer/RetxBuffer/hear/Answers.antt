@@ -15,7 +15,7 @@ returns-clause-history c = λ rules s is. (
 )
 
 pub returns-clause-kept : goal.returns-clause-kept
-returns-clause-kept c = subst (λ (l : RetxBuffer). AreKept c.args.self.now.flown l.flown) (sym c.answer.ensures.after) (hearing_kept (said_by c.args.status.now) c.args.self.now)
+returns-clause-kept c = subst (λ (l : RetxBuffer). AreKept c.args.self.now.in_flight l.in_flight) (sym c.answer.ensures.after) (hearing_kept (said_by c.args.status.now) c.args.self.now)
 
 pub returns-clause-outside : goal.returns-clause-outside
 returns-clause-outside c = λ other. outside_same (said_by c.args.status.now) c.args.self.now c.answer.new.self c.answer.result c.answer.ensures.answer c.answer.ensures.after other

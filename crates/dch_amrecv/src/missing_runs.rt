@@ -9,7 +9,11 @@ use dch_status::SnRun;
 
 /// The vacant places as runs of at most 16, of which as many are written as find room: the first place, and how many follow it.
 /// Answers how many runs there are. Places are counted from one on, which is vacant.
-pub fn write_gaps(ring: &HeapCircularBuffer<Option<Block>>, from: usize, out: &mut [SnRun]) -> usize
+pub fn write_missing_runs(
+    ring: &HeapCircularBuffer<Option<Block>>,
+    from: usize,
+    out: &mut [SnRun],
+) -> usize
     requires from { from ≤ length ring.now.items }
     requires first { front (drop from ring.now.items) ≡ 0 }
     requires few { length ring.now.items ≤ 2048 }
@@ -28,14 +32,14 @@ pub fn write_gaps(ring: &HeapCircularBuffer<Option<Block>>, from: usize, out: &m
             if continues(first, more, i) {
                 more += 1;
             } else {
-                write_gap(out, count, first, more);
+                write_missing_run(out, count, first, more);
                 count += 1;
                 first = i;
                 more = 0;
             }
         }
     }
-    write_gap(out, count, first, more);
+    write_missing_run(out, count, first, more);
     count + 1
 }
 
@@ -47,7 +51,7 @@ fn continues(first: usize, more: usize, i: usize) -> bool
     i == first + more + 1 && more < 15
 }
 
-fn write_gap(out: &mut [SnRun], i: usize, first: usize, more: usize)
+fn write_missing_run(out: &mut [SnRun], i: usize, first: usize, more: usize)
     requires first { first < 2048 }
     requires more { more < 16 }
     ensures { out.new ≡ slice_set out.old i (first, more) }

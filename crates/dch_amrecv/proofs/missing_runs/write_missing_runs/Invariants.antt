@@ -1,5 +1,5 @@
 use Rattle.std.proofs.Common.{drop}
-use Rattle.dch_amrecv.proofs.gaps.write_gaps.Given as goal
+use Rattle.dch_amrecv.proofs.missing_runs.write_missing_runs.Given as goal
 use Rattle.dch_amrecv.proofs.Finding.{Found}
 
 abbrev pub invariant-loop-i : goal.invariant-loop-i
