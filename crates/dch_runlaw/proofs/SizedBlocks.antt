@@ -1,8 +1,8 @@
 -- What a bearing keeps by the mode of its bearer, and the size of the blocks that it builds.
-use Rattle.std.proofs.Common.{◌≡◌, ◌≢◌, ◌<◌, ◌≤◌, ◌+◌, ◌-◌, ◌*◌, ℕ, zero, suc, List, [], ◌∷◌, ◌++◌, cond, Option, Some, None, Result, Ok, Err, length, take, arith, refl, sym, ap, ◌∙◌, subst, ⊎_elim, length-append}
+use Rattle.std.proofs.Common.{◌≡◌, ◌≢◌, ◌<◌, ◌≤◌, ◌+◌, ◌-◌, ◌*◌, ℕ, zero, suc, List, [], ◌∷◌, ◌++◌, Bool, cond, Option, Some, None, Result, Ok, Err, length, take, arith, refl, sym, ap, ◌∙◌, subst, ⊎_elim, length-append}
 use Rattle.std.specs.Prelude.{◌==◌, min, nat_lt}
 use Rattle.std.specs.List.{prefix_len}
-use Rattle.std.proofs.lemmas.Bool.{cases_lt}
+use Rattle.std.proofs.lemmas.Bool.{cases_lt, cond_both, ltb-true}
 use Rattle.std.proofs.lemmas.Bool.Decides.{nat_tests}
 use Rattle.dch_bits.specs.declared.bit.Bit.{Bit}
 use Rattle.dch_bits.specs.declared.offer.Offer.{Offer}
@@ -14,8 +14,9 @@ use Rattle.dch_types.specs.declared.bearer.Mode.TheVariants.{Tm, Um, Am}
 use Rattle.dch_types.specs.declared.config.Config.{Config}
 use Rattle.dch_config.specs.Changes.{KeepsBearer}
 use Rattle.dch_config.specs.Good.{IsGood}
-use Rattle.dch_sar.specs.Filling.{AreSome}
+use Rattle.dch_sar.specs.Filling.{AreSome, marks_of}
 use Rattle.dch_sar.proofs.Fronts.{some_more}
+use Rattle.dch_sar.proofs.Placing.{IsPlaced, place, place_is}
 use Rattle.dch_mac.specs.Field.{field_bits}
 use Rattle.dch_rlcpdu.specs.Body.{padded}
 use Rattle.dch_rlcpdu.specs.Marks.{indicators}
@@ -25,8 +26,8 @@ use Rattle.dch_rlcpdu.specs.declared.um.UmView.{UmView}
 use Rattle.dch_rlcpdu.specs.declared.handed.PduError.{PduError}
 use Rattle.dch_rlctm.specs.Waiting.{Waiting, front_of}
 use Rattle.dch_rlcum.specs.Receiving.{Receiving}
-use Rattle.dch_rlcum.specs.Sending.{Sending, after_offer, answer_of, carried_by, left_by, marks_in, pdu_of, room_of}
-use Rattle.dch_rlcum.proofs.Bodies.{built_body}
+use Rattle.dch_rlcum.specs.Sending.{Sending, Units, after_offer, answer_of, carried, carried_by, closing, leading, left_by, marks_in, pdu_of, room_of}
+use Rattle.dch_rlcum.proofs.Marking.{Rise, place_octets, rise}
 use Rattle.dch_layer.specs.Bearings.{Bearing, Sends, Transparent, Unacknowledged, Acknowledged, after_answer, answers, bearer_in, block_bits, channel_of, ct_of, head_of, opened_bearing, opened_mode, pdu_octets, ticked}
 use Rattle.dch_layer.specs.Building.{Builds, Gives}
 use Rattle.dch_layer.specs.Hearing.{hears, hears_um}
@@ -146,10 +147,35 @@ length-take_le zero xs = omega arith
 length-take_le (suc n) [] = omega arith
 length-take_le (suc n) (x ∷ xs) = omega (arith, length-take_le n xs)
 
+few_leading : (mark_start : Bool) (u : Units) → length (leading mark_start u) ≤ 1
+few_leading mark_start u =
+    cond_both (nat_lt 0 u.owed) (0 ∷ []) _ (λ (l : List ℕ). length l ≤ 1) (λ owed. omega arith)
+    (λ none. cond_both {A = List ℕ} _ (124 ∷ []) [] (λ (l : List ℕ). length l ≤ 1) (λ starts. omega arith) (λ other. omega arith))
+
+-- with the length indicator of padding, where octets are left
+room_with : (pdu room o : ℕ) (lead ms : List ℕ) → length lead ≤ 1 → 3 ≤ pdu → room ≡ pdu - 1 - length lead → o + length ms ≤ room → 1 + length (lead ++ (ms ++ closing (o + length ms) room)) + o ≤ pdu
+room_with pdu room o lead ms few some so spent =
+    cond_both {A = List ℕ} (nat_lt (o + length ms) room) (127 ∷ []) [] (λ tail. 1 + length (lead ++ (ms ++ tail)) + o ≤ pdu)
+    (λ less.
+    let size : length (lead ++ (ms ++ 127 ∷ [])) ≡ length lead + (length ms + 1) = length-append lead (ms ++ 127 ∷ []) ∙ ap (λ n. length lead + n) (length-append ms (127 ∷ [])) in
+    omega (arith, size, ltb-true (o + length ms) room less))
+    (λ more.
+    let size : length (lead ++ (ms ++ [])) ≡ length lead + (length ms + 0) = length-append lead (ms ++ []) ∙ ap (λ n. length lead + n) (length-append ms []) in
+    omega (arith, size))
+
+-- what the next PDU carries finds room with its length indicators
+built_room : (pdu : ℕ) (mark_start : Bool) (u : Units) → AreSome u.lengths → 3 ≤ pdu → pdu ≤ 125 → 1 + length (marks_in pdu mark_start u) + carried (room_of pdu mark_start u) u.lengths ≤ pdu
+built_room pdu mark_start u some from most =
+    let p : IsPlaced (room_of pdu mark_start u) 0 u.lengths (place (room_of pdu mark_start u) 0 u.lengths) = place_is (room_of pdu mark_start u) 0 u.lengths some in
+    let o : (place (room_of pdu mark_start u) 0 u.lengths).octets ≡ carried (room_of pdu mark_start u) u.lengths = place_octets (room_of pdu mark_start u) 0 u.lengths ∙ omega arith in
+    let ms : (place (room_of pdu mark_start u) 0 u.lengths).marks ≡ marks_of (room_of pdu mark_start u) 0 u.lengths (carried (room_of pdu mark_start u) u.lengths) = p.marks ∙ ap (marks_of (room_of pdu mark_start u) 0 u.lengths) o in
+    let r : Rise 0 (place (room_of pdu mark_start u) 0 u.lengths).octets (place (room_of pdu mark_start u) 0 u.lengths) (room_of pdu mark_start u) = rise (room_of pdu mark_start u) 0 (place (room_of pdu mark_start u) 0 u.lengths).octets u.lengths some (omega arith) (omega arith) in
+    let count : length (place (room_of pdu mark_start u) 0 u.lengths).marks ≡ length (marks_of (room_of pdu mark_start u) 0 u.lengths (carried (room_of pdu mark_start u) u.lengths)) = ap length ms in
+    room_with pdu (room_of pdu mark_start u) (carried (room_of pdu mark_start u) u.lengths) (leading mark_start u) (marks_of (room_of pdu mark_start u) 0 u.lengths (carried (room_of pdu mark_start u) u.lengths)) (few_leading mark_start u) from refl (omega (arith, r.spent, o, count))
+
 long_pdu : (s : Sending) → AreSome s.units.lengths → 3 ≤ s.pdu → s.pdu ≤ 125 → length (pdu_of s) ≡ s.pdu
 long_pdu s some low high =
-    let body = built_body s.pdu s.mark_start s.units some low high in
-    let room : 1 + length (marks_in s.pdu s.mark_start s.units) + carried_by s ≤ s.pdu = body.room in
+    let room : 1 + length (marks_in s.pdu s.mark_start s.units) + carried_by s ≤ s.pdu = built_room s.pdu s.mark_start s.units some low high in
     let few : length (take (carried_by s) s.row) ≤ carried_by s = length-take_le (carried_by s) s.row in
     let all = length-padded (s.pdu - 1 - length (marks_in s.pdu s.mark_start s.units)) (take (carried_by s) s.row) (omega (arith, room, few)) in
     omega (arith, room, all, length-marks (marks_in s.pdu s.mark_start s.units), length-append (indicators (marks_in s.pdu s.mark_start s.units)) (padded (s.pdu - 1 - length (marks_in s.pdu s.mark_start s.units)) (take (carried_by s) s.row)))
