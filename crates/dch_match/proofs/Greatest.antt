@@ -2,8 +2,9 @@
 use Rattle.std.proofs.Common.{◌≡◌, ◌<◌, ◌≤◌, ◌+◌, ◌*◌, ◌==◌, ◌||◌, ℕ, zero, suc, Bool, true, false, max, length, refl, ap, sym, arith, add-one, inl, inr}
 use Rattle.std.proofs.Math.Nat.{mul-le-mul_left, lt_of_mul-lt-mul_right}
 use Rattle.std.proofs.lemmas.Bool.{cases_eq, eqb-true}
-use Rattle.std.proofs.lemmas.Grind.{div_ceil_times}
+use Rattle.std.proofs.lemmas.Grind.{common_steps, div_ceil_times}
 use Rattle.std.specs.Int.{div_ceil}
+use Rattle.std.specs.Ordering.{nat_cmp, ord_max}
 use Rattle.dch_types.specs.declared.channel.Trch.{Trch}
 use Rattle.dch_types.specs.declared.channel.Side.{Side}
 use Rattle.dch_types.specs.Lengths.{tti_bits}
@@ -13,6 +14,10 @@ use Rattle.dch_match.specs.Downlinks.{most_below, most_of, flexible_weight, comb
 use Rattle.dch_types.specs.Sums.{total}
 use Rattle.dch_match.proofs.Changes.{one_more}
 use Rattle.dch_types.proofs.Sums.{part_le}
+
+-- the greater of two numbers
+pub ord_max-is : (a b : ℕ) → ord_max nat_cmp a b ≡ max a b
+ord_max-is a b = grind (arith, common_steps)
 
 pub most-zero : (channel : Trch) → most_below channel 0 ≡ 0
 unfolding most_below

@@ -1,5 +1,5 @@
 -- Branch metrics by class, and the row of a step from them.
-use Rattle.std.proofs.Common.{◌≡◌, ◌+◌, ◌-◌, ◌*◌, ◌/◌, ◌%◌, ◌<◌, ◌≤◌, ℕ, List, Bool, true, false, get_or, arith, refl}
+use Rattle.std.proofs.Common.{◌≡◌, ◌+◌, ◌-◌, ◌*◌, ◌/◌, ◌%◌, ◌<◌, ◌≤◌, ℕ, zero, suc, List, ◌∷◌, Bool, true, false, get_or, arith, refl}
 use Rattle.std.specs.Prelude.{◌==◌, min, if◌then◌else◌}
 use Rattle.dch_bits.specs.declared.bit.Bit.{Bit}
 use Rattle.dch_bits.specs.declared.bit.Bit.TheVariants.{Zero, One}
@@ -72,3 +72,15 @@ row_near-le free later near_metrics t s le small = omega (arith, least free (by_
     zero_le : (e : Bool) (n : ℕ) → n ≤ t → (if e then n else t - n) ≤ t
     zero_le true n le = omega arith
     zero_le false n le = omega arith
+
+-- the first eight of a list that begins with eight of another
+pub first_eight : (xs rest : List ℕ) (i : ℕ) → i < 8 → get_or (get_or xs 0 0 ∷ get_or xs 1 0 ∷ get_or xs 2 0 ∷ get_or xs 3 0 ∷ get_or xs 4 0 ∷ get_or xs 5 0 ∷ get_or xs 6 0 ∷ get_or xs 7 0 ∷ rest) i 0 ≡ get_or xs i 0
+first_eight xs rest zero inside = refl
+first_eight xs rest (suc zero) inside = refl
+first_eight xs rest (suc (suc zero)) inside = refl
+first_eight xs rest (suc (suc (suc zero))) inside = refl
+first_eight xs rest (suc (suc (suc (suc zero)))) inside = refl
+first_eight xs rest (suc (suc (suc (suc (suc zero))))) inside = refl
+first_eight xs rest (suc (suc (suc (suc (suc (suc zero)))))) inside = refl
+first_eight xs rest (suc (suc (suc (suc (suc (suc (suc zero))))))) inside = refl
+first_eight xs rest (suc (suc (suc (suc (suc (suc (suc (suc i)))))))) inside = absurd (omega arith)

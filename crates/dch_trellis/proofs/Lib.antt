@@ -11,3 +11,4 @@ pub mod Read
 pub mod Room
 pub mod Rows
 pub mod Spread
+pub mod Split
