@@ -4,7 +4,7 @@ use Rattle.std.specs.Prelude.{nat_lt}
 use Rattle.std.proofs.lemmas.Bool.{lt-ltb, le-ltb, cond_both, cond-false, cond-true}
 use Rattle.dch_sar.specs.Filling.{AreSome}
 use Rattle.dch_sar.specs.Pdus.{left_from}
-use Rattle.dch_am.specs.Bodies.{Body, Unsent, Reading, carried, joined, ended, ends, read_pieces, read_full, read_body, read_bodies, sizes}
+use Rattle.dch_am.specs.Bodies.{Body, TxQueue, Reading, carried, joined, ended, ends, read_pieces, read_full, read_body, read_bodies, sizes}
 use Rattle.dch_am.specs.Cuts.{AllFull, unread, Fits, empty_reading, IsCut}
 use Rattle.dch_am.specs.Listed.{IsListed}
 use Rattle.dch_am.specs.Restart.{octets_in, begun, begun_below, restarted_sender, whole_of}
@@ -37,7 +37,7 @@ full-append : (xs ys : List (List ℕ)) → AllFull xs → AllFull ys → AllFul
 full-append [] ys f g = g
 full-append (x ∷ xs) ys f g = (f.0, full-append xs ys f.1 g)
 
-pub cut_full : (accepted : List (List ℕ)) (q : Unsent) (bodies : List Body) → IsCut accepted q bodies → AllFull accepted
+pub cut_full : (accepted : List (List ℕ)) (q : TxQueue) (bodies : List Body) → IsCut accepted q bodies → AllFull accepted
 cut_full accepted q bodies c =
     let r = read_bodies empty_reading bodies in
     subst AllFull c.goes.same (full-append r.units (unread r.part q.owed q.units) (bodies_all_full empty_reading bodies tt) (unread_full r.part q.owed q.units c.goes.fits))
@@ -87,7 +87,7 @@ unread_octets part true us f = refl
 unread_octets part false [] f = omega (arith, ap length f)
 unread_octets part false (u ∷ us) f = omega (arith, length-append part u)
 
-octets_few : (accepted : List (List ℕ)) (q : Unsent) (bodies : List Body) → IsCut accepted q bodies → octets_in bodies ≤ total accepted
+octets_few : (accepted : List (List ℕ)) (q : TxQueue) (bodies : List Body) → IsCut accepted q bodies → octets_in bodies ≤ total accepted
 unfolding total
 octets_few accepted q bodies c =
     let r = read_bodies empty_reading bodies in
@@ -103,7 +103,7 @@ unfolding total
 begun_push_by n [] u le = cond-false (nat_lt 0 n) _ _ (le-ltb 0 n le)
 begun_push_by n (v ∷ us) u le = ap (λ m. cond (nat_lt 0 n) (1 + m) 0) (begun_push_by (n - length v) us u (omega arith))
 
-pub begun_push : (accepted : List (List ℕ)) (q : Unsent) (bodies : List Body) (u : List ℕ) → IsCut accepted q bodies → begun_below (octets_in bodies) (accepted ++ u ∷ []) ≡ begun_below (octets_in bodies) accepted
+pub begun_push : (accepted : List (List ℕ)) (q : TxQueue) (bodies : List Body) (u : List ℕ) → IsCut accepted q bodies → begun_below (octets_in bodies) (accepted ++ u ∷ []) ≡ begun_below (octets_in bodies) accepted
 begun_push accepted q bodies u c = begun_push_by (octets_in bodies) accepted u (octets_few accepted q bodies c)
 
 begun_all : (n : ℕ) (us vs : List (List ℕ)) → AllFull us → total us ≤ n → length us ≤ begun_below n (us ++ vs)
@@ -111,13 +111,13 @@ unfolding total
 begun_all n [] vs f le = omega arith
 begun_all n (u ∷ us) vs f le = let t : nat_lt 0 n ≡ true = lt-ltb 0 n (omega (arith, f.0)) in rw t (omega (arith, begun_all (n - length u) us vs f.1 (omega arith)))
 
-pub ends_begun : (accepted : List (List ℕ)) (q : Unsent) (bodies : List Body) → IsCut accepted q bodies → ends bodies ≤ begun_below (octets_in bodies) accepted
+pub ends_begun : (accepted : List (List ℕ)) (q : TxQueue) (bodies : List Body) → IsCut accepted q bodies → ends bodies ≤ begun_below (octets_in bodies) accepted
 unfolding total
 ends_begun accepted q bodies c =
     let r = read_bodies empty_reading bodies in
     subst (λ us. ends bodies ≤ begun_below (octets_in bodies) us) c.goes.same (omega (arith, c.goes.count, begun_all (octets_in bodies) r.units (unread r.part q.owed q.units) (bodies_all_full empty_reading bodies tt) (omega (arith, bodies_octets empty_reading bodies))))
 
-pub front_begun : (accepted : List (List ℕ)) (q : Unsent) (bodies : List Body) (g : ℕ) → IsCut accepted q bodies → ends (take g bodies) ≤ begun_below (octets_in bodies) accepted
+pub front_begun : (accepted : List (List ℕ)) (q : TxQueue) (bodies : List Body) (g : ℕ) → IsCut accepted q bodies → ends (take g bodies) ≤ begun_below (octets_in bodies) accepted
 front_begun accepted q bodies g c = omega (arith, ends_begun accepted q bodies c, ends_split g bodies)
 
 -- Those that were not begun are the whole ones of what is unsent.
@@ -144,7 +144,7 @@ unread_whole (x ∷ xs) false [] f = refl
 unread_whole [] false (u ∷ us) f = refl
 unread_whole (x ∷ xs) false (u ∷ us) f = ap (λ n. drop n (((x ∷ xs) ++ u) ∷ us)) (begun_one (length (x ∷ xs)) ((x ∷ xs) ++ u) us (omega arith) (omega (arith, length-append xs u)))
 
-pub kept_is : (accepted : List (List ℕ)) (q : Unsent) (bodies : List Body) → IsCut accepted q bodies → drop (begun_below (octets_in bodies) accepted) accepted ≡ whole_of (read_bodies empty_reading bodies).part q
+pub kept_is : (accepted : List (List ℕ)) (q : TxQueue) (bodies : List Body) → IsCut accepted q bodies → drop (begun_below (octets_in bodies) accepted) accepted ≡ whole_of (read_bodies empty_reading bodies).part q
 unfolding total
 kept_is accepted q bodies c =
     let r = read_bodies empty_reading bodies in

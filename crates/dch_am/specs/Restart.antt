@@ -1,6 +1,6 @@
 -- What a restart does to a sender (TS 25.322 9.7.7, 11.4): it drops each unit of which an octet was built, and begins anew with the others.
 use Rattle.std.specs.Prelude.{◌+◌, ◌-◌, ℕ, List, [], ◌∷◌, length, drop, false, ◌||◌, nat_lt, if◌then◌else◌, None}
-use Rattle.dch_am.specs.Bodies.{Body, Unsent, carried, is_empty}
+use Rattle.dch_am.specs.Bodies.{Body, TxQueue, carried, is_empty}
 use Rattle.dch_am.specs.Entities.{Entity}
 use Rattle.dch_am.specs.Receiver.{opened_receiver}
 use Rattle.dch_am.specs.Rules.{Rules}
@@ -22,7 +22,7 @@ begun s = begun_below (octets_in s.bodies) s.accepted
 
 -- the units of which nothing was built, as what is unsent has them: all, or all but the first where an octet of it is in a PDU. The part is
 -- what a reader of all PDUs has of the unit in progress
-abbrev pub whole_of : List ℕ → Unsent → List (List ℕ)
+abbrev pub whole_of : List ℕ → TxQueue → List (List ℕ)
 whole_of part q = if q.owed || is_empty part then q.units else drop 1 q.units
 
 -- a sender that holds these units, accepted at these ticks, has built nothing, and has discarded so many units before

@@ -50,12 +50,12 @@ kept rules r ahead_by poll body near light is =
     let place : vr_r r + d ≡ vr_r now = omega arith in
     let on : GoesOn r.reading (read_on now (vr_r r)).reading (run_bytes now.arrived (vr_r r) d) = run_on r.trim now.arrived r.reading (vr_r r) d in
     let high : top (numbers now.arrived) ≤ vr_r r + rules.window = omega (arith, is.inside, near) in
-    let moves : run_bytes now.arrived (vr_r r) d + run_bytes now.arrived (vr_r r + d) rules.window ≡ run_bytes now.arrived (vr_r r) rules.window = run_moves now.arrived (vr_r r) d rules.window high in
+    let advances : run_bytes now.arrived (vr_r r) d + run_bytes now.arrived (vr_r r + d) rules.window ≡ run_bytes now.arrived (vr_r r) rules.window = run_moves now.arrived (vr_r r) d rules.window high in
     let at : run_bytes now.arrived (vr_r r + d) rules.window ≡ run_bytes now.arrived (vr_r now) rules.window = ap (λ n. run_bytes now.arrived n rules.window) place in
     record {
       more = on.more;
       units = on.units;
-      paid = omega (arith, on.paid, moves, at, put_le k body r.arrived (vr_r r) rules.window, light);
+      paid = omega (arith, on.paid, advances, at, put_le k body r.arrived (vr_r r) rules.window, light);
       bounded = record { light = All-cons IsLight (k, body) r.arrived light is.light; inside = omega (arith, high, grow) };
     }
 
@@ -85,12 +85,12 @@ obeyed window r ahead_by sn n is =
     let reach : k ≤ vr_r now = omega (arith, passed_le now) in
     let place : vr_r r + (ahead_by + d) ≡ vr_r now = omega arith in
     let on : GoesOn (record { units = r.reading.units; part = [] }) (read_on now k).reading (run_bytes r.arrived k d) = run_on (trimmed r.trim k n) r.arrived (record { units = r.reading.units; part = [] }) k d in
-    let moves : run_bytes r.arrived (vr_r r) (ahead_by + d) + run_bytes r.arrived (vr_r r + (ahead_by + d)) window ≡ run_bytes r.arrived (vr_r r) window = run_moves r.arrived (vr_r r) (ahead_by + d) window is.inside in
+    let advances : run_bytes r.arrived (vr_r r) (ahead_by + d) + run_bytes r.arrived (vr_r r + (ahead_by + d)) window ≡ run_bytes r.arrived (vr_r r) window = run_moves r.arrived (vr_r r) (ahead_by + d) window is.inside in
     let at : run_bytes r.arrived (vr_r r + (ahead_by + d)) window ≡ run_bytes r.arrived (vr_r now) window = ap (λ m. run_bytes r.arrived m window) place in
     record {
       more = on.more;
       units = on.units;
-      paid = omega (arith, on.paid, moves, at, run_split r.arrived (vr_r r) ahead_by d);
+      paid = omega (arith, on.paid, advances, at, run_split r.arrived (vr_r r) ahead_by d);
       bounded = record { light = is.light; inside = omega (arith, is.inside, grow) };
     }
 

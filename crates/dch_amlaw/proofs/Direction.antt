@@ -576,7 +576,7 @@ ended_is bodies low now (Some d) f = cond_both (nat_lt d.k now) _ _ (DiscardIs b
 
 told_direction : (bearer : Rules) (s : Sender) (r : Receiver) (came : List ℕ) (to : ℕ) (line : List Block) (t : Status) (ts : List Status) → Direction bearer s r came to line (t ∷ ts) → Direction bearer (told s (named t.pairs) t.lsn) r came to line ts
 told_direction bearer s r came to line t ts d = record {
-  flow = flow_told bearer.window s.acked s.requested (length s.bodies) (got r) (payloads line) (ts ++ pending r.ack) t now wanted d.flow acked_is is_open from;
+  flow = flow_told bearer.window s.acked s.requested (length s.bodies) (got r) (payloads line) (ts ++ pending r.ack) t now still_requested d.flow acked_is is_open from;
   discard_is = ended_is s.bodies (vt_a s) (run_of now (length s.bodies)) s.discard d.discard_is;
   line_is = d.line_is;
   arrived_is = d.arrived_is;
@@ -594,19 +594,19 @@ told_direction bearer s r came to line t ts d = record {
     first : List ℕ
     first = less (names ++ s.requested) now
 
-    wanted : List ℕ
-    wanted = less first (below (floor s.discard))
+    still_requested : List ℕ
+    still_requested = less first (below (floor s.discard))
 
     acked_is : (x : ℕ) → has x now ≡ (acks t x || has x s.acked)
     acked_is x = has-append x (less (below t.lsn) names) s.acked ∙ ap (λ b. b || has x s.acked) (has-less x (below t.lsn) names ∙ ap (λ b. b && not (has x names)) (has-below x t.lsn))
 
-    in_first : (x : ℕ) → Is x wanted → Is x first
+    in_first : (x : ℕ) → Is x still_requested → Is x first
     in_first x h = (and_parts (has x first) (not (has x (below (floor s.discard)))) (sym (has-less x first (below (floor s.discard))) ∙ h)).0
 
-    is_open : (x : ℕ) → Is x wanted → has x now ≡ false
+    is_open : (x : ℕ) → Is x still_requested → has x now ≡ false
     is_open x h = not-true (has x now) (and_parts (has x (names ++ s.requested)) (not (has x now)) (sym (has-less x (names ++ s.requested) now) ∙ in_first x h)).1
 
-    from : (x : ℕ) → Is x wanted → (Is x names) ⊎ (Is x s.requested)
+    from : (x : ℕ) → Is x still_requested → (Is x names) ⊎ (Is x s.requested)
     from x h = or_cases _ _ (sym (has-append x names s.requested) ∙ (and_parts (has x (names ++ s.requested)) (not (has x now)) (sym (has-less x (names ++ s.requested) now) ∙ in_first x h)).0)
 
 direction_status : (bearer : Rules) (s : Sender) (r : Receiver) (came : List ℕ) (to : ℕ) (line : List Block) (t : Status) (ts : List Status) → bearer.window ≤ 2048 → Direction bearer s r came to line (t ∷ ts) → Direction bearer (after_status s (wrapped_status t)) r came to line ts

@@ -153,8 +153,8 @@ flow_forgets window acked requested next arrived line statuses t f = record {
 }
 
 -- The front status comes to the sender.
-pub flow_told : (window : ℕ) (acked requested : List ℕ) (next : ℕ) (arrived line : List ℕ) (statuses : List Status) (t : Status) (now wanted : List ℕ) → Flow window acked requested next arrived line (t ∷ statuses) → ((x : ℕ) → has x now ≡ (acks t x || has x acked)) → ((x : ℕ) → Is x wanted → has x now ≡ false) → ((x : ℕ) → Is x wanted → (Is x (named t.pairs)) ⊎ (Is x requested)) → Flow window now wanted next arrived line statuses
-flow_told window acked requested next arrived line statuses t now wanted f is not_acked from = record {
+pub flow_told : (window : ℕ) (acked requested : List ℕ) (next : ℕ) (arrived line : List ℕ) (statuses : List Status) (t : Status) (now still_requested : List ℕ) → Flow window acked requested next arrived line (t ∷ statuses) → ((x : ℕ) → has x now ≡ (acks t x || has x acked)) → ((x : ℕ) → Is x still_requested → has x now ≡ false) → ((x : ℕ) → Is x still_requested → (Is x (named t.pairs)) ⊎ (Is x requested)) → Flow window now still_requested next arrived line statuses
+flow_told window acked requested next arrived line statuses t now still_requested f is not_acked from = record {
   room = omega (arith, f.room, run_grows acked now next next (omega arith) (λ x h. is x ∙ or_right _ _ h));
   acked_arrived = λ x h. ⊎_elim (λ q. f.sound.0.acks_arrived x q) (λ q. f.acked_arrived x q) (or_cases _ _ (sym (is x) ∙ h));
   arrived_sent = f.arrived_sent;

@@ -3,7 +3,7 @@ use Rattle.std.proofs.Common.{◌≡◌, ◌+◌, ◌-◌, ◌<◌, ◌≤◌, �
 use Rattle.std.specs.Prelude.{◌==◌, nat_lt}
 use Rattle.std.proofs.lemmas.Bool.{eqb-true, eqb-false, ltb-true, ltb-false, cond_both}
 use Rattle.std.proofs.lemmas.List.{append-nil, take_more, drop_at, drop-drop}
-use Rattle.dch_am.specs.Bodies.{Body, Unsent, ends_of, ends, Reading, ended, read_pieces, read_rest, read_body, read_bodies, no_body}
+use Rattle.dch_am.specs.Bodies.{Body, TxQueue, ends_of, ends, Reading, ended, read_pieces, read_rest, read_body, read_bodies, no_body}
 use Rattle.dch_am.specs.Discards.{place_from}
 use Rattle.dch_am.specs.Receiver.{body_of, dead_pieces, read_trimmed, read_one, read_run}
 use Rattle.dch_am.specs.Cuts.{AllFull, empty_reading, AllBodiesFull, IsCut}
@@ -123,7 +123,7 @@ pub record Reads (bodies : List Body) (accepted : List (List ℕ)) (trim : Optio
   pub aligned : Aligned bodies after.part trim past (from + 1)
   pub units : after.units ≡ before.units ++ drop (max (up_to bodies from) past) (take (up_to bodies (from + 1)) accepted)
 
-one_aligned : (bodies : List Body) (accepted : List (List ℕ)) (q : Unsent) (trim : Option (ℕ × ℕ)) (past n : ℕ) (r : Reading) → IsCut accepted q bodies → n < length bodies → Aligned bodies r.part trim past n → read_one trim r n (get_or bodies n no_body) ≡ read_body r (get_or bodies n no_body) → Reads bodies accepted trim past n r (read_one trim r n (get_or bodies n no_body))
+one_aligned : (bodies : List Body) (accepted : List (List ℕ)) (q : TxQueue) (trim : Option (ℕ × ℕ)) (past n : ℕ) (r : Reading) → IsCut accepted q bodies → n < length bodies → Aligned bodies r.part trim past n → read_one trim r n (get_or bodies n no_body) ≡ read_body r (get_or bodies n no_body) → Reads bodies accepted trim past n r (read_one trim r n (get_or bodies n no_body))
 one_aligned bodies accepted q trim past n r c l a plain = subst (Reads bodies accepted trim past n r) (sym plain) (record {
   aligned = record {
     part_is = ap (λ (x : Reading). x.part) mine ∙ sym (ap (λ (x : Reading). x.part) theirs);
@@ -184,7 +184,7 @@ given done part false (p ∷ ps) rest n j total f e l long = record {
     full : 0 < length (part ++ p)
     full = omega (arith, length-append part p, f.0)
 
-one_cut : (bodies : List Body) (accepted : List (List ℕ)) (q : Unsent) (trim : Option (ℕ × ℕ)) (past n : ℕ) (r : Reading) → IsCut accepted q bodies → (a : Cut bodies r.part trim past n) → read_one trim r n (get_or bodies n no_body) ≡ read_trimmed r a.place (get_or bodies n no_body) → Reads bodies accepted trim past n r (read_one trim r n (get_or bodies n no_body))
+one_cut : (bodies : List Body) (accepted : List (List ℕ)) (q : TxQueue) (trim : Option (ℕ × ℕ)) (past n : ℕ) (r : Reading) → IsCut accepted q bodies → (a : Cut bodies r.part trim past n) → read_one trim r n (get_or bodies n no_body) ≡ read_trimmed r a.place (get_or bodies n no_body) → Reads bodies accepted trim past n r (read_one trim r n (get_or bodies n no_body))
 one_cut bodies accepted q trim past n r c a plain = subst (Reads bodies accepted trim past n r) (sym plain) (record {
   aligned = record {
     part_is = ap (λ (x : Reading). x.part) mine ∙ sym (ap (λ (x : Reading). x.part) theirs);
@@ -231,7 +231,7 @@ one_trim (Some t) r n b e = cond_both (n == t.0) _ _ (λ (x : Reading). x ≡ re
 one_trim_here : (trim : Option (ℕ × ℕ)) (r : Reading) (n place : ℕ) (b : Body) → trim ≡ Some (n, place) → read_one trim r n b ≡ read_trimmed r place b
 one_trim_here trim r n place b e = ap (λ t. read_one t r n b) e ∙ cond_both (n == n) _ _ (λ (x : Reading). x ≡ read_trimmed r place b) (λ _. refl) (λ q. absurd (eqb-false n n q refl))
 
-one : (bodies : List Body) (accepted : List (List ℕ)) (q : Unsent) (trim : Option (ℕ × ℕ)) (past n : ℕ) (r : Reading) → IsCut accepted q bodies → n < length bodies → Stands bodies r.part trim past n → Reads bodies accepted trim past n r (read_one trim r n (get_or bodies n no_body))
+one : (bodies : List Body) (accepted : List (List ℕ)) (q : TxQueue) (trim : Option (ℕ × ℕ)) (past n : ℕ) (r : Reading) → IsCut accepted q bodies → n < length bodies → Stands bodies r.part trim past n → Reads bodies accepted trim past n r (read_one trim r n (get_or bodies n no_body))
 one bodies accepted q trim past n r c l st = ⊎_elim
     (λ (a : Aligned bodies r.part trim past n). one_aligned bodies accepted q trim past n r c l a (one_trim trim r n (get_or bodies n no_body) a.earlier))
     (λ (a : Cut bodies r.part trim past n). one_cut bodies accepted q trim past n r c a (one_trim_here trim r n a.place (get_or bodies n no_body) a.trim_is))
@@ -268,7 +268,7 @@ pub record Ran (bodies : List Body) (accepted : List (List ℕ)) (trim : Option 
   pub units : after.units ≡ before.units ++ drop (max (up_to bodies from) past) (take (up_to bodies now) accepted)
   pub more : up_to bodies from ≤ up_to bodies now
 
-pub ran : (bodies : List Body) (accepted : List (List ℕ)) (q : Unsent) (trim : Option (ℕ × ℕ)) (arrived : List (ℕ × Body)) (past n from now : ℕ) (r : Reading) → IsCut accepted q bodies → from + n ≡ now → now ≤ length bodies → ((j : ℕ) → from ≤ j → j < now → body_of arrived j ≡ get_or bodies j no_body) → Stands bodies r.part trim past from → Ran bodies accepted trim past from now r (read_run trim arrived r from n)
+pub ran : (bodies : List Body) (accepted : List (List ℕ)) (q : TxQueue) (trim : Option (ℕ × ℕ)) (arrived : List (ℕ × Body)) (past n from now : ℕ) (r : Reading) → IsCut accepted q bodies → from + n ≡ now → now ≤ length bodies → ((j : ℕ) → from ≤ j → j < now → body_of arrived j ≡ get_or bodies j no_body) → Stands bodies r.part trim past from → Ran bodies accepted trim past from now r (read_run trim arrived r from n)
 ran bodies accepted q trim arrived past zero from now r c e le all st =
     let s : from ≡ now = omega arith in
     record {

@@ -6,7 +6,7 @@ use Rattle.std.proofs.lemmas.Bool.Decides.{nat_tests}
 use Rattle.std.proofs.lemmas.List.{append-nil, take-append-le}
 use Rattle.dch_am.specs.Numbers.{has, below, top, run_of, wrapped}
 use Rattle.dch_am.specs.Status.{Status}
-use Rattle.dch_am.specs.Bodies.{Body, Unsent, ends, read_bodies, no_body}
+use Rattle.dch_am.specs.Bodies.{Body, TxQueue, ends, read_bodies, no_body}
 use Rattle.dch_am.specs.Rules.{Rules}
 use Rattle.dch_am.specs.Sender.{Sender}
 use Rattle.dch_am.specs.Discards.{place_from}
@@ -313,7 +313,7 @@ pub picked_push : (bodies : List Body) (spans : List (ℕ × ℕ)) (i n : ℕ) (
 picked_push bodies spans i n [] u e f = let s : i ≡ n = omega arith in cond-false (in_span bodies spans i) _ _ (ap (in_span bodies spans) s ∙ f)
 picked_push bodies spans i n (v ∷ us) u e f = ap (λ xs. cond (in_span bodies spans i) (v ∷ xs) xs) (picked_push bodies spans (i + 1) n us u (omega arith) f)
 
-pub hands_unit : (bodies : List Body) (accepted : List (List ℕ)) (q : Unsent) (u : List ℕ) (r : Receiver) (past : ℕ) (spans : List (ℕ × ℕ)) → IsCut accepted q bodies → Hands bodies accepted r past spans → Hands bodies (accepted ++ u ∷ []) r past spans
+pub hands_unit : (bodies : List Body) (accepted : List (List ℕ)) (q : TxQueue) (u : List ℕ) (r : Receiver) (past : ℕ) (spans : List (ℕ × ℕ)) → IsCut accepted q bodies → Hands bodies accepted r past spans → Hands bodies (accepted ++ u ∷ []) r past spans
 hands_unit bodies accepted q u r past spans c h = record {
   units = h.units ∙ sym (picked_push bodies spans 0 (length accepted) accepted u (omega arith) (false_from_ne_true _ (λ (t : in_span bodies spans (length accepted) ≡ true). omega (arith, h.inside (length accepted) t, few))));
   inside = h.inside;

@@ -19,7 +19,7 @@ use Rattle.dch_am.specs.Moves.{after_move_in, obeyed_mrw}
 use Rattle.dch_am.specs.Telling.{tells_now, plain_due, after_telling, tick_receiver}
 use Rattle.dch_am.specs.Entities.{Turn, Tells, Moves, Sends, Rests, receiver_after, sender_after, turn, with_sides}
 use Rattle.dch_am.proofs.Turns.{tells_due, told_due}
-use Rattle.dch_amlaw.specs.Pair.{Block, Payload, Mrw, Report, End, Pair, turned, opened, Event, Offer, Build, Arrive, Lose, Tick, all_handed, arrives, block_of, loses, happens_near, mrw_of, payload_of, report_of, sent_on, with_entity, At, Near, Far, happens, after, is_outside_answer, is_beyond, front_outside, come, IsKept, IsSafe}
+use Rattle.dch_amlaw.specs.Pair.{Block, Payload, Mrw, Report, End, Pair, turned, opened, Event, Offer, Build, Arrive, Lose, Tick, all_handed, arrives, block_of, loses, happens_near, mrw_of, payload_of, report_of, sent_on, with_entity, At, Near, Far, happens, after, is_outside_answer, is_beyond, front_outside, arrived_or_passed, IsKept, IsSafe}
 use Rattle.dch_amlaw.proofs.Flow.{flow_acked_le_arrived, flow_arrived_le_next}
 use Rattle.dch_amlaw.proofs.Lost.{DiscardLow, Lost, lost_push, lost_spans, lost_line, lost_body, lost_told, lost_ticks, none_lost, lost_begins}
 use Rattle.dch_amlaw.proofs.Hands.{Hands, missing_is, same_run, hands_arrives, hands_moves, hands_anew, hands_unit, hands_begins}
@@ -267,7 +267,7 @@ kept bearer a b line ts d h f = record {
   expected_le_next = flow_arrived_le_next bearer.window a.entity.sender.acked a.entity.sender.requested (length a.entity.sender.bodies) (got b.entity.receiver) (payloads line) (ts ++ pending b.entity.receiver.ack) d.flow;
   next_le_window = d.flow.room;
   acked_arrived = λ k h. d.got_in k (d.flow.acked_arrived k h);
-  expected_is = omega (arith, same_run (come b) (got b.entity.receiver) d.come_in, same_run (got b.entity.receiver) (come b) d.got_in);
+  expected_is = omega (arith, same_run (arrived_or_passed b) (got b.entity.receiver) d.come_in, same_run (got b.entity.receiver) (arrived_or_passed b) d.got_in);
 }
 
 -- The front block is never Outside.

@@ -180,8 +180,8 @@ front_outside rules e [] = false
 front_outside rules e (b ∷ line) = answers_outside rules e b
 
 -- the numbers that have arrived at this end or were passed by an MRW that came, and the least that isn't among them
-abbrev pub come : End → List ℕ
-come e = below e.moved_to ++ e.came
+abbrev pub arrived_or_passed : End → List ℕ
+arrived_or_passed e = below e.moved_to ++ e.came
 
 abbrev pub gap_free : End → ℕ
 gap_free e = run_over e.came e.moved_to
@@ -201,7 +201,7 @@ pub record IsKept (rules : Rules) (from to : End) : Type 0 where
   pub acked_le_expected : vt_a from.entity.sender ≤ vr_r to.entity.receiver
   pub expected_le_next : vr_r to.entity.receiver ≤ vt_s from.entity.sender
   pub next_le_window : vt_s from.entity.sender ≤ vt_a from.entity.sender + rules.window
-  pub acked_arrived : (k : ℕ) → has k from.entity.sender.acked ≡ true → has k (come to) ≡ true
+  pub acked_arrived : (k : ℕ) → has k from.entity.sender.acked ≡ true → has k (arrived_or_passed to) ≡ true
   pub expected_is : vr_r to.entity.receiver ≡ gap_free to
   pub none_lost : (i : ℕ) → i < ends (take (gap_free to) from.entity.sender.bodies) → (in_span from.entity.sender.bodies to.spans i ≡ true) ⊎ (has i from.entity.sender.discarded_units ≡ true)
   pub in_order : to.entity.receiver.reading.units ≡ picked from.entity.sender.bodies to.spans 0 from.entity.sender.accepted

@@ -39,7 +39,7 @@ there (x ∷ xs) (suc a) h = let ih = there xs a h in omega arith
 
 -- a block that is lent is another one than one that isn't
 other_than : (pool : Blocks) (a b : ℕ) → IsLent pool a → get_or pool.contents b None ≡ None → a ≢ b
-other_than pool a b lent none e = let was : get_or pool.contents a None ≡ None = rw e none in let gone = rw was at lent in cc
+other_than pool a b lent none e = let was : get_or pool.contents a None ≡ None = rw e none in let absent = rw was at lent in cc
 
 -- the block that was given back isn't lent
 given_none : (pool : Blocks) (b : ℕ) → get_or (without pool b).contents b None ≡ None

@@ -73,8 +73,8 @@ less_vacant : (from : ℕ) (ps : List (Option Body)) (xs : List ℕ) → ((i : �
 less_vacant from [] xs all = refl
 less_vacant from (None ∷ ps) xs all =
     let at : from + 0 ≡ from = omega arith in
-    let gone : has from xs ≡ false = ap (λ k. has k xs) (sym at) ∙ all 0 in
-    rw gone (ap (λ ys. from ∷ ys) (less_vacant (from + 1) ps xs (λ i. let e : from + 1 + i ≡ from + suc i = omega arith in ap (λ k. has k xs) e ∙ all (suc i))))
+    let absent : has from xs ≡ false = ap (λ k. has k xs) (sym at) ∙ all 0 in
+    rw absent (ap (λ ys. from ∷ ys) (less_vacant (from + 1) ps xs (λ i. let e : from + 1 + i ≡ from + suc i = omega arith in ap (λ k. has k xs) e ∙ all (suc i))))
 less_vacant from (Some b ∷ ps) xs all =
     let at : from + 0 ≡ from = omega arith in
     let here : has from xs ≡ true = ap (λ k. has k xs) (sym at) ∙ all 0 in

@@ -92,7 +92,7 @@ impl Holder {
         let missing = self.rules.missing && self.buffer.len() < ahead as usize;
         self.owed = self.owed || (poll || missing);
         let run = self.buffer.keep(ahead as usize, body);
-        self.next = moved(self.next, run);
+        self.next = advanced(self.next, run);
         Taken::Kept
     }
 
@@ -111,7 +111,7 @@ impl Holder {
         let mut answer = MrwTaken::Old;
         if ahead < NUMBERS - self.rules.window {
             let run = self.buffer.pass(ahead as usize, n);
-            self.next = moved(moved(self.next, ahead as usize), run);
+            self.next = advanced(advanced(self.next, ahead as usize), run);
             answer = MrwTaken::Obeyed;
         }
         self.ack = Some(MrwPlace {
@@ -219,12 +219,12 @@ impl Holder {
         let count = most(bits, total);
         number(&mut pairs[..count], self.next);
         let ahead = if count == total { self.buffer.len() } else { 0 };
-        (count, moved(self.next, ahead))
+        (count, advanced(self.next, ahead))
     }
 }
 
 /// The number of 12 bits that is so many further.
-fn moved(number: u16, count: usize) -> u16
+fn advanced(number: u16, count: usize) -> u16
     requires { number < 4096 }
     ensures value { result ≡ (number + count) % 4096 }
     ensures small { result < 4096 }

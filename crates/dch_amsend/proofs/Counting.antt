@@ -6,7 +6,7 @@ use Rattle.dch_retx.specs.declared.sent_pdu.SentPdu.{SentPdu}
 use Rattle.dch_retx.specs.Flights.{at, built, first_requested, sent_once, requested_in}
 use Rattle.dch_am.specs.Numbers.{has}
 use Rattle.dch_am.specs.Rules.{Rules}
-use Rattle.dch_am.specs.Bodies.{Unsent, after_body, ends_of, is_left, next_body}
+use Rattle.dch_am.specs.Bodies.{TxQueue, after_body, ends_of, is_left, next_body}
 use Rattle.dch_am.specs.Sender.{Sender, vt_a, vt_s}
 use Rattle.dch_am.specs.Building.{Choice, Again as Requested, New as Fresh, Last as Latest, NoPdu as Nothing, after_build, after_choice, again, anew, builds_within, choice, is_pdu, once_more, passes, polls}
 use Rattle.dch_retx.specs.declared.buffer.Pick.TheVariants.{Again, New, Last, NoPdu}
@@ -83,7 +83,7 @@ pub no_more : (n : ℕ) (rules : Rules) (d : ℕ) (s : Sender) → choice rules 
 no_more n rules d s e = ap (λ b. cond b (suc (builds_within n rules d (after_build rules d s))) 0) (ap is_pdu e)
 
 -- no more than so many are filled, and one bound more counts one more at the most
-fills_few : (n d : ℕ) (q : Unsent) → fills n d q ≤ n
+fills_few : (n d : ℕ) (q : TxQueue) → fills n d q ≤ n
 unfolding fills
 fills_few zero d q = omega arith
 fills_few (suc n) d q = go (is_left q) (fills_few n d (after_body d q))
@@ -92,7 +92,7 @@ fills_few (suc n) d q = go (is_left q) (fills_few n d (after_body d q))
     go true l = omega arith
     go false l = omega arith
 
-fills_next : (n d : ℕ) (q : Unsent) → fills n d q ≡ min n (fills (suc n) d q)
+fills_next : (n d : ℕ) (q : TxQueue) → fills n d q ≡ min n (fills (suc n) d q)
 unfolding fills
 fills_next zero d q = omega arith
 fills_next (suc n) d q = go (is_left q) (fills_next n d (after_body d q))
@@ -101,11 +101,11 @@ fills_next (suc n) d q = go (is_left q) (fills_next n d (after_body d q))
     go true e = omega (arith, e)
     go false e = omega arith
 
-fills_left : (n d : ℕ) (q : Unsent) → is_left q ≡ true → fills (suc n) d q ≡ suc (fills n d (after_body d q))
+fills_left : (n d : ℕ) (q : TxQueue) → is_left q ≡ true → fills (suc n) d q ≡ suc (fills n d (after_body d q))
 unfolding fills
 fills_left n d q e = ap (λ b. cond b (suc (fills n d (after_body d q))) 0) e
 
-pub fills_none : (n d : ℕ) (q : Unsent) → is_left q ≡ false → fills n d q ≡ 0
+pub fills_none : (n d : ℕ) (q : TxQueue) → is_left q ≡ false → fills n d q ≡ 0
 unfolding fills
 fills_none zero d q e = refl
 fills_none (suc n) d q e = ap (λ b. cond b (suc (fills n d (after_body d q))) 0) e
@@ -131,7 +131,7 @@ count_last : (n flying : ℕ) → 0 < flying → suc (min n (builds_of 0 0 false
 count_last n flying one = let first : suc (min n 0) ≡ min (suc n) 1 = omega arith in first ∙ ap (λ b. min (suc n) (cond b 1 0)) (sym (lt-ltb 0 flying one))
 
 -- what a build leaves: the poll is paid, and nothing else counts
-record Left (rules : Rules) (l : RetxBuffer) (s : Sender) (requested flying : ℕ) (q : Unsent) : Type 0 where
+record Left (rules : Rules) (l : RetxBuffer) (s : Sender) (requested flying : ℕ) (q : TxQueue) : Type 0 where
   stands : LineStands rules l s
   none_owed : s.owed ≡ false
   requested_is : requested_in l.in_flight ≡ requested
@@ -142,10 +142,10 @@ record Left (rules : Rules) (l : RetxBuffer) (s : Sender) (requested flying : �
 abbrev counted : ℕ → Rules → ℕ → RetxBuffer → Sender → ℕ
 counted n rules d l s = min n (builds_of (requested_in l.in_flight) (min (rules.window - length l.in_flight) (fills n d s.unsent)) s.owed (length l.in_flight))
 
-left_counted : (n : ℕ) (rules : Rules) (d : ℕ) (l : RetxBuffer) (s : Sender) (requested flying : ℕ) (q : Unsent) → Left rules l s requested flying q → builds_within n rules d s ≡ min n (builds_of (requested_in l.in_flight) (min (rules.window - length l.in_flight) (fills n d s.unsent)) s.owed (length l.in_flight)) → builds_within n rules d s ≡ min n (builds_of requested (min (rules.window - flying) (fills n d q)) false flying)
+left_counted : (n : ℕ) (rules : Rules) (d : ℕ) (l : RetxBuffer) (s : Sender) (requested flying : ℕ) (q : TxQueue) → Left rules l s requested flying q → builds_within n rules d s ≡ min n (builds_of (requested_in l.in_flight) (min (rules.window - length l.in_flight) (fills n d s.unsent)) s.owed (length l.in_flight)) → builds_within n rules d s ≡ min n (builds_of requested (min (rules.window - flying) (fills n d q)) false flying)
 left_counted n rules d l s requested flying q is e =
     e ∙ (ap₂ (λ (w : ℕ) (k : ℕ). min n (builds_of w (min (rules.window - k) (fills n d s.unsent)) s.owed k)) is.requested_is is.flying_is
-    ∙ ap₂ (λ (x : Unsent) (b : Bool). min n (builds_of requested (min (rules.window - flying) (fills n d x)) b flying)) is.unsent_is is.none_owed)
+    ∙ ap₂ (λ (x : TxQueue) (b : Bool). min n (builds_of requested (min (rules.window - flying) (fills n d x)) b flying)) is.unsent_is is.none_owed)
 
 again_left : (rules : Rules) (d : ℕ) (l : RetxBuffer) (s : Sender) → first_requested l.in_flight < length l.in_flight → LineStands rules l s → (w : ℕ) → requested_in l.in_flight ≡ suc w → Left rules (again_line (first_requested l.in_flight) l) (after_choice (Requested (vt_a s + first_requested l.in_flight)) rules d s) w (length l.in_flight) s.unsent
 again_left rules d l s inside is w e = record {
@@ -158,7 +158,7 @@ again_left rules d l s inside is w e = record {
 
 -- a PDU in which so many SDUs end
 abbrev new_pdu : ℕ → SentPdu
-new_pdu n = sent_once (record { sdu = 0; used = 0; pieces = n; rest = 0 }) false
+new_pdu n = sent_once (record { sdu = 0; used = 0; pieces = n; rest = 0 }) false false
 
 new_left : (rules : Rules) (d : ℕ) (l : RetxBuffer) (s : Sender) → length l.in_flight < rules.window → LineStands rules l s → Left rules (new_line (new_pdu (ends_of (next_body d s.unsent))) (is_left (after_body d s.unsent)) l) (after_choice Fresh rules d s) (requested_in l.in_flight) (length l.in_flight + 1) (after_body d s.unsent)
 new_left rules d l s room is = record {
@@ -210,7 +210,7 @@ is_choice rules l s a b c is e1 e2 e3 = record {
       ∙ ap (λ z. cond a (Requested (vt_a s + first_requested l.in_flight)) (cond b Fresh (cond z (Latest (vt_a s + (length l.in_flight - 1))) Nothing))) (ap (λ o. o && nat_lt 0 (length l.in_flight)) is.owed ∙ e3)));
 }
 
-none_fresh : (m d len room : ℕ) (q : Unsent) → (nat_lt len room && is_left q) ≡ false → min (room - len) (fills m d q) ≡ 0
+none_fresh : (m d len room : ℕ) (q : TxQueue) → (nat_lt len room && is_left q) ≡ false → min (room - len) (fills m d q) ≡ 0
 none_fresh m d len room q e = go (nat_lt len room) (is_left q) refl refl e
   where
     go : (a b : Bool) → nat_lt len room ≡ a → is_left q ≡ b → (a && b) ≡ false → min (room - len) (fills m d q) ≡ 0

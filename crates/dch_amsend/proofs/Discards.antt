@@ -32,7 +32,7 @@ alike_stands rules h s now a is = record {
   early = λ i. omega (arith, is.early i, ap (λ ts. slice_index ts i) a.accepted_at, a.ticks);
   times = ap (λ (ts : List ℕ). length ts) a.accepted_at ∙ (is.times ∙ ap (λ (us : List (List ℕ)). length us) (sym a.accepted));
   passed = omega (arith, is.passed, a.dropped, a.low);
-  discarded = is.discarded ∙ ap capped (sym a.gone);
+  discarded = is.discarded ∙ ap capped (sym a.discard_count);
 }
 
 -- counts that end at the greatest number
@@ -116,7 +116,7 @@ released_stands rules h after s now sdus e a is = same_stands rules (without_fro
   early = λ i. omega (arith, is.early i, ap (λ ts. slice_index ts i) a.accepted_at, a.ticks);
   times = ap (λ (ts : List ℕ). length ts) a.accepted_at ∙ (is.times ∙ ap (λ (us : List (List ℕ)). length us) (sym a.accepted));
   passed = omega (arith, is.passed, a.dropped, a.low);
-  discarded = is.discarded ∙ ap capped (sym a.gone);
+  discarded = is.discarded ∙ ap capped (sym a.discard_count);
 })
 
 -- a tick
@@ -131,7 +131,7 @@ ticked_stands rules h after s now e a is = same_stands rules (one_tick_older h) 
   early = λ i. omega (arith, is.early i, ap (λ ts. slice_index ts i) a.accepted_at, a.ticks);
   times = ap (λ (ts : List ℕ). length ts) a.accepted_at ∙ (is.times ∙ ap (λ (us : List (List ℕ)). length us) (sym a.accepted));
   passed = omega (arith, is.passed, a.dropped, a.low);
-  discarded = is.discarded ∙ ap capped (sym a.gone);
+  discarded = is.discarded ∙ ap capped (sym a.discard_count);
 })
 
 -- SDUs in front are discarded
@@ -159,22 +159,22 @@ discarding_stands rules h after s to r p e to_is is = same_stands rules (discard
 -- the sender begins anew with the SDUs of which no_sdu_held was built
 pub restarted_stands : (rules : Rules) (h after : SduDiscard) (s : Sender) (kept : ℕ) → after ≡ restarted_discards kept h → kept ≡ length (restarted_sender s).accepted → IsCut s.accepted s.unsent s.bodies → DiscardStands rules h s → DiscardStands rules after (restarted_sender s)
 restarted_stands rules h after s kept e count cut is = same_stands rules (restarted_discards kept h) after (restarted_sender s) e (record {
-  count = omega (arith, count, more, length-drop gone h.ages, length-drop (begun s) s.accepted, sdus_held rules h s cut is);
-  ages = λ i l on. get_or-drop gone h.ages i 0 ∙ (is.ages (gone + i) (omega (arith, l, length-drop gone h.ages)) on ∙ ap (λ t. min 65535 (s.ticks - t)) (time i));
+  count = omega (arith, count, more, length-drop fewer h.ages, length-drop (begun s) s.accepted, sdus_held rules h s cut is);
+  ages = λ i l on. get_or-drop fewer h.ages i 0 ∙ (is.ages (fewer + i) (omega (arith, l, length-drop fewer h.ages)) on ∙ ap (λ t. min 65535 (s.ticks - t)) (time i));
   early = λ i. omega (arith, get_or-drop (begun s) s.accepted_at i 0, is.early (begun s + i));
   times = omega (arith, length-drop (begun s) s.accepted_at, length-drop (begun s) s.accepted, is.times);
   passed = omega arith;
   discarded = is.discarded ∙ ap capped (omega arith);
 })
   where
-    gone : ℕ
-    gone = length h.ages - kept
+    fewer : ℕ
+    fewer = length h.ages - kept
 
-    more : released s + gone ≡ begun s
+    more : released s + fewer ≡ begun s
     more = omega (arith, count, length-drop (begun s) s.accepted, sdus_held rules h s cut is, front_begun s.accepted s.unsent s.bodies (vt_a s) cut, begun_few (octets_in s.bodies) s.accepted)
 
-    time : (i : ℕ) → slice_index s.accepted_at (released s + (gone + i)) ≡ slice_index (drop (begun s) s.accepted_at) (0 + i)
+    time : (i : ℕ) → slice_index s.accepted_at (released s + (fewer + i)) ≡ slice_index (drop (begun s) s.accepted_at) (0 + i)
     time i =
-        let old : released s + (gone + i) ≡ begun s + i = omega (arith, more) in
+        let old : released s + (fewer + i) ≡ begun s + i = omega (arith, more) in
         let new : i ≡ 0 + i = omega arith in
         ap (slice_index s.accepted_at) old ∙ (sym (get_or-drop (begun s) s.accepted_at i 0) ∙ ap (slice_index (drop (begun s) s.accepted_at)) new)

@@ -67,20 +67,20 @@ gives_is rules d s = go (gives rules s)
 pub can_build_gives : (rules : Rules) (d : ℕ) (v : Outgoing) (s : Sender) → IsOutgoing rules d v s → can_build v ≡ gives rules s
 can_build_gives rules d v s is = ap (nat_lt 0) (available_is rules d v s is) ∙ gives_is rules d s
 
--- a unit that is refused changes nothing
-pub refused_same : (unit : List ℕ) (s now : TxBuffer) (answer : Offer) → now ≡ buffer_after_offer answer unit s → answer ≢ Accepted → now ≡ s
-refused_same unit s now Accepted e other = absurd (other refl)
-refused_same unit s now Full e other = e
-refused_same unit s now WrongSize e other = e
+-- an SDU that is refused changes nothing
+pub refused_same : (sdu : List ℕ) (s now : TxBuffer) (answer : Offer) → now ≡ buffer_after_offer answer sdu s → answer ≢ Accepted → now ≡ s
+refused_same sdu s now Accepted e other = absurd (other refl)
+refused_same sdu s now Full e other = e
+refused_same sdu s now WrongSize e other = e
 
 -- an SDU that is accepted is one more, in as many blocks
-pub one_more : (unit : List ℕ) (s now : TxBuffer) (answer : Offer) → now ≡ buffer_after_offer answer unit s → answer ≡ Accepted → length now.sdus ≡ length s.sdus + 1
-one_more unit s now answer e taken = ap (λ (w : TxBuffer). length w.sdus) (e ∙ ap (λ o. buffer_after_offer o unit s) taken) ∙ omega (arith, length-append s.sdus (unit ∷ []))
+pub one_more : (sdu : List ℕ) (s now : TxBuffer) (answer : Offer) → now ≡ buffer_after_offer answer sdu s → answer ≡ Accepted → length now.sdus ≡ length s.sdus + 1
+one_more sdu s now answer e taken = ap (λ (w : TxBuffer). length w.sdus) (e ∙ ap (λ o. buffer_after_offer o sdu s) taken) ∙ omega (arith, length-append s.sdus (sdu ∷ []))
 
-pub blocks_stay : (unit : List ℕ) (s now : TxBuffer) (answer : Offer) → now ≡ buffer_after_offer answer unit s → now.blocks ≡ s.blocks
-blocks_stay unit s now Accepted e = ap (λ (w : TxBuffer). w.blocks) e
-blocks_stay unit s now Full e = ap (λ (w : TxBuffer). w.blocks) e
-blocks_stay unit s now WrongSize e = ap (λ (w : TxBuffer). w.blocks) e
+pub blocks_stay : (sdu : List ℕ) (s now : TxBuffer) (answer : Offer) → now ≡ buffer_after_offer answer sdu s → now.blocks ≡ s.blocks
+blocks_stay sdu s now Accepted e = ap (λ (w : TxBuffer). w.blocks) e
+blocks_stay sdu s now Full e = ap (λ (w : TxBuffer). w.blocks) e
+blocks_stay sdu s now WrongSize e = ap (λ (w : TxBuffer). w.blocks) e
 
 -- none that is held is empty, so there are no more than blocks
 few_sdus : (us : List (List ℕ)) → AllFull us → length us ≤ blocks_in us
@@ -88,8 +88,8 @@ few_sdus [] f = omega arith
 few_sdus (u ∷ us) f = omega (arith, f.0, few_sdus us f.1)
 
 -- and an SDU that is accepted finds room
-pub room_left : (rules : Rules) (d : ℕ) (v : Outgoing) (s : Sender) (unit : List ℕ) (answer : Offer) → IsOutgoing rules d v s → answer ≡ answer_of unit v.tx_buffer → answer ≡ Accepted → length v.tx_buffer.sdus < v.tx_buffer.blocks
-room_left rules d v s unit answer is e taken = go (is_empty unit) (nat_lt 1500 (length unit)) (nat_le (blocks_in v.tx_buffer.sdus + blocks_for (length unit)) v.tx_buffer.blocks) refl refl (sym taken ∙ e)
+pub room_left : (rules : Rules) (d : ℕ) (v : Outgoing) (s : Sender) (sdu : List ℕ) (answer : Offer) → IsOutgoing rules d v s → answer ≡ answer_of sdu v.tx_buffer → answer ≡ Accepted → length v.tx_buffer.sdus < v.tx_buffer.blocks
+room_left rules d v s sdu answer is e taken = go (is_empty sdu) (nat_lt 1500 (length sdu)) (nat_le (blocks_in v.tx_buffer.sdus + blocks_for (length sdu)) v.tx_buffer.blocks) refl refl (sym taken ∙ e)
   where
     full : AllFull v.tx_buffer.sdus
     full = subst AllFull (sym is.tx_buffer.sdus) (full_drop (released s) s.accepted (cut_full s.accepted s.unsent s.bodies is.cut))
@@ -98,10 +98,10 @@ room_left rules d v s unit answer is e taken = go (is_empty unit) (nat_lt 1500 (
     some [] e = absurd (cc)
     some (x ∷ xs) e = omega arith
 
-    go : (a b c : Bool) → is_empty unit ≡ a → nat_le (blocks_in v.tx_buffer.sdus + blocks_for (length unit)) v.tx_buffer.blocks ≡ c → Accepted ≡ cond (a || b) WrongSize (cond c Accepted Full) → length v.tx_buffer.sdus < v.tx_buffer.blocks
+    go : (a b c : Bool) → is_empty sdu ≡ a → nat_le (blocks_in v.tx_buffer.sdus + blocks_for (length sdu)) v.tx_buffer.blocks ≡ c → Accepted ≡ cond (a || b) WrongSize (cond c Accepted Full) → length v.tx_buffer.sdus < v.tx_buffer.blocks
     go true b c ea ec q = absurd (cc)
     go false true c ea ec q = absurd (cc)
-    go false false true ea ec q = omega (arith, few_sdus v.tx_buffer.sdus full, leb-true _ _ ec, some unit ea)
+    go false false true ea ec q = omega (arith, few_sdus v.tx_buffer.sdus full, leb-true _ _ ec, some sdu ea)
     go false false false ea ec q = absurd (cc)
 
 -- how many SDUs end before a PDU in flight is read off its extent

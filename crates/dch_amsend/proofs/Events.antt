@@ -45,7 +45,7 @@ use Rattle.dch_amsend.proofs.Counting.{counts, no_more}
 
 -- a PDU that is sent alike has the same body
 has_alike : (d : ℕ) (f g : SentPdu) (b : Body) → IsAlike f g → HasBody d g b → HasBody d f b
-has_alike d f g b a h = record { full = a.full ∙ h.full; ends = ap₂ {C = ℕ} (λ (x : Extent) q. x.pieces + cond q 1 0) a.extent a.full ∙ h.ends; continues = ap (λ (x : Extent). nat_lt 0 x.rest) a.extent ∙ h.continues; short = h.short }
+has_alike d f g b a h = record { full = a.full ∙ h.full; ends = ap₂ {C = ℕ} (λ (x : Extent) q. x.pieces + cond q 1 0) a.extent a.full ∙ h.ends; continues = ap (λ (x : Extent). nat_lt 0 x.rest) a.extent ∙ h.continues; short = h.short; padded = a.padded ∙ h.padded }
 
 -- PDUs in front leave, or are marked, and nothing else is sent
 later : (rules : Rules) (d : ℕ) (v : Outgoing) (s now : Sender) (l : RetxBuffer) → IsOutgoing rules d v s → LineStands rules l now → AreKept v.line.in_flight l.in_flight → Alike s now → IsLater s now
@@ -109,7 +109,7 @@ keeps_same d w s now same low keeps =
       from = keeps.from;
       start = keeps.start;
       sdus = keeps.sdus ∙ ap₂ (λ n us. drop n us) (sym r) (sym same.accepted);
-      gone = keeps.gone ∙ ap (λ n. n % 65536) (sym r);
+      freed = keeps.freed ∙ ap (λ n. n % 65536) (sym r);
       unsent = keeps.unsent ∙ sym same.unsent;
       place = omega (arith, keeps.place, r, ap ends same.bodies);
       small = keeps.small;
@@ -136,7 +136,7 @@ hears_few rules d v s l fields is stands kept = leave_few rules d v s (after_fie
 kept_all : (fs : List SentPdu) → AreKept fs fs
 kept_all fs = record {
   few = omega arith;
-  same = λ i inside. let e : length fs - length fs + i ≡ i = omega arith in subst (λ j. IsAlike (at fs i) (at fs j)) (sym e) (record { extent = refl; full = refl });
+  same = λ i inside. let e : length fs - length fs + i ≡ i = omega arith in subst (λ j. IsAlike (at fs i) (at fs j)) (sym e) (record { extent = refl; full = refl; padded = refl });
 }
 
 -- one that is refused lets no SDU leave
@@ -146,10 +146,10 @@ none_leaves rules d v s l is e =
     let stay : AreKept v.line.in_flight v.line.in_flight = kept_all v.line.in_flight in
     let none : ended_before (first_in_flight v.line.in_flight) v.tx_buffer ≡ 0 = omega (arith, ended_is d v.tx_buffer s s (first_in_flight v.line.in_flight) is.tx_buffer (later rules d v s s v.line is is.line stay same) (first_is rules d v.line s is.line (λ i inside. stays rules d v s s v.line i inside is is.line stay same))) in
     let start : v.tx_buffer.start.sdu - 0 ≡ v.tx_buffer.start.sdu = omega arith in
-    let gone : (v.tx_buffer.gone + 0) % 65536 ≡ v.tx_buffer.gone = omega (arith, is.tx_buffer.gone) in
+    let freed : (v.tx_buffer.freed + 0) % 65536 ≡ v.tx_buffer.freed = omega (arith, is.tx_buffer.freed) in
     ap (λ (x : RetxBuffer). released_by (ended_before (first_in_flight x.in_flight) v.tx_buffer) v.tx_buffer) e
     ∙ (ap (λ n. released_by n v.tx_buffer) none
-    ∙ ap₂ (λ a b. record v.tx_buffer { start = record { sdu = a; used = v.tx_buffer.start.used }; gone = b }) start gone)
+    ∙ ap₂ (λ a b. record v.tx_buffer { start = record { sdu = a; used = v.tx_buffer.start.used }; freed = b }) start freed)
 
 -- the beginning of a discard
 pub discards_goes : (rules : Rules) (d : ℕ) (v : Outgoing) (s : Sender) (l : RetxBuffer) (place n i : ℕ) → place < length v.line.in_flight → l ≡ discarding place n v.line → IsOutgoing rules d v s → IsOutgoing rules d (with_line l v) (discards_at s i (Some (vt_a s + place, n)))

@@ -4,7 +4,7 @@ use Rattle.std.specs.Prelude.{◌%◌, Option, None, Some, nat_lt}
 use Rattle.std.proofs.lemmas.Bool.{le-ltb, lt-ltb}
 use Rattle.std.proofs.lemmas.List.{drop-drop, get_or-drop, get_or_append_left, length-take-le, take-append-le, take_all, take_at}
 use Rattle.std.proofs.Math.Seq.{get_or-append_seam}
-use Rattle.dch_am.specs.Bodies.{Body, Unsent, after_body, ends, ends_of, is_empty, next_body, no_body, read_bodies, room_for}
+use Rattle.dch_am.specs.Bodies.{Body, TxQueue, after_body, ends, ends_of, is_empty, next_body, no_body, read_bodies, room_for}
 use Rattle.dch_am.specs.Building.{anew, body_at}
 use Rattle.dch_am.specs.Cuts.{AllFull, Fits, IsCut, empty_reading}
 use Rattle.dch_am.specs.Sender.{Sender, vt_a, vt_s}
@@ -13,8 +13,8 @@ use Rattle.dch_am.proofs.Reading.{cut_few, ends-append}
 use Rattle.dch_am.proofs.Short.{short_next}
 use Rattle.dch_txbuf.specs.declared.taken.Cut.{Cut}
 use Rattle.dch_txbuf.specs.declared.taken.Start.{Start}
-use Rattle.dch_txbuf.specs.Cuts.{IsStart, IsThere, body_of, first_of, left_at, next_start}
-use Rattle.dch_txbuf.proofs.Cutting.{placed_cut}
+use Rattle.dch_txbuf.specs.Cuts.{IsStart, IsThere, body_of, cut_of, first_of, has_padding, left_at, next_start, octets_of}
+use Rattle.dch_txbuf.proofs.Cutting.{cut_is_padded, placed_cut}
 use Rattle.dch_txbuf.proofs.Following.{start_next}
 use Rattle.dch_retx.specs.declared.sent_pdu.Extent.{Extent}
 use Rattle.dch_retx.specs.declared.sent_pdu.SentPdu.{SentPdu}
@@ -34,7 +34,7 @@ waits_full s cut = go (read_bodies empty_reading s.bodies).part s.unsent.owed s.
     go part false (u ∷ us) f = f
 
 -- what the next PDU takes is its body
-pub record IsNext (w : TxBuffer) (q : Unsent) (b : Body) : Type 0 where
+pub record IsNext (w : TxBuffer) (q : TxQueue) (b : Body) : Type 0 where
   pub body : body_of w.owed (cut_next w) (left_at w.start w.sdus) ≡ b
   pub there : IsThere (cut_next w) (left_at w.start w.sdus)
   pub after : unsent_of (buffer_after_build w) ≡ q
@@ -61,15 +61,22 @@ next_ends d w s keeps =
     let n : length (take (cut_next w).pieces (left_at w.start w.sdus)) ≡ (cut_next w).pieces = length-take-le (cut_next w).pieces (left_at w.start w.sdus) is.there.pieces in
     ap (λ k. cond w.owed 1 0 + k) (sym n) ∙ ap ends_of is.body
 
+-- it tells whether padding is behind
+next_padded : (d : ℕ) (owed : Bool) (us : List (List ℕ)) → 1 ≤ d → (cut_of (room_for d owed) us).padded ≡ has_padding d (body_of owed (cut_of (room_for d owed) us) us)
+next_padded d true us from = cut_is_padded 1 (d - 1) d us (omega (arith, from)) ∙ ap (λ n. nat_lt (1 + length (octets_of (cut_of (d - 1) us) us) + n) d) (sym (length-take-le (cut_of (d - 1) us).pieces us (placed_cut (d - 1) us).there.pieces))
+next_padded d false us from = cut_is_padded 0 d d us (omega arith) ∙ ap (λ n. nat_lt (0 + length (octets_of (cut_of d us) us) + n) d) (sym (length-take-le (cut_of d us).pieces us (placed_cut d us).there.pieces))
+
 pub next_has : (d : ℕ) (w : TxBuffer) (s : Sender) → BufferStands d w s → IsCut s.accepted s.unsent s.bodies → HasBody d (next_in_flight w) (next_body d s.unsent)
 next_has d w s keeps cut =
     let is = next_is d w s keeps in
+    let size : w.size - 2 ≡ d = omega (arith, keeps.size) in
     let n : length (take (cut_next w).rest (first_of (drop (cut_next w).pieces (left_at w.start w.sdus)))) ≡ (cut_next w).rest = length-take-le (cut_next w).rest (first_of (drop (cut_next w).pieces (left_at w.start w.sdus))) is.there.rest in
     record {
-      full = ap (λ (q : Unsent). q.owed) keeps.unsent;
+      full = ap (λ (q : TxQueue). q.owed) keeps.unsent;
       ends = omega (arith, next_ends d w s keeps);
       continues = some_octets (take (cut_next w).rest (first_of (drop (cut_next w).pieces (left_at w.start w.sdus)))) (cut_next w).rest n ∙ ap (λ (b : Body). not (is_empty b.rest)) is.body;
       short = short_next d s.unsent keeps.from (waits_full s cut);
+      padded = next_padded (w.size - 2) w.owed (left_at w.start w.sdus) (omega (arith, size, keeps.from)) ∙ ap₂ has_padding size is.body;
     }
 
 -- PDUs before are the same with one more
@@ -95,7 +102,7 @@ next_keeps d w s small keeps low =
       from = keeps.from;
       start = start_next w.sdus w.start (room_for (w.size - 2) w.owed) keeps.start;
       sdus = keeps.sdus ∙ ap (λ n. drop n s.accepted) (sym r);
-      gone = keeps.gone ∙ ap (λ n. n % 65536) (sym r);
+      freed = keeps.freed ∙ ap (λ n. n % 65536) (sym r);
       unsent = is.after;
       place = omega (arith, r, keeps.place, next_sdu w (cut_next w), next_ends d w s keeps, ends-append s.bodies (next_body d s.unsent ∷ []));
       small = small;
@@ -104,10 +111,10 @@ next_keeps d w s small keeps low =
 -- it takes its octets of the accepted SDUs
 pub next_takes : (d : ℕ) (w : TxBuffer) (s : Sender) → BufferStands d w s → IsCut s.accepted s.unsent s.bodies → Takes (anew d s) (vt_s s) (next_extent w)
 next_takes d w s keeps cut = record {
-  sdu = omega (arith, keeps.gone, first);
+  sdu = omega (arith, keeps.freed, first);
   start = record { sdu = omega (arith, keeps.start.sdu, first, ap (λ (us : List (List ℕ)). length us) keeps.sdus, length-drop (released s) s.accepted, few); used = subst (λ n. w.start.used ≤ length (get_or s.accepted n [])) (sym first) (omega (arith, keeps.start.used, ap (λ (us : List (List ℕ)). length (get_or us w.start.sdu [])) keeps.sdus, ap (λ (xs : List ℕ). length xs) (get_or-drop (released s) s.accepted w.start.sdu []))) };
-  there = subst (λ us. IsThere (taken_by (next_extent w)) us) same (record { pieces = is.there.pieces; rest = is.there.rest });
-  body = ap₂ (λ b us. body_of b (taken_by (next_extent w)) us) (ap (λ (b : Body). b.full) here ∙ sym (ap (λ (q : Unsent). q.owed) keeps.unsent)) (sym same) ∙ (is.body ∙ sym here);
+  there = subst (λ us. IsThere (taken_by (next_extent w) false) us) same (record { pieces = is.there.pieces; rest = is.there.rest });
+  body = ap₂ (λ b us. body_of b (taken_by (next_extent w) false) us) (ap (λ (b : Body). b.full) here ∙ sym (ap (λ (q : TxQueue). q.owed) keeps.unsent)) (sym same) ∙ (is.body ∙ sym here);
 }
   where
     is : IsNext w (after_body d s.unsent) (next_body d s.unsent)
@@ -120,7 +127,7 @@ next_takes d w s keeps cut = record {
     here = get_or-append_seam s.bodies (next_body d s.unsent) [] no_body
 
     owed : cond {A = ℕ} (body_at (s.bodies ++ next_body d s.unsent ∷ []) (vt_s s)).full 1 0 ≡ cond w.owed 1 0
-    owed = ap (λ (b : Body). cond b.full 1 0) here ∙ ap (λ (q : Unsent). cond q.owed 1 0) (sym keeps.unsent)
+    owed = ap (λ (b : Body). cond b.full 1 0) here ∙ ap (λ (q : TxQueue). cond q.owed 1 0) (sym keeps.unsent)
 
     first : first_in (anew d s) (vt_s s) ≡ released s + w.start.sdu
     first = ap₂ (λ a b. a + b) (ap ends (take_at s.bodies (next_body d s.unsent ∷ []) (vt_s s) refl)) owed ∙ sym keeps.place
@@ -150,8 +157,8 @@ takes_as s now k x accepted front body takes =
     record {
       sdu = takes.sdu ∙ ap (λ n. n % 65536) (sym first);
       start = subst (λ us. IsStart us (start_of now k x)) (sym accepted) (subst (λ (p : Start). IsStart s.accepted p) (sym start) takes.start);
-      there = subst (λ us. IsThere (taken_by x) us) (sym same) takes.there;
-      body = ap₂ (λ (b : Body) us. body_of b.full (taken_by x) us) body same ∙ (takes.body ∙ sym body);
+      there = subst (λ us. IsThere (taken_by x false) us) (sym same) takes.there;
+      body = ap₂ (λ (b : Body) us. body_of b.full (taken_by x false) us) body same ∙ (takes.body ∙ sym body);
     }
 
 pub takes_later : (s now : Sender) (k : ℕ) (x : Extent) → IsLater s now → Takes s k x → Takes now k x
@@ -198,7 +205,7 @@ released_keeps d w s now first keeps a is =
           ap (λ us. drop (ended_before first w) us) keeps.sdus
           ∙ (drop-drop (ended_before first w) (released s) s.accepted
           ∙ ap₂ (λ m us. drop m us) sum (sym a.accepted));
-      gone = omega (arith, keeps.gone, sum);
+      freed = omega (arith, keeps.freed, sum);
       unsent = ap (λ us. record { owed = w.owed; units = us }) (left_same w.start.sdu (ended_before first w) w.start.used w.sdus within) ∙ (keeps.unsent ∙ sym a.unsent);
       place = omega (arith, keeps.place, sum, within, ap ends a.bodies);
       small = omega (arith, keeps.small);

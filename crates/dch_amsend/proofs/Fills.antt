@@ -2,7 +2,7 @@
 use Rattle.std.proofs.Common.{◌≡◌, ◌+◌, ◌-◌, ◌<◌, ℕ, zero, suc, List, [], ◌∷◌, Bool, true, false, not, length, drop, arith, refl, sym, ap, ◌∙◌, subst, length-drop}
 use Rattle.std.specs.Prelude.{nat_lt}
 use Rattle.std.proofs.lemmas.Bool.{le-ltb, lt-ltb}
-use Rattle.dch_am.specs.Bodies.{Unsent, after_body, is_empty, is_left, room_for}
+use Rattle.dch_am.specs.Bodies.{TxQueue, after_body, is_empty, is_left, room_for}
 use Rattle.dch_txbuf.specs.declared.taken.Cut.{Cut}
 use Rattle.dch_txbuf.specs.declared.taken.Start.{Start}
 use Rattle.dch_txbuf.specs.Cuts.{IsStart, cut_of, left_at, next_start}
@@ -26,16 +26,16 @@ unsent_next sdus start owed d c e =
     ∙ (ap (λ us. record { owed = (cut_of (room_for d owed) (left_at start sdus)).owed; units = us }) (left_next sdus start (cut_of (room_for d owed) (left_at start sdus)))
     ∙ sym (placed_cut (room_for d owed) (left_at start sdus)).after)
 
-fills_more : (n d : ℕ) (q : Unsent) → is_left q ≡ true → fills (suc n) d q ≡ suc (fills n d (after_body d q))
+fills_more : (n d : ℕ) (q : TxQueue) → is_left q ≡ true → fills (suc n) d q ≡ suc (fills n d (after_body d q))
 unfolding fills
 fills_more n d q e = rw e refl
 
-fills_none : (n d : ℕ) (q : Unsent) → is_left q ≡ false → fills n d q ≡ 0
+fills_none : (n d : ℕ) (q : TxQueue) → is_left q ≡ false → fills n d q ≡ 0
 unfolding fills
 fills_none zero d q e = refl
 fills_none (suc n) d q e = rw e refl
 
-fills_zero : (d : ℕ) (q : Unsent) → fills 0 d q ≡ 0
+fills_zero : (d : ℕ) (q : TxQueue) → fills 0 d q ≡ 0
 unfolding fills
 fills_zero d q = refl
 
@@ -66,7 +66,7 @@ counts_all sdus first first_owed d start owed count k all =
     omega (arith, k.filled, all, ap (λ m. fills m d (unsent_at start owed sdus)) z, fills_zero d (unsent_at start owed sdus))
 
 -- one can be filled where something is left
-pub fills_some : (n d : ℕ) (q : Unsent) → nat_lt 0 (fills (suc n) d q) ≡ is_left q
+pub fills_some : (n d : ℕ) (q : TxQueue) → nat_lt 0 (fills (suc n) d q) ≡ is_left q
 fills_some n d q = go (is_left q) refl
   where
     go : (b : Bool) → is_left q ≡ b → nat_lt 0 (fills (suc n) d q) ≡ b

@@ -1,5 +1,5 @@
 -- An SDU that is offered.
-use Rattle.std.proofs.Common.{◌≡◌, ◌+◌, ◌≤◌, ◌<◌, ℕ, zero, suc, List, [], ◌∷◌, ◌++◌, cond, length, get_or, take, drop, arith, refl, sym, ap, ap₂, ◌∙◌, subst, ⊎_elim, length-append, length-drop}
+use Rattle.std.proofs.Common.{◌≡◌, ◌+◌, ◌≤◌, ◌<◌, ℕ, zero, suc, List, [], ◌∷◌, ◌++◌, false, cond, length, get_or, take, drop, arith, refl, sym, ap, ap₂, ◌∙◌, subst, ⊎_elim, length-append, length-drop}
 use Rattle.std.specs.Prelude.{◌/◌, ◌||◌, nat_le, nat_lt}
 use Rattle.std.proofs.lemmas.Bool.{cases_lt, le-leb, le-ltb, lt-leb, lt-ltb}
 use Rattle.std.proofs.lemmas.List.{drop-append-le, take-append-le}
@@ -77,7 +77,7 @@ offer_keeps d w s sdu Accepted cut keeps =
       from = keeps.from;
       start = start_more w.sdus w.start sdu keeps.start;
       sdus = ap (λ us. us ++ sdu ∷ []) keeps.sdus ∙ sym (drop-append-le (released s) s.accepted (sdu ∷ []) few);
-      gone = keeps.gone;
+      freed = keeps.freed;
       unsent = ap (λ us. record { owed = w.owed; units = us }) (left_more w.sdus w.start sdu keeps.start) ∙ ap (one_more_unit sdu) keeps.unsent;
       place = keeps.place;
       small = keeps.small;
@@ -104,12 +104,12 @@ takes_more s k x sdu takes =
     record {
       sdu = takes.sdu;
       start = start_more s.accepted (start_of s k x) sdu takes.start;
-      there = subst (λ us. IsThere (taken_by x) us) (sym more) (record {
+      there = subst (λ us. IsThere (taken_by x false) us) (sym more) (record {
         pieces = omega (arith, takes.there.pieces, length-append (left_at (start_of s k x) s.accepted) (sdu ∷ []));
         rest = omega (arith, next.there, ap (λ us. length (first_of us)) behind);
       });
       body =
-          ap (λ us. body_of (body_at s.bodies k).full (taken_by x) us) more
+          ap (λ us. body_of (body_at s.bodies k).full (taken_by x false) us) more
           ∙ (ap₂ (λ ps r. record { full = (body_at s.bodies k).full; pieces = ps; rest = r }) front rest
           ∙ takes.body);
     }

@@ -8,7 +8,7 @@ use Rattle.dch_am.specs.Sender.{Sender, held, vt_a, vt_s}
 use Rattle.dch_am.specs.Short.{IsShort}
 use Rattle.dch_am.proofs.Reading.{ends_split}
 use Rattle.dch_txbuf.specs.declared.taken.Start.{Start}
-use Rattle.dch_txbuf.specs.Cuts.{IsStart, IsThere, body_of, left_at, trimmed}
+use Rattle.dch_txbuf.specs.Cuts.{IsStart, IsThere, body_of, has_padding, left_at, trimmed}
 use Rattle.dch_retx.specs.declared.sent_pdu.Extent.{Extent}
 use Rattle.dch_retx.specs.declared.sent_pdu.SentPdu.{SentPdu}
 use Rattle.dch_amsend.specs.BufferStanding.{HasBody, BufferStands, Takes, first_in, start_of}
@@ -34,19 +34,19 @@ full_ends : (b : Body) → cond b.full 1 0 ≤ ends_of b
 full_ends b = omega arith
 
 -- numbers of 16 bits that count from the same SDU
-wrap_back : (first gone at start : ℕ) → at ≡ first % 65536 → start ≡ gone % 65536 → gone ≤ first → first ≤ gone + 65535 → (at + (65536 - start)) % 65536 ≡ first - gone
-wrap_back first gone at start e f l m = omega (arith, e, f, l, m)
+wrap_back : (first freed at start : ℕ) → at ≡ first % 65536 → start ≡ freed % 65536 → freed ≤ first → first ≤ freed + 65535 → (at + (65536 - start)) % 65536 ≡ first - freed
+wrap_back first freed at start e f l m = omega (arith, e, f, l, m)
 
 -- the same SDUs, without those that left
-pub left_same : (first gone used : ℕ) (us : List (List ℕ)) → gone ≤ first → left_at (record { sdu = first - gone; used = used }) (drop gone us) ≡ left_at (record { sdu = first; used = used }) us
-left_same first gone used us l = let e : gone + (first - gone) ≡ first = omega (arith, l) in ap (trimmed used) (drop-drop (first - gone) gone us ∙ ap (λ n. drop n us) e)
+pub left_same : (first freed used : ℕ) (us : List (List ℕ)) → freed ≤ first → left_at (record { sdu = first - freed; used = used }) (drop freed us) ≡ left_at (record { sdu = first; used = used }) us
+left_same first freed used us l = let e : freed + (first - freed) ≡ first = omega (arith, l) in ap (trimmed used) (drop-drop (first - freed) freed us ∙ ap (λ n. drop n us) e)
 
-pub start_same : (first gone used : ℕ) (us : List (List ℕ)) → gone ≤ first → IsStart us (record { sdu = first; used = used }) → IsStart (drop gone us) (record { sdu = first - gone; used = used })
-start_same first gone used us l is =
-    let e : gone + (first - gone) ≡ first = omega (arith, l) in
+pub start_same : (first freed used : ℕ) (us : List (List ℕ)) → freed ≤ first → IsStart us (record { sdu = first; used = used }) → IsStart (drop freed us) (record { sdu = first - freed; used = used })
+start_same first freed used us l is =
+    let e : freed + (first - freed) ≡ first = omega (arith, l) in
     record {
-      sdu = omega (arith, is.sdu, length-drop gone us);
-      used = omega (arith, is.used, ap (λ (xs : List ℕ). length xs) (get_or-drop gone us (first - gone) []), ap (λ n. length (get_or us n [])) e);
+      sdu = omega (arith, is.sdu, length-drop freed us);
+      used = omega (arith, is.used, ap (λ (xs : List ℕ). length xs) (get_or-drop freed us (first - freed) []), ap (λ n. length (get_or us n [])) e);
     }
 
 -- where a PDU in flight begins
@@ -61,7 +61,7 @@ place_is d w s k x keeps e low inside =
     let most : first_in s k ≤ released s + w.start.sdu = omega (arith, keeps.place, ends_with k s.bodies inside, full_ends (body_at s.bodies k)) in
     record {
       from = from;
-      place = wrap_back (first_in s k) (released s) x.sdu w.gone e keeps.gone (omega (arith, from)) (omega (arith, most, keeps.small));
+      place = wrap_back (first_in s k) (released s) x.sdu w.freed e keeps.freed (omega (arith, from)) (omega (arith, most, keeps.small));
       most = most;
     }
 
@@ -75,13 +75,14 @@ here_is d w s k f keeps takes has low inside =
     let p = place_is d w s k f.extent keeps takes.sdu low inside in
     let start : start_in w f.extent ≡ record { sdu = first_in s k - released s; used = f.extent.used } = ap (λ n. record { sdu = n; used = f.extent.used }) p.place in
     let same : left_at (start_in w f.extent) w.sdus ≡ left_at (start_of s k f.extent) s.accepted = ap₂ (λ (a : Start) us. left_at a us) start keeps.sdus ∙ left_same (first_in s k) (released s) f.extent.used s.accepted (omega (arith, p.from)) in
-    let body : body_in w f ≡ body_at s.bodies k = ap₂ (λ b us. body_of b (taken_by f.extent) us) has.full same ∙ takes.body in
+    let body : body_in w f ≡ body_at s.bodies k = ap₂ (λ b us. body_of b (taken_by f.extent f.padded) us) has.full same ∙ takes.body in
     let size : w.size - 2 ≡ d = omega (arith, keeps.size) in
     record {
       here = record {
         start = subst (λ us. IsStart us (start_in w f.extent)) (sym keeps.sdus) (subst (λ (a : Start). IsStart (held s) a) (sym start) (start_same (first_in s k) (released s) f.extent.used s.accepted (omega (arith, p.from)) takes.start));
-        there = subst (λ us. IsThere (taken_by f.extent) us) (sym same) takes.there;
+        there = subst (λ us. IsThere (taken_by f.extent f.padded) us) (sym same) (record { pieces = takes.there.pieces; rest = takes.there.rest });
         short = subst (λ n. IsShort n (body_in w f)) (sym size) (subst (λ b. IsShort d b) (sym body) has.short);
+        padded = has.padded ∙ sym (ap₂ has_padding size body);
       };
       body = body;
     }

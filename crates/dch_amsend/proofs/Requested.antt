@@ -1,4 +1,4 @@
--- Whether a PDU with something of a unit was requested after it was built often enough, told PDU by PDU.
+-- Whether a PDU with something of an SDU was requested after it was built often enough, told PDU by PDU.
 use Rattle.std.proofs.Common.{◌≡◌, ◌+◌, ◌<◌, ◌≤◌, ℕ, List, [], ◌∷◌, Bool, true, false, cond, not, ◌&&◌, ◌||◌, length, take, arith, refl, sym, ◌∙◌, subst, ⊎_elim}
 use Rattle.std.specs.Prelude.{◌==◌, nat_le, nat_lt}
 use Rattle.std.proofs.lemmas.Bool.{and_from, and_parts, both_ways, cases_lt, cases_order, cond-false, eq-eqb, eqb-true, false_from_ne_true, le-leb, leb-true, lt-ltb, ltb-true, not_from_false, not-true, or_cases, or_left, or_right}
@@ -29,7 +29,7 @@ pub record IsAsked (s : Sender) (sent k : ℕ) : Type 0 where
   pub asked : has k s.requested ≡ true
   pub enough : nat_le sent (count k s.sendings) ≡ true
 
--- the unit whose end is the first from PDU k on began in such a PDU
+-- the SDU whose end is the first from PDU k on began in such a PDU
 pub record IsBegun (s : Sender) (sent k at : ℕ) : Type 0 where
   pub before : at < k
   pub asked : IsAsked s sent at
@@ -68,7 +68,7 @@ sent_from rules s i (y ∷ ks) k e t n = ⊎_elim
     (λ (h : has k ks ≡ true). or_right (touches s.bodies y i && nat_le rules.discard_sent (count y s.sendings)) (sent_enough rules s i ks) (sent_from rules s i ks k h t n))
     (or_cases (k == y) (has k ks) e)
 
--- what a PDU carries of a unit behind its ends is what goes on in the next
+-- what a PDU carries of an SDU behind its ends is what goes on in the next
 touches_past : (bodies : List Body) (k i : ℕ) → touches bodies k i ≡ true → ends (take (k + 1) bodies) ≤ i → (is_empty (body_at bodies k).rest ≡ false) × (i ≡ ends (take (k + 1) bodies))
 touches_past bodies k i t l = go (is_empty (body_at bodies k).rest) refl (and_parts (nat_le (ends (take k bodies)) i) (nat_lt i (ends (take (k + 1) bodies) + cond (is_empty (body_at bodies k).rest) 0 1)) t).1
   where
@@ -85,7 +85,7 @@ same_bool : (a b : Bool) → (a ≡ true → b ≡ true) → (b ≡ true → a �
 same_bool true b f g = sym (f refl)
 same_bool false b f g = sym (false_from_ne_true b (λ e. both_ways false refl (g e)))
 
--- a unit that ends in a PDU is due by what was sent
+-- an SDU that ends in a PDU is due by what was sent
 due_told : (buffer : ℕ) (rules : AmRules) (s : Sender) (k j : ℕ) (f : SentPdu) (begun : Bool) → IsPdu rules s k f → TellsBegun begun s rules.discard_sent k → j < ends_of (body_at s.bodies k) → due_by_sending (rules_of buffer rules) s (ends (take k s.bodies) + j) ≡ true → (is_often rules f || ((j == 0) && begun)) ≡ true
 due_told buffer rules s k j f begun is tells l e =
     let i : ℕ = ends (take k s.bodies) + j in

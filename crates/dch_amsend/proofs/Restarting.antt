@@ -3,7 +3,7 @@ use Rattle.std.proofs.Common.{◌≡◌, ◌+◌, ◌-◌, ◌<◌, ◌≤◌, �
 use Rattle.std.specs.Prelude.{◌||◌, nat_lt}
 use Rattle.std.proofs.lemmas.Bool.{cases_lt, le-ltb, lt-ltb, ltb-true}
 use Rattle.std.proofs.lemmas.List.{drop-drop, drop_at}
-use Rattle.dch_am.specs.Bodies.{Reading, Unsent, ends, is_empty, read_bodies}
+use Rattle.dch_am.specs.Bodies.{Reading, TxQueue, ends, is_empty, read_bodies}
 use Rattle.dch_am.specs.Cuts.{Fits, IsCut, empty_reading, unread}
 use Rattle.dch_am.specs.Restart.{begun, restarted_sender, whole_of}
 use Rattle.dch_am.specs.Sender.{Sender}
@@ -42,7 +42,7 @@ behind_place d w s cut keeps =
     ap (λ us. drop w.start.sdu us) keeps.sdus
     ∙ (drop-drop w.start.sdu (released s) s.accepted
     ∙ (ap (λ us. drop (released s + w.start.sdu) us) (sym cut.goes.same)
-    ∙ go s.unsent.owed (keeps.place ∙ ap (λ (q : Unsent). ends s.bodies + cond q.owed 1 0) keeps.unsent)))
+    ∙ go s.unsent.owed (keeps.place ∙ ap (λ (q : TxQueue). ends s.bodies + cond q.owed 1 0) keeps.unsent)))
   where
     r : Reading
     r = read_bodies empty_reading s.bodies
@@ -73,7 +73,7 @@ kept_are d w s cut keeps =
     r = read_bodies empty_reading s.bodies
 
     units : trimmed w.start.used (drop w.start.sdu w.sdus) ≡ s.unsent.units
-    units = ap (λ (q : Unsent). q.units) keeps.unsent
+    units = ap (λ (q : TxQueue). q.units) keeps.unsent
 
     behind : drop w.start.sdu w.sdus ≡ cond s.unsent.owed (trimmed w.start.used (drop w.start.sdu w.sdus)) (unread r.part false (trimmed w.start.used (drop w.start.sdu w.sdus)))
     behind = behind_place d w s cut keeps ∙ ap (λ us. cond s.unsent.owed us (unread r.part false us)) (sym units)
@@ -84,7 +84,7 @@ restart_keeps d w s cut keeps = record {
   from = keeps.from;
   start = record { sdu = omega arith; used = omega arith };
   sdus = kept_are d w s cut keeps;
-  gone = refl;
+  freed = refl;
   unsent = ap (λ us. record { owed = false; units = us }) (trimmed_none (drop (begun_in w) w.sdus) ∙ kept_are d w s cut keeps);
   place = refl;
   small = omega arith;

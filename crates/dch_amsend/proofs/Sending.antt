@@ -37,17 +37,17 @@ record Unchanged (s now : Sender) : Type 0 where
   accepted_at : now.accepted_at ≡ s.accepted_at
   ticks : now.ticks ≡ s.ticks
   dropped : now.dropped ≡ s.dropped
-  gone : discarded now ≡ discarded s
+  discard_count : discarded now ≡ discarded s
 
 unchanged_itself : (s : Sender) → Unchanged s s
-unchanged_itself s = record { accepted = refl; bodies = refl; accepted_at = refl; ticks = refl; dropped = refl; gone = refl }
+unchanged_itself s = record { accepted = refl; bodies = refl; accepted_at = refl; ticks = refl; dropped = refl; discard_count = refl }
 
 unchanged_twice : (a b c : Sender) → Unchanged a b → Unchanged b c → Unchanged a c
-unchanged_twice a b c p q = record { accepted = q.accepted ∙ p.accepted; bodies = q.bodies ∙ p.bodies; accepted_at = q.accepted_at ∙ p.accepted_at; ticks = q.ticks ∙ p.ticks; dropped = q.dropped ∙ p.dropped; gone = q.gone ∙ p.gone }
+unchanged_twice a b c p q = record { accepted = q.accepted ∙ p.accepted; bodies = q.bodies ∙ p.bodies; accepted_at = q.accepted_at ∙ p.accepted_at; ticks = q.ticks ∙ p.ticks; dropped = q.dropped ∙ p.dropped; discard_count = q.discard_count ∙ p.discard_count }
 
 unchanged_ends : (s : Sender) (o : Option ℕ) → Unchanged s (ends_discard s o)
 unchanged_ends s None = unchanged_itself s
-unchanged_ends s (Some m) = record { accepted = refl; bodies = refl; accepted_at = refl; ticks = refl; dropped = refl; gone = refl }
+unchanged_ends s (Some m) = record { accepted = refl; bodies = refl; accepted_at = refl; ticks = refl; dropped = refl; discard_count = refl }
 
 unchanged_acks : (s : Sender) (fields : List Field) → Unchanged s (after_acks s fields)
 unchanged_acks s [] = unchanged_itself s
@@ -60,7 +60,7 @@ unchanged_acks s (BitmapField first bits ∷ fields) = unchanged_acks s fields
 unchanged_acks s (MrwField last n ∷ fields) = unchanged_acks s fields
 
 unchanged_telling : (s : Sender) (fields : List Field) → Unchanged s (after_telling_of s fields)
-unchanged_telling s fields = cond_both (reports fields) (told s (all_names (vt_a s) (vt_s s) fields) (lsn_of (vt_a s) fields)) s (Unchanged s) (λ _. record { accepted = refl; bodies = refl; accepted_at = refl; ticks = refl; dropped = refl; gone = refl }) (λ _. unchanged_itself s)
+unchanged_telling s fields = cond_both (reports fields) (told s (all_names (vt_a s) (vt_s s) fields) (lsn_of (vt_a s) fields)) s (Unchanged s) (λ _. record { accepted = refl; bodies = refl; accepted_at = refl; ticks = refl; dropped = refl; discard_count = refl }) (λ _. unchanged_itself s)
 
 unchanged_answer : (s : Sender) (fields : List Field) (t : StatusTaken) → Unchanged s (after_answer t s fields)
 unchanged_answer s fields Taken = unchanged_twice s (after_acks s fields) _ (unchanged_acks s fields) (unchanged_telling (after_acks s fields) fields)
@@ -78,23 +78,23 @@ released_more rules d v w s fields is now fewer =
       accepted_at = u.accepted_at;
       ticks = u.ticks;
       dropped = u.dropped;
-      gone = u.gone;
+      discard_count = u.discard_count;
       low = omega (arith, fewer, few_released s is.cut, few_released (after_fields rules s fields) now.cut, ap (λ (us : List (List ℕ)). length us) is.tx_buffer.sdus, ap (λ (us : List (List ℕ)). length us) now.tx_buffer.sdus, length-drop (released s) s.accepted, length-drop (released (after_fields rules s fields)) (after_fields rules s fields).accepted, ap (λ (us : List (List ℕ)). length us) u.accepted);
     }
 
 -- a build changes nothing of which ages and discards tell
 build_same : (rules : Rules) (d : ℕ) (v : Outgoing) (s : Sender) (c : Choice) → IsOutgoing rules d v s → HasSameSdus s (after_choice c rules d s)
-build_same rules d v s (Again k) is = record { accepted = refl; accepted_at = refl; ticks = refl; dropped = refl; gone = refl; low = refl }
-build_same rules d v s New is = record { accepted = refl; accepted_at = refl; ticks = refl; dropped = refl; gone = refl; low = released_next d s (low_next rules d v.line s is.line) }
-build_same rules d v s (Last k) is = record { accepted = refl; accepted_at = refl; ticks = refl; dropped = refl; gone = refl; low = refl }
-build_same rules d v s NoPdu is = record { accepted = refl; accepted_at = refl; ticks = refl; dropped = refl; gone = refl; low = refl }
+build_same rules d v s (Again k) is = record { accepted = refl; accepted_at = refl; ticks = refl; dropped = refl; discard_count = refl; low = refl }
+build_same rules d v s New is = record { accepted = refl; accepted_at = refl; ticks = refl; dropped = refl; discard_count = refl; low = released_next d s (low_next rules d v.line s is.line) }
+build_same rules d v s (Last k) is = record { accepted = refl; accepted_at = refl; ticks = refl; dropped = refl; discard_count = refl; low = refl }
+build_same rules d v s NoPdu is = record { accepted = refl; accepted_at = refl; ticks = refl; dropped = refl; discard_count = refl; low = refl }
 
 pub build_stands : (rules : Rules) (d : ℕ) (v : Outgoing) (h : SduDiscard) (s : Sender) → IsOutgoing rules d v s → DiscardStands rules h s → DiscardStands rules h (after_build rules d s)
 build_stands rules d v h s is stands = alike_stands rules h s (after_build rules d s) (build_same rules d v s (choice rules s) is) stands
 
 -- one tick
 pub ticked : (s : Sender) → IsTicked s (timed s)
-ticked s = record { accepted = refl; accepted_at = refl; ticks = refl; dropped = refl; gone = refl; low = refl }
+ticked s = record { accepted = refl; accepted_at = refl; ticks = refl; dropped = refl; discard_count = refl; low = refl }
 
 -- where no unit is discarded by age, its age isn't kept
 pub holds_still : (rules : Rules) (h : SduDiscard) (s : Sender) → rules.discard_age ≡ 0 → DiscardStands rules h s → DiscardStands rules h (timed s)
@@ -175,7 +175,7 @@ moving_stands rules v s out is due size goes = go s.discard refl due
   where
     go : (x : Option Discard) → s.discard ≡ x → mrw_due x ≡ true → Stands rules (record { outgoing = out; sdu_discard = v.sdu_discard; rules = v.rules }) (after_moving rules s x)
     go None e d = absurd (cc)
-    go (Some x) e d = stands_by rules v s (after_mrw rules s x) out v.sdu_discard is size (goes x e) (alike_stands rules v.sdu_discard s (after_mrw rules s x) (record { accepted = refl; accepted_at = refl; ticks = refl; dropped = refl; gone = refl; low = refl }) is.sdu_discard)
+    go (Some x) e d = stands_by rules v s (after_mrw rules s x) out v.sdu_discard is size (goes x e) (alike_stands rules v.sdu_discard s (after_mrw rules s x) (record { accepted = refl; accepted_at = refl; ticks = refl; dropped = refl; discard_count = refl; low = refl }) is.sdu_discard)
 
 pub mrw_by : (s : Sender) (out : List ℕ) → mrw_due s.discard ≡ true → ((x : Discard) → s.discard ≡ Some x → IsMoved out x) → IsMrw out s.discard
 mrw_by s out due is = go s.discard refl due
@@ -184,7 +184,7 @@ mrw_by s out due is = go s.discard refl due
     go None e d = absurd (cc)
     go (Some x) e d = is x e
 
--- the unit that is found
+-- the SDU that is found
 pub found_by : (rules : Rules) (v : Sending) (s : Sender) (l : RetxBuffer) (found : Option Overdue) → Stands rules v s → l ≡ v.outgoing.line → (rules ≡ rules_of rules.buffer v.rules → LineStands rules l s → DiscardStands rules v.sdu_discard s → IsCut s.accepted s.unsent s.bodies → ((i : ℕ) → i < length l.in_flight → HasBody (v.outgoing.size - 2) (at l.in_flight i) (body_at s.bodies (vt_a s + i))) → discards rules s (length s.accepted) ≡ discarded_by found s) → discards rules s (length s.accepted) ≡ discarded_by found s
 found_by rules v s l found is e h = h is.rules_are (subst (λ x. LineStands rules x s) (sym e) is.outgoing.line) is.sdu_discard is.outgoing.cut (subst (λ (x : RetxBuffer). (i : ℕ) → i < length x.in_flight → HasBody (v.outgoing.size - 2) (at x.in_flight i) (body_at s.bodies (vt_a s + i))) (sym e) is.outgoing.in_flight)
 

@@ -1,4 +1,4 @@
--- The unit that is found is held, its PDU is in flight, and its place has four bits.
+-- The SDU that is found is held, its PDU is in flight, and its place has four bits.
 use Rattle.std.proofs.Common.{◌≡◌, ◌+◌, ◌<◌, ◌≤◌, ℕ, zero, suc, List, [], ◌∷◌, true, ◌&&◌, ◌||◌, length, arith}
 use Rattle.std.specs.Prelude.{◌==◌, IfSome, Option, nat_le, nat_lt}
 use Rattle.std.proofs.lemmas.Bool.{and_parts, cond_both, leb-true, ltb-true}
@@ -8,20 +8,20 @@ use Rattle.dch_retx.specs.Flights.{ends_in}
 use Rattle.dch_amsend.specs.SduDiscard.{SduDiscard}
 use Rattle.dch_amsend.specs.declared.scan.Overdue.{Overdue}
 use Rattle.dch_amsend.specs.declared.scan.Scan.{Scan}
-use Rattle.dch_amsend.specs.Scanning.{after_pdu, after_pdus, can_discard, is_often, is_old, last_in, mark_of, no_scan, overdue}
+use Rattle.dch_amsend.specs.Scanning.{after_pdu, after_pdus, can_discard, indicator_of, is_often, is_old, last_in, no_scan, overdue}
 
 -- these bounds, where so many PDUs are in flight
 abbrev pub IsWithin : SduDiscard → ℕ → Overdue → Type 0
-IsWithin h flying o = (o.place < flying) × (o.unit < length h.ages) × (o.mark < 16) × (h.passed ≤ o.unit)
+IsWithin h flying o = (o.place < flying) × (o.sdu < length h.ages) × (o.indicator < 16) × (h.passed ≤ o.sdu)
 
--- what a unit that can be discarded keeps
-one_within : (rules : AmRules) (h : SduDiscard) (place flying : ℕ) (f : SentPdu) (scan : Scan) (j : ℕ) → place < flying → can_discard rules h f scan j ≡ true → IsWithin h flying (record { unit = scan.unit + j; place = place; mark = mark_of f j })
+-- what an SDU that can be discarded keeps
+one_within : (rules : AmRules) (h : SduDiscard) (place flying : ℕ) (f : SentPdu) (scan : Scan) (j : ℕ) → place < flying → can_discard rules h f scan j ≡ true → IsWithin h flying (record { sdu = scan.sdu + j; place = place; indicator = indicator_of f j })
 one_within rules h place flying f scan j l e =
-    let a = and_parts (nat_lt (scan.unit + j) (length h.ages) && nat_le (mark_of f j) 15 && nat_le h.passed (scan.unit + j)) (is_old rules h (scan.unit + j) || (is_often rules f || ((j == 0) && scan.begun))) e in
-    let b = and_parts (nat_lt (scan.unit + j) (length h.ages) && nat_le (mark_of f j) 15) (nat_le h.passed (scan.unit + j)) a.0 in
-    let d = and_parts (nat_lt (scan.unit + j) (length h.ages)) (nat_le (mark_of f j) 15) b.0 in
-    let small : mark_of f j ≤ 15 = leb-true (mark_of f j) 15 d.1 in
-    (l, ltb-true (scan.unit + j) (length h.ages) d.0, omega (arith, small), leb-true h.passed (scan.unit + j) b.1)
+    let a = and_parts (nat_lt (scan.sdu + j) (length h.ages) && nat_le (indicator_of f j) 15 && nat_le h.passed (scan.sdu + j)) (is_old rules h (scan.sdu + j) || (is_often rules f || ((j == 0) && scan.begun))) e in
+    let b = and_parts (nat_lt (scan.sdu + j) (length h.ages) && nat_le (indicator_of f j) 15) (nat_le h.passed (scan.sdu + j)) a.0 in
+    let d = and_parts (nat_lt (scan.sdu + j) (length h.ages)) (nat_le (indicator_of f j) 15) b.0 in
+    let small : indicator_of f j ≤ 15 = leb-true (indicator_of f j) 15 d.1 in
+    (l, ltb-true (scan.sdu + j) (length h.ages) d.0, omega (arith, small), leb-true h.passed (scan.sdu + j) b.1)
 
 -- so does the last of a PDU
 last_within : (rules : AmRules) (h : SduDiscard) (place flying : ℕ) (f : SentPdu) (scan : Scan) (n : ℕ) → place < flying → IfSome scan.found (IsWithin h flying) → IfSome (last_in rules h place f scan n) (IsWithin h flying)

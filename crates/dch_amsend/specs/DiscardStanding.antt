@@ -24,7 +24,7 @@ pub record AreReleased (sdus : ℕ) (s now : Sender) : Type 0 where
   pub accepted_at : now.accepted_at ≡ s.accepted_at
   pub ticks : now.ticks ≡ s.ticks
   pub dropped : now.dropped ≡ s.dropped
-  pub gone : discarded now ≡ discarded s
+  pub discard_count : discarded now ≡ discarded s
   pub low : released now ≡ released s + sdus
 
 -- one tick has come
@@ -33,7 +33,7 @@ pub record IsTicked (s now : Sender) : Type 0 where
   pub accepted_at : now.accepted_at ≡ s.accepted_at
   pub ticks : now.ticks ≡ s.ticks + 1
   pub dropped : now.dropped ≡ s.dropped
-  pub gone : discarded now ≡ discarded s
+  pub discard_count : discarded now ≡ discarded s
   pub low : released now ≡ released s
 
 -- no_sdu_held changed of which ages and discards tell
@@ -42,5 +42,5 @@ pub record HasSameSdus (s now : Sender) : Type 0 where
   pub accepted_at : now.accepted_at ≡ s.accepted_at
   pub ticks : now.ticks ≡ s.ticks
   pub dropped : now.dropped ≡ s.dropped
-  pub gone : discarded now ≡ discarded s
+  pub discard_count : discarded now ≡ discarded s
   pub low : released now ≡ released s

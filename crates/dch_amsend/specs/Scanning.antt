@@ -1,4 +1,4 @@
--- Which unit is discarded at a tick (TS 25.322 9.7.3), by one pass over the PDUs in flight: the units that end in them, one after another.
+-- Which SDU is discarded at a tick (TS 25.322 9.7.3), by one pass over the PDUs in flight: the SDUs that end in them, one after another.
 use Rattle.std.specs.Prelude.{◌+◌, ℕ, zero, suc, List, [], ◌∷◌, Bool, false, ◌&&◌, ◌||◌, length, nat_lt, nat_le, ◌==◌, if◌then◌else◌, Option, Some, None}
 use Rattle.dch_types.specs.declared.bearer.AmRules.{AmRules}
 use Rattle.dch_retx.specs.declared.sent_pdu.SentPdu.{SentPdu}
@@ -11,31 +11,31 @@ use Rattle.dch_amsend.specs.declared.scan.Scan.{Scan}
 abbrev pub is_often : AmRules → SentPdu → Bool
 is_often rules f = nat_lt 0 rules.discard_sent && f.requested && nat_le rules.discard_sent f.builds
 
--- a unit is old enough
+-- an SDU is old enough
 abbrev pub is_old : AmRules → SduDiscard → ℕ → Bool
-is_old rules h unit = nat_lt 0 rules.discard_age && nat_le rules.discard_age (age_at h unit)
+is_old rules h sdu = nat_lt 0 rules.discard_age && nat_le rules.discard_age (age_at h sdu)
 
--- the place of the end mark of the unit that ends in a PDU behind j others
-abbrev pub mark_of : SentPdu → ℕ → ℕ
-mark_of f j = if f.full && (j == 0) then 0 else j + 1
+-- the place of the length indicator of the SDU that ends in a PDU behind j others
+abbrev pub indicator_of : SentPdu → ℕ → ℕ
+indicator_of f j = if f.full && (j == 0) then 0 else j + 1
 
--- that unit can be discarded: it is held and was not discarded yet, and its place has four bits
+-- that SDU can be discarded: it is held and was not discarded yet, and its place has four bits
 abbrev pub can_discard : AmRules → SduDiscard → SentPdu → Scan → ℕ → Bool
 can_discard rules h f scan j =
-    nat_lt (scan.unit + j) (length h.ages) && nat_le (mark_of f j) 15 && nat_le h.passed (scan.unit + j)
-    && (is_old rules h (scan.unit + j) || (is_often rules f || ((j == 0) && scan.begun)))
+    nat_lt (scan.sdu + j) (length h.ages) && nat_le (indicator_of f j) 15 && nat_le h.passed (scan.sdu + j)
+    && (is_old rules h (scan.sdu + j) || (is_often rules f || ((j == 0) && scan.begun)))
 
 -- the last that can be, up to the first so many that end in a PDU
 abbrev pub last_in : AmRules → SduDiscard → ℕ → SentPdu → Scan → ℕ → Option Overdue
 last_in rules h place f scan zero = scan.found
 last_in rules h place f scan (suc j) =
-    if can_discard rules h f scan j then Some (record { unit = scan.unit + j; place = place; mark = mark_of f j })
+    if can_discard rules h f scan j then Some (record { sdu = scan.sdu + j; place = place; indicator = indicator_of f j })
     else last_in rules h place f scan j
 
--- after one more PDU. A unit that began before goes on where none ends
+-- after one more PDU. An SDU that began before goes on where none ends
 abbrev pub after_pdu : AmRules → SduDiscard → ℕ → SentPdu → Scan → Scan
 after_pdu rules h place f scan = record {
-  unit = scan.unit + (ends_in f);
+  sdu = scan.sdu + (ends_in f);
   begun = (is_often rules f && (continues_in f)) || (((ends_in f) == 0) && scan.begun);
   found = last_in rules h place f scan (ends_in f);
 }
@@ -45,7 +45,7 @@ abbrev pub after_pdus : AmRules → SduDiscard → ℕ → List SentPdu → Scan
 after_pdus rules h place [] scan = scan
 after_pdus rules h place (f ∷ in_flight) scan = after_pdus rules h (place + 1) in_flight (after_pdu rules h place f scan)
 
--- how many units end in so many PDUs in front
+-- how many SDUs end in so many PDUs in front
 abbrev pub ends_below : ℕ → List SentPdu → ℕ
 ends_below zero in_flight = 0
 ends_below (suc n) [] = 0
@@ -53,8 +53,8 @@ ends_below (suc n) (f ∷ in_flight) = ends_in f + ends_below n in_flight
 
 -- before the first
 abbrev pub no_scan : Scan
-no_scan = record { unit = 0; begun = false; found = None }
+no_scan = record { sdu = 0; begun = false; found = None }
 
--- the last unit that can be discarded
+-- the last SDU that can be discarded
 abbrev pub overdue : AmRules → SduDiscard → List SentPdu → Option Overdue
 overdue rules h in_flight = (after_pdus rules h 0 in_flight no_scan).found

@@ -1,13 +1,13 @@
 -- SDUs that wait or are in flight, by their places (TS 25.322 9.4, 11.3.2).
-use Rattle.std.specs.Prelude.{◌+◌, ◌-◌, ◌%◌, ◌<◌, ◌≤◌, ◌++◌, ◌||◌, ℕ, List, [], ◌∷◌, Bool, false, Option, None, Some, drop, length, nat_le, nat_lt, if◌then◌else◌}
+use Rattle.std.specs.Prelude.{◌≡◌, ◌+◌, ◌-◌, ◌%◌, ◌<◌, ◌≤◌, ◌++◌, ◌||◌, ℕ, List, [], ◌∷◌, Bool, false, Option, None, Some, drop, length, nat_le, nat_lt, if◌then◌else◌}
 use Rattle.circular_buffer.specs.Buffer.{Buffer}
 use Rattle.dch_bits.specs.declared.offer.Offer.{Offer}
 use Rattle.dch_bits.specs.declared.offer.Offer.TheVariants.{Accepted, Full, WrongSize}
-use Rattle.dch_am.specs.Bodies.{Body, Unsent, is_empty, room_for}
+use Rattle.dch_am.specs.Bodies.{Body, TxQueue, is_empty, room_for}
 use Rattle.dch_am.specs.Short.{IsShort}
 use Rattle.dch_txbuf.specs.declared.taken.Cut.{Cut}
 use Rattle.dch_txbuf.specs.declared.taken.Start.{Start}
-use Rattle.dch_txbuf.specs.Cuts.{IsStart, IsThere, body_of, cut_of, left_at, next_start}
+use Rattle.dch_txbuf.specs.Cuts.{IsStart, IsThere, body_of, cut_of, has_padding, left_at, next_start}
 use Rattle.dch_retx.specs.declared.sent_pdu.Extent.{Extent}
 use Rattle.dch_retx.specs.declared.sent_pdu.SentPdu.{SentPdu}
 use Rattle.dch_retx.specs.Flights.{sent_once}
@@ -21,7 +21,7 @@ pub record TxBuffer : Type 0 where
   pub blocks : ℕ
   pub start : Start
   pub owed : Bool
-  pub gone : ℕ
+  pub freed : ℕ
   pub size : ℕ
 
 -- at the first SDU
@@ -30,13 +30,13 @@ no_start = record { sdu = 0; used = 0 }
 
 -- no SDU
 abbrev pub empty_buffer : ℕ → ℕ → TxBuffer
-empty_buffer blocks size = record { sdus = []; blocks = blocks; start = no_start; owed = false; gone = 0; size = size }
+empty_buffer blocks size = record { sdus = []; blocks = blocks; start = no_start; owed = false; freed = 0; size = size }
 
 -- what is unsent from a place on
-abbrev pub unsent_at : Start → Bool → List (List ℕ) → Unsent
+abbrev pub unsent_at : Start → Bool → List (List ℕ) → TxQueue
 unsent_at start owed sdus = record { owed = owed; units = left_at start sdus }
 
-abbrev pub unsent_of : TxBuffer → Unsent
+abbrev pub unsent_of : TxBuffer → TxQueue
 unsent_of w = unsent_at w.start w.owed w.sdus
 
 -- what an offer is answered: a wrong size comes before want of room
@@ -57,27 +57,28 @@ buffer_after_build w = record w { start = next_start w.start (cut_next w); owed 
 
 -- where its octets stand, and what is kept of it
 abbrev pub next_extent : TxBuffer → Extent
-next_extent w = record { sdu = (w.gone + w.start.sdu) % 65536; used = w.start.used; pieces = (cut_next w).pieces; rest = (cut_next w).rest }
+next_extent w = record { sdu = (w.freed + w.start.sdu) % 65536; used = w.start.used; pieces = (cut_next w).pieces; rest = (cut_next w).rest }
 
 abbrev pub next_in_flight : TxBuffer → SentPdu
-next_in_flight w = sent_once (next_extent w) w.owed
+next_in_flight w = sent_once (next_extent w) w.owed (cut_next w).padded
 
--- where the octets of a PDU in flight begin, and what it takes from there
+-- where the octets of a PDU in flight begin, and what it takes from there, with padding behind or without
 abbrev pub start_in : TxBuffer → Extent → Start
-start_in w x = record { sdu = (x.sdu + (65536 - w.gone)) % 65536; used = x.used }
+start_in w x = record { sdu = (x.sdu + (65536 - w.freed)) % 65536; used = x.used }
 
-abbrev pub taken_by : Extent → Cut
-taken_by x = record { pieces = x.pieces; rest = x.rest; owed = false }
+abbrev pub taken_by : Extent → Bool → Cut
+taken_by x padded = record { pieces = x.pieces; rest = x.rest; owed = false; padded = padded }
 
 -- the body of such a PDU
 abbrev pub body_in : TxBuffer → SentPdu → Body
-body_in w f = body_of f.full (taken_by f.extent) (left_at (start_in w f.extent) w.sdus)
+body_in w f = body_of f.full (taken_by f.extent f.padded) (left_at (start_in w f.extent) w.sdus)
 
--- its octets are in the buffer, and its length indicators find room with them
+-- its octets are in the buffer, its length indicators find room with them, and that of padding is told where octets are left
 pub record IsHere (w : TxBuffer) (f : SentPdu) : Type 0 where
   pub start : IsStart w.sdus (start_in w f.extent)
-  pub there : IsThere (taken_by f.extent) (left_at (start_in w f.extent) w.sdus)
+  pub there : IsThere (taken_by f.extent f.padded) (left_at (start_in w f.extent) w.sdus)
   pub short : IsShort (w.size - 2) (body_in w f)
+  pub padded : f.padded ≡ has_padding (w.size - 2) (body_in w f)
 
 -- how many SDUs end before this PDU, or without one in the PDUs that were built
 abbrev pub ended_before : Option SentPdu → TxBuffer → ℕ
@@ -86,7 +87,7 @@ ended_before (Some f) w = (start_in w f.extent).sdu - (if f.full then 1 else 0)
 
 -- so many leave
 abbrev pub released_by : ℕ → TxBuffer → TxBuffer
-released_by n w = record w { sdus = drop n w.sdus; start = record { sdu = w.start.sdu - n; used = w.start.used }; gone = (w.gone + n) % 65536 }
+released_by n w = record w { sdus = drop n w.sdus; start = record { sdu = w.start.sdu - n; used = w.start.used }; freed = (w.freed + n) % 65536 }
 
 -- how many SDUs have an octet in a PDU that was built
 abbrev pub begun_in : TxBuffer → ℕ
@@ -94,11 +95,11 @@ begun_in w = w.start.sdu + (if nat_lt 0 w.start.used then 1 else 0)
 
 -- they leave, and the numbers begin anew
 abbrev pub restarted_buffer : TxBuffer → TxBuffer
-restarted_buffer w = record w { sdus = drop (begun_in w) w.sdus; start = no_start; owed = false; gone = 0 }
+restarted_buffer w = record w { sdus = drop (begun_in w) w.sdus; start = no_start; owed = false; freed = 0 }
 
 -- what is kept fits together
-pub record IsBuffer (sdus : Buffer (List ℕ)) (start : Start) (gone size : ℕ) : Type 0 where
+pub record IsBuffer (sdus : Buffer (List ℕ)) (start : Start) (freed size : ℕ) : Type 0 where
   pub start_is : IsStart sdus.items start
   pub from : 6 ≤ size
   pub most : size ≤ 126
-  pub small : gone < 65536
+  pub small : freed < 65536

@@ -74,9 +74,9 @@ impl Ages {
     pub fn truncate_front(&mut self, len: usize)
         ensures { self.new ≡ buffer (drop (length self.old.items - len) self.old.items) self.old.capacity }
     {
-        let gone = self.kept.len().saturating_sub(len);
+        let excess = self.kept.len().saturating_sub(len);
         self.kept.truncate_front(len);
-        self.oldest = self.oldest.saturating_sub(gone);
+        self.oldest = self.oldest.saturating_sub(excess);
     }
 
     /// All are one tick older.

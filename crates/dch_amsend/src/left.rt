@@ -6,6 +6,9 @@ ghost use Rattle.dch_amsend.specs.TxBuffer.{unsent_at};
 
 use dch_txbuf::{SduBuffer, Start, next_cut, next_start};
 
+/// The most PDUs that an entity offers to build one after another.
+pub const MOST_PDUS: u16 = 64;
+
 /// Something is left to be sent from a place on.
 pub fn is_left_at(sdus: &SduBuffer, start: &Start, owed: bool) -> bool
     requires { IsStart sdus.now.items start.now }
@@ -32,7 +35,7 @@ pub fn count_pdus(sdus: &SduBuffer, first: Start, first_owed: bool, octets: usiz
 {
     let mut start = first;
     let mut owed = first_owed;
-    for count in 0..64u16 {
+    for count in 0..MOST_PDUS {
         if !is_left_at(sdus, &start, owed) {
             return count;
         }
@@ -40,5 +43,5 @@ pub fn count_pdus(sdus: &SduBuffer, first: Start, first_owed: bool, octets: usiz
         start = next_start(&start, &cut);
         owed = cut.owed;
     }
-    64
+    MOST_PDUS
 }

@@ -22,6 +22,7 @@ ghost use Rattle.dch_amsend.specs.TxBuffer.{unsent_of};
 ghost use Rattle.dch_amsend.specs.Scanning.{ends_below};
 ghost use Rattle.dch_amsend.specs.Outgoing.{IsLast, IsOutgoing, available_of, can_build, HoldsSame, first_in_flight, pdu_in, with_line};
 
+use crate::left::MOST_PDUS;
 use crate::tx_buffer::TxBuffer;
 use dch_am::StatusTaken;
 use dch_bits::{NoMemory, Offer};
@@ -99,7 +100,7 @@ impl Outgoing {
         ensures value { result ≡ available_of self.now }
     {
         let room = self.line.window() - self.line.len();
-        let requested = self.line.requested(64);
+        let requested = self.line.requested(MOST_PDUS as usize);
         let fresh = room.min(self.tx_buffer.available() as usize);
         let builds = if requested + fresh > 0 {
             requested + fresh
@@ -108,7 +109,7 @@ impl Outgoing {
         } else {
             0
         };
-        builds.min(64) as u16
+        builds.min(MOST_PDUS as usize) as u16
     }
 
     /// A PDU can be built.

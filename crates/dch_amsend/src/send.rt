@@ -168,8 +168,8 @@ impl AmSend {
         ensures same { IsSame self.old self.new }
     {
         if let Some(found) = overdue(&self.outgoing, &self.discard, &self.rules) {
-            self.outgoing.discard(found.place, found.mark);
-            self.discard.discard(found.unit as usize + 1);
+            self.outgoing.discard(found.place, found.indicator);
+            self.discard.discard(found.sdu as usize + 1);
         }
     }
 

@@ -14,7 +14,7 @@ ghost use Rattle.dch_amsend.specs.TxBuffer.{buffer_after_offer};
 use crate::left::{count_pdus, is_left_at, room_for};
 use dch_bits::{NoMemory, Offer};
 use dch_retx::{Extent, SentPdu};
-use dch_txbuf::{Cut, Header, SduBuffer, Start, next_cut, next_start, write_taken};
+use dch_txbuf::{Cut, Header, LONGEST_SDU, SduBuffer, Start, next_cut, next_start, write_taken};
 use std::alloc::Global;
 use std::marker::Model;
 
@@ -24,7 +24,7 @@ pub struct TxBuffer {
     sdus: SduBuffer,
     start: Start,
     owed: bool,
-    gone: u16,
+    freed: u16,
     size: usize,
 }
 
@@ -33,9 +33,9 @@ impl Model for TxBuffer {
 
     ghost Value = { TxBuffer };
 
-    ghost view = { λ u. record { sdus = u.sdus.items; blocks = u.sdus.capacity; start = u.start; owed = u.owed; gone = u.gone; size = u.size } };
+    ghost view = { λ u. record { sdus = u.sdus.items; blocks = u.sdus.capacity; start = u.start; owed = u.owed; freed = u.freed; size = u.size } };
 
-    ghost invariant = { λ u. IsBuffer u.sdus u.start u.gone u.size };
+    ghost invariant = { λ u. IsBuffer u.sdus u.start u.freed u.size };
 }
 
 impl TxBuffer {
@@ -51,7 +51,7 @@ impl TxBuffer {
             sdus,
             start: Start { sdu: 0, used: 0 },
             owed: false,
-            gone: 0,
+            freed: 0,
             size: pdu,
         })
     }
@@ -70,7 +70,7 @@ impl TxBuffer {
         ensures answer { result ≡ answer_of sdu.now self.old }
         ensures after { self.new ≡ buffer_after_offer result sdu.now self.old }
     {
-        if sdu.is_empty() || sdu.len() > 1500 {
+        if sdu.is_empty() || sdu.len() > LONGEST_SDU {
             return Offer::WrongSize;
         }
         if !self.sdus.has_room(sdu.len()) {
@@ -121,12 +121,12 @@ impl TxBuffer {
     {
         let cut = next_cut(&self.sdus, &self.start, room_for(self.size - 2, self.owed));
         let extent = Extent {
-            sdu: self.gone.wrapping_add(self.start.sdu),
+            sdu: self.freed.wrapping_add(self.start.sdu),
             used: self.start.used,
             pieces: cut.pieces,
             rest: cut.rest,
         };
-        let pdu = SentPdu::new(extent, self.owed);
+        let pdu = SentPdu::new(extent, self.owed, cut.padded);
         self.start = next_start(&self.start, &cut);
         self.owed = cut.owed;
         pdu
@@ -140,13 +140,14 @@ impl TxBuffer {
         ensures { out.new ≡ am_pdu number poll (marks_of (self.now.size - 2) (body_in self.now pdu.now)) (carried (body_in self.now pdu.now)) self.now.size }
     {
         let start = Start {
-            sdu: pdu.extent.sdu.wrapping_sub(self.gone),
+            sdu: pdu.extent.sdu.wrapping_sub(self.freed),
             used: pdu.extent.used,
         };
         let cut = Cut {
             pieces: pdu.extent.pieces,
             rest: pdu.extent.rest,
             owed: false,
+            padded: pdu.padded,
         };
         let header = Header {
             number,
@@ -167,7 +168,7 @@ impl TxBuffer {
     pub fn ended_before(&self, pdu: &SentPdu) -> u16
         ensures { result ≡ ended_before (Some pdu.now) self.now }
     {
-        let sdu = pdu.extent.sdu.wrapping_sub(self.gone);
+        let sdu = pdu.extent.sdu.wrapping_sub(self.freed);
         sdu.saturating_sub(u16::from(pdu.full))
     }
 
@@ -182,7 +183,7 @@ impl TxBuffer {
         };
         self.sdus.release(count as usize);
         self.start.sdu -= count;
-        self.gone = self.gone.wrapping_add(count);
+        self.freed = self.freed.wrapping_add(count);
     }
 
     /// Begins anew with the SDUs of which no octet was built. Answers how many they are.
@@ -203,7 +204,7 @@ impl TxBuffer {
         self.sdus.release(begun);
         self.start = Start { sdu: 0, used: 0 };
         self.owed = false;
-        self.gone = 0;
+        self.freed = 0;
         self.sdus.len()
     }
 }

@@ -162,9 +162,9 @@ fn run(alloc: Global, buffer: u16, rules: AmRules, steps: &[Step]) -> bool
 {
     match AmSend::open(alloc, 18, buffer, rules) {
         Ok(mut sender) => {
-            let gone = all_go(&mut sender, steps);
+            let sent = all_go(&mut sender, steps);
             sender.close();
-            gone
+            sent
         }
         Err(NoMemory) => false,
     }

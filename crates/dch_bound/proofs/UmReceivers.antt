@@ -25,7 +25,7 @@ part_take (suc n) [] = omega arith
 part_take (suc n) (x ∷ xs) = omega (arith, length-take n xs)
 
 held_added : (p : List ℕ) (r : Receiving) → held (added p r) ≤ held r + 9 * length p
-held_added p r = cond_both {A = Receiving} r.known (record { expected = r.expected; known = true; part = take 1501 (r.part ++ p); waiting = r.waiting }) r (λ q. held q ≤ held r + 9 * length p)
+held_added p r = cond_both {A = Receiving} r.known (record { vr_us = r.vr_us; known = true; part = take 1501 (r.part ++ p); waiting = r.waiting }) r (λ q. held q ≤ held r + 9 * length p)
     (λ _. omega (arith, part_take 1501 (r.part ++ p), part_more r.part p))
     (λ _. omega arith)
 
@@ -38,7 +38,7 @@ held_ended : (r : Receiving) → held (ended r) ≤ held r + 6
 held_ended r = omega (arith, ended_by r.known r.part r.waiting)
 
 held_numbered : (sn : ℕ) (r : Receiving) → held (after_number sn r) ≤ held r
-held_numbered sn r = cond_both {A = Receiving} (sn == r.expected) r (dropped false r) (λ q. held q ≤ held r) (λ _. omega arith) (λ _. omega arith)
+held_numbered sn r = cond_both {A = Receiving} (sn == r.vr_us) r (dropped false r) (λ q. held q ≤ held r) (λ _. omega arith) (λ _. omega arith)
 
 held_first : (marks : List ℕ) (r : Receiving) → held (after_first marks r) ≤ held r + 6 * leading marks
 held_first marks r = go (begins_with 0 marks) (begins_with 124 marks)

@@ -46,14 +46,14 @@ built_at rules first now p at same is = at_after rules first now p.near.entity (
 
 -- after a build of which nothing arrives
 pub meets_none : (rules : Rules) (first now second : Peer) (p : Pair) (is_kept result : Bool) → AreRunning rules first second p → AreSame first now → result ≡ writes (turn rules p.near.entity.sender p.near.entity.receiver) → IsPeer rules now nothing_earlier (step rules (size_of first) p.near.entity Builds) → ((result ≡ true) → is_kept ≡ false) → AreRunning rules now second (landed rules is_kept (builds_one rules p))
-meets_none rules first now second p is_kept result is same wrote peer gone = go (built rules p.near) result refl refl
+meets_none rules first now second p is_kept result is same wrote peer unmet = go (built rules p.near) result refl refl
   where
     at : IsAt rules now (step rules p.near.octets p.near.entity Builds) p.near.octets p.far.octets
     at = built_at rules first now p is.near same peer
 
     go : (b : Option Block) (w : Bool) → built rules p.near ≡ b → result ≡ w → AreRunning rules now second (landed rules is_kept (sending rules p b))
     go None w e f = still rules now second (sending rules p None) is_kept (record { near = at; far = is.far; out = is.out; back = is.back })
-    go (Some b) true e f = subst (λ x. AreRunning rules now second (landed rules x (sending rules p (Some b)))) (sym (gone f)) (lost rules now second (sending rules p (Some b)) b (ap (λ l. l ++ b ∷ []) is.out) is.back at is.far)
+    go (Some b) true e f = subst (λ x. AreRunning rules now second (landed rules x (sending rules p (Some b)))) (sym (unmet f)) (lost rules now second (sending rules p (Some b)) b (ap (λ l. l ++ b ∷ []) is.out) is.back at is.far)
     go (Some b) false e f =
         let none : built rules p.near ≡ None = none_sent (turn rules p.near.entity.sender p.near.entity.receiver) rules p.near (sym f ∙ wrote) in
         absurd (cc)

@@ -12,6 +12,7 @@ use crate::store::Store;
 use dch_amentity::AmEntity;
 use dch_bits::{NoMemory, Offer};
 use dch_rlcpdu::{Handed, read_am};
+use dch_txbuf::LONGEST_SDU;
 use dch_types::AmRules;
 use std::alloc::Global;
 use std::marker::Model;
@@ -155,7 +156,7 @@ fn hand_up(entity: &mut AmEntity, units: &mut Store) -> Result<(), NoMemory>
     ensures sizes { AreSizes entity.old entity.new }
     ensures history { (rules : Rules) (e : Entity) → Represents rules entity.old e → Represents rules entity.new (all_handed e) }
 {
-    let mut room = [0; 1500];
+    let mut room = [0; LONGEST_SDU];
     let mut stored = Ok(());
     while !entity.settled() {
         let now = hand_one(entity, units, &mut room);

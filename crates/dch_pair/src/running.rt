@@ -10,6 +10,9 @@ use dch_bits::NoMemory;
 use std::alloc::Global;
 use std::marker::Model;
 
+/// The most octets of a PDU.
+const LONGEST_PDU: usize = 126;
+
 /// Two entities, of which each takes the PDUs of the other.
 #[derive(Drop)]
 pub struct Running {
@@ -112,7 +115,7 @@ fn build(near: &mut Peer, far: &mut Peer, arrives: bool) -> Result<(), NoMemory>
     ensures history { IfOk result (λ _. (rules : Rules) (p : Pair) → AreRunning rules near.old far.old p →
         AreRunning rules near.new far.new (after rules p (Near Build ∷ Far (fate arrives) ∷ []))) }
 {
-    let mut room = [0; 126];
+    let mut room = [0; LONGEST_PDU];
     let out = &mut room[..near.size()];
     if near.build(out) && arrives {
         return far.receive(out);

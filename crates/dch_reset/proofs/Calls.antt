@@ -70,13 +70,13 @@ pub record IsBuilt (rules : Rules) (e : ResetEnd) (b : Built) (t : ResetTurn) : 
   pub state : state_of b.after ≡ after_turn t rules e.sides.octets (state_of e)
   pub some : is_some b.sent ≡ writes t
 
-reset_built : (rules : Rules) (e : ResetEnd) (p : Pending) (t : Bool) → e.pending ≡ Some p → IsBuilt rules e (cond t (record { after = record e { pending = Some (record p { timer = 30 }) }; sent = Some (ResetPdu p.rsn (hfni_of e.restarts)) }) (record { after = e; sent = None })) (cond t Asks Waits)
+reset_built : (rules : Rules) (e : ResetEnd) (p : Pending) (t : Bool) → e.pending ≡ Some p → IsBuilt rules e (cond t (record { after = record e { pending = Some (record p { rst_timer = 30 }) }; sent = Some (ResetPdu p.rsn (hfni_of e.restarts)) }) (record { after = e; sent = None })) (cond t Asks Waits)
 reset_built rules e p true s = record { state = ap (λ x. record (state_of e) { pending = asked_again x }) (sym s); some = refl }
 reset_built rules e p false s = record { state = refl; some = refl }
 
 pub built_is : (rules : Rules) (e : ResetEnd) (owes : Bool) (q : Option Pending) → e.pending ≡ q → IsBuilt rules e (builds_by rules e owes q) (turn_by rules e.sides.entity owes q)
 built_is rules e true q s = record { state = refl; some = refl }
-built_is rules e false (Some p) s = reset_built rules e p (p.timer == 0) s
+built_is rules e false (Some p) s = reset_built rules e p (p.rst_timer == 0) s
 built_is rules e false None s = record {
   state = refl;
   some = some_labelled e.restarts (built rules e.sides) ∙ some_block (entity_turn rules e.sides.entity.sender e.sides.entity.receiver) rules e.sides refl;

@@ -19,7 +19,7 @@ pub record Running : Type 0 where
 -- the reset that it has begun
 abbrev pub pending_of : Option Waiting → Option Pending
 pending_of None = None
-pending_of (Some p) = Some (record { rsn = p.rsn; timer = p.timer })
+pending_of (Some p) = Some (record { rsn = p.rsn; rst_timer = p.rst_timer })
 
 -- the octets of the PDUs that it writes, and of those that come
 abbrev pub size_of : Running → ℕ
@@ -39,7 +39,7 @@ is_settled v = is_drained v.entity
 -- there is something to build
 abbrev pub due_by : RunningEntity → Bool → Option Pending → Bool
 due_by entity true pending = true
-due_by entity false (Some p) = p.timer == 0
+due_by entity false (Some p) = p.rst_timer == 0
 due_by entity false None = is_entity_due entity
 
 abbrev pub is_due : Running → Bool

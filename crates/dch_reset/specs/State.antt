@@ -30,7 +30,7 @@ pub data Turn : Type 0 where
 -- a RESET ACK goes first. An end that is pending writes nothing else but its RESET
 abbrev pub turn_by : Rules → Entity → Bool → Option Pending → Turn
 turn_by rules e true pending = Answers
-turn_by rules e false (Some p) = if p.timer == 0 then Asks else Waits
+turn_by rules e false (Some p) = if p.rst_timer == 0 then Asks else Waits
 turn_by rules e false None = Works (entity_turn rules e.sender e.receiver)
 
 abbrev pub turn : Rules → State → Turn
@@ -65,7 +65,7 @@ IsTold Waits size out e = Unit {0}
 -- a RESET that was written is due again after 30 ticks
 abbrev pub asked_again : Option Pending → Option Pending
 asked_again None = None
-asked_again (Some p) = Some (record p { timer = 30 })
+asked_again (Some p) = Some (record p { rst_timer = 30 })
 
 -- an end after an event of its entity
 abbrev pub stepped : Rules → ℕ → State → EntityEvent → State
@@ -80,7 +80,7 @@ after_turn Waits rules size e = e
 
 -- an end that isn't pending becomes so, with the other RSN each time
 abbrev pub reset_by : State → Option Pending → State
-reset_by e None = record e { pending = Some (record { rsn = e.next_rsn; timer = 0 }); next_rsn = not e.next_rsn }
+reset_by e None = record e { pending = Some (record { rsn = e.next_rsn; rst_timer = 0 }); next_rsn = not e.next_rsn }
 reset_by e (Some p) = e
 
 -- both sides begin anew

@@ -120,7 +120,7 @@ impl ResetEnd {
         if self.pending.is_none() {
             self.pending = Some(Pending {
                 rsn: self.next_rsn,
-                timer: 0,
+                rst_timer: 0,
             });
             self.next_rsn = !self.next_rsn;
         }
@@ -150,7 +150,7 @@ impl ResetEnd {
             return true;
         }
         match self.pending {
-            Some(pending) => pending.timer == 0,
+            Some(pending) => pending.rst_timer == 0,
             None => self.entity.is_due(),
         }
     }
@@ -177,7 +177,7 @@ impl ResetEnd {
                 write_reset(false, pending.rsn, self.hfni, out);
                 self.pending = Some(Pending {
                     rsn: pending.rsn,
-                    timer: REPEAT,
+                    rst_timer: REPEAT,
                 });
             }
             None => {
@@ -232,7 +232,7 @@ impl ResetEnd {
         if let Some(pending) = self.pending {
             self.pending = Some(Pending {
                 rsn: pending.rsn,
-                timer: pending.timer.saturating_sub(1),
+                rst_timer: pending.rst_timer.saturating_sub(1),
             });
         }
     }

@@ -10,7 +10,7 @@ pub const REPEAT: u8 = 30;
 pub struct Pending {
     pub rsn: bool,
     /// Ticks until the RESET is due, 0 where it is due.
-    pub timer: u8,
+    pub rst_timer: u8,
 }
 
 /// The last RESET that came has this RSN.

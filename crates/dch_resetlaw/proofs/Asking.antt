@@ -36,9 +36,9 @@ Asks (Some p) next h None out back = Asking p.rsn next h out back
 Asks (Some p) next h (Some r) out back = Answered p.rsn r next h out back
 
 -- the same but for ticks
-pub asks_tick : (r t : Bool) (timer now : ℕ) (next : Bool) (h a : Option Bool) (out back : List Sent) → Asks (Some (record { rsn = r; timer = timer })) next h a out back → Asks (Some (record { rsn = r; timer = now })) next h a out back
-asks_tick r t timer now next h None out back f = f
-asks_tick r t timer now next h (Some x) out back f = f
+pub asks_tick : (r t : Bool) (rst_timer now : ℕ) (next : Bool) (h a : Option Bool) (out back : List Sent) → Asks (Some (record { rsn = r; rst_timer = rst_timer })) next h a out back → Asks (Some (record { rsn = r; rst_timer = now })) next h a out back
+asks_tick r t rst_timer now next h None out back f = f
+asks_tick r t rst_timer now next h (Some x) out back f = f
 
 -- It builds a RESET, an answer to the other end, or data.
 pub asks_reset : (p : Pending) (next : Bool) (h a : Option Bool) (out back : List Sent) (c : ℕ) → Asks (Some p) next h a out back → Asks (Some p) next h a (out ++ ResetPdu p.rsn c ∷ []) back
@@ -93,7 +93,7 @@ asked_rest (Some p) next h None f out back g = record { next_is = g.next_is; fre
 asked_rest (Some p) next h (Some r) f out back g = record { same = g.same; next_is = g.next_is; heard = g.heard; resets = g.resets; still = g.still; acks = acks_end_rest r f back g.acks }
 
 -- It becomes pending.
-pub asks_begins : (next : Bool) (h a : Option Bool) (out back : List Sent) → Asks None next h a out back → (a ≡ None) × Asks (Some (record { rsn = next; timer = 0 })) (not next) h None out back
+pub asks_begins : (next : Bool) (h a : Option Bool) (out back : List Sent) → Asks None next h a out back → (a ≡ None) × Asks (Some (record { rsn = next; rst_timer = 0 })) (not next) h None out back
 asks_begins next h None out back f = (refl, record { next_is = refl; fresh = f.fresh; resets = heard_ends next h out f.resets; acks = f.acks })
 asks_begins next h (Some r) out back f = absurd f
 

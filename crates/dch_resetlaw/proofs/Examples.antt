@@ -74,7 +74,7 @@ anew = refl
 again : List At
 again = one ++ Near Reset ∷ Near Build ∷ Far Arrive ∷ Far Build ∷ Near Lose ∷ []
 
-second_rsn : (run again).near.pending ≡ Some (record { rsn = true; timer = 30 })
+second_rsn : (run again).near.pending ≡ Some (record { rsn = true; rst_timer = 30 })
 unfolding bearer run again one
 second_rsn = refl
 
@@ -97,7 +97,7 @@ one_taken : (after narrow (opened narrow 24 29) offered_on).far.accepted ≡ six
 unfolding narrow offered_on six ten
 one_taken = refl
 
-waits : (after narrow (opened narrow 24 29) offered_on).far.pending ≡ Some (record { rsn = false; timer = 27 })
+waits : (after narrow (opened narrow 24 29) offered_on).far.pending ≡ Some (record { rsn = false; rst_timer = 27 })
 unfolding narrow offered_on six ten
 waits = refl
 

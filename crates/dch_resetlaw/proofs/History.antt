@@ -177,7 +177,7 @@ kept_offers rules (Some r) b near far out back unit small k = offer_answered rul
 -- A tick.
 asks_ticks : (p : Option Pending) (next : Bool) (h a : Option Bool) (out back : List Sent) → Asks p next h a out back → Asks (ticked p) next h a out back
 asks_ticks None next h a out back f = f
-asks_ticks (Some p) next h a out back f = asks_tick p.rsn p.rsn p.timer (p.timer - 1) next h a out back f
+asks_ticks (Some p) next h a out back f = asks_tick p.rsn p.rsn p.rst_timer (p.rst_timer - 1) next h a out back f
 
 kept_ticks : (rules : Rules) (a b : Option Bool) (near far : ResetEnd) (out back : List Sent) → rules.window ≤ 2048 → Kept rules a b near far out back → Kept rules a b (ticks rules near) far out back
 kept_ticks rules None b near far out back small k = record {
@@ -276,9 +276,9 @@ kept_builds_ack rules a b near far out back e k = record {
   far_counted = k.far_counted;
 }
 
-kept_builds_reset : (rules : Rules) (a b : Option Bool) (near far : ResetEnd) (out back : List Sent) (p : Pending) → near.pending ≡ Some p → Kept rules a b near far out back → Kept rules a b (record near { pending = Some (record p { timer = 30 }) }) far (out ++ ResetPdu p.rsn (hfni_of near.restarts) ∷ []) back
+kept_builds_reset : (rules : Rules) (a b : Option Bool) (near far : ResetEnd) (out back : List Sent) (p : Pending) → near.pending ≡ Some p → Kept rules a b near far out back → Kept rules a b (record near { pending = Some (record p { rst_timer = 30 }) }) far (out ++ ResetPdu p.rsn (hfni_of near.restarts) ∷ []) back
 kept_builds_reset rules a b near far out back p e k = record {
-  asks = asks_tick p.rsn p.rsn p.timer 30 near.next_rsn far.heard a (out ++ ResetPdu p.rsn (hfni_of near.restarts) ∷ []) back (asks_reset p near.next_rsn far.heard a out back (hfni_of near.restarts) (subst (λ x. Asks x near.next_rsn far.heard a out back) e k.asks));
+  asks = asks_tick p.rsn p.rsn p.rst_timer 30 near.next_rsn far.heard a (out ++ ResetPdu p.rsn (hfni_of near.restarts) ∷ []) back (asks_reset p near.next_rsn far.heard a out back (hfni_of near.restarts) (subst (λ x. Asks x near.next_rsn far.heard a out back) e k.asks));
   asked = asked_reset far.pending far.next_rsn near.heard b back out p.rsn (hfni_of near.restarts) k.asked;
   owes = k.owes;
   owed = k.owed;
@@ -338,7 +338,7 @@ kept_builds_data rules b near far out back (Some block) small e q k =
 
 inv_builds : (rules : Rules) (p : ResetPair) (owes : Bool) (q : Option Pending) → rules.window ≤ 2048 → p.near.owes ≡ owes → p.near.pending ≡ q → Inv rules p → Inv rules (sends p (builds_by rules p.near owes q))
 inv_builds rules p true q small eo ep i = record { a = i.a; b = i.b; kept = kept_builds_ack rules i.a i.b p.near p.far p.out p.back eo i.kept }
-inv_builds rules p false (Some q) small eo ep i = cond_both (q.timer == 0) _ _ (λ (x : Built). Inv rules (sends p x))
+inv_builds rules p false (Some q) small eo ep i = cond_both (q.rst_timer == 0) _ _ (λ (x : Built). Inv rules (sends p x))
     (λ _. record { a = i.a; b = i.b; kept = kept_builds_reset rules i.a i.b p.near p.far p.out p.back q ep i.kept })
     (λ _. i)
 inv_builds rules p false None small eo ep i =

@@ -28,7 +28,7 @@ offer_short us unit false false false e f = short-append us unit f (ltb-false 15
 -- nothing but an offer adds units
 pub built_same : (rules : Rules) (e : ResetEnd) (owes : Bool) (q : Option Pending) → (builds_by rules e owes q).after.accepted ≡ e.accepted
 built_same rules e true q = refl
-built_same rules e false (Some p) = cond_both (p.timer == 0) _ _ (λ (b : Built). b.after.accepted ≡ e.accepted) (λ _. refl) (λ _. refl)
+built_same rules e false (Some p) = cond_both (p.rst_timer == 0) _ _ (λ (b : Built). b.after.accepted ≡ e.accepted) (λ _. refl) (λ _. refl)
 built_same rules e false None = refl
 
 data_same : (rules : Rules) (e : ResetEnd) (q : Option Pending) (label : ℕ) (block : Block) → (hears_data rules e q label block).accepted ≡ e.accepted

@@ -18,7 +18,7 @@ pub data Sent : Type 0 where
 -- an end that waits for the RESET ACK with its RSN
 pub record Pending : Type 0 where
   pub rsn : Bool
-  pub timer : ℕ  -- the ticks until the RESET is built again, 0 where it is due
+  pub rst_timer : ℕ  -- the ticks until the RESET is built again, 0 where it is due
 
 -- what came and what was handed up between two restarts of an end
 pub record Stretch : Type 0 where
@@ -130,7 +130,7 @@ labelled label (Some block) = Some (Data label block)
 -- the RESET is built at once, and again 30 ticks after each
 abbrev pub builds_reset : ResetEnd → Pending → Built
 builds_reset e p =
-    if p.timer == 0 then record { after = record e { pending = Some (record p { timer = 30 }) }; sent = Some (ResetPdu p.rsn (hfni_of e.restarts)) }
+    if p.rst_timer == 0 then record { after = record e { pending = Some (record p { rst_timer = 30 }) }; sent = Some (ResetPdu p.rsn (hfni_of e.restarts)) }
     else record { after = e; sent = None }
 
 -- an owed RESET ACK comes first. A pending end builds nothing else but its RESET, and another one what is due in its stretch
@@ -155,7 +155,7 @@ hears rules e (ResetAckPdu rsn hfni) = if is_asked e.pending rsn then record (re
 
 -- an end that isn't pending becomes so, with the other RSN each time
 abbrev pub resets_by : ResetEnd → Option Pending → ResetEnd
-resets_by e None = record e { pending = Some (record { rsn = e.next_rsn; timer = 0 }); next_rsn = not e.next_rsn }
+resets_by e None = record e { pending = Some (record { rsn = e.next_rsn; rst_timer = 0 }); next_rsn = not e.next_rsn }
 resets_by e (Some p) = e
 
 abbrev pub resets : ResetEnd → ResetEnd
@@ -164,7 +164,7 @@ resets e = resets_by e e.pending
 -- one tick
 abbrev pub ticked : Option Pending → Option Pending
 ticked None = None
-ticked (Some p) = Some (record p { timer = p.timer - 1 })
+ticked (Some p) = Some (record p { rst_timer = p.rst_timer - 1 })
 
 abbrev pub ticks : Rules → ResetEnd → ResetEnd
 ticks rules e = record e { sides = stepped rules e.sides Ticks; pending = ticked e.pending }

@@ -62,9 +62,9 @@ built_data rules e r same = ap (λ (x : Reading). handed_in e.stretches ++ x.uni
 
 pub built_keeps : (rules : Rules) (e : ResetEnd) (owes : Bool) (q : Option Pending) → Keeps e (builds_by rules e owes q).after
 built_keeps rules e true q = record { octets = refl; accepted = refl; handed_is = refl; all_handed = λ h. h }
-built_keeps rules e false (Some p) = go (p.timer == 0)
+built_keeps rules e false (Some p) = go (p.rst_timer == 0)
   where
-    go : (t : Bool) → Keeps e (cond {A = Built} t (record { after = record e { pending = Some (record p { timer = 30 }) }; sent = Some (ResetPdu p.rsn (hfni_of e.restarts)) }) (record { after = e; sent = None })).after
+    go : (t : Bool) → Keeps e (cond {A = Built} t (record { after = record e { pending = Some (record p { rst_timer = 30 }) }; sent = Some (ResetPdu p.rsn (hfni_of e.restarts)) }) (record { after = e; sent = None })).after
     go true = record { octets = refl; accepted = refl; handed_is = refl; all_handed = λ h. h }
     go false = record { octets = refl; accepted = refl; handed_is = refl; all_handed = λ h. h }
 built_keeps rules e false None =
@@ -74,7 +74,7 @@ built_keeps rules e false None =
 -- where nothing is built nothing changes
 pub rests_by : (rules : Rules) (size : ℕ) (e : State) (owes : Bool) (q : Option Pending) → false ≡ writes (turn_by rules e.entity owes q) → after_turn (turn_by rules e.entity owes q) rules size e ≡ e
 rests_by rules size e true q none = absurd (cc)
-rests_by rules size e false (Some p) none = go (p.timer == 0) none
+rests_by rules size e false (Some p) none = go (p.rst_timer == 0) none
   where
     go : (t : Bool) → false ≡ writes (cond t Asks Waits) → after_turn (cond t Asks Waits) rules size e ≡ e
     go true w = absurd (cc)

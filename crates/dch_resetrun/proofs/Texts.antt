@@ -54,12 +54,12 @@ reset_ack_read : (rsn : Bool) (restarts size : ℕ) (out : List ℕ) → out ≡
 reset_ack_read rsn restarts size out e = record { view = ResetAck rsn (hfni_of restarts); reads = ap am_reading e ∙ reset_ack_reads rsn (hfni_of restarts) size (small restarts); is = refl }
 
 -- the RESET of a pending end, where it is due
-asked_read : (rules : Rules) (e : ResetEnd) (p : Pending) (out : List ℕ) (t : Bool) → e.pending ≡ Some p → true ≡ writes (cond t Asks Waits) → IsWritten (cond t Asks Waits) rules e.sides.octets out (state_of e) → IsSent out (cond {A = Built} t (record { after = record e { pending = Some (record p { timer = 30 }) }; sent = Some (ResetPdu p.rsn (hfni_of e.restarts)) }) (record { after = e; sent = None })).sent
+asked_read : (rules : Rules) (e : ResetEnd) (p : Pending) (out : List ℕ) (t : Bool) → e.pending ≡ Some p → true ≡ writes (cond t Asks Waits) → IsWritten (cond t Asks Waits) rules e.sides.octets out (state_of e) → IsSent out (cond {A = Built} t (record { after = record e { pending = Some (record p { rst_timer = 30 }) }; sent = Some (ResetPdu p.rsn (hfni_of e.restarts)) }) (record { after = e; sent = None })).sent
 asked_read rules e p out true s w is = reset_read p.rsn e.restarts e.sides.octets out (subst (λ x. IsReset x e.restarts e.sides.octets out) s is)
 asked_read rules e p out false s w is = absurd (cc)
 
 -- what is written reads as what is sent
 pub written_read : (rules : Rules) (e : ResetEnd) (owes : Bool) (q : Option Pending) (out : List ℕ) → e.sides.octets ≤ 126 → e.pending ≡ q → true ≡ writes (turn_by rules e.sides.entity owes q) → IsWritten (turn_by rules e.sides.entity owes q) rules e.sides.octets out (state_of e) → IsSent out (builds_by rules e owes q).sent
 written_read rules e true q out most s w is = reset_ack_read (rsn_of e.heard) e.restarts e.sides.octets out is
-written_read rules e false (Some p) out most s w is = asked_read rules e p out (p.timer == 0) s w is
+written_read rules e false (Some p) out most s w is = asked_read rules e p out (p.rst_timer == 0) s w is
 written_read rules e false None out most s w is = data_read (e.sides.octets - 2) out e.restarts (built rules e.sides) (written_sent (entity_turn rules e.sides.entity.sender e.sides.entity.receiver) rules e.sides out most refl w is)

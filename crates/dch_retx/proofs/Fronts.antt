@@ -96,15 +96,15 @@ or_false false b e = e
 same_order : (low a b : ℕ) → nat_lt (low + a) (low + b) ≡ nat_lt a b
 same_order low a b = grind (arith, nat_tests)
 
-run_step : (gone low now n m : ℕ) (r : Option Running) (d : Option Discard) → now ≡ low + gone → m ≡ n - gone → IsRunning r d low n → IsRunning (run_on gone r) (ended_by now d) now m
-run_step gone low now n m None None e1 e2 is = tt
-run_step gone low now n m None (Some d) e1 e2 is = absurd is
-run_step gone low now n m (Some r) None e1 e2 is = absurd is
-run_step gone low now n m (Some r) (Some d) e1 e2 is = go (nat_lt r.at gone) refl (nat_lt d.k now) (ap₂ nat_lt (sym is.k) e1 ∙ same_order low r.at gone)
+run_step : (leaving low now n m : ℕ) (r : Option Running) (d : Option Discard) → now ≡ low + leaving → m ≡ n - leaving → IsRunning r d low n → IsRunning (run_on leaving r) (ended_by now d) now m
+run_step leaving low now n m None None e1 e2 is = tt
+run_step leaving low now n m None (Some d) e1 e2 is = absurd is
+run_step leaving low now n m (Some r) None e1 e2 is = absurd is
+run_step leaving low now n m (Some r) (Some d) e1 e2 is = go (nat_lt r.at leaving) refl (nat_lt d.k now) (ap₂ nat_lt (sym is.k) e1 ∙ same_order low r.at leaving)
   where
-    go : (a : Bool) → nat_lt r.at gone ≡ a → (b : Bool) → nat_lt d.k now ≡ nat_lt r.at gone → IsRunning (cond a None (Some (record r { at = r.at - gone }))) (cond (nat_lt d.k now) None (Some d)) now m
+    go : (a : Bool) → nat_lt r.at leaving ≡ a → (b : Bool) → nat_lt d.k now ≡ nat_lt r.at leaving → IsRunning (cond a None (Some (record r { at = r.at - leaving }))) (cond (nat_lt d.k now) None (Some d)) now m
     go true ea b e = subst (λ c. IsRunning None (cond c None (Some d)) now m) (sym (e ∙ ea)) tt
-    go false ea b e = subst (λ c. IsRunning (Some (record r { at = r.at - gone })) (cond c None (Some d)) now m) (sym (e ∙ ea)) (record { k = omega (arith, is.k, ltb-false r.at gone ea); n = is.n; due = is.due; timer = is.timer; inside = omega (arith, is.inside, ltb-false r.at gone ea) })
+    go false ea b e = subst (λ c. IsRunning (Some (record r { at = r.at - leaving })) (cond c None (Some d)) now m) (sym (e ∙ ea)) (record { k = omega (arith, is.k, ltb-false r.at leaving ea); n = is.n; due = is.due; mrw_timer = is.mrw_timer; inside = omega (arith, is.inside, ltb-false r.at leaving ea) })
 
 -- the line once the PDUs in front have left
 pub heard_stands : (rules : Rules) (l : RetxBuffer) (s : Sender) (names : List ℕ) (lsn : ℕ) (named : Bool) (in_flight : List SentPdu) → IsHeard rules l s names lsn named in_flight → Stands rules (left_front (front_acked in_flight) named in_flight l) (told s names lsn)
@@ -121,17 +121,17 @@ heard_stands rules l s names lsn named in_flight h = record {
   acked_sent = acked_sent;
   requested = requested_is;
   unsent = h.stands.unsent;
-  poll_timer = ⊎_elim (λ (m : 0 < s.poll_timer). ap₂ (λ b n. cond b 0 n) (same_test (inl m)) h.stands.poll_timer) (λ (m : s.poll_timer ≤ 0). zero_both (named || nat_lt l.polled gone) told_now l.poll_timer s.poll_timer h.stands.poll_timer (omega arith)) (cases_lt 0 s.poll_timer);
-  owed = ⊎_elim (λ (q : s.owed ≡ true). ap₂ (λ b c. cond b false c) (same_test (inr q)) h.stands.owed) (λ (q : s.owed ≡ false). false_both (named || nat_lt l.polled gone) told_now l.owed s.owed h.stands.owed q) (cases_Bool s.owed);
+  poll_timer = ⊎_elim (λ (m : 0 < s.poll_timer). ap₂ (λ b n. cond b 0 n) (same_test (inl m)) h.stands.poll_timer) (λ (m : s.poll_timer ≤ 0). zero_both (named || nat_lt l.polled leaving) told_now l.poll_timer s.poll_timer h.stands.poll_timer (omega arith)) (cases_lt 0 s.poll_timer);
+  owed = ⊎_elim (λ (q : s.owed ≡ true). ap₂ (λ b c. cond b false c) (same_test (inr q)) h.stands.owed) (λ (q : s.owed ≡ false). false_both (named || nat_lt l.polled leaving) told_now l.owed s.owed h.stands.owed q) (cases_Bool s.owed);
   polled = λ out. polled_is out;
-  running = run_step gone low (run_of acked next) (length l.in_flight) (length (drop gone in_flight)) l.running s.discard low_is shorter h.stands.running;
+  running = run_step leaving low (run_of acked next) (length l.in_flight) (length (drop leaving in_flight)) l.running s.discard low_is shorter h.stands.running;
 }
   where
     low : ℕ
     low = vt_a s
 
-    gone : ℕ
-    gone = front_acked in_flight
+    leaving : ℕ
+    leaving = front_acked in_flight
 
     next : ℕ
     next = vt_s s
@@ -139,11 +139,11 @@ heard_stands rules l s names lsn named in_flight h = record {
     acked : List ℕ
     acked = now_acked s.acked names lsn
 
-    within : gone ≤ length l.in_flight
+    within : leaving ≤ length l.in_flight
     within = omega (arith, front_le in_flight, h.size)
 
-    shorter : length (drop gone in_flight) ≡ length l.in_flight - gone
-    shorter = length-drop gone in_flight ∙ ap (λ n. n - gone) h.size
+    shorter : length (drop leaving in_flight) ≡ length l.in_flight - leaving
+    shorter = length-drop leaving in_flight ∙ ap (λ n. n - leaving) h.size
 
     acked_is : (k : ℕ) → has k acked ≡ ((nat_lt k lsn && not (has k names)) || has k s.acked)
     acked_is k = has-append k (less (below lsn) names) s.acked ∙ ap (λ b. b || has k s.acked) (has-less k (below lsn) names ∙ ap (λ b. b && not (has k names)) (has-below k lsn))
@@ -151,24 +151,24 @@ heard_stands rules l s names lsn named in_flight h = record {
     flag : (i : ℕ) → i < length l.in_flight → (at in_flight i).acked ≡ has (low + i) acked
     flag i less = (h.told i less).acked ∙ sym (acked_is (low + i))
 
-    all_in : (k : ℕ) → k < low + gone → Is k acked
+    all_in : (k : ℕ) → k < low + leaving → Is k acked
     all_in k less = ⊎_elim
         (λ (m : k < low). acked_is k ∙ or_right _ _ (run_in s.acked next k m))
         (λ (m : low ≤ k). let e : low + (k - low) ≡ k = omega arith in subst (λ j. Is j acked) e (sym (flag (k - low) (omega (arith, within))) ∙ front_in in_flight (k - low) (omega arith)))
         (cases_lt k low)
 
-    one_out : low + gone < next → has (low + gone) acked ≡ false
-    one_out less = sym (flag gone (omega (arith, h.stands.flying))) ∙ front_out in_flight (omega (arith, h.stands.flying, h.size))
+    one_out : low + leaving < next → has (low + leaving) acked ≡ false
+    one_out less = sym (flag leaving (omega (arith, h.stands.flying))) ∙ front_out in_flight (omega (arith, h.stands.flying, h.size))
 
-    low_is : run_of acked next ≡ low + gone
-    low_is = run_is acked next (low + gone) (omega (arith, within, h.stands.flying)) all_in one_out
+    low_is : run_of acked next ≡ low + leaving
+    low_is = run_is acked next (low + leaving) (omega (arith, within, h.stands.flying)) all_in one_out
 
-    in_flight_is : (i : ℕ) → i < length (drop gone in_flight) → IsInFlight (told s names lsn) (run_of acked next + i) (at (drop gone in_flight) i)
+    in_flight_is : (i : ℕ) → i < length (drop leaving in_flight) → IsInFlight (told s names lsn) (run_of acked next + i) (at (drop leaving in_flight) i)
     in_flight_is i less =
-        let there : gone + i < length l.in_flight = omega (arith, shorter) in
-        let number : low + (gone + i) ≡ run_of acked next + i = omega (arith, low_is) in
-        let place : at (drop gone in_flight) i ≡ at in_flight (gone + i) = get_or-drop gone in_flight i blank in
-        let t : IsTold s names lsn (run_of acked next + i) (at (drop gone in_flight) i) = subst (λ k. IsTold s names lsn k (at (drop gone in_flight) i)) number (subst (λ f. IsTold s names lsn (low + (gone + i)) f) (sym place) (h.told (gone + i) there)) in
+        let there : leaving + i < length l.in_flight = omega (arith, shorter) in
+        let number : low + (leaving + i) ≡ run_of acked next + i = omega (arith, low_is) in
+        let place : at (drop leaving in_flight) i ≡ at in_flight (leaving + i) = get_or-drop leaving in_flight i blank in
+        let t : IsTold s names lsn (run_of acked next + i) (at (drop leaving in_flight) i) = subst (λ k. IsTold s names lsn k (at (drop leaving in_flight) i)) number (subst (λ f. IsTold s names lsn (low + (leaving + i)) f) (sym place) (h.told (leaving + i) there)) in
         record { acked = t.acked ∙ sym (acked_is (run_of acked next + i)); requested = t.requested; named = t.named; builds = t.builds }
 
     acked_sent : (k : ℕ) → has k acked ≡ true → k < next
@@ -193,17 +193,17 @@ heard_stands rules l s names lsn named in_flight h = record {
     told_now : Bool
     told_now = is_told s.polled (run_of acked next) names
 
-    same_test : (0 < s.poll_timer) ⊎ (s.owed ≡ true) → (named || nat_lt l.polled gone) ≡ is_told s.polled (run_of acked next) names
+    same_test : (0 < s.poll_timer) ⊎ (s.owed ≡ true) → (named || nat_lt l.polled leaving) ≡ is_told s.polled (run_of acked next) names
     same_test out =
         let p : IsPolled s l.polled (length l.in_flight) = h.stands.polled out in
-        ap₂ (λ a b. a || b) (h.polled p.inside) (sym (same_order low l.polled gone) ∙ ap (λ m. nat_lt (low + l.polled) m) (sym low_is))
+        ap₂ (λ a b. a || b) (h.polled p.inside) (sym (same_order low l.polled leaving) ∙ ap (λ m. nat_lt (low + l.polled) m) (sym low_is))
         ∙ (or_comm (has (low + l.polled) names) (nat_lt (low + l.polled) (run_of acked next))
         ∙ ap (λ o. is_told o (run_of acked next) names) (sym p.number))
 
-    polled_is : (0 < cond told_now 0 s.poll_timer) ⊎ (cond told_now false s.owed ≡ true) → IsPolled (told s names lsn) (l.polled - gone) (length (drop gone in_flight))
+    polled_is : (0 < cond told_now 0 s.poll_timer) ⊎ (cond told_now false s.owed ≡ true) → IsPolled (told s names lsn) (l.polled - leaving) (length (drop leaving in_flight))
     polled_is out =
         let before : (told_now ≡ false) × ((0 < s.poll_timer) ⊎ (s.owed ≡ true)) = still_out told_now s.poll_timer s.owed out in
         let p : IsPolled s l.polled (length l.in_flight) = h.stands.polled before.1 in
-        let stays : gone ≤ l.polled = ltb-false l.polled gone (or_false named (nat_lt l.polled gone) (same_test before.1 ∙ before.0)) in
-        let number : low + l.polled ≡ run_of acked next + (l.polled - gone) = omega (arith, low_is) in
+        let stays : leaving ≤ l.polled = ltb-false l.polled leaving (or_false named (nat_lt l.polled leaving) (same_test before.1 ∙ before.0)) in
+        let number : low + l.polled ≡ run_of acked next + (l.polled - leaving) = omega (arith, low_is) in
         record { number = p.number ∙ ap Some number; inside = omega (arith, p.inside, shorter) }

@@ -18,16 +18,16 @@ use Rattle.dch_retx.proofs.Lengths.{length-acked, length-told}
 use Rattle.dch_retx.proofs.Naming.{at-changed_below, at-told, heard_one}
 
 alike_itself : (f : SentPdu) → IsAlike f f
-alike_itself f = record { extent = refl; full = refl }
+alike_itself f = record { extent = refl; full = refl; padded = refl }
 
 alike_twice : (f g h : SentPdu) → IsAlike f g → IsAlike g h → IsAlike f h
-alike_twice f g h a b = record { extent = a.extent ∙ b.extent; full = a.full ∙ b.full }
+alike_twice f g h a b = record { extent = a.extent ∙ b.extent; full = a.full ∙ b.full; padded = a.padded ∙ b.padded }
 
 alike_acknowledged : (f : SentPdu) → IsAlike (acknowledged f) f
-alike_acknowledged f = cond_both {A = SentPdu} f.named (record f { named = false }) (record f { acked = true; requested = false }) (λ g. IsAlike g f) (λ _. record { extent = refl; full = refl }) (λ _. record { extent = refl; full = refl })
+alike_acknowledged f = cond_both {A = SentPdu} f.named (record f { named = false }) (record f { acked = true; requested = false }) (λ g. IsAlike g f) (λ _. record { extent = refl; full = refl; padded = refl }) (λ _. record { extent = refl; full = refl; padded = refl })
 
 alike_named : (high under : Bool) (f : SentPdu) → IsAlike (named_as high under f) f
-alike_named high under f = cond_both {A = SentPdu} f.acked f (record f { named = f.named || under; requested = f.requested || high }) (λ g. IsAlike g f) (λ _. alike_itself f) (λ _. record { extent = refl; full = refl })
+alike_named high under f = cond_both {A = SentPdu} f.acked f (record f { named = f.named || under; requested = f.requested || high }) (λ g. IsAlike g f) (λ _. alike_itself f) (λ _. record { extent = refl; full = refl; padded = refl })
 
 alike_one : (high named under : Bool) (f : SentPdu) → IsAlike (heard_one high named under f) f
 alike_one high true true f = alike_twice (acknowledged (named_as high true f)) (named_as high true f) f (alike_acknowledged (named_as high true f)) (alike_named high true f)
@@ -47,17 +47,17 @@ kept_twice xs ys zs a b = record {
 }
 
 -- a front leaves of a list that is sent alike
-kept_front : (xs ys : List SentPdu) (gone : ℕ) → length ys ≡ length xs → gone ≤ length xs → ((i : ℕ) → i < length xs → IsAlike (at ys i) (at xs i)) → AreKept xs (drop gone ys)
-kept_front xs ys gone size le all = record {
+kept_front : (xs ys : List SentPdu) (leaving : ℕ) → length ys ≡ length xs → leaving ≤ length xs → ((i : ℕ) → i < length xs → IsAlike (at ys i) (at xs i)) → AreKept xs (drop leaving ys)
+kept_front xs ys leaving size le all = record {
   few = omega (arith, left);
   same = λ i less.
-      let place : at (drop gone ys) i ≡ at ys (gone + i) = get_or-drop gone ys i blank in
-      let e : gone + i ≡ length xs - length (drop gone ys) + i = omega (arith, left) in
-      subst (λ k. IsAlike (at (drop gone ys) i) (at xs k)) e (subst (λ f. IsAlike f (at xs (gone + i))) (sym place) (all (gone + i) (omega (arith, left))));
+      let place : at (drop leaving ys) i ≡ at ys (leaving + i) = get_or-drop leaving ys i blank in
+      let e : leaving + i ≡ length xs - length (drop leaving ys) + i = omega (arith, left) in
+      subst (λ k. IsAlike (at (drop leaving ys) i) (at xs k)) e (subst (λ f. IsAlike f (at xs (leaving + i))) (sym place) (all (leaving + i) (omega (arith, left))));
 }
   where
-    left : length (drop gone ys) ≡ length xs - gone
-    left = length-drop gone ys ∙ ap (λ n. n - gone) size
+    left : length (drop leaving ys) ≡ length xs - leaving
+    left = length-drop leaving ys ∙ ap (λ n. n - leaving) size
 
 freed_kept : (below : ℕ) (l : RetxBuffer) → AreKept l.in_flight (freed below l).in_flight
 freed_kept below l = kept_front l.in_flight (acked_below below l.in_flight) (front_acked (acked_below below l.in_flight)) (length-acked below l.in_flight) (omega (arith, front_le (acked_below below l.in_flight), length-acked below l.in_flight))
@@ -91,9 +91,9 @@ resent_kept place l = kept_front l.in_flight (resent place l).in_flight 0 (lengt
     each i less = go (i == place) refl
       where
         go : (b : Bool) → (i == place) ≡ b → IsAlike (at (set l.in_flight place (built (at l.in_flight place))) i) (at l.in_flight i)
-        go true e = let q : i ≡ place = eqb-true i place e in subst (λ k. IsAlike (at (set l.in_flight k (built (at l.in_flight k))) i) (at l.in_flight i)) q (subst (λ f. IsAlike f (at l.in_flight i)) (sym (get_or-set_same l.in_flight i (built (at l.in_flight i)) blank less)) (record { extent = refl; full = refl }))
+        go true e = let q : i ≡ place = eqb-true i place e in subst (λ k. IsAlike (at (set l.in_flight k (built (at l.in_flight k))) i) (at l.in_flight i)) q (subst (λ f. IsAlike f (at l.in_flight i)) (sym (get_or-set_same l.in_flight i (built (at l.in_flight i)) blank less)) (record { extent = refl; full = refl; padded = refl }))
         go false e = subst (λ f. IsAlike f (at l.in_flight i)) (sym (get_or-set_other l.in_flight place i (built (at l.in_flight place)) blank (eqb-false i place e))) (alike_itself (at l.in_flight i))
 
 pub discarding_kept : (place n : ℕ) (l : RetxBuffer) → AreKept l.in_flight (discarding place n l).in_flight
 discarding_kept place n l = kept_front l.in_flight (changed_below request_cleared place l.in_flight) 0 (length-changed request_cleared place l.in_flight) (omega arith)
-    (λ i less. subst (λ f. IsAlike f (at l.in_flight i)) (sym (at-changed_below request_cleared place l.in_flight i less)) (cond_both {A = SentPdu} (nat_lt i place) (request_cleared (at l.in_flight i)) (at l.in_flight i) (λ f. IsAlike f (at l.in_flight i)) (λ _. record { extent = refl; full = refl }) (λ _. alike_itself (at l.in_flight i))))
+    (λ i less. subst (λ f. IsAlike f (at l.in_flight i)) (sym (at-changed_below request_cleared place l.in_flight i less)) (cond_both {A = SentPdu} (nat_lt i place) (request_cleared (at l.in_flight i)) (at l.in_flight i) (λ f. IsAlike f (at l.in_flight i)) (λ _. record { extent = refl; full = refl; padded = refl }) (λ _. alike_itself (at l.in_flight i))))

@@ -238,7 +238,7 @@ run_more : (r : Option Running) (d : Option Discard) (low now n m : ℕ) → now
 run_more None None low now n m e le is = tt
 run_more None (Some d) low now n m e le is = absurd is
 run_more (Some r) None low now n m e le is = absurd is
-run_more (Some r) (Some d) low now n m e le is = record { k = omega (arith, is.k); n = is.n; due = is.due; timer = is.timer; inside = omega (arith, is.inside) }
+run_more (Some r) (Some d) low now n m e le is = record { k = omega (arith, is.k); n = is.n; due = is.due; mrw_timer = is.mrw_timer; inside = omega (arith, is.inside) }
 
 -- a new PDU is in flight
 pub new_out : (rules : Rules) (d : ℕ) (l : RetxBuffer) (s : Sender) (f : SentPdu) → length l.in_flight < rules.window → IsNew f (ends_of (next_body d s.unsent)) → Stands rules l s → IsOut rules (fresh f l) (anew d s)

@@ -24,7 +24,7 @@ run_ticks : (r : Option Running) (d : Option Discard) (low n : ℕ) → IsRunnin
 run_ticks None None low n is = tt
 run_ticks None (Some d) low n is = absurd is
 run_ticks (Some r) None low n is = absurd is
-run_ticks (Some r) (Some d) low n is = record { k = is.k; n = is.n; due = ap₂ (λ b t. b || (t == 1)) is.due is.timer; timer = ap (λ t. t - 1) is.timer; inside = is.inside }
+run_ticks (Some r) (Some d) low n is = record { k = is.k; n = is.n; due = ap₂ (λ b t. b || (t == 1)) is.due is.mrw_timer; mrw_timer = ap (λ t. t - 1) is.mrw_timer; inside = is.inside }
 
 pub ticks_stand : (rules : Rules) (l : RetxBuffer) (s : Sender) → Stands rules l s → Stands rules (ticked l) (timed s)
 ticks_stand rules l s is = record {
@@ -72,7 +72,7 @@ discards_stand rules l s place n i inside is = record {
   poll_timer = is.poll_timer;
   owed = is.owed;
   polled = λ out. let p : IsPolled s l.polled (length l.in_flight) = is.polled out in record { number = p.number; inside = omega (arith, p.inside, size) };
-  running = record { k = refl; n = refl; due = refl; timer = refl; inside = omega (arith, size) };
+  running = record { k = refl; n = refl; due = refl; mrw_timer = refl; inside = omega (arith, size) };
 }
   where
     size : length (changed_below request_cleared place l.in_flight) ≡ length l.in_flight
@@ -120,9 +120,9 @@ due_by (Some r) (Some d) low n is = is.due
 pub due_is : (rules : Rules) (l : RetxBuffer) (s : Sender) → Stands rules l s → is_due l.running ≡ mrw_due s.discard
 due_is rules l s is = due_by l.running s.discard (vt_a s) (length l.in_flight) is.running
 
-run_repeats : (ticks : ℕ) (r : Option Running) (d : Discard) (low n : ℕ) → IsRunning r (Some d) low n → IsRunning (repeating ticks r) (Some (record d { due = false; timer = ticks })) low n
+run_repeats : (ticks : ℕ) (r : Option Running) (d : Discard) (low n : ℕ) → IsRunning r (Some d) low n → IsRunning (repeating ticks r) (Some (record d { due = false; mrw_timer = ticks })) low n
 run_repeats ticks None d low n is = absurd is
-run_repeats ticks (Some r) d low n is = record { k = is.k; n = is.n; due = refl; timer = refl; inside = is.inside }
+run_repeats ticks (Some r) d low n is = record { k = is.k; n = is.n; due = refl; mrw_timer = refl; inside = is.inside }
 
 pub moves_stand : (rules : Rules) (l : RetxBuffer) (s : Sender) (d : Discard) → Stands rules l s → s.discard ≡ Some d → Stands rules (moving l) (after_mrw rules s d)
 moves_stand rules l s d is e = record {
@@ -141,7 +141,7 @@ moves_stand rules l s d is e = record {
   poll_timer = is.poll_timer;
   owed = is.owed;
   polled = λ out. let p : IsPolled s l.polled (length l.in_flight) = is.polled out in record { number = p.number; inside = p.inside };
-  running = subst (λ ticks. IsRunning (repeating ticks l.running) (Some (record d { due = false; timer = rules.discard_repeat })) (vt_a s) (length l.in_flight)) (sym (ap (λ (r : Rules). r.discard_repeat) is.rules_are)) (run_repeats rules.discard_repeat l.running d (vt_a s) (length l.in_flight) (subst (λ x. IsRunning l.running x (vt_a s) (length l.in_flight)) e is.running));
+  running = subst (λ ticks. IsRunning (repeating ticks l.running) (Some (record d { due = false; mrw_timer = rules.discard_repeat })) (vt_a s) (length l.in_flight)) (sym (ap (λ (r : Rules). r.discard_repeat) is.rules_are)) (run_repeats rules.discard_repeat l.running d (vt_a s) (length l.in_flight) (subst (λ x. IsRunning l.running x (vt_a s) (length l.in_flight)) e is.running));
 }
 
 -- numbers of PDUs in flight

@@ -10,11 +10,11 @@ no_extent = record { sdu = 0; used = 0; pieces = 0; rest = 0 }
 
 -- no PDU
 abbrev pub blank : SentPdu
-blank = record { extent = no_extent; full = false; builds = 0; acked = false; requested = false; named = false }
+blank = record { extent = no_extent; full = false; padded = false; builds = 0; acked = false; requested = false; named = false }
 
 -- a PDU that was just built
-abbrev pub sent_once : Extent → Bool → SentPdu
-sent_once extent full = record { extent = extent; full = full; builds = 1; acked = false; requested = false; named = false }
+abbrev pub sent_once : Extent → Bool → Bool → SentPdu
+sent_once extent full padded = record { extent = extent; full = full; padded = padded; builds = 1; acked = false; requested = false; named = false }
 
 -- how many SDUs have their length indicators in it
 abbrev pub ends_in : SentPdu → ℕ

@@ -37,17 +37,17 @@ first_number l = number_at 0 l
 
 -- a discard once so many PDUs have left: it ends where its own has
 abbrev pub run_on : ℕ → Option Running → Option Running
-run_on gone None = None
-run_on gone (Some r) = if nat_lt r.at gone then None else Some (record r { at = r.at - gone })
+run_on leaving None = None
+run_on leaving (Some r) = if nat_lt r.at leaving then None else Some (record r { at = r.at - leaving })
 
 -- the PDUs in front that are acknowledged leave. The poll is told where the polled one leaves, or was named
 abbrev pub left_front : ℕ → Bool → List SentPdu → RetxBuffer → RetxBuffer
-left_front gone named in_flight l = record l {
-  in_flight = drop gone in_flight;
-  poll_timer = if named || nat_lt l.polled gone then 0 else l.poll_timer;
-  owed = if named || nat_lt l.polled gone then false else l.owed;
-  polled = l.polled - gone;
-  running = run_on gone l.running;
+left_front leaving named in_flight l = record l {
+  in_flight = drop leaving in_flight;
+  poll_timer = if named || nat_lt l.polled leaving then 0 else l.poll_timer;
+  owed = if named || nat_lt l.polled leaving then false else l.owed;
+  polled = l.polled - leaving;
+  running = run_on leaving l.running;
 }
 
 -- the PDUs below a place are acknowledged, but for those that are marked
@@ -127,14 +127,14 @@ pub record IsLine (in_flight : List SentPdu) (capacity window next : ℕ) (runni
 -- a tick of the poll timer and of a discard's
 abbrev pub run_timer : Option Running → Option Running
 run_timer None = None
-run_timer (Some r) = Some (record r { due = r.due || (r.timer == 1); timer = r.timer - 1 })
+run_timer (Some r) = Some (record r { due = r.due || (r.mrw_timer == 1); mrw_timer = r.mrw_timer - 1 })
 
 abbrev pub ticked : RetxBuffer → RetxBuffer
 ticked l = record l { poll_timer = l.poll_timer - 1; owed = l.owed || (l.poll_timer == 1); running = run_timer l.running }
 
 -- a discard begins with this PDU in flight and this mark: those before aren't requested
 abbrev pub discarding : ℕ → ℕ → RetxBuffer → RetxBuffer
-discarding place n l = record l { in_flight = changed_below request_cleared place l.in_flight; running = Some (record { at = place; n = n; due = true; timer = 0 }) }
+discarding place n l = record l { in_flight = changed_below request_cleared place l.in_flight; running = Some (record { at = place; n = n; due = true; mrw_timer = 0 }) }
 
 -- an MRW is due
 abbrev pub is_due : Option Running → Bool
@@ -144,7 +144,7 @@ is_due (Some r) = r.due
 -- it is written, and due again after so many ticks
 abbrev pub repeating : ℕ → Option Running → Option Running
 repeating ticks None = None
-repeating ticks (Some r) = Some (record r { due = false; timer = ticks })
+repeating ticks (Some r) = Some (record r { due = false; mrw_timer = ticks })
 
 abbrev pub moving : RetxBuffer → RetxBuffer
 moving l = record l { running = repeating l.rules.discard_repeat l.running }

@@ -38,7 +38,7 @@ pub record IsSame (r : Running) (d : Discard) (low flying : ℕ) : Type 0 where
   pub k : low + r.at ≡ d.k
   pub n : r.n ≡ d.n
   pub due : r.due ≡ d.due
-  pub timer : r.timer ≡ d.timer
+  pub mrw_timer : r.mrw_timer ≡ d.mrw_timer
   pub inside : r.at < flying
 
 abbrev pub IsRunning : Option Running → Option Discard → ℕ → ℕ → Type 0
@@ -93,7 +93,7 @@ pub record Sends (rules : Rules) (bit : Bool) (l : RetxBuffer) (poll_bit : Bool)
 -- a sender after a tick of its timers
 abbrev pub timer_of : Option Discard → Option Discard
 timer_of None = None
-timer_of (Some d) = Some (record d { due = d.due || (d.timer == 1); timer = d.timer - 1 })
+timer_of (Some d) = Some (record d { due = d.due || (d.mrw_timer == 1); mrw_timer = d.mrw_timer - 1 })
 
 abbrev pub timed : Sender → Sender
 timed s = record s { poll_timer = s.poll_timer - 1; owed = s.owed || (s.poll_timer == 1); ticks = s.ticks + 1; discard = timer_of s.discard }
@@ -102,6 +102,7 @@ timed s = record s { poll_timer = s.poll_timer - 1; owed = s.owed || (s.poll_tim
 pub record IsAlike (f g : SentPdu) : Type 0 where
   pub extent : f.extent ≡ g.extent
   pub full : f.full ≡ g.full
+  pub padded : f.padded ≡ g.padded
 
 -- of the PDUs in flight a front has left, and the others are sent as before
 pub record AreKept (old new : List SentPdu) : Type 0 where

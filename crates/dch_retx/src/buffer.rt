@@ -33,7 +33,7 @@ pub struct Running {
     pub at: u16,
     pub n: u8,
     pub due: bool,
-    pub timer: u16,
+    pub mrw_timer: u16,
 }
 
 /// Which PDU a build gives: the one at a place again, a new one, the last one again for an owed poll, or none.
@@ -324,7 +324,7 @@ impl RetxBuffer {
             at: place,
             n,
             due: true,
-            timer: 0,
+            mrw_timer: 0,
         });
     }
 
@@ -513,14 +513,14 @@ impl RetxBuffer {
     fn leave(&mut self, named: bool)
         ensures { self.new ≡ left_front (front_acked self.old.in_flight) named self.old.in_flight self.old }
     {
-        let gone = self.flight.acked_from(0);
-        self.flight.leave(gone);
-        if named || (self.polled as usize) < gone {
+        let leaving = self.flight.acked_from(0);
+        self.flight.leave(leaving);
+        if named || (self.polled as usize) < leaving {
             self.poll_timer = 0;
             self.owed = false;
         }
-        self.polled = self.polled.saturating_sub(gone as u16);
-        self.running = run_on(self.running, gone as u16);
+        self.polled = self.polled.saturating_sub(leaving as u16);
+        self.running = run_on(self.running, leaving as u16);
     }
 }
 
@@ -558,8 +558,8 @@ fn run_timer(running: Option<Running>) -> Option<Running>
     Some(Running {
         at: running.at,
         n: running.n,
-        due: running.due || running.timer == 1,
-        timer: running.timer.saturating_sub(1),
+        due: running.due || running.mrw_timer == 1,
+        mrw_timer: running.mrw_timer.saturating_sub(1),
     })
 }
 
@@ -572,7 +572,7 @@ fn repeating(running: Option<Running>, ticks: u16) -> Option<Running>
         at: running.at,
         n: running.n,
         due: false,
-        timer: ticks,
+        mrw_timer: ticks,
     })
 }
 
@@ -587,17 +587,17 @@ fn floor_of(running: Option<Running>) -> u16
 }
 
 /// A discard once so many PDUs have left: it ends where its own has.
-fn run_on(running: Option<Running>, gone: u16) -> Option<Running>
-    ensures { result ≡ run_on gone running }
+fn run_on(running: Option<Running>, leaving: u16) -> Option<Running>
+    ensures { result ≡ run_on leaving running }
 {
     let running = running?;
-    if running.at < gone {
+    if running.at < leaving {
         return None;
     }
     Some(Running {
-        at: running.at - gone,
+        at: running.at - leaving,
         n: running.n,
         due: running.due,
-        timer: running.timer,
+        mrw_timer: running.mrw_timer,
     })
 }

@@ -100,8 +100,8 @@ impl Flight {
         requires { to ≤ length self.old.items }
         ensures { self.new ≡ buffer (changed_below acknowledged to self.old.items) self.old.capacity }
     {
-        let gone = acknowledge_below(&mut self.ring, &mut self.skips, to);
-        self.count -= gone;
+        let cleared = acknowledge_below(&mut self.ring, &mut self.skips, to);
+        self.count -= cleared;
         self.low = first_from(&self.ring, &self.skips, self.low, self.count);
     }
 
@@ -110,8 +110,8 @@ impl Flight {
         requires { to ≤ length self.old.items }
         ensures { self.new ≡ buffer (changed_below request_cleared to self.old.items) self.old.capacity }
     {
-        let gone = clear_requests(&mut self.ring, to);
-        self.count -= gone;
+        let cleared = clear_requests(&mut self.ring, to);
+        self.count -= cleared;
         self.low = first_from(&self.ring, &self.skips, self.low, self.count);
     }
 
@@ -207,12 +207,12 @@ fn first_from(
 /// The PDUs before a place aren't requested. Answers how many of them were.
 fn clear_requests(ring: &mut HeapCircularBuffer<SentPdu>, to: usize) -> usize
     requires { to ≤ length ring.old.items }
-    ensures gone { result + requested_in ring.new.items ≡ requested_in ring.old.items }
+    ensures cleared { result + requested_in ring.new.items ≡ requested_in ring.old.items }
     ensures after { ring.new ≡ buffer (changed_below request_cleared to ring.old.items) ring.old.capacity }
 {
-    let mut gone = 0;
+    let mut cleared = 0;
     for i in 0..to {
-        gone += one(clear_request_at(ring, i));
+        cleared += one(clear_request_at(ring, i));
     }
-    gone
+    cleared
 }

@@ -68,21 +68,21 @@ pub fn acknowledge_below(
     requires to { to ≤ length ring.old.items }
     requires small { length ring.old.items ≤ 65535 }
     requires linked { AreLinked ring.old.items skips.old.items }
-    ensures gone { result + requested_in ring.new.items ≡ requested_in ring.old.items }
+    ensures cleared { result + requested_in ring.new.items ≡ requested_in ring.old.items }
     ensures after { ring.new ≡ buffer (changed_below acknowledged to ring.old.items) ring.old.capacity }
     ensures linked { AreLinked ring.new.items skips.new.items }
     ensures room { skips.new.capacity ≡ skips.old.capacity }
 {
-    let mut gone = 0;
+    let mut cleared = 0;
     let mut before = None;
     let mut i = acked_from(ring, 0);
     while i < to {
         let next = i + 1 + skip_at(skips, i);
-        gone += one(acknowledge_at(ring, i));
+        cleared += one(acknowledge_at(ring, i));
         before = join(ring, skips, before, i, next);
         i = next;
     }
-    gone
+    cleared
 }
 
 /// The open PDU before the next one, where the one at a place was acknowledged or left open.

@@ -50,7 +50,7 @@ pub fn name_at(ring: &mut HeapCircularBuffer<SentPdu>, i: usize, from: usize, to
 /// It is acknowledged, or loses its mark where it has one. Answers whether it was requested and isn't any more.
 pub fn acknowledge_at(ring: &mut HeapCircularBuffer<SentPdu>, i: usize) -> bool
     requires { i < length ring.old.items }
-    ensures gone { result ≡ ((at ring.old.items i).requested && not (acknowledged (at ring.old.items i)).requested) }
+    ensures cleared { result ≡ ((at ring.old.items i).requested && not (acknowledged (at ring.old.items i)).requested) }
     ensures after { ring.new ≡ buffer (slice_set ring.old.items i (acknowledged (at ring.old.items i))) ring.old.capacity }
 {
     let Some(pdu) = ring.get_mut(i) else {
@@ -69,7 +69,7 @@ pub fn acknowledge_at(ring: &mut HeapCircularBuffer<SentPdu>, i: usize) -> bool
 /// It isn't requested. Answers whether it was.
 pub fn clear_request_at(ring: &mut HeapCircularBuffer<SentPdu>, i: usize) -> bool
     requires { i < length ring.old.items }
-    ensures gone { result ≡ (at ring.old.items i).requested }
+    ensures cleared { result ≡ (at ring.old.items i).requested }
     ensures after { ring.new ≡ buffer (slice_set ring.old.items i (request_cleared (at ring.old.items i))) ring.old.capacity }
 {
     let Some(pdu) = ring.get_mut(i) else {
@@ -83,7 +83,7 @@ pub fn clear_request_at(ring: &mut HeapCircularBuffer<SentPdu>, i: usize) -> boo
 /// It is built once more. More than 255 times are not counted. Answers whether it was requested.
 pub fn build_at(ring: &mut HeapCircularBuffer<SentPdu>, i: usize) -> bool
     requires { i < length ring.old.items }
-    ensures gone { result ≡ (at ring.old.items i).requested }
+    ensures cleared { result ≡ (at ring.old.items i).requested }
     ensures after { ring.new ≡ buffer (slice_set ring.old.items i (built (at ring.old.items i))) ring.old.capacity }
 {
     let Some(pdu) = ring.get_mut(i) else {

@@ -20,6 +20,8 @@ pub struct SentPdu {
     pub extent: Extent,
     /// The mark 0 stands first.
     pub full: bool,
+    /// A length indicator of padding stands last.
+    pub padded: bool,
     /// How often it was built, at most 255.
     pub builds: u8,
     /// It is acknowledged, though a PDU before it isn't.
@@ -32,12 +34,13 @@ pub struct SentPdu {
 
 impl SentPdu {
     /// A PDU that was just built.
-    pub fn new(extent: Extent, full: bool) -> SentPdu
-        ensures { result ≡ sent_once extent full }
+    pub fn new(extent: Extent, full: bool, padded: bool) -> SentPdu
+        ensures { result ≡ sent_once extent full padded }
     {
         SentPdu {
             extent,
             full,
+            padded,
             builds: 1,
             acked: false,
             requested: false,

@@ -7,6 +7,9 @@ use dch_bits::{Bit, NoMemory, Offer};
 use std::alloc::Global;
 use std::marker::Model;
 
+/// The most units that an entity offers one after another.
+const MOST_UNITS: u16 = 64;
+
 /// The sending side of a transparent bearer: units that wait, each to be sent as one block. The bits of all units stand
 /// in one ring and their sizes in another, and both are taken when it is opened.
 #[derive(Drop)]
@@ -63,12 +66,12 @@ impl TmSend {
         let Some(first) = self.sizes.front().copied() else {
             return (0, 0);
         };
-        for k in 0..64u16 {
+        for k in 0..MOST_UNITS {
             if self.sizes.get(k as usize).copied() != Some(first) {
                 return (first, k);
             }
         }
-        (first, 64)
+        (first, MOST_UNITS)
     }
 
     /// Takes the first unit, which must have as many bits as `out`.

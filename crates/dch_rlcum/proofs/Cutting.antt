@@ -6,7 +6,7 @@ use Rattle.std.proofs.lemmas.List.{length-take-le, take-append-drop, take_all}
 use Rattle.dch_sar.specs.Filling.{AreSome, IsCarried, marks_of}
 use Rattle.dch_sar.specs.Pdus.{padding}
 use Rattle.dch_sar.proofs.Placing.{IsPlaced, Placed, place, place_is, with_marks}
-use Rattle.dch_am.specs.Bodies.{Unsent, ends_at, joined, sizes}
+use Rattle.dch_am.specs.Bodies.{TxQueue, ends_at, joined, sizes}
 use Rattle.dch_am.specs.Cuts.{AllFull}
 use Rattle.dch_txbuf.specs.declared.taken.Cut.{Cut}
 use Rattle.dch_txbuf.specs.Cuts.{IsThere, after_cut, cut_of, first_of, led_by, marks_with, octets_of, trimmed, with_pieces}
@@ -41,10 +41,10 @@ one_piece free sent at u us c less is = subst (IsCutOf free sent at (u ∷ us)) 
       ∙ omega (arith, is.octets, length-append (u ++ joined (take c.pieces us)) (take c.rest (first_of (drop c.pieces us))), length-append u (joined (take c.pieces us)), length-append (joined (take c.pieces us)) (take c.rest (first_of (drop c.pieces us))));
   marks = ap (λ b. (cond {A = Placed} b (with_marks ((at + length u) ∷ []) (place (free - length u - 1) (at + length u) (sizes us))) (cond (length u == free) (record { octets = at + length u; marks = []; owed = true }) (record { octets = at + free; marks = []; owed = false }))).marks) t
       ∙ ap (λ ms. (at + length u) ∷ ms) is.marks;
-  row = ap (λ xs. u ++ xs) is.row ∙ (sym (append_assoc u (octets_of c us) (joined (after_cut c us).units)) ∙ ap₂ (λ xs (a : Unsent). xs ++ joined a.units) (sym (append_assoc u (joined (take c.pieces us)) (take c.rest (first_of (drop c.pieces us))))) later);
+  row = ap (λ xs. u ++ xs) is.row ∙ (sym (append_assoc u (octets_of c us) (joined (after_cut c us).units)) ∙ ap₂ (λ xs (a : TxQueue). xs ++ joined a.units) (sym (append_assoc u (joined (take c.pieces us)) (take c.rest (first_of (drop c.pieces us))))) later);
   left = ap (λ b. cond {A = Units} b (left_by (free - length u - 1) 0 (sizes us)) (cond (length u == free) (record { lengths = sizes us; sent = 0; owed = sent + length u }) (record { lengths = (length u - free) ∷ sizes us; sent = sent + free; owed = 0 }))) t
-      ∙ (is.left ∙ ap₂ (λ (a : Unsent) n. record { lengths = sizes a.units; sent = cond c.owed 0 n; owed = cond c.owed n 0 }) later sent_same);
-  full = subst (λ (a : Unsent). AllFull a.units) later is.full;
+      ∙ (is.left ∙ ap₂ (λ (a : TxQueue) n. record { lengths = sizes a.units; sent = cond c.owed 0 n; owed = cond c.owed n 0 }) later sent_same);
+  full = subst (λ (a : TxQueue). AllFull a.units) later is.full;
   fits = omega (arith, is.fits, less, length-append (u ++ joined (take c.pieces us)) (take c.rest (first_of (drop c.pieces us))), length-append u (joined (take c.pieces us)), length-append (joined (take c.pieces us)) (take c.rest (first_of (drop c.pieces us))));
   owed = is.owed;
 })
@@ -55,16 +55,16 @@ one_piece free sent at u us c less is = subst (IsCutOf free sent at (u ∷ us)) 
     e : 1 + c.pieces ≡ suc c.pieces
     e = omega arith
 
-    q : with_pieces 1 c ≡ record { pieces = suc c.pieces; rest = c.rest; owed = c.owed }
-    q = ap (λ p. record { pieces = p; rest = c.rest; owed = c.owed }) e
+    q : with_pieces 1 c ≡ record { pieces = suc c.pieces; rest = c.rest; owed = c.owed; padded = c.padded }
+    q = ap (λ p. record { pieces = p; rest = c.rest; owed = c.owed; padded = c.padded }) e
 
-    later : after_cut c us ≡ after_cut (record { pieces = suc c.pieces; rest = c.rest; owed = c.owed }) (u ∷ us)
+    later : after_cut c us ≡ after_cut (record { pieces = suc c.pieces; rest = c.rest; owed = c.owed; padded = c.padded }) (u ∷ us)
     later = let n : suc c.pieces + 1 ≡ suc (c.pieces + 1) = omega arith in ap (λ n. record { owed = c.owed; units = cond c.owed (drop n (u ∷ us)) (trimmed c.rest (drop c.pieces us)) }) (sym n)
 
-    sent_same : sent_after 0 c ≡ sent_after sent (record { pieces = suc c.pieces; rest = c.rest; owed = c.owed })
+    sent_same : sent_after 0 c ≡ sent_after sent (record { pieces = suc c.pieces; rest = c.rest; owed = c.owed; padded = c.padded })
     sent_same = none_more (nat_lt 0 c.pieces) c.rest ∙ sym (ap (λ b. cond b c.rest (sent + c.rest)) (lt-ltb 0 (suc c.pieces) (omega arith)))
 
-last_full : (free sent at : ℕ) (u : List ℕ) (us : List (List ℕ)) → AllFull (u ∷ us) → length u ≡ free → IsCutOf free sent at (u ∷ us) (record { pieces = 0; rest = free; owed = true })
+last_full : (free sent at : ℕ) (u : List ℕ) (us : List (List ℕ)) → AllFull (u ∷ us) → length u ≡ free → IsCutOf free sent at (u ∷ us) (record { pieces = 0; rest = free; owed = true; padded = false })
 last_full free sent at u us full e =
     let big : nat_lt (length u) free ≡ false = le-ltb (length u) free (omega (arith, e)) in
     let same : (length u == free) ≡ true = eqb-back (length u) free e in
@@ -83,7 +83,7 @@ last_full free sent at u us full e =
     eqb-back : (n m : ℕ) → n ≡ m → (n == m) ≡ true
     eqb-back n m q = grind arith
 
-last_part : (free sent at : ℕ) (u : List ℕ) (us : List (List ℕ)) → AllFull (u ∷ us) → free < length u → IsCutOf free sent at (u ∷ us) (record { pieces = 0; rest = free; owed = false })
+last_part : (free sent at : ℕ) (u : List ℕ) (us : List (List ℕ)) → AllFull (u ∷ us) → free < length u → IsCutOf free sent at (u ∷ us) (record { pieces = 0; rest = free; owed = false; padded = false })
 last_part free sent at u us full less =
     let big : nat_lt (length u) free ≡ false = le-ltb (length u) free (omega (arith, less)) in
     let other : (length u == free) ≡ false = eqb-differ (length u) free less in
@@ -116,7 +116,7 @@ cuts_are free sent at [] full none = record {
     empty e = omega (arith, e)
 cuts_are free sent at (u ∷ us) full none = go (nat_lt (length u) free) refl (cuts_are (free - length u - 1) 0 (at + length u) us full.1 (λ e. refl))
   where
-    last : (b : Bool) → (length u == free) ≡ b → free ≤ length u → IsCutOf free sent at (u ∷ us) (record { pieces = 0; rest = free; owed = b })
+    last : (b : Bool) → (length u == free) ≡ b → free ≤ length u → IsCutOf free sent at (u ∷ us) (record { pieces = 0; rest = free; owed = b; padded = false })
     last true e le = last_full free sent at u us full (eqb-true (length u) free e)
     last false e le = last_part free sent at u us full (differ (eqb-false (length u) free e))
       where

@@ -50,11 +50,11 @@ row_here : (row unit rest : List ℕ) (at : ℕ) → drop at row ≡ unit ++ res
 row_here row unit rest at is = let e : at + length unit - at ≡ length unit = omega arith in ap₂ (λ k xs. take k xs) e is ∙ take_at unit rest (length unit) refl
 
 row_next : (row unit rest : List ℕ) (at : ℕ) → drop at row ≡ unit ++ rest → drop (at + length unit) row ≡ rest
-row_next row unit rest at is = sym (drop-drop (length unit) at row) ∙ (ap (drop (length unit)) is ∙ gone unit rest)
+row_next row unit rest at is = sym (drop-drop (length unit) at row) ∙ (ap (drop (length unit)) is ∙ drop_all unit rest)
   where
-    gone : (xs ys : List ℕ) → drop (length xs) (xs ++ ys) ≡ ys
-    gone [] ys = refl
-    gone (x ∷ xs) ys = gone xs ys
+    drop_all : (xs ys : List ℕ) → drop (length xs) (xs ++ ys) ≡ ys
+    drop_all [] ys = refl
+    drop_all (x ∷ xs) ys = drop_all xs ys
 
 units_known : (xs : List Sent) (row : List ℕ) (at : ℕ) (units : List (List ℕ)) (es : List ℕ) → AreFirst at es (sizes units) → drop at row ≡ joined units → AreSome (sizes units) → ((t e : ℕ) → last_of at es < e → is_known xs t e ≡ false) → known_units xs at units ≡ known_from row xs at es
 units_known xs row at [] [] are is some never = refl
@@ -84,10 +84,10 @@ known_handed pdu starts units cuts arrives from most are cut few =
     let stand : Stand (joined units) [] 0 0 0 0 true true opened = record {
       heard = record { low = omega arith; begun = λ less e le. absurd (omega arith); fresh = λ le. refl; free = λ t e le. refl; unmarked = λ e less. refl };
       some = omega arith;
-      expected = refl;
+      vr_us = refl;
       waiting = refl;
       here = λ none. refl;
-      gone = λ more. absurd (omega arith);
+      none_known = λ more. absurd (omega arith);
     } in
     let first : AreFirst 0 (all_ends (pdus (pdu - 1) starts (sizes units) cuts)) (sizes units) = first_front_of 0 (all_ends (pdus (pdu - 1) starts (sizes units) cuts)) _ (sizes units) (subst (λ es. AreFirst 0 es (sizes units)) (sym chain.ends) (first_ends 0 (sizes units) _)) in
     hands_known pdu (joined units) arrives [] 0 0 0 0 true true opened ps chain.pdus few stand

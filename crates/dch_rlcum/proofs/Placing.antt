@@ -11,8 +11,8 @@ use Rattle.dch_am.specs.Bodies.{joined, sizes}
 use Rattle.dch_am.specs.Cuts.{AllFull}
 use Rattle.dch_txbuf.specs.declared.taken.Cut.{Cut}
 use Rattle.dch_txbuf.specs.declared.taken.Start.{Start}
-use Rattle.dch_txbuf.specs.Cuts.{IsStart, IsThere, after_cut, cut_of, first_of, led_by, left_at, marks_with, next_start, octets_of, trimmed}
-use Rattle.dch_txbuf.proofs.Cutting.{length-trimmed, placed_cut, trimmed_none}
+use Rattle.dch_txbuf.specs.Cuts.{IsStart, IsThere, after_cut, cut_of, first_of, is_padded, led_by, left_at, marks_with, next_start, octets_of, trimmed}
+use Rattle.dch_txbuf.proofs.Cutting.{cut_is_padded, length-trimmed, placed_cut, trimmed_none}
 use Rattle.dch_txbuf.proofs.Following.{left_next, start_next}
 use Rattle.dch_txbuf.specs.Chunks.{blocks_for}
 use Rattle.dch_txbuf.specs.Sdus.{blocks_in}
@@ -318,10 +318,11 @@ pub byte_is : (b : Bool) → bool_byte b ≡ cond b 1 0
 byte_is true = refl
 byte_is false = refl
 
--- what a PDU takes is there
+-- what a PDU takes is there, and it tells whether octets are left
 pub record IsReady (pdu : ℕ) (mark_start : Bool) (sdus : List (List ℕ)) (start : Start) (owed : Bool) (lead : Option ℕ) (c : Cut) : Type 0 where
   pub taken : IsTaken pdu mark_start sdus start owed lead c
   pub there : IsThere c (left_at start sdus)
+  pub padded : c.padded ≡ is_padded (pdu - 1) lead c (left_at start sdus)
 
 led_long : (lead : Option ℕ) → cond (is_one lead) 1 0 ≡ length (led_by lead)
 led_long None = refl
@@ -334,6 +335,7 @@ ready pdu mark_start sdus start owed lead c spent from is led few long e =
     record {
       taken = t;
       there = subst (λ (k : Cut). IsThere k (left_at start sdus)) (sym e) (placed_cut (pdu - 1 - spent) (left_at start sdus)).there;
+      padded = subst (λ (k : Cut). k.padded ≡ is_padded (pdu - 1) lead k (left_at start sdus)) (sym cut) (cut_is_padded (length (led_by lead)) (pdu - 1 - length (led_by lead)) (pdu - 1) (left_at start sdus) (omega (arith, few, from)));
     }
 
 -- the SDUs behind it, once those that have left are released
@@ -342,8 +344,8 @@ pub record IsMoved (pdu : ℕ) (mark_start : Bool) (sdus : List (List ℕ)) (sta
   pub units : units_at (drop n sdus) (record { sdu = ahead; used = (next_start start c).used }) c.owed ≡ units_after pdu mark_start (units_at sdus start owed)
   pub row : joined (left_at (record { sdu = ahead; used = (next_start start c).used }) (drop n sdus)) ≡ drop (carried (room_of pdu mark_start (units_at sdus start owed)) (units_at sdus start owed).lengths) (joined (left_at start sdus))
 
-pub moved : (pdu : ℕ) (mark_start : Bool) (sdus : List (List ℕ)) (start : Start) (owed : Bool) (lead : Option ℕ) (c : Cut) (n ahead : ℕ) → IsTaken pdu mark_start sdus start owed lead c → ahead ≡ cond c.owed 1 0 → n ≡ (next_start start c).sdu - ahead → IsMoved pdu mark_start sdus start owed c n ahead
-moved pdu mark_start sdus start owed lead c n ahead is a e =
+pub advanced : (pdu : ℕ) (mark_start : Bool) (sdus : List (List ℕ)) (start : Start) (owed : Bool) (lead : Option ℕ) (c : Cut) (n ahead : ℕ) → IsTaken pdu mark_start sdus start owed lead c → ahead ≡ cond c.owed 1 0 → n ≡ (next_start start c).sdu - ahead → IsMoved pdu mark_start sdus start owed c n ahead
+advanced pdu mark_start sdus start owed lead c n ahead is a e =
     let enough : n + cond c.owed 1 0 ≤ (next_start start c).sdu = omega (arith, a, e, next_sdu start c) in
     let at : (next_start start c).sdu - n ≡ ahead = omega (arith, a, e, next_sdu start c) in
     record {

@@ -42,18 +42,18 @@ drop_behind (u ∷ us) vs = drop_behind us vs
 
 -- a receiver with none that waits is the one that these PDUs make
 settled_receiver : (pdus : List UmView) (handed : ℕ) (r : Receiving) → is_settled r ≡ true → IsReceiverOf pdus handed r → r ≡ received pdus
-settled_receiver pdus handed r none is = fields r (received pdus) is.expected is.known is.part (no_units r.waiting none ∙ sym (none_waits opened pdus refl))
+settled_receiver pdus handed r none is = fields r (received pdus) is.vr_us is.known is.part (no_units r.waiting none ∙ sym (none_waits opened pdus refl))
   where
     made : ℕ → Bool → List ℕ → List (List ℕ) → Receiving
-    made expected known part waiting = record { expected = expected; known = known; part = part; waiting = waiting }
+    made vr_us known part waiting = record { vr_us = vr_us; known = known; part = part; waiting = waiting }
 
-    fields : (a b : Receiving) → a.expected ≡ b.expected → a.known ≡ b.known → a.part ≡ b.part → a.waiting ≡ b.waiting → a ≡ b
-    fields a b e k p w = ap₂ (λ x y. made x y a.part a.waiting) e k ∙ ap₂ (λ x y. made b.expected b.known x y) p w
+    fields : (a b : Receiving) → a.vr_us ≡ b.vr_us → a.known ≡ b.known → a.part ≡ b.part → a.waiting ≡ b.waiting → a ≡ b
+    fields a b e k p w = ap₂ (λ x y. made x y a.part a.waiting) e k ∙ ap₂ (λ x y. made b.vr_us b.known x y) p w
 
 pub receiver_more : (pdus : List UmView) (handed : ℕ) (r now : Receiving) (p : UmView) → is_settled r ≡ true → now ≡ after_pdu p r → IsReceiverOf pdus handed r → IsReceiverOf (pdus ++ p ∷ []) handed now
 receiver_more pdus handed r now p none e is = subst (IsReceiverOf (pdus ++ p ∷ []) handed) (sym e) (record {
   few = omega (arith, is.few, ap length (units-more opened pdus p), length-append (units_in pdus) (after_pdu p (received pdus)).waiting);
-  expected = ap (λ x. (after_pdu p x).expected) same ∙ ap (λ x. x.expected) (sym (received-more opened pdus p));
+  vr_us = ap (λ x. (after_pdu p x).vr_us) same ∙ ap (λ x. x.vr_us) (sym (received-more opened pdus p));
   known = ap (λ x. (after_pdu p x).known) same ∙ ap (λ x. x.known) (sym (received-more opened pdus p));
   part = ap (λ x. (after_pdu p x).part) same ∙ ap (λ x. x.part) (sym (received-more opened pdus p));
   waiting = ap (λ x. (after_pdu p x).waiting) same ∙ sym (ap (drop handed) (units-more opened pdus p) ∙ ap (λ k. drop k (units_in pdus ++ (after_pdu p (received pdus)).waiting)) all ∙ drop_behind (units_in pdus) (after_pdu p (received pdus)).waiting);
@@ -73,10 +73,10 @@ receiver_handed pdus handed r now result answer e is = subst (λ x. IsReceiverOf
     count = ap length is.waiting ∙ length-drop handed (units_in pdus)
 
     either : (us : List (List ℕ)) → r.waiting ≡ us → IsReceiverOf pdus (handed_after (handed_of us) handed) (after_unit r)
-    either [] none = record { few = is.few; expected = is.expected; known = is.known; part = is.part; waiting = ap (drop 1) none ∙ (sym none ∙ is.waiting) }
+    either [] none = record { few = is.few; vr_us = is.vr_us; known = is.known; part = is.part; waiting = ap (drop 1) none ∙ (sym none ∙ is.waiting) }
     either (u ∷ us) some = record {
       few = omega (arith, count, ap length some, is.few);
-      expected = is.expected;
+      vr_us = is.vr_us;
       known = is.known;
       part = is.part;
       waiting = ap (drop 1) is.waiting ∙ (drop-drop 1 handed (units_in pdus));
@@ -96,9 +96,9 @@ handed_units pdu row k r [] = refl
 handed_units pdu row k r (x ∷ xs) = either x.arrived (handed_units pdu row (k + 1) (all_handed (after_pdu (view_of pdu row k x.pdu) r)) xs) (handed_units pdu row (k + 1) r xs)
   where
     either : (b : Bool) → handed_up pdu row (k + 1) (all_handed (after_pdu (view_of pdu row k x.pdu) r)) xs ≡ units_from (all_handed (after_pdu (view_of pdu row k x.pdu) r)) (arrived_from pdu row (k + 1) xs) → handed_up pdu row (k + 1) r xs ≡ units_from r (arrived_from pdu row (k + 1) xs) → cond b ((after_pdu (view_of pdu row k x.pdu) r).waiting ++ handed_up pdu row (k + 1) (all_handed (after_pdu (view_of pdu row k x.pdu) r)) xs) (handed_up pdu row (k + 1) r xs) ≡ units_from r (cond b (view_of pdu row k x.pdu ∷ arrived_from pdu row (k + 1) xs) (arrived_from pdu row (k + 1) xs))
-    either true there gone = ap (λ us. (after_pdu (view_of pdu row k x.pdu) r).waiting ++ us) there
-    either false there gone = gone
+    either true there none_known = ap (λ us. (after_pdu (view_of pdu row k x.pdu) r).waiting ++ us) there
+    either false there none_known = none_known
 
 -- at opening
 pub receiver_opened : IsReceiverOf [] 0 opened
-receiver_opened = record { few = omega arith; expected = refl; known = refl; part = refl; waiting = refl }
+receiver_opened = record { few = omega arith; vr_us = refl; known = refl; part = refl; waiting = refl }

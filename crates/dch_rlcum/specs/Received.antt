@@ -25,7 +25,7 @@ units_in pdus = units_from opened pdus
 -- these PDUs came, and of the units that ended in them so many were handed up
 pub record IsReceiverOf (pdus : List UmView) (handed : ℕ) (r : Receiving) : Type 0 where
   pub few : handed ≤ length (units_in pdus)
-  pub expected : r.expected ≡ (received pdus).expected
+  pub vr_us : r.vr_us ≡ (received pdus).vr_us
   pub known : r.known ≡ (received pdus).known
   pub part : r.part ≡ (received pdus).part
   pub waiting : r.waiting ≡ drop handed (units_in pdus)

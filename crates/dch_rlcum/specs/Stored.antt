@@ -4,4 +4,4 @@ use Rattle.dch_sar.specs.Taking.{Waiting}
 use Rattle.dch_rlcum.specs.Receiving.{Receiving}
 
 abbrev pub receiving : ℕ → Bool → Waiting → Receiving
-receiving expected known u = record { expected = expected; known = known; part = u.part; waiting = u.waiting }
+receiving vr_us known u = record { vr_us = vr_us; known = known; part = u.part; waiting = u.waiting }

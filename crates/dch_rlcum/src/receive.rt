@@ -13,7 +13,7 @@ use std::marker::Model;
 /// The receiving side of an unacknowledged bearer. All memory is taken when it is opened.
 #[derive(Drop)]
 pub struct UmRecv {
-    expected: u8,
+    vr_us: u8,
     known: bool,
     units: Reassembler,
 }
@@ -24,7 +24,7 @@ impl Model for UmRecv {
 
     ghost Value = { Receiving };
 
-    ghost view = { λ r. receiving r.expected r.known r.units };
+    ghost view = { λ r. receiving r.vr_us r.known r.units };
 }
 
 impl UmRecv {
@@ -35,7 +35,7 @@ impl UmRecv {
     {
         let units = Reassembler::open(alloc)?;
         Ok(UmRecv {
-            expected: 0,
+            vr_us: 0,
             known: true,
             units,
         })
@@ -67,11 +67,11 @@ impl UmRecv {
         requires small { length p.now.body.marks + length p.now.body.octets ≤ 124 }
         ensures { self.new ≡ after_pdu p.now self.old }
     {
-        if p.sn != self.expected {
+        if p.sn != self.vr_us {
             self.abandon(false);
         }
         self.take_body(&p.body);
-        self.expected = (p.sn + 1) % 128;
+        self.vr_us = (p.sn + 1) % 128;
     }
 
     /// Hands up the first unit that waits, at the front of `out`, which has 1,500 octets.

@@ -127,10 +127,10 @@ ends_behind from at (n ∷ ns) o some le =
     later : n ≤ from - at → (at + n ≤ from → filter (nat_lt from) (ends_before (at + n) ns o) ≡ ends_before from (left_from (from - (at + n)) ns) o) → filter (nat_lt from) (ends_before at (n ∷ ns) o) ≡ ends_before from (left_from (from - at) (n ∷ ns)) o
     later more behind =
         let e : from - at - n ≡ from - (at + n) = omega arith in
-        let gone : nat_lt from (at + n) ≡ false = le-ltb from (at + n) (omega arith) in
+        let past_it : nat_lt from (at + n) ≡ false = le-ltb from (at + n) (omega arith) in
         let rest : ends_before from (left_from (from - (at + n)) ns) o ≡ ends_before from (left_from (from - at) (n ∷ ns)) o = ap (λ ms. ends_before from ms o) (sym (left_past (from - at) n ns more ∙ ap (λ k. left_from k ns) e)) in
         cond_both {A = List ℕ} (nat_lt (at + n) o) ((at + n) ∷ ends_before (at + n) ns o) [] (λ es. filter (nat_lt from) es ≡ ends_before from (left_from (from - at) (n ∷ ns)) o)
-        (λ before. rw gone (behind (omega arith) ∙ rest))
+        (λ before. rw past_it (behind (omega arith) ∙ rest))
         (λ past. sym (ends_none from (left_from (from - at) (n ∷ ns)) o (omega (arith, ltb-false (at + n) o past))))
 
 pub end_behind : (from at : ℕ) (ns : List ℕ) (o : ℕ) → at ≤ from → from < o → is_end at ns o ≡ is_end from (left_from (from - at) ns) o
@@ -152,10 +152,10 @@ ends_shift k at [] o = refl
 ends_shift k at (n ∷ ns) o =
     let e : k + at + n ≡ k + (at + n) = omega arith in
     let less : nat_lt (k + at + n) (k + o) ≡ nat_lt (at + n) o = grind (arith, nat_tests) in
-    let gone : k + at + n - k ≡ at + n = omega arith in
+    let past_it : k + at + n - k ≡ at + n = omega arith in
     ap (λ b. map (λ p. p - k) (cond b ((k + at + n) ∷ ends_before (k + at + n) ns (k + o)) [])) less
     ∙ cond_both {A = List ℕ} (nat_lt (at + n) o) ((at + n) ∷ ends_before (at + n) ns o) [] (λ es. map (λ p. p - k) (cond (nat_lt (at + n) o) ((k + at + n) ∷ ends_before (k + at + n) ns (k + o)) []) ≡ es)
-    (λ before. rw before (ap₂ (λ a b. a ∷ b) gone (ap (λ j. map (λ p. p - k) (ends_before j ns (k + o))) e ∙ ends_shift k (at + n) ns o)))
+    (λ before. rw before (ap₂ (λ a b. a ∷ b) past_it (ap (λ j. map (λ p. p - k) (ends_before j ns (k + o))) e ∙ ends_shift k (at + n) ns o)))
     (λ past. rw past refl)
 
 end_shift : (k at : ℕ) (ns : List ℕ) (o : ℕ) → is_end (k + at) ns (k + o) ≡ is_end at ns o
@@ -258,14 +258,14 @@ next_is size starts ns f o here is =
         same : (a b c : ℕ) → a ≡ c + b → c ≤ size → nat_lt a size ≡ nat_lt b (size - c)
         same a b c e le = grind (arith, nat_tests)
 
-    gone : f.from + o - f.from ≡ o
-    gone = omega arith
+    past_it : f.from + o - f.from ≡ o
+    past_it = omega arith
 
     shifted : map (λ e. e - f.from) (ends_before f.from left (f.from + o) ++ cond (is_marked room 0 left o) (reach size starts ns f ∷ []) []) ≡ marks_of room 0 left o
     shifted = map-append (λ e. e - f.from) (ends_before f.from left (f.from + o)) (cond (is_marked room 0 left o) (reach size starts ns f ∷ []) []) ∙ ap₂ (λ a b. a ++ b) (ends_from f.from left o) (one (is_marked room 0 left o))
       where
         one : (b : Bool) → map (λ e. e - f.from) (cond b (reach size starts ns f ∷ []) []) ≡ cond b (o ∷ []) []
-        one true = ap (λ k. k ∷ []) (ap (λ p. p - f.from) to ∙ gone)
+        one true = ap (λ k. k ∷ []) (ap (λ p. p - f.from) to ∙ past_it)
         one false = refl
 
 pub filled-next : (size : ℕ) (starts : Bool) (ns : List ℕ) (f : Front) (o : ℕ) → AreSome ns → f.from ≤ total ns → length (lead starts ns f) ≤ size → IsCarried (size - length (lead starts ns f)) 0 (left_from f.from ns) o → (reach size starts ns f ≡ f.from + o) × ((marks_of (size - length (lead starts ns f)) 0 (left_from f.from ns) o ≡ map (λ e. e - f.from) (ends_marked size starts ns f)) × ((next_front size starts ns f).owed ≡ is_owed (size - length (lead starts ns f)) 0 (left_from f.from ns) o))

@@ -1,7 +1,8 @@
 -- What a PDU takes of SDUs, and what is left.
 use Rattle.std.proofs.Common.{◌≡◌, ◌+◌, ◌-◌, ◌<◌, ◌≤◌, ℕ, zero, suc, List, [], ◌∷◌, ◌++◌, Bool, true, false, cond, length, get_or, drop, take, arith, refl, sym, ap, ap₂, ◌∙◌, subst, ⊎_elim, append_assoc, length-append, length-drop}
 use Rattle.std.specs.Prelude.{nat_lt, ◌==◌}
-use Rattle.std.proofs.lemmas.Bool.{cases_lt, eqb-true, le-ltb, lt-ltb, ltb-false}
+use Rattle.std.proofs.lemmas.Bool.{cases_lt, eqb-true, le-ltb, lt-ltb, ltb-false, ltb-true}
+use Rattle.std.proofs.lemmas.Bool.Decides.{nat_tests}
 use Rattle.std.proofs.lemmas.List.{append-nil, length-take-le, take_all, take_at}
 use Rattle.dch_am.specs.Bodies.{Filled, joined, one_more_piece, place}
 use Rattle.dch_txbuf.specs.declared.taken.Cut.{Cut}
@@ -19,14 +20,14 @@ pub placed_cut : (free : ℕ) (us : List (List ℕ)) → IsCutAs (place free us)
 placed_cut free [] = record { pieces = refl; rest = refl; after = refl; there = record { pieces = omega arith; rest = omega arith } }
 placed_cut free (u ∷ us) = go (nat_lt (length u) free) refl (placed_cut (free - length u - 1) us)
   where
-    last : (b : Bool) → (length u == free) ≡ b → free ≤ length u → IsCutAs (cond (length u == free) (record { pieces = []; rest = u; unsent = record { owed = true; units = us } }) (record { pieces = []; rest = take free u; unsent = record { owed = false; units = drop free u ∷ us } })) (record { pieces = 0; rest = free; owed = length u == free }) (u ∷ us)
+    last : (b : Bool) → (length u == free) ≡ b → free ≤ length u → IsCutAs (cond (length u == free) (record { pieces = []; rest = u; unsent = record { owed = true; units = us } }) (record { pieces = []; rest = take free u; unsent = record { owed = false; units = drop free u ∷ us } })) (record { pieces = 0; rest = free; owed = length u == free; padded = false }) (u ∷ us)
     last true e le = rw e (record { pieces = refl; rest = sym (take_all free u (omega (arith, eqb-true (length u) free e))); after = refl; there = record { pieces = omega arith; rest = le } })
     last false e le = rw e (record { pieces = refl; rest = refl; after = refl; there = record { pieces = omega arith; rest = le } })
 
     more : IsCutAs (place (free - length u - 1) us) (cut_of (free - length u - 1) us) us → IsCutAs (one_more_piece u (place (free - length u - 1) us)) (with_pieces 1 (cut_of (free - length u - 1) us)) (u ∷ us)
     more is =
         let e : 1 + (cut_of (free - length u - 1) us).pieces ≡ suc (cut_of (free - length u - 1) us).pieces = omega arith in
-        let q : with_pieces 1 (cut_of (free - length u - 1) us) ≡ record { pieces = suc (cut_of (free - length u - 1) us).pieces; rest = (cut_of (free - length u - 1) us).rest; owed = (cut_of (free - length u - 1) us).owed } = ap (λ p. record { pieces = p; rest = (cut_of (free - length u - 1) us).rest; owed = (cut_of (free - length u - 1) us).owed }) e in
+        let q : with_pieces 1 (cut_of (free - length u - 1) us) ≡ record { pieces = suc (cut_of (free - length u - 1) us).pieces; rest = (cut_of (free - length u - 1) us).rest; owed = (cut_of (free - length u - 1) us).owed; padded = (cut_of (free - length u - 1) us).padded } = ap (λ p. record { pieces = p; rest = (cut_of (free - length u - 1) us).rest; owed = (cut_of (free - length u - 1) us).owed; padded = (cut_of (free - length u - 1) us).padded }) e in
         subst (λ c. IsCutAs (one_more_piece u (place (free - length u - 1) us)) c (u ∷ us)) (sym q) (record {
           pieces = ap (λ ps. u ∷ ps) is.pieces;
           rest = is.rest;
@@ -34,12 +35,38 @@ placed_cut free (u ∷ us) = go (nat_lt (length u) free) refl (placed_cut (free 
           there = record { pieces = omega (arith, is.there.pieces); rest = is.there.rest };
         })
       where
-        later : (c : Cut) → after_cut c us ≡ after_cut (record { pieces = suc c.pieces; rest = c.rest; owed = c.owed }) (u ∷ us)
+        later : (c : Cut) → after_cut c us ≡ after_cut (record { pieces = suc c.pieces; rest = c.rest; owed = c.owed; padded = c.padded }) (u ∷ us)
         later c = let e : suc c.pieces + 1 ≡ suc (c.pieces + 1) = omega arith in ap (λ n. record { owed = c.owed; units = cond c.owed (drop n (u ∷ us)) (trimmed c.rest (drop c.pieces us)) }) (sym e)
 
     go : (b : Bool) → nat_lt (length u) free ≡ b → IsCutAs (place (free - length u - 1) us) (cut_of (free - length u - 1) us) us → IsCutAs (place free (u ∷ us)) (cut_of free (u ∷ us)) (u ∷ us)
     go true less is = rw less (more is)
     go false most is = rw most (last (length u == free) refl (ltb-false (length u) free most))
+
+-- octets are left behind what the next PDU takes, or none, as it tells
+cut_padded : (free : ℕ) (us : List (List ℕ)) → (cut_of free us).padded ≡ nat_lt (length (octets_of (cut_of free us) us) + (cut_of free us).pieces) free
+cut_padded free [] = refl
+cut_padded free (u ∷ us) = go (nat_lt (length u) free) refl (cut_padded (free - length u - 1) us)
+  where
+    same_room : (n o p room : ℕ) → n < room → nat_lt (o + p) (room - n - 1) ≡ nat_lt (n + o + (1 + p)) room
+    same_room n o p room l = grind (arith, nat_tests)
+
+    more : (c : Cut) → length u < free → c.padded ≡ nat_lt (length (octets_of c us) + c.pieces) (free - length u - 1) → c.padded ≡ nat_lt (length (octets_of (with_pieces 1 c) (u ∷ us)) + (1 + c.pieces)) free
+    more c less is =
+        let e : 1 + c.pieces ≡ suc c.pieces = omega arith in
+        let same : octets_of (with_pieces 1 c) (u ∷ us) ≡ u ++ octets_of c us = ap (λ p. joined (take p (u ∷ us)) ++ take c.rest (first_of (drop p (u ∷ us)))) e ∙ append_assoc u (joined (take c.pieces us)) (take c.rest (first_of (drop c.pieces us))) in
+        let n : length (octets_of (with_pieces 1 c) (u ∷ us)) ≡ length u + length (octets_of c us) = ap (λ (xs : List ℕ). length xs) same ∙ length-append u (octets_of c us) in
+        is ∙ (same_room (length u) (length (octets_of c us)) c.pieces free less ∙ ap (λ k. nat_lt (k + (1 + c.pieces)) free) (sym n))
+
+    go : (b : Bool) → nat_lt (length u) free ≡ b → (cut_of (free - length u - 1) us).padded ≡ nat_lt (length (octets_of (cut_of (free - length u - 1) us) us) + (cut_of (free - length u - 1) us).pieces) (free - length u - 1) → (cut_of free (u ∷ us)).padded ≡ nat_lt (length (octets_of (cut_of free (u ∷ us)) (u ∷ us)) + (cut_of free (u ∷ us)).pieces) free
+    go true less is = rw less (more (cut_of (free - length u - 1) us) (ltb-true (length u) free less) is)
+    go false most is = rw most (sym (le-ltb (length (take free u) + 0) free (omega (arith, length-take-le free u (ltb-false (length u) free most)))))
+
+-- the same of the whole room, of which so many octets are not for it
+pub cut_is_padded : (n free room : ℕ) (us : List (List ℕ)) → n + free ≡ room → (cut_of free us).padded ≡ nat_lt (n + length (octets_of (cut_of free us) us) + (cut_of free us).pieces) room
+cut_is_padded n free room us e = cut_padded free us ∙ same_room (length (octets_of (cut_of free us) us)) (cut_of free us).pieces
+  where
+    same_room : (o p : ℕ) → nat_lt (o + p) free ≡ nat_lt (n + o + p) room
+    same_room o p = grind (arith, nat_tests)
 
 -- the SDU at a place stands in front of those behind it
 pub drop_at : (us : List (List ℕ)) (i : ℕ) → i < length us → drop i us ≡ get_or us i [] ∷ drop (i + 1) us
@@ -59,7 +86,7 @@ trimmed_none (u ∷ us) = refl
 
 -- one step of the walk
 with_more : (n : ℕ) (c : Cut) → with_pieces n (with_pieces 1 c) ≡ with_pieces (n + 1) c
-with_more n c = let e : n + (1 + c.pieces) ≡ n + 1 + c.pieces = omega arith in ap (λ p. record { pieces = p; rest = c.rest; owed = c.owed }) e
+with_more n c = let e : n + (1 + c.pieces) ≡ n + 1 + c.pieces = omega arith in ap (λ p. record { pieces = p; rest = c.rest; owed = c.owed; padded = c.padded }) e
 
 pub cut_more : (us : List (List ℕ)) (i used free : ℕ) → i < length us → length (get_or us i []) - used < free → cut_of free (trimmed used (drop i us)) ≡ with_pieces 1 (cut_of (free - (length (get_or us i []) - used) - 1) (trimmed 0 (drop (i + 1) us)))
 cut_more us i used free l less =
@@ -71,14 +98,14 @@ cut_more us i used free l less =
     step : (u : List ℕ) → length u < free → cut_of free (u ∷ drop (i + 1) us) ≡ with_pieces 1 (cut_of (free - length u - 1) (drop (i + 1) us))
     step u m = rw (lt-ltb (length u) free m) refl
 
-pub cut_last : (us : List (List ℕ)) (i used free : ℕ) → i < length us → free ≤ length (get_or us i []) - used → cut_of free (trimmed used (drop i us)) ≡ record { pieces = 0; rest = free; owed = (length (get_or us i []) - used) == free }
+pub cut_last : (us : List (List ℕ)) (i used free : ℕ) → i < length us → free ≤ length (get_or us i []) - used → cut_of free (trimmed used (drop i us)) ≡ record { pieces = 0; rest = free; owed = (length (get_or us i []) - used) == free; padded = false }
 cut_last us i used free l most =
     let n : length (drop used (get_or us i [])) ≡ length (get_or us i []) - used = length-drop used (get_or us i []) in
     ap (λ xs. cut_of free (trimmed used xs)) (drop_at us i l)
     ∙ (step (drop used (get_or us i [])) (omega (arith, n, most))
-    ∙ ap (λ k. record { pieces = 0; rest = free; owed = k == free }) n)
+    ∙ ap (λ k. record { pieces = 0; rest = free; owed = k == free; padded = false }) n)
   where
-    step : (u : List ℕ) → free ≤ length u → cut_of free (u ∷ drop (i + 1) us) ≡ record { pieces = 0; rest = free; owed = length u == free }
+    step : (u : List ℕ) → free ≤ length u → cut_of free (u ∷ drop (i + 1) us) ≡ record { pieces = 0; rest = free; owed = length u == free; padded = false }
     step u m = rw (le-ltb (length u) free m) refl
 
 -- the walk of `next_cut` at SDU i
@@ -89,7 +116,7 @@ pub record Walks (items : List (List ℕ)) (start : Start) (room free used i : �
   pub from : start.sdu ≤ i
 
 none_more : (n : ℕ) (c : Cut) → n ≡ 0 → c ≡ with_pieces n c
-none_more n c e = let q : c.pieces ≡ n + c.pieces = omega (arith, e) in ap (λ p. record { pieces = p; rest = c.rest; owed = c.owed }) q
+none_more n c e = let q : c.pieces ≡ n + c.pieces = omega (arith, e) in ap (λ p. record { pieces = p; rest = c.rest; owed = c.owed; padded = c.padded }) q
 
 pub walks_first : (items : List (List ℕ)) (start : Start) (room : ℕ) → IsStart items start → Walks items start room room start.used start.sdu
 walks_first items start room is = record { cut = none_more (start.sdu - start.sdu) (cut_of room (left_at start items)) (omega arith); used_is = is.used; few = omega arith; from = omega arith }
@@ -108,17 +135,17 @@ walks_on items start room free used i left w l e less = record {
   from = omega (arith, w.from);
 }
 
-pub walks_last : (items : List (List ℕ)) (start : Start) (room free used i left : ℕ) → Walks items start room free used i → i < length items → left ≡ length (get_or items i []) - used → free ≤ left → record { pieces = i - start.sdu; rest = free; owed = left == free } ≡ cut_of room (left_at start items)
+pub walks_last : (items : List (List ℕ)) (start : Start) (room free used i left : ℕ) → Walks items start room free used i → i < length items → left ≡ length (get_or items i []) - used → free ≤ left → record { pieces = i - start.sdu; rest = free; owed = left == free; padded = false } ≡ cut_of room (left_at start items)
 walks_last items start room free used i left w l e most =
     let n : i - start.sdu ≡ i - start.sdu + 0 = omega arith in
-    sym (w.cut ∙ (ap (with_pieces (i - start.sdu)) (cut_last items i used free l (omega (arith, e, most)) ∙ ap (λ m. record { pieces = 0; rest = free; owed = m == free }) (sym e))
-    ∙ ap (λ m. record { pieces = m; rest = free; owed = left == free }) (sym n)))
+    sym (w.cut ∙ (ap (with_pieces (i - start.sdu)) (cut_last items i used free l (omega (arith, e, most)) ∙ ap (λ m. record { pieces = 0; rest = free; owed = m == free; padded = false }) (sym e))
+    ∙ ap (λ m. record { pieces = m; rest = free; owed = left == free; padded = false }) (sym n)))
 
-pub walks_end : (items : List (List ℕ)) (start : Start) (room free used i : ℕ) → Walks items start room free used i → length items ≡ i → record { pieces = length items - start.sdu; rest = 0; owed = false } ≡ cut_of room (left_at start items)
+pub walks_end : (items : List (List ℕ)) (start : Start) (room free used i : ℕ) → Walks items start room free used i → length items ≡ i → record { pieces = length items - start.sdu; rest = 0; owed = false; padded = nat_lt 0 free } ≡ cut_of room (left_at start items)
 walks_end items start room free used i w e =
     let n : length items - start.sdu ≡ i - start.sdu + 0 = omega (arith, e) in
     sym (w.cut ∙ (ap (λ xs. with_pieces (i - start.sdu) (cut_of free (trimmed used xs))) (drop_end items i (omega (arith, e)))
-    ∙ ap (λ m. record { pieces = m; rest = 0; owed = false }) (sym n)))
+    ∙ ap (λ m. record { pieces = m; rest = 0; owed = false; padded = nat_lt 0 free }) (sym n)))
 
 -- what stands at a place of what is left
 pub record IsPiece (us : List (List ℕ)) (n : ℕ) (y : List ℕ) (ys : List (List ℕ)) : Type 0 where

@@ -10,8 +10,8 @@ use Rattle.dch_am.specs.Bodies.{ends_at, joined}
 use Rattle.dch_rlcpdu.specs.Marks.{indicators}
 use Rattle.dch_txbuf.specs.declared.taken.Cut.{Cut}
 use Rattle.dch_txbuf.specs.declared.taken.Start.{Start}
-use Rattle.dch_txbuf.specs.Cuts.{IsStart, IsThere, first_of, led_by, left_at, marks_with, octets_of, trimmed, with_lead, with_mark}
-use Rattle.dch_txbuf.proofs.Cutting.{Carries, inside_items, joined_next, joined_within, piece_at, trimmed_none}
+use Rattle.dch_txbuf.specs.Cuts.{IsThere, is_padded, led_by, left_at, marks_with, octets_of, trimmed, with_lead, with_mark}
+use Rattle.dch_txbuf.proofs.Cutting.{Carries, inside_items, joined_next, joined_within, piece_at}
 
 -- the end of a piece
 get_or-ends : (at : ℕ) (ps : List (List ℕ)) (j : ℕ) → j < length ps → get_or (ends_at at ps) j 0 ≡ at + length (joined (take (j + 1) ps))
@@ -39,9 +39,9 @@ length-marks lead room c us there = omega (
   length-take-le c.pieces us there.pieces,
 )
 
--- how many length indicators a PDU has
-pub count_is : (lead : Option ℕ) (room marks b : ℕ) (c : Cut) (us : List (List ℕ)) → IsThere c us → marks ≡ length (led_by lead) + c.pieces + b → b ≡ cond (nat_lt (spent lead c us) room) 1 0 → marks ≡ length (marks_with lead room c us)
-count_is lead room marks b c us there e f = omega (arith, e, f, length-marks lead room c us there, padding_long (nat_lt (spent lead c us) room))
+-- how many length indicators a PDU has, with that of padding or without
+marks_count : (lead : Option ℕ) (room : ℕ) (c : Cut) (us : List (List ℕ)) → IsThere c us → c.padded ≡ is_padded room lead c us → length (marks_with lead room c us) ≡ length (led_by lead) + c.pieces + cond c.padded 1 0
+marks_count lead room c us there told = length-marks lead room c us there ∙ ap (λ k. length (led_by lead) + c.pieces + k) (padding_long (nat_lt (spent lead c us) room) ∙ ap (λ t. cond t 1 0) (sym told))
   where
     padding_long : (t : Bool) → length (cond {A = List ℕ} t (127 ∷ []) []) ≡ cond t 1 0
     padding_long true = refl
@@ -120,16 +120,6 @@ pub record Counts (items : List (List ℕ)) (start : Start) (at used i : ℕ) : 
   pub left : trimmed used (drop i items) ≡ drop (i - start.sdu) (left_at start items)
   pub used_is : used ≤ length (get_or items i [])
 
-pub counts_first : (items : List (List ℕ)) (start : Start) → IsStart items start → Counts items start 0 start.used start.sdu
-counts_first items start is =
-    let z : start.sdu - start.sdu ≡ 0 = omega arith in
-    record {
-      from = omega arith;
-      count = sym (ap (λ n. length (joined (take n (left_at start items)))) z);
-      left = sym (ap (λ n. drop n (left_at start items)) z);
-      used_is = is.used;
-    }
-
 -- the next piece is there, and how many octets there are with it
 pub record IsEnd (items : List (List ℕ)) (start : Start) (at used i pieces : ℕ) : Type 0 where
   pub inside : i < length items
@@ -151,25 +141,6 @@ next_end items start at used i pieces k l there =
     ) in
     record { inside = inside; sum = sum; most = omega (arith, sum, joined_within (left_at start items) (i - start.sdu + 1) pieces (omega (arith, k.from, l))) }
 
-pub counts_on : (items : List (List ℕ)) (start : Start) (at used i pieces more : ℕ) → Counts items start at used i → i < start.sdu + pieces → pieces ≤ length (left_at start items) → more ≡ length (get_or items i []) - used → Counts items start (at + more) 0 (i + 1)
-counts_on items start at used i pieces more k l there e =
-    let m : i + 1 - start.sdu ≡ i - start.sdu + 1 = omega (arith, k.from) in
-    let is = next_end items start at used i pieces k l there in
-    let here = piece_at items (left_at start items) i (i - start.sdu) used k.left is.inside in
-    record {
-      from = omega (arith, k.from);
-      count = ap (λ n. at + n) e ∙ (is.sum ∙ ap (λ j. length (joined (take j (left_at start items)))) (sym m));
-      left = trimmed_none (drop (i + 1) items) ∙ (sym here.behind ∙ ap (λ j. drop j (left_at start items)) (sym m));
-      used_is = omega arith;
-    }
-
-pub length-octets : (c : Cut) (us : List (List ℕ)) → IsThere c us → length (octets_of c us) ≡ length (joined (take c.pieces us)) + c.rest
-length-octets c us there = omega (
-  arith,
-  length-append (joined (take c.pieces us)) (take c.rest (first_of (drop c.pieces us))),
-  length-take-le c.rest (first_of (drop c.pieces us)) there.rest,
-)
-
 pub counts_of : {items : List (List ℕ)} {start : Start} {first out : List ℕ} {at used i : ℕ} → Carries items start first out at used i → Counts items start at used i
 counts_of k = record { from = k.from; count = k.count; left = k.left; used_is = k.used_is }
 
@@ -184,21 +155,19 @@ placed_on items start lead room c marks now at used i more before k is there l e
     (placed_more (marks_with lead room c (left_at start items)) (length (led_by lead) + (i - start.sdu)) (at + more) marks now is inside here (n ∙ ap (λ m. with_mark (at + more) (m + (i - start.sdu)) marks) b))
 
 -- all length indicators are written, with that of padding or without
-pub all_padded : (lead : Option ℕ) (room ends : ℕ) (c : Cut) (us : List (List ℕ)) (out now : List ℕ) → IsThere c us → length out ≡ length (marks_with lead room c us) → take (length (led_by lead) + c.pieces) out ≡ take (length (led_by lead) + c.pieces) (indicators (marks_with lead room c us)) → ends ≡ length (led_by lead) + c.pieces → ends < length out → now ≡ with_mark 127 ends out → now ≡ indicators (marks_with lead room c us)
-all_padded lead room ends c us out now there same front e l n =
-    let more : length (led_by lead) + c.pieces < length (marks_with lead room c us) = omega (arith, l, same, e) in
-    let is = placed_more (marks_with lead room c us) (length (led_by lead) + c.pieces) 127 out now (record { same = same; front = front }) more (mark_last lead room c us there more) (n ∙ ap (λ k. with_mark 127 k out) e) in
-    let all : length (led_by lead) + c.pieces + 1 ≡ length (marks_with lead room c us) = omega (arith, more, length-marks lead room c us there, few (nat_lt (spent lead c us) room)) in
+pub all_padded : (lead : Option ℕ) (room at : ℕ) (c : Cut) (us : List (List ℕ)) (out now : List ℕ) → IsThere c us → length out ≡ length (marks_with lead room c us) → take (length (led_by lead) + c.pieces) out ≡ take (length (led_by lead) + c.pieces) (indicators (marks_with lead room c us)) → c.padded ≡ is_padded room lead c us → c.padded ≡ true → at ≡ length out - 1 → now ≡ with_mark 127 at out → now ≡ indicators (marks_with lead room c us)
+all_padded lead room at c us out now there same front told some e n =
+    let all : length (led_by lead) + c.pieces + 1 ≡ length (marks_with lead room c us) = sym (marks_count lead room c us there told ∙ ap (λ b. length (led_by lead) + c.pieces + cond b 1 0) some) in
+    let last : at ≡ length (led_by lead) + c.pieces = omega (arith, e, same, all) in
+    let more : length (led_by lead) + c.pieces < length (marks_with lead room c us) = omega (arith, all) in
+    let is = placed_more (marks_with lead room c us) (length (led_by lead) + c.pieces) 127 out now (record { same = same; front = front }) more (mark_last lead room c us there more) (n ∙ ap (λ k. with_mark 127 k out) last) in
     placed_all (marks_with lead room c us) now (subst (λ k. IsPlaced (marks_with lead room c us) k now) all is)
-  where
-    few : (t : Bool) → length (cond {A = List ℕ} t (127 ∷ []) []) ≤ 1
-    few true = omega arith
-    few false = omega arith
 
-pub all_ended : (lead : Option ℕ) (room ends : ℕ) (c : Cut) (us : List (List ℕ)) (out : List ℕ) → IsThere c us → length out ≡ length (marks_with lead room c us) → take (length (led_by lead) + c.pieces) out ≡ take (length (led_by lead) + c.pieces) (indicators (marks_with lead room c us)) → ends ≡ length (led_by lead) + c.pieces → length out ≤ ends → out ≡ indicators (marks_with lead room c us)
-all_ended lead room ends c us out there same front e l =
-    let all : length (led_by lead) + c.pieces ≡ length (marks_with lead room c us) = omega (arith, l, same, e, length-marks lead room c us there) in
-    placed_all (marks_with lead room c us) out (subst (λ k. IsPlaced (marks_with lead room c us) k out) all (record { same = same; front = front }))
+pub all_ended : (lead : Option ℕ) (room : ℕ) (c : Cut) (us : List (List ℕ)) (out : List ℕ) → IsThere c us → length out ≡ length (marks_with lead room c us) → take (length (led_by lead) + c.pieces) out ≡ take (length (led_by lead) + c.pieces) (indicators (marks_with lead room c us)) → c.padded ≡ is_padded room lead c us → c.padded ≡ false → out ≡ indicators (marks_with lead room c us)
+all_ended lead room c us out there same front told none =
+    let all : length (led_by lead) + c.pieces + 0 ≡ length (marks_with lead room c us) = sym (marks_count lead room c us there told ∙ ap (λ b. length (led_by lead) + c.pieces + cond b 1 0) none) in
+    let e : length (led_by lead) + c.pieces ≡ length (marks_with lead room c us) = omega (arith, all) in
+    placed_all (marks_with lead room c us) out (subst (λ k. IsPlaced (marks_with lead room c us) k out) e (record { same = same; front = front }))
 
 byte_is : (b : Bool) → bool_byte b ≡ cond b 1 0
 byte_is true = refl
@@ -210,8 +179,7 @@ pub record IsSplit (lead : Option ℕ) (room n m : ℕ) (c : Cut) (us : List (Li
   pub count : n ≡ length (marks_with lead (n + m) c us)
   pub rest : m ≡ room - length (marks_with lead room c us)
 
-pub split_is : (lead : Option ℕ) (room n m ends carried b : ℕ) (c : Cut) (us : List (List ℕ)) → IsThere c us → n ≡ ends + b → n + m ≡ room → ends ≡ length (led_by lead) + c.pieces → carried ≡ length (octets_of c us) → b ≡ bool_byte (nat_lt (ends + carried) room) → IsSplit lead room n m c us
-split_is lead room n m ends carried b c us there e whole f g h =
-    let sum : ends + carried ≡ spent lead c us = omega (arith, f, g) in
-    let count : n ≡ length (marks_with lead room c us) = count_is lead room n b c us there (omega (arith, e, f)) (h ∙ (byte_is (nat_lt (ends + carried) room) ∙ ap (λ k. cond (nat_lt k room) 1 0) sum)) in
+pub split_is : (lead : Option ℕ) (room n m ends b : ℕ) (c : Cut) (us : List (List ℕ)) → IsThere c us → n ≡ ends + b → n + m ≡ room → ends ≡ length (led_by lead) + c.pieces → b ≡ bool_byte c.padded → c.padded ≡ is_padded room lead c us → IsSplit lead room n m c us
+split_is lead room n m ends b c us there e whole f g told =
+    let count : n ≡ length (marks_with lead room c us) = omega (arith, e, f, g, byte_is c.padded, marks_count lead room c us there told) in
     record { whole = whole; count = count ∙ ap (λ r. length (marks_with lead r c us)) (sym whole); rest = omega (arith, count, whole) }

@@ -138,14 +138,14 @@ le_spare a b c l = ⊎_elim
     (cases_lt c (b + a))
 
 -- the buffer with one SDU more
-pub ring_room : (row : Buffer (List ℕ)) (sdus : Buffer Sdu) (gone n : ℕ) → IsStored row sdus gone → 1 ≤ n → length row.items + blocks_for n ≤ row.capacity → length sdus.items < sdus.capacity
-ring_room row sdus gone n is l room = omega (arith, few_sdus sdus.items is.sized, is.filled, is.room, some_block n l, room)
+pub ring_room : (row : Buffer (List ℕ)) (sdus : Buffer Sdu) (freed n : ℕ) → IsStored row sdus freed → 1 ≤ n → length row.items + blocks_for n ≤ row.capacity → length sdus.items < sdus.capacity
+ring_room row sdus freed n is l room = omega (arith, few_sdus sdus.items is.sized, is.filled, is.room, some_block n l, room)
 
-pub stored_push : (row : Buffer (List ℕ)) (sdus : Buffer Sdu) (gone first : ℕ) (sdu : List ℕ) → IsStored row sdus gone → first ≡ (gone + length row.items) % 65536 → 1 ≤ length sdu → length sdu ≤ 1500 → length row.items + blocks_for (length sdu) ≤ row.capacity → IsStored (buffer (row.items ++ chunked (blocks_for (length sdu)) sdu) row.capacity) (buffer (sdus.items ++ record { first = first; octets = length sdu } ∷ []) sdus.capacity) gone
-stored_push row sdus gone first sdu is e l m room = record {
+pub stored_push : (row : Buffer (List ℕ)) (sdus : Buffer Sdu) (freed first : ℕ) (sdu : List ℕ) → IsStored row sdus freed → first ≡ (freed + length row.items) % 65536 → 1 ≤ length sdu → length sdu ≤ 1500 → length row.items + blocks_for (length sdu) ≤ row.capacity → IsStored (buffer (row.items ++ chunked (blocks_for (length sdu)) sdu) row.capacity) (buffer (sdus.items ++ record { first = first; octets = length sdu } ∷ []) sdus.capacity) freed
+stored_push row sdus freed first sdu is e l m room = record {
   whole = whole_append row.items (chunked (blocks_for (length sdu)) sdu) is.whole (chunked_whole (blocks_for (length sdu)) sdu);
   sized = sized_push sdus.items (record { first = first; octets = length sdu }) is.sized l m;
-  placed = placed_push gone sdus.items (record { first = first; octets = length sdu }) is.placed (e ∙ ap (λ n. (gone + n) % 65536) is.filled);
+  placed = placed_push freed sdus.items (record { first = first; octets = length sdu }) is.placed (e ∙ ap (λ n. (freed + n) % 65536) is.filled);
   filled = omega (arith, is.filled, length-append row.items (chunked (blocks_for (length sdu)) sdu), length-chunked (blocks_for (length sdu)) sdu, blocks_push sdus.items (record { first = first; octets = length sdu }));
   fits = omega (arith, room, length-append row.items (chunked (blocks_for (length sdu)) sdu), length-chunked (blocks_for (length sdu)) sdu);
   few = is.few;
@@ -153,18 +153,18 @@ stored_push row sdus gone first sdu is e l m room = record {
   small = is.small;
 }
 
-pub pushed_view : (row : Buffer (List ℕ)) (sdus : Buffer Sdu) (gone first : ℕ) (sdu : List ℕ) → IsStored row sdus gone → sdus_of (sdus.items ++ record { first = first; octets = length sdu } ∷ []) (row.items ++ chunked (blocks_for (length sdu)) sdu) ≡ sdus_of sdus.items row.items ++ sdu ∷ []
-pushed_view row sdus gone first sdu is =
+pub pushed_view : (row : Buffer (List ℕ)) (sdus : Buffer Sdu) (freed first : ℕ) (sdu : List ℕ) → IsStored row sdus freed → sdus_of (sdus.items ++ record { first = first; octets = length sdu } ∷ []) (row.items ++ chunked (blocks_for (length sdu)) sdu) ≡ sdus_of sdus.items row.items ++ sdu ∷ []
+pushed_view row sdus freed first sdu is =
     sdus_push sdus.items (record { first = first; octets = length sdu }) row.items (chunked (blocks_for (length sdu)) sdu) is.whole is.filled
     ∙ ap (λ xs. sdus_of sdus.items row.items ++ xs ∷ []) (read_back (blocks_for (length sdu)) sdu (in_blocks (length sdu)))
 
 -- the blocks of the SDU at a place
-pub place_at : (row : Buffer (List ℕ)) (sdus : Buffer Sdu) (gone i : ℕ) → IsStored row sdus gone → i < length sdus.items → ((get_or sdus.items i no_sdu).first + (65536 - gone)) % 65536 ≡ blocks_of (take i sdus.items)
-place_at row sdus gone i is l = omega (arith, placed_at gone sdus.items i l is.placed, blocks_before sdus.items i l, is.filled, is.fits, is.few, is.small)
+pub place_at : (row : Buffer (List ℕ)) (sdus : Buffer Sdu) (freed i : ℕ) → IsStored row sdus freed → i < length sdus.items → ((get_or sdus.items i no_sdu).first + (65536 - freed)) % 65536 ≡ blocks_of (take i sdus.items)
+place_at row sdus freed i is l = omega (arith, placed_at freed sdus.items i l is.placed, blocks_before sdus.items i l, is.filled, is.fits, is.few, is.small)
 
-pub copied : (row : Buffer (List ℕ)) (sdus : Buffer Sdu) (gone i first from n : ℕ) → IsStored row sdus gone → i < length sdus.items → first ≡ (get_or sdus.items i no_sdu).first → from + n ≤ length (get_or (sdus_of sdus.items row.items) i []) → take n (drop from (joined (drop ((first + (65536 - gone)) % 65536) row.items))) ≡ take n (drop from (get_or (sdus_of sdus.items row.items) i []))
-copied row sdus gone i first from n is l e inside =
-    ap (λ b. take n (drop from (joined (drop b row.items)))) (ap (λ f. (f + (65536 - gone)) % 65536) e ∙ place_at row sdus gone i is l)
+pub copied : (row : Buffer (List ℕ)) (sdus : Buffer Sdu) (freed i first from n : ℕ) → IsStored row sdus freed → i < length sdus.items → first ≡ (get_or sdus.items i no_sdu).first → from + n ≤ length (get_or (sdus_of sdus.items row.items) i []) → take n (drop from (joined (drop ((first + (65536 - freed)) % 65536) row.items))) ≡ take n (drop from (get_or (sdus_of sdus.items row.items) i []))
+copied row sdus freed i first from n is l e inside =
+    ap (λ b. take n (drop from (joined (drop b row.items)))) (ap (λ f. (f + (65536 - freed)) % 65536) e ∙ place_at row sdus freed i is l)
     ∙ (sym (part_of from n (get_or sdus.items i no_sdu).octets (joined (drop (blocks_of (take i sdus.items)) row.items)) (omega (arith, inside, octets_at sdus.items row.items i l is.whole is.filled)))
     ∙ ap (λ xs. take n (drop from xs)) (sym (sdus_at sdus.items row.items i l)))
 
@@ -173,11 +173,11 @@ pub front_of : (ss : List Sdu) (s : Sdu) → Some s ≡ slice_get ss 0 → ss �
 front_of [] s e = absurd (cc)
 front_of (t ∷ ss) s e = let q : t ≡ s = cc in ap (λ x. x ∷ ss) q
 
-pub stored_pop : (row : Buffer (List ℕ)) (s : Sdu) (ss : List Sdu) (room gone : ℕ) → IsStored row (buffer (s ∷ ss) room) gone → IsStored (buffer (drop (blocks_for s.octets) row.items) row.capacity) (buffer ss room) ((gone + blocks_for s.octets) % 65536)
-stored_pop row s ss room gone is = record {
+pub stored_pop : (row : Buffer (List ℕ)) (s : Sdu) (ss : List Sdu) (room freed : ℕ) → IsStored row (buffer (s ∷ ss) room) freed → IsStored (buffer (drop (blocks_for s.octets) row.items) row.capacity) (buffer ss room) ((freed + blocks_for s.octets) % 65536)
+stored_pop row s ss room freed is = record {
   whole = whole_drop (blocks_for s.octets) row.items is.whole;
   sized = is.sized.1.1;
-  placed = placed_wrap (gone + blocks_for s.octets) ((gone + blocks_for s.octets) % 65536) ss (omega arith) is.placed.1;
+  placed = placed_wrap (freed + blocks_for s.octets) ((freed + blocks_for s.octets) % 65536) ss (omega arith) is.placed.1;
   filled = rest_long s ss row.items is.filled;
   fits = omega (arith, is.fits, length-drop (blocks_for s.octets) row.items);
   few = is.few;

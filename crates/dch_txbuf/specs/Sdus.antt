@@ -33,12 +33,12 @@ ArePlaced at [] = Unit {0}
 ArePlaced at (s ∷ ss) = (s.first ≡ at % 65536) × ArePlaced (at + blocks_for s.octets) ss
 
 -- a row of blocks, the SDUs in it, and how many blocks left before
-pub record IsStored (row : Buffer (List ℕ)) (sdus : Buffer Sdu) (gone : ℕ) : Type 0 where
+pub record IsStored (row : Buffer (List ℕ)) (sdus : Buffer Sdu) (freed : ℕ) : Type 0 where
   pub whole : AreWhole row.items
   pub sized : AreSized sdus.items
-  pub placed : ArePlaced gone sdus.items
+  pub placed : ArePlaced freed sdus.items
   pub filled : length row.items ≡ blocks_of sdus.items
   pub fits : length row.items ≤ row.capacity
   pub few : row.capacity ≤ 65535
   pub room : sdus.capacity ≡ row.capacity
-  pub small : gone < 65536
+  pub small : freed < 65536

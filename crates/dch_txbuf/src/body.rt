@@ -1,7 +1,7 @@
 ghost use Rattle.std.specs.Prelude.{◌≡◌, ◌+◌, ◌<◌, ◌≤◌, ◌++◌, [], All, drop, length, slice_index_or, take};
 ghost use Rattle.dch_rlcpdu.specs.Body.{body_text, padded};
 ghost use Rattle.dch_rlcpdu.specs.Marks.{indicators, more};
-ghost use Rattle.dch_txbuf.specs.Cuts.{IsStart, IsThere, led_by, left_at, marks_with, octets_of, with_lead, with_mark};
+ghost use Rattle.dch_txbuf.specs.Cuts.{IsStart, IsThere, is_padded, led_by, left_at, marks_with, octets_of, with_lead, with_mark};
 
 use crate::store::SduBuffer;
 use crate::taken::{Cut, Start};
@@ -23,12 +23,12 @@ pub fn write_body(
     requires few { length (led_by lead) + length (octets_of cut.now (left_at start.now sdus.now.items)) + cut.now.pieces ≤ length out.old }
     requires small { length out.old ≤ 126 }
     requires lead { All (λ m. m < 128) (led_by lead) }
+    requires padded { cut.now.padded ≡ is_padded (length out.old) lead cut.now (left_at start.now sdus.now.items) }
     ensures text { out.new ≡ body_text (marks_with lead (length out.old) cut.now (left_at start.now sdus.now.items)) (octets_of cut.now (left_at start.now sdus.now.items)) (length out.old) }
     ensures more { result ≡ more (marks_with lead (length out.old) cut.now (left_at start.now sdus.now.items)) }
 {
     let ends = count_ends(cut, lead);
-    let carried = count_octets(sdus, start, cut);
-    let count = ends + usize::from(ends + carried < out.len());
+    let count = ends + usize::from(cut.padded);
     let (marks, octets) = out.split_at_mut(count);
     write_parts(sdus, start, cut, lead, marks, octets);
     u8::from(count > 0)
@@ -42,23 +42,6 @@ fn count_ends(cut: &Cut, lead: Option<u8>) -> usize
         Some(_) => 1 + cut.pieces as usize,
         None => cut.pieces as usize,
     }
-}
-
-/// How many octets of SDUs a PDU carries.
-fn count_octets(sdus: &SduBuffer, start: &Start, cut: &Cut) -> usize
-    requires start { IsStart sdus.now.items start.now }
-    requires there { IsThere cut.now (left_at start.now sdus.now.items) }
-    requires small { length (octets_of cut.now (left_at start.now sdus.now.items)) ≤ 126 }
-    ensures { result ≡ length (octets_of cut.now (left_at start.now sdus.now.items)) }
-{
-    let first = start.sdu as usize;
-    let mut at = 0;
-    let mut used = start.used as usize;
-    for i in first..first + cut.pieces as usize {
-        at += sdus.octets(i) as usize - used;
-        used = 0;
-    }
-    at + cut.rest as usize
 }
 
 /// Writes the length indicators, all of them, and the octets with zeros behind them.
@@ -76,14 +59,14 @@ fn write_parts(
     requires room { length (octets_of cut.now (left_at start.now sdus.now.items)) ≤ length octets.old }
     requires small { length marks.old + length octets.old ≤ 126 }
     requires lead { All (λ m. m < 128) (led_by lead) }
+    requires padded { cut.now.padded ≡ is_padded (length marks.old + length octets.old) lead cut.now (left_at start.now sdus.now.items) }
     ensures marks { marks.new ≡ indicators (marks_with lead (length marks.old + length octets.old) cut.now (left_at start.now sdus.now.items)) }
     ensures octets { octets.new ≡ padded (length octets.old) (octets_of cut.now (left_at start.now sdus.now.items)) }
 {
     let carried = write_pieces(sdus, start, cut, lead, marks, octets);
     octets[carried..].fill(0);
-    let ends = count_ends(cut, lead);
-    if ends < marks.len() {
-        write_mark(PADDING, ends, marks);
+    if cut.padded {
+        write_mark(PADDING, marks.len() - 1, marks);
     }
 }
 

@@ -1,5 +1,5 @@
 ghost use Rattle.std.specs.Prelude.{◌≡◌, ◌+◌, ◌-◌, ◌<◌, ◌≤◌, ℕ, Bool, IsFalse, IsTrue, None, Ok, length};
-ghost use Rattle.dch_am.specs.Bodies.{Body, Unsent, carried, marks_of, next_body};
+ghost use Rattle.dch_am.specs.Bodies.{Body, TxQueue, carried, marks_of, next_body};
 ghost use Rattle.dch_am.specs.Cuts.{AllFull};
 ghost use Rattle.dch_am.specs.Short.{IsShort};
 ghost use Rattle.dch_rlcpdu.specs.declared.am.AmView.TheVariants.{Payload};
@@ -14,7 +14,7 @@ ghost use Rattle.dch_txbuf.specs.Content.{content_of};
 /// A law: a data PDU of at most 126 octets, of which `d` stand behind its header, is read as just the body that its sender gave it.
 pub fn payload_law()
     // what a sender builds says all that it holds
-    ensures short { (d : ℕ) (q : Unsent) → 1 ≤ d → AllFull q.units → IsShort d (next_body d q) }
+    ensures short { (d : ℕ) (q : TxQueue) → 1 ≤ d → AllFull q.units → IsShort d (next_body d q) }
     // it may be written
     ensures room { (d : ℕ) (b : Body) → IsShort d b → length (marks_of d b) + length (carried b) ≤ d }
     ensures marks { (d : ℕ) (b : Body) → d ≤ 124 → IsShort d b → IsTrue (are_marks Acknowledged (d - length (marks_of d b)) (marks_of d b)) }

@@ -16,7 +16,7 @@ use std::marker::Model;
 pub struct SduBuffer {
     row: BlockRow,
     sdus: HeapCircularBuffer<Sdu>,
-    gone: u16,
+    freed: u16,
 }
 
 impl Model for SduBuffer {
@@ -28,7 +28,7 @@ impl Model for SduBuffer {
 
     ghost view = { λ b. buffer (sdus_of b.sdus.items b.row.items) b.row.capacity };
 
-    ghost invariant = { λ b. IsStored b.row b.sdus b.gone };
+    ghost invariant = { λ b. IsStored b.row b.sdus b.freed };
 }
 
 impl SduBuffer {
@@ -38,7 +38,11 @@ impl SduBuffer {
     {
         let row = BlockRow::open(alloc, blocks)?;
         let sdus = HeapCircularBuffer::with_capacity(alloc, blocks as usize)?;
-        Ok(SduBuffer { row, sdus, gone: 0 })
+        Ok(SduBuffer {
+            row,
+            sdus,
+            freed: 0,
+        })
     }
 
     /// How many SDUs are stored.
@@ -65,7 +69,7 @@ impl SduBuffer {
         requires room { blocks_in self.old.items + blocks_for (length sdu.now) ≤ self.old.capacity }
         ensures { self.new ≡ buffer (self.old.items ++ sdu.now ∷ []) self.old.capacity }
     {
-        let first = self.gone.wrapping_add(self.row.len() as u16);
+        let first = self.freed.wrapping_add(self.row.len() as u16);
         push_octets(&mut self.row, sdu);
         self.sdus.push_back(Sdu {
             first,
@@ -88,7 +92,7 @@ impl SduBuffer {
         ensures { out.new ≡ take (length out.old) (drop from (slice_index_or self.now.items i [])) }
     {
         let sdu = sdu_at(&self.sdus, i);
-        let block = sdu.first.wrapping_sub(self.gone) as usize;
+        let block = sdu.first.wrapping_sub(self.freed) as usize;
         copy_octets(&self.row, block, from, out);
     }
 
@@ -109,7 +113,7 @@ impl SduBuffer {
     {
         if let Some(sdu) = self.sdus.pop_front() {
             let blocks = blocks_for(sdu.octets as usize);
-            self.gone = self.gone.wrapping_add(blocks as u16);
+            self.freed = self.freed.wrapping_add(blocks as u16);
             pop_blocks(&mut self.row, blocks);
         }
     }

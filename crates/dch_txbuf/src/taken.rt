@@ -17,6 +17,8 @@ pub struct Cut {
     pub pieces: u8,
     pub rest: u8,
     pub owed: bool,
+    /// Octets are left behind them, which a length indicator of padding tells.
+    pub padded: bool,
 }
 
 /// What a new PDU takes, in so many octets for SDUs and length indicators.
@@ -37,6 +39,7 @@ pub fn next_cut(sdus: &SduBuffer, start: &Start, room: usize) -> Cut
                 pieces: (i - first) as u8,
                 rest: free as u8,
                 owed: left == free,
+                padded: false,
             };
         }
         free -= left + 1;
@@ -46,5 +49,6 @@ pub fn next_cut(sdus: &SduBuffer, start: &Start, room: usize) -> Cut
         pieces: (sdus.len() - first) as u8,
         rest: 0,
         owed: false,
+        padded: free > 0,
     }
 }

@@ -3,7 +3,7 @@ ghost use Rattle.dch_am.specs.Bodies.{carried, marks_of};
 ghost use Rattle.dch_am.specs.Short.{IsShort};
 ghost use Rattle.dch_rlcpdu.specs.Am.{am_pdu};
 ghost use Rattle.dch_rlcpdu.specs.Um.{um_pdu};
-ghost use Rattle.dch_txbuf.specs.Cuts.{IsStart, IsThere, body_of, led_by, left_at, marks_with, octets_of};
+ghost use Rattle.dch_txbuf.specs.Cuts.{IsStart, IsThere, body_of, has_padding, is_padded, led_by, left_at, marks_with, octets_of};
 
 use crate::body::write_body;
 use crate::store::SduBuffer;
@@ -25,6 +25,7 @@ pub fn write_taken(sdus: &SduBuffer, start: &Start, cut: &Cut, header: &Header, 
     requires least { 2 ≤ length out.old }
     requires most { length out.old ≤ 126 }
     requires short { IsShort (length out.old - 2) (body_of header.now.full cut.now (left_at start.now sdus.now.items)) }
+    requires padded { cut.now.padded ≡ has_padding (length out.old - 2) (body_of header.now.full cut.now (left_at start.now sdus.now.items)) }
     ensures { out.new ≡ am_pdu header.now.number header.now.poll (marks_of (length out.old - 2) (body_of header.now.full cut.now (left_at start.now sdus.now.items))) (carried (body_of header.now.full cut.now (left_at start.now sdus.now.items))) (length out.old) }
 {
     let lead = lead_of(header.full);
@@ -58,6 +59,7 @@ pub fn write_um_taken(
     requires least { 1 ≤ length out.old }
     requires most { length out.old ≤ 126 }
     requires few { length (led_by lead) + length (octets_of cut.now (left_at start.now sdus.now.items)) + cut.now.pieces ≤ length out.old - 1 }
+    requires padded { cut.now.padded ≡ is_padded (length out.old - 1) lead cut.now (left_at start.now sdus.now.items) }
     ensures { out.new ≡ um_pdu number (marks_with lead (length out.old - 1) cut.now (left_at start.now sdus.now.items)) (octets_of cut.now (left_at start.now sdus.now.items)) (length out.old) }
 {
     let (front, body) = out.split_at_mut(1);

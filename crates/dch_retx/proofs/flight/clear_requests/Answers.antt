@@ -15,6 +15,6 @@ loop-i-preserved c =
       c.clear_request_at.ensures.after
           ∙ (ap (λ (b : Buffer SentPdu). buffer (set b.items c.loop-i.i (request_cleared (at b.items c.loop-i.i))) b.capacity) c.loop-i.invariant.0
           ∙ ap (λ xs. buffer xs c.args.ring.now.capacity) (changed_next request_cleared c.loop-i.i c.args.ring.now.items (omega arith))),
-      omega (arith, less, c.loop-i.invariant.1, ap (λ b. cond {A = ℕ} b 1 0) c.clear_request_at.ensures.gone, ap (λ (b : Buffer SentPdu). requested_in b.items) c.clear_request_at.ensures.after),
+      omega (arith, less, c.loop-i.invariant.1, ap (λ b. cond {A = ℕ} b 1 0) c.clear_request_at.ensures.cleared, ap (λ (b : Buffer SentPdu). requested_in b.items) c.clear_request_at.ensures.after),
       omega arith,
     )

@@ -11,7 +11,7 @@ pub loop-i-init : goal.loop-i-init
 loop-i-init c = record {
   walk = subst (λ k. IsWalk c.args.ring.now.items c.args.skips.now.items k None) (sym c.acked_from-i.ensures.count) (walk_begins c.args.ring.now.items c.args.skips.now.items c.requires.linked);
   after = ap (λ xs. buffer xs c.args.ring.now.capacity) (sym (front_settled c.args.to c.args.ring.now.items c.args.skips.now.items c.requires.linked) ∙ ap (λ k. changed_below acknowledged (min k c.args.to) c.args.ring.now.items) (sym c.acked_from-i.ensures.count));
-  gone = omega arith;
+  cleared = omega arith;
   few = omega arith;
   room = refl;
 }
@@ -27,7 +27,7 @@ loop-i-preserved c =
           c.acknowledge_at.ensures.after
           ∙ (ap (λ xs. buffer xs c.loop-i.ring.capacity) (walk_changed c.args.ring.now.items c.loop-i.ring.items c.loop-i.skips.items c.loop-i.i c.skip_at.result c.args.to c.loop-i.before (omega arith) c.requires.to c.skip_at.ensures (ap (λ (b : Buffer SentPdu). b.items) c.loop-i.invariant.after) c.loop-i.invariant.walk)
           ∙ ap (λ n. buffer (changed_below acknowledged (min (c.loop-i.i + 1 + c.skip_at.result) c.args.to) c.args.ring.now.items) n) (ap (λ (b : Buffer SentPdu). b.capacity) c.loop-i.invariant.after));
-      gone = omega (arith, less, c.loop-i.invariant.gone, ap (λ b. cond {A = ℕ} b 1 0) c.acknowledge_at.ensures.gone, ap (λ (b : Buffer SentPdu). requested_in b.items) c.acknowledge_at.ensures.after);
+      cleared = omega (arith, less, c.loop-i.invariant.cleared, ap (λ b. cond {A = ℕ} b 1 0) c.acknowledge_at.ensures.cleared, ap (λ (b : Buffer SentPdu). requested_in b.items) c.acknowledge_at.ensures.after);
       few = omega (arith, c.loop-i.invariant.few);
       room = ap (λ (b : Buffer ℕ). b.capacity) c.join-before.ensures.after ∙ c.loop-i.invariant.room;
     }

@@ -11,7 +11,7 @@ abbrev pub invariant-loop-i : goal.invariant-loop-i
 invariant-loop-i l = record {
   walk : IsWalk l.ring.items l.skips.items l.i l.before;
   after : l.ring ≡ buffer (changed_below acknowledged (min l.i l.to) l.fn.ring.items) l.fn.ring.capacity;
-  gone : l.gone + requested_in l.ring.items ≡ requested_in l.fn.ring.items;
-  few : l.gone ≤ l.i;
+  cleared : l.cleared + requested_in l.ring.items ≡ requested_in l.fn.ring.items;
+  few : l.cleared ≤ l.i;
   room : l.skips.capacity ≡ l.fn.skips.capacity;
 }

@@ -5,7 +5,7 @@ use Rattle.dch_amrecv.specs.Holding.{numbered, pairs_told}
 use Rattle.dch_amrecv.proofs.Runs.{most_fits, runs_short, take-numbered_short, told_pairs}
 use Rattle.dch_amrecv.proofs.holder.Holder.missing_runs.Goals as goal
 
-told : (c : goal.After-moved) → take c.most-count.result (c.number.new.pairs ++ drop c.most-count.result c.missing_runs-total.new.out) ≡ map (numbered c.self.inside.next) (take c.most-count.result (runs (vacant 0 c.self.inside.buffer.kept.places)))
+told : (c : goal.After-advanced) → take c.most-count.result (c.number.new.pairs ++ drop c.most-count.result c.missing_runs-total.new.out) ≡ map (numbered c.self.inside.next) (take c.most-count.result (runs (vacant 0 c.self.inside.buffer.kept.places)))
 told c = told_pairs (numbered c.self.inside.next) c.most-count.result (runs (vacant 0 c.self.inside.buffer.kept.places)) c.args.pairs.now c.missing_runs-total.new.out c.number.new.pairs _ c.missing_runs-total.ensures.runs c.requires.room c.most-count.ensures.few (omega (arith, c.most-count.ensures.within, c.missing_runs-total.ensures.count)) c.number.ensures
 
 pub returns-clause-pairs : goal.returns-clause-pairs

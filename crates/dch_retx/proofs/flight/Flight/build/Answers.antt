@@ -9,12 +9,12 @@ use Rattle.dch_retx.proofs.flight.Flight.build.Goals as goal
 pub overflow_sub-self : goal.overflow_sub-self
 overflow_sub-self c =
     let l : c.args.i < length c.self.inside.ring.items = subst (λ (b : Buffer SentPdu). c.args.i < length b.items) (sym c.self.view_is) c.requires in
-    omega (arith, counted_set c.self.inside.ring.items c.args.i (built (at c.self.inside.ring.items c.args.i)) l, ap (λ b. cond {A = ℕ} b 1 0) c.build_at-was.ensures.gone, c.self.invariant.counted.count_is)
+    omega (arith, counted_set c.self.inside.ring.items c.args.i (built (at c.self.inside.ring.items c.args.i)) l, ap (λ b. cond {A = ℕ} b 1 0) c.build_at-was.ensures.cleared, c.self.invariant.counted.count_is)
 
 pub first_from-self-inside-requires-clause-count : goal.first_from-self-inside-requires-clause-count
 first_from-self-inside-requires-clause-count c =
     let l : c.args.i < length c.self.inside.ring.items = subst (λ (b : Buffer SentPdu). c.args.i < length b.items) (sym c.self.view_is) c.requires in
-    omega (arith, counted_set c.self.inside.ring.items c.args.i (built (at c.self.inside.ring.items c.args.i)) l, ap (λ b. cond {A = ℕ} b 1 0) c.build_at-was.ensures.gone, c.self.invariant.counted.count_is, ap (λ (b : Buffer SentPdu). requested_in b.items) c.build_at-was.ensures.after)
+    omega (arith, counted_set c.self.inside.ring.items c.args.i (built (at c.self.inside.ring.items c.args.i)) l, ap (λ b. cond {A = ℕ} b 1 0) c.build_at-was.ensures.cleared, c.self.invariant.counted.count_is, ap (λ (b : Buffer SentPdu). requested_in b.items) c.build_at-was.ensures.after)
 
 pub first_from-self-inside-requires-clause-linked : goal.first_from-self-inside-requires-clause-linked
 first_from-self-inside-requires-clause-linked c =

@@ -7,8 +7,8 @@ use Rattle.dch_rlcum.proofs.receive.UmRecv.take_body.Goals as goal
 
 pub returns-then-self : goal.returns-then-self
 returns-then-self c =
-    ap (receiving c.self.inside.expected c.self.inside.known) c.take.ensures
-    ∙ (body_known c.self.inside.expected (parts_of c.args.body.now) c.args.body.now.marks c.self.inside.known c.previous_full.result c.self.inside.units c.if-self.true (sym c.starts.ensures ∙ c.if-starts.false) c.previous_full.ensures
+    ap (receiving c.self.inside.vr_us c.self.inside.known) c.take.ensures
+    ∙ (body_known c.self.inside.vr_us (parts_of c.args.body.now) c.args.body.now.marks c.self.inside.known c.previous_full.result c.self.inside.units c.if-self.true (sym c.starts.ensures ∙ c.if-starts.false) c.previous_full.ensures
     ∙ ap (λ r. after_parts (parts_of c.args.body.now) (after_first c.args.body.now.marks r)) c.self.view_is)
 
 pub returns-then-ends-gt0 : goal.returns-then-ends-gt0

@@ -4,12 +4,12 @@ use Rattle.circular_buffer.specs.Buffer.{Buffer}
 use Rattle.dch_sar.specs.Filling.{IsCarried}
 use Rattle.dch_am.specs.Bodies.{joined}
 use Rattle.dch_txbuf.specs.declared.taken.Start.{Start}
-use Rattle.dch_txbuf.specs.Cuts.{left_at, marks_with, octets_of}
+use Rattle.dch_txbuf.specs.Cuts.{is_padded, left_at, marks_with, octets_of}
 use Rattle.dch_rlcpdu.specs.Um.{um_pdu}
 use Rattle.dch_rlcum.specs.Queue.{IsQueue, units_at}
 use Rattle.dch_rlcum.specs.Sending.{Sending, after_build, carried_by, pdu_of, room_of}
 use Rattle.dch_rlcum.proofs.Cutting.{most_are}
-use Rattle.dch_rlcum.proofs.Placing.{IsMoved, byte_is, leaves_few, moved, ready}
+use Rattle.dch_rlcum.proofs.Placing.{IsMoved, byte_is, leaves_few, advanced, ready}
 use Rattle.dch_rlcum.proofs.send.UmSend.write_next.Goals as goal
 
 pub write_um_taken-requires-clause-there : goal.write_um_taken-requires-clause-there
@@ -22,6 +22,12 @@ write_um_taken-requires-clause-few c =
     let r = ready c.self.inside.pdu c.self.inside.mark_start c.self.inside.sdus.items c.self.inside.start c.self.inside.owed c.lead-lead.result c.next_cut-cut.result c.from.result c.self.invariant.1.from c.self.invariant.0.place c.lead-lead.ensures.lead c.lead-lead.ensures.few (c.from.ensures ∙ (byte_is c.is_some.result ∙ ap (λ b. cond {A = ℕ} b 1 0) c.is_some.ensures)) c.next_cut-cut.ensures.cut in
     omega (arith, r.taken.few, c.requires.size, ap (λ (s : Sending). s.pdu) c.self.view_is)
 
+pub write_um_taken-requires-clause-padded : goal.write_um_taken-requires-clause-padded
+write_um_taken-requires-clause-padded c =
+    let r = ready c.self.inside.pdu c.self.inside.mark_start c.self.inside.sdus.items c.self.inside.start c.self.inside.owed c.lead-lead.result c.next_cut-cut.result c.from.result c.self.invariant.1.from c.self.invariant.0.place c.lead-lead.ensures.lead c.lead-lead.ensures.few (c.from.ensures ∙ (byte_is c.is_some.result ∙ ap (λ b. cond {A = ℕ} b 1 0) c.is_some.ensures)) c.next_cut-cut.ensures.cut in
+    let size : c.self.inside.pdu ≡ length c.args.out.now = sym (c.requires.size ∙ sym (ap (λ (s : Sending). s.pdu) c.self.view_is)) in
+    r.padded ∙ ap (λ n. is_padded (n - 1) c.lead-lead.result c.next_cut-cut.result (left_at c.self.inside.start c.self.inside.sdus.items)) size
+
 pub release-requires : goal.release-requires
 release-requires c =
     let r = ready c.self.inside.pdu c.self.inside.mark_start c.self.inside.sdus.items c.self.inside.start c.self.inside.owed c.lead-lead.result c.next_cut-cut.result c.from.result c.self.invariant.1.from c.self.invariant.0.place c.lead-lead.ensures.lead c.lead-lead.ensures.few (c.from.ensures ∙ (byte_is c.is_some.result ∙ ap (λ b. cond {A = ℕ} b 1 0) c.is_some.ensures)) c.next_cut-cut.ensures.cut in
@@ -30,7 +36,7 @@ release-requires c =
 pub invariant_of-self : goal.invariant_of-self
 invariant_of-self c =
     let r = ready c.self.inside.pdu c.self.inside.mark_start c.self.inside.sdus.items c.self.inside.start c.self.inside.owed c.lead-lead.result c.next_cut-cut.result c.from.result c.self.invariant.1.from c.self.invariant.0.place c.lead-lead.ensures.lead c.lead-lead.ensures.few (c.from.ensures ∙ (byte_is c.is_some.result ∙ ap (λ b. cond {A = ℕ} b 1 0) c.is_some.ensures)) c.next_cut-cut.ensures.cut in
-    let m : IsMoved c.self.inside.pdu c.self.inside.mark_start c.self.inside.sdus.items c.self.inside.start c.self.inside.owed c.next_cut-cut.result (c.next_start-next.result.sdu - c.from-ahead.result) c.from-ahead.result = moved c.self.inside.pdu c.self.inside.mark_start c.self.inside.sdus.items c.self.inside.start c.self.inside.owed c.lead-lead.result c.next_cut-cut.result (c.next_start-next.result.sdu - c.from-ahead.result) c.from-ahead.result r.taken (c.from-ahead.ensures ∙ byte_is c.next_cut-cut.result.owed) (ap (λ (a : Start). a.sdu - c.from-ahead.result) c.next_start-next.ensures) in (
+    let m : IsMoved c.self.inside.pdu c.self.inside.mark_start c.self.inside.sdus.items c.self.inside.start c.self.inside.owed c.next_cut-cut.result (c.next_start-next.result.sdu - c.from-ahead.result) c.from-ahead.result = advanced c.self.inside.pdu c.self.inside.mark_start c.self.inside.sdus.items c.self.inside.start c.self.inside.owed c.lead-lead.result c.next_cut-cut.result (c.next_start-next.result.sdu - c.from-ahead.result) c.from-ahead.result r.taken (c.from-ahead.ensures ∙ byte_is c.next_cut-cut.result.owed) (ap (λ (a : Start). a.sdu - c.from-ahead.result) c.next_start-next.ensures) in (
       subst (λ (b : Buffer (List ℕ)). IsQueue b.items (record { sdu = c.from-ahead.result; used = c.next_start-next.result.used }) c.next_cut-cut.result.owed) (sym c.release.ensures)
           (subst (λ (a : Start). IsQueue (drop (c.next_start-next.result.sdu - c.from-ahead.result) c.self.inside.sdus.items) (record { sdu = c.from-ahead.result; used = a.used }) c.next_cut-cut.result.owed) (sym c.next_start-next.ensures) m.queue),
       record { number = omega arith; from = c.self.invariant.1.from; most = c.self.invariant.1.most },
@@ -48,7 +54,7 @@ returns-clause-text c =
 pub returns-clause-after : goal.returns-clause-after
 returns-clause-after c =
     let r = ready c.self.inside.pdu c.self.inside.mark_start c.self.inside.sdus.items c.self.inside.start c.self.inside.owed c.lead-lead.result c.next_cut-cut.result c.from.result c.self.invariant.1.from c.self.invariant.0.place c.lead-lead.ensures.lead c.lead-lead.ensures.few (c.from.ensures ∙ (byte_is c.is_some.result ∙ ap (λ b. cond {A = ℕ} b 1 0) c.is_some.ensures)) c.next_cut-cut.ensures.cut in
-    let m : IsMoved c.self.inside.pdu c.self.inside.mark_start c.self.inside.sdus.items c.self.inside.start c.self.inside.owed c.next_cut-cut.result (c.next_start-next.result.sdu - c.from-ahead.result) c.from-ahead.result = moved c.self.inside.pdu c.self.inside.mark_start c.self.inside.sdus.items c.self.inside.start c.self.inside.owed c.lead-lead.result c.next_cut-cut.result (c.next_start-next.result.sdu - c.from-ahead.result) c.from-ahead.result r.taken (c.from-ahead.ensures ∙ byte_is c.next_cut-cut.result.owed) (ap (λ (a : Start). a.sdu - c.from-ahead.result) c.next_start-next.ensures) in
+    let m : IsMoved c.self.inside.pdu c.self.inside.mark_start c.self.inside.sdus.items c.self.inside.start c.self.inside.owed c.next_cut-cut.result (c.next_start-next.result.sdu - c.from-ahead.result) c.from-ahead.result = advanced c.self.inside.pdu c.self.inside.mark_start c.self.inside.sdus.items c.self.inside.start c.self.inside.owed c.lead-lead.result c.next_cut-cut.result (c.next_start-next.result.sdu - c.from-ahead.result) c.from-ahead.result r.taken (c.from-ahead.ensures ∙ byte_is c.next_cut-cut.result.owed) (ap (λ (a : Start). a.sdu - c.from-ahead.result) c.next_start-next.ensures) in
     ap (λ (b : Buffer (List ℕ)). record { units = units_at b.items (record { sdu = c.from-ahead.result; used = c.next_start-next.result.used }) c.next_cut-cut.result.owed; row = joined (left_at (record { sdu = c.from-ahead.result; used = c.next_start-next.result.used }) b.items); number = (c.self.inside.number + 1) % 128; pdu = c.self.inside.pdu; buffer = b.capacity; mark_start = c.self.inside.mark_start }) c.release.ensures
     ∙ (ap (λ (a : Start). record { units = units_at (drop (c.next_start-next.result.sdu - c.from-ahead.result) c.self.inside.sdus.items) (record { sdu = c.from-ahead.result; used = a.used }) c.next_cut-cut.result.owed; row = joined (left_at (record { sdu = c.from-ahead.result; used = a.used }) (drop (c.next_start-next.result.sdu - c.from-ahead.result) c.self.inside.sdus.items)); number = (c.self.inside.number + 1) % 128; pdu = c.self.inside.pdu; buffer = c.self.inside.sdus.capacity; mark_start = c.self.inside.mark_start }) c.next_start-next.ensures
     ∙ (ap₂ (λ u xs. record { units = u; row = xs; number = (c.self.inside.number + 1) % 128; pdu = c.self.inside.pdu; buffer = c.self.inside.sdus.capacity; mark_start = c.self.inside.mark_start }) m.units m.row
