@@ -16,3 +16,4 @@ pub mod Endings
 pub mod Fields
 pub mod Limits
 pub mod Bases
+pub mod RequestSet

@@ -5,3 +5,4 @@ pub mod Telling
 pub mod RetxBuffer
 pub mod Standing
 pub mod Polling
+pub mod RequestSet

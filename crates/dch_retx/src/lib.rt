@@ -7,6 +7,7 @@ mod hear;
 mod links;
 mod names;
 mod places;
+mod request_set;
 mod sent_pdu;
 mod tell;
 
