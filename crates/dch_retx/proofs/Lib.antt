@@ -1,5 +1,6 @@
 pub mod Changes
 pub mod Skips
+pub mod Requests
 pub mod Lengths
 pub mod Fronts
 pub mod Naming

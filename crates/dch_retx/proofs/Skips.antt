@@ -4,9 +4,9 @@ use Rattle.std.specs.Prelude.{IfSome, min, nat_le, nat_lt}
 use Rattle.std.proofs.lemmas.Bool.{both_ways, cases_lt}
 use Rattle.std.proofs.lemmas.List.{get_or-drop}
 use Rattle.dch_retx.specs.declared.sent_pdu.SentPdu.{SentPdu}
-use Rattle.dch_retx.proofs.Changes.{changed_next, left_from, length-changed}
+use Rattle.dch_retx.proofs.Changes.{changed_behind, changed_more, changed_next, length-changed}
 use Rattle.dch_retx.proofs.Fronts.{front_in, front_le, front_out}
-use Rattle.dch_retx.specs.Flights.{AreLinked, IsBefore, IsCounted, IsLinked, IsSettled, IsWalk, acknowledged, at, before_next, blank, built, changed_below, front_acked, joined, named_from, request_cleared, requested_in}
+use Rattle.dch_retx.specs.Flights.{AreLinked, IsBefore, IsLinked, IsSettled, IsWalk, acknowledged, at, before_next, blank, built, changed_below, front_acked, joined, named_from, request_cleared, requested_in}
 
 -- one place is changed
 front_same : (in_flight : List SentPdu) (i : ℕ) (g : SentPdu) → g.acked ≡ (at in_flight i).acked → front_acked (set in_flight i g) ≡ front_acked in_flight
@@ -43,7 +43,7 @@ linked_size [] (s ∷ skips) is = absurd is
 linked_size (f ∷ in_flight) [] is = absurd is
 linked_size (f ∷ in_flight) (s ∷ skips) is = ap suc (linked_size in_flight skips is.1)
 
-pub linked_at : (in_flight : List SentPdu) (skips : List ℕ) (i : ℕ) → i < length in_flight → AreLinked in_flight skips → IsLinked (at in_flight i) (get_or skips i 0) (drop (i + 1) in_flight)
+linked_at : (in_flight : List SentPdu) (skips : List ℕ) (i : ℕ) → i < length in_flight → AreLinked in_flight skips → IsLinked (at in_flight i) (get_or skips i 0) (drop (i + 1) in_flight)
 linked_at [] skips i l is = absurd (omega arith)
 linked_at (f ∷ in_flight) [] i l is = absurd is
 linked_at (f ∷ in_flight) (s ∷ skips) zero l is = is.0
@@ -59,7 +59,7 @@ settled_same f e is =
     ∙ ap₂ (λ a r. record f { acked = a; requested = r }) (sym e) (sym both.0)
 
 -- one PDU is changed, and is acknowledged as before
-pub linked_set : (in_flight : List SentPdu) (skips : List ℕ) (i : ℕ) (g : SentPdu) → g.acked ≡ (at in_flight i).acked → IsSettled g → AreLinked in_flight skips → AreLinked (set in_flight i g) skips
+linked_set : (in_flight : List SentPdu) (skips : List ℕ) (i : ℕ) (g : SentPdu) → g.acked ≡ (at in_flight i).acked → IsSettled g → AreLinked in_flight skips → AreLinked (set in_flight i g) skips
 linked_set [] skips i g e s is = is
 linked_set (f ∷ in_flight) [] i g e s is = absurd is
 linked_set (f ∷ in_flight) (k ∷ skips) zero g e s is = (record { skip_is = λ o. is.0.skip_is (sym e ∙ o); settled = s }, is.1)
@@ -85,7 +85,7 @@ linked_drop (suc n) (f ∷ in_flight) [] is = absurd is
 linked_drop (suc n) (f ∷ in_flight) (s ∷ skips) is = linked_drop n in_flight skips is.1
 
 -- those that leave are acknowledged, so that none of them is requested
-requested_drop : (n : ℕ) (in_flight : List SentPdu) (skips : List ℕ) → n ≤ front_acked in_flight → AreLinked in_flight skips → requested_in (drop n in_flight) ≡ requested_in in_flight
+pub requested_drop : (n : ℕ) (in_flight : List SentPdu) (skips : List ℕ) → n ≤ front_acked in_flight → AreLinked in_flight skips → requested_in (drop n in_flight) ≡ requested_in in_flight
 requested_drop zero in_flight skips l is = refl
 requested_drop (suc n) [] skips l is = refl
 requested_drop (suc n) (f ∷ in_flight) [] l is = absurd is
@@ -95,20 +95,11 @@ requested_drop (suc n) (f ∷ in_flight) (s ∷ skips) l is = go f.acked refl l 
     go true a m rest = rest (omega arith) ∙ sym (ap (λ b. cond b (suc (requested_in in_flight)) (requested_in in_flight)) (is.0.settled a).0)
     go false a m rest = absurd (omega arith)
 
-requested_high : (in_flight : List SentPdu) (skips : List ℕ) (i : ℕ) → AreLinked in_flight skips → (at in_flight i).requested ≡ true → front_acked in_flight ≤ i
+pub requested_high : (in_flight : List SentPdu) (skips : List ℕ) (i : ℕ) → AreLinked in_flight skips → (at in_flight i).requested ≡ true → front_acked in_flight ≤ i
 requested_high in_flight skips i is e = ⊎_elim
     (λ (m : i < front_acked in_flight). absurd (both_ways (at in_flight i).requested ((linked_at in_flight skips i (omega (arith, front_le in_flight)) is).settled (front_in in_flight i m)).0 e))
     (λ (m : front_acked in_flight ≤ i). m)
     (cases_lt i (front_acked in_flight))
-
-pub left_counted : (n : ℕ) (in_flight : List SentPdu) (skips : List ℕ) (low count : ℕ) → n ≤ front_acked in_flight → AreLinked in_flight skips → IsCounted in_flight low count → IsCounted (drop n in_flight) (low - n) count
-left_counted n in_flight skips low count l linked is = record {
-  below = left_from n in_flight low is.below;
-  count_is = is.count_is ∙ sym (requested_drop n in_flight skips l linked);
-  first = λ some.
-      let place : low ≡ n + (low - n) = omega (arith, requested_high in_flight skips low linked (is.first some)) in
-      ap (λ (f : SentPdu). f.requested) (get_or-drop n in_flight (low - n) blank) ∙ subst (λ k. (at in_flight k).requested ≡ true) place (is.first some);
-}
 
 -- those before a place aren't requested
 front_cleared : (n : ℕ) (in_flight : List SentPdu) → front_acked (changed_below request_cleared n in_flight) ≡ front_acked in_flight
@@ -148,31 +139,15 @@ linked_join (f ∷ in_flight) (k ∷ skips) (suc o) (suc i) g q l eo ei e s is =
     let rest : AreLinked (set in_flight i g) (set skips o (i - o + get_or skips i 0)) = linked_join in_flight skips o i g (omega arith) (omega arith) eo ei e s is.1 in
     (record { skip_is = λ a. is.0.skip_is a ∙ sym (front_before in_flight o i g (omega arith) eo (omega arith)); settled = is.0.settled }, subst (λ n. AreLinked (set in_flight i g) (set skips o n)) (sym same) rest)
 
--- more places are changed where the change does nothing
-pub changed_more : (k to : ℕ) (in_flight : List SentPdu) → k ≤ to → ((j : ℕ) → k ≤ j → j < to → j < length in_flight → acknowledged (at in_flight j) ≡ at in_flight j) → changed_below acknowledged to in_flight ≡ changed_below acknowledged k in_flight
-changed_more zero zero in_flight l h = refl
-changed_more zero (suc to) [] l h = refl
-changed_more zero (suc to) (f ∷ in_flight) l h = ap₂ (λ g gs. g ∷ gs) (h 0 (omega arith) (omega arith) (omega arith)) (changed_more zero to in_flight (omega arith) (λ j a b c. h (suc j) (omega arith) (omega arith) (omega arith)))
-changed_more (suc k) zero in_flight l h = absurd (omega arith)
-changed_more (suc k) (suc to) [] l h = refl
-changed_more (suc k) (suc to) (f ∷ in_flight) l h = ap (λ gs. acknowledged f ∷ gs) (changed_more k to in_flight (omega arith) (λ j a b c. h (suc j) (omega arith) (omega arith) (omega arith)))
-
--- those behind are as they were
-changed_behind : (k : ℕ) (in_flight : List SentPdu) (j : ℕ) → k ≤ j → at (changed_below acknowledged k in_flight) j ≡ at in_flight j
-changed_behind zero in_flight j l = refl
-changed_behind (suc k) [] j l = refl
-changed_behind (suc k) (f ∷ in_flight) zero l = absurd (omega arith)
-changed_behind (suc k) (f ∷ in_flight) (suc j) l = changed_behind k in_flight j (omega arith)
-
 -- the walk begins
 pub walk_begins : (in_flight : List SentPdu) (skips : List ℕ) → AreLinked in_flight skips → IsWalk in_flight skips (front_acked in_flight) None
 walk_begins in_flight skips is = record { linked = is; within = front_le in_flight; here = λ l. front_out in_flight l; before_is = omega arith }
 
 pub front_settled : (to : ℕ) (in_flight : List SentPdu) (skips : List ℕ) → AreLinked in_flight skips → changed_below acknowledged (min (front_acked in_flight) to) in_flight ≡ in_flight
-front_settled to in_flight skips is = changed_more 0 (min (front_acked in_flight) to) in_flight (omega arith) (λ j a b c. let e : (at in_flight j).acked ≡ true = front_in in_flight j (omega arith) in settled_same (at in_flight j) e (linked_at in_flight skips j c is).settled)
+front_settled to in_flight skips is = changed_more acknowledged 0 (min (front_acked in_flight) to) in_flight (omega arith) (λ j a b c. let e : (at in_flight j).acked ≡ true = front_in in_flight j (omega arith) in settled_same (at in_flight j) e (linked_at in_flight skips j c is).settled)
 
 -- the next open one
-pub next_within : (in_flight : List SentPdu) (skips : List ℕ) (i : ℕ) → i < length in_flight → (at in_flight i).acked ≡ false → AreLinked in_flight skips → i + 1 + get_or skips i 0 ≤ length in_flight
+next_within : (in_flight : List SentPdu) (skips : List ℕ) (i : ℕ) → i < length in_flight → (at in_flight i).acked ≡ false → AreLinked in_flight skips → i + 1 + get_or skips i 0 ≤ length in_flight
 next_within in_flight skips i l e is = omega (arith, (linked_at in_flight skips i l is).skip_is e, front_le (drop (i + 1) in_flight), length-drop (i + 1) in_flight)
 
 next_open : (in_flight : List SentPdu) (skips : List ℕ) (i : ℕ) → i < length in_flight → (at in_flight i).acked ≡ false → AreLinked in_flight skips → i + 1 + get_or skips i 0 < length in_flight → (at in_flight (i + 1 + get_or skips i 0)).acked ≡ false
@@ -260,32 +235,29 @@ walk_step in_flight skips i before l w = go (at in_flight i).named refl
         subst (λ b. IsWalk (set in_flight i (acknowledged (at in_flight i))) (joined b before (i + 1 + get_or skips i 0) skips) (i + 1 + get_or skips i 0) (before_next b before i)) (sym now) (taken (acknowledged (at in_flight i)) now settled before w.before_is)
 
 -- a name leaves it acknowledged or open
-pub named_acked : (from to i : ℕ) (f : SentPdu) → (named_from from to i f).acked ≡ f.acked
+named_acked : (from to i : ℕ) (f : SentPdu) → (named_from from to i f).acked ≡ f.acked
 named_acked from to i f = go f.acked
   where
     go : (b : Bool) → (cond b f (record f { named = f.named || nat_lt i to; requested = f.requested || nat_le from i })).acked ≡ f.acked
     go true = refl
     go false = refl
 
-pub named_settled : (from to i : ℕ) (f : SentPdu) → IsSettled f → IsSettled (named_from from to i f)
+named_settled : (from to i : ℕ) (f : SentPdu) → IsSettled f → IsSettled (named_from from to i f)
 named_settled from to i f s = go f.acked refl
   where
     go : (b : Bool) → f.acked ≡ b → IsSettled (cond b f (record f { named = f.named || nat_lt i to; requested = f.requested || nat_le from i }))
     go true e = s
     go false e = λ a. absurd (both_ways f.acked e a)
 
--- none that is acknowledged is requested
-pub next_unrequested : (in_flight : List SentPdu) (skips : List ℕ) (i j : ℕ) → i < length in_flight → (at in_flight i).acked ≡ false → AreLinked in_flight skips → i < j → j < i + 1 + get_or skips i 0 → (at in_flight j).requested ≡ false
-next_unrequested in_flight skips i j l e is a b =
-    let c : j < length in_flight = omega (arith, next_within in_flight skips i l e is) in
-    ((linked_at in_flight skips j c is).settled (next_acked in_flight skips i j l e is a b)).0
+pub linked_named : (from to i : ℕ) (in_flight : List SentPdu) (skips : List ℕ) → i < length in_flight → AreLinked in_flight skips → AreLinked (set in_flight i (named_from from to i (at in_flight i))) skips
+linked_named from to i in_flight skips l is = linked_set in_flight skips i (named_from from to i (at in_flight i)) (named_acked from to i (at in_flight i)) (named_settled from to i (at in_flight i) (linked_at in_flight skips i l is).settled) is
 
 -- what the walk has changed, up to a place: those behind it up to the next open one are changed by nothing
 pub walk_changed : (in_flight : List SentPdu) (now : List SentPdu) (skips : List ℕ) (i n to : ℕ) (before : Option ℕ) → i < to → to ≤ length in_flight → n ≡ get_or skips i 0 → now ≡ changed_below acknowledged (min i to) in_flight → IsWalk now skips i before → set now i (acknowledged (at now i)) ≡ changed_below acknowledged (min (i + 1 + n) to) in_flight
 walk_changed in_flight now skips i n to before l within q e w =
     ap (λ xs. set xs i (acknowledged (at xs i))) (e ∙ ap (λ k. changed_below acknowledged k in_flight) here)
     ∙ (changed_next acknowledged i in_flight (omega arith)
-    ∙ (sym (changed_more (i + 1) (min (i + 1 + get_or skips i 0) to) in_flight (omega arith) (λ j a b c. same j a b))
+    ∙ (sym (changed_more acknowledged (i + 1) (min (i + 1 + get_or skips i 0) to) in_flight (omega arith) (λ j a b c. same j a b))
     ∙ ap (λ k. changed_below acknowledged (min (i + 1 + k) to) in_flight) (sym q)))
   where
     here : min i to ≡ i
@@ -299,7 +271,7 @@ walk_changed in_flight now skips i n to before l within q e w =
 
     same : (j : ℕ) → i + 1 ≤ j → j < min (i + 1 + get_or skips i 0) to → acknowledged (at in_flight j) ≡ at in_flight j
     same j a b =
-        let place : at now j ≡ at in_flight j = ap (λ (xs : List SentPdu). at xs j) (e ∙ ap (λ k. changed_below acknowledged k in_flight) here) ∙ changed_behind i in_flight j (omega arith) in
+        let place : at now j ≡ at in_flight j = ap (λ (xs : List SentPdu). at xs j) (e ∙ ap (λ k. changed_below acknowledged k in_flight) here) ∙ changed_behind acknowledged i in_flight j (omega arith) in
         subst (λ (f : SentPdu). acknowledged f ≡ f) place (next_settled now skips i j inside (w.here inside) w.linked (omega arith) (omega arith))
 
 -- nor is one that is built again

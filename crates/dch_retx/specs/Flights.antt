@@ -1,6 +1,7 @@
 -- The PDUs of a sender that are in flight (TS 25.322 9.4, 11.5.3): those from the lowest number that is not acknowledged on.
 use Rattle.std.specs.Prelude.{◌≡◌, ◌+◌, ◌-◌, ◌≤◌, ◌<◌, ◌==◌, ◌||◌, ℕ, zero, suc, List, [], ◌∷◌, Bool, true, false, length, nat_lt, nat_le, slice_index, slice_index_or, slice_set, Option, Some, None, if◌then◌else◌}
 use Rattle.circular_buffer.specs.Buffer.{Buffer}
+use Rattle.dch_retx.specs.RequestSet.{RequestSet, is_in}
 use Rattle.dch_retx.specs.declared.sent_pdu.Extent.{Extent}
 use Rattle.dch_retx.specs.declared.sent_pdu.SentPdu.{SentPdu}
 
@@ -75,19 +76,9 @@ abbrev pub front_acked : List SentPdu → ℕ
 front_acked [] = 0
 front_acked (f ∷ in_flight) = if f.acked then suc (front_acked in_flight) else 0
 
--- no PDU before a place is requested
-pub record IsFrom (in_flight : List SentPdu) (low : ℕ) : Type 0 where
-  pub from : (i : ℕ) → (at in_flight i).requested ≡ true → low ≤ i
-
--- so many are requested, and where some are this is the first
-pub record IsCounted (in_flight : List SentPdu) (low count : ℕ) : Type 0 where
-  pub below : IsFrom in_flight low
-  pub count_is : count ≡ requested_in in_flight
-  pub first : 0 < count → (at in_flight low).requested ≡ true
-
--- the place of the first with that of one more that is requested
-abbrev pub lowered : ℕ → ℕ → ℕ → ℕ
-lowered low count i = if (count == 0) || nat_lt i low then i else low
+-- the places of those that are requested are in the set, and no others
+abbrev pub AreRequests : RequestSet → List SentPdu → Type 0
+AreRequests set in_flight = (i : ℕ) → i < 4096 → is_in set i ≡ (at in_flight i).requested
 
 -- an acknowledged PDU is neither requested nor marked
 abbrev pub IsSettled : SentPdu → Type 0
@@ -131,10 +122,11 @@ joined false before next skips = skips
 joined true None next skips = skips
 joined true (Some o) next skips = slice_set skips o (next - o - 1)
 
--- the ring, the numbers of its open PDUs and what is counted of it
-pub record IsFlight (flight : Buffer SentPdu) (skips : Buffer ℕ) (low count : ℕ) : Type 0 where
-  pub counted : IsCounted flight.items low count
+-- the ring, the numbers of its open PDUs, the places of those that are requested and how many they are
+pub record IsFlight (flight : Buffer SentPdu) (skips : Buffer ℕ) (set : RequestSet) (count : ℕ) : Type 0 where
+  pub count_is : count ≡ requested_in flight.items
+  pub requests : AreRequests set flight.items
   pub few : length flight.items ≤ flight.capacity
-  pub small : flight.capacity ≤ 65535
+  pub small : flight.capacity ≤ 2048
   pub linked : AreLinked flight.items skips.items
   pub room : skips.capacity ≡ flight.capacity

@@ -1,5 +1,5 @@
-ghost use Rattle.std.specs.Prelude.{ℕ, Some, true, ◌≡◌, ◌≢◌, ◌+◌, ◌-◌, ◌<◌, ◌≤◌, ◌++◌, ◌∷◌, false, IfOk, is_some, length, min, nat_lt, slice_set};
-ghost use Rattle.dch_retx.specs.Flights.{at, built, front_acked, requested_in};
+ghost use Rattle.std.specs.Prelude.{ℕ, Some, true, ◌≡◌, ◌≢◌, ◌+◌, ◌-◌, ◌<◌, ◌≤◌, ◌++◌, ◌∷◌, false, IfOk, drop, is_some, length, min, nat_lt, slice_set};
+ghost use Rattle.dch_retx.specs.Flights.{at, built, first_requested, front_acked, requested_in};
 ghost use Rattle.dch_retx.specs.StatusItems.{said_by};
 ghost use Rattle.dch_am.specs.declared.answers.StatusTaken.TheVariants.{Taken};
 ghost use Rattle.dch_am.specs.Acknowledging.{after_fields, status_answer};
@@ -99,6 +99,15 @@ impl RetxBuffer {
         ensures { result ≡ at self.now.in_flight place }
     {
         self.flight.at(place as usize)
+    }
+
+    /// The place of the first requested PDU from a place on; their number where none is.
+    pub fn requested_from(&self, place: u16) -> u16
+        requires { place ≤ length self.now.in_flight }
+        ensures place { result ≡ place + first_requested (drop place self.now.in_flight) }
+        ensures within { result ≤ length self.now.in_flight }
+    {
+        self.flight.requested_from(place as usize) as u16
     }
 
     /// How many PDUs are requested, at most so many.
@@ -217,7 +226,7 @@ impl RetxBuffer {
         ensures after { self.new ≡ again_line place self.old }
     {
         self.flight.build(place as usize);
-        let none = self.flight.lowest() >= self.flight.len();
+        let none = !self.flight.is_requested();
         self.sent(none)
     }
 

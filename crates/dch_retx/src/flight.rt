@@ -1,22 +1,23 @@
-ghost use Rattle.std.specs.Prelude.{◌≡◌, ◌+◌, ◌<◌, ◌≤◌, ◌++◌, [], ◌∷◌, false, IfOk, length, drop, min, nat_lt, slice_set, if◌then◌else◌};
+ghost use Rattle.std.specs.Prelude.{◌≡◌, ◌+◌, ◌<◌, ◌≤◌, ◌++◌, [], ◌∷◌, false, IfOk, length, drop, min, nat_lt, slice_set};
 ghost use Rattle.circular_buffer.specs.Buffer.{buffer};
-ghost use Rattle.dch_retx.specs.Flights.{at, named_from, acknowledged, request_cleared, built, changed_below, first_requested, front_acked, lowered, requested_in, AreLinked, IsCounted, IsFirstRequested, IsFrom};
+ghost use Rattle.dch_retx.specs.Flights.{at, named_from, acknowledged, request_cleared, built, changed_below, first_requested, front_acked, requested_in, AreRequests, IsFirstRequested};
 
-use crate::links::{acked_from, acknowledge_below, next_from};
-use crate::places::{at_place, build_at, clear_request_at, is_requested, name_at, one};
+use crate::links::{acked_from, acknowledge_below};
+use crate::places::{at_place, build_at, clear_request_at, name_at, one};
+use crate::request_set::RequestSet;
 use crate::sent_pdu::SentPdu;
 use circular_buffer::HeapCircularBuffer;
 use dch_bits::NoMemory;
 use std::alloc::Global;
 use std::marker::Model;
 
-/// The PDUs in flight, the one of the lowest open number first. So many of them are requested as `count` says, the first of them at `low`. So many
+/// The PDUs in flight, the one of the lowest open number first. So many of them are requested as `count` says, at the places in `requests`. So many
 /// acknowledged ones follow an open one as `skips` has at its place.
 #[derive(Drop)]
 pub struct Flight {
     ring: HeapCircularBuffer<SentPdu>,
     skips: HeapCircularBuffer<u16>,
-    low: usize,
+    requests: RequestSet,
     count: usize,
 }
 
@@ -29,12 +30,13 @@ impl Model for Flight {
 
     ghost view = { λ f. f.ring };
 
-    ghost invariant = { λ f. IsFlight f.ring f.skips f.low f.count };
+    ghost invariant = { λ f. IsFlight f.ring f.skips f.requests f.count };
 }
 
 impl Flight {
     /// Room for so many PDUs, of which none is in flight. All memory is taken here.
     pub fn open(alloc: Global, window: u16) -> Result<Flight, NoMemory>
+        requires { window ≤ 2048 }
         ensures { IfOk result (λ f. f ≡ buffer [] window) }
     {
         let ring = HeapCircularBuffer::with_capacity(alloc, window as usize)?;
@@ -42,7 +44,7 @@ impl Flight {
         Ok(Flight {
             ring,
             skips,
-            low: 0,
+            requests: RequestSet::new(),
             count: 0,
         })
     }
@@ -80,7 +82,7 @@ impl Flight {
         ensures { self.new ≡ buffer (slice_set self.old.items i (named_from from to i (at self.old.items i))) self.old.capacity }
     {
         if name_at(&mut self.ring, i, from, to) {
-            self.low = lowered(self.low, self.count, i);
+            self.requests.insert(i);
             self.count += 1;
         }
     }
@@ -91,8 +93,8 @@ impl Flight {
         ensures { self.new ≡ buffer (slice_set self.old.items i (built (at self.old.items i))) self.old.capacity }
     {
         let was = build_at(&mut self.ring, i);
+        self.requests.remove(i);
         self.count -= one(was);
-        self.low = first_from(&self.ring, &self.skips, self.low, self.count);
     }
 
     /// The PDUs before a place are acknowledged, but for those that are marked as named missing. Their marks go.
@@ -100,9 +102,8 @@ impl Flight {
         requires { to ≤ length self.old.items }
         ensures { self.new ≡ buffer (changed_below acknowledged to self.old.items) self.old.capacity }
     {
-        let cleared = acknowledge_below(&mut self.ring, &mut self.skips, to);
+        let cleared = acknowledge_below(&mut self.ring, &mut self.skips, &mut self.requests, to);
         self.count -= cleared;
-        self.low = first_from(&self.ring, &self.skips, self.low, self.count);
     }
 
     /// The PDUs before a place aren't requested any more.
@@ -110,9 +111,8 @@ impl Flight {
         requires { to ≤ length self.old.items }
         ensures { self.new ≡ buffer (changed_below request_cleared to self.old.items) self.old.capacity }
     {
-        let cleared = clear_requests(&mut self.ring, to);
+        let cleared = clear_requests(&mut self.ring, &mut self.requests, to);
         self.count -= cleared;
-        self.low = first_from(&self.ring, &self.skips, self.low, self.count);
     }
 
     /// The first PDU that is requested; their number where none is.
@@ -121,10 +121,19 @@ impl Flight {
         ensures first { result ≡ first_requested self.now.items }
     {
         if self.count > 0 {
-            self.low
+            self.requests.next(0, self.ring.len())
         } else {
             self.ring.len()
         }
+    }
+
+    /// The place of the first requested PDU from a place on; their number where none is.
+    pub fn requested_from(&self, place: usize) -> usize
+        requires { place ≤ length self.now.items }
+        ensures place { result ≡ place + first_requested (drop place self.now.items) }
+        ensures within { result ≤ length self.now.items }
+    {
+        self.requests.next(place, self.ring.len())
     }
 
     /// A PDU is requested.
@@ -158,7 +167,7 @@ impl Flight {
         let kept = self.ring.len() - count;
         self.ring.truncate_front(kept);
         self.skips.truncate_front(kept);
-        self.low = self.low.saturating_sub(count);
+        self.requests.leave(count);
     }
 
     /// All PDUs leave.
@@ -167,52 +176,31 @@ impl Flight {
     {
         self.ring.clear();
         self.skips.clear();
-        self.low = 0;
+        self.requests.clear();
         self.count = 0;
     }
 }
 
-/// The place of the first PDU that is requested, where there are so many and one more is.
-fn lowered(low: usize, count: usize, i: usize) -> usize
-    ensures { result ≡ lowered low count i }
-{
-    if count == 0 || i < low { i } else { low }
-}
-
-/// The place of the first PDU that is requested, where so many are and none before a place.
-fn first_from(
-    ring: &HeapCircularBuffer<SentPdu>,
-    skips: &HeapCircularBuffer<u16>,
-    low: usize,
-    count: usize,
+/// The PDUs before a place aren't requested any more. Only those that were are looked at. Answers how many they were.
+fn clear_requests(
+    ring: &mut HeapCircularBuffer<SentPdu>,
+    requests: &mut RequestSet,
+    to: usize,
 ) -> usize
-    requires low { IsFrom ring.now.items low }
-    requires linked { AreLinked ring.now.items skips.now.items }
-    requires count { count ≡ requested_in ring.now.items }
-    ensures { IsCounted ring.now.items result count }
-{
-    if count == 0 {
-        return 0;
-    }
-    let mut i = low;
-    while i < ring.len() {
-        if is_requested(ring, i) {
-            return i;
-        }
-        i = next_from(ring, skips, i);
-    }
-    0
-}
-
-/// The PDUs before a place aren't requested. Answers how many of them were.
-fn clear_requests(ring: &mut HeapCircularBuffer<SentPdu>, to: usize) -> usize
-    requires { to ≤ length ring.old.items }
+    requires to { to ≤ length ring.old.items }
+    requires small { length ring.old.items ≤ 2048 }
+    requires requests { AreRequests requests.old ring.old.items }
     ensures cleared { result + requested_in ring.new.items ≡ requested_in ring.old.items }
     ensures after { ring.new ≡ buffer (changed_below request_cleared to ring.old.items) ring.old.capacity }
+    ensures requests { AreRequests requests.new ring.new.items }
 {
     let mut cleared = 0;
-    for i in 0..to {
-        cleared += one(clear_request_at(ring, i));
+    let mut i = requests.next(0, to);
+    while i < to {
+        clear_request_at(ring, i);
+        requests.remove(i);
+        cleared += 1;
+        i = requests.next(i + 1, to);
     }
     cleared
 }

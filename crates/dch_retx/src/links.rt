@@ -1,8 +1,9 @@
-ghost use Rattle.std.specs.Prelude.{◌≡◌, ℕ, ◌+◌, ◌^◌, ◌<◌, ◌≤◌, false, IfSome, drop, length, slice_index, slice_set};
+ghost use Rattle.std.specs.Prelude.{◌≡◌, ◌+◌, ◌<◌, ◌≤◌, ◌&&◌, not, IfSome, drop, length, slice_index, slice_set};
 ghost use Rattle.circular_buffer.specs.Buffer.{buffer};
-ghost use Rattle.dch_retx.specs.Flights.{at, acknowledged, before_next, changed_below, front_acked, joined, requested_in, AreLinked};
+ghost use Rattle.dch_retx.specs.Flights.{at, acknowledged, before_next, changed_below, front_acked, joined, requested_in, AreLinked, AreRequests};
 
 use crate::places::{acknowledge_at, is_acked, one};
+use crate::request_set::RequestSet;
 use crate::sent_pdu::SentPdu;
 use circular_buffer::HeapCircularBuffer;
 
@@ -38,39 +39,22 @@ fn set_skip(skips: &mut HeapCircularBuffer<u16>, i: usize, skip: u16)
     }
 }
 
-/// The place of the next PDU that may be requested, behind one that isn't.
-pub fn next_from(
-    ring: &HeapCircularBuffer<SentPdu>,
-    skips: &HeapCircularBuffer<u16>,
-    i: usize,
-) -> usize
-    requires inside { i < length ring.now.items }
-    requires linked { AreLinked ring.now.items skips.now.items }
-    requires few { length ring.now.items < 2 ^ 63 }
-    ensures further { i < result }
-    ensures within { result ≤ length ring.now.items }
-    ensures between { (j : ℕ) → i < j → j < result → (at ring.now.items j).requested ≡ false }
-{
-    if is_acked(ring, i) {
-        i + 1
-    } else {
-        i + 1 + skip_at(skips, i)
-    }
-}
-
 /// The PDUs before a place are acknowledged, but for those that are marked, whose marks go. Only open ones are looked at. Answers how many of them
-/// aren't requested any more.
+/// aren't requested any more, whose places go.
 pub fn acknowledge_below(
     ring: &mut HeapCircularBuffer<SentPdu>,
     skips: &mut HeapCircularBuffer<u16>,
+    requests: &mut RequestSet,
     to: usize,
 ) -> usize
     requires to { to ≤ length ring.old.items }
-    requires small { length ring.old.items ≤ 65535 }
+    requires small { length ring.old.items ≤ 2048 }
     requires linked { AreLinked ring.old.items skips.old.items }
+    requires requests { AreRequests requests.old ring.old.items }
     ensures cleared { result + requested_in ring.new.items ≡ requested_in ring.old.items }
     ensures after { ring.new ≡ buffer (changed_below acknowledged to ring.old.items) ring.old.capacity }
     ensures linked { AreLinked ring.new.items skips.new.items }
+    ensures requests { AreRequests requests.new ring.new.items }
     ensures room { skips.new.capacity ≡ skips.old.capacity }
 {
     let mut cleared = 0;
@@ -78,11 +62,31 @@ pub fn acknowledge_below(
     let mut i = acked_from(ring, 0);
     while i < to {
         let next = i + 1 + skip_at(skips, i);
-        cleared += one(acknowledge_at(ring, i));
+        cleared += one(acknowledge_one(ring, requests, i));
         before = join(ring, skips, before, i, next);
         i = next;
     }
     cleared
+}
+
+/// A PDU is acknowledged, or loses its mark where it has one. Answers whether it was requested and isn't any more. Its place goes then.
+fn acknowledge_one(
+    ring: &mut HeapCircularBuffer<SentPdu>,
+    requests: &mut RequestSet,
+    i: usize,
+) -> bool
+    requires inside { i < length ring.old.items }
+    requires small { i < 4096 }
+    requires requests { AreRequests requests.old ring.old.items }
+    ensures cleared { result ≡ ((at ring.old.items i).requested && not (acknowledged (at ring.old.items i)).requested) }
+    ensures after { ring.new ≡ buffer (slice_set ring.old.items i (acknowledged (at ring.old.items i))) ring.old.capacity }
+    ensures requests { AreRequests requests.new ring.new.items }
+{
+    if !acknowledge_at(ring, i) {
+        return false;
+    }
+    requests.remove(i);
+    true
 }
 
 /// The open PDU before the next one, where the one at a place was acknowledged or left open.

@@ -21,14 +21,6 @@ pub fn is_acked(ring: &HeapCircularBuffer<SentPdu>, i: usize) -> bool
     ring.get(i).unwrap().acked
 }
 
-/// It is requested.
-pub fn is_requested(ring: &HeapCircularBuffer<SentPdu>, i: usize) -> bool
-    requires { i < length ring.now.items }
-    ensures { result ≡ (at ring.now.items i).requested }
-{
-    ring.get(i).unwrap().requested
-}
-
 /// Unless it is acknowledged, it is requested where it stands at `from` or behind, and marked where it stands before `to`. Answers whether it is
 /// requested since.
 pub fn name_at(ring: &mut HeapCircularBuffer<SentPdu>, i: usize, from: usize, to: usize) -> bool
@@ -66,18 +58,14 @@ pub fn acknowledge_at(ring: &mut HeapCircularBuffer<SentPdu>, i: usize) -> bool
     was && !pdu.requested
 }
 
-/// It isn't requested. Answers whether it was.
-pub fn clear_request_at(ring: &mut HeapCircularBuffer<SentPdu>, i: usize) -> bool
+/// It isn't requested any more.
+pub fn clear_request_at(ring: &mut HeapCircularBuffer<SentPdu>, i: usize)
     requires { i < length ring.old.items }
-    ensures cleared { result ≡ (at ring.old.items i).requested }
-    ensures after { ring.new ≡ buffer (slice_set ring.old.items i (request_cleared (at ring.old.items i))) ring.old.capacity }
+    ensures { ring.new ≡ buffer (slice_set ring.old.items i (request_cleared (at ring.old.items i))) ring.old.capacity }
 {
-    let Some(pdu) = ring.get_mut(i) else {
-        return false;
-    };
-    let was = pdu.requested;
-    pdu.requested = false;
-    was
+    if let Some(pdu) = ring.get_mut(i) {
+        pdu.requested = false;
+    }
 }
 
 /// It is built once more. More than 255 times are not counted. Answers whether it was requested.
