@@ -8,13 +8,6 @@ use Rattle.std.proofs.lemmas.Nat.{shr-shr}
 use Rattle.std.proofs.lemmas.Nat.Bits.{bit_at-zero, bit_at_above, bit_at_clear_other, bit_at_clear_same, bit_at_set_other, bit_at_set_same}
 use Rattle.dch_retx.specs.RequestSet.{RequestSet, has, is_in}
 
--- the bit of a number is that of the number 4,096 above
-pub has_around : (words : List ℕ) (n m : ℕ) → n % 4096 ≡ m % 4096 → has words n ≡ has words m
-has_around words n m e =
-    let word : n / 64 % 64 ≡ m / 64 % 64 = omega arith in
-    let bit : n % 64 ≡ m % 64 = omega arith in
-    ap₂ (λ w b. bit_at (get_or words w 0) b == 1) word bit
-
 -- no bit is 1 where all words are 0
 pub has_none : (n : ℕ) → has (replicate 64 0) n ≡ false
 has_none n =

@@ -1,8 +1,8 @@
-use Rattle.std.proofs.Common.{◌≡◌, ◌+◌, ◌<◌, ◌∙◌, Bool, true, false, not, ◌&&◌, ap, arith, cond, length, refl, set, subst, sym, ℕ}
+use Rattle.std.proofs.Common.{◌≡◌, ◌+◌, ◌<◌, ◌∙◌, Bool, true, false, not, ◌&&◌, ap, arith, cond, length, refl, subst, sym, ℕ}
 use Rattle.std.proofs.lemmas.Bool.{and_parts, both_ways, not-true}
 use Rattle.circular_buffer.specs.Buffer.{Buffer}
 use Rattle.dch_retx.specs.declared.sent_pdu.SentPdu.{SentPdu}
-use Rattle.dch_retx.specs.Flights.{AreLinked, at, named_from}
+use Rattle.dch_retx.specs.Flights.{at, named_from}
 use Rattle.dch_retx.proofs.Changes.{counted_set, named_more, requested_few}
 use Rattle.dch_retx.proofs.Requests.{flight_set, requests_same, requests_set}
 use Rattle.dch_retx.proofs.Skips.{linked_named}
