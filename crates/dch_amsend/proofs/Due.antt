@@ -4,7 +4,7 @@ use Rattle.std.specs.Prelude.{None, Some, nat_le, nat_lt}
 use Rattle.std.proofs.lemmas.Bool.{le-ltb, leb-true, lt-ltb, ltb-false, ltb-true}
 use Rattle.dch_bits.specs.declared.offer.Offer.{Offer}
 use Rattle.dch_bits.specs.declared.offer.Offer.TheVariants.{Accepted, Full, WrongSize}
-use Rattle.dch_retx.specs.Flights.{at, ends_in, requested_in}
+use Rattle.dch_retx.specs.Flights.{at, requested_in}
 use Rattle.dch_am.specs.Bodies.{is_empty, is_left}
 use Rattle.dch_am.specs.Cuts.{AllFull}
 use Rattle.dch_am.proofs.Restarting.{cut_full, full_drop}
@@ -18,7 +18,6 @@ use Rattle.dch_amsend.specs.BufferStanding.{fills}
 use Rattle.dch_amsend.specs.TxBuffer.{TxBuffer, answer_of, buffer_after_offer, unsent_of}
 use Rattle.dch_amsend.proofs.Fills.{fills_some}
 use Rattle.dch_amsend.specs.Outgoing.{IsOutgoing, Outgoing, available_of, can_build}
-use Rattle.dch_retx.specs.declared.sent_pdu.SentPdu.{SentPdu}
 use Rattle.dch_am.specs.Building.{body_at}
 use Rattle.dch_am.specs.Bodies.{ends}
 use Rattle.dch_am.specs.Sender.{vt_a, vt_s}
@@ -28,6 +27,7 @@ use Rattle.dch_amsend.specs.TxBuffer.{ended_before}
 use Rattle.dch_amsend.proofs.Ending.{ends-step}
 use Rattle.dch_amsend.proofs.Placing.{place_is}
 use Rattle.dch_amsend.proofs.Events.{available_is}
+use Rattle.dch_amsend.proofs.Passing.{below_next}
 
 -- a PDU can be built where one is requested, a new one can follow, or the last one is to go again
 pub can_build_is : (v : Outgoing) → (nat_lt 0 (requested_in v.line.in_flight) || ((nat_lt (length v.line.in_flight) v.line.window && is_left (unsent_of v.tx_buffer)) || (v.line.owed && nat_lt 0 (length v.line.in_flight)))) ≡ can_build v
@@ -105,11 +105,6 @@ room_left rules d v s sdu answer is e taken = go (is_empty sdu) (nat_lt 1500 (le
     go false false false ea ec q = absurd (cc)
 
 -- how many SDUs end before a PDU in flight is read off its extent
-below_next : (in_flight : List SentPdu) (n : ℕ) → n < length in_flight → ends_below (suc n) in_flight ≡ ends_below n in_flight + ends_in (at in_flight n)
-below_next [] n l = absurd (omega arith)
-below_next (f ∷ in_flight) zero l = omega arith
-below_next (f ∷ in_flight) (suc n) l = omega (arith, below_next in_flight n (omega arith))
-
 below_is : (rules : Rules) (d : ℕ) (v : Outgoing) (s : Sender) (n : ℕ) → n ≤ length v.line.in_flight → IsOutgoing rules d v s → ends (take (vt_a s + n) s.bodies) ≡ released s + ends_below n v.line.in_flight
 below_is rules d v s zero l is = let e : vt_a s + 0 ≡ vt_a s = omega arith in ap (λ k. ends (take k s.bodies)) e ∙ omega arith
 below_is rules d v s (suc n) l is =

@@ -1,17 +1,15 @@
--- Where no SDU can be discarded the pass finds none, and may begin behind these PDUs or end before them.
+-- Where no SDU can be discarded the pass finds none, and goes on behind these PDUs.
 use Rattle.std.proofs.Common.{◌≡◌, ◌+◌, ◌-◌, ◌<◌, ◌≤◌, ℕ, zero, suc, List, [], ◌∷◌, Bool, true, false, cond, ◌&&◌, ◌||◌, length, drop, arith, refl, sym, ap, ap₂, ◌∙◌}
 use Rattle.std.specs.Prelude.{◌==◌, Option, Some, None, nat_le, nat_lt}
-use Rattle.std.proofs.lemmas.Bool.{both_ways, leb-true, lt-leb, ltb-false, ltb-true}
+use Rattle.std.proofs.lemmas.Bool.{both_ways, leb-true, lt-leb, ltb-true}
+use Rattle.std.proofs.lemmas.List.{drop-drop}
 use Rattle.dch_types.specs.declared.bearer.AmRules.{AmRules}
 use Rattle.dch_retx.specs.declared.sent_pdu.SentPdu.{SentPdu}
-use Rattle.dch_retx.specs.Flights.{continues_in, ends_in, first_requested, requested_in}
-use Rattle.dch_retx.specs.RetxBuffer.{RetxBuffer}
-use Rattle.dch_retx.specs.declared.buffer.Pick.TheVariants.{Again, New, Last, NoPdu}
-use Rattle.dch_retx.specs.Polling.{picked}
+use Rattle.dch_retx.specs.Flights.{at, continues_in, ends_in, first_requested}
 use Rattle.dch_amsend.specs.SduDiscard.{SduDiscard}
 use Rattle.dch_amsend.specs.declared.scan.Scan.{Scan}
 use Rattle.dch_amsend.specs.declared.scan.Overdue.{Overdue}
-use Rattle.dch_amsend.specs.Scanning.{after_pdu, after_pdus, can_discard, ends_below, indicator_of, is_often, is_old, last_in, no_scan, overdue}
+use Rattle.dch_amsend.specs.Scanning.{after_pdu, after_pdus, can_discard, ends_below, found_from, indicator_of, is_often, is_old, last_in, no_scan, overdue}
 
 -- of the SDUs from one on, up to another one, each is discarded or not old enough
 abbrev pub NoneOld : AmRules → SduDiscard → ℕ → ℕ → Type 0
@@ -96,36 +94,72 @@ passes_over rules h (suc n) place (f ∷ in_flight) scan none begun young =
     passes_over rules h n (place + 1) in_flight (after_pdu rules h place f scan) parts.1 (none_begun rules f scan parts.0 begun) (λ i l m k. young i l (omega (arith, m)) (omega (arith, k)))
     ∙ from_place rules h (drop n in_flight) (place + 1 + n) (place + suc n) (scan.sdu + ends_in f + ends_below n in_flight) (scan.sdu + (ends_in f + ends_below n in_flight)) (last_in rules h place f scan (ends_in f)) scan.found (omega arith) (omega arith) (none_last rules h place f scan (ends_in f) parts.0 begun (λ i l m k. young i l m (omega (arith, k))))
 
-pub begins_at : (rules : AmRules) (h : SduDiscard) (first : ℕ) (in_flight : List SentPdu) (sdu : ℕ) → sdu ≡ ends_below first in_flight → NoneRequested rules first in_flight → ((i : ℕ) → h.passed ≤ i → i < ends_below first in_flight → is_old rules h i ≡ false) → (after_pdus rules h first (drop first in_flight) (record { sdu = sdu; begun = false; found = None })).found ≡ overdue rules h in_flight
-begins_at rules h first in_flight sdu e none young =
-    from_place rules h (drop first in_flight) first (0 + first) sdu (0 + ends_below first in_flight) None None (omega arith) (omega (arith, e)) refl
+-- where it begins
+pub begins_at : (rules : AmRules) (h : SduDiscard) (first : ℕ) (in_flight : List SentPdu) → NoneRequested rules first in_flight → ((i : ℕ) → h.passed ≤ i → i < ends_below first in_flight → is_old rules h i ≡ false) → found_from rules h first in_flight no_scan ≡ overdue rules h in_flight
+begins_at rules h first in_flight none young =
+    from_place rules h (drop first in_flight) first (0 + first) (ends_below first in_flight) (0 + ends_below first in_flight) None None (omega arith) (omega arith) refl
     ∙ sym (passes_over rules h first 0 in_flight no_scan none refl (λ i l m k. young i l (omega (arith, k))))
 
--- and where that is so of all, the pass has ended
+-- how many SDUs end behind more PDUs
+below_none : (n : ℕ) → ends_below n [] ≡ 0
+below_none zero = refl
+below_none (suc n) = refl
+
+below_more : (a n : ℕ) (in_flight : List SentPdu) → ends_below (a + n) in_flight ≡ ends_below a in_flight + ends_below n (drop a in_flight)
+below_more zero n in_flight = let e : 0 + n ≡ n = omega arith in ap (λ k. ends_below k in_flight) e ∙ omega arith
+below_more (suc a) n [] = omega (arith, below_none (suc a + n), below_none n)
+below_more (suc a) n (f ∷ in_flight) = let e : suc a + n ≡ suc (a + n) = omega arith in ap (λ k. ends_below k (f ∷ in_flight)) e ∙ omega (arith, below_more a n in_flight)
+
+pub below_next : (in_flight : List SentPdu) (n : ℕ) → n < length in_flight → ends_below (suc n) in_flight ≡ ends_below n in_flight + ends_in (at in_flight n)
+below_next [] n l = absurd (omega arith)
+below_next (f ∷ in_flight) zero l = omega arith
+below_next (f ∷ in_flight) (suc n) l = omega (arith, below_next in_flight n (omega arith))
+
+-- one PDU more
+step_at : (rules : AmRules) (h : SduDiscard) (place i : ℕ) (in_flight : List SentPdu) (scan : Scan) → i < length in_flight → (after_pdus rules h place (drop i in_flight) scan).found ≡ (after_pdus rules h (place + 1) (drop (i + 1) in_flight) (after_pdu rules h place (at in_flight i) scan)).found
+step_at rules h place i [] scan l = absurd (omega arith)
+step_at rules h place zero (f ∷ in_flight) scan l = refl
+step_at rules h place (suc i) (f ∷ in_flight) scan l =
+    let n : suc i + 1 ≡ suc (i + 1) = omega arith in
+    step_at rules h place i in_flight scan (omega arith)
+    ∙ sym (ap (λ k. (after_pdus rules h (place + 1) (drop k (f ∷ in_flight)) (after_pdu rules h place (at in_flight i) scan)).found) n)
+
+-- the pass behind it
+pub record IsPassed (rules : AmRules) (h : SduDiscard) (place : ℕ) (in_flight : List SentPdu) (scan now : Scan) : Type 0 where
+  pub sdu : now.sdu ≡ ends_below (place + 1) in_flight
+  pub found : found_from rules h place in_flight scan ≡ found_from rules h (place + 1) in_flight now
+
+pub passes_one : (rules : AmRules) (h : SduDiscard) (place : ℕ) (in_flight : List SentPdu) (scan now : Scan) (sdu : ℕ) (f : SentPdu) → sdu ≡ ends_below place in_flight → f ≡ at in_flight place → place < length in_flight → now ≡ after_pdu rules h place f (record scan { sdu = sdu }) → IsPassed rules h place in_flight scan now
+passes_one rules h place in_flight scan now sdu f e q l is =
+    let here : now ≡ after_pdu rules h place (at in_flight place) (record scan { sdu = ends_below place in_flight }) = is ∙ ap₂ (λ n g. after_pdu rules h place g (record scan { sdu = n })) e q in
+    let n : place + 1 ≡ suc place = omega arith in
+    let ends : now.sdu ≡ ends_below (place + 1) in_flight = ap (λ (a : Scan). a.sdu) here ∙ sym (ap (λ k. ends_below k in_flight) n ∙ below_next in_flight place l) in
+    record {
+      sdu = ends;
+      found =
+          step_at rules h place place in_flight (record scan { sdu = ends_below place in_flight }) l
+          ∙ ap (λ a. (after_pdus rules h (place + 1) (drop (place + 1) in_flight) a).found) (sym here)
+          ∙ ap (λ k. (after_pdus rules h (place + 1) (drop (place + 1) in_flight) (record now { sdu = k })).found) ends;
+    }
+
+-- from another place on, where none between is requested and no SDU is old enough
+pub found_behind : (rules : AmRules) (h : SduDiscard) (place next : ℕ) (in_flight : List SentPdu) (scan : Scan) → place ≤ next → NoneRequested rules (next - place) (drop place in_flight) → scan.begun ≡ false → ((i : ℕ) → ends_below place in_flight ≤ i → is_old rules h i ≡ false) → found_from rules h place in_flight scan ≡ found_from rules h next in_flight scan
+found_behind rules h place next in_flight scan l none begun young =
+    let e : place + (next - place) ≡ next = omega arith in
+    let ends : ends_below place in_flight + ends_below (next - place) (drop place in_flight) ≡ ends_below next in_flight = sym (below_more place (next - place) in_flight) ∙ ap (λ n. ends_below n in_flight) e in
+    passes_over rules h (next - place) place (drop place in_flight) (record scan { sdu = ends_below place in_flight }) none begun (λ i a b c. young i b)
+    ∙ ap (λ fs. (after_pdus rules h (place + (next - place)) fs (record { sdu = ends_below place in_flight + ends_below (next - place) (drop place in_flight); begun = false; found = scan.found })).found) (drop-drop (next - place) place in_flight ∙ ap (λ n. drop n in_flight) e)
+    ∙ from_place rules h (drop next in_flight) (place + (next - place)) next (ends_below place in_flight + ends_below (next - place) (drop place in_flight)) (ends_below next in_flight) scan.found scan.found e ends refl
+    ∙ ap (λ b. (after_pdus rules h next (drop next in_flight) (record { sdu = ends_below next in_flight; begun = b; found = scan.found })).found) (sym begun)
+
+-- behind the last
 all_over : (in_flight : List SentPdu) → drop (length in_flight) in_flight ≡ []
 all_over [] = refl
 all_over (f ∷ in_flight) = all_over in_flight
 
-none_more : (rules : AmRules) (h : SduDiscard) (place : ℕ) (in_flight : List SentPdu) (scan : Scan) → NoneRequested rules (length in_flight) in_flight → scan.begun ≡ false → NoneOld rules h scan.sdu (scan.sdu + ends_below (length in_flight) in_flight) → (after_pdus rules h place in_flight scan).found ≡ scan.found
-none_more rules h place in_flight scan none begun young =
-    passes_over rules h (length in_flight) place in_flight scan none begun young
-    ∙ ap (λ fs. (after_pdus rules h (place + length in_flight) fs (record { sdu = scan.sdu + ends_below (length in_flight) in_flight; begun = false; found = scan.found })).found) (all_over in_flight)
-
-none_requested : (in_flight : List SentPdu) → requested_in in_flight ≡ 0 → length in_flight ≤ first_requested in_flight
-none_requested [] e = omega arith
-none_requested (f ∷ in_flight) e = go f.requested e (λ m. none_requested in_flight m)
-  where
-    go : (b : Bool) → cond b (suc (requested_in in_flight)) (requested_in in_flight) ≡ 0 → (requested_in in_flight ≡ 0 → length in_flight ≤ first_requested in_flight) → suc (length in_flight) ≤ cond b 0 (suc (first_requested in_flight))
-    go true m rest = absurd (omega (arith, m))
-    go false m rest = omega (arith, rest m)
-
-pub ends_here : (rules : AmRules) (h : SduDiscard) (place : ℕ) (in_flight : List SentPdu) (scan : Scan) → (0 < rules.discard_sent → 0 ≡ requested_in in_flight) → scan.begun ≡ false → ((i : ℕ) → scan.sdu ≤ i → is_old rules h i ≡ false) → (after_pdus rules h place in_flight scan).found ≡ scan.found
-ends_here rules h place in_flight scan none begun young = none_more rules h place in_flight scan (λ l. none_requested in_flight (sym (none l))) begun (λ i l m k. young i m)
-
-pub none_found : (rules : AmRules) (h : SduDiscard) (first : ℕ) (in_flight : List SentPdu) → first ≡ length in_flight → NoneRequested rules first in_flight → ((i : ℕ) → h.passed ≤ i → i < ends_below first in_flight → is_old rules h i ≡ false) → overdue rules h in_flight ≡ None
-none_found rules h first in_flight e none young =
-    sym (begins_at rules h first in_flight (ends_below first in_flight) refl none young)
-    ∙ ap (λ fs. (after_pdus rules h first fs (record { sdu = ends_below first in_flight; begun = false; found = None })).found) (ap (λ n. drop n in_flight) e ∙ all_over in_flight)
+pub found_all : (rules : AmRules) (h : SduDiscard) (place : ℕ) (in_flight : List SentPdu) (scan : Scan) → place ≡ length in_flight → found_from rules h place in_flight scan ≡ scan.found
+found_all rules h place in_flight scan e =
+    ap (λ fs. (after_pdus rules h place fs (record scan { sdu = ends_below place in_flight })).found) (ap (λ n. drop n in_flight) e ∙ all_over in_flight)
 
 -- where all SDUs that end in a PDU are discarded, none is found
 behind_none : (rules : AmRules) (h : SduDiscard) (place : ℕ) (f : SentPdu) (scan : Scan) (n : ℕ) → scan.sdu + n ≤ h.passed → last_in rules h place f scan n ≡ scan.found
@@ -151,37 +185,3 @@ below_up zero b in_flight l = omega arith
 below_up (suc a) zero in_flight l = absurd (omega (arith, l))
 below_up (suc a) (suc b) [] l = omega arith
 below_up (suc a) (suc b) (f ∷ in_flight) l = omega (arith, below_up a b in_flight (omega (arith, l)))
-
--- how many are requested from there on
-pub requested_from : (n : ℕ) (in_flight : List SentPdu) → n ≤ first_requested in_flight → requested_in (drop n in_flight) ≡ requested_in in_flight
-requested_from zero in_flight l = refl
-requested_from (suc n) [] l = refl
-requested_from (suc n) (f ∷ in_flight) l = go f.requested refl l (λ m. requested_from n in_flight m)
-  where
-    go : (b : Bool) → f.requested ≡ b → suc n ≤ cond b 0 (suc (first_requested in_flight)) → (n ≤ first_requested in_flight → requested_in (drop n in_flight) ≡ requested_in in_flight) → requested_in (drop n in_flight) ≡ requested_in (f ∷ in_flight)
-    go true e m rest = absurd (omega (arith, m))
-    go false e m rest = rest (omega (arith, m)) ∙ sym (ap (λ b. cond b (suc (requested_in in_flight)) (requested_in in_flight)) e)
-
-pub requested_few : (in_flight : List SentPdu) → requested_in in_flight ≤ length in_flight
-requested_few [] = omega arith
-requested_few (f ∷ in_flight) = go f.requested (requested_few in_flight)
-  where
-    go : (b : Bool) → requested_in in_flight ≤ length in_flight → cond b (suc (requested_in in_flight)) (requested_in in_flight) ≤ suc (length in_flight)
-    go true rest = omega (arith, rest)
-    go false rest = omega (arith, rest)
-
--- where no PDU is picked to go again, none is requested
-first_few : (in_flight : List SentPdu) → first_requested in_flight ≤ length in_flight
-first_few [] = omega arith
-first_few (f ∷ in_flight) = go f.requested (first_few in_flight)
-  where
-    go : (b : Bool) → first_requested in_flight ≤ length in_flight → cond b 0 (suc (first_requested in_flight)) ≤ suc (length in_flight)
-    go true rest = omega arith
-    go false rest = omega (arith, rest)
-
-pub none_picked : (l : RetxBuffer) → ((n : ℕ) → picked false l ≡ Again n → ⊥) → length l.in_flight ≡ first_requested l.in_flight
-none_picked l none = go (nat_lt (first_requested l.in_flight) (length l.in_flight)) refl
-  where
-    go : (b : Bool) → nat_lt (first_requested l.in_flight) (length l.in_flight) ≡ b → length l.in_flight ≡ first_requested l.in_flight
-    go true e = absurd (none (first_requested l.in_flight) (ap (λ b. cond b (Again (first_requested l.in_flight)) (cond (nat_lt (length l.in_flight) l.window && false) New (cond (l.owed && nat_lt 0 (length l.in_flight)) (Last (length l.in_flight - 1)) NoPdu))) e))
-    go false e = omega (arith, ltb-false (first_requested l.in_flight) (length l.in_flight) e, first_few l.in_flight)

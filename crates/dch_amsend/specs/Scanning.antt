@@ -1,5 +1,5 @@
 -- Which SDU is discarded at a tick (TS 25.322 9.7.3), by one pass over the PDUs in flight: the SDUs that end in them, one after another.
-use Rattle.std.specs.Prelude.{◌+◌, ℕ, zero, suc, List, [], ◌∷◌, Bool, false, ◌&&◌, ◌||◌, length, nat_lt, nat_le, ◌==◌, if◌then◌else◌, Option, Some, None}
+use Rattle.std.specs.Prelude.{◌+◌, ℕ, zero, suc, List, [], ◌∷◌, Bool, false, ◌&&◌, ◌||◌, drop, length, nat_lt, nat_le, ◌==◌, if◌then◌else◌, Option, Some, None}
 use Rattle.dch_types.specs.declared.bearer.AmRules.{AmRules}
 use Rattle.dch_retx.specs.declared.sent_pdu.SentPdu.{SentPdu}
 use Rattle.dch_retx.specs.Flights.{continues_in, ends_in}
@@ -50,6 +50,10 @@ abbrev pub ends_below : ℕ → List SentPdu → ℕ
 ends_below zero in_flight = 0
 ends_below (suc n) [] = 0
 ends_below (suc n) (f ∷ in_flight) = ends_in f + ends_below n in_flight
+
+-- what a pass finds that goes on at a place, where an SDU that began before goes on and one was found before
+abbrev pub found_from : AmRules → SduDiscard → ℕ → List SentPdu → Scan → Option Overdue
+found_from rules h place in_flight scan = (after_pdus rules h place (drop place in_flight) (record scan { sdu = ends_below place in_flight })).found
 
 -- before the first
 abbrev pub no_scan : Scan

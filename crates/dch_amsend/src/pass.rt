@@ -1,20 +1,20 @@
-ghost use Rattle.std.specs.Prelude.{◌≡◌, ◌+◌, ◌<◌, ◌≤◌, ℕ, false, IfSome, length};
+ghost use Rattle.std.specs.Prelude.{◌≡◌, ◌+◌, ◌<◌, ◌≤◌, ℕ, false, IfSome, drop, length};
 ghost use Rattle.dch_am.specs.Cuts.{IsCut};
 ghost use Rattle.dch_am.specs.Building.{body_at};
 ghost use Rattle.dch_am.specs.Discards.{discards};
 ghost use Rattle.dch_am.specs.Rules.{Rules, rules_of};
 ghost use Rattle.dch_am.specs.Sender.{Sender, vt_a};
-ghost use Rattle.dch_retx.specs.Flights.{at, first_requested, requested_in};
+ghost use Rattle.dch_retx.specs.Flights.{at, first_requested};
 ghost use Rattle.dch_amsend.specs.DiscardStanding.{DiscardStands};
 ghost use Rattle.dch_retx.specs.Standing.{Stands as LineStands};
 ghost use Rattle.dch_amsend.specs.BufferStanding.{HasBody};
-ghost use Rattle.dch_amsend.specs.Scanning.{ends_below, is_old, overdue};
+ghost use Rattle.dch_amsend.specs.Scanning.{ends_below, found_from, is_old, overdue};
 ghost use Rattle.dch_amsend.specs.Discarding.{discarded_by};
 
 use crate::discard::SduDiscard;
 use crate::outgoing::Outgoing;
 use crate::scan::{Overdue, Scan, after_pdu, is_old};
-use dch_retx::{Pick, RetxBuffer};
+use dch_retx::RetxBuffer;
 use dch_types::AmRules;
 
 /// The last SDU that can be discarded: it is held and was not discarded yet, its length indicator is built in a PDU in flight with
@@ -35,37 +35,50 @@ fn last(outgoing: &Outgoing, held: &SduDiscard, rules: AmRules) -> Option<Overdu
         return None;
     }
     let first = first_place(outgoing, held, &rules);
-    if first < outgoing.line().len() as u16 {
-        last_from(first, outgoing, held, &rules)
-    } else {
-        None
-    }
+    last_from(first, outgoing, held, &rules)
 }
 
-/// The same, where none is found before a place. The pass begins there, and ends where no requested PDU is left, no SDU goes on that began
-/// in one, and the next SDU isn't old enough.
+/// The same, where none is found before a place. The pass begins there.
 fn last_from(first: u16, outgoing: &Outgoing, held: &SduDiscard, rules: &AmRules) -> Option<Overdue>
-    requires inside { first < length outgoing.now.line.in_flight }
+    requires inside { first ≤ length outgoing.now.line.in_flight }
     requires requested { 0 < rules.now.discard_sent → first ≤ first_requested outgoing.now.line.in_flight }
     requires young { (i : ℕ) → held.now.passed ≤ i → i < ends_below first outgoing.now.line.in_flight → is_old rules.now held.now i ≡ false }
     ensures { result ≡ overdue rules.now held.now outgoing.now.line.in_flight }
 {
     let line = outgoing.line();
-    let mut left = requested(line, rules);
     let mut scan = Scan {
-        sdu: outgoing.ended_before(first) as usize,
+        sdu: 0,
         begun: false,
         found: None,
     };
-    for place in first..line.len() as u16 {
-        if left == 0 && !scan.begun && !is_next_old(held, rules, scan.sdu) {
-            return scan.found;
-        }
-        let pdu = line.at(place);
-        scan = after_pdu(held, rules, &pdu, place, scan);
-        left = left.saturating_sub(usize::from(pdu.requested));
+    let mut place = first;
+    while place < line.len() as u16 {
+        scan.sdu = outgoing.ended_before(place) as usize;
+        scan = after_pdu(held, rules, &line.at(place), place, scan);
+        place = next_place(outgoing, held, rules, place + 1, &scan);
     }
     scan.found
+}
+
+/// Where the pass goes on: at the next PDU while an SDU goes on that began in a requested one, or where the next SDU is old enough; at the next
+/// requested one otherwise. None that is passed over has an SDU that can be discarded.
+fn next_place(
+    outgoing: &Outgoing,
+    held: &SduDiscard,
+    rules: &AmRules,
+    place: u16,
+    scan: &Scan,
+) -> u16
+    requires inside { place ≤ length outgoing.now.line.in_flight }
+    requires sdu { scan.now.sdu ≡ ends_below place outgoing.now.line.in_flight }
+    ensures from { place ≤ result }
+    ensures within { result ≤ length outgoing.now.line.in_flight }
+    ensures same { found_from rules.now held.now place outgoing.now.line.in_flight scan.now ≡ found_from rules.now held.now result outgoing.now.line.in_flight scan.now }
+{
+    if scan.begun || is_next_old(held, rules, scan.sdu) {
+        return place;
+    }
+    requested_place(outgoing.line(), rules, place)
 }
 
 /// Where the pass begins: at the first requested PDU or the one in which the first SDU that was not discarded ends, where that is old enough;
@@ -76,7 +89,7 @@ fn first_place(outgoing: &Outgoing, held: &SduDiscard, rules: &AmRules) -> u16
     ensures requested { 0 < rules.now.discard_sent → result ≤ first_requested outgoing.now.line.in_flight }
     ensures young { (i : ℕ) → held.now.passed ≤ i → i < ends_below result outgoing.now.line.in_flight → is_old rules.now held.now i ≡ false }
 {
-    old_place(outgoing, held, rules).min(requested_place(outgoing.line(), rules))
+    old_place(outgoing, held, rules).min(requested_place(outgoing.line(), rules, 0))
 }
 
 /// The place of the PDU in which the first SDU that was not discarded ends, where it is old enough, or the end.
@@ -113,25 +126,17 @@ fn place_of(outgoing: &Outgoing, sdu: usize) -> u16
     low
 }
 
-/// The place of the first requested PDU, where one that was built often enough is discarded, or the end.
-fn requested_place(line: &RetxBuffer, rules: &AmRules) -> u16
+/// The place of the first requested PDU from a place on, where one that was built often enough is discarded, or the end.
+fn requested_place(line: &RetxBuffer, rules: &AmRules, place: u16) -> u16
+    requires { place ≤ length line.now.in_flight }
+    ensures from { place ≤ result }
     ensures within { result ≤ length line.now.in_flight }
-    ensures first { 0 < rules.now.discard_sent → result ≡ first_requested line.now.in_flight }
-{
-    match line.pick(false) {
-        Pick::Again(place) if rules.discard_sent > 0 => place,
-        _ => line.len() as u16,
-    }
-}
-
-/// How many PDUs are requested, where one that was built often enough is discarded.
-fn requested(line: &RetxBuffer, rules: &AmRules) -> usize
-    ensures { 0 < rules.now.discard_sent → result ≡ requested_in line.now.in_flight }
+    ensures before { 0 < rules.now.discard_sent → result ≡ place + first_requested (drop place line.now.in_flight) }
 {
     if rules.discard_sent > 0 {
-        line.requested(line.len())
+        line.requested_from(place)
     } else {
-        0
+        line.len() as u16
     }
 }
 
