@@ -4,10 +4,7 @@ ghost use Rattle.dch_txbuf.specs.Cuts.{IsStart};
 ghost use Rattle.dch_amsend.specs.BufferStanding.{fills};
 ghost use Rattle.dch_amsend.specs.TxBuffer.{unsent_at};
 
-use dch_txbuf::{SduBuffer, Start, next_cut, next_start};
-
-/// The most PDUs that an entity offers to build one after another.
-pub const MOST_PDUS: u16 = 64;
+use dch_txbuf::{MOST_PDUS, SduBuffer, Start, next_cut, next_start};
 
 /// Something is left to be sent from a place on.
 pub fn is_left_at(sdus: &SduBuffer, start: &Start, owed: bool) -> bool

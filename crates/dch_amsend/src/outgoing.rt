@@ -22,12 +22,12 @@ ghost use Rattle.dch_amsend.specs.TxBuffer.{unsent_of};
 ghost use Rattle.dch_amsend.specs.Scanning.{ends_below};
 ghost use Rattle.dch_amsend.specs.Outgoing.{IsLast, IsOutgoing, available_of, can_build, HoldsSame, first_in_flight, pdu_in, with_line};
 
-use crate::left::MOST_PDUS;
 use crate::tx_buffer::TxBuffer;
 use dch_am::StatusTaken;
 use dch_bits::{NoMemory, Offer};
 use dch_retx::{Pick, RetxBuffer, SentPdu};
 use dch_status::{StatusView, write_mrw};
+use dch_txbuf::MOST_PDUS;
 use dch_types::AmRules;
 use std::alloc::Global;
 use std::marker::Model;

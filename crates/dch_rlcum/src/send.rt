@@ -7,15 +7,10 @@ ghost use Rattle.dch_rlcum.specs.Queue.{IsPlace, units_at};
 ghost use Rattle.dch_rlcum.specs.Sending.{after_build, after_offer, answer_of, builds, carried_by, is_due, is_unsent, leading, no_units, pdu_of, restarted, room_of};
 
 use dch_bits::{NoMemory, Offer};
-use dch_txbuf::{LONGEST_SDU, SduBuffer, Start, next_cut, next_start, write_um_taken};
+use dch_rlcpdu::{FILLED, STARTS};
+use dch_txbuf::{LONGEST_SDU, MOST_PDUS, SduBuffer, Start, next_cut, next_start, write_um_taken};
 use std::alloc::Global;
 use std::marker::Model;
-
-/// The length indicator that tells that the first octet starts a unit.
-const STARTS: u8 = 124;
-
-/// The most PDUs that are counted ahead.
-const MOST_PDUS: u16 = 64;
 
 /// The sending side of an unacknowledged bearer. SDUs stand in blocks of 64 octets, which are taken when it is opened, until their length
 /// indicator is built.
@@ -173,7 +168,7 @@ fn lead(sdus: &SduBuffer, start: &Start, owed: bool, mark_start: bool) -> Option
     ensures small { All (λ m. m < 128) (led_by result) }
 {
     if owed {
-        return Some(0);
+        return Some(FILLED);
     }
     if mark_start && start.used == 0 && (start.sdu as usize) < sdus.len() {
         Some(STARTS)

@@ -5,4 +5,4 @@ mod laws;
 mod reassembler;
 
 pub use laws::filled_law;
-pub use reassembler::Reassembler;
+pub use reassembler::{LONGEST_SDU, Reassembler};

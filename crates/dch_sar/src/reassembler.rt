@@ -8,11 +8,11 @@ use dch_rlcpdu::{Body, Handed};
 use std::alloc::Global;
 use std::marker::Model;
 
-/// The most octets of a unit that is handed up.
-const LONGEST: usize = 1500;
+/// The most octets of an SDU.
+pub const LONGEST_SDU: usize = 1500;
 
 /// Room for a unit that is just too long, and for the octets of a PDU.
-const OCTETS: usize = LONGEST + 1 + 124;
+const OCTETS: usize = LONGEST_SDU + 1 + 124;
 
 /// Room for the units that a PDU ends.
 const UNITS: usize = 128;
@@ -100,7 +100,7 @@ impl Reassembler {
         ensures rest { self.new ≡ after_unit self.old }
     {
         let size = self.sizes.pop_front()? as usize;
-        if size > LONGEST {
+        if size > LONGEST_SDU {
             let kept = self.octets.len() - size;
             self.octets.truncate_front(kept);
             return Some(Handed::Overlong);
@@ -129,7 +129,7 @@ impl Reassembler {
         requires { held self.old + length octets.now ≤ 1625 }
         ensures { self.new ≡ added octets.now self.old }
     {
-        let count = octets.len().min(LONGEST + 1 - self.part);
+        let count = octets.len().min(LONGEST_SDU + 1 - self.part);
         let _ = self.octets.fill_from_slice(&octets[..count]);
         self.part += count;
     }

@@ -5,9 +5,7 @@ ghost use Rattle.dch_txbuf.specs.Cuts.{IsStart, IsThere, is_padded, led_by, left
 
 use crate::store::SduBuffer;
 use crate::taken::{Cut, Start};
-
-/// The length indicator of padding.
-const PADDING: u8 = 127;
+use dch_rlcpdu::PADDING;
 
 /// Writes what stands behind the header of a PDU: length indicators, octets of SDUs, and zeros for padding. Answers the bit of the header
 /// that tells whether a length indicator follows.

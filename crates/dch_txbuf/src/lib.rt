@@ -11,9 +11,10 @@ mod store;
 mod taken;
 mod write;
 
+pub use dch_sar::LONGEST_SDU;
 pub use laws::payload_law;
-pub use next::next_start;
-pub use octets::{LONGEST_SDU, blocks_for, copy_octets, push_octets};
+pub use next::{MOST_PDUS, next_start};
+pub use octets::{blocks_for, copy_octets, push_octets};
 pub use row::{BLOCK, BlockRow};
 pub use store::SduBuffer;
 pub use taken::{Cut, Start, next_cut};

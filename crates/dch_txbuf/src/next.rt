@@ -3,6 +3,9 @@ ghost use Rattle.dch_txbuf.specs.Cuts.{IsSmall, next_start};
 
 use crate::taken::{Cut, Start};
 
+/// The most PDUs that an entity offers to build one after another.
+pub const MOST_PDUS: u16 = 64;
+
 /// Where the next PDU begins.
 pub fn next_start(start: &Start, cut: &Cut) -> Start
     requires { IsSmall (next_start start.now cut.now) }

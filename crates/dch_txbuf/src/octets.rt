@@ -4,9 +4,6 @@ ghost use Rattle.dch_txbuf.specs.Chunks.{AreWhole, blocks_for, chunked, joined};
 
 use crate::row::{BLOCK, BlockRow};
 
-/// The most octets of an SDU.
-pub const LONGEST_SDU: usize = 1500;
-
 /// The blocks of 64 octets that so many octets take.
 pub fn blocks_for(octets: usize) -> usize
     requires { octets ≤ 1500 }

@@ -8,6 +8,7 @@ ghost use Rattle.dch_txbuf.specs.Cuts.{IsStart, IsThere, body_of, has_padding, i
 use crate::body::write_body;
 use crate::store::SduBuffer;
 use crate::taken::{Cut, Start};
+use dch_rlcpdu::FILLED;
 
 /// The number of a PDU of acknowledged mode, 0 to 4,095, its poll bit, and whether the length indicator 0 stands first.
 #[derive(Clone, Copy)]
@@ -39,7 +40,7 @@ pub fn write_taken(sdus: &SduBuffer, start: &Start, cut: &Cut, header: &Header, 
 fn lead_of(full: bool) -> Option<u8>
     ensures { led_by result ≡ (if full then 0 ∷ [] else []) }
 {
-    if full { Some(0) } else { None }
+    if full { Some(FILLED) } else { None }
 }
 
 /// Writes the PDU of unacknowledged mode that takes this of the SDUs: `number` is 0 to 127, and `lead` the length indicator that stands first,
