@@ -178,10 +178,3 @@ passed_more rules h place (f ∷ in_flight) scan l = passed_more rules h (place 
 
 pub passed_all : (rules : AmRules) (h : SduDiscard) (in_flight : List SentPdu) → ends_below (length in_flight) in_flight ≤ h.passed → overdue rules h in_flight ≡ None
 passed_all rules h in_flight l = passed_more rules h 0 in_flight no_scan (omega (arith, l))
-
--- more PDUs end no fewer SDUs
-pub below_up : (a b : ℕ) (in_flight : List SentPdu) → a ≤ b → ends_below a in_flight ≤ ends_below b in_flight
-below_up zero b in_flight l = omega arith
-below_up (suc a) zero in_flight l = absurd (omega (arith, l))
-below_up (suc a) (suc b) [] l = omega arith
-below_up (suc a) (suc b) (f ∷ in_flight) l = omega (arith, below_up a b in_flight (omega (arith, l)))

@@ -81,49 +81,17 @@ fn next_place(
     requested_place(outgoing.line(), rules, place)
 }
 
-/// Where the pass begins: at the first requested PDU or the one in which the first SDU that was not discarded ends, where that is old enough;
-/// at the end where neither is there.
+/// Where the pass begins: at the first PDU in flight where the first SDU that was not discarded is old enough, since those before it left with
+/// their PDUs or end in this one; at the first requested PDU otherwise.
 fn first_place(outgoing: &Outgoing, held: &SduDiscard, rules: &AmRules) -> u16
-    requires { held.now.passed < ends_below (length outgoing.now.line.in_flight) outgoing.now.line.in_flight }
     ensures within { result ≤ length outgoing.now.line.in_flight }
     ensures requested { 0 < rules.now.discard_sent → result ≤ first_requested outgoing.now.line.in_flight }
     ensures young { (i : ℕ) → held.now.passed ≤ i → i < ends_below result outgoing.now.line.in_flight → is_old rules.now held.now i ≡ false }
 {
-    old_place(outgoing, held, rules).min(requested_place(outgoing.line(), rules, 0))
-}
-
-/// The place of the PDU in which the first SDU that was not discarded ends, where it is old enough, or the end.
-fn old_place(outgoing: &Outgoing, held: &SduDiscard, rules: &AmRules) -> u16
-    requires { held.now.passed < ends_below (length outgoing.now.line.in_flight) outgoing.now.line.in_flight }
-    ensures within { result ≤ length outgoing.now.line.in_flight }
-    ensures young { (i : ℕ) → held.now.passed ≤ i → i < ends_below result outgoing.now.line.in_flight → is_old rules.now held.now i ≡ false }
-{
-    let sdu = held.passed();
-    if is_next_old(held, rules, sdu) {
-        place_of(outgoing, sdu)
-    } else {
-        outgoing.line().len() as u16
+    if is_next_old(held, rules, held.passed()) {
+        return 0;
     }
-}
-
-/// The place of the PDU in flight in which an SDU ends, found by halving.
-fn place_of(outgoing: &Outgoing, sdu: usize) -> u16
-    requires { sdu < ends_below (length outgoing.now.line.in_flight) outgoing.now.line.in_flight }
-    ensures inside { result < length outgoing.now.line.in_flight }
-    ensures behind { ends_below result outgoing.now.line.in_flight ≤ sdu }
-    ensures here { sdu < ends_below (result + 1) outgoing.now.line.in_flight }
-{
-    let mut low = 0;
-    let mut high = outgoing.line().len() as u16;
-    while high - low > 1 {
-        let middle = (low + high) / 2;
-        if outgoing.ended_before(middle) as usize <= sdu {
-            low = middle;
-        } else {
-            high = middle;
-        }
-    }
-    low
+    requested_place(outgoing.line(), rules, 0)
 }
 
 /// The place of the first requested PDU from a place on, where one that was built often enough is discarded, or the end.

@@ -40,8 +40,8 @@ requested_behind in_flight i l = false_from_ne_true (at in_flight i).requested (
 
 -- a front leaves of which none is requested
 pub requests_left : (old new : RequestSet) (n : ℕ) (in_flight : List SentPdu) (skips : List ℕ) → n ≤ front_acked in_flight → length in_flight ≤ 2048 → ((i : ℕ) → n + i < 4096 → is_in new i ≡ is_in old (n + i)) → ((i : ℕ) → i < n → is_in new (4096 - n + i) ≡ is_in old i) → AreLinked in_flight skips → AreRequests old in_flight → AreRequests new (drop n in_flight)
-requests_left old new n in_flight skips l few moved behind linked is i small = ⊎_elim
-    (λ (m : n + i < 4096). moved i m ∙ (is (n + i) m ∙ ap (λ (x : SentPdu). x.requested) (sym (get_or-drop n in_flight i blank))))
+requests_left old new n in_flight skips l few nearer behind linked is i small = ⊎_elim
+    (λ (m : n + i < 4096). nearer i m ∙ (is (n + i) m ∙ ap (λ (x : SentPdu). x.requested) (sym (get_or-drop n in_flight i blank))))
     (λ (m : 4096 ≤ n + i). subst (λ k. is_in new k ≡ false) (place m) (behind (n + i - 4096) (before m) ∙ (is (n + i - 4096) (omega (arith, size)) ∙ front m)) ∙ sym (last m))
     (cases_lt (n + i) 4096)
   where

@@ -4,11 +4,17 @@ ghost use Rattle.dch_retx.specs.RequestSet.{is_in, has};
 
 use std::marker::Model;
 
+/// The bits of a word.
+const BITS: usize = 64;
+
+/// The words of a set. Their bits are as many as numbers are.
+const WORDS: usize = 64;
+
 /// The places of the PDUs in flight that are requested: a bit for each of 4,096 numbers, more than the largest window. PDUs that leave in front move
 /// the first place and no bit.
 #[derive(Drop)]
 pub struct RequestSet {
-    words: [u64; 64],
+    words: [u64; WORDS],
     first: usize,
 }
 
@@ -29,7 +35,7 @@ impl RequestSet {
         ensures { (i : ℕ) → is_in result i ≡ false }
     {
         RequestSet {
-            words: [0; 64],
+            words: [0; WORDS],
             first: 0,
         }
     }
@@ -41,7 +47,7 @@ impl RequestSet {
         ensures others { (j : ℕ) → j < 4096 → j ≢ i → is_in self.new j ≡ is_in self.old j }
     {
         let n = self.first + i;
-        self.words[n / 64 % 64] |= 1 << (n % 64);
+        self.words[n / BITS % WORDS] |= 1 << (n % BITS);
     }
 
     /// A place goes.
@@ -51,23 +57,23 @@ impl RequestSet {
         ensures others { (j : ℕ) → j < 4096 → j ≢ i → is_in self.new j ≡ is_in self.old j }
     {
         let n = self.first + i;
-        self.words[n / 64 % 64] &= !(1u64 << (n % 64));
+        self.words[n / BITS % WORDS] &= !(1u64 << (n % BITS));
     }
 
     /// So many places in front leave. They stand behind all others then.
     pub fn leave(&mut self, count: usize)
         requires { count ≤ 4096 }
-        ensures moved { (i : ℕ) → count + i < 4096 → is_in self.new i ≡ is_in self.old (count + i) }
+        ensures nearer { (i : ℕ) → count + i < 4096 → is_in self.new i ≡ is_in self.old (count + i) }
         ensures behind { (i : ℕ) → i < count → is_in self.new (4096 - count + i) ≡ is_in self.old i }
     {
-        self.first = (self.first + count) % 4096;
+        self.first = (self.first + count) % (BITS * WORDS);
     }
 
     /// No place is in it any more.
     pub fn clear(&mut self)
         ensures { (i : ℕ) → is_in self.new i ≡ false }
     {
-        self.words = [0; 64];
+        self.words = [0; WORDS];
     }
 
     /// The first place that is in it, from one on and before another; that other where none is. Goes word by word.
@@ -86,18 +92,18 @@ impl RequestSet {
             if rest != 0 {
                 return to.min(i + zeros(rest));
             }
-            i += 64 - n % 64;
+            i += BITS - n % BITS;
         }
         to
     }
 }
 
 /// The bits of a word from that of a number on.
-fn rest_at(words: &[u64; 64], n: usize) -> u64
+fn rest_at(words: &[u64; WORDS], n: usize) -> u64
     ensures bits { (k : ℕ) → n % 64 + k < 64 → (bit_at result k == 1) ≡ has words.now (n + k) }
     ensures above { (k : ℕ) → 64 ≤ n % 64 + k → bit_at result k ≡ 0 }
 {
-    words[n / 64 % 64] >> (n % 64)
+    words[n / BITS % WORDS] >> (n % BITS)
 }
 
 /// How many bits are 0 before the first that is 1.

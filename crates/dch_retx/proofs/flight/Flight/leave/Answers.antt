@@ -27,7 +27,7 @@ invariant_of-self c =
     (flight_less c.self.inside.ring (buffer (drop c.args.count c.self.inside.ring.items) c.self.inside.ring.capacity) c.self.inside.skips (buffer (drop c.args.count c.self.inside.skips.items) c.self.inside.skips.capacity) c.self.inside.requests c.leave.new.self c.self.inside.count c.self.inside.count refl refl
     (omega (arith, length-drop c.args.count c.self.inside.ring.items))
     (c.self.invariant.count_is ∙ sym (requested_drop c.args.count c.self.inside.ring.items c.self.inside.skips.items few c.self.invariant.linked))
-    (requests_left c.self.inside.requests c.leave.new.self c.args.count c.self.inside.ring.items c.self.inside.skips.items few (omega (arith, c.self.invariant.few, c.self.invariant.small)) c.leave.ensures.moved c.leave.ensures.behind c.self.invariant.linked c.self.invariant.requests)
+    (requests_left c.self.inside.requests c.leave.new.self c.args.count c.self.inside.ring.items c.self.inside.skips.items few (omega (arith, c.self.invariant.few, c.self.invariant.small)) c.leave.ensures.nearer c.leave.ensures.behind c.self.invariant.linked c.self.invariant.requests)
     (linked_drop c.args.count c.self.inside.ring.items c.self.inside.skips.items c.self.invariant.linked) c.self.invariant))
 
 pub returns : goal.returns
