@@ -2,7 +2,7 @@
 use Rattle.std.specs.Prelude.{◌+◌, ℕ, zero, suc, List, [], ◌∷◌, Bool, false, ◌&&◌, ◌||◌, drop, length, nat_lt, nat_le, ◌==◌, if◌then◌else◌, Option, Some, None}
 use Rattle.dch_types.specs.declared.bearer.AmRules.{AmRules}
 use Rattle.dch_retx.specs.declared.sent_pdu.SentPdu.{SentPdu}
-use Rattle.dch_retx.specs.Flights.{continues_in, ends_in}
+use Rattle.dch_retx.specs.Flights.{continues_in, ends_in, first_requested}
 use Rattle.dch_amsend.specs.SduDiscard.{SduDiscard, age_at}
 use Rattle.dch_amsend.specs.declared.scan.Overdue.{Overdue}
 use Rattle.dch_amsend.specs.declared.scan.Scan.{Scan}
@@ -54,6 +54,22 @@ ends_below (suc n) (f ∷ in_flight) = ends_in f + ends_below n in_flight
 -- what a pass finds that goes on at a place, where an SDU that began before goes on and one was found before
 abbrev pub found_from : AmRules → SduDiscard → ℕ → List SentPdu → Scan → Option Overdue
 found_from rules h place in_flight scan = (after_pdus rules h place (drop place in_flight) (record scan { sdu = ends_below place in_flight })).found
+
+-- the SDU behind so many others is held and old enough
+abbrev pub is_next_old : AmRules → SduDiscard → ℕ → Bool
+is_next_old rules h sdu = nat_lt sdu (length h.ages) && is_old rules h sdu
+
+-- the first requested PDU from a place on, where one that was built often enough is discarded, or the end
+abbrev pub requested_place : AmRules → ℕ → List SentPdu → ℕ
+requested_place rules place in_flight = if nat_lt 0 rules.discard_sent then place + first_requested (drop place in_flight) else length in_flight
+
+-- the next PDU that is looked at: the one at the place while an SDU goes on that began in one that was built often enough, or where the next SDU is old enough
+abbrev pub next_place : AmRules → SduDiscard → ℕ → List SentPdu → Scan → ℕ
+next_place rules h place in_flight scan = if scan.begun || is_next_old rules h scan.sdu then place else requested_place rules place in_flight
+
+-- the first one
+abbrev pub first_place : AmRules → SduDiscard → List SentPdu → ℕ
+first_place rules h in_flight = if is_next_old rules h h.passed then 0 else requested_place rules 0 in_flight
 
 -- before the first
 abbrev pub no_scan : Scan

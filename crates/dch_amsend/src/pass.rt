@@ -8,7 +8,7 @@ ghost use Rattle.dch_retx.specs.Flights.{at, first_requested};
 ghost use Rattle.dch_amsend.specs.DiscardStanding.{DiscardStands};
 ghost use Rattle.dch_retx.specs.Standing.{Stands as LineStands};
 ghost use Rattle.dch_amsend.specs.BufferStanding.{HasBody};
-ghost use Rattle.dch_amsend.specs.Scanning.{ends_below, found_from, is_old, overdue};
+ghost use Rattle.dch_amsend.specs.Scanning.{ends_below, first_place, found_from, is_next_old, is_old, next_place, overdue, requested_place};
 ghost use Rattle.dch_amsend.specs.Discarding.{discarded_by};
 
 use crate::discard::SduDiscard;
@@ -71,6 +71,7 @@ fn next_place(
 ) -> u16
     requires inside { place ≤ length outgoing.now.line.in_flight }
     requires sdu { scan.now.sdu ≡ ends_below place outgoing.now.line.in_flight }
+    ensures place { result ≡ next_place rules.now held.now place outgoing.now.line.in_flight scan.now }
     ensures from { place ≤ result }
     ensures within { result ≤ length outgoing.now.line.in_flight }
     ensures same { found_from rules.now held.now place outgoing.now.line.in_flight scan.now ≡ found_from rules.now held.now result outgoing.now.line.in_flight scan.now }
@@ -84,6 +85,7 @@ fn next_place(
 /// Where the pass begins: at the first PDU in flight where the first SDU that was not discarded is old enough, since those before it left with
 /// their PDUs or end in this one; at the first requested PDU otherwise.
 fn first_place(outgoing: &Outgoing, held: &SduDiscard, rules: &AmRules) -> u16
+    ensures place { result ≡ first_place rules.now held.now outgoing.now.line.in_flight }
     ensures within { result ≤ length outgoing.now.line.in_flight }
     ensures requested { 0 < rules.now.discard_sent → result ≤ first_requested outgoing.now.line.in_flight }
     ensures young { (i : ℕ) → held.now.passed ≤ i → i < ends_below result outgoing.now.line.in_flight → is_old rules.now held.now i ≡ false }
@@ -97,6 +99,7 @@ fn first_place(outgoing: &Outgoing, held: &SduDiscard, rules: &AmRules) -> u16
 /// The place of the first requested PDU from a place on, where one that was built often enough is discarded, or the end.
 fn requested_place(line: &RetxBuffer, rules: &AmRules, place: u16) -> u16
     requires { place ≤ length line.now.in_flight }
+    ensures place { result ≡ requested_place rules.now place line.now.in_flight }
     ensures from { place ≤ result }
     ensures within { result ≤ length line.now.in_flight }
     ensures before { 0 < rules.now.discard_sent → result ≡ place + first_requested (drop place line.now.in_flight) }
@@ -110,7 +113,8 @@ fn requested_place(line: &RetxBuffer, rules: &AmRules, place: u16) -> u16
 
 /// The SDU behind so many others is held and old enough. Where it isn't, none behind it is.
 fn is_next_old(held: &SduDiscard, rules: &AmRules, sdu: usize) -> bool
-    ensures { result ≡ false → (i : ℕ) → sdu ≤ i → is_old rules.now held.now i ≡ false }
+    ensures value { result ≡ is_next_old rules.now held.now sdu }
+    ensures behind { result ≡ false → (i : ℕ) → sdu ≤ i → is_old rules.now held.now i ≡ false }
 {
     sdu < held.len() && is_old(held, rules, sdu)
 }
