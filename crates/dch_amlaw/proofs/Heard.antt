@@ -47,7 +47,7 @@ record IsHeard (base next lsn : ℕ) (names : List ℕ) (fields : List Field) : 
   offends : (window : ℕ) → is_some (offending window base next fields) ≡ (nat_lt next (read_from base lsn) || reaches next names)
   names_are : all_names base next fields ≡ names
   lsn_is : lsn_of base fields ≡ read_from base lsn
-  tells_some : reports fields ≡ true
+  reports_some : reports fields ≡ true
   no_ack : (s : Sender) → after_acks s fields ≡ s
 
 unwrap-append : (base : ℕ) (xs ys : List ℕ) → unwrap base (xs ++ ys) ≡ unwrap base xs ++ unwrap base ys
@@ -89,7 +89,7 @@ heard_ack base next lsn = record {
   offends = λ window. some_or (cond (nat_lt next (read_from base lsn)) (Some (wrapped lsn)) None) None ∙ ap (λ b. b || false) (some_cond (nat_lt next (read_from base lsn)) (wrapped lsn) None) ∙ twice (nat_lt next (read_from base lsn));
   names_are = refl;
   lsn_is = refl;
-  tells_some = refl;
+  reports_some = refl;
   no_ack = λ s. refl;
 }
   where
@@ -111,7 +111,7 @@ heard_list base next lsn names pairs fields h = record {
       ∙ ap (λ b. nat_lt next (read_from base lsn) || b) (sym (reaches-append next (unwrap base (named pairs)) names));
   names_are = ap (λ xs. unwrap base (named pairs) ++ xs) h.names_are;
   lsn_is = h.lsn_is;
-  tells_some = ap (λ b. not (is_empty pairs) || b) h.tells_some ∙ or_true (not (is_empty pairs));
+  reports_some = ap (λ b. not (is_empty pairs) || b) h.reports_some ∙ or_true (not (is_empty pairs));
   no_ack = h.no_ack;
 }
 
@@ -120,7 +120,7 @@ renamed base next lsn xs ys fields e h = record {
   offends = λ window. h.offends window ∙ ap (λ zs. nat_lt next (read_from base lsn) || reaches next zs) e;
   names_are = h.names_are ∙ e;
   lsn_is = h.lsn_is;
-  tells_some = h.tells_some;
+  reports_some = h.reports_some;
   no_ack = h.no_ack;
 }
 
@@ -157,12 +157,12 @@ does rules s after t fields e offends names lsn some = go (offending rules.windo
 status_does : (rules : Rules) (s : Sender) (t : Status) → Does rules s s t (status_fields t.pairs t.lsn)
 status_does rules s t =
     let h = heard (vt_a s) (vt_s s) t.lsn (length t.pairs) t.pairs (omega arith) in
-    does rules s s t (status_fields t.pairs t.lsn) (h.no_ack s) h.offends h.names_are h.lsn_is h.tells_some
+    does rules s s t (status_fields t.pairs t.lsn) (h.no_ack s) h.offends h.names_are h.lsn_is h.reports_some
 
 both_do : (rules : Rules) (s after : Sender) (t : Status) (n sn : ℕ) → after_ack s (record { number = sn; n = n }) ≡ after → Does rules s after t (MrwAckField n sn ∷ status_fields t.pairs t.lsn)
 both_do rules s after t n sn e =
     let h = heard (vt_a after) (vt_s after) t.lsn (length t.pairs) t.pairs (omega arith) in
-    does rules s after t (MrwAckField n sn ∷ status_fields t.pairs t.lsn) (h.no_ack (after_ack s (record { number = sn; n = n })) ∙ e) h.offends h.names_are h.lsn_is h.tells_some
+    does rules s after t (MrwAckField n sn ∷ status_fields t.pairs t.lsn) (h.no_ack (after_ack s (record { number = sn; n = n })) ∙ e) h.offends h.names_are h.lsn_is h.reports_some
 
 -- on what an honest receiver writes, the answer and the sender after it
 pub fields_answer : (rules : Rules) (s : Sender) (t : Told) → is_refused (status_answer rules s (fields_of t)) ≡ told_outside s t

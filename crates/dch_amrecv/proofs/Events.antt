@@ -17,7 +17,7 @@ use Rattle.dch_am.proofs.Lists.{Is, run_in}
 use Rattle.dch_amrecv.specs.Places.{front, is_kept, put}
 use Rattle.dch_amrecv.proofs.Putting.{length-put}
 use Rattle.dch_amrecv.specs.Lines.{greater, passed, run_on, with_body}
-use Rattle.dch_amrecv.specs.Holding.{Holding, after_answer, after_control, after_move, after_tick, after_unit, answer, control_answer, move_answer, moved_on, opened, with_ack as holds_ack, with_owed}
+use Rattle.dch_amrecv.specs.Holding.{Holding, after_answer, after_control, after_move, after_tick, after_unit, answer, control_answer, move_answer, advanced_to, opened, with_ack as holds_ack, with_owed}
 use Rattle.dch_am.specs.Rules.{rules_of}
 use Rattle.dch_amrecv.specs.Standing.{IsPast, IsSame, Stands, came, live, place, sent_ack}
 use Rattle.dch_amrecv.proofs.Whole.{units_dropped}
@@ -79,7 +79,7 @@ kept_stands h buffer given r sn poll b s =
     let e : ahead (vr_r r) sn ≡ ahead h.next sn = ahead_is h given r sn s in
     rw e (kept_at (ahead h.next sn))
   where
-    kept_at : (o : ℕ) → Stands (moved_on (front (put o b h.kept.places)) (run_on (with_body o b h.kept)) (with_owed (poll || (h.rules.missing && nat_lt (length h.kept.places) o)) h)) given (read_on (with_pdu (rules_of buffer h.rules) r (vr_r r + o) poll b) (vr_r r))
+    kept_at : (o : ℕ) → Stands (advanced_to (front (put o b h.kept.places)) (run_on (with_body o b h.kept)) (with_owed (poll || (h.rules.missing && nat_lt (length h.kept.places) o)) h)) given (read_on (with_pdu (rules_of buffer h.rules) r (vr_r r + o) poll b) (vr_r r))
     kept_at o =
         let p : Pending (put o b h.kept.places) (vr_r r) (with_pdu (rules_of buffer h.rules) r (vr_r r + o) poll b) = put_pending h buffer given r o poll b s in
         let t : Settled (run_on (with_body o b h.kept)) given (read_on (with_pdu (rules_of buffer h.rules) r (vr_r r + o) poll b) (vr_r r)) = settles (with_body o b h.kept) (vr_r r) given (with_pdu (rules_of buffer h.rules) r (vr_r r + o) poll b) p s.trim s.units in
@@ -178,7 +178,7 @@ obeyed_stands h buffer given r sn n s =
     let e : ahead (vr_r r) sn ≡ ahead h.next sn = ahead_is h given r sn s in
     rw e (obeyed_at (ahead h.next sn))
   where
-    obeyed_at : (o : ℕ) → Stands (holds_ack sn n (moved_on (o + front (passed o n h.kept).places) (run_on (passed o n h.kept)) h)) given (with_ack (read_on (with_move r (vr_r r + o) n) (vr_r r + o)) sn n)
+    obeyed_at : (o : ℕ) → Stands (holds_ack sn n (advanced_to (o + front (passed o n h.kept).places) (run_on (passed o n h.kept)) h)) given (with_ack (read_on (with_move r (vr_r r + o) n) (vr_r r + o)) sn n)
     obeyed_at o =
         let p : Pending (drop o h.kept.places) (vr_r r + o) (with_move r (vr_r r + o) n) = move_pending h given r o n s in
         let trimming : (passed o n h.kept).trim ≡ live (vr_r r + o) (trimmed r.trim (vr_r r + o) n) = ap (λ (t : Option ℕ). Some (if o == 0 then greater t n else n)) s.trim ∙ trim_same (vr_r r) o n r.trim s.past in

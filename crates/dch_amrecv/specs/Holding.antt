@@ -40,8 +40,8 @@ answer sn h =
     else (if nat_le h.rules.window (ahead h.next sn) then Outside else KeptPdu)
 
 -- what is kept goes on, by so many numbers
-abbrev pub moved_on : ℕ → Kept → Holding → Holding
-moved_on n k h = record h { next = (h.next + n) % 4096; kept = k }
+abbrev pub advanced_to : ℕ → Kept → Holding → Holding
+advanced_to n k h = record h { next = (h.next + n) % 4096; kept = k }
 
 abbrev pub with_owed : Bool → Holding → Holding
 with_owed more h = record h { owed = h.owed || more }
@@ -49,7 +49,7 @@ with_owed more h = record h { owed = h.owed || more }
 -- after that answer
 abbrev pub after_answer : Taken → ℕ → Bool → Body → Holding → Holding
 after_answer KeptPdu sn poll b h =
-    moved_on (front (put (ahead h.next sn) b h.kept.places)) (run_on (with_body (ahead h.next sn) b h.kept))
+    advanced_to (front (put (ahead h.next sn) b h.kept.places)) (run_on (with_body (ahead h.next sn) b h.kept))
     (with_owed (poll || (h.rules.missing && nat_lt (length h.kept.places) (ahead h.next sn))) h)
 after_answer Duplicate sn poll b h = with_owed poll h
 after_answer Outside sn poll b h = h
@@ -71,7 +71,7 @@ with_ack sn n h = record h { ack = Some (h.next, if h.next == sn then n else 0) 
 -- after that answer
 abbrev pub after_move : MrwTaken → ℕ → ℕ → Holding → Holding
 after_move Obeyed sn n h =
-    with_ack sn n (moved_on (ahead h.next sn + front (passed (ahead h.next sn) n h.kept).places) (run_on (passed (ahead h.next sn) n h.kept)) h)
+    with_ack sn n (advanced_to (ahead h.next sn + front (passed (ahead h.next sn) n h.kept).places) (run_on (passed (ahead h.next sn) n h.kept)) h)
 after_move Old sn n h = with_ack sn n h
 after_move (OutsideMove i) sn n h = h
 after_move Nothing sn n h = h

@@ -24,7 +24,7 @@ use Rattle.dch_amsend.specs.declared.scan.Scan.{Scan}
 use Rattle.dch_amsend.specs.Scanning.{after_pdu, after_pdus, can_discard, indicator_of, is_old, last_in, no_scan, overdue}
 use Rattle.dch_amsend.specs.Discarding.{discarded_by}
 use Rattle.dch_amsend.proofs.Ending.{ends-step, indicator_in, place-at, place-past, place_low}
-use Rattle.dch_amsend.proofs.Requested.{IsPdu, TellsBegun, begun-step, due_is}
+use Rattle.dch_amsend.proofs.Requested.{IsPdu, ExactlyBegun, begun-step, due_is}
 
 -- the SDUs that are held as they stand in a sender
 record AreSdus (buffer : ℕ) (rules : AmRules) (h : SduDiscard) (s : Sender) : Type 0 where
@@ -37,7 +37,7 @@ record AreSdus (buffer : ℕ) (rules : AmRules) (h : SduDiscard) (s : Sender) : 
 record IsAt (buffer : ℕ) (rules : AmRules) (s : Sender) (k place : ℕ) (scan : Scan) : Type 0 where
   number : vt_a s + place ≡ k
   sdu : scan.sdu + released s ≡ ends (take k s.bodies)
-  begun : TellsBegun scan.begun s rules.discard_sent k
+  begun : ExactlyBegun scan.begun s rules.discard_sent k
   found : discards (rules_of buffer rules) s (ends (take k s.bodies)) ≡ discarded_by scan.found s
 
 -- one SDU

@@ -37,7 +37,7 @@ pub record IsBegun (s : Sender) (sent k at : ℕ) : Type 0 where
   pub same : ends (take (at + 1) s.bodies) ≡ ends (take k s.bodies)
 
 -- a test tells that
-pub record TellsBegun (begun : Bool) (s : Sender) (sent k : ℕ) : Type 0 where
+pub record ExactlyBegun (begun : Bool) (s : Sender) (sent k : ℕ) : Type 0 where
   pub holds : begun ≡ true → (at : ℕ) × IsBegun s sent k at
   pub told : (at : ℕ) → IsBegun s sent k at → begun ≡ true
 
@@ -86,8 +86,8 @@ same_bool true b f g = sym (f refl)
 same_bool false b f g = sym (false_from_ne_true b (λ e. both_ways false refl (g e)))
 
 -- an SDU that ends in a PDU is due by what was sent
-due_told : (buffer : ℕ) (rules : AmRules) (s : Sender) (k j : ℕ) (f : SentPdu) (begun : Bool) → IsPdu rules s k f → TellsBegun begun s rules.discard_sent k → j < ends_of (body_at s.bodies k) → due_by_sending (rules_of buffer rules) s (ends (take k s.bodies) + j) ≡ true → (is_often rules f || ((j == 0) && begun)) ≡ true
-due_told buffer rules s k j f begun is tells l e =
+due_told : (buffer : ℕ) (rules : AmRules) (s : Sender) (k j : ℕ) (f : SentPdu) (begun : Bool) → IsPdu rules s k f → ExactlyBegun begun s rules.discard_sent k → j < ends_of (body_at s.bodies k) → due_by_sending (rules_of buffer rules) s (ends (take k s.bodies) + j) ≡ true → (is_often rules f || ((j == 0) && begun)) ≡ true
+due_told buffer rules s k j f begun is exact l e =
     let i : ℕ = ends (take k s.bodies) + j in
     let p = and_parts (nat_lt 0 rules.discard_sent) (sent_enough (rules_of buffer rules) s (ends (take k s.bodies) + j) s.requested) e in
     let w = sent_some (rules_of buffer rules) s (ends (take k s.bodies) + j) s.requested p.1 in
@@ -101,7 +101,7 @@ due_told buffer rules s k j f begun is tells l e =
     let past = touches_past s.bodies w.0 (ends (take k s.bodies) + j) w.2 (omega arith) in
     let same : ends (take (w.0 + 1) s.bodies) ≡ ends (take k s.bodies) = omega (arith, past.1) in
     let first : j ≡ 0 = omega (arith, past.1) in
-    or_right (is_often rules f) ((j == 0) && begun) (and_from (j == 0) begun (eq-eqb j 0 first) (tells.told w.0 (record { before = q; asked = asked; goes = past.0; same = same }))))
+    or_right (is_often rules f) ((j == 0) && begun) (and_from (j == 0) begun (eq-eqb j 0 first) (exact.told w.0 (record { before = q; asked = asked; goes = past.0; same = same }))))
     (λ (q : k < w.0).
     let up : ends (take (k + 1) s.bodies) ≤ ends (take w.0 s.bodies) = ends_up s.bodies (k + 1) w.0 (omega arith) in
     absurd (omega (arith, ends-step s.bodies k is.inside, touches_low s.bodies w.0 (ends (take k s.bodies) + j) w.2)))
@@ -109,13 +109,13 @@ due_told buffer rules s k j f begun is tells l e =
     (cases_order w.0 k)
 
 -- and what the pass tells is so
-due_holds : (buffer : ℕ) (rules : AmRules) (s : Sender) (k j : ℕ) (f : SentPdu) (begun : Bool) → IsPdu rules s k f → TellsBegun begun s rules.discard_sent k → j < ends_of (body_at s.bodies k) → (is_often rules f || ((j == 0) && begun)) ≡ true → due_by_sending (rules_of buffer rules) s (ends (take k s.bodies) + j) ≡ true
-due_holds buffer rules s k j f begun is tells l e = ⊎_elim
+due_holds : (buffer : ℕ) (rules : AmRules) (s : Sender) (k j : ℕ) (f : SentPdu) (begun : Bool) → IsPdu rules s k f → ExactlyBegun begun s rules.discard_sent k → j < ends_of (body_at s.bodies k) → (is_often rules f || ((j == 0) && begun)) ≡ true → due_by_sending (rules_of buffer rules) s (ends (take k s.bodies) + j) ≡ true
+due_holds buffer rules s k j f begun is exact l e = ⊎_elim
     (λ (h : is_often rules f ≡ true).
     due k (often_holds rules s k f is h) (and_from (nat_le (ends (take k s.bodies)) (ends (take k s.bodies) + j)) (nat_lt (ends (take k s.bodies) + j) (ends (take (k + 1) s.bodies) + cond (is_empty (body_at s.bodies k).rest) 0 1)) (le-leb (ends (take k s.bodies)) (ends (take k s.bodies) + j) (omega arith)) (lt-ltb (ends (take k s.bodies) + j) (ends (take (k + 1) s.bodies) + cond (is_empty (body_at s.bodies k).rest) 0 1) (further (cond (is_empty (body_at s.bodies k).rest) 0 1)))))
     (λ (h : ((j == 0) && begun) ≡ true).
     let p = and_parts (j == 0) begun h in
-    let w = tells.holds p.1 in
+    let w = exact.holds p.1 in
     let b : IsBegun s rules.discard_sent k w.0 = w.1 in
     let first : j ≡ 0 = eqb-true j 0 p.0 in
     let up : ends (take w.0 s.bodies) ≤ ends (take k s.bodies) = ends_up s.bodies w.0 k (omega (arith, b.before)) in
@@ -130,12 +130,12 @@ due_holds buffer rules s k j f begun is tells l e = ⊎_elim
     due at a t = and_from (nat_lt 0 rules.discard_sent) (sent_enough (rules_of buffer rules) s (ends (take k s.bodies) + j) s.requested) (lt-ltb 0 rules.discard_sent a.some) (sent_from (rules_of buffer rules) s (ends (take k s.bodies) + j) s.requested at a.asked t a.enough)
 
 -- the two agree
-pub due_is : (buffer : ℕ) (rules : AmRules) (s : Sender) (k j : ℕ) (f : SentPdu) (begun : Bool) → IsPdu rules s k f → TellsBegun begun s rules.discard_sent k → j < ends_of (body_at s.bodies k) → (is_often rules f || ((j == 0) && begun)) ≡ due_by_sending (rules_of buffer rules) s (ends (take k s.bodies) + j)
-due_is buffer rules s k j f begun is tells l = same_bool (is_often rules f || ((j == 0) && begun)) (due_by_sending (rules_of buffer rules) s (ends (take k s.bodies) + j)) (due_holds buffer rules s k j f begun is tells l) (due_told buffer rules s k j f begun is tells l)
+pub due_is : (buffer : ℕ) (rules : AmRules) (s : Sender) (k j : ℕ) (f : SentPdu) (begun : Bool) → IsPdu rules s k f → ExactlyBegun begun s rules.discard_sent k → j < ends_of (body_at s.bodies k) → (is_often rules f || ((j == 0) && begun)) ≡ due_by_sending (rules_of buffer rules) s (ends (take k s.bodies) + j)
+due_is buffer rules s k j f begun is exact l = same_bool (is_often rules f || ((j == 0) && begun)) (due_by_sending (rules_of buffer rules) s (ends (take k s.bodies) + j)) (due_holds buffer rules s k j f begun is exact l) (due_told buffer rules s k j f begun is exact l)
 
 -- the same behind one PDU more
-pub begun-step : (rules : AmRules) (s : Sender) (k : ℕ) (f : SentPdu) (begun : Bool) → IsPdu rules s k f → TellsBegun begun s rules.discard_sent k → TellsBegun ((is_often rules f && (continues_in f)) || (((ends_in f) == 0) && begun)) s rules.discard_sent (k + 1)
-begun-step rules s k f begun is tells = record { holds = holds; told = told }
+pub begun-step : (rules : AmRules) (s : Sender) (k : ℕ) (f : SentPdu) (begun : Bool) → IsPdu rules s k f → ExactlyBegun begun s rules.discard_sent k → ExactlyBegun ((is_often rules f && (continues_in f)) || (((ends_in f) == 0) && begun)) s rules.discard_sent (k + 1)
+begun-step rules s k f begun is exact = record { holds = holds; told = told }
   where
     holds : ((is_often rules f && (continues_in f)) || (((ends_in f) == 0) && begun)) ≡ true → (at : ℕ) × IsBegun s rules.discard_sent (k + 1) at
     holds e = ⊎_elim
@@ -144,7 +144,7 @@ begun-step rules s k f begun is tells = record { holds = holds; told = told }
         (k, record { before = omega arith; asked = often_holds rules s k f is p.0; goes = not-true (is_empty (body_at s.bodies k).rest) (sym is.goes ∙ p.1); same = refl }))
         (λ (h : (((ends_in f) == 0) && begun) ≡ true).
         let p = and_parts ((ends_in f) == 0) begun h in
-        let w = tells.holds p.1 in
+        let w = exact.holds p.1 in
         let b : IsBegun s rules.discard_sent k w.0 = w.1 in
         let none : (ends_in f) ≡ 0 = eqb-true (ends_in f) 0 p.0 in
         (w.0, record { before = omega (arith, b.before); asked = b.asked; goes = b.goes; same = omega (arith, b.same, none, is.ends_are, ends-step s.bodies k is.inside) }))
@@ -156,7 +156,7 @@ begun-step rules s k f begun is tells = record { holds = holds; told = told }
         let up : ends (take (at + 1) s.bodies) ≤ ends (take k s.bodies) = ends_up s.bodies (at + 1) k (omega arith) in
         let none : (ends_in f) ≡ 0 = omega (arith, b.same, is.ends_are, ends-step s.bodies k is.inside) in
         let same : ends (take (at + 1) s.bodies) ≡ ends (take k s.bodies) = omega (arith, b.same, ends-step s.bodies k is.inside) in
-        or_right (is_often rules f && (continues_in f)) (((ends_in f) == 0) && begun) (and_from ((ends_in f) == 0) begun (eq-eqb (ends_in f) 0 none) (tells.told at (record { before = l; asked = b.asked; goes = b.goes; same = same }))))
+        or_right (is_often rules f && (continues_in f)) (((ends_in f) == 0) && begun) (and_from ((ends_in f) == 0) begun (eq-eqb (ends_in f) 0 none) (exact.told at (record { before = l; asked = b.asked; goes = b.goes; same = same }))))
         (λ (l : k ≤ at).
         let q : at ≡ k = omega (arith, b.before) in
         let c : IsBegun s rules.discard_sent (k + 1) k = subst (λ n. IsBegun s rules.discard_sent (k + 1) n) q b in

@@ -59,7 +59,7 @@ fn next(sender: &mut AmSend) -> [u8; 18]
 }
 
 // The MRW that is due, zeros where none is.
-fn moves(sender: &mut AmSend) -> [u8; 18]
+fn next_mrw(sender: &mut AmSend) -> [u8; 18]
     requires { sender.old.outgoing.size ≡ 18 }
     ensures { IsSame sender.old sender.new }
 {
@@ -140,7 +140,7 @@ fn goes(sender: &mut AmSend, step: Step) -> bool
             true
         }
         Step::Discarded(units) => sender.discarded() == units,
-        Step::Tell(front) => moves(sender).starts_with(&front),
+        Step::Tell(front) => next_mrw(sender).starts_with(&front),
     }
 }
 

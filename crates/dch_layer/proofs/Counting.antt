@@ -49,12 +49,12 @@ moving_same : (k : ℕ) (rules : Rules) (d : ℕ) (s : Sender) (o : Option Disca
 moving_same k rules d s None = refl
 moving_same k rules d s (Some x) = builds_same k rules d s (after_mrw rules s x).discard
 
-can_build : (rules : Rules) (size n k : ℕ) (s : Sender) (r : Receiver) (due moves : Bool) → is_due r ≡ due → mrw_due s.discard ≡ moves → n ≤ builds_within k rules (size - 2) s + one_if due + one_if moves → CanBuild rules size n s r
-can_build rules size zero k s r due moves e f l = tt
-can_build rules size (suc n) k s r true moves e f l =
+can_build : (rules : Rules) (size n k : ℕ) (s : Sender) (r : Receiver) (due mrw : Bool) → is_due r ≡ due → mrw_due s.discard ≡ mrw → n ≤ builds_within k rules (size - 2) s + one_if due + one_if mrw → CanBuild rules size n s r
+can_build rules size zero k s r due mrw e f l = tt
+can_build rules size (suc n) k s r true mrw e f l =
     let t : turn rules s r ≡ Tells = turn_tells rules s r e in
     subst (λ x. (true ≡ writes x) × CanBuild rules size n (sender_after x rules size s) (receiver_after x rules r)) (sym t)
-    (refl, can_build rules size n k s (after_telling rules r) false moves (told_all rules r) f (omega (arith, l)))
+    (refl, can_build rules size n k s (after_telling rules r) false mrw (told_all rules r) f (omega (arith, l)))
 can_build rules size (suc n) k s r false true e f l =
     let t : turn rules s r ≡ Moves = turn_moves rules s r e f in
     subst (λ x. (true ≡ writes x) × CanBuild rules size n (sender_after x rules size s) (receiver_after x rules r)) (sym t)

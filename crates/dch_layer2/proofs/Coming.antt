@@ -36,11 +36,11 @@ pub may_come : (config : Config) (out into : Dir) (channel b skip : ℕ) (bits :
     StandsFor config out into b bearing x → MayCome config into b bearing (length (drop skip bits))
 may_come config out into channel b skip bits (Transparent w us) x good reach size some is = tt
 may_come config out into channel b skip bits (Unacknowledged s r) (Tm v) good reach size some is = absurd is
-may_come config out into channel b skip bits (Unacknowledged s r) (Um v) good reach size some is = let come = octets_come config into channel b skip 3 125 bits reach size some (um_fits config into b channel good reach.on is.mode) in (come.0, come.1)
+may_come config out into channel b skip bits (Unacknowledged s r) (Um v) good reach size some is = let octets = octets_come config into channel b skip 3 125 bits reach size some (um_fits config into b channel good reach.on is.mode) in (octets.0, octets.1)
 may_come config out into channel b skip bits (Unacknowledged s r) (Am v) good reach size some is = absurd is
 may_come config out into channel b skip bits (Acknowledged s r) (Tm v) good reach size some is = absurd is
 may_come config out into channel b skip bits (Acknowledged s r) (Um v) good reach size some is = absurd is
-may_come config out into channel b skip bits (Acknowledged s r) (Am v) good reach size some is = let come = octets_come config into channel b skip 6 126 bits reach size some (am_fits config into b channel good reach.on is.mode) in (come.0, come.1)
+may_come config out into channel b skip bits (Acknowledged s r) (Am v) good reach size some is = let octets = octets_come config into channel b skip 6 126 bits reach size some (am_fits config into b channel good reach.on is.mode) in (octets.0, octets.1)
 
 pub skip_inside : (config : Config) (out into : Dir) (channel b skip : ℕ) (bits : List Bit) (bearing : Bearing) (x : Bearer) → IsGood config → IsReached config into channel b skip → IsBlockSize config into channel (length bits) → 0 < length bits →
     StandsFor config out into b bearing x → skip ≤ length bits

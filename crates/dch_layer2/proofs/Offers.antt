@@ -70,10 +70,10 @@ within_more (suc k) rules d s = more_or_none (gives rules s) (builds_within k ru
 abbrev count : Rules → ℕ → Sender → Receiver → ℕ
 count rules size s r = one_if (is_due r) + one_if (mrw_due s.discard) + available rules (size - 2) s
 
-am_next : (rules : Rules) (size n : ℕ) (s : Sender) (r : Receiver) (due moves some : Bool) → is_due r ≡ due → mrw_due s.discard ≡ moves → gives rules s ≡ some → suc n ≤ count rules size s r →
+am_next : (rules : Rules) (size n : ℕ) (s : Sender) (r : Receiver) (due mrw some : Bool) → is_due r ≡ due → mrw_due s.discard ≡ mrw → gives rules s ≡ some → suc n ≤ count rules size s r →
     n ≤ count rules size (sender_after (turn rules s r) rules size s) (receiver_after (turn rules s r) rules r)
 unfolding available
-am_next rules size n s r true moves some e f g l =
+am_next rules size n s r true mrw some e f g l =
     subst (λ (t : Turn). n ≤ count rules size (sender_after t rules size s) (receiver_after t rules r)) (sym (turn_tells rules s r e))
     (let one : one_if (is_due r) ≡ 1 = ap one_if e in
     omega (arith, l, one))

@@ -12,24 +12,24 @@ use Rattle.dch_rlcum.proofs.Known.{AreChained, IsPdu, last_of, later_serve, none
 
 -- just so many PDUs from a number on arrive
 pub record AreFirst (arrives : ℕ → Bool) (k m : ℕ) : Type 0 where
-  pub come : (j : ℕ) → k ≤ j → j < k + m → arrives j ≡ true
+  pub arrived : (j : ℕ) → k ≤ j → j < k + m → arrives j ≡ true
   pub lost : (j : ℕ) → k + m ≤ j → arrives j ≡ false
 
 pub next_first : (arrives : ℕ → Bool) (k m : ℕ) → AreFirst arrives k (suc m) → AreFirst arrives (k + 1) m
-next_first arrives k m a = record { come = λ j l h. a.come j (omega (arith, l)) (omega (arith, h)); lost = λ j l. a.lost j (omega (arith, l)) }
+next_first arrives k m a = record { arrived = λ j l h. a.arrived j (omega (arith, l)) (omega (arith, h)); lost = λ j l. a.lost j (omega (arith, l)) }
 
 pub next_none : (arrives : ℕ → Bool) (k : ℕ) → AreFirst arrives k zero → AreFirst arrives (k + 1) zero
-next_none arrives k a = record { come = λ j l h. absurd (omega (arith, l, h)); lost = λ j l. a.lost j (omega (arith, l)) }
+next_none arrives k a = record { arrived = λ j l h. absurd (omega (arith, l, h)); lost = λ j l. a.lost j (omega (arith, l)) }
 
 pub first_below : (n : ℕ) → AreFirst (λ j. nat_lt j n) 0 n
-first_below n = record { come = λ j l h. lt-ltb j n (omega (arith, h)); lost = λ j l. le-ltb j n (omega (arith, l)) }
+first_below n = record { arrived = λ j l h. lt-ltb j n (omega (arith, h)); lost = λ j l. le-ltb j n (omega (arith, l)) }
 
 -- the marks that are brought
 brings_first : (arrives : ℕ → Bool) (k m : ℕ) (before : Bool) (e : ℕ) (ps : List Pdu) → AreFirst arrives k m → list_any (brings_end e) (sent_from arrives k before ps) ≡ list_any (has_end e) (take m ps)
 brings_first arrives k zero before e [] a = refl
 brings_first arrives k (suc m) before e [] a = refl
 brings_first arrives k zero before e (p ∷ ps) a = rw (a.lost k (omega arith)) (brings_first arrives (k + 1) zero false e ps (next_none arrives k a))
-brings_first arrives k (suc m) before e (p ∷ ps) a = rw (a.come k (omega arith) (omega arith)) (ap (λ b. has_end e p || b) (brings_first arrives (k + 1) m true e ps (next_first arrives k m a)))
+brings_first arrives k (suc m) before e (p ∷ ps) a = rw (a.arrived k (omega arith) (omega arith)) (ap (λ b. has_end e p || b) (brings_first arrives (k + 1) m true e ps (next_first arrives k m a)))
 
 -- a PDU that arrived behind one that arrived
 serves_here : (t e : ℕ) (p : Pdu) → serves t e (record { pdu = p; arrived = true; before = true }) ≡ true
@@ -58,7 +58,7 @@ end_within pdu row s f e p is has = ⊎_elim
 all_serve : (pdu : ℕ) (row : List ℕ) (arrives : ℕ → Bool) (k m s f t e : ℕ) (ps : List Pdu) → AreChained pdu row s f ps → AreFirst arrives k m → list_any (has_end e) (take m ps) ≡ true → list_all (serves t e) (sent_from arrives k true ps) ≡ true
 all_serve pdu row arrives k m s f t e [] are a has = refl
 all_serve pdu row arrives k zero s f t e (p ∷ ps) are a has = absurd (cc)
-all_serve pdu row arrives k (suc m) s f t e (p ∷ ps) are a has = rw (a.come k (omega arith) (omega arith), serves_here t e p) (either (has_end e p)
+all_serve pdu row arrives k (suc m) s f t e (p ∷ ps) are a has = rw (a.arrived k (omega arith) (omega arith), serves_here t e p) (either (has_end e p)
     (λ yes. later_serve pdu row arrives (k + 1) true (last_of s (ends_in p)) p.to t e ps are.1 (end_within pdu row s f e p are.0 yes))
     (λ none. all_serve pdu row arrives (k + 1) m (last_of s (ends_in p)) p.to t e ps are.1 (next_first arrives k m a) (or_second (has_end e p) (list_any (has_end e) (take m ps)) has none)))
 
@@ -88,4 +88,4 @@ none_before arrives k zero before (p ∷ ps) a = none_more arrives k 0 before (p
     none_more : (arrives : ℕ → Bool) (k lost : ℕ) (before : Bool) (ps : List Pdu) → AreFirst arrives k zero → AreFewLost lost (sent_from arrives k before ps)
     none_more arrives k lost before [] a = tt
     none_more arrives k lost before (p ∷ ps) a = rw (a.lost k (omega arith)) ((λ is. absurd (cc)), none_more arrives (k + 1) (lost + 1) false ps (next_none arrives k a))
-none_before arrives k (suc m) before (p ∷ ps) a = rw (a.come k (omega arith) (omega arith)) ((λ is. omega arith), none_before arrives (k + 1) m true ps (next_first arrives k m a))
+none_before arrives k (suc m) before (p ∷ ps) a = rw (a.arrived k (omega arith) (omega arith)) ((λ is. omega arith), none_before arrives (k + 1) m true ps (next_first arrives k m a))

@@ -35,7 +35,7 @@ first_lines dir b pdu units arrives k (suc m) before (p ∷ ps) r read a =
     let rest = take m (texts_from pdu units (k + 1) ps) in
     let v = view_of pdu (joined units) k p in
     let view : um_reading (text_of pdu units k p) ≡ Ok (view_of pdu (joined units) k p) = reading_back (text_of pdu units k p) (view_of pdu (joined units) k p) read.0 in
-    rw (a.come k (omega arith) (omega arith))
+    rw (a.arrived k (omega arith) (omega arith))
     (ap (λ x. lines_one dir b x r ++ lines_all dir b rest (receives_one x r)) view
     ∙ ap (λ l. unit_lines dir b (after_pdu v r).waiting ++ l) (first_lines dir b pdu units arrives (k + 1) m true ps (all_handed (after_pdu v r)) read.1 (next_first arrives k m a))
     ∙ sym (units-append dir b (after_pdu v r).waiting (handed_up pdu (joined units) (k + 1) (all_handed (after_pdu v r)) (sent_from arrives (k + 1) true ps))))

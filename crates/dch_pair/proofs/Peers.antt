@@ -28,11 +28,11 @@ riding_same : (rules : Rules) (rides : Option (List Field)) (s : Sender) → (af
 riding_same rules None s = refl
 riding_same rules (Some fields) s = fields_same rules s fields
 
-come_same : (rules : Rules) (pdu : Pdu) (s : Sender) → (sender_by rules pdu s).accepted ≡ s.accepted
-come_same rules (DataPdu sn poll body rides) s = riding_same rules rides s
-come_same rules (StatusPdu fields) s = fields_same rules s fields
-come_same rules (ResetPdu rsn) s = refl
-come_same rules (ResetAckPdu rsn) s = refl
+accepted_same : (rules : Rules) (pdu : Pdu) (s : Sender) → (sender_by rules pdu s).accepted ≡ s.accepted
+accepted_same rules (DataPdu sn poll body rides) s = riding_same rules rides s
+accepted_same rules (StatusPdu fields) s = fields_same rules s fields
+accepted_same rules (ResetPdu rsn) s = refl
+accepted_same rules (ResetAckPdu rsn) s = refl
 
 -- nor does what is written at a turn change which units were read
 pub read_same : (t : Turn) (rules : Rules) (r : Receiver) → (receiver_after t rules r).reading ≡ r.reading
@@ -86,7 +86,7 @@ none_waits rules v e settled is = subst (λ n. Represents rules v (handed_to n e
 pub peer_hears : (rules : Rules) (size : ℕ) (v : Peer) (came now : Running) (units : List (List ℕ)) (earlier : Earlier) (e : Entity) (pdu : Pdu) → is_settled v.entity ≡ true → IsPeer rules v earlier e → Represents rules came (step rules size e (Come pdu)) → units ≡ v.units ++ whole (waiting_in came) → Represents rules now (all_handed (step rules size e (Come pdu))) → IsPeer rules (record { entity = now; accepted = v.accepted; units = units }) earlier (all_handed (step rules size e (Come pdu)))
 peer_hears rules size v came now units earlier e pdu settled is heard more entity = record {
   entity = entity;
-  accepted = is.accepted ∙ ap (λ (us : List (List ℕ)). earlier.accepted + length us) (sym (come_same rules pdu e.sender));
+  accepted = is.accepted ∙ ap (λ (us : List (List ℕ)). earlier.accepted + length us) (sym (accepted_same rules pdu e.sender));
   units = more ∙ (ap₂ (λ us vs. us ++ vs) is.units waits ∙ (append_assoc earlier.units (whole e.receiver.reading.units) (whole grown.more) ∙ ap (λ us. earlier.units ++ us) (sym (whole-append e.receiver.reading.units grown.more) ∙ ap whole (sym grown.is))));
 }
   where

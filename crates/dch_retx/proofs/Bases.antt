@@ -4,15 +4,15 @@ use Rattle.std.specs.Prelude.{nat_le, nat_lt, unwrap_or}
 use Rattle.std.proofs.lemmas.Bool.{cases_lt, le-leb, le-ltb, lt-leb, lt-ltb}
 use Rattle.std.proofs.lemmas.Bool.Decides.{nat_tests}
 use Rattle.dch_am.specs.Numbers.{wrapped}
-use Rattle.dch_retx.specs.StatusItems.{StatusItem, Missing, Unset, Set, Below, Moved}
+use Rattle.dch_retx.specs.StatusItems.{StatusItem, Missing, Unset, Set, Below, Obeyed}
 use Rattle.dch_retx.specs.declared.tell.Told.{Told}
 use Rattle.dch_retx.specs.RetxBuffer.{RetxBuffer, after_answer, after_ending, after_hearing, answered, base_after, below_from, first_number, listened, outside_from}
 use Rattle.dch_retx.specs.Telling.{IsTold}
-use Rattle.dch_retx.specs.StatusItem.{below_said, first_outside, limit_in, limit_of, number_in, offends, place_of, tells_some}
+use Rattle.dch_retx.specs.StatusItem.{below_said, first_outside, limit_in, limit_of, number_in, offends, place_of, reports_some}
 
 -- the place behind another one
-place_moved : (first b x : ℕ) → b ≤ 2048 → place_of (wrapped (first + b)) x ≡ (place_of first x + 4096 - b) % 4096
-place_moved first b x l = omega arith
+place_ahead : (first b x : ℕ) → b ≤ 2048 → place_of (wrapped (first + b)) x ≡ (place_of first x + 4096 - b) % 4096
+place_ahead first b x l = omega arith
 
 -- where the lowest open PDU stands at a place, this is outside
 missing_at : (count b p : ℕ) → b ≤ count → count ≤ 2048 → p < 4096 → nat_le (count - b) ((p + 4096 - b) % 4096) ≡ nat_le (cond (nat_lt p count) (p + 1) 0) b
@@ -57,11 +57,11 @@ place_small first x = omega arith
 
 -- one thing that is said
 offends_at : (window first count b : ℕ) → b ≤ count → count ≤ window → window ≤ 2048 → (x : StatusItem) → offends window (wrapped (first + b)) (count - b) x ≡ nat_le (limit_of window first count x) b
-offends_at window first count b l few most (Missing x) = ap (nat_le (count - b)) (place_moved first b x (omega arith)) ∙ missing_at count b (place_of first x) l (omega arith) (place_small first x)
+offends_at window first count b l few most (Missing x) = ap (nat_le (count - b)) (place_ahead first b x (omega arith)) ∙ missing_at count b (place_of first x) l (omega arith) (place_small first x)
 offends_at window first count b l few most (Unset x) = sym (lt-leb 4097 b (omega arith))
-offends_at window first count b l few most (Set x) = ap (λ q. nat_le (count - b) q && nat_lt q (4096 - window)) (place_moved first b x (omega arith)) ∙ set_at window count b (place_of first x) l few most (place_small first x)
-offends_at window first count b l few most (Below x) = ap (nat_lt (count - b)) (place_moved first b x (omega arith)) ∙ below_at count b (place_of first x) l (omega arith) (place_small first x)
-offends_at window first count b l few most (Moved n sn) = sym (lt-leb 4097 b (omega arith))
+offends_at window first count b l few most (Set x) = ap (λ q. nat_le (count - b) q && nat_lt q (4096 - window)) (place_ahead first b x (omega arith)) ∙ set_at window count b (place_of first x) l few most (place_small first x)
+offends_at window first count b l few most (Below x) = ap (nat_lt (count - b)) (place_ahead first b x (omega arith)) ∙ below_at count b (place_of first x) l (omega arith) (place_small first x)
+offends_at window first count b l few most (Obeyed n sn) = sym (lt-leb 4097 b (omega arith))
 
 -- below its limit nothing is outside, and from there on something is
 pub none_below : (window first count b : ℕ) → b ≤ count → count ≤ window → window ≤ 2048 → (said : List StatusItem) → b < limit_in window first count said → first_outside window (wrapped (first + b)) (count - b) said ≡ None
@@ -71,31 +71,31 @@ none_below window first count b l few most (x ∷ said) h =
     ∙ none_below window first count b l few most said (omega arith)
 
 -- the LSN by its place behind another one, where nothing is outside
-pub below_moved : (window first count b : ℕ) → b ≤ count → count ≤ 2048 → (said : List StatusItem) → first_outside window (wrapped (first + b)) (count - b) said ≡ None → below_said (wrapped (first + b)) said ≡ below_said first said - b
-below_moved window first count b l most [] e = omega arith
-below_moved window first count b l most (Below x ∷ said) e = go (nat_lt (count - b) (place_of (wrapped (first + b)) x)) refl e
+pub below_ahead : (window first count b : ℕ) → b ≤ count → count ≤ 2048 → (said : List StatusItem) → first_outside window (wrapped (first + b)) (count - b) said ≡ None → below_said (wrapped (first + b)) said ≡ below_said first said - b
+below_ahead window first count b l most [] e = omega arith
+below_ahead window first count b l most (Below x ∷ said) e = go (nat_lt (count - b) (place_of (wrapped (first + b)) x)) refl e
   where
     go : (c : Bool) → nat_lt (count - b) (place_of (wrapped (first + b)) x) ≡ c → cond c (Some (wrapped x)) (first_outside window (wrapped (first + b)) (count - b) said) ≡ None → place_of (wrapped (first + b)) x ≡ place_of first x - b
     go true q n = absurd (cc)
-    go false q n = inside (place_of first x) (place_of (wrapped (first + b)) x) (place_small first x) (place_moved first b x (omega arith)) (within (count - b) (place_of (wrapped (first + b)) x) q)
+    go false q n = inside (place_of first x) (place_of (wrapped (first + b)) x) (place_small first x) (place_ahead first b x (omega arith)) (within (count - b) (place_of (wrapped (first + b)) x) q)
       where
         within : (m n : ℕ) → nat_lt m n ≡ false → n ≤ m
         within m n h = grind (arith, nat_tests)
 
         inside : (p q : ℕ) → p < 4096 → q ≡ (p + 4096 - b) % 4096 → q ≤ count - b → q ≡ p - b
         inside p q s e h = omega arith
-below_moved window first count b l most (Missing x ∷ said) e = below_moved window first count b l most said (passed (offends window (wrapped (first + b)) (count - b) (Missing x)) e)
+below_ahead window first count b l most (Missing x ∷ said) e = below_ahead window first count b l most said (passed (offends window (wrapped (first + b)) (count - b) (Missing x)) e)
   where
     passed : (c : Bool) → cond c (Some x) (first_outside window (wrapped (first + b)) (count - b) said) ≡ None → first_outside window (wrapped (first + b)) (count - b) said ≡ None
     passed true n = absurd (cc)
     passed false n = n
-below_moved window first count b l most (Unset x ∷ said) e = below_moved window first count b l most said e
-below_moved window first count b l most (Set x ∷ said) e = below_moved window first count b l most said (passed (offends window (wrapped (first + b)) (count - b) (Set x)) e)
+below_ahead window first count b l most (Unset x ∷ said) e = below_ahead window first count b l most said e
+below_ahead window first count b l most (Set x ∷ said) e = below_ahead window first count b l most said (passed (offends window (wrapped (first + b)) (count - b) (Set x)) e)
   where
     passed : (c : Bool) → cond c (Some x) (first_outside window (wrapped (first + b)) (count - b) said) ≡ None → first_outside window (wrapped (first + b)) (count - b) said ≡ None
     passed true n = absurd (cc)
     passed false n = n
-below_moved window first count b l most (Moved n sn ∷ said) e = below_moved window first count b l most said e
+below_ahead window first count b l most (Obeyed n sn ∷ said) e = below_ahead window first count b l most said e
 
 -- the same of what is kept
 number_behind : (next n b : ℕ) → b ≤ n → n ≤ 2048 → wrapped (next + 4096 - (n - b)) ≡ wrapped (wrapped (next + 4096 - (n - 0)) + b)
@@ -116,12 +116,12 @@ heard_after l now said told b below le few most is base none reports below_is e 
     ∙ sym e))))
   where
     after : Option ℕ → RetxBuffer
-    after o = cond (tells_some said) (listened (below_from (base_after o l) said l) said (after_ending o l)) (after_ending o l)
+    after o = cond (reports_some said) (listened (below_from (base_after o l) said l) said (after_ending o l)) (after_ending o l)
 
     place : below_from b said l ≡ below
     place =
         ap (λ f. below_said f said) (number_behind l.next (length l.in_flight) b le (omega arith))
-        ∙ (below_moved l.window (first_number l) (length l.in_flight) b le (omega arith) said (ap (λ f. first_outside l.window f (length l.in_flight - b) said) (sym (number_behind l.next (length l.in_flight) b le (omega arith))) ∙ none)
+        ∙ (below_ahead l.window (first_number l) (length l.in_flight) b le (omega arith) said (ap (λ f. first_outside l.window f (length l.in_flight - b) said) (sym (number_behind l.next (length l.in_flight) b le (omega arith))) ∙ none)
         ∙ (ap (λ k. k - b) (sym is.below) ∙ sym below_is))
 
 pub none_of : (o : Option ℕ) → ((k : ℕ) → o ≡ Some k → ⊥) → o ≡ None

@@ -100,8 +100,8 @@ counted_set (x ∷ in_flight) (suc i) f l = go x.requested (counted_set in_fligh
     go false e = omega (arith, e)
 
 -- what leaves the count where one isn't requested any more
-pub gone_set : (in_flight : List SentPdu) (i : ℕ) (f : SentPdu) → i < length in_flight → (f.requested ≡ true → (at in_flight i).requested ≡ true) → cond ((at in_flight i).requested && not f.requested) 1 0 + requested_in (set in_flight i f) ≡ requested_in in_flight
-gone_set in_flight i f l less = go (at in_flight i).requested f.requested less (counted_set in_flight i f l)
+pub acknowledged_count : (in_flight : List SentPdu) (i : ℕ) (f : SentPdu) → i < length in_flight → (f.requested ≡ true → (at in_flight i).requested ≡ true) → cond ((at in_flight i).requested && not f.requested) 1 0 + requested_in (set in_flight i f) ≡ requested_in in_flight
+acknowledged_count in_flight i f l less = go (at in_flight i).requested f.requested less (counted_set in_flight i f l)
   where
     go : (a b : Bool) → (b ≡ true → a ≡ true) → cond a 1 0 + requested_in (set in_flight i f) ≡ cond b 1 0 + requested_in in_flight → cond (a && not b) 1 0 + requested_in (set in_flight i f) ≡ requested_in in_flight
     go true true h e = omega (arith, e)

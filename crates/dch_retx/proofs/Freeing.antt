@@ -10,7 +10,7 @@ use Rattle.dch_am.specs.Rules.{Rules}
 use Rattle.dch_am.specs.Sender.{Sender, Discard, vt_s, vt_a}
 use Rattle.dch_am.specs.Acknowledging.{after_ack, ended_at, ends_discard, told}
 use Rattle.dch_retx.specs.StatusItems.{StatusItem}
-use Rattle.dch_retx.specs.StatusItems.{Missing, Unset, Set, Below, Moved}
+use Rattle.dch_retx.specs.StatusItems.{Missing, Unset, Set, Below, Obeyed}
 use Rattle.dch_retx.specs.declared.buffer.Running.{Running}
 use Rattle.dch_retx.specs.StatusItem.{ends_at, first_ending, or_else, place_of}
 use Rattle.dch_retx.specs.RetxBuffer.{RetxBuffer, acked_below, after_ending, base_after, ending, first_number, freed}
@@ -121,7 +121,7 @@ ends_is low n next first k mark sn a_n d e1 e2 e3 e4 =
 -- the sender after the MRW_ACKs that are said
 abbrev pub said_acks : Sender → List StatusItem → Sender
 said_acks s [] = s
-said_acks s (Moved n sn ∷ rest) = said_acks (after_ack s (record { number = sn; n = n })) rest
+said_acks s (Obeyed n sn ∷ rest) = said_acks (after_ack s (record { number = sn; n = n })) rest
 said_acks s (Missing x ∷ rest) = said_acks s rest
 said_acks s (Unset x ∷ rest) = said_acks s rest
 said_acks s (Set x ∷ rest) = said_acks s rest
@@ -129,7 +129,7 @@ said_acks s (Below x ∷ rest) = said_acks s rest
 
 settled_acks : (t : Sender) (said : List StatusItem) → t.discard ≡ None → said_acks t said ≡ t
 settled_acks t [] e = refl
-settled_acks t (Moved n sn ∷ said) e = ap (λ d. said_acks (ends_discard t (ended_at (vt_s t) d (record { number = sn; n = n }))) said) e ∙ settled_acks t said e
+settled_acks t (Obeyed n sn ∷ said) e = ap (λ d. said_acks (ends_discard t (ended_at (vt_s t) d (record { number = sn; n = n }))) said) e ∙ settled_acks t said e
 settled_acks t (Missing x ∷ said) e = settled_acks t said e
 settled_acks t (Unset x ∷ said) e = settled_acks t said e
 settled_acks t (Set x ∷ said) e = settled_acks t said e
@@ -144,7 +144,7 @@ record IsFound (low n next first : ℕ) (r : Running) (s : Sender) (d : Discard)
 
 acks_by : (low n next first : ℕ) (r : Running) (s : Sender) (d : Discard) (said : List StatusItem) → IsFound low n next first r s d → said_acks s said ≡ ends_discard s (raised low (first_ending first n r.at r.n said))
 acks_by low n next first r s d [] f = refl
-acks_by low n next first r s d (Moved a_n sn ∷ said) f =
+acks_by low n next first r s d (Obeyed a_n sn ∷ said) f =
     ap (λ o. said_acks (ends_discard s o) said) (ap (λ x. ended_at (vt_s s) x (record { number = sn; n = a_n })) f.discard ∙ sym (ends_is low n (vt_s s) first r.at r.n sn a_n d f.count f.first_is f.same.k f.same.n))
     ∙ go (ends_at first n r.at r.n a_n sn) (acks_by low n next first r s d said f)
   where
@@ -169,7 +169,7 @@ at_le first n k mark a_n sn m l e = go ((place_of (wrapped (first + k)) sn == 0)
 
 ending_le : (first n k mark m : ℕ) (said : List StatusItem) → k < n → first_ending first n k mark said ≡ Some m → m ≤ n
 ending_le first n k mark m [] l e = absurd (cc)
-ending_le first n k mark m (Moved a_n sn ∷ said) l e = go (ends_at first n k mark a_n sn) refl e (λ q. ending_le first n k mark m said l q)
+ending_le first n k mark m (Obeyed a_n sn ∷ said) l e = go (ends_at first n k mark a_n sn) refl e (λ q. ending_le first n k mark m said l q)
   where
     go : (o : Option ℕ) → ends_at first n k mark a_n sn ≡ o → or_else o (first_ending first n k mark said) ≡ Some m → (first_ending first n k mark said ≡ Some m → m ≤ n) → m ≤ n
     go None q e rest = rest e

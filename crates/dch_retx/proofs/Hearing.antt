@@ -10,9 +10,9 @@ use Rattle.dch_am.specs.Rules.{Rules}
 use Rattle.dch_am.specs.Sender.{Sender, vt_s, vt_a}
 use Rattle.dch_am.specs.Acknowledging.{after_ack, after_acks, after_answer, after_fields, after_telling_of, all_names, first_beyond, first_of_both, first_unknown, lsn_of, offending, outside_of, read_from, status_answer, reports, those_below, told, unwrap}
 use Rattle.dch_retx.specs.StatusItems.{StatusItem}
-use Rattle.dch_retx.specs.StatusItems.{Missing, Unset, Set, Below, Moved}
+use Rattle.dch_retx.specs.StatusItems.{Missing, Unset, Set, Below, Obeyed}
 use Rattle.dch_retx.specs.StatusItems.{bits_from, missing_of, said_by}
-use Rattle.dch_retx.specs.StatusItem.{below_said, first_outside, number_in, offends, place_of, tells_some}
+use Rattle.dch_retx.specs.StatusItem.{below_said, first_outside, number_in, offends, place_of, reports_some}
 use Rattle.dch_retx.specs.RetxBuffer.{RetxBuffer, after_hearing, after_moves, after_told, answer_of, answered, base_after, below_from, ending, first_number, listened, outside_from}
 use Rattle.dch_retx.specs.RetxBuffer.{after_answer as line_after}
 use Rattle.dch_retx.specs.Standing.{Stands}
@@ -79,7 +79,7 @@ names-append base next (Unset x ∷ xs) ys = go (nat_lt (read_from base x) next)
     go false e = e
 names-append base next (Set x ∷ xs) ys = names-append base next xs ys
 names-append base next (Below x ∷ xs) ys = names-append base next xs ys
-names-append base next (Moved n sn ∷ xs) ys = names-append base next xs ys
+names-append base next (Obeyed n sn ∷ xs) ys = names-append base next xs ys
 
 names-list : (base next : ℕ) (ns : List ℕ) → unwrap base ns ≡ said_names base next (map missing_of ns)
 names-list base next [] = refl
@@ -139,24 +139,24 @@ acks_are s (AckField lsn ∷ fields) = acks_are s fields
 acks_are s (ListField pairs ∷ fields) = acks_are s fields ∙ sym (acks-list s (named pairs) (said_by fields))
 acks_are s (BitmapField from bits ∷ fields) = acks_are s fields ∙ sym (acks-bits s from bits (said_by fields))
 
-pub tells-list : (pairs : List (ℕ × ℕ)) (ys : List StatusItem) → tells_some (map missing_of (named pairs) ++ ys) ≡ (not (is_empty pairs) || tells_some ys)
-tells-list [] ys = refl
-tells-list (p ∷ pairs) ys = let e : p.1 + 1 ≡ suc p.1 = omega arith in ap (λ n. tells_some (map missing_of (range p.0 n ++ named pairs) ++ ys)) e
+pub reports-list : (pairs : List (ℕ × ℕ)) (ys : List StatusItem) → reports_some (map missing_of (named pairs) ++ ys) ≡ (not (is_empty pairs) || reports_some ys)
+reports-list [] ys = refl
+reports-list (p ∷ pairs) ys = let e : p.1 + 1 ≡ suc p.1 = omega arith in ap (λ n. reports_some (map missing_of (range p.0 n ++ named pairs) ++ ys)) e
 
-pub tells-bits : (from : ℕ) (bits : List Bool) (ys : List StatusItem) → tells_some (bits_from from bits ++ ys) ≡ (not (is_empty bits) || tells_some ys)
-tells-bits from [] ys = refl
-tells-bits from (true ∷ bits) ys = refl
-tells-bits from (false ∷ bits) ys = refl
+pub reports-bits : (from : ℕ) (bits : List Bool) (ys : List StatusItem) → reports_some (bits_from from bits ++ ys) ≡ (not (is_empty bits) || reports_some ys)
+reports-bits from [] ys = refl
+reports-bits from (true ∷ bits) ys = refl
+reports-bits from (false ∷ bits) ys = refl
 
-pub tells_is : (fields : List Field) → reports fields ≡ tells_some (said_by fields)
-tells_is [] = refl
-tells_is (NoMoreField ∷ fields) = tells_is fields
-tells_is (WindowField size ∷ fields) = tells_is fields
-tells_is (MrwField last n ∷ fields) = tells_is fields
-tells_is (MrwAckField n sn ∷ fields) = tells_is fields
-tells_is (AckField lsn ∷ fields) = refl
-tells_is (ListField pairs ∷ fields) = ap (λ b. not (is_empty pairs) || b) (tells_is fields) ∙ sym (tells-list pairs (said_by fields))
-tells_is (BitmapField from bits ∷ fields) = ap (λ b. not (is_empty bits) || b) (tells_is fields) ∙ sym (tells-bits from bits (said_by fields))
+pub reports_is : (fields : List Field) → reports fields ≡ reports_some (said_by fields)
+reports_is [] = refl
+reports_is (NoMoreField ∷ fields) = reports_is fields
+reports_is (WindowField size ∷ fields) = reports_is fields
+reports_is (MrwField last n ∷ fields) = reports_is fields
+reports_is (MrwAckField n sn ∷ fields) = reports_is fields
+reports_is (AckField lsn ∷ fields) = refl
+reports_is (ListField pairs ∷ fields) = ap (λ b. not (is_empty pairs) || b) (reports_is fields) ∙ sym (reports-list pairs (said_by fields))
+reports_is (BitmapField from bits ∷ fields) = ap (λ b. not (is_empty bits) || b) (reports_is fields) ∙ sym (reports-bits from bits (said_by fields))
 
 -- a status is heard as it is defined
 pub record Hears (rules : Rules) (l : RetxBuffer) (s : Sender) (fields : List Field) : Type 0 where
@@ -217,8 +217,8 @@ hears rules l s fields is = record {
     listens none = subst (λ k. Stands rules (listened k said now) (told after (said_names (vt_a after) (vt_s after) said) (said_lsn (vt_a after) said))) (sym below_is) (listened_stands rules now after said m.stands none)
 
     told_is : first_outside now.window (first_number now) (length now.in_flight) said ≡ None → Stands rules (after_told below said now) (after_telling_of after fields)
-    told_is none = subst (λ c. Stands rules (after_told below said now) (cond c (told after (all_names (vt_a after) (vt_s after) fields) (lsn_of (vt_a after) fields)) after)) (sym (tells_is fields))
-        (either (tells_some said)
+    told_is none = subst (λ c. Stands rules (after_told below said now) (cond c (told after (all_names (vt_a after) (vt_s after) fields) (lsn_of (vt_a after) fields)) after)) (sym (reports_is fields))
+        (either (reports_some said)
         (subst (λ ns. Stands rules (listened below said now) (told after ns (lsn_of (vt_a after) fields))) (sym (names_are (vt_a after) (vt_s after) fields))
         (subst (λ k. Stands rules (listened below said now) (told after (said_names (vt_a after) (vt_s after) said) k)) (sym (lsn_is (vt_a after) fields))
         (listens none))))

@@ -9,7 +9,7 @@ use Rattle.dch_retx.specs.declared.sent_pdu.SentPdu.{SentPdu}
 use Rattle.dch_retx.specs.Flights.{at, acknowledged, blank, changed_below, front_acked, named_as, built, request_cleared}
 use Rattle.dch_retx.proofs.Changes.{length-changed}
 use Rattle.dch_retx.specs.StatusItems.{StatusItem}
-use Rattle.dch_retx.specs.StatusItem.{is_named, tells_some}
+use Rattle.dch_retx.specs.StatusItem.{is_named, reports_some}
 use Rattle.dch_retx.specs.RetxBuffer.{RetxBuffer, acked_below, after_answer, after_ending, after_hearing, after_moves, after_told, answer_of, base_after, below_from, discarding, ending, first_number, floor_of, freed, listened, told_line}
 use Rattle.dch_retx.specs.Polling.{resent}
 use Rattle.dch_retx.specs.Standing.{AreKept, IsAlike}
@@ -72,7 +72,7 @@ ending_kept None l = kept_itself l.in_flight
 ending_kept (Some below) l = freed_kept below l
 
 told_kept : (below : ℕ) (said : List StatusItem) (l : RetxBuffer) → AreKept l.in_flight (after_told below said l).in_flight
-told_kept below said l = cond_both {A = RetxBuffer} (tells_some said) (listened below said l) l (λ m. AreKept l.in_flight m.in_flight) (λ _. listened_kept below said l) (λ _. kept_itself l.in_flight)
+told_kept below said l = cond_both {A = RetxBuffer} (reports_some said) (listened below said l) l (λ m. AreKept l.in_flight m.in_flight) (λ _. listened_kept below said l) (λ _. kept_itself l.in_flight)
 
 answer_kept : (t : StatusTaken) (said : List StatusItem) (l : RetxBuffer) → AreKept l.in_flight (after_answer t said l).in_flight
 answer_kept Taken said l =

@@ -7,7 +7,7 @@ use Rattle.dch_retx.specs.declared.sent_pdu.SentPdu.{SentPdu}
 use Rattle.dch_retx.specs.Flights.{at, acknowledged, named_from}
 use Rattle.dch_retx.proofs.Changes.{length-changed}
 use Rattle.dch_retx.specs.StatusItems.{StatusItem}
-use Rattle.dch_retx.specs.StatusItems.{Missing, Unset, Set, Below, Moved}
+use Rattle.dch_retx.specs.StatusItems.{Missing, Unset, Set, Below, Obeyed}
 use Rattle.dch_retx.specs.declared.buffer.Running.{Running}
 use Rattle.dch_retx.specs.StatusItem.{changed_at, place_of, with_name, with_names}
 use Rattle.dch_retx.specs.RetxBuffer.{IsLine, RetxBuffer, acked_below, first_number, floor_of, named_line, told_line}
@@ -20,7 +20,7 @@ length-with_name first from to (Missing x) in_flight = length-changed_at (named_
 length-with_name first from to (Unset x) in_flight = length-changed_at (named_from from to (place_of first x)) (place_of first x) in_flight
 length-with_name first from to (Set x) in_flight = refl
 length-with_name first from to (Below x) in_flight = refl
-length-with_name first from to (Moved n sn) in_flight = refl
+length-with_name first from to (Obeyed n sn) in_flight = refl
 
 pub length-with_names : (first from to : ℕ) (said : List StatusItem) (in_flight : List SentPdu) → length (with_names first from to said in_flight) ≡ length in_flight
 length-with_names first from to [] in_flight = refl

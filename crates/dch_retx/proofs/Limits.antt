@@ -10,9 +10,9 @@ use Rattle.dch_am.specs.Numbers.{range}
 use Rattle.dch_am.specs.Names.{named}
 use Rattle.dch_retx.specs.declared.tell.Told.{Told}
 use Rattle.dch_retx.specs.StatusItems.{StatusItem, bits_from, missing_of, said_by, said_in}
-use Rattle.dch_retx.specs.StatusItem.{below_said, limit_in, limit_of, place_of, tells_some}
+use Rattle.dch_retx.specs.StatusItem.{below_said, limit_in, limit_of, place_of, reports_some}
 use Rattle.dch_retx.specs.Telling.{IsPassed, told_more}
-use Rattle.dch_retx.proofs.Hearing.{tells-bits, tells-list}
+use Rattle.dch_retx.proofs.Hearing.{reports-bits, reports-list}
 use Rattle.dch_retx.proofs.Fields.{or_three, place_again, place_more, said_next}
 
 min_three : (a b c : ℕ) → min a (min b c) ≡ min (min a b) c
@@ -87,7 +87,7 @@ limit_more told window first count l said rest e = ap (min told.limit) (limit-ap
 pub tell_list : (told : Told) (window first count l n : ℕ) (pairs : List (ℕ × ℕ)) → n ≡ length pairs → l ≡ limit_in window first count (map missing_of (named pairs)) → IsPassed (told_more told (nat_lt 0 n) l) told window first count (map missing_of (named pairs))
 tell_list told window first count l n pairs q e = record {
   below = λ rest. ap (unwrap_or told.below) (below-list first (named pairs) rest);
-  reports = λ rest. ap (λ b. told.reports || b) (tells-list pairs rest ∙ ap (λ b. b || tells_some rest) (some_test pairs ∙ ap (nat_lt 0) (sym q))) ∙ or_three told.reports (nat_lt 0 n) (tells_some rest);
+  reports = λ rest. ap (λ b. told.reports || b) (reports-list pairs rest ∙ ap (λ b. b || reports_some rest) (some_test pairs ∙ ap (nat_lt 0) (sym q))) ∙ or_three told.reports (nat_lt 0 n) (reports_some rest);
   ending = refl;
   small = omega arith;
   limit_is = λ rest. limit_more told window first count l (map missing_of (named pairs)) rest e;
@@ -96,7 +96,7 @@ tell_list told window first count l n pairs q e = record {
 pub tell_bits : (told : Told) (window first count l from n : ℕ) (bits : List Bool) → n ≡ length bits → l ≡ limit_in window first count (bits_from from bits) → IsPassed (told_more told (nat_lt 0 n) l) told window first count (bits_from from bits)
 tell_bits told window first count l from n bits q e = record {
   below = λ rest. ap (unwrap_or told.below) (below-bits first from bits rest);
-  reports = λ rest. ap (λ b. told.reports || b) (tells-bits from bits rest ∙ ap (λ b. b || tells_some rest) (some_test bits ∙ ap (nat_lt 0) (sym q))) ∙ or_three told.reports (nat_lt 0 n) (tells_some rest);
+  reports = λ rest. ap (λ b. told.reports || b) (reports-bits from bits rest ∙ ap (λ b. b || reports_some rest) (some_test bits ∙ ap (nat_lt 0) (sym q))) ∙ or_three told.reports (nat_lt 0 n) (reports_some rest);
   ending = refl;
   small = omega arith;
   limit_is = λ rest. limit_more told window first count l (bits_from from bits) rest e;
@@ -105,22 +105,22 @@ tell_bits told window first count l from n bits q e = record {
 -- a field is told, and those behind it are to come
 pub record IsToldOn (now told : Told) (window first count : ℕ) (fields rest : List Field) : Type 0 where
   pub below : unwrap_or told.below (below_said first (said_by fields)) ≡ unwrap_or now.below (below_said first (said_by rest))
-  pub reports : (told.reports || tells_some (said_by fields)) ≡ (now.reports || tells_some (said_by rest))
+  pub reports : (told.reports || reports_some (said_by fields)) ≡ (now.reports || reports_some (said_by rest))
   pub limit_is : min told.limit (limit_in window first count (said_by fields)) ≡ min now.limit (limit_in window first count (said_by rest))
 
 pub told_on : (now told : Told) (window first count : ℕ) (fields rest : List Field) → (length fields == 0) ≡ false → rest ≡ drop 1 fields → IsPassed now told window first count (said_in (get_or fields 0 NoMoreField)) → IsToldOn now told window first count fields rest
 told_on now told window first count fields rest some e is = record {
   below = ap (λ xs. unwrap_or told.below (below_said first xs)) (said_next fields some) ∙ (is.below (said_by (drop 1 fields)) ∙ ap (λ (fs : List Field). unwrap_or now.below (below_said first (said_by fs))) (sym e));
-  reports = ap (λ xs. told.reports || tells_some xs) (said_next fields some) ∙ (is.reports (said_by (drop 1 fields)) ∙ ap (λ (fs : List Field). now.reports || tells_some (said_by fs)) (sym e));
+  reports = ap (λ xs. told.reports || reports_some xs) (said_next fields some) ∙ (is.reports (said_by (drop 1 fields)) ∙ ap (λ (fs : List Field). now.reports || reports_some (said_by fs)) (sym e));
   limit_is = ap (λ xs. min told.limit (limit_in window first count xs)) (said_next fields some) ∙ (is.limit_is (said_by (drop 1 fields)) ∙ ap (λ (fs : List Field). min now.limit (limit_in window first count (said_by fs))) (sym e));
 }
 
 -- an MRW_ACK has no numbers that are told
-pub tell_moved : (told : Told) (window first count : ℕ) (field : Field) (n sn : ℕ) → MrwAck n sn ≡ sufi_of field → IsPassed told told window first count (said_in field)
-tell_moved told window first count NoMoreField n sn e = absurd (cc)
-tell_moved told window first count (WindowField size) n sn e = absurd (cc)
-tell_moved told window first count (AckField lsn) n sn e = absurd (cc)
-tell_moved told window first count (ListField pairs) n sn e = absurd (cc)
-tell_moved told window first count (BitmapField from bits) n sn e = absurd (cc)
-tell_moved told window first count (MrwField last m) n sn e = absurd (cc)
-tell_moved told window first count (MrwAckField m k) n sn e = record { below = λ rest. refl; reports = λ rest. refl; ending = refl; small = omega arith; limit_is = λ rest. omega (arith, limit_low window first count rest) }
+pub tell_obeyed : (told : Told) (window first count : ℕ) (field : Field) (n sn : ℕ) → MrwAck n sn ≡ sufi_of field → IsPassed told told window first count (said_in field)
+tell_obeyed told window first count NoMoreField n sn e = absurd (cc)
+tell_obeyed told window first count (WindowField size) n sn e = absurd (cc)
+tell_obeyed told window first count (AckField lsn) n sn e = absurd (cc)
+tell_obeyed told window first count (ListField pairs) n sn e = absurd (cc)
+tell_obeyed told window first count (BitmapField from bits) n sn e = absurd (cc)
+tell_obeyed told window first count (MrwField last m) n sn e = absurd (cc)
+tell_obeyed told window first count (MrwAckField m k) n sn e = record { below = λ rest. refl; reports = λ rest. refl; ending = refl; small = omega arith; limit_is = λ rest. omega (arith, limit_low window first count rest) }

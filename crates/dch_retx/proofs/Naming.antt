@@ -8,7 +8,7 @@ use Rattle.dch_retx.specs.declared.sent_pdu.SentPdu.{SentPdu}
 use Rattle.dch_retx.specs.Flights.{at, acknowledged, blank, changed_below, named_as, named_from}
 use Rattle.dch_am.specs.Numbers.{less}
 use Rattle.dch_retx.specs.StatusItems.{StatusItem}
-use Rattle.dch_retx.specs.StatusItems.{Missing, Unset, Set, Below, Moved}
+use Rattle.dch_retx.specs.StatusItems.{Missing, Unset, Set, Below, Obeyed}
 use Rattle.dch_retx.specs.StatusItem.{changed_at, is_named, names_place, place_of, with_name, with_names}
 use Rattle.dch_retx.specs.RetxBuffer.{RetxBuffer, first_number, floor_of, named_line, told_line}
 use Rattle.dch_retx.proofs.Lengths.{length-with_name, length-with_names}
@@ -34,7 +34,7 @@ at-with_name first from to (Missing x) xs j l = at-named_at from to (place_of fi
 at-with_name first from to (Unset x) xs j l = at-named_at from to (place_of first x) xs j l
 at-with_name first from to (Set x) xs j l = refl
 at-with_name first from to (Below x) xs j l = refl
-at-with_name first from to (Moved n sn) xs j l = refl
+at-with_name first from to (Obeyed n sn) xs j l = refl
 
 or_twice : (w c : Bool) → ((w || c) || c) ≡ (w || c)
 or_twice true c = refl

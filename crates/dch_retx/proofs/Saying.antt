@@ -11,7 +11,7 @@ use Rattle.dch_am.specs.Sender.{Sender, Discard, vt_s, vt_a}
 use Rattle.dch_am.specs.Acknowledging.{floor, now_acked, read_from, told}
 use Rattle.dch_am.proofs.Lists.{has-append, has-less, has-below}
 use Rattle.dch_retx.specs.StatusItems.{StatusItem}
-use Rattle.dch_retx.specs.StatusItems.{Missing, Unset, Set, Below, Moved}
+use Rattle.dch_retx.specs.StatusItems.{Missing, Unset, Set, Below, Obeyed}
 use Rattle.dch_retx.specs.declared.buffer.Running.{Running}
 use Rattle.dch_retx.specs.StatusItem.{below_said, first_outside, is_named, offends, place_of}
 use Rattle.dch_retx.specs.RetxBuffer.{RetxBuffer, first_number, floor_of, listened, told_line}
@@ -27,7 +27,7 @@ said_names base next (Missing x ∷ rest) = read_from base x ∷ said_names base
 said_names base next (Unset x ∷ rest) = cond (nat_lt (read_from base x) next) (read_from base x ∷ said_names base next rest) (said_names base next rest)
 said_names base next (Set x ∷ rest) = said_names base next rest
 said_names base next (Below x ∷ rest) = said_names base next rest
-said_names base next (Moved n sn ∷ rest) = said_names base next rest
+said_names base next (Obeyed n sn ∷ rest) = said_names base next rest
 
 abbrev pub said_lsn : ℕ → List StatusItem → ℕ
 said_lsn base [] = 0
@@ -35,7 +35,7 @@ said_lsn base (Below x ∷ rest) = read_from base x
 said_lsn base (Missing x ∷ rest) = said_lsn base rest
 said_lsn base (Unset x ∷ rest) = said_lsn base rest
 said_lsn base (Set x ∷ rest) = said_lsn base rest
-said_lsn base (Moved n sn ∷ rest) = said_lsn base rest
+said_lsn base (Obeyed n sn ∷ rest) = said_lsn base rest
 
 -- the first number in flight, in 12 bits and without wrap
 pub record IsBase (base next first count : ℕ) : Type 0 where
@@ -66,7 +66,7 @@ names_is base next first count b (Unset x ∷ said) j l = go (nat_lt (read_from 
     go false e ih = ih ∙ sym (ap (λ c. c || is_named first j said) (far_test count j (place_of first x) l (omega (arith, ltb-false (read_from base x) next e, place_is base next first count x b, b.count_is))))
 names_is base next first count b (Set x ∷ said) j l = names_is base next first count b said j l
 names_is base next first count b (Below x ∷ said) j l = names_is base next first count b said j l
-names_is base next first count b (Moved n sn ∷ said) j l = names_is base next first count b said j l
+names_is base next first count b (Obeyed n sn ∷ said) j l = names_is base next first count b said j l
 
 -- nothing is outside
 inside : (c : Bool) (i : ℕ) (o : Option ℕ) → cond c (Some i) o ≡ None → (c ≡ false) × (o ≡ None)
@@ -91,7 +91,7 @@ names_in window base next first count b (Unset x ∷ said) none k e = go (nat_lt
     go false t e rest = rest e
 names_in window base next first count b (Set x ∷ said) none k e = names_in window base next first count b said (inside (offends window first count (Set x)) x (first_outside window first count said) none).1 k e
 names_in window base next first count b (Below x ∷ said) none k e = names_in window base next first count b said (inside (offends window first count (Below x)) (wrapped x) (first_outside window first count said) none).1 k e
-names_in window base next first count b (Moved n sn ∷ said) none k e = names_in window base next first count b said none k e
+names_in window base next first count b (Obeyed n sn ∷ said) none k e = names_in window base next first count b said none k e
 
 pub lsn_in : (window base next first count : ℕ) → IsBase base next first count → (said : List StatusItem) → first_outside window first count said ≡ None → said_lsn base said ≤ next
 lsn_in window base next first count b [] none = omega arith
@@ -99,7 +99,7 @@ lsn_in window base next first count b (Below x ∷ said) none = omega (arith, pl
 lsn_in window base next first count b (Missing x ∷ said) none = lsn_in window base next first count b said (inside (offends window first count (Missing x)) x (first_outside window first count said) none).1
 lsn_in window base next first count b (Unset x ∷ said) none = lsn_in window base next first count b said none
 lsn_in window base next first count b (Set x ∷ said) none = lsn_in window base next first count b said (inside (offends window first count (Set x)) x (first_outside window first count said) none).1
-lsn_in window base next first count b (Moved n sn ∷ said) none = lsn_in window base next first count b said none
+lsn_in window base next first count b (Obeyed n sn ∷ said) none = lsn_in window base next first count b said none
 
 pub under_is : (base next first count : ℕ) → IsBase base next first count → (said : List StatusItem) (j : ℕ) → j < count → nat_lt j (min (below_said first said) count) ≡ nat_lt (base + j) (said_lsn base said)
 under_is base next first count b [] j l = le-ltb j (min 0 count) (omega arith) ∙ sym (le-ltb (base + j) 0 (omega arith))
@@ -110,7 +110,7 @@ under_is base next first count b (Below x ∷ said) j l = same j base (place_of 
 under_is base next first count b (Missing x ∷ said) j l = under_is base next first count b said j l
 under_is base next first count b (Unset x ∷ said) j l = under_is base next first count b said j l
 under_is base next first count b (Set x ∷ said) j l = under_is base next first count b said j l
-under_is base next first count b (Moved n sn ∷ said) j l = under_is base next first count b said j l
+under_is base next first count b (Obeyed n sn ∷ said) j l = under_is base next first count b said j l
 
 -- the line's own numbers
 pub base_is : (rules : Rules) (l : RetxBuffer) (s : Sender) → Stands rules l s → IsBase (vt_a s) (vt_s s) (first_number l) (length l.in_flight)

@@ -8,7 +8,7 @@ use Rattle.dch_am.specs.declared.answers.StatusTaken.{StatusTaken}
 use Rattle.dch_am.specs.declared.answers.StatusTaken.TheVariants.{Taken, Outside}
 use Rattle.dch_retx.specs.StatusItems.{StatusItem}
 use Rattle.dch_retx.specs.declared.buffer.Running.{Running}
-use Rattle.dch_retx.specs.StatusItem.{below_said, ending_of, first_outside, is_named, tells_some, with_names}
+use Rattle.dch_retx.specs.StatusItem.{below_said, ending_of, first_outside, is_named, reports_some, with_names}
 
 -- the PDUs in flight, how many there may be, the number of the next one in 12 bits, the poll timer, the place of the polled PDU, and whether
 -- a poll is owed; and the discard that runs
@@ -103,7 +103,7 @@ abbrev pub answer_of : List StatusItem → RetxBuffer → StatusTaken
 answer_of said l = answered (outside_from (base_after (ending said l l.running) l) said l)
 
 abbrev pub after_told : ℕ → List StatusItem → RetxBuffer → RetxBuffer
-after_told below said l = if tells_some said then listened below said l else l
+after_told below said l = if reports_some said then listened below said l else l
 
 -- the place of the LSN behind the PDU at a place
 abbrev pub below_from : ℕ → List StatusItem → RetxBuffer → ℕ

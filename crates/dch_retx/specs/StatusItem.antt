@@ -2,7 +2,7 @@
 use Rattle.std.specs.Prelude.{◌+◌, ◌-◌, ◌&&◌, ◌||◌, ◌==◌, ℕ, List, [], ◌∷◌, Bool, true, false, length, min, nat_lt, nat_le, slice_set, Option, Some, None, if◌then◌else◌}
 use Rattle.dch_am.specs.Numbers.{wrapped, ahead}
 use Rattle.dch_retx.specs.StatusItems.{StatusItem}
-use Rattle.dch_retx.specs.StatusItems.{Missing, Unset, Set, Below, Moved}
+use Rattle.dch_retx.specs.StatusItems.{Missing, Unset, Set, Below, Obeyed}
 use Rattle.dch_retx.specs.declared.buffer.Running.{Running}
 use Rattle.dch_retx.specs.declared.sent_pdu.SentPdu.{SentPdu}
 use Rattle.dch_retx.specs.Flights.{at, named_from}
@@ -27,14 +27,14 @@ offends window first count (Missing x) = nat_le count (place_of first x)
 offends window first count (Unset x) = false
 offends window first count (Set x) = is_unknown window first count x
 offends window first count (Below x) = nat_lt count (place_of first x)
-offends window first count (Moved n sn) = false
+offends window first count (Obeyed n sn) = false
 
 abbrev pub number_in : StatusItem → ℕ
 number_in (Missing x) = x
 number_in (Unset x) = x
 number_in (Set x) = x
 number_in (Below x) = wrapped x
-number_in (Moved n sn) = sn
+number_in (Obeyed n sn) = sn
 
 -- the first number that is outside
 abbrev pub first_outside : ℕ → ℕ → ℕ → List StatusItem → Option ℕ
@@ -47,7 +47,7 @@ limit_of window first count (Missing x) = if nat_lt (place_of first x) count the
 limit_of window first count (Unset x) = 4097
 limit_of window first count (Set x) = if nat_lt (place_of first x) count then 4097 else place_of first x + 1 - (4096 - window)
 limit_of window first count (Below x) = if nat_le (place_of first x) count then place_of first x + 1 else 0
-limit_of window first count (Moved n sn) = 4097
+limit_of window first count (Obeyed n sn) = 4097
 
 -- and one of several things
 abbrev pub limit_in : ℕ → ℕ → ℕ → List StatusItem → ℕ
@@ -60,7 +60,7 @@ names_place first i (Missing x) = place_of first x == i
 names_place first i (Unset x) = place_of first x == i
 names_place first i (Set x) = false
 names_place first i (Below x) = false
-names_place first i (Moved n sn) = false
+names_place first i (Obeyed n sn) = false
 
 abbrev pub is_named : ℕ → ℕ → List StatusItem → Bool
 is_named first i [] = false
@@ -76,7 +76,7 @@ with_name first from to (Missing x) in_flight = changed_at (named_from from to (
 with_name first from to (Unset x) in_flight = changed_at (named_from from to (place_of first x)) (place_of first x) in_flight
 with_name first from to (Set x) in_flight = in_flight
 with_name first from to (Below x) in_flight = in_flight
-with_name first from to (Moved n sn) in_flight = in_flight
+with_name first from to (Obeyed n sn) in_flight = in_flight
 
 abbrev pub with_names : ℕ → ℕ → ℕ → List StatusItem → List SentPdu → List SentPdu
 with_names first from to [] in_flight = in_flight
@@ -89,16 +89,16 @@ below_said first (Below x ∷ rest) = place_of first x
 below_said first (Missing x ∷ rest) = below_said first rest
 below_said first (Unset x ∷ rest) = below_said first rest
 below_said first (Set x ∷ rest) = below_said first rest
-below_said first (Moved n sn ∷ rest) = below_said first rest
+below_said first (Obeyed n sn ∷ rest) = below_said first rest
 
 -- something is said besides an MRW_ACK
-abbrev pub tells_some : List StatusItem → Bool
-tells_some [] = false
-tells_some (Moved n sn ∷ rest) = tells_some rest
-tells_some (Missing x ∷ rest) = true
-tells_some (Unset x ∷ rest) = true
-tells_some (Set x ∷ rest) = true
-tells_some (Below x ∷ rest) = true
+abbrev pub reports_some : List StatusItem → Bool
+reports_some [] = false
+reports_some (Obeyed n sn ∷ rest) = reports_some rest
+reports_some (Missing x ∷ rest) = true
+reports_some (Unset x ∷ rest) = true
+reports_some (Set x ∷ rest) = true
+reports_some (Below x ∷ rest) = true
 
 -- the place below which an MRW_ACK acknowledges all PDUs, where it ends the discard at a place and with a mark
 abbrev pub ends_at : ℕ → ℕ → ℕ → ℕ → ℕ → ℕ → Option ℕ
@@ -111,7 +111,7 @@ ends_with first count k mark (Missing x) = None
 ends_with first count k mark (Unset x) = None
 ends_with first count k mark (Set x) = None
 ends_with first count k mark (Below x) = None
-ends_with first count k mark (Moved n sn) = ends_at first count k mark n sn
+ends_with first count k mark (Obeyed n sn) = ends_at first count k mark n sn
 
 abbrev pub first_ending : ℕ → ℕ → ℕ → ℕ → List StatusItem → Option ℕ
 first_ending first count k mark [] = None

@@ -10,7 +10,7 @@ pub data StatusItem : Type 0 where
   Unset : (x : ℕ) → StatusItem  -- a BITMAP has the bit 0 for it
   Set : (x : ℕ) → StatusItem  -- a BITMAP has the bit 1 for it
   Below : (x : ℕ) → StatusItem  -- all numbers below it have arrived but for those that are named missing
-  Moved : (n : ℕ) → (sn : ℕ) → StatusItem  -- an MRW was obeyed: the receiver's lowest missing number, and the place n or 0
+  Obeyed : (n : ℕ) → (sn : ℕ) → StatusItem  -- an MRW was obeyed: the receiver's lowest missing number, and the place n or 0
 
 -- a number that a LIST names missing
 abbrev pub missing_of : ℕ → StatusItem
@@ -34,7 +34,7 @@ said_in (AckField lsn) = Below lsn ∷ []
 said_in (ListField pairs) = map missing_of (named pairs)
 said_in (BitmapField first bits) = bits_from first bits
 said_in (MrwField last n) = []
-said_in (MrwAckField n sn) = Moved n sn ∷ []
+said_in (MrwAckField n sn) = Obeyed n sn ∷ []
 
 -- all that fields say
 abbrev pub said_by : List Field → List StatusItem

@@ -5,19 +5,19 @@ use Rattle.dch_status.specs.declared.sufi.Sufi.TheVariants.{NoMore, Window, Ack,
 use Rattle.dch_retx.specs.declared.buffer.Running.{Running}
 use Rattle.dch_retx.specs.StatusItems.{StatusItem}
 use Rattle.dch_retx.specs.declared.tell.Told.{Told}
-use Rattle.dch_retx.specs.StatusItem.{below_said, ending_of, ends_at, limit_in, tells_some}
+use Rattle.dch_retx.specs.StatusItem.{below_said, ending_of, ends_at, limit_in, reports_some}
 
 -- a status tells this
 pub record IsTold (told : Told) (window first count : ℕ) (running : Option Running) (said : List StatusItem) : Type 0 where
   pub below : unwrap_or told.below 0 ≡ below_said first said
-  pub reports : told.reports ≡ tells_some said
+  pub reports : told.reports ≡ reports_some said
   pub ending : told.ending ≡ ending_of first count running said
   pub limit_is : told.limit ≡ limit_in window first count said
 
 -- the numbers of a field are told, whatever is said behind it
 pub record IsPassed (now told : Told) (window first count : ℕ) (said : List StatusItem) : Type 0 where
   pub below : (rest : List StatusItem) → unwrap_or told.below (below_said first (said ++ rest)) ≡ unwrap_or now.below (below_said first rest)
-  pub reports : (rest : List StatusItem) → (told.reports || tells_some (said ++ rest)) ≡ (now.reports || tells_some rest)
+  pub reports : (rest : List StatusItem) → (told.reports || reports_some (said ++ rest)) ≡ (now.reports || reports_some rest)
   pub ending : now.ending ≡ told.ending
   pub small : now.limit ≤ told.limit
   pub limit_is : (rest : List StatusItem) → min told.limit (limit_in window first count (said ++ rest)) ≡ min now.limit (limit_in window first count rest)

@@ -3,7 +3,7 @@ use Rattle.std.specs.Prelude.{min}
 use Rattle.circular_buffer.specs.Buffer.{Buffer, buffer}
 use Rattle.dch_retx.specs.declared.sent_pdu.SentPdu.{SentPdu}
 use Rattle.dch_retx.specs.Flights.{IsWalk, acknowledged, at, changed_below, requested_in}
-use Rattle.dch_retx.proofs.Changes.{acknowledged_less, gone_set, length-changed}
+use Rattle.dch_retx.proofs.Changes.{acknowledged_less, acknowledged_count, length-changed}
 use Rattle.dch_retx.proofs.Skips.{front_settled, linked_size, walk_before, walk_begins, walk_changed, walk_joins, walk_next}
 use Rattle.dch_retx.proofs.links.acknowledge_below.Goals as goal
 
@@ -21,7 +21,7 @@ pub loop-i-preserved : goal.loop-i-preserved
 loop-i-preserved c =
     let size : length c.loop-i.ring.items ≡ length c.args.ring.now.items = ap (λ (b : Buffer SentPdu). length b.items) c.loop-i.invariant.after ∙ length-changed acknowledged (min c.loop-i.i c.args.to) c.args.ring.now.items in
     let inside : c.loop-i.i < length c.loop-i.ring.items = omega arith in
-    let less = gone_set c.loop-i.ring.items c.loop-i.i (acknowledged (at c.loop-i.ring.items c.loop-i.i)) inside (acknowledged_less (at c.loop-i.ring.items c.loop-i.i)) in
+    let less = acknowledged_count c.loop-i.ring.items c.loop-i.i (acknowledged (at c.loop-i.ring.items c.loop-i.i)) inside (acknowledged_less (at c.loop-i.ring.items c.loop-i.i)) in
     record {
       walk = walk_joins c.loop-i.ring.items c.acknowledge_one.new.ring.items c.loop-i.skips.items c.join-before.new.skips.items c.loop-i.i c.skip_at.result c.loop-i.before c.join-before.result inside (ap (λ (b : Buffer SentPdu). b.items) c.acknowledge_one.ensures.after) c.skip_at.ensures c.join-before.ensures.before (ap (λ (b : Buffer ℕ). b.items) c.join-before.ensures.after) c.loop-i.invariant.walk;
       after =
