@@ -104,10 +104,7 @@ impl Faults {
     {
         let found = self.table("", tree, "iub")?;
         match found {
-            Some(table) => {
-                let iub = self.iub("iub.", table)?;
-                Ok(iub)
-            }
+            Some(table) => self.iub("iub.", table),
             None => Ok(Iub {
                 payload_check: false,
                 qe: 0,
@@ -121,10 +118,7 @@ impl Faults {
     {
         let found = self.table("", tree, "uplink")?;
         match found {
-            Some(table) => {
-                let uplink = self.uplink("uplink.", table)?;
-                Ok(uplink)
-            }
+            Some(table) => self.uplink("uplink.", table),
             None => Ok(Uplink {
                 side: empty_side(self.alloc),
                 largest: 150,
@@ -139,10 +133,7 @@ impl Faults {
     {
         let found = self.table("", tree, "downlink")?;
         match found {
-            Some(table) => {
-                let downlink = self.downlink("downlink.", table)?;
-                Ok(downlink)
-            }
+            Some(table) => self.downlink("downlink.", table),
             None => Ok(Downlink {
                 side: empty_side(self.alloc),
                 slot_bits: 1,
