@@ -1,4 +1,5 @@
 pub mod FirstFound
+pub mod Seen
 pub mod Items
 pub mod Sets
 pub mod Parts

@@ -116,6 +116,14 @@ pub(crate) fn combinations_at(
     }
 }
 
+/// The items of a list at a key.
+fn items_at<'a>(table: &'a Table, key: &str) -> Option<Option<&'a [Value]>>
+    ensures { option_map (λ found. option_map (λ items. items_view items.now) found) result ≡ reading as_array key.now (table_view table.now) }
+{
+    let value = member(table, key)?;
+    Some(value.as_array().map(Vec::as_slice))
+}
+
 impl Faults {
     /// Each key of a table that is none of these.
     pub fn unknown(&mut self, path: &str, table: &Table, known: &[&str]) -> Result<(), NoMemory>
@@ -128,7 +136,6 @@ impl Faults {
     }
 
     /// The items of a list that may be missing.
-    #[tactic(auto, unfolding(crate::specs::Faults::first_found))]
     pub fn optional_list<'a>(
         &mut self,
         path: &str,
@@ -138,14 +145,7 @@ impl Faults {
         ensures first { OnOk result (self.new.first ≡ first_found self.old.first (optional (path.now ++ key.now) (reading as_array key.now (table_view table.now)))) }
         ensures value { IfOk result (λ items. items_view items.now ≡ list_at key.now (table_view table.now)) }
     {
-        let Some(value) = member(table, key) else {
-            return Ok(&[]);
-        };
-        let Some(items) = value.as_array() else {
-            self.add_range(path, key)?;
-            return Ok(&[]);
-        };
-        Ok(items.as_slice())
+        self.optional(path, key, items_at(table, key), &[])
     }
 
     /// A table that must be there.
@@ -171,7 +171,6 @@ impl Faults {
     }
 
     /// The items of a list that must be there.
-    #[tactic(auto, unfolding(crate::specs::Faults::first_found))]
     pub fn list<'a>(
         &mut self,
         path: &str,
@@ -181,15 +180,7 @@ impl Faults {
         ensures first { OnOk result (self.new.first ≡ first_found self.old.first (required (path.now ++ key.now) (reading as_array key.now (table_view table.now)))) }
         ensures value { IfOk result (λ items. items_view items.now ≡ list_at key.now (table_view table.now)) }
     {
-        let Some(value) = member(table, key) else {
-            self.add_key(path, key)?;
-            return Ok(&[]);
-        };
-        let Some(items) = value.as_array() else {
-            self.add_range(path, key)?;
-            return Ok(&[]);
-        };
-        Ok(items.as_slice())
+        self.required(path, key, items_at(table, key), &[])
     }
 
     #[tactic(auto, using(crate::proofs::FirstFound::known_by_reference), unfolding(crate::specs::Faults::first_found))]
