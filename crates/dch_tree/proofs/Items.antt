@@ -10,7 +10,7 @@ use Rattle.dch_tree.specs.Tables.{item_faults, items_faults, item_value, items_v
 use Rattle.dch_tree.proofs.FirstFound.{after, then}
 
 -- the item at a place, and those after it
-at_place : (xs : List Value) (i : ℕ) (v : Value) → i < length xs → v ≡ get_or xs i v → items_view (drop i xs) ≡ item (view v) (items_view (drop (i + 1) xs))
+pub at_place : (xs : List Value) (i : ℕ) (v : Value) → i < length xs → v ≡ get_or xs i v → items_view (drop i xs) ≡ item (view v) (items_view (drop (i + 1) xs))
 at_place xs i v inside here = items_view-drop xs i v inside ∙ ap (λ w. item (view w) (items_view (drop (i + 1) xs))) (sym here)
 
 -- one more item

@@ -1,6 +1,7 @@
 pub mod FirstFound
 pub mod Seen
 pub mod Items
+pub mod Each
 pub mod Sets
 pub mod Parts
 pub mod First
