@@ -94,9 +94,9 @@ pdu_of (Status fields) = StatusPdu fields
 pdu_of (Reset rsn hfni) = ResetPdu rsn
 pdu_of (ResetAck rsn hfni) = ResetAckPdu rsn
 
--- a data PDU has a number of 12 bits, and marks and octets for a PDU of so many octets
+-- a data PDU has a number of 12 bits, and indicators and octets for a PDU of so many octets
 abbrev pub IsSmall : ℕ → AmView → Type 0
-IsSmall size (Payload sn poll c piggyback) = (sn < 4096) × (length c.marks + length c.octets + 2 ≤ size)
+IsSmall size (Payload sn poll c piggyback) = (sn < 4096) × (length c.indicators + length c.octets + 2 ≤ size)
 IsSmall size (Status fields) = Unit {0}
 IsSmall size (Reset rsn hfni) = Unit {0}
 IsSmall size (ResetAck rsn hfni) = Unit {0}

@@ -4,7 +4,7 @@ use Rattle.dch_rlcpdu.specs.declared.am.AmView.TheVariants.{Status}
 use Rattle.dch_rlcpdu.specs.Am.{am_pdu, am_reading}
 use Rattle.dch_status.specs.Fields.{mrw_fields}
 use Rattle.dch_status.specs.Writing.{IsText, mrw_ack_text, mrw_text, status_text}
-use Rattle.dch_am.specs.Bodies.{carried, marks_of}
+use Rattle.dch_am.specs.Bodies.{carried, indicators_of}
 use Rattle.dch_am.specs.Building.{Choice, body_of_choice, choice, number_of, polls_at}
 use Rattle.dch_am.specs.Numbers.{wrapped}
 use Rattle.dch_am.specs.Rules.{Rules}
@@ -36,9 +36,9 @@ abbrev pub IsMrw : List ℕ → Option Discard → Type 0
 IsMrw out None = ⊥
 IsMrw out (Some x) = IsMoved out x
 
--- the next data PDU: its number in 12 bits, its poll bit, its marks and its octets
+-- the next data PDU: its number in 12 bits, its poll bit, its indicators and its octets
 abbrev pub pdu_of_choice : Rules → ℕ → Sender → Choice → List ℕ
-pdu_of_choice rules d s c = am_pdu (wrapped (number_of c s)) (polls_at c rules d s) (marks_of d (body_of_choice c d s)) (carried (body_of_choice c d s)) (d + 2)
+pdu_of_choice rules d s c = am_pdu (wrapped (number_of c s)) (polls_at c rules d s) (indicators_of d (body_of_choice c d s)) (carried (body_of_choice c d s)) (d + 2)
 
 abbrev pub next_pdu : Rules → ℕ → Sender → List ℕ
 next_pdu rules d s = pdu_of_choice rules d s (choice rules s)

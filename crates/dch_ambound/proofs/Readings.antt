@@ -1,4 +1,4 @@
--- What is told of the units that PDUs end comes out of the bytes of their octets and marks.
+-- What is told of the units that PDUs end comes out of the bytes of their octets and indicators.
 use Rattle.std.proofs.Common.{◌≡◌, ◌≤◌, ◌+◌, ◌*◌, ◌++◌, ◌∙◌, ℕ, zero, suc, List, [], ◌∷◌, Bool, true, false, Option, Some, None, length, drop, arith, refl, ap, sym, append_assoc, length-append}
 use Rattle.std.specs.Prelude.{◌==◌}
 use Rattle.std.proofs.lemmas.Bool.{cond_both}

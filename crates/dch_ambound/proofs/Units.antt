@@ -4,7 +4,7 @@ use Rattle.std.specs.Prelude.{nat_lt}
 use Rattle.std.proofs.lemmas.Bool.{ltb-true, ltb-false}
 use Rattle.dch_ambound.specs.Bytes.{part_bytes, unit_bytes, units_bytes}
 
--- a unit that ends is told out of what its octets and its mark bring
+-- a unit that ends is told out of what its octets and its indicator bring
 pub unit_paid : (x : ℕ) (xs : List ℕ) → unit_bytes (x ∷ xs) ≤ part_bytes (x ∷ xs) + 6
 unit_paid x xs = go (nat_lt 1500 (length (x ∷ xs))) refl
   where

@@ -7,14 +7,14 @@ use Rattle.dch_status.specs.Reading.{status_of}
 use Rattle.dch_rlcpdu.specs.declared.am.AmView.{AmView}
 use Rattle.dch_rlcpdu.specs.declared.handed.PduError.{PduError}
 use Rattle.dch_rlcpdu.specs.declared.handed.PduError.TheVariants.{Reserved}
-use Rattle.dch_rlcpdu.specs.declared.marks.Mode.{Mode}
-use Rattle.dch_rlcpdu.specs.declared.marks.Mode.TheVariants.{Acknowledged}
+use Rattle.dch_rlcpdu.specs.declared.indicators.Mode.{Mode}
+use Rattle.dch_rlcpdu.specs.declared.indicators.Mode.TheVariants.{Acknowledged}
 use Rattle.dch_rlcpdu.specs.Am.{am_reading, as_reset, as_reset_ack, control_reading, data_reading, piggyback_reading, status_reading, with_body, with_piggyback}
 use Rattle.dch_rlcpdu.specs.AmControl.{reset_reading}
-use Rattle.dch_rlcpdu.specs.Marks.{indicators}
+use Rattle.dch_rlcpdu.specs.Indicators.{indicator_octets}
 use Rattle.dch_rlcpdu.specs.Parts.{Content, begins_with, cut_at, ends_of, is_closed, leading, parts_of, total_of}
 use Rattle.dch_rlcpdu.specs.Split.{body_reading}
-use Rattle.dch_rlcpdu.proofs.Ends.{Marked, marks_marked}
+use Rattle.dch_rlcpdu.proofs.Ends.{Marked, indicators_marked}
 use Rattle.dch_rlcpdu.proofs.Splits.{IsBody, body_text}
 use Rattle.dch_am.specs.Contents.{all_but_last, body_in, last_of}
 use Rattle.dch_ambound.specs.Bytes.{body_bytes, full_bytes, pieces_bytes}
@@ -34,26 +34,26 @@ length-cut : (closed : Bool) (from : ℕ) (es octets : List ℕ) → length (cut
 length-cut closed from [] octets = refl
 length-cut closed from (e ∷ es) octets = omega (arith, length-cut closed e es octets)
 
--- what marks and octets are
+-- what indicators and octets are
 pub record IsContent (size : ℕ) (c : Content) : Type 0 where
-  pub parts : length (parts_of c) ≡ length (ends_of c.marks) + 1
+  pub parts : length (parts_of c) ≡ length (ends_of c.indicators) + 1
   pub octets : total_of (parts_of c) ≤ length c.octets
-  pub marks : leading c.marks + length (ends_of c.marks) ≤ length c.marks
-  pub few : length c.marks + length c.octets ≤ size
+  pub indicators : leading c.indicators + length (ends_of c.indicators) ≤ length c.indicators
+  pub few : length c.indicators + length c.octets ≤ size
 
-length-indicators : (ms : List ℕ) → length (indicators ms) ≡ length ms
-length-indicators [] = refl
-length-indicators (m ∷ ms) = omega (arith, length-indicators ms)
+length-indicator_octets : (ms : List ℕ) → length (indicator_octets ms) ≡ length ms
+length-indicator_octets [] = refl
+length-indicator_octets (m ∷ ms) = omega (arith, length-indicator_octets ms)
 
 pub content_read : (mode : Mode) (following : Bool) (p : List ℕ) (c : Content) (size : ℕ) → length p ≤ size → body_reading mode following p ≡ Ok c → IsContent size c
 content_read mode following p c size few e =
     let is : IsBody mode following p c = body_text mode following p c e in
-    let m : Marked (length c.octets) 0 c.marks (leading c.marks) (ends_of c.marks) (is_closed c.marks) = marks_marked mode (length c.octets) c.marks is.marks in
+    let m : Marked (length c.octets) 0 c.indicators (leading c.indicators) (ends_of c.indicators) (is_closed c.indicators) = indicators_marked mode (length c.octets) c.indicators is.indicators in
     record {
-      parts = length-cut (is_closed c.marks) 0 (ends_of c.marks) c.octets;
-      octets = omega (arith, parts_within (is_closed c.marks) 0 (ends_of c.marks) c.octets (omega arith) m.rises m.within);
-      marks = omega (arith, m.whole);
-      few = omega (arith, few, ap length is.parts.text, length-append (indicators c.marks) c.octets, length-indicators c.marks);
+      parts = length-cut (is_closed c.indicators) 0 (ends_of c.indicators) c.octets;
+      octets = omega (arith, parts_within (is_closed c.indicators) 0 (ends_of c.indicators) c.octets (omega arith) m.rises m.within);
+      indicators = omega (arith, m.whole);
+      few = omega (arith, few, ap length is.parts.text, length-append (indicator_octets c.indicators) c.octets, length-indicator_octets c.indicators);
     }
 
 -- the bytes of parts
@@ -62,8 +62,8 @@ parts_bytes [] = omega arith
 parts_bytes (p ∷ []) = omega arith
 parts_bytes (p ∷ q ∷ ps) = omega (arith, parts_bytes (q ∷ ps))
 
-first_bytes : (marks : List ℕ) → full_bytes (begins_with 0 marks) ≤ 6 * leading marks
-first_bytes marks = go (begins_with 0 marks) (begins_with 124 marks)
+first_bytes : (indicators : List ℕ) → full_bytes (begins_with 0 indicators) ≤ 6 * leading indicators
+first_bytes indicators = go (begins_with 0 indicators) (begins_with 124 indicators)
   where
     go : (a b : Bool) → full_bytes a ≤ 6 * cond (a || b) 1 0
     go true b = omega arith
@@ -71,7 +71,7 @@ first_bytes marks = go (begins_with 0 marks) (begins_with 124 marks)
     go false false = omega arith
 
 pub content_bytes : (size : ℕ) (c : Content) → IsContent size c → body_bytes (body_in c) ≤ 9 * size
-content_bytes size c is = omega (arith, parts_bytes (parts_of c), first_bytes c.marks, is.parts, is.octets, is.marks, is.few)
+content_bytes size c is = omega (arith, parts_bytes (parts_of c), first_bytes c.indicators, is.parts, is.octets, is.indicators, is.few)
 
 -- of the acknowledged mode, of at most 126 octets
 status_light : (o : Option (List Field)) → IsLightView (status_reading o)

@@ -14,12 +14,12 @@ abbrev pub units_bytes : List (List ℕ) → ℕ
 units_bytes [] = 0
 units_bytes (unit ∷ units) = unit_bytes unit + units_bytes units
 
--- of the octets of a unit in progress. Its end mark brings six bytes more
+-- of the octets of a unit in progress. Its length indicator brings six bytes more
 abbrev pub part_bytes : List ℕ → ℕ
 part_bytes [] = 0
 part_bytes (x ∷ xs) = 7 + 2 * min 1501 (length (x ∷ xs))
 
--- of the mark that stands first, of pieces with their end marks, and of a PDU. An octet brings at most nine bytes, since it may be the
+-- of the indicator that stands first, of pieces with their length indicators, and of a PDU. An octet brings at most nine bytes, since it may be the
 -- first of a unit
 abbrev pub full_bytes : Bool → ℕ
 full_bytes true = 6

@@ -50,7 +50,7 @@ abbrev pub pending : Option MrwAck → List Status
 pending None = []
 pending (Some a) = as_status a.number ∷ []
 
--- the last unit of a discard has its end mark at this place
+-- the last unit of a discard has its length indicator at this place
 abbrev pub HasPlace : List Body → ℕ → ℕ → ℕ → Type 0
 HasPlace bodies k n end_of_discard = (i : ℕ) × (end_of_discard ≡ i + 1) × (place_from bodies 0 i ≡ Some (k, n))
 

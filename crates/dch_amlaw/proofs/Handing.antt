@@ -63,14 +63,14 @@ full_at (b ∷ bodies) (suc n) l f = full_at bodies n (omega arith) f.1
 drop_past : (xs ys : List (List ℕ)) (n m : ℕ) → length xs ≡ n → drop (n + m) (xs ++ ys) ≡ drop m ys
 drop_past xs ys n m e = sym (drop-drop m n (xs ++ ys)) ∙ ap (drop m) (drop_at xs ys n e)
 
--- where a unit's end mark stands
-abbrev pub mark : Bool → ℕ → ℕ
-mark full j = cond (full && (j == 0)) 0 (j + 1)
+-- where a unit's length indicator stands
+abbrev pub indicator : Bool → ℕ → ℕ
+indicator full j = cond (full && (j == 0)) 0 (j + 1)
 
 pub record IsAt (bodies : List Body) (k n i : ℕ) : Type 0 where
   pub low : up_to bodies k ≤ i
   pub high : i < up_to bodies k + ends_of (get_or bodies k no_body)
-  pub at : n ≡ mark (get_or bodies k no_body).full (i - up_to bodies k)
+  pub at : n ≡ indicator (get_or bodies k no_body).full (i - up_to bodies k)
   pub sent : k < length bodies
 
 same_pair : (p q : ℕ × ℕ) → Some p ≡ Some q → p ≡ q
@@ -83,16 +83,16 @@ place_at : (bodies : List Body) (from i k n : ℕ) → place_from bodies from i 
 place_at [] from i k n e = absurd (cc)
 place_at (b ∷ bodies) from i k n e = go (nat_lt i (ends_of b)) refl e (λ q. place_at bodies (from + 1) (i - ends_of b) k n q)
   where
-    go : (t : Bool) → nat_lt i (ends_of b) ≡ t → cond t (Some (from, mark b.full i)) (place_from bodies (from + 1) (i - ends_of b)) ≡ Some (k, n) → (place_from bodies (from + 1) (i - ends_of b) ≡ Some (k, n) → (m : ℕ) × (k ≡ from + 1 + m) × IsAt bodies m n (i - ends_of b)) → (m : ℕ) × (k ≡ from + m) × IsAt (b ∷ bodies) m n i
+    go : (t : Bool) → nat_lt i (ends_of b) ≡ t → cond t (Some (from, indicator b.full i)) (place_from bodies (from + 1) (i - ends_of b)) ≡ Some (k, n) → (place_from bodies (from + 1) (i - ends_of b) ≡ Some (k, n) → (m : ℕ) × (k ≡ from + 1 + m) × IsAt bodies m n (i - ends_of b)) → (m : ℕ) × (k ≡ from + m) × IsAt (b ∷ bodies) m n i
     go true t q rest =
-        let s = both_of (from, mark b.full i) (k, n) q in
+        let s = both_of (from, indicator b.full i) (k, n) q in
         let z : i ≡ i - 0 = omega arith in
-        (0, omega (arith, s.0), record { low = omega arith; high = omega (arith, ltb-true _ _ t); at = sym s.1 ∙ ap (mark b.full) z; sent = omega arith })
+        (0, omega (arith, s.0), record { low = omega arith; high = omega (arith, ltb-true _ _ t); at = sym s.1 ∙ ap (indicator b.full) z; sent = omega arith })
     go false t q rest =
         let r = rest q in
         let le : ends_of b ≤ i = ltb-false _ _ t in
         let z : i - ends_of b - up_to bodies r.0 ≡ i - (ends_of b + up_to bodies r.0) = omega arith in
-        (suc r.0, omega (arith, r.1), record { low = omega (arith, r.2.low); high = omega (arith, r.2.high); at = r.2.at ∙ ap (mark (get_or bodies r.0 no_body).full) z; sent = omega (arith, r.2.sent) })
+        (suc r.0, omega (arith, r.1), record { low = omega (arith, r.2.low); high = omega (arith, r.2.high); at = r.2.at ∙ ap (indicator (get_or bodies r.0 no_body).full) z; sent = omega (arith, r.2.sent) })
 
 pub has_place_at : (bodies : List Body) (k n end_of_discard : ℕ) (h : HasPlace bodies k n end_of_discard) → IsAt bodies k n h.0
 has_place_at bodies k n end_of_discard h =
@@ -162,7 +162,7 @@ pub record Given (done : List (List ℕ)) (part : List ℕ) (b : Body) (n j : �
   pub read : read_body (record { units = done; part = part }) b ≡ record { units = done ++ first ∷ tail; part = b.rest }
   pub left : drop (dead_pieces n b) b.pieces ≡ drop j tail
 
-given : (done : List (List ℕ)) (part : List ℕ) (full : Bool) (ps : List (List ℕ)) (rest : List ℕ) (n j total : ℕ) → AllFull ps → n ≡ mark full j → j < ends_of (record { full = full; pieces = ps; rest = rest }) → length (read_body (record { units = done; part = part }) (record { full = full; pieces = ps; rest = rest })).units ≡ length done + ends_of (record { full = full; pieces = ps; rest = rest }) → Given done part (record { full = full; pieces = ps; rest = rest }) n j
+given : (done : List (List ℕ)) (part : List ℕ) (full : Bool) (ps : List (List ℕ)) (rest : List ℕ) (n j total : ℕ) → AllFull ps → n ≡ indicator full j → j < ends_of (record { full = full; pieces = ps; rest = rest }) → length (read_body (record { units = done; part = part }) (record { full = full; pieces = ps; rest = rest })).units ≡ length done + ends_of (record { full = full; pieces = ps; rest = rest }) → Given done part (record { full = full; pieces = ps; rest = rest }) n j
 given done [] true ps rest n j total f e l long = absurd (omega (arith, ap (λ (r : Reading). length r.units) (pieces_whole done ps f), length-append done ps, long))
 given done (x ∷ xs) true ps rest n j total f e l long = record {
   first = x ∷ xs;
@@ -171,7 +171,7 @@ given done (x ∷ xs) true ps rest n j total f e l long = record {
   left = ap (λ m. drop (m - 1) ps) e ∙ ap (λ m. drop m ps) (dead j);
 }
   where
-    dead : (j : ℕ) → mark true j - 1 ≡ j
+    dead : (j : ℕ) → indicator true j - 1 ≡ j
     dead j = cond_both (j == 0) 0 (j + 1) (λ (m : ℕ). m - 1 ≡ j) (λ e. omega (arith, eqb-true j 0 e)) (λ _. omega arith)
 given done part false [] rest n j total f e l long = absurd (omega arith)
 given done part false (p ∷ ps) rest n j total f e l long = record {

@@ -1,4 +1,4 @@
--- The units that are handed up over a history are those whose end mark lay below the missing number, and that no MRW had passed.
+-- The units that are handed up over a history are those whose length indicator lay below the missing number, and that no MRW had passed.
 use Rattle.std.proofs.Common.{◌≡◌, ◌+◌, ◌-◌, ◌<◌, ◌≤◌, ◌⊎◌, ℕ, zero, suc, List, [], ◌∷◌, ◌++◌, Bool, true, false, cond, ◌&&◌, ◌||◌, length, take, drop, get_or, Option, Some, None, max, arith, refl, sym, ap, ◌∙◌, subst, inl, inr, ⊎_elim, length-take}
 use Rattle.std.specs.Prelude.{◌==◌, nat_lt, nat_le}
 use Rattle.std.proofs.lemmas.Bool.{eqb-true, eq-eqb, ltb-true, ltb-false, leb-true, leb-false, lt-ltb, le-leb, lt-leb, both_ways, cases_lt, cases_Bool, cond-true, cond-false, or_cases, or_left, or_right, and_parts, and_from, false_from_ne_true}
@@ -20,7 +20,7 @@ use Rattle.dch_amlaw.proofs.Flow.{flow_arrived_le_next}
 use Rattle.dch_am.specs.Cuts.{empty_reading, IsCut}
 use Rattle.dch_am.proofs.Reading.{cut_front, cut_long}
 use Rattle.dch_amlaw.proofs.Direction.{HasPlace, has_place_more, ArrivedIs, payloads, pending, Direction, IsRead, pdu_is_read, in_parts, in_low, in_high, direction_arrives, direction_moves}
-use Rattle.dch_amlaw.proofs.Handing.{up_to, up_to_more, IsAt, has_place_at, mark, drop_none, Earlier, Aligned, Cut, Stands, ran}
+use Rattle.dch_amlaw.proofs.Handing.{up_to, up_to_more, IsAt, has_place_at, indicator, drop_none, Earlier, Aligned, Cut, Stands, ran}
 
 -- the units from a to below b, by a test of each place
 span : ℕ → ℕ → ℕ → List (List ℕ) → List (List ℕ)
@@ -197,10 +197,10 @@ hands_arrives bearer s r came to past spans line ts k poll body small d h =
         hands_step s.bodies s.accepted r now past past (run_over (k ∷ came) to) spans h (missing_is bearer s now (k ∷ came) to line ts d') (omega arith) grow (up_to_grows s.bodies (vr_r r) (vr_r now) grow) run.units run.stands
 
 -- An MRW comes.
-mark_le : (full : Bool) (a b : ℕ) → a ≤ b → mark full a ≤ mark full b
-mark_le full a b le = go full
+indicator_le : (full : Bool) (a b : ℕ) → a ≤ b → indicator full a ≤ indicator full b
+indicator_le full a b le = go full
   where
-    go : (f : Bool) → mark f a ≤ mark f b
+    go : (f : Bool) → indicator f a ≤ indicator f b
     go true = grind (arith, nat_tests)
     go false = omega arith
 
@@ -233,8 +233,8 @@ trim_after bodies part trim past r k n end_of_discard le has st = ⊎_elim
 
     join : (m i : ℕ) → past ≡ i + 1 → place_from bodies 0 i ≡ Some (k, m) → IsAt bodies k m i → HasPlace bodies k (max m n) (max past end_of_discard)
     join m i e p at = ⊎_elim
-        (λ (l : i < has.0). let x : n ≡ max m n = omega (arith, at.at, is.at, mark_le (get_or bodies k no_body).full (i - up_to bodies k) (has.0 - up_to bodies k) (omega arith)) in let y : end_of_discard ≡ max past end_of_discard = omega (arith, has.1) in subst (λ v. HasPlace bodies k v (max past end_of_discard)) x (subst (HasPlace bodies k n) y has))
-        (λ (l : has.0 ≤ i). let x : m ≡ max m n = omega (arith, at.at, is.at, mark_le (get_or bodies k no_body).full (has.0 - up_to bodies k) (i - up_to bodies k) (omega arith)) in let y : past ≡ max past end_of_discard = omega (arith, has.1) in subst (λ v. HasPlace bodies k v (max past end_of_discard)) x (subst (HasPlace bodies k m) y (i, e, p)))
+        (λ (l : i < has.0). let x : n ≡ max m n = omega (arith, at.at, is.at, indicator_le (get_or bodies k no_body).full (i - up_to bodies k) (has.0 - up_to bodies k) (omega arith)) in let y : end_of_discard ≡ max past end_of_discard = omega (arith, has.1) in subst (λ v. HasPlace bodies k v (max past end_of_discard)) x (subst (HasPlace bodies k n) y has))
+        (λ (l : has.0 ≤ i). let x : m ≡ max m n = omega (arith, at.at, is.at, indicator_le (get_or bodies k no_body).full (has.0 - up_to bodies k) (i - up_to bodies k) (omega arith)) in let y : past ≡ max past end_of_discard = omega (arith, has.1) in subst (λ v. HasPlace bodies k v (max past end_of_discard)) x (subst (HasPlace bodies k m) y (i, e, p)))
         (cases_lt i has.0)
 
     same : Cut bodies part trim past r → r ≡ k → Cut bodies [] (trimmed trim k n) (max past end_of_discard) k

@@ -186,7 +186,7 @@ arrived_or_passed e = below e.moved_to ++ e.came
 abbrev pub gap_free : End → ℕ
 gap_free e = run_over e.came e.moved_to
 
--- at some moment unit i had its end mark below the missing number, and no MRW had passed it
+-- at some moment unit i had its length indicator below the missing number, and no MRW had passed it
 abbrev pub in_span : List Body → List (ℕ × ℕ) → ℕ → Bool
 in_span bodies [] i = false
 in_span bodies (p ∷ ps) i = (nat_le p.1 i && nat_lt i (ends (take p.0 bodies))) || in_span bodies ps i

@@ -7,8 +7,8 @@ use Rattle.dch_am.specs.Contents.{all_but_last, body_in, last_of}
 use Rattle.dch_sar.specs.Taking.{Waiting, added, ended, took_parts}
 use Rattle.dch_amrecv.specs.Reading.{took_pieces}
 
-pub length-parts : (c : Content) → length (parts_of c) ≡ length (ends_of c.marks) + 1
-length-parts c = count (is_closed c.marks) 0 (ends_of c.marks) c.octets
+pub length-parts : (c : Content) → length (parts_of c) ≡ length (ends_of c.indicators) + 1
+length-parts c = count (is_closed c.indicators) 0 (ends_of c.indicators) c.octets
   where
     count : (closed : Bool) (from : ℕ) (es octets : List ℕ) → length (cut_at closed from es octets) ≡ length es + 1
     count closed from [] octets = refl
@@ -42,10 +42,10 @@ drop_past (suc n) zero (x ∷ xs) e = absurd (omega arith)
 drop_past (suc n) (suc m) (x ∷ xs) e = drop_past n m xs (omega arith)
 
 -- pieces up to a place are left out, at most all
-pub parts_behind : (c : Content) (n dead : ℕ) (u : Waiting) → dead ≡ min n (length (ends_of c.marks)) → took_parts (drop dead (parts_of c)) u ≡ added (last_of (parts_of c)) (took_pieces (drop n (all_but_last (parts_of c))) u)
+pub parts_behind : (c : Content) (n dead : ℕ) (u : Waiting) → dead ≡ min n (length (ends_of c.indicators)) → took_parts (drop dead (parts_of c)) u ≡ added (last_of (parts_of c)) (took_pieces (drop n (all_but_last (parts_of c))) u)
 parts_behind c n dead u e =
     let ps = parts_of c in
-    let size : length ps ≡ length (ends_of c.marks) + 1 = length-parts c in
+    let size : length ps ≡ length (ends_of c.indicators) + 1 = length-parts c in
     let cut = last_drop dead ps (omega arith) in
     let all : drop dead (all_but_last ps) ≡ drop n (all_but_last ps) = drop_past n dead (all_but_last ps) (omega (arith, length-all_but_last ps)) in
     parts_all (drop dead ps) u (omega (arith, left dead ps (omega arith)))
@@ -58,8 +58,8 @@ parts_behind c n dead u e =
     left (suc k) (x ∷ xs) inside = left k xs (omega arith)
 
 -- how many pieces a trim leaves out
-pub dead_is : (n : ℕ) (c : Content) (full : Bool) (byte less dead : ℕ) → full ≡ begins_with 0 c.marks → byte ≡ bool_byte full → less ≡ n - byte → dead ≡ min less (length (ends_of c.marks)) → dead ≡ min (dead_pieces n (body_in c)) (length (ends_of c.marks))
-dead_is n c full byte less dead first is fewer most = most ∙ ap (λ k. min k (length (ends_of c.marks))) (fewer ∙ (ap (λ b. n - b) is ∙ (cases full ∙ ap (λ b. cond b (n - 1) n) first)))
+pub dead_is : (n : ℕ) (c : Content) (full : Bool) (byte less dead : ℕ) → full ≡ begins_with 0 c.indicators → byte ≡ bool_byte full → less ≡ n - byte → dead ≡ min less (length (ends_of c.indicators)) → dead ≡ min (dead_pieces n (body_in c)) (length (ends_of c.indicators))
+dead_is n c full byte less dead first is fewer most = most ∙ ap (λ k. min k (length (ends_of c.indicators))) (fewer ∙ (ap (λ b. n - b) is ∙ (cases full ∙ ap (λ b. cond b (n - 1) n) first)))
   where
     cases : (b : Bool) → n - bool_byte b ≡ cond b (n - 1) n
     cases true = refl

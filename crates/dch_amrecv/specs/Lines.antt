@@ -6,7 +6,7 @@ use Rattle.dch_sar.specs.Taking.{Waiting, after_unit, dropped, no_units}
 use Rattle.dch_amrecv.specs.Reading.{took_one}
 use Rattle.dch_amrecv.specs.Places.{front, put}
 
--- the places from the expected number on and how many there may be, the place up to which marks of the next PDU end no unit, and the units
+-- the places from the expected number on and how many there may be, the place up to which indicators of the next PDU end no unit, and the units
 pub record Kept : Type 0 where
   pub places : List (Option Body)
   pub capacity : ℕ

@@ -9,7 +9,7 @@ abbrev pub took_pieces : List (List ℕ) → Waiting → Waiting
 took_pieces [] u = u
 took_pieces (p ∷ ps) u = took_pieces ps (ended (added p u))
 
--- a PDU is read, where marks up to this place end no unit and octets before the last of them are dropped
+-- a PDU is read, where indicators up to this place end no unit and octets before the last of them are dropped
 abbrev pub took_one : Option ℕ → Body → Waiting → Waiting
 took_one None b u = added b.rest (took_pieces b.pieces (took_full b.full u))
 took_one (Some n) b u = added b.rest (took_pieces (drop (dead_pieces n b) b.pieces) (dropped u))

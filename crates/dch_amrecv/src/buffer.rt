@@ -79,8 +79,8 @@ impl RxBuffer {
         requires settled { self.old.kept.units.waiting ≡ [] }
         requires place { i < self.old.kept.capacity }
         requires vacant { is_kept self.old.kept.places i ≡ false }
-        requires room { length body.now.marks + length body.now.octets + 2 ≤ self.old.pdu }
-        requires small { length body.now.marks + length body.now.octets ≤ 124 }
+        requires room { length body.now.indicators + length body.now.octets + 2 ≤ self.old.pdu }
+        requires small { length body.now.indicators + length body.now.octets ≤ 124 }
         ensures count { result ≡ front (put i (body_in body.now) self.old.kept.places) }
         ensures after { self.new ≡ with_kept (run_on (with_body i (body_in body.now) self.old.kept)) self.old }
     {
@@ -96,7 +96,7 @@ impl RxBuffer {
         run + 1
     }
 
-    /// Passes so many places, drops the unit in progress, and reads the PDUs before the first gap, of which the first has marks up to
+    /// Passes so many places, drops the unit in progress, and reads the PDUs before the first gap, of which the first has indicators up to
     /// a place that end no unit. Answers how many they are.
     pub fn pass(&mut self, count: usize, n: u8) -> usize
         requires settled { self.old.kept.units.waiting ≡ [] }

@@ -77,7 +77,7 @@ impl Holder {
     pub fn pdu(&mut self, sn: u16, poll: bool, body: &Body<'_>) -> Taken
         requires settled { self.old.kept.units.waiting ≡ [] }
         requires number { sn < 4096 }
-        requires small { length body.now.marks + length body.now.octets + 2 ≤ self.old.pdu }
+        requires small { length body.now.indicators + length body.now.octets + 2 ≤ self.old.pdu }
         ensures value { result ≡ answer sn self.old }
         ensures after { self.new ≡ after_answer result sn poll (body_in body.now) self.old }
     {

@@ -51,7 +51,7 @@ pub fn run_on(
     (run, todo, next)
 }
 
-/// The trim of the next PDU where so many places are passed and marks up to another place end no unit.
+/// The trim of the next PDU where so many places are passed and indicators up to another place end no unit.
 pub fn greater_trim(trim: Option<u8>, count: usize, n: u8) -> u8
     ensures { result ≡ (if count == 0 then greater trim n else n) }
 {
@@ -61,11 +61,11 @@ pub fn greater_trim(trim: Option<u8>, count: usize, n: u8) -> u8
     }
 }
 
-/// Reads the next PDU, which has at most 124 marks and octets. Marks up to a place may end no unit: octets before the last of them
+/// Reads the next PDU, which has at most 124 indicators and octets. Indicators up to a place may end no unit: octets before the last of them
 /// are then dropped.
 pub fn read(units: &mut Reassembler, trim: Option<u8>, body: &Body<'_>)
     requires settled { units.old.waiting ≡ [] }
-    requires small { length body.now.marks + length body.now.octets ≤ 124 }
+    requires small { length body.now.indicators + length body.now.octets ≤ 124 }
     ensures { units.new ≡ took_one trim (body_in body.now) units.old }
 {
     let full = body.previous_full();

@@ -56,12 +56,12 @@ impl AmRecv {
         Ok(AmRecv { holder })
     }
 
-    /// Takes a PDU (TS 25.322 11.3.3). All units that ended before it have been handed up. Marks and octets of the body are together
+    /// Takes a PDU (TS 25.322 11.3.3). All units that ended before it have been handed up. Indicators and octets of the body are together
     /// at most two fewer than the octets of a PDU.
     pub fn pdu(&mut self, sn: u16, poll: bool, body: &Body<'_>) -> Taken
         requires settled { is_settled self.old ≡ true }
         requires number { sn < 4096 }
-        requires small { length body.now.marks + length body.now.octets + 2 ≤ self.old.pdu }
+        requires small { length body.now.indicators + length body.now.octets + 2 ≤ self.old.pdu }
         ensures answer { (buffer given : ℕ) (r : Receiver) → Stands self.old given r → result ≡ taken (rules_of buffer self.old.rules) r sn }
         ensures stands { (buffer given : ℕ) (r : Receiver) → Stands self.old given r →
             Stands self.new given (after_pdu (rules_of buffer self.old.rules) (taken (rules_of buffer self.old.rules) r sn) r sn poll (body_in body.now)) }

@@ -5,10 +5,10 @@ ghost use Rattle.dch_amrecv.specs.Stored.{IsStored, Stores, content_of};
 use dch_pool::{Block, Pool};
 use dch_rlcpdu::Body;
 
-/// Copies the marks and octets of a PDU to a block of a pool, behind their two numbers. There is none where no block is spare.
+/// Copies the indicators and octets of a PDU to a block of a pool, behind their two numbers. There is none where no block is spare.
 pub fn store(pool: &mut Pool, body: &Body<'_>) -> Option<Block>
-    requires room { length body.now.marks + length body.now.octets + 2 ≤ pool.old.size }
-    requires small { length body.now.marks + length body.now.octets ≤ 124 }
+    requires room { length body.now.indicators + length body.now.octets + 2 ≤ pool.old.size }
+    requires small { length body.now.indicators + length body.now.octets ≤ 124 }
     ensures { MatchOption result ((spare_of pool.old ≡ 0) × (pool.new ≡ pool.old)) (Stores pool.old pool.new body.now) }
 {
     let indicators = body.indicators();
@@ -24,7 +24,7 @@ pub fn store(pool: &mut Pool, body: &Body<'_>) -> Option<Block>
 pub fn stored(text: &[u8]) -> Body<'_>
     requires { IsStored text.now }
     ensures content { result ≡ content_of text.now }
-    ensures small { length result.marks + length result.octets ≤ 124 }
+    ensures small { length result.indicators + length result.octets ≤ 124 }
 {
     let (header, rest) = text.split_at(2);
     let (indicators, octets) = rest.split_at(header[0] as usize);

@@ -86,8 +86,8 @@ impl RxWindow {
     pub fn keep(&mut self, i: usize, body: &Body<'_>)
         requires place { i < self.old.ring.capacity }
         requires vacant { is_kept self.old.ring.items i ≡ false }
-        requires room { length body.now.marks + length body.now.octets + 2 ≤ self.old.pdu }
-        requires small { length body.now.marks + length body.now.octets ≤ 124 }
+        requires room { length body.now.indicators + length body.now.octets + 2 ≤ self.old.pdu }
+        requires small { length body.now.indicators + length body.now.octets ≤ 124 }
         ensures { self.new ≡ with_ring (buffer (put i (body_in body.now) self.old.ring.items) self.old.ring.capacity) self.old }
     {
         if let Some(block) = store(&mut self.pool, body) {
@@ -99,7 +99,7 @@ impl RxWindow {
     pub fn first(&self) -> Body<'_>
         requires { is_kept self.now.ring.items 0 ≡ true }
         ensures body { slice_get self.now.ring.items 0 ≡ Some (Some (body_in result)) }
-        ensures small { length result.marks + length result.octets ≤ 124 }
+        ensures small { length result.indicators + length result.octets ≤ 124 }
     {
         let block = first_of(&self.ring);
         stored(self.pool.bytes(block))

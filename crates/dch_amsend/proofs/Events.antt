@@ -11,7 +11,7 @@ use Rattle.dch_retx.specs.declared.sent_pdu.SentPdu.{SentPdu}
 use Rattle.dch_retx.specs.Flights.{at, blank, built, first_requested, request_cleared, requested_in}
 use Rattle.dch_retx.proofs.Changes.{length-changed}
 use Rattle.dch_am.specs.Acknowledging.{after_fields, status_answer}
-use Rattle.dch_am.specs.Bodies.{Body, after_body, carried, ends, is_left, marks_of, next_body, no_body}
+use Rattle.dch_am.specs.Bodies.{Body, after_body, carried, ends, is_left, indicators_of, next_body, no_body}
 use Rattle.dch_am.specs.Building.{Choice, Again as Requested, New as Fresh, Last as Latest, NoPdu as Nothing, after_build, after_choice, anew, anew_polls, available, body_at, body_of_choice, builds_within, choice}
 use Rattle.dch_am.specs.Cuts.{IsCut}
 use Rattle.dch_am.specs.Discards.{after_moving, after_mrw, discards_at, mrw_due}
@@ -190,10 +190,10 @@ pub built_by : (rules : Rules) (d : ℕ) (s : Sender) (out : List ℕ) (v : Outg
 built_by rules d s out v c e is = let b : Built rules d s out v (choice rules s) = subst (Built rules d s out v) e is in (b.text, b.goes, b.short)
 
 -- the octets of a PDU in flight
-pdu_is : (rules : Rules) (d : ℕ) (v : Outgoing) (s : Sender) (k number : ℕ) (poll : Bool) (f : SentPdu) → BufferStands d v.tx_buffer s → Takes s k f.extent → HasBody d f (body_at s.bodies k) → vt_a s ≤ k → k < vt_s s → pdu_in number poll f v ≡ am_pdu number poll (marks_of d (body_at s.bodies k)) (carried (body_at s.bodies k)) (d + 2)
+pdu_is : (rules : Rules) (d : ℕ) (v : Outgoing) (s : Sender) (k number : ℕ) (poll : Bool) (f : SentPdu) → BufferStands d v.tx_buffer s → Takes s k f.extent → HasBody d f (body_at s.bodies k) → vt_a s ≤ k → k < vt_s s → pdu_in number poll f v ≡ am_pdu number poll (indicators_of d (body_at s.bodies k)) (carried (body_at s.bodies k)) (d + 2)
 pdu_is rules d v s k number poll f keeps takes has low inside =
     let is : IsWhole v.tx_buffer f (body_at s.bodies k) = here_is d v.tx_buffer s k f keeps takes has low inside in
-    ap₂ (λ n b. am_pdu number poll (marks_of n b) (carried b) v.tx_buffer.size) (octets_is d v.tx_buffer s keeps) is.body ∙ ap (am_pdu number poll (marks_of d (body_at s.bodies k)) (carried (body_at s.bodies k))) keeps.size
+    ap₂ (λ n b. am_pdu number poll (indicators_of n b) (carried b) v.tx_buffer.size) (octets_is d v.tx_buffer s keeps) is.body ∙ ap (am_pdu number poll (indicators_of d (body_at s.bodies k)) (carried (body_at s.bodies k))) keeps.size
 
 -- a PDU has as many octets
 pub size_same : (v : Outgoing) → IsRunning v → v.tx_buffer.size ≡ v.size
@@ -212,7 +212,7 @@ again_goes rules d v now s place out inside is e text =
     let h : HasBody d (at v.line.in_flight place) (body_at s.bodies (vt_a s + place)) = is.in_flight place inside in
     record {
       text = text ∙ (pdu_is rules d v s (vt_a s + place) (number_at place v.line) (again_poll place v.line) (at v.line.in_flight place) is.tx_buffer (is.taken place inside) h (omega arith) (omega (arith, inside, is.line.flying))
-          ∙ ap₂ (λ n p. am_pdu n p (marks_of d (body_at s.bodies (vt_a s + place))) (carried (body_at s.bodies (vt_a s + place))) (d + 2)) (number_is rules v.line s place (omega (arith, inside)) is.line) sends.poll);
+          ∙ ap₂ (λ n p. am_pdu n p (indicators_of d (body_at s.bodies (vt_a s + place))) (carried (body_at s.bodies (vt_a s + place))) (d + 2)) (number_is rules v.line s place (omega (arith, inside)) is.line) sends.poll);
       goes = subst (λ x. IsOutgoing rules d x (after_choice (Requested (vt_a s + place)) rules d s)) (sym e) (again_stands rules d v s place inside is);
       short = h.short;
     }
@@ -226,7 +226,7 @@ last_goes rules d v now s place out inside last none is e text =
     let h : HasBody d (at v.line.in_flight place) (body_at s.bodies (vt_a s + place)) = is.in_flight place inside in
     record {
       text = text ∙ (pdu_is rules d v s (vt_a s + place) (number_at place v.line) (last_poll place v.line) (at v.line.in_flight place) is.tx_buffer (is.taken place inside) h (omega arith) (omega (arith, inside, is.line.flying))
-          ∙ ap₂ (λ n p. am_pdu n p (marks_of d (body_at s.bodies (vt_a s + place))) (carried (body_at s.bodies (vt_a s + place))) (d + 2)) (number_is rules v.line s place (omega (arith, inside)) is.line) sends.poll);
+          ∙ ap₂ (λ n p. am_pdu n p (indicators_of d (body_at s.bodies (vt_a s + place))) (carried (body_at s.bodies (vt_a s + place))) (d + 2)) (number_is rules v.line s place (omega (arith, inside)) is.line) sends.poll);
       goes = subst (λ x. IsOutgoing rules d x (after_choice (Latest (vt_a s + place)) rules d s)) (sym e) (last_stands rules d v s place inside last none is);
       short = h.short;
     }
@@ -330,11 +330,11 @@ new_here rules d v s f tx_buffer is filled = (new_whole rules d v s f tx_buffer 
 pub new_goes : (rules : Rules) (d : ℕ) (v : Outgoing) (s : Sender) (f : SentPdu) (tx_buffer : TxBuffer) (l : RetxBuffer) (left poll : Bool) (number : ℕ) (out : List ℕ) → length v.line.in_flight < v.line.window → IsOutgoing rules d v s → IsFilled d v s f tx_buffer → number ≡ number_at (length v.line.in_flight) v.line → left ≡ is_left (after_body d s.unsent) → poll ≡ new_poll f left v.line → l ≡ new_line f left v.line → out ≡ pdu_in number poll f (record { size = v.size; line = l; tx_buffer = tx_buffer }) → Built rules d s out (record { size = v.size; line = l; tx_buffer = tx_buffer }) Fresh
 new_goes rules d v s f tx_buffer l left poll number out room is filled number_e left_e poll_e line_e text =
     let number_is_next : number ≡ wrapped (vt_s s) = number_e ∙ (number_is rules v.line s (length v.line.in_flight) (omega arith) is.line ∙ ap wrapped is.line.flying) in
-    let whole : pdu_in number poll f (record { size = v.size; line = l; tx_buffer = tx_buffer }) ≡ am_pdu number poll (marks_of d (next_body d s.unsent)) (carried (next_body d s.unsent)) (d + 2) =
-    ap₂ (λ n b. am_pdu number poll (marks_of n b) (carried b) tx_buffer.size) (octets_is d tx_buffer (anew d s) filled.keeps) (new_whole rules d v s f tx_buffer is filled).body
-    ∙ ap (am_pdu number poll (marks_of d (next_body d s.unsent)) (carried (next_body d s.unsent))) filled.keeps.size in
+    let whole : pdu_in number poll f (record { size = v.size; line = l; tx_buffer = tx_buffer }) ≡ am_pdu number poll (indicators_of d (next_body d s.unsent)) (carried (next_body d s.unsent)) (d + 2) =
+    ap₂ (λ n b. am_pdu number poll (indicators_of n b) (carried b) tx_buffer.size) (octets_is d tx_buffer (anew d s) filled.keeps) (new_whole rules d v s f tx_buffer is filled).body
+    ∙ ap (am_pdu number poll (indicators_of d (next_body d s.unsent)) (carried (next_body d s.unsent))) filled.keeps.size in
     record {
-      text = text ∙ (whole ∙ ap₂ (λ n p. am_pdu n p (marks_of d (next_body d s.unsent)) (carried (next_body d s.unsent)) (d + 2)) number_is_next (poll_e ∙ (new_sent rules d v s f tx_buffer left room is filled left_e).poll));
+      text = text ∙ (whole ∙ ap₂ (λ n p. am_pdu n p (indicators_of d (next_body d s.unsent)) (carried (next_body d s.unsent)) (d + 2)) number_is_next (poll_e ∙ (new_sent rules d v s f tx_buffer left room is filled left_e).poll));
       goes = new_stands rules d v s f tx_buffer l left room is filled left_e line_e;
       short = filled.has.short;
     }

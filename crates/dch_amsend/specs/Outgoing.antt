@@ -4,7 +4,7 @@ use Rattle.std.specs.Prelude.{◌≡◌, ◌+◌, ◌-◌, ◌<◌, ◌≤◌, �
 use Rattle.dch_retx.specs.declared.sent_pdu.SentPdu.{SentPdu}
 use Rattle.dch_retx.specs.Flights.{at, first_requested, requested_in}
 use Rattle.dch_am.specs.Rules.{Rules}
-use Rattle.dch_am.specs.Bodies.{carried, marks_of}
+use Rattle.dch_am.specs.Bodies.{carried, indicators_of}
 use Rattle.dch_am.specs.Cuts.{IsCut}
 use Rattle.dch_am.specs.Sender.{Sender, vt_a}
 use Rattle.dch_am.specs.Building.{body_at}
@@ -34,7 +34,7 @@ can_build v = nat_lt 0 (available_of v)
 
 -- the octets of a PDU in flight, with its number and its poll bit
 abbrev pub pdu_in : ℕ → Bool → SentPdu → Outgoing → List ℕ
-pdu_in number poll f v = am_pdu number poll (marks_of (v.tx_buffer.size - 2) (body_in v.tx_buffer f)) (carried (body_in v.tx_buffer f)) v.tx_buffer.size
+pdu_in number poll f v = am_pdu number poll (indicators_of (v.tx_buffer.size - 2) (body_in v.tx_buffer f)) (carried (body_in v.tx_buffer f)) v.tx_buffer.size
 
 -- the first PDU in flight
 abbrev pub first_in_flight : List SentPdu → Option SentPdu

@@ -260,15 +260,15 @@ impl Outgoing {
         self.line.tick()
     }
 
-    /// A discard begins with the PDU at a place and its mark.
-    pub fn discard(&mut self, place: u16, mark: u8)
+    /// A discard begins with the PDU at a place and its indicator.
+    pub fn discard(&mut self, place: u16, indicator: u8)
         requires place { place < length self.old.line.in_flight }
-        requires mark { mark < 16 }
+        requires indicator { indicator < 16 }
         ensures size { self.new.size ≡ self.old.size }
         ensures same { self.new.tx_buffer ≡ self.old.tx_buffer }
-        ensures history { (rules : Rules) (d : ℕ) (s : Sender) (i : ℕ) → IsOutgoing rules d self.old s → IsOutgoing rules d self.new (discards_at s i (Some (vt_a s + place, mark))) }
+        ensures history { (rules : Rules) (d : ℕ) (s : Sender) (i : ℕ) → IsOutgoing rules d self.old s → IsOutgoing rules d self.new (discards_at s i (Some (vt_a s + place, indicator))) }
     {
-        self.line.discard(place, mark)
+        self.line.discard(place, indicator)
     }
 
     /// A discard runs.

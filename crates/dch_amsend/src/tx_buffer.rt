@@ -1,5 +1,5 @@
 ghost use Rattle.std.specs.Prelude.{◌≡◌, ◌+◌, ◌-◌, ◌<◌, ◌≤◌, ℕ, IfOk, None, Some, length};
-ghost use Rattle.dch_am.specs.Bodies.{carried, is_left, marks_of, next_body};
+ghost use Rattle.dch_am.specs.Bodies.{carried, is_left, indicators_of, next_body};
 ghost use Rattle.dch_am.specs.Building.{anew};
 ghost use Rattle.dch_am.specs.Cuts.{IsCut};
 ghost use Rattle.dch_am.specs.Restart.{restarted_sender};
@@ -137,7 +137,7 @@ impl TxBuffer {
         requires here { IsHere self.now pdu.now }
         requires number { number < 4096 }
         requires size { length out.old ≡ self.now.size }
-        ensures { out.new ≡ am_pdu number poll (marks_of (self.now.size - 2) (body_in self.now pdu.now)) (carried (body_in self.now pdu.now)) self.now.size }
+        ensures { out.new ≡ am_pdu number poll (indicators_of (self.now.size - 2) (body_in self.now pdu.now)) (carried (body_in self.now pdu.now)) self.now.size }
     {
         let start = Start {
             sdu: pdu.extent.sdu.wrapping_sub(self.freed),

@@ -48,7 +48,7 @@ fn feed(receiver: &mut AmRecv, p: &[u8]) -> Answer
     }
 }
 
-// A PDU of 18 octets with this number, without a mark.
+// A PDU of 18 octets with this number, without an indicator.
 fn plain(sn: u16) -> [u8; 18]
     requires { sn < 4096 }
 {
@@ -256,7 +256,7 @@ fn goes_to_the_greater_place(alloc: Global) -> bool {
     hands_up(alloc, &pdus, &[Some((3, 3, 3)), None, None])
 }
 
-fn goes_behind_all_marks(alloc: Global) -> bool {
+fn goes_behind_all_indicators(alloc: Global) -> bool {
     let pdus = [mrw(0, 15), two_ends(), padded(&[0x80, 0x09, 0x03, 0xfe, 4])];
     hands_up(alloc, &pdus, &[Some((13, 3, 4)), None, None])
 }
@@ -269,6 +269,6 @@ fn drops_a_unit_in_progress(alloc: Global) -> bool {
 #[test]
 fn units_behind_a_discard(rt: HostRuntime) {
     assert!(rt; goes_to_the_greater_place(rt.alloc()));
-    assert!(rt; goes_behind_all_marks(rt.alloc()));
+    assert!(rt; goes_behind_all_indicators(rt.alloc()));
     assert!(rt; drops_a_unit_in_progress(rt.alloc()));
 }

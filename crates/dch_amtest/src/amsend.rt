@@ -12,7 +12,7 @@ use std::alloc::Global;
 enum Step {
     /// A unit of so many octets, all 7, is offered.
     Offer(usize, Offer),
-    /// So many units of fifteen octets are sent, each of which fills a PDU with its mark.
+    /// So many units of fifteen octets are sent, each of which fills a PDU with its indicator.
     Send(u8),
     /// So many PDUs are built.
     BuildMany(u8),

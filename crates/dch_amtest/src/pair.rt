@@ -6,7 +6,7 @@ use dch_types::AmRules;
 use std::alloc::Global;
 use std::test::Fail;
 
-// PDUs of 18 octets, which have room for a unit of 15 octets and its mark.
+// PDUs of 18 octets, which have room for a unit of 15 octets and its indicator.
 pub fn setup(discard_age: u16) -> PairSetup
     ensures first { result.first_pdu ≡ 18 }
     ensures second { result.second_pdu ≡ 18 }

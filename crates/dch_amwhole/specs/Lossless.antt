@@ -28,8 +28,8 @@ Continues g (Payload k poll body ∷ line) n = (k ≤ g) × Continues (max g (k 
 Continues g (Mrw k place end_of_discard ∷ line) n = (k < g) × Continues g line n
 Continues g (Report t ∷ line) n = Continues g line n
 
--- the PDUs that have arrived are those below a number; those from it on are in flight; handed up are the accepted units, in order, whose end
--- mark lies in the PDUs that arrived
+-- the PDUs that have arrived are those below a number; those from it on are in flight; handed up are the accepted units, in order, whose length
+-- indicator lies in the PDUs that arrived
 pub record IsWhole (from to : End) (line : List Block) : Type 0 where
   pub numbers : Continues (gap_free to) line (vt_s from.entity.sender)
   pub units : to.entity.receiver.reading.units ≡ take (ends (take (gap_free to) from.entity.sender.bodies)) from.entity.sender.accepted

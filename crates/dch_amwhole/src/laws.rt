@@ -7,7 +7,7 @@ ghost use Rattle.dch_amwhole.specs.Lossless.{AreWhole, NoneLost};
 /// passes at either end, in any order and as often as one likes. Blocks of one direction stay in order, and no block is lost.
 ///
 /// Then, in both directions: what was sent before the blocks that are still in flight has arrived, and handed up are, in order, just the accepted
-/// units whose end mark lies there.
+/// units whose length indicator lies there.
 pub fn lossless_law()
     ensures { (rules : Rules) (first second : ℕ) (events : List At) → rules.window ≤ 2048 → NoneLost events → AreWhole (after rules (opened rules first second) events) }
 {}

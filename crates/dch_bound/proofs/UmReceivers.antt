@@ -3,9 +3,9 @@ use Rattle.std.proofs.Common.{◌≡◌, ◌≤◌, ◌+◌, ◌-◌, ◌*◌, �
 use Rattle.std.specs.Prelude.{◌==◌}
 use Rattle.std.proofs.lemmas.Bool.{cond_both}
 use Rattle.dch_rlcpdu.specs.declared.handed.PduError.{PduError}
-use Rattle.dch_rlcpdu.specs.declared.marks.Mode.TheVariants.{Unacknowledged}
+use Rattle.dch_rlcpdu.specs.declared.indicators.Mode.TheVariants.{Unacknowledged}
 use Rattle.dch_rlcpdu.specs.declared.um.UmView.{UmView}
-use Rattle.dch_rlcpdu.specs.Marks.{mark_of}
+use Rattle.dch_rlcpdu.specs.Indicators.{indicator_of}
 use Rattle.dch_rlcpdu.specs.Parts.{Content, begins_with, leading, parts_of, total_of}
 use Rattle.dch_rlcpdu.specs.Split.{body_reading}
 use Rattle.dch_rlcpdu.specs.Um.{um_reading, um_view}
@@ -40,8 +40,8 @@ held_ended r = omega (arith, ended_by r.known r.part r.waiting)
 held_numbered : (sn : ℕ) (r : Receiving) → held (after_number sn r) ≤ held r
 held_numbered sn r = cond_both {A = Receiving} (sn == r.vr_us) r (dropped false r) (λ q. held q ≤ held r) (λ _. omega arith) (λ _. omega arith)
 
-held_first : (marks : List ℕ) (r : Receiving) → held (after_first marks r) ≤ held r + 6 * leading marks
-held_first marks r = go (begins_with 0 marks) (begins_with 124 marks)
+held_first : (indicators : List ℕ) (r : Receiving) → held (after_first indicators r) ≤ held r + 6 * leading indicators
+held_first indicators r = go (begins_with 0 indicators) (begins_with 124 indicators)
   where
     go : (c e : Bool) → held (cond c (ended r) (cond e (dropped true r) r)) ≤ held r + 6 * cond (c || e) 1 0
     go true e = omega (arith, held_ended r)
@@ -57,8 +57,8 @@ held_parts (p ∷ q ∷ ps) r = omega (arith, held_parts (q ∷ ps) (ended (adde
 pub held_pdu : (size : ℕ) (v : UmView) (r : Receiving) → IsContent size v.body → held (after_pdu v r) ≤ held r + 9 * size
 held_pdu size v r is =
     let numbered : Receiving = after_number v.sn r in
-    let first : Receiving = after_first v.body.marks numbered in
-    omega (arith, held_numbered v.sn r, held_first v.body.marks numbered, held_parts (parts_of v.body) first, is.parts, is.octets, is.marks, is.few)
+    let first : Receiving = after_first v.body.indicators numbered in
+    omega (arith, held_numbered v.sn r, held_first v.body.indicators numbered, held_parts (parts_of v.body) first, is.parts, is.octets, is.indicators, is.few)
 
 -- what a PDU of at most 125 octets holds
 abbrev pub IsFew : Result UmView PduError → Type 0
@@ -69,6 +69,6 @@ pub reading_few : (p : List ℕ) → length p ≤ 125 → IsFew (um_reading p)
 reading_few [] few = tt
 reading_few (octet ∷ p) few = go (body_reading Unacknowledged (octet % 2 == 1) p) refl
   where
-    go : (r : Result Content PduError) → body_reading Unacknowledged (octet % 2 == 1) p ≡ r → IsFew (um_view (mark_of octet) r)
+    go : (r : Result Content PduError) → body_reading Unacknowledged (octet % 2 == 1) p ≡ r → IsFew (um_view (indicator_of octet) r)
     go (Err e) is = tt
     go (Ok c) is = content_read Unacknowledged (octet % 2 == 1) p c 124 (omega arith) is

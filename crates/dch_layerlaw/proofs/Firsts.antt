@@ -1,4 +1,4 @@
--- Where just the first PDUs arrive, the known units are those whose end marks lie in them.
+-- Where just the first PDUs arrive, the known units are those whose length indicators lie in them.
 use Rattle.std.proofs.Common.{◌≡◌, ◌+◌, ◌-◌, ◌<◌, ◌≤◌, ℕ, zero, suc, List, [], ◌∷◌, ◌++◌, Bool, true, false, cond, length, take, arith, refl, ap, ap₂, ◌∙◌, ⊎_elim}
 use Rattle.std.specs.Prelude.{◌&&◌, ◌||◌, ◌==◌, not, nat_lt}
 use Rattle.std.specs.List.{list_all, list_any}
@@ -24,7 +24,7 @@ next_none arrives k a = record { arrived = λ j l h. absurd (omega (arith, l, h)
 pub first_below : (n : ℕ) → AreFirst (λ j. nat_lt j n) 0 n
 first_below n = record { arrived = λ j l h. lt-ltb j n (omega (arith, h)); lost = λ j l. le-ltb j n (omega (arith, l)) }
 
--- the marks that are brought
+-- the indicators that are brought
 brings_first : (arrives : ℕ → Bool) (k m : ℕ) (before : Bool) (e : ℕ) (ps : List Pdu) → AreFirst arrives k m → list_any (brings_end e) (sent_from arrives k before ps) ≡ list_any (has_end e) (take m ps)
 brings_first arrives k zero before e [] a = refl
 brings_first arrives k (suc m) before e [] a = refl

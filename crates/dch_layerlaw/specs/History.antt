@@ -93,7 +93,7 @@ is_mine config dir b i block = is_to b (receiver config dir i block)
 abbrev pub AreLeft : Config → Dir → ℕ → ℕ → Log → List Block → Type 0
 AreLeft config dir b i log line = (rest : List (List Bit)) → log.given ≡ log.taken ++ rest → length line ≡ length (filter (is_mine config dir b i) rest)
 
--- there is a history of which they are the ends, in which nothing is lost: handed up are, in order, the accepted units whose end mark was sent
+-- there is a history of which they are the ends, in which nothing is lost: handed up are, in order, the accepted units whose length indicator was sent
 -- before the blocks that are still in flight
 pub record IsWholeHistory (config : Config) (out into : Dir) (b up down : ℕ) (w : World) : Type 0 where
   pub events : List At

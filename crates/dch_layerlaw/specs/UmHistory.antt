@@ -99,7 +99,7 @@ got_lines dir b (unit ∷ units) = Got dir b unit ∷ got_lines dir b units
 abbrev pub pdus_of : Sends → List Pdu
 pdus_of s = pdus (s.sending.pdu - 1) s.sending.mark_start (sizes s.accepted) s.cuts
 
--- where all blocks came but these, which are on their way, all lines on the bearer are, in order, the accepted units whose end mark lies in the PDUs that came
+-- where all blocks came but these, which are on their way, all lines on the bearer are, in order, the accepted units whose length indicator lies in the PDUs that came
 pub record IsUmCarried (config : Config) (dir : Dir) (b i : ℕ) (from : Layer) (said : List Line) (running : List (List Bit)) : Type 0 where
   pub sends : Sends
   pub receiving : Receiving

@@ -27,7 +27,7 @@ pub fn am_history_law()
 {}
 
 /// A law. Where besides, after each event, what was taken of the two channels begins what was given to them, nothing is lost in that history:
-/// handed up at each end are just the accepted units of the other one, in order, whose end mark was sent in the blocks that were taken.
+/// handed up at each end are just the accepted units of the other one, in order, whose length indicator was sent in the blocks that were taken.
 ///
 /// And so over two parts where all that was given to the two channels in the first part was taken there.
 pub fn whole_law()
@@ -41,7 +41,7 @@ pub fn whole_law()
 
 /// A law. Two ends do whatever they like, and at last the good blocks that were taken of a channel of an unacknowledged bearer are some of those
 /// that were given to it, in order. Then some of the PDUs that its sender built were taken, in order; and where fewer than 128 successive ones were
-/// lost before each that came, all lines on the bearer are, in order, the units whose octets and end mark all came and whose start is known.
+/// lost before each that came, all lines on the bearer are, in order, the units whose octets and length indicator all came and whose start is known.
 ///
 /// And so of its channels in two parts: PDUs that were given in the first part and not taken there are lost.
 pub fn um_law()
@@ -54,7 +54,7 @@ pub fn um_law()
 {}
 
 /// A law. Where all blocks that were given to the channel of an unacknowledged bearer were taken but the last ones, which are on their way, all
-/// lines on the bearer are, in order, the accepted units whose end mark lies in the PDUs that came, which are all but those on their way. In two
+/// lines on the bearer are, in order, the accepted units whose length indicator lies in the PDUs that came, which are all but those on their way. In two
 /// parts all blocks of the first one were taken there.
 pub fn um_whole_law()
     ensures one { (config : Config) (out into : Dir) (b i : ℕ) (events : List At) (w : World) (running : List (List Bit)) →

@@ -1,6 +1,6 @@
 -- What an end builds, as a block and as octets, and what it does to the other end.
 use Rattle.std.proofs.Common.{◌≡◌, ◌+◌, ◌-◌, ◌*◌, ◌<◌, ◌≤◌, ℕ, List, Bool, true, false, Option, Some, None, Ok, arith, ap, ◌∙◌, refl}
-use Rattle.dch_am.specs.Bodies.{Body, carried, marks_of}
+use Rattle.dch_am.specs.Bodies.{Body, carried, indicators_of}
 use Rattle.dch_am.specs.Building.{Choice, Again, New, Last, NoPdu, body_of_choice, choice, is_pdu, polls_at}
 use Rattle.dch_am.specs.Contents.{body_in}
 use Rattle.dch_am.specs.Entities.{Come, DataPdu, Entity, IsWritten, Turn, Tells, Moves, Sends, Rests, step, turn, writes}
@@ -37,7 +37,7 @@ IsSent d out (Some b) = IsWire d out b
 wrapped_small : (k : ℕ) → wrapped k < 4096
 wrapped_small k = omega arith
 
-payload_is : (d k : ℕ) (out : List ℕ) (poll : Bool) (b : Body) → d ≤ 124 → out ≡ am_pdu (wrapped k) poll (marks_of d b) (carried b) (d + 2) → IsShort d b → IsPayload d out k poll b
+payload_is : (d k : ℕ) (out : List ℕ) (poll : Bool) (b : Body) → d ≤ 124 → out ≡ am_pdu (wrapped k) poll (indicators_of d b) (carried b) (d + 2) → IsShort d b → IsPayload d out k poll b
 payload_is d k out poll b small e is = record {
   read = ap am_reading e ∙ read_is (wrapped k) d poll b (wrapped_small k) small is;
   same = body_is d b small is;

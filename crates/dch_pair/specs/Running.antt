@@ -79,7 +79,7 @@ pub record IsOutcome (o : Outcome) (p : Pair) : Type 0 where
   pub first : IsRecord o.first p.near
   pub second : IsRecord o.second p.far
 
--- handed up at an end are those accepted units of the other end that were picked, in order; and each unit whose end mark lies below the
+-- handed up at an end are those accepted units of the other end that were picked, in order; and each unit whose length indicator lies below the
 -- lowest number that is missing is among them or was discarded
 pub record IsDelivered (from to : End) (units : List (List ℕ)) : Type 0 where
   pub in_order : units ≡ picked from.entity.sender.bodies to.spans 0 from.entity.sender.accepted

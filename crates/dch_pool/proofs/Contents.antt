@@ -1,4 +1,4 @@
--- The contents of a pool by its region and marks.
+-- The contents of a pool by its region and flags.
 use Rattle.std.proofs.Common.{◌≡◌, ℕ, zero, suc, ◌+◌, ◌*◌, ◌<◌, ◌≤◌, List, [], ◌∷◌, ◌++◌, length, get_or, take, drop, Bool, true, false, not, cond, Option, Some, None, arith, refl, ap, sym, ◌∙◌, append_assoc}
 use Rattle.std.specs.Prelude.{IsSome, unwrap_or, count_by, is_none, replicate, if◌then◌else◌}
 use Rattle.std.proofs.Math.ListN.{set}

@@ -7,7 +7,7 @@ use Rattle.std.proofs.Math.Seq.{get_or-append_seam}
 use Rattle.dch_pool.specs.Blocks.{Takes, overwritten}
 use Rattle.dch_pool.specs.Held.{contents_of, IsHeld}
 use Rattle.dch_pool.proofs.Contents.{Holds, length-contents_of, contents_of-written, lent-within, spare-at, whole-written, length-cleared, length-overwritten, held-is}
-use Rattle.dch_pool.proofs.Marks.{spare-inside, same-mark, IsHeld-taken}
+use Rattle.dch_pool.proofs.Flags.{spare-inside, same-flag, IsHeld-taken}
 
 -- the block of the last spare number is marked as spare, and is there
 pub record IsSpare (size : ℕ) (region : List ℕ) (lent : List Bool) (n : ℕ) : Type 0 where
@@ -45,7 +45,7 @@ pub Takes-lent : (size : ℕ) (region : List ℕ) (lent : List Bool) (n : ℕ) �
     → Takes (record { size = size; contents = contents_of size region lent }) (record { size = size; contents = contents_of size (cleared size region n) (set lent n true) }) n
 Takes-lent size region lent n at = record {
   there = rw (length-contents_of size region lent) at.inside;
-  was = spare-at size region lent n (same-mark lent n false true at.inside ∙ at.marked);
+  was = spare-at size region lent n (same-flag lent n false true at.inside ∙ at.marked);
   now = ap (λ contents. record { size = size; contents = contents }) (contents_of-written size region lent n (replicate size 0) (length-replicate size 0) at.inside at.within);
 }
 
@@ -62,4 +62,4 @@ contents_of-overwritten size len region lent n at octets held new marked there w
     let same : length new ≡ length region = ap length written ∙ length-cleared (n * size) size region (overwritten part at octets) as_long within in
     let again : set lent n true ≡ lent = subst (λ b. set lent n b ≡ lent) marked (set-get_or lent n false) in
     let block = contents_of-written size region lent n (overwritten part at octets) as_long there within in
-    rw (whole-written len region new sized same, is_part, written) (subst (λ marks. contents_of size (take (n * size) region ++ (overwritten part at octets ++ drop (n * size + size) region)) marks ≡ set (contents_of size region lent) n (Some (overwritten part at octets))) again block)
+    rw (whole-written len region new sized same, is_part, written) (subst (λ flags. contents_of size (take (n * size) region ++ (overwritten part at octets ++ drop (n * size + size) region)) flags ≡ set (contents_of size region lent) n (Some (overwritten part at octets))) again block)

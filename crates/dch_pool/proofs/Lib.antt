@@ -1,5 +1,5 @@
 pub mod Contents
+pub mod Flags
 pub mod Lending
 pub mod Lent
-pub mod Marks
 pub mod Spreading

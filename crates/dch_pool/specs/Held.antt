@@ -1,4 +1,4 @@
--- How a pool is held: one region of octets, a mark for each block, and the numbers of the spare ones.
+-- How a pool is held: one region of octets, a flag for each block, and the numbers of the spare ones.
 use Rattle.std.specs.Prelude.{◌≡◌, ◌<◌, ◌≤◌, ◌*◌, ◌^◌, ℕ, List, [], ◌∷◌, Bool, true, false, not, Option, Some, None, length, take, drop, count_by, slice_index, slice_index_or, if◌then◌else◌}
 
 -- the octets of the blocks that are lent, where the blocks stand one after another

@@ -54,12 +54,12 @@ pub fn numbers(alloc: Global, count: usize) -> Result<Vec<u16>, NoMemory>
     Ok(numbers)
 }
 
-/// A mark for each of so many blocks, of which none is lent.
-pub fn marks(alloc: Global, count: usize) -> Result<Vec<bool>, NoMemory>
+/// A flag for each of so many blocks, of which none is lent.
+pub fn flags(alloc: Global, count: usize) -> Result<Vec<bool>, NoMemory>
     ensures { IfOk result (λ v. v.items ≡ replicate count false) }
 {
     match vec![in alloc; false; count] {
-        Ok(marks) => Ok(marks),
+        Ok(flags) => Ok(flags),
         Err(_) => Err(NoMemory),
     }
 }

@@ -3,7 +3,7 @@ ghost use Rattle.std.specs.Borrow.{sem};
 ghost use Rattle.dch_pool.specs.Blocks.{spare_of, IsLent, octets_of, with_octets, written, without, Takes};
 ghost use Rattle.dch_pool.specs.Lending.{LendsBlock, with_written};
 
-use crate::parts::{clear, marks, numbers, octets, overwrite, part};
+use crate::parts::{clear, flags, numbers, octets, overwrite, part};
 use dch_bits::NoMemory;
 use std::alloc::Global;
 use std::marker::Model;
@@ -53,7 +53,7 @@ impl Pool {
             return Err(NoMemory);
         }
         let region = octets(alloc, blocks, size)?;
-        let lent = marks(alloc, blocks)?;
+        let lent = flags(alloc, blocks)?;
         let spare = numbers(alloc, blocks)?;
         Ok(Pool {
             size,

@@ -114,7 +114,7 @@ sent_then : (after narrow (opened narrow 24 29) (offered_on ++ Near Arrive ∷ N
 unfolding narrow offered_on six ten
 sent_then = refl
 
--- three PDUs of which none resets anything: full, with two marks, and with the rest
+-- three PDUs of which none resets anything: full, with two indicators, and with the rest
 plain : Rules
 plain = record { window = 128; buffer = 8; poll_pdus = 0; poll_units = 0; poll_window = 0; poll_timer = 0; missing = false; status_period = 0; status_prohibit = 0; discard_age = 0; discard_sent = 0; discard_repeat = 30 }
 

@@ -32,12 +32,12 @@ abbrev pub AllAre : ℕ → List ℕ → Type 0
 AllAre n [] = Unit {0}
 AllAre n (x ∷ xs) = (x ≡ n) × AllAre n xs
 
--- each unit of a sender with its end mark below a number is handed up, by these spans, or it was discarded
+-- each unit of a sender with its length indicator below a number is handed up, by these spans, or it was discarded
 abbrev pub NoneMissing : Sender → List (ℕ × ℕ) → ℕ → Type 0
 NoneMissing s spans missing = (i : ℕ) → i < ends (take missing s.bodies) → (in_span s.bodies spans i ≡ true) ⊎ (has i s.discarded_units ≡ true)
 
 -- a stretch is one of this label: all that it took carries the label; handed up are, in order, the units of the label that were picked; and
--- each of these units whose end mark lies below the missing number was handed up or discarded
+-- each of these units whose length indicator lies below the missing number was handed up or discarded
 pub record IsStretch (from : ResetEnd) (label : ℕ) (s : Stretch) : Type 0 where
   pub one_label : AllAre label s.labels
   pub in_order : s.units ≡ picked (sender_at from label).bodies s.spans 0 (sender_at from label).accepted

@@ -11,7 +11,7 @@ use Rattle.dch_retx.specs.StatusItems.{StatusItem}
 use Rattle.dch_retx.specs.StatusItem.{ending_of, ends_at, ends_with, first_ending, or_else}
 use Rattle.dch_retx.specs.StatusItems.{bits_from, missing_of, said_by, said_in}
 use Rattle.dch_retx.specs.declared.buffer.Running.{Running}
-use Rattle.dch_retx.specs.Telling.{ends_by, ends_with_mark}
+use Rattle.dch_retx.specs.Telling.{ends_by, ends_with_indicator}
 
 pub or_none : (o : Option ℕ) → or_else o None ≡ o
 or_none None = refl
@@ -25,28 +25,28 @@ or_twice : (o p q : Option ℕ) → or_else o (or_else p q) ≡ or_else (or_else
 or_twice None p q = refl
 or_twice (Some i) p q = refl
 
-ending-append : (first count k mark : ℕ) (xs ys : List StatusItem) → first_ending first count k mark (xs ++ ys) ≡ or_else (first_ending first count k mark xs) (first_ending first count k mark ys)
-ending-append first count k mark [] ys = refl
-ending-append first count k mark (x ∷ xs) ys = ap (or_else (ends_with first count k mark x)) (ending-append first count k mark xs ys) ∙ or_twice (ends_with first count k mark x) (first_ending first count k mark xs) (first_ending first count k mark ys)
+ending-append : (first count k indicator : ℕ) (xs ys : List StatusItem) → first_ending first count k indicator (xs ++ ys) ≡ or_else (first_ending first count k indicator xs) (first_ending first count k indicator ys)
+ending-append first count k indicator [] ys = refl
+ending-append first count k indicator (x ∷ xs) ys = ap (or_else (ends_with first count k indicator x)) (ending-append first count k indicator xs ys) ∙ or_twice (ends_with first count k indicator x) (first_ending first count k indicator xs) (first_ending first count k indicator ys)
 
-ending-list : (first count k mark : ℕ) (ns : List ℕ) → first_ending first count k mark (map missing_of ns) ≡ None
-ending-list first count k mark [] = refl
-ending-list first count k mark (n ∷ ns) = ending-list first count k mark ns
+ending-list : (first count k indicator : ℕ) (ns : List ℕ) → first_ending first count k indicator (map missing_of ns) ≡ None
+ending-list first count k indicator [] = refl
+ending-list first count k indicator (n ∷ ns) = ending-list first count k indicator ns
 
-ending-bits : (first count k mark from : ℕ) (bits : List Bool) → first_ending first count k mark (bits_from from bits) ≡ None
-ending-bits first count k mark from [] = refl
-ending-bits first count k mark from (true ∷ bits) = ending-bits first count k mark (from + 1) bits
-ending-bits first count k mark from (false ∷ bits) = ending-bits first count k mark (from + 1) bits
+ending-bits : (first count k indicator from : ℕ) (bits : List Bool) → first_ending first count k indicator (bits_from from bits) ≡ None
+ending-bits first count k indicator from [] = refl
+ending-bits first count k indicator from (true ∷ bits) = ending-bits first count k indicator (from + 1) bits
+ending-bits first count k indicator from (false ∷ bits) = ending-bits first count k indicator (from + 1) bits
 
 -- one field
-ending-field : (first count k mark : ℕ) (field : Field) → first_ending first count k mark (said_in field) ≡ ends_with_mark first count k mark (sufi_of field)
-ending-field first count k mark NoMoreField = refl
-ending-field first count k mark (WindowField size) = refl
-ending-field first count k mark (AckField lsn) = refl
-ending-field first count k mark (ListField pairs) = ending-list first count k mark (named pairs)
-ending-field first count k mark (BitmapField from bits) = ending-bits first count k mark from bits
-ending-field first count k mark (MrwField last n) = refl
-ending-field first count k mark (MrwAckField n sn) = or_none (ends_at first count k mark n sn)
+ending-field : (first count k indicator : ℕ) (field : Field) → first_ending first count k indicator (said_in field) ≡ ends_with_indicator first count k indicator (sufi_of field)
+ending-field first count k indicator NoMoreField = refl
+ending-field first count k indicator (WindowField size) = refl
+ending-field first count k indicator (AckField lsn) = refl
+ending-field first count k indicator (ListField pairs) = ending-list first count k indicator (named pairs)
+ending-field first count k indicator (BitmapField from bits) = ending-bits first count k indicator from bits
+ending-field first count k indicator (MrwField last n) = refl
+ending-field first count k indicator (MrwAckField n sn) = or_none (ends_at first count k indicator n sn)
 
 -- the first of fields, and those behind it
 ending-fields : (first count : ℕ) (running : Option Running) (fields : List Field) → (length fields == 0) ≡ false → ending_of first count running (said_by fields) ≡ or_else (ends_by first count running (sufi_of (get_or fields 0 NoMoreField))) (ending_of first count running (said_by (drop 1 fields)))

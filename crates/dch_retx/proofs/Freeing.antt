@@ -99,12 +99,12 @@ raised_cond low true x y = refl
 raised_cond low false x y = refl
 
 -- the two tests, where the place is known
-tests : (low n k d_k o mark a_n : ℕ) → low + k ≡ d_k → raised low (cond ((o == 0) && (a_n == mark)) (Some k) (cond (nat_lt 0 o && nat_le (k + o) n && (a_n == 0)) (Some (k + o)) None)) ≡ cond ((o == 0) && (a_n == mark)) (Some d_k) (cond (nat_lt 0 o && nat_le (d_k + o) (low + n) && (a_n == 0)) (Some (d_k + o)) None)
-tests low n k d_k o mark a_n e =
+tests : (low n k d_k o indicator a_n : ℕ) → low + k ≡ d_k → raised low (cond ((o == 0) && (a_n == indicator)) (Some k) (cond (nat_lt 0 o && nat_le (k + o) n && (a_n == 0)) (Some (k + o)) None)) ≡ cond ((o == 0) && (a_n == indicator)) (Some d_k) (cond (nat_lt 0 o && nat_le (d_k + o) (low + n) && (a_n == 0)) (Some (d_k + o)) None)
+tests low n k d_k o indicator a_n e =
     let sum : low + (k + o) ≡ d_k + o = omega arith in
     let test : nat_le (k + o) n ≡ nat_le (d_k + o) (low + n) = same (k + o) n (d_k + o) low sum in
-    raised_cond low ((o == 0) && (a_n == mark)) (Some k) (cond (nat_lt 0 o && nat_le (k + o) n && (a_n == 0)) (Some (k + o)) None)
-    ∙ ap₂ (λ x y. cond ((o == 0) && (a_n == mark)) x y) (ap Some e) (raised_cond low (nat_lt 0 o && nat_le (k + o) n && (a_n == 0)) (Some (k + o)) None ∙ ap₂ (λ b x. cond (nat_lt 0 o && b && (a_n == 0)) (Some x) None) test sum)
+    raised_cond low ((o == 0) && (a_n == indicator)) (Some k) (cond (nat_lt 0 o && nat_le (k + o) n && (a_n == 0)) (Some (k + o)) None)
+    ∙ ap₂ (λ x y. cond ((o == 0) && (a_n == indicator)) x y) (ap Some e) (raised_cond low (nat_lt 0 o && nat_le (k + o) n && (a_n == 0)) (Some (k + o)) None ∙ ap₂ (λ b x. cond (nat_lt 0 o && b && (a_n == 0)) (Some x) None) test sum)
   where
     same : (a n b low : ℕ) → low + a ≡ b → nat_le a n ≡ nat_le b (low + n)
     same a n b low e = grind (arith, nat_tests)
@@ -112,10 +112,10 @@ tests low n k d_k o mark a_n e =
 place_is : (low first k d_k sn : ℕ) → first ≡ wrapped low → low + k ≡ d_k → place_of (wrapped (first + k)) sn ≡ ahead d_k sn
 place_is low first k d_k sn e1 e2 = omega arith
 
-ends_is : (low n next first k mark sn a_n : ℕ) (d : Discard) → next ≡ low + n → first ≡ wrapped low → low + k ≡ d.k → mark ≡ d.n → raised low (ends_at first n k mark a_n sn) ≡ ended_at next (Some d) (record { number = sn; n = a_n })
-ends_is low n next first k mark sn a_n d e1 e2 e3 e4 =
-    ap (λ o. raised low (cond ((o == 0) && (a_n == mark)) (Some k) (cond (nat_lt 0 o && nat_le (k + o) n && (a_n == 0)) (Some (k + o)) None))) (place_is low first k d.k sn e2 e3)
-    ∙ (tests low n k d.k (ahead d.k sn) mark a_n e3
+ends_is : (low n next first k indicator sn a_n : ℕ) (d : Discard) → next ≡ low + n → first ≡ wrapped low → low + k ≡ d.k → indicator ≡ d.n → raised low (ends_at first n k indicator a_n sn) ≡ ended_at next (Some d) (record { number = sn; n = a_n })
+ends_is low n next first k indicator sn a_n d e1 e2 e3 e4 =
+    ap (λ o. raised low (cond ((o == 0) && (a_n == indicator)) (Some k) (cond (nat_lt 0 o && nat_le (k + o) n && (a_n == 0)) (Some (k + o)) None))) (place_is low first k d.k sn e2 e3)
+    ∙ (tests low n k d.k (ahead d.k sn) indicator a_n e3
     ∙ ap₂ (λ m x. cond ((ahead d.k sn == 0) && (a_n == m)) (Some d.k) (cond (nat_lt 0 (ahead d.k sn) && nat_le (d.k + ahead d.k sn) x && (a_n == 0)) (Some (d.k + ahead d.k sn)) None)) e4 (sym e1))
 
 -- the sender after the MRW_ACKs that are said
@@ -157,8 +157,8 @@ acks_by low n next first r s d (Set x ∷ said) f = acks_by low n next first r s
 acks_by low n next first r s d (Below x ∷ said) f = acks_by low n next first r s d said f
 
 -- it frees no more than are in flight
-at_le : (first n k mark a_n sn m : ℕ) → k < n → ends_at first n k mark a_n sn ≡ Some m → m ≤ n
-at_le first n k mark a_n sn m l e = go ((place_of (wrapped (first + k)) sn == 0) && (a_n == mark)) (nat_lt 0 (place_of (wrapped (first + k)) sn)) (nat_le (k + place_of (wrapped (first + k)) sn) n) (a_n == 0) refl e
+at_le : (first n k indicator a_n sn m : ℕ) → k < n → ends_at first n k indicator a_n sn ≡ Some m → m ≤ n
+at_le first n k indicator a_n sn m l e = go ((place_of (wrapped (first + k)) sn == 0) && (a_n == indicator)) (nat_lt 0 (place_of (wrapped (first + k)) sn)) (nat_le (k + place_of (wrapped (first + k)) sn) n) (a_n == 0) refl e
   where
     go : (a b c d : Bool) → nat_le (k + place_of (wrapped (first + k)) sn) n ≡ c → cond a (Some k) (cond (b && c && d) (Some (k + place_of (wrapped (first + k)) sn)) None) ≡ Some m → m ≤ n
     go true b c d q e = let s : k ≡ m = cc in omega arith
@@ -167,17 +167,17 @@ at_le first n k mark a_n sn m l e = go ((place_of (wrapped (first + k)) sn == 0)
     go false true false d q e = absurd (cc)
     go false false c d q e = absurd (cc)
 
-ending_le : (first n k mark m : ℕ) (said : List StatusItem) → k < n → first_ending first n k mark said ≡ Some m → m ≤ n
-ending_le first n k mark m [] l e = absurd (cc)
-ending_le first n k mark m (Obeyed a_n sn ∷ said) l e = go (ends_at first n k mark a_n sn) refl e (λ q. ending_le first n k mark m said l q)
+ending_le : (first n k indicator m : ℕ) (said : List StatusItem) → k < n → first_ending first n k indicator said ≡ Some m → m ≤ n
+ending_le first n k indicator m [] l e = absurd (cc)
+ending_le first n k indicator m (Obeyed a_n sn ∷ said) l e = go (ends_at first n k indicator a_n sn) refl e (λ q. ending_le first n k indicator m said l q)
   where
-    go : (o : Option ℕ) → ends_at first n k mark a_n sn ≡ o → or_else o (first_ending first n k mark said) ≡ Some m → (first_ending first n k mark said ≡ Some m → m ≤ n) → m ≤ n
+    go : (o : Option ℕ) → ends_at first n k indicator a_n sn ≡ o → or_else o (first_ending first n k indicator said) ≡ Some m → (first_ending first n k indicator said ≡ Some m → m ≤ n) → m ≤ n
     go None q e rest = rest e
-    go (Some x) q e rest = at_le first n k mark a_n sn m l (q ∙ e)
-ending_le first n k mark m (Missing x ∷ said) l e = ending_le first n k mark m said l e
-ending_le first n k mark m (Unset x ∷ said) l e = ending_le first n k mark m said l e
-ending_le first n k mark m (Set x ∷ said) l e = ending_le first n k mark m said l e
-ending_le first n k mark m (Below x ∷ said) l e = ending_le first n k mark m said l e
+    go (Some x) q e rest = at_le first n k indicator a_n sn m l (q ∙ e)
+ending_le first n k indicator m (Missing x ∷ said) l e = ending_le first n k indicator m said l e
+ending_le first n k indicator m (Unset x ∷ said) l e = ending_le first n k indicator m said l e
+ending_le first n k indicator m (Set x ∷ said) l e = ending_le first n k indicator m said l e
+ending_le first n k indicator m (Below x ∷ said) l e = ending_le first n k indicator m said l e
 
 -- the line after the MRW_ACKs, and how many have left
 pub record HasMoved (rules : Rules) (l : RetxBuffer) (s : Sender) (o : Option ℕ) (t : Sender) : Type 0 where

@@ -12,7 +12,7 @@ use Rattle.dch_am.specs.Acknowledging.{floor}
 use Rattle.dch_am.specs.Discards.{after_mrw, discards_at, mrw_due}
 use Rattle.dch_am.proofs.Lists.{has-less, has-below}
 use Rattle.dch_retx.specs.declared.buffer.Running.{Running}
-use Rattle.dch_retx.specs.RetxBuffer.{RetxBuffer, discarding, is_due, mark_in, moving, number_at, place_in, repeating, run_timer, ticked}
+use Rattle.dch_retx.specs.RetxBuffer.{RetxBuffer, discarding, is_due, n_length_in, moving, number_at, place_in, repeating, run_timer, ticked}
 use Rattle.dch_retx.specs.Standing.{IsInFlight, IsPolled, IsRunning, IsRequested, Stands, timed, timer_of}
 use Rattle.dch_retx.proofs.Naming.{at-changed_below}
 
@@ -148,9 +148,9 @@ moves_stand rules l s d is e = record {
 pub number_is : (rules : Rules) (l : RetxBuffer) (s : Sender) (place : ℕ) → place ≤ length l.in_flight → Stands rules l s → number_at place l ≡ wrapped (vt_a s + place)
 number_is rules l s place le is = omega (arith, is.flying, is.next, is.few, is.most)
 
-mrw_by : (rules : Rules) (l : RetxBuffer) (s : Sender) (r : Option Running) (d : Discard) → IsRunning r (Some d) (vt_a s) (length l.in_flight) → Stands rules l s → (number_at (place_in r) l ≡ wrapped d.k) × (mark_in r ≡ d.n)
+mrw_by : (rules : Rules) (l : RetxBuffer) (s : Sender) (r : Option Running) (d : Discard) → IsRunning r (Some d) (vt_a s) (length l.in_flight) → Stands rules l s → (number_at (place_in r) l ≡ wrapped d.k) × (n_length_in r ≡ d.n)
 mrw_by rules l s None d is stands = absurd is
 mrw_by rules l s (Some r) d is stands = (number_is rules l s r.at (omega (arith, is.inside)) stands ∙ ap wrapped is.k, is.n)
 
-pub mrw_is : (rules : Rules) (l : RetxBuffer) (s : Sender) (d : Discard) → Stands rules l s → s.discard ≡ Some d → (number_at (place_in l.running) l ≡ wrapped d.k) × (mark_in l.running ≡ d.n)
+pub mrw_is : (rules : Rules) (l : RetxBuffer) (s : Sender) (d : Discard) → Stands rules l s → s.discard ≡ Some d → (number_at (place_in l.running) l ≡ wrapped d.k) × (n_length_in l.running ≡ d.n)
 mrw_is rules l s d is e = mrw_by rules l s l.running d (subst (λ x. IsRunning l.running x (vt_a s) (length l.in_flight)) e is.running) is

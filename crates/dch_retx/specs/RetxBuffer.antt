@@ -132,7 +132,7 @@ run_timer (Some r) = Some (record r { due = r.due || (r.mrw_timer == 1); mrw_tim
 abbrev pub ticked : RetxBuffer → RetxBuffer
 ticked l = record l { poll_timer = l.poll_timer - 1; owed = l.owed || (l.poll_timer == 1); running = run_timer l.running }
 
--- a discard begins with this PDU in flight and this mark: those before aren't requested
+-- a discard begins with this PDU in flight and this indicator: those before aren't requested
 abbrev pub discarding : ℕ → ℕ → RetxBuffer → RetxBuffer
 discarding place n l = record l { in_flight = changed_below request_cleared place l.in_flight; running = Some (record { at = place; n = n; due = true; mrw_timer = 0 }) }
 
@@ -149,11 +149,11 @@ repeating ticks (Some r) = Some (record r { due = false; mrw_timer = ticks })
 abbrev pub moving : RetxBuffer → RetxBuffer
 moving l = record l { running = repeating l.rules.discard_repeat l.running }
 
--- the number and the mark of the discard
+-- the number and the indicator of the discard
 abbrev pub place_in : Option Running → ℕ
 place_in None = 0
 place_in (Some r) = r.at
 
-abbrev pub mark_in : Option Running → ℕ
-mark_in None = 0
-mark_in (Some r) = r.n
+abbrev pub n_length_in : Option Running → ℕ
+n_length_in None = 0
+n_length_in (Some r) = r.n

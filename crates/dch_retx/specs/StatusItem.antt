@@ -100,22 +100,22 @@ reports_some (Unset x ∷ rest) = true
 reports_some (Set x ∷ rest) = true
 reports_some (Below x ∷ rest) = true
 
--- the place below which an MRW_ACK acknowledges all PDUs, where it ends the discard at a place and with a mark
+-- the place below which an MRW_ACK acknowledges all PDUs, where it ends the discard at a place and with an indicator
 abbrev pub ends_at : ℕ → ℕ → ℕ → ℕ → ℕ → ℕ → Option ℕ
-ends_at first count k mark n sn =
-    if (place_of (wrapped (first + k)) sn == 0) && (n == mark) then Some k
+ends_at first count k indicator n sn =
+    if (place_of (wrapped (first + k)) sn == 0) && (n == indicator) then Some k
     else (if nat_lt 0 (place_of (wrapped (first + k)) sn) && nat_le (k + place_of (wrapped (first + k)) sn) count && (n == 0) then Some (k + place_of (wrapped (first + k)) sn) else None)
 
 abbrev pub ends_with : ℕ → ℕ → ℕ → ℕ → StatusItem → Option ℕ
-ends_with first count k mark (Missing x) = None
-ends_with first count k mark (Unset x) = None
-ends_with first count k mark (Set x) = None
-ends_with first count k mark (Below x) = None
-ends_with first count k mark (Obeyed n sn) = ends_at first count k mark n sn
+ends_with first count k indicator (Missing x) = None
+ends_with first count k indicator (Unset x) = None
+ends_with first count k indicator (Set x) = None
+ends_with first count k indicator (Below x) = None
+ends_with first count k indicator (Obeyed n sn) = ends_at first count k indicator n sn
 
 abbrev pub first_ending : ℕ → ℕ → ℕ → ℕ → List StatusItem → Option ℕ
-first_ending first count k mark [] = None
-first_ending first count k mark (said ∷ rest) = or_else (ends_with first count k mark said) (first_ending first count k mark rest)
+first_ending first count k indicator [] = None
+first_ending first count k indicator (said ∷ rest) = or_else (ends_with first count k indicator said) (first_ending first count k indicator rest)
 
 -- the same for the discard that runs, if one does
 abbrev pub ending_of : ℕ → ℕ → Option Running → List StatusItem → Option ℕ

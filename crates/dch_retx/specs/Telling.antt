@@ -26,17 +26,17 @@ pub record IsPassed (now told : Told) (window first count : ℕ) (said : List St
 abbrev pub told_more : Told → Bool → ℕ → Told
 told_more told reports limit = record told { reports = told.reports || reports; limit = min told.limit limit }
 
--- the place below which a field acknowledges all PDUs, where it is an MRW_ACK that ends the discard at a place and with a mark
-abbrev pub ends_with_mark : ℕ → ℕ → ℕ → ℕ → Sufi → Option ℕ
-ends_with_mark first count k mark NoMore = None
-ends_with_mark first count k mark (Window size) = None
-ends_with_mark first count k mark (Ack lsn) = None
-ends_with_mark first count k mark (Runs pairs) = None
-ends_with_mark first count k mark (Bitmap from bits) = None
-ends_with_mark first count k mark (Mrw last n) = None
-ends_with_mark first count k mark (MrwAck n sn) = ends_at first count k mark n sn
+-- the place below which a field acknowledges all PDUs, where it is an MRW_ACK that ends the discard at a place and with an indicator
+abbrev pub ends_with_indicator : ℕ → ℕ → ℕ → ℕ → Sufi → Option ℕ
+ends_with_indicator first count k indicator NoMore = None
+ends_with_indicator first count k indicator (Window size) = None
+ends_with_indicator first count k indicator (Ack lsn) = None
+ends_with_indicator first count k indicator (Runs pairs) = None
+ends_with_indicator first count k indicator (Bitmap from bits) = None
+ends_with_indicator first count k indicator (Mrw last n) = None
+ends_with_indicator first count k indicator (MrwAck n sn) = ends_at first count k indicator n sn
 
 -- the same for the discard that runs
 abbrev pub ends_by : ℕ → ℕ → Option Running → Sufi → Option ℕ
 ends_by first count None field = None
-ends_by first count (Some r) field = ends_with_mark first count r.at r.n field
+ends_by first count (Some r) field = ends_with_indicator first count r.at r.n field

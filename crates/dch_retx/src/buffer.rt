@@ -13,7 +13,7 @@ ghost use Rattle.dch_am.specs.Sender.{Discard, Sender, vt_a, vt_s, opened_sender
 ghost use Rattle.dch_retx.specs.Standing.{AreKept, chosen, IsNew, Sends, Stands, timed};
 ghost use Rattle.dch_retx.specs.Polling.{again_line, again_poll, counted, crosses, is_far, last_line, last_poll, new_line, new_poll, picked, poll_of, sent_line};
 ghost use Rattle.dch_retx.specs.Telling.{IsTold};
-ghost use Rattle.dch_retx.specs.RetxBuffer.{after_ending, after_hearing, after_told, answer_of, first_number, number_at, outside_from, base_after, floor_of, freed, left_front, listened, opened_line, run_on, run_timer, repeating, ticked, discarding, is_due, moving, place_in, mark_in};
+ghost use Rattle.dch_retx.specs.RetxBuffer.{after_ending, after_hearing, after_told, answer_of, first_number, number_at, outside_from, base_after, floor_of, freed, left_front, listened, opened_line, run_on, run_timer, repeating, ticked, discarding, is_due, moving, place_in, n_length_in};
 
 use crate::flight::Flight;
 use crate::hear::{SentNumbers, outside};
@@ -27,7 +27,7 @@ use dch_types::AmRules;
 use std::alloc::Global;
 use std::marker::Model;
 
-/// A discard that runs: its PDU's place among those in flight, the place of its mark in it, and when an MRW is due.
+/// A discard that runs: its PDU's place among those in flight, the place of its indicator in it, and when an MRW is due.
 #[derive(Clone, Copy)]
 pub struct Running {
     pub at: u16,
@@ -313,10 +313,10 @@ impl RetxBuffer {
         self.running = run_timer(self.running);
     }
 
-    /// A discard begins with the PDU at a place and its mark `n`.
+    /// A discard begins with the PDU at a place and its indicator `n`.
     pub fn discard(&mut self, place: u16, n: u8)
         requires inside { place < length self.old.in_flight }
-        requires mark { n < 16 }
+        requires indicator { n < 16 }
         ensures after { self.new ≡ discarding place n self.old }
         ensures history { (rules : Rules) (s : Sender) (i : ℕ) → Stands rules self.old s → Stands rules self.new (discards_at s i (Some (vt_a s + place, n))) }
     {
@@ -325,7 +325,7 @@ impl RetxBuffer {
 
     fn begins(&mut self, place: u16, n: u8)
         requires inside { place < length self.old.in_flight }
-        requires mark { n < 16 }
+        requires indicator { n < 16 }
         ensures after { self.new ≡ discarding place n self.old }
     {
         self.flight.clear_request(place as usize);
@@ -354,10 +354,10 @@ impl RetxBuffer {
         }
     }
 
-    /// The 12-bit number and the mark of the running discard, which an MRW tells of.
+    /// The 12-bit number and the indicator of the running discard, which an MRW tells of.
     pub fn mrw(&self) -> MrwPlace
         requires { is_due self.now.running ≡ true }
-        ensures number { result ≡ (number_at (place_in self.now.running) self.now, mark_in self.now.running) }
+        ensures number { result ≡ (number_at (place_in self.now.running) self.now, n_length_in self.now.running) }
         ensures small { (result.0 < 4096) × (result.1 < 16) }
         ensures history { (rules : Rules) (s : Sender) (d : Discard) → Stands rules self.now s → s.discard ≡ Some d → (result.0 ≡ wrapped d.k) × (result.1 ≡ d.n) }
     {
@@ -366,7 +366,7 @@ impl RetxBuffer {
 
     fn moved_to(&self) -> MrwPlace
         requires { is_due self.now.running ≡ true }
-        ensures number { result ≡ (number_at (place_in self.now.running) self.now, mark_in self.now.running) }
+        ensures number { result ≡ (number_at (place_in self.now.running) self.now, n_length_in self.now.running) }
         ensures small { (result.0 < 4096) × (result.1 < 16) }
     {
         match self.running {

@@ -97,7 +97,7 @@ impl Flight {
         self.count -= one(was);
     }
 
-    /// The PDUs before a place are acknowledged, but for those that are marked as named missing. Their marks go.
+    /// The PDUs before a place are acknowledged, but for those that are marked as named missing, which are unmarked.
     pub fn acknowledge(&mut self, to: usize)
         requires { to ≤ length self.old.items }
         ensures { self.new ≡ buffer (changed_below acknowledged to self.old.items) self.old.capacity }

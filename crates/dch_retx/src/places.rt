@@ -39,7 +39,7 @@ pub fn name_at(ring: &mut HeapCircularBuffer<SentPdu>, i: usize, from: usize, to
     !was && pdu.requested
 }
 
-/// It is acknowledged, or loses its mark where it has one. Answers whether it was requested and isn't any more.
+/// It is acknowledged, or unmarked where it is marked. Answers whether it was requested and isn't any more.
 pub fn acknowledge_at(ring: &mut HeapCircularBuffer<SentPdu>, i: usize) -> bool
     requires { i < length ring.old.items }
     ensures cleared { result ≡ ((at ring.old.items i).requested && not (acknowledged (at ring.old.items i)).requested) }

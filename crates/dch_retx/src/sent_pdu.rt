@@ -18,7 +18,7 @@ pub struct Extent {
 #[derive(Clone, Copy)]
 pub struct SentPdu {
     pub extent: Extent,
-    /// The mark 0 stands first.
+    /// The indicator 0 stands first.
     pub full: bool,
     /// A length indicator of padding stands last.
     pub padded: bool,

@@ -197,7 +197,7 @@ fn ends_by(field: Sufi, sent: SentNumbers, running: Option<Running>) -> Option<u
     }
 }
 
-/// An MRW_ACK with the discard's own number and mark ends it, and one with a number behind and the mark 0.
+/// An MRW_ACK with the discard's own number and indicator ends it, and one with a number behind and the indicator 0.
 fn ends_at(sent: SentNumbers, running: Running, n: u8, sn: u16) -> Option<u16>
     requires sent { (sent.window ≤ 2048) × (sent.first < 4096) × (sent.count ≤ 2048) }
     requires place { running.at < sent.count }

@@ -36,8 +36,8 @@ fn fronts_of_a_pdu(rt: HostRuntime) {
     }
 }
 
-// The marks of PDUs of eight octets behind them, and whether they are good.
-fn marks() -> [([u8; 3], bool); 12] {
+// The indicators of PDUs of eight octets behind them, and whether they are good.
+fn indicators() -> [([u8; 3], bool); 12] {
     [
         ([5, 7, 127], true),
         ([0, 5, 7], true),
@@ -54,20 +54,20 @@ fn marks() -> [([u8; 3], bool); 12] {
     ]
 }
 
-fn with_marks(marks: [u8; 3]) -> [u8; 12] {
-    let [first, second, third] = marks.map(|mark| mark << 1);
+fn with_indicators(indicators: [u8; 3]) -> [u8; 12] {
+    let [first, second, third] = indicators.map(|indicator| indicator << 1);
     [0x01, first | 1, second | 1, third, 9, 9, 9, 9, 9, 9, 9, 9]
 }
 
 #[test]
-fn marks_in_wrong_places(rt: HostRuntime) {
-    for (marks, good) in marks() {
+fn indicators_in_wrong_places(rt: HostRuntime) {
+    for (indicators, good) in indicators() {
         let expected = if good {
             None
         } else {
             Some(PduError::Indicator)
         };
-        assert!(rt; refusal(&with_marks(marks)) == expected);
+        assert!(rt; refusal(&with_indicators(indicators)) == expected);
     }
 }
 

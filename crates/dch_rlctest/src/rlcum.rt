@@ -51,14 +51,14 @@ fn marked() -> [u8; 18] {
     ]
 }
 
-// The same without the mark of its start.
+// The same without the indicator of its start.
 fn plain() -> [u8; 18] {
     [
         0x01, 0x15, 0xfe, 0, 1, 2, 3, 4, 5, 6, 7, 8, 9, 0, 0, 0, 0, 0,
     ]
 }
 
-// PDU 0 without a mark, all of one unit.
+// PDU 0 without an indicator, all of one unit.
 fn just_full() -> [u8; 18] {
     let mut p = [7; 18];
     p[0] = 0;
@@ -68,12 +68,12 @@ fn just_full() -> [u8; 18] {
 #[test]
 fn units_of_pdus(rt: HostRuntime) -> Result<(), Fail> {
     let ten = Some((10, 0, 9));
-    // The mark 0 in PDU 1 ends the unit before it, and in PDU 2, after a loss, one of unknown start. A whole unit stands behind it.
-    let mark_0 = [0x03, 0x01, 0xfe, 0, 0, 0, 0, 0];
+    // The indicator 0 in PDU 1 ends the unit before it, and in PDU 2, after a loss, one of unknown start. A whole unit stands behind it.
+    let indicator_0 = [0x03, 0x01, 0xfe, 0, 0, 0, 0, 0];
     let behind_a_loss = [0x05, 0x05, 0x09, 0xfe, 7, 7, 8, 9];
-    assert!(rt; units_of(rt.alloc(), marked(), mark_0)? == [ten, None, None]);
+    assert!(rt; units_of(rt.alloc(), marked(), indicator_0)? == [ten, None, None]);
     assert!(rt; units_of(rt.alloc(), plain(), behind_a_loss)? == [ten, Some((2, 8, 9)), None]);
-    assert!(rt; units_of(rt.alloc(), just_full(), mark_0)? == [None, Some((17, 7, 7)), None]);
+    assert!(rt; units_of(rt.alloc(), just_full(), indicator_0)? == [None, Some((17, 7, 7)), None]);
     Ok(())
 }
 
@@ -170,7 +170,7 @@ fn padded(front: &[u8]) -> [u8; 18]
     p
 }
 
-// 32 PDUs of two octets, and one with the mark 0.
+// 32 PDUs of two octets, and one with the indicator 0.
 fn one_block() -> [Step; 7] {
     [
         Step::Offer(65, Offer::Full),

@@ -48,7 +48,7 @@ follows_all pdu mark_start sdus first first_owed start owed count follows many =
     let none : builds (64 - count) pdu mark_start (units_at sdus start owed) ≡ 0 = rw e (builds_none pdu mark_start (units_at sdus start owed)) in
     omega (arith, follows.all, none, many)
 
--- there is one exactly where octets are left or a mark is owed
+-- there is one exactly where octets are left or an indicator is owed
 pub some_follow : (s : Sending) (count : ℕ) → count ≡ builds 64 s.pdu s.mark_start s.units → nat_lt 0 count ≡ is_unsent s.units
 some_follow s count is = either (is_unsent s.units) refl
   where

@@ -11,15 +11,15 @@ use Rattle.dch_am.specs.Bodies.{joined, sizes}
 use Rattle.dch_am.specs.Cuts.{AllFull}
 use Rattle.dch_txbuf.specs.declared.taken.Cut.{Cut}
 use Rattle.dch_txbuf.specs.declared.taken.Start.{Start}
-use Rattle.dch_txbuf.specs.Cuts.{IsStart, IsThere, after_cut, cut_of, first_of, is_padded, led_by, left_at, marks_with, next_start, octets_of, trimmed}
+use Rattle.dch_txbuf.specs.Cuts.{IsStart, IsThere, after_cut, cut_of, first_of, is_padded, led_by, left_at, indicators_with, next_start, octets_of, trimmed}
 use Rattle.dch_txbuf.proofs.Cutting.{cut_is_padded, length-trimmed, placed_cut, trimmed_none}
 use Rattle.dch_txbuf.proofs.Following.{left_next, start_next}
 use Rattle.dch_txbuf.specs.Chunks.{blocks_for}
 use Rattle.dch_txbuf.specs.Sdus.{blocks_in}
 use Rattle.dch_rlcum.specs.Queue.{IsPlace, IsQueue, units_at}
 use Rattle.dch_rlcum.specs.Receiving.{is_some}
-use Rattle.dch_rlcum.specs.Sending.{Sending, answer_of, begun, begun_octets, blocks, blocks_of, carried, held_by, leading, left_by, marks_in, room_of, units_after, with_unit}
-use Rattle.dch_rlcum.proofs.Cutting.{IsCutOf, cuts_are, marks_are, octets_are, sent_after}
+use Rattle.dch_rlcum.specs.Sending.{Sending, answer_of, begun, begun_octets, blocks, blocks_of, carried, held_by, leading, left_by, indicators_in, room_of, units_after, with_unit}
+use Rattle.dch_rlcum.proofs.Cutting.{IsCutOf, cuts_are, indicators_are, octets_are, sent_after}
 
 past : (us : List (List ℕ)) (k : ℕ) → length us ≤ k → length (get_or us k []) ≡ 0
 past [] zero l = refl
@@ -124,7 +124,7 @@ place_behind free sdus start owed c is e = record {
 
 -- a PDU of the SDUs from a place on
 pub record IsTaken (pdu : ℕ) (mark_start : Bool) (sdus : List (List ℕ)) (start : Start) (owed : Bool) (lead : Option ℕ) (c : Cut) : Type 0 where
-  pub marks : marks_with lead (pdu - 1) c (left_at start sdus) ≡ marks_in pdu mark_start (units_at sdus start owed)
+  pub indicators : indicators_with lead (pdu - 1) c (left_at start sdus) ≡ indicators_in pdu mark_start (units_at sdus start owed)
   pub count : length (octets_of c (left_at start sdus)) ≡ carried (room_of pdu mark_start (units_at sdus start owed)) (units_at sdus start owed).lengths
   pub octets : octets_of c (left_at start sdus) ≡ take (carried (room_of pdu mark_start (units_at sdus start owed)) (units_at sdus start owed).lengths) (joined (left_at start sdus))
   pub row : joined (left_at (next_start start c) sdus) ≡ drop (carried (room_of pdu mark_start (units_at sdus start owed)) (units_at sdus start owed).lengths) (joined (left_at start sdus))
@@ -139,7 +139,7 @@ taken pdu mark_start sdus start owed lead c few is led e =
     let cut : IsCutOf (pdu - 1 - length (led_by lead)) start.used 0 (left_at start sdus) c = subst (IsCutOf (pdu - 1 - length (led_by lead)) start.used 0 (left_at start sdus)) (sym e) (cuts_are (pdu - 1 - length (led_by lead)) start.used 0 (left_at start sdus) is.left (none_begun sdus start is.start_is)) in
     let count : length (octets_of c (left_at start sdus)) ≡ carried (room_of pdu mark_start (units_at sdus start owed)) (units_at sdus start owed).lengths = ap (λ (k : Cut). length (octets_of k (left_at start sdus))) e ∙ (sym (octets_are (pdu - 1 - length (led_by lead)) (left_at start sdus) is.left) ∙ ap (λ n. carried n (sizes (left_at start sdus))) room) in
     record {
-      marks = ap (λ (k : Cut). marks_with lead (pdu - 1) k (left_at start sdus)) e ∙ marks_are pdu mark_start (units_at sdus start owed) lead (left_at start sdus) refl is.left few led;
+      indicators = ap (λ (k : Cut). indicators_with lead (pdu - 1) k (left_at start sdus)) e ∙ indicators_are pdu mark_start (units_at sdus start owed) lead (left_at start sdus) refl is.left few led;
       count = count;
       octets = sym (ap₂ (λ n xs. take n xs) (sym count) cut.row ∙ take-append_seam (octets_of c (left_at start sdus)) (joined (after_cut c (left_at start sdus)).units));
       row = ap joined (left_next sdus start c) ∙ sym (ap₂ (λ n xs. drop n xs) (sym count) cut.row ∙ drop-append_seam (octets_of c (left_at start sdus)) (joined (after_cut c (left_at start sdus)).units));

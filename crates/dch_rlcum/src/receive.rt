@@ -53,7 +53,7 @@ impl UmRecv {
     pub fn pdu(&mut self, p: &UmView<'_>)
         requires settled { is_settled self.old ≡ true }
         requires number { p.now.sn < 128 }
-        requires small { length p.now.body.marks + length p.now.body.octets ≤ 124 }
+        requires small { length p.now.body.indicators + length p.now.body.octets ≤ 124 }
         ensures after { self.new ≡ after_pdu p.now self.old }
         ensures history { (pdus : List UmView) (handed : ℕ) → IsReceiverOf pdus handed self.old → IsReceiverOf (pdus ++ p.now ∷ []) handed self.new }
     {
@@ -64,7 +64,7 @@ impl UmRecv {
     fn take(&mut self, p: &UmView<'_>)
         requires settled { is_settled self.old ≡ true }
         requires number { p.now.sn < 128 }
-        requires small { length p.now.body.marks + length p.now.body.octets ≤ 124 }
+        requires small { length p.now.body.indicators + length p.now.body.octets ≤ 124 }
         ensures { self.new ≡ after_pdu p.now self.old }
     {
         if p.sn != self.vr_us {
@@ -102,8 +102,8 @@ impl UmRecv {
     /// Takes what a PDU carries: octets of units whose start is known.
     fn take_body(&mut self, body: &Body<'_>)
         requires settled { is_settled self.old ≡ true }
-        requires small { length body.now.marks + length body.now.octets ≤ 124 }
-        ensures { self.new ≡ after_parts (parts_of body.now) (after_first body.now.marks self.old) }
+        requires small { length body.now.indicators + length body.now.octets ≤ 124 }
+        ensures { self.new ≡ after_parts (parts_of body.now) (after_first body.now.indicators self.old) }
     {
         if body.starts() {
             self.begin(0, body);
@@ -119,8 +119,8 @@ impl UmRecv {
     /// Takes what stands behind so many ends, where a unit starts. The unit in progress is dropped.
     fn begin(&mut self, dead: usize, body: &Body<'_>)
         requires settled { is_settled self.old ≡ true }
-        requires dead { dead ≤ length (ends_of body.now.marks) }
-        requires small { length body.now.marks + length body.now.octets ≤ 124 }
+        requires dead { dead ≤ length (ends_of body.now.indicators) }
+        requires small { length body.now.indicators + length body.now.octets ≤ 124 }
         ensures { self.new ≡ after_parts (drop dead (parts_of body.now)) (dropped true self.old) }
     {
         self.abandon(true);

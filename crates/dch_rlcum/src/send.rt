@@ -39,7 +39,7 @@ impl Model for UmSend {
 
 impl UmSend {
     /// A sender of PDUs of `pdu` octets, 3 to 125, in which units of at most `buffer` blocks of 64 octets wait. With
-    /// `mark_start` the mark 1111100 stands first where the first octet starts a unit.
+    /// `mark_start` the indicator 1111100 stands first where the first octet starts a unit.
     pub fn open(
         alloc: Global,
         pdu: usize,
@@ -62,7 +62,7 @@ impl UmSend {
         })
     }
 
-    /// Offers a unit of 1 to 1,500 octets. It holds its blocks until the mark of its end is built.
+    /// Offers a unit of 1 to 1,500 octets. It holds its blocks until the indicator of its end is built.
     pub fn offer(&mut self, unit: &[u8]) -> Offer
         ensures answer { result ≡ answer_of unit.now self.old }
         ensures after { self.new ≡ after_offer result unit.now self.old }
@@ -104,7 +104,7 @@ impl UmSend {
         requires size { length out.old ≡ self.old.pdu }
         ensures text { out.new ≡ pdu_of self.old }
         ensures after { self.new ≡ after_build self.old }
-        // the octets are the most that find room with their marks
+        // the octets are the most that find room with their indicators
         ensures most { IsCarried (room_of self.old.pdu self.old.mark_start self.old.units) 0 self.old.units.lengths (carried_by self.old) }
         ensures history { (units : List (List ℕ)) (cuts : List ℕ) → IsSenderOf units cuts self.old → IsSenderOf units (cuts ++ length units ∷ []) self.new }
         // it is the next of the list of PDUs
@@ -119,7 +119,7 @@ impl UmSend {
         requires size { length out.old ≡ self.old.pdu }
         ensures text { out.new ≡ pdu_of self.old }
         ensures after { self.new ≡ after_build self.old }
-        // the octets are the most that find room with their marks
+        // the octets are the most that find room with their indicators
         ensures most { IsCarried (room_of self.old.pdu self.old.mark_start self.old.units) 0 self.old.units.lengths (carried_by self.old) }
     {
         let lead = lead(&self.sdus, &self.start, self.owed, self.mark_start);

@@ -14,19 +14,19 @@ use Rattle.dch_types.specs.declared.bearer.Mode.TheVariants.{Tm, Um, Am}
 use Rattle.dch_types.specs.declared.config.Config.{Config}
 use Rattle.dch_config.specs.Changes.{KeepsBearer}
 use Rattle.dch_config.specs.Good.{IsGood}
-use Rattle.dch_sar.specs.Filling.{AreSome, marks_of}
+use Rattle.dch_sar.specs.Filling.{AreSome, indicators_of}
 use Rattle.dch_sar.proofs.Fronts.{some_more}
 use Rattle.dch_sar.proofs.Placing.{IsPlaced, place, place_is}
 use Rattle.dch_mac.specs.Field.{field_bits}
 use Rattle.dch_rlcpdu.specs.Body.{padded}
-use Rattle.dch_rlcpdu.specs.Marks.{indicators}
+use Rattle.dch_rlcpdu.specs.Indicators.{indicator_octets}
 use Rattle.dch_rlcpdu.specs.Um.{um_reading}
 use Rattle.dch_rlcpdu.proofs.Written.{length-padded}
 use Rattle.dch_rlcpdu.specs.declared.um.UmView.{UmView}
 use Rattle.dch_rlcpdu.specs.declared.handed.PduError.{PduError}
 use Rattle.dch_rlctm.specs.Waiting.{Waiting, front_of}
 use Rattle.dch_rlcum.specs.Receiving.{Receiving}
-use Rattle.dch_rlcum.specs.Sending.{Sending, Units, after_offer, answer_of, carried, carried_by, closing, leading, left_by, marks_in, pdu_of, room_of}
+use Rattle.dch_rlcum.specs.Sending.{Sending, Units, after_offer, answer_of, carried, carried_by, closing, leading, left_by, indicators_in, pdu_of, room_of}
 use Rattle.dch_rlcum.proofs.Marking.{Rise, place_octets, rise}
 use Rattle.dch_layer.specs.Bearings.{Bearing, Sends, Transparent, Unacknowledged, Acknowledged, after_answer, answers, bearer_in, block_bits, channel_of, ct_of, head_of, opened_bearing, opened_mode, pdu_octets, ticked}
 use Rattle.dch_layer.specs.Building.{Builds, Gives}
@@ -138,9 +138,9 @@ length-field : (ct : Option ℕ) (bits : List Bit) → length (field_for ct ++ b
 length-field None bits = omega arith
 length-field (Some c) bits = omega arith
 
-length-marks : (ms : List ℕ) → length (indicators ms) ≡ length ms
-length-marks [] = refl
-length-marks (m ∷ ms) = ap suc (length-marks ms)
+length-indicators : (ms : List ℕ) → length (indicator_octets ms) ≡ length ms
+length-indicators [] = refl
+length-indicators (m ∷ ms) = ap suc (length-indicators ms)
 
 length-take_le : (n : ℕ) (xs : List ℕ) → length (take n xs) ≤ n
 length-take_le zero xs = omega arith
@@ -164,21 +164,21 @@ room_with pdu room o lead ms few some so spent =
     omega (arith, size))
 
 -- what the next PDU carries finds room with its length indicators
-built_room : (pdu : ℕ) (mark_start : Bool) (u : Units) → AreSome u.lengths → 3 ≤ pdu → pdu ≤ 125 → 1 + length (marks_in pdu mark_start u) + carried (room_of pdu mark_start u) u.lengths ≤ pdu
+built_room : (pdu : ℕ) (mark_start : Bool) (u : Units) → AreSome u.lengths → 3 ≤ pdu → pdu ≤ 125 → 1 + length (indicators_in pdu mark_start u) + carried (room_of pdu mark_start u) u.lengths ≤ pdu
 built_room pdu mark_start u some from most =
     let p : IsPlaced (room_of pdu mark_start u) 0 u.lengths (place (room_of pdu mark_start u) 0 u.lengths) = place_is (room_of pdu mark_start u) 0 u.lengths some in
     let o : (place (room_of pdu mark_start u) 0 u.lengths).octets ≡ carried (room_of pdu mark_start u) u.lengths = place_octets (room_of pdu mark_start u) 0 u.lengths ∙ omega arith in
-    let ms : (place (room_of pdu mark_start u) 0 u.lengths).marks ≡ marks_of (room_of pdu mark_start u) 0 u.lengths (carried (room_of pdu mark_start u) u.lengths) = p.marks ∙ ap (marks_of (room_of pdu mark_start u) 0 u.lengths) o in
+    let ms : (place (room_of pdu mark_start u) 0 u.lengths).indicators ≡ indicators_of (room_of pdu mark_start u) 0 u.lengths (carried (room_of pdu mark_start u) u.lengths) = p.indicators ∙ ap (indicators_of (room_of pdu mark_start u) 0 u.lengths) o in
     let r : Rise 0 (place (room_of pdu mark_start u) 0 u.lengths).octets (place (room_of pdu mark_start u) 0 u.lengths) (room_of pdu mark_start u) = rise (room_of pdu mark_start u) 0 (place (room_of pdu mark_start u) 0 u.lengths).octets u.lengths some (omega arith) (omega arith) in
-    let count : length (place (room_of pdu mark_start u) 0 u.lengths).marks ≡ length (marks_of (room_of pdu mark_start u) 0 u.lengths (carried (room_of pdu mark_start u) u.lengths)) = ap length ms in
-    room_with pdu (room_of pdu mark_start u) (carried (room_of pdu mark_start u) u.lengths) (leading mark_start u) (marks_of (room_of pdu mark_start u) 0 u.lengths (carried (room_of pdu mark_start u) u.lengths)) (few_leading mark_start u) from refl (omega (arith, r.spent, o, count))
+    let count : length (place (room_of pdu mark_start u) 0 u.lengths).indicators ≡ length (indicators_of (room_of pdu mark_start u) 0 u.lengths (carried (room_of pdu mark_start u) u.lengths)) = ap length ms in
+    room_with pdu (room_of pdu mark_start u) (carried (room_of pdu mark_start u) u.lengths) (leading mark_start u) (indicators_of (room_of pdu mark_start u) 0 u.lengths (carried (room_of pdu mark_start u) u.lengths)) (few_leading mark_start u) from refl (omega (arith, r.spent, o, count))
 
 long_pdu : (s : Sending) → AreSome s.units.lengths → 3 ≤ s.pdu → s.pdu ≤ 125 → length (pdu_of s) ≡ s.pdu
 long_pdu s some low high =
-    let room : 1 + length (marks_in s.pdu s.mark_start s.units) + carried_by s ≤ s.pdu = built_room s.pdu s.mark_start s.units some low high in
+    let room : 1 + length (indicators_in s.pdu s.mark_start s.units) + carried_by s ≤ s.pdu = built_room s.pdu s.mark_start s.units some low high in
     let few : length (take (carried_by s) s.row) ≤ carried_by s = length-take_le (carried_by s) s.row in
-    let all = length-padded (s.pdu - 1 - length (marks_in s.pdu s.mark_start s.units)) (take (carried_by s) s.row) (omega (arith, room, few)) in
-    omega (arith, room, all, length-marks (marks_in s.pdu s.mark_start s.units), length-append (indicators (marks_in s.pdu s.mark_start s.units)) (padded (s.pdu - 1 - length (marks_in s.pdu s.mark_start s.units)) (take (carried_by s) s.row)))
+    let all = length-padded (s.pdu - 1 - length (indicators_in s.pdu s.mark_start s.units)) (take (carried_by s) s.row) (omega (arith, room, few)) in
+    omega (arith, room, all, length-indicators (indicators_in s.pdu s.mark_start s.units), length-append (indicator_octets (indicators_in s.pdu s.mark_start s.units)) (padded (s.pdu - 1 - length (indicators_in s.pdu s.mark_start s.units)) (take (carried_by s) s.row)))
 
 -- whole octets fill the blocks of a bearer of PDUs behind the field, and there is an octet
 record AreFull (config : Config) (out : Dir) (b : ℕ) : Type 0 where

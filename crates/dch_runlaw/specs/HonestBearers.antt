@@ -104,7 +104,7 @@ pub record HasKnownDownOver (planned second : Planned) (b down down_later : ℕ)
   pub are : AreOf link nodes
   pub known : IsDownKnownOver planned second b down down_later mid nodes
 
--- handed up of an unacknowledged bearer are the accepted units, in order, whose end mark was sent in TTIs that have ended
+-- handed up of an unacknowledged bearer are the accepted units, in order, whose length indicator was sent in TTIs that have ended
 abbrev pub HasUmUp : Planned → ℕ → ℕ → LinkState → Type 0
 HasUmUp planned b up link = IsUmCarried planned.config Up b up link.ue.state.layer link.rnc.lines (up_way planned up link)
 

@@ -18,19 +18,19 @@ use Rattle.dch_layerlaw.specs.UmHistory.{IsUmCarried, got_lines, pdus_of}
 use Rattle.dch_link.specs.Link.{LinkState}
 use Rattle.dch_runlaw.specs.HonestBearers.{HasWholeHistory}
 
--- the accepted units of one end of an acknowledged bearer, in order, whose end mark lies in the PDUs that arrived at the other end
+-- the accepted units of one end of an acknowledged bearer, in order, whose length indicator lies in the PDUs that arrived at the other end
 abbrev pub ended_units : End → End → List (List ℕ)
 ended_units from to = take (ends (take (gap_free to) from.entity.sender.bodies)) from.entity.sender.accepted
 
 -- those of an acknowledged bearer: its two ends stand in a history in which nothing is lost and just the blocks of TTIs that have not ended
--- are in flight, and the rows are those of the accepted units, in order, whose end mark was sent in TTIs that have ended
+-- are in flight, and the rows are those of the accepted units, in order, whose length indicator was sent in TTIs that have ended
 pub record HandsUpWhole (planned : Planned) (b up down : ℕ) (link : LinkState) (text : List ℕ) : Type 0 where
   pub units : HasWholeHistory planned b up down link
   pub up_rows : got_rows Up b (rows text) ≡ rows_of (got_lines Up b (ended_units (pair_after planned.config Up Down b units.history.events).near (pair_after planned.config Up Down b units.history.events).far))
   pub down_rows : got_rows Down b (rows text) ≡ rows_of (got_lines Down b (ended_units (pair_after planned.config Up Down b units.history.events).far (pair_after planned.config Up Down b units.history.events).near))
 
 -- those of an unacknowledged bearer, where all blocks of its channel came but some that are on their way: the accepted units, in order, whose
--- end mark lies in the PDUs that came
+-- length indicator lies in the PDUs that came
 pub record HandsUpMarked (config : Config) (dir : Dir) (b i : ℕ) (from : Layer) (said : List Line) (running : List (List Bit)) (text : List ℕ) : Type 0 where
   pub units : IsUmCarried config dir b i from said running
   pub rows_are : got_rows dir b (rows text) ≡ rows_of (got_lines dir b (marked_units (take units.came (pdus_of units.sends)) 0 units.sends.accepted))

@@ -30,7 +30,7 @@ pub fn link_law()
 {}
 
 /// A law: where what is taken as good of each TTI is just what was given for it, nothing is lost. Handed up at each end are just the
-/// accepted units of the other one, in order, whose end mark was sent in TTIs that have ended.
+/// accepted units of the other one, in order, whose length indicator was sent in TTIs that have ended.
 pub fn undamaged_law()
     ensures { (planned : Planned) (first b up down : ℕ) (events : List Event) (new : LinkState) (lines : List Line) (run : Runs (opened_link planned first) events new lines) →
         IsAcknowledged planned b up down → IsUndamaged planned up down events (opened_link planned first) new lines run → HasWholeHistory planned b up down new }
@@ -47,7 +47,7 @@ pub fn um_link_law()
 {}
 
 /// A law: where what is taken as good of each TTI of its channel is just what was given for it, handed up of an unacknowledged bearer are
-/// just the accepted units, in order, whose end mark was sent in TTIs that have ended. No other line is written on it.
+/// just the accepted units, in order, whose length indicator was sent in TTIs that have ended. No other line is written on it.
 pub fn um_undamaged_law()
     ensures up { (planned : Planned) (first b up : ℕ) (events : List Event) (new : LinkState) (lines : List Line) (run : Runs (opened_link planned first) events new lines) →
         IsUnacknowledged planned Up b up → IsUndamagedOn planned Up up events (opened_link planned first) new lines run → HasUmUp planned b up new }

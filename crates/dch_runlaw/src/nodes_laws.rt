@@ -27,7 +27,7 @@ pub fn nodes_law()
 {}
 
 /// A law: where besides, after each event, what was taken of the two channels begins what was given to them, nothing is lost in that
-/// history. Handed up at each end are just the accepted units of the other one, in order, whose end mark was sent in the blocks that
+/// history. Handed up at each end are just the accepted units of the other one, in order, whose length indicator was sent in the blocks that
 /// were taken. And so in two parts where all that was given to the two channels in the first part was taken there.
 pub fn whole_nodes_law()
     ensures one { (planned : Planned) (ue_first rnc_first b up down : ℕ) (events : List Event) (nodes : Nodes) → IsAmBearer planned.config Up Down b up down →

@@ -25,7 +25,7 @@ pub fn link_over_law()
 
 /// A law: and an unacknowledged bearer. With any damage some of the PDUs that were sent in both parts came, in order; and where fewer than 128
 /// successive PDUs were lost before each that came, those in flight at the change among them, all lines on the bearer are the units that are
-/// known, in order. Where just what was given is taken in both parts, handed up are just the accepted units, in order, whose end mark was sent
+/// known, in order. Where just what was given is taken in both parts, handed up are just the accepted units, in order, whose length indicator was sent
 /// in TTIs that have ended.
 pub fn um_over_law()
     ensures up { (planned second : Planned) (first b up up_later : ℕ) (before after : List Event) (start new : LinkState) (early late : List Line) (over : GoesOver planned second first before early start) → Runs start after new late →

@@ -4,7 +4,7 @@ use Rattle.std.specs.Prelude.{◌&&◌, ◌||◌, ◌==◌, not, nat_lt, nat_le,
 use Rattle.std.proofs.lemmas.Bool.{eqb-true, ltb-false, lt-ltb, le-ltb, eq-eqb, le-leb, leb-true, cases_lt, cond_both, cond-true}
 use Rattle.std.proofs.lemmas.Bool.Decides.{nat_tests}
 use Rattle.std.proofs.lemmas.List.{map-append}
-use Rattle.dch_sar.specs.Filling.{total, ends_before, is_end, cost, IsCarried, is_owed, is_marked, marks_of, AreSome}
+use Rattle.dch_sar.specs.Filling.{total, ends_before, is_end, cost, IsCarried, is_owed, is_marked, indicators_of, AreSome}
 use Rattle.dch_sar.specs.Pdus.{Front, greatest, lead, ends_between, cost_to, reach, ends_unit, has_room, ends_marked, next_front, left_from, begun_by, ended_at}
 use Rattle.dch_sar.proofs.Placing.{ends_none, end_none}
 
@@ -190,14 +190,14 @@ carried_from room k ns o is = record {
     below : (p : ℕ) → k ≤ p → cost k ns p ≤ room → cost 0 ns (p - k) ≤ room
     below p low costs = let e : k + (p - k) ≡ p = omega arith in omega (arith, cost_from k ns (p - k), ap (cost k ns) e)
 
--- how many octets are left behind the mark that stands first
+-- how many octets are left behind the indicator that stands first
 abbrev pub room_at : ℕ → Bool → List ℕ → Front → ℕ
 room_at size starts ns f = size - length (lead starts ns f)
 
 -- what the PDU of the list is, where so many octets are carried of what is left of the units
 pub record IsNext (size : ℕ) (starts : Bool) (ns : List ℕ) (f : Front) (o : ℕ) : Type 0 where
   pub reach : reach size starts ns f ≡ f.from + o
-  pub marks : map (λ e. e - f.from) (ends_marked size starts ns f) ≡ marks_of (room_at size starts ns f) 0 (left_from f.from ns) o
+  pub indicators : map (λ e. e - f.from) (ends_marked size starts ns f) ≡ indicators_of (room_at size starts ns f) 0 (left_from f.from ns) o
   pub owed : (next_front size starts ns f).owed ≡ is_owed (room_at size starts ns f) 0 (left_from f.from ns) o
 
 -- a place from which a PDU may begin
@@ -224,7 +224,7 @@ pub next_is : (size : ℕ) (starts : Bool) (ns : List ℕ) (f : Front) (o : ℕ)
 next_is size starts ns f o here is =
     record {
       reach = to;
-      marks = ap (map (λ e. e - f.from)) (ap₂ (λ es b. es ++ cond b (reach size starts ns f ∷ []) []) ends (ap₂ (λ a b. a && b) last free)) ∙ shifted;
+      indicators = ap (map (λ e. e - f.from)) (ap₂ (λ es b. es ++ cond b (reach size starts ns f ∷ []) []) ends (ap₂ (λ a b. a && b) last free)) ∙ shifted;
       owed = ap₂ (λ a b. a && not b) last free;
     }
   where
@@ -261,14 +261,14 @@ next_is size starts ns f o here is =
     past_it : f.from + o - f.from ≡ o
     past_it = omega arith
 
-    shifted : map (λ e. e - f.from) (ends_before f.from left (f.from + o) ++ cond (is_marked room 0 left o) (reach size starts ns f ∷ []) []) ≡ marks_of room 0 left o
+    shifted : map (λ e. e - f.from) (ends_before f.from left (f.from + o) ++ cond (is_marked room 0 left o) (reach size starts ns f ∷ []) []) ≡ indicators_of room 0 left o
     shifted = map-append (λ e. e - f.from) (ends_before f.from left (f.from + o)) (cond (is_marked room 0 left o) (reach size starts ns f ∷ []) []) ∙ ap₂ (λ a b. a ++ b) (ends_from f.from left o) (one (is_marked room 0 left o))
       where
         one : (b : Bool) → map (λ e. e - f.from) (cond b (reach size starts ns f ∷ []) []) ≡ cond b (o ∷ []) []
         one true = ap (λ k. k ∷ []) (ap (λ p. p - f.from) to ∙ past_it)
         one false = refl
 
-pub filled-next : (size : ℕ) (starts : Bool) (ns : List ℕ) (f : Front) (o : ℕ) → AreSome ns → f.from ≤ total ns → length (lead starts ns f) ≤ size → IsCarried (size - length (lead starts ns f)) 0 (left_from f.from ns) o → (reach size starts ns f ≡ f.from + o) × ((marks_of (size - length (lead starts ns f)) 0 (left_from f.from ns) o ≡ map (λ e. e - f.from) (ends_marked size starts ns f)) × ((next_front size starts ns f).owed ≡ is_owed (size - length (lead starts ns f)) 0 (left_from f.from ns) o))
+pub filled-next : (size : ℕ) (starts : Bool) (ns : List ℕ) (f : Front) (o : ℕ) → AreSome ns → f.from ≤ total ns → length (lead starts ns f) ≤ size → IsCarried (size - length (lead starts ns f)) 0 (left_from f.from ns) o → (reach size starts ns f ≡ f.from + o) × ((indicators_of (size - length (lead starts ns f)) 0 (left_from f.from ns) o ≡ map (λ e. e - f.from) (ends_marked size starts ns f)) × ((next_front size starts ns f).owed ≡ is_owed (size - length (lead starts ns f)) 0 (left_from f.from ns) o))
 filled-next size starts ns f o some within fits is =
     let next : IsNext size starts ns f o = next_is size starts ns f o (record { some = some; within = within; room = fits }) is in
-    (next.reach, (sym next.marks, next.owed))
+    (next.reach, (sym next.indicators, next.owed))

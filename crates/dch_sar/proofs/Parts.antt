@@ -4,8 +4,8 @@ use Rattle.std.proofs.lemmas.List.{drop_all, length-drop}
 use Rattle.dch_rlcpdu.specs.Parts.{Content, cut_at, ends_of, is_closed, parts_of, total_of}
 use Rattle.dch_sar.specs.Taking.{Waiting, added, ended, ended_units, held, took_full, took_parts}
 
-pub length-parts : (c : Content) → length (parts_of c) ≡ length (ends_of c.marks) + 1
-length-parts c = count (is_closed c.marks) 0 (ends_of c.marks) c.octets
+pub length-parts : (c : Content) → length (parts_of c) ≡ length (ends_of c.indicators) + 1
+length-parts c = count (is_closed c.indicators) 0 (ends_of c.indicators) c.octets
   where
     count : (closed : Bool) (from : ℕ) (es octets : List ℕ) → length (cut_at closed from es octets) ≡ length es + 1
     count closed from [] octets = refl
@@ -80,5 +80,5 @@ last_taken parts dead i first now p taken is last =
     let here : drop i parts ≡ p ∷ [] = part_here parts i p is ∙ ap (λ ps. p ∷ ps) (drop_all (i + 1) parts last) in
     ap (λ ps. took_parts ps now) (sym here) ∙ taken.same
 
-pub none_taken : (c : Content) (dead : ℕ) (u : Waiting) → held u + length c.octets ≤ 1625 → length u.waiting + length c.marks < 128 → length (ends_of c.marks) ≤ length c.marks → total_of (parts_of c) ≤ length c.octets → Taken (parts_of c) dead dead u u
+pub none_taken : (c : Content) (dead : ℕ) (u : Waiting) → held u + length c.octets ≤ 1625 → length u.waiting + length c.indicators < 128 → length (ends_of c.indicators) ≤ length c.indicators → total_of (parts_of c) ≤ length c.octets → Taken (parts_of c) dead dead u u
 none_taken c dead u room units few within = record { same = refl; octets = omega (arith, total-drop dead (parts_of c)); units = omega (arith, length-parts c, length-drop dead (parts_of c)) }

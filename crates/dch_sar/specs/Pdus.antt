@@ -3,7 +3,7 @@
 use Rattle.std.specs.Prelude.{◌≡◌, ◌+◌, ◌-◌, ◌≤◌, ◌++◌, ◌&&◌, ◌||◌, ◌==◌, ℕ, zero, suc, List, [], ◌∷◌, Bool, true, false, not, length, take, map, filter, nat_lt, nat_le, if◌then◌else◌}
 use Rattle.dch_sar.specs.Filling.{total, ends_before, is_end}
 
--- where a PDU begins, and whether the end there has still to be marked, by the mark 0
+-- where a PDU begins, and whether the end there has still to be marked, by the indicator 0
 pub record Front : Type 0 where
   pub from : ℕ
   pub owed : Bool
@@ -17,7 +17,7 @@ abbrev pub is_start : ℕ → List ℕ → ℕ → Bool
 is_start at [] o = false
 is_start at (n ∷ ns) o = (at == o) || is_start (at + n) ns o
 
--- the mark that stands first: 0 for an end that has still to be marked, 124 where starts are marked and a unit starts
+-- the indicator that stands first: 0 for an end that has still to be marked, 124 where starts are marked and a unit starts
 abbrev pub lead : Bool → List ℕ → Front → List ℕ
 lead starts ns f = if f.owed then 0 ∷ [] else (if starts && is_start 0 ns f.from then 124 ∷ [] else [])
 
@@ -25,7 +25,7 @@ lead starts ns f = if f.owed then 0 ∷ [] else (if starts && is_start 0 ns f.fr
 abbrev pub ends_between : List ℕ → ℕ → ℕ → List ℕ
 ends_between ns from o = filter (λ e. nat_lt from e) (ends_before 0 ns o)
 
--- what the octets up to a place cost: the mark that stands first, themselves, and a mark for each end strictly between
+-- what the octets up to a place cost: the indicator that stands first, themselves, and an indicator for each end strictly between
 abbrev pub cost_to : Bool → List ℕ → Front → ℕ → ℕ
 cost_to starts ns f o = length (lead starts ns f) + (o - f.from) + length (ends_between ns f.from o)
 
@@ -54,11 +54,11 @@ ends_marked size starts ns f = ends_between ns f.from (reach size starts ns f) +
 abbrev pub next_front : ℕ → Bool → List ℕ → Front → Front
 next_front size starts ns f = record { from = reach size starts ns f; owed = ends_unit size starts ns f && not (has_room size starts ns f) }
 
--- the padding mark, where octets are left behind so many
+-- the padding indicator, where octets are left behind so many
 abbrev pub padding : ℕ → ℕ → List ℕ
 padding size spent = if nat_lt spent size then 127 ∷ [] else []
 
--- a PDU: the special mark that stands first, the ends that it marks, the padding mark, and the octets from one place to another
+-- a PDU: the special indicator that stands first, the ends that it marks, the padding indicator, and the octets from one place to another
 pub record Pdu : Type 0 where
   pub first : List ℕ
   pub ends : List ℕ
@@ -66,9 +66,9 @@ pub record Pdu : Type 0 where
   pub from : ℕ
   pub to : ℕ
 
--- its marks. That of an end counts from the PDU's first octet
-abbrev pub marks_in : Pdu → List ℕ
-marks_in p = p.first ++ (map (λ e. e - p.from) p.ends ++ p.last)
+-- its indicators. That of an end counts from the PDU's first octet
+abbrev pub indicators_in : Pdu → List ℕ
+indicators_in p = p.first ++ (map (λ e. e - p.from) p.ends ++ p.last)
 
 -- the PDU that begins there
 abbrev pub pdu_at : ℕ → Bool → List ℕ → Front → Pdu

@@ -36,7 +36,7 @@ took_parts [] u = u
 took_parts (p ∷ []) u = added p u
 took_parts (p ∷ q ∷ ps) u = took_parts (q ∷ ps) (ended (added p u))
 
--- the mark 0 ends the unit in progress
+-- the indicator 0 ends the unit in progress
 abbrev pub took_full : Bool → Waiting → Waiting
 took_full true u = ended u
 took_full false u = u

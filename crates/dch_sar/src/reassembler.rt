@@ -59,12 +59,12 @@ impl Reassembler {
         self.sizes.is_empty()
     }
 
-    /// Reads the next PDU, which has at most 124 marks and octets. Where `full`, the unit in progress has ended with the PDU before. The
+    /// Reads the next PDU, which has at most 124 indicators and octets. Where `full`, the unit in progress has ended with the PDU before. The
     /// octets up to so many ends are left out.
     pub fn take(&mut self, full: bool, dead: usize, body: &Body<'_>)
         requires settled { self.old.waiting ≡ [] }
-        requires dead { dead ≤ length (ends_of body.now.marks) }
-        requires small { length body.now.marks + length body.now.octets ≤ 124 }
+        requires dead { dead ≤ length (ends_of body.now.indicators) }
+        requires small { length body.now.indicators + length body.now.octets ≤ 124 }
         ensures { self.new ≡ took_parts (drop dead (parts_of body.now)) (took_full full self.old) }
     {
         let _ = &self.part;
@@ -111,9 +111,9 @@ impl Reassembler {
 
     /// Reads the pieces behind so many ends, each of which ends a unit, and the rest.
     fn take_parts(&mut self, dead: usize, body: &Body<'_>)
-        requires dead { dead ≤ length (ends_of body.now.marks) }
+        requires dead { dead ≤ length (ends_of body.now.indicators) }
         requires octets { held self.old + length body.now.octets ≤ 1625 }
-        requires units { length self.old.waiting + length body.now.marks < 128 }
+        requires units { length self.old.waiting + length body.now.indicators < 128 }
         ensures { self.new ≡ took_parts (drop dead (parts_of body.now)) self.old }
     {
         let ends = body.ends();

@@ -7,10 +7,10 @@ use Rattle.std.proofs.lemmas.Bool.{cases_lt, le-ltb, lt-ltb}
 use Rattle.std.proofs.lemmas.List.{get_or-append-add, get_or_append_left, length-take-le, take-take, take_more, take_more_set}
 use Rattle.dch_sar.specs.Pdus.{padding}
 use Rattle.dch_am.specs.Bodies.{ends_at, joined}
-use Rattle.dch_rlcpdu.specs.Marks.{indicators}
+use Rattle.dch_rlcpdu.specs.Indicators.{indicator_octets}
 use Rattle.dch_txbuf.specs.declared.taken.Cut.{Cut}
 use Rattle.dch_txbuf.specs.declared.taken.Start.{Start}
-use Rattle.dch_txbuf.specs.Cuts.{IsThere, is_padded, led_by, left_at, marks_with, octets_of, trimmed, with_lead, with_mark}
+use Rattle.dch_txbuf.specs.Cuts.{IsThere, is_padded, led_by, left_at, indicators_with, octets_of, trimmed, with_lead, with_indicator}
 use Rattle.dch_txbuf.proofs.Cutting.{Carries, inside_items, joined_next, joined_within, piece_at}
 
 -- the end of a piece
@@ -30,8 +30,8 @@ length-ends at (p ∷ ps) = ap suc (length-ends (at + length p) ps)
 abbrev pub spent : Option ℕ → Cut → List (List ℕ) → ℕ
 spent lead c us = length (led_by lead) + length (octets_of c us) + c.pieces
 
-pub length-marks : (lead : Option ℕ) (room : ℕ) (c : Cut) (us : List (List ℕ)) → IsThere c us → length (marks_with lead room c us) ≡ length (led_by lead) + c.pieces + length (padding room (spent lead c us))
-length-marks lead room c us there = omega (
+pub length-indicators : (lead : Option ℕ) (room : ℕ) (c : Cut) (us : List (List ℕ)) → IsThere c us → length (indicators_with lead room c us) ≡ length (led_by lead) + c.pieces + length (padding room (spent lead c us))
+length-indicators lead room c us there = omega (
   arith,
   length-append (led_by lead) (ends_at 0 (take c.pieces us) ++ padding room (spent lead c us)),
   length-append (ends_at 0 (take c.pieces us)) (padding room (spent lead c us)),
@@ -40,40 +40,40 @@ length-marks lead room c us there = omega (
 )
 
 -- how many length indicators a PDU has, with that of padding or without
-marks_count : (lead : Option ℕ) (room : ℕ) (c : Cut) (us : List (List ℕ)) → IsThere c us → c.padded ≡ is_padded room lead c us → length (marks_with lead room c us) ≡ length (led_by lead) + c.pieces + cond c.padded 1 0
-marks_count lead room c us there told = length-marks lead room c us there ∙ ap (λ k. length (led_by lead) + c.pieces + k) (padding_long (nat_lt (spent lead c us) room) ∙ ap (λ t. cond t 1 0) (sym told))
+indicators_count : (lead : Option ℕ) (room : ℕ) (c : Cut) (us : List (List ℕ)) → IsThere c us → c.padded ≡ is_padded room lead c us → length (indicators_with lead room c us) ≡ length (led_by lead) + c.pieces + cond c.padded 1 0
+indicators_count lead room c us there told = length-indicators lead room c us there ∙ ap (λ k. length (led_by lead) + c.pieces + k) (padding_long (nat_lt (spent lead c us) room) ∙ ap (λ t. cond t 1 0) (sym told))
   where
     padding_long : (t : Bool) → length (cond {A = List ℕ} t (127 ∷ []) []) ≡ cond t 1 0
     padding_long true = refl
     padding_long false = refl
 
 -- that of the end of a piece
-pub mark_at : (lead : Option ℕ) (room j : ℕ) (c : Cut) (us : List (List ℕ)) → IsThere c us → j < c.pieces → get_or (marks_with lead room c us) (length (led_by lead) + j) 0 ≡ length (joined (take (j + 1) us))
-mark_at lead room j c us there l =
+pub indicator_at : (lead : Option ℕ) (room j : ℕ) (c : Cut) (us : List (List ℕ)) → IsThere c us → j < c.pieces → get_or (indicators_with lead room c us) (length (led_by lead) + j) 0 ≡ length (joined (take (j + 1) us))
+indicator_at lead room j c us there l =
     let n : length (take c.pieces us) ≡ c.pieces = length-take-le c.pieces us there.pieces in
     get_or-append-add (led_by lead) (ends_at 0 (take c.pieces us) ++ padding room (spent lead c us)) j 0
     ∙ (get_or_append_left (ends_at 0 (take c.pieces us)) (padding room (spent lead c us)) 0 j (omega (arith, l, n, length-ends 0 (take c.pieces us)))
     ∙ omega (arith, get_or-ends 0 (take c.pieces us) j (omega (arith, l, n)), ap (λ xs. length (joined xs)) (take-take (j + 1) c.pieces us (omega (arith, l)))))
 
 -- that of padding
-pub mark_last : (lead : Option ℕ) (room : ℕ) (c : Cut) (us : List (List ℕ)) → IsThere c us → length (led_by lead) + c.pieces < length (marks_with lead room c us) → get_or (marks_with lead room c us) (length (led_by lead) + c.pieces) 0 ≡ 127
-mark_last lead room c us there l =
+pub indicator_last : (lead : Option ℕ) (room : ℕ) (c : Cut) (us : List (List ℕ)) → IsThere c us → length (led_by lead) + c.pieces < length (indicators_with lead room c us) → get_or (indicators_with lead room c us) (length (led_by lead) + c.pieces) 0 ≡ 127
+indicator_last lead room c us there l =
     let n : c.pieces ≡ length (ends_at 0 (take c.pieces us)) + 0 = omega (arith, length-ends 0 (take c.pieces us), length-take-le c.pieces us there.pieces) in
     get_or-append-add (led_by lead) (ends_at 0 (take c.pieces us) ++ padding room (spent lead c us)) c.pieces 0
     ∙ (ap (λ k. get_or (ends_at 0 (take c.pieces us) ++ padding room (spent lead c us)) k 0) n
     ∙ (get_or-append-add (ends_at 0 (take c.pieces us)) (padding room (spent lead c us)) 0 0
-    ∙ go (nat_lt (spent lead c us) room) (omega (arith, l, length-marks lead room c us there))))
+    ∙ go (nat_lt (spent lead c us) room) (omega (arith, l, length-indicators lead room c us there))))
   where
     go : (t : Bool) → 0 < length (cond {A = List ℕ} t (127 ∷ []) []) → get_or (cond {A = List ℕ} t (127 ∷ []) []) 0 0 ≡ 127
     go true l = refl
     go false l = absurd (omega (arith, l))
 
 -- length indicators as octets
-pub length-indicators : (ms : List ℕ) → length (indicators ms) ≡ length ms
-length-indicators [] = refl
-length-indicators (m ∷ ms) = ap suc (length-indicators ms)
+pub length-indicator_octets : (ms : List ℕ) → length (indicator_octets ms) ≡ length ms
+length-indicator_octets [] = refl
+length-indicator_octets (m ∷ ms) = ap suc (length-indicator_octets ms)
 
-get_or-indicators : (ms : List ℕ) (k : ℕ) → k < length ms → get_or (indicators ms) k 0 ≡ 2 * get_or ms k 0 + cond (nat_lt (k + 1) (length ms)) 1 0
+get_or-indicators : (ms : List ℕ) (k : ℕ) → k < length ms → get_or (indicator_octets ms) k 0 ≡ 2 * get_or ms k 0 + cond (nat_lt (k + 1) (length ms)) 1 0
 get_or-indicators [] k l = absurd (omega (arith, l))
 get_or-indicators (m ∷ []) zero l = refl
 get_or-indicators (m ∷ n ∷ ms) zero l = ap (λ t. 2 * m + cond t 1 0) (sym (lt-ltb (zero + 1) (length (m ∷ n ∷ ms)) (omega arith)))
@@ -88,15 +88,15 @@ get_or-indicators (m ∷ ms) (suc k) l = get_or-indicators ms k (omega (arith, l
 -- the first of them are written, so many
 pub record IsPlaced (ms : List ℕ) (k : ℕ) (out : List ℕ) : Type 0 where
   pub same : length out ≡ length ms
-  pub front : take k out ≡ take k (indicators ms)
+  pub front : take k out ≡ take k (indicator_octets ms)
 
-pub placed_more : (ms : List ℕ) (k m : ℕ) (out now : List ℕ) → IsPlaced ms k out → k < length ms → get_or ms k 0 ≡ m → now ≡ with_mark m k out → IsPlaced ms (k + 1) now
+pub placed_more : (ms : List ℕ) (k m : ℕ) (out now : List ℕ) → IsPlaced ms k out → k < length ms → get_or ms k 0 ≡ m → now ≡ with_indicator m k out → IsPlaced ms (k + 1) now
 placed_more ms k m out now is l e n = subst (λ xs. IsPlaced ms (k + 1) xs) (sym n) (record {
   same = length-set out k (2 * m + cond (nat_lt (k + 1) (length out)) 1 0) ∙ is.same;
-  front = take_more_set out k (2 * m + cond (nat_lt (k + 1) (length out)) 1 0) (omega (arith, l, is.same)) ∙ (ap₂ (λ xs x. xs ++ x ∷ []) is.front value ∙ sym (take_more (indicators ms) k 0 (omega (arith, l, length-indicators ms))));
+  front = take_more_set out k (2 * m + cond (nat_lt (k + 1) (length out)) 1 0) (omega (arith, l, is.same)) ∙ (ap₂ (λ xs x. xs ++ x ∷ []) is.front value ∙ sym (take_more (indicator_octets ms) k 0 (omega (arith, l, length-indicator_octets ms))));
 })
   where
-    value : 2 * m + cond (nat_lt (k + 1) (length out)) 1 0 ≡ get_or (indicators ms) k 0
+    value : 2 * m + cond (nat_lt (k + 1) (length out)) 1 0 ≡ get_or (indicator_octets ms) k 0
     value = ap₂ (λ a b. 2 * a + cond (nat_lt (k + 1) b) 1 0) (sym e) is.same ∙ sym (get_or-indicators ms k l)
 
 pub placed_lead : (lead : Option ℕ) (rest out now : List ℕ) → length out ≡ length (led_by lead ++ rest) → now ≡ with_lead lead out → IsPlaced (led_by lead ++ rest) (length (led_by lead)) now
@@ -104,8 +104,8 @@ placed_lead None rest out now l e = record { same = ap (λ xs. length xs) e ∙ 
 placed_lead (Some m) rest out now l e = placed_more (m ∷ rest) 0 m out now (record { same = l; front = refl }) (omega arith) refl e
 
 -- all of them are written
-pub placed_all : (ms out : List ℕ) → IsPlaced ms (length ms) out → out ≡ indicators ms
-placed_all ms out is = sym (take_whole (length ms) out (omega (arith, is.same))) ∙ (is.front ∙ take_whole (length ms) (indicators ms) (omega (arith, length-indicators ms)))
+pub placed_all : (ms out : List ℕ) → IsPlaced ms (length ms) out → out ≡ indicator_octets ms
+placed_all ms out is = sym (take_whole (length ms) out (omega (arith, is.same))) ∙ (is.front ∙ take_whole (length ms) (indicator_octets ms) (omega (arith, length-indicator_octets ms)))
   where
     take_whole : (n : ℕ) (xs : List ℕ) → length xs ≤ n → take n xs ≡ xs
     take_whole zero [] l = refl
@@ -145,29 +145,29 @@ pub counts_of : {items : List (List ℕ)} {start : Start} {first out : List ℕ}
 counts_of k = record { from = k.from; count = k.count; left = k.left; used_is = k.used_is }
 
 -- the length indicator of the next piece's end is written
-pub placed_on : (items : List (List ℕ)) (start : Start) (lead : Option ℕ) (room : ℕ) (c : Cut) (marks now : List ℕ) (at used i more before : ℕ) → Counts items start at used i → IsPlaced (marks_with lead room c (left_at start items)) (length (led_by lead) + (i - start.sdu)) marks → IsThere c (left_at start items) → i < start.sdu + c.pieces → more ≡ length (get_or items i []) - used → before ≡ length (led_by lead) → now ≡ with_mark (at + more) (before + (i - start.sdu)) marks → IsPlaced (marks_with lead room c (left_at start items)) (length (led_by lead) + (i + 1 - start.sdu)) now
-placed_on items start lead room c marks now at used i more before k is there l e b n =
+pub placed_on : (items : List (List ℕ)) (start : Start) (lead : Option ℕ) (room : ℕ) (c : Cut) (indicators now : List ℕ) (at used i more before : ℕ) → Counts items start at used i → IsPlaced (indicators_with lead room c (left_at start items)) (length (led_by lead) + (i - start.sdu)) indicators → IsThere c (left_at start items) → i < start.sdu + c.pieces → more ≡ length (get_or items i []) - used → before ≡ length (led_by lead) → now ≡ with_indicator (at + more) (before + (i - start.sdu)) indicators → IsPlaced (indicators_with lead room c (left_at start items)) (length (led_by lead) + (i + 1 - start.sdu)) now
+placed_on items start lead room c indicators now at used i more before k is there l e b n =
     let q : length (led_by lead) + (i + 1 - start.sdu) ≡ length (led_by lead) + (i - start.sdu) + 1 = omega (arith, k.from) in
     let next = next_end items start at used i c.pieces k l there.pieces in
-    let inside : length (led_by lead) + (i - start.sdu) < length (marks_with lead room c (left_at start items)) = omega (arith, length-marks lead room c (left_at start items) there, l, k.from) in
-    let here : get_or (marks_with lead room c (left_at start items)) (length (led_by lead) + (i - start.sdu)) 0 ≡ at + more = mark_at lead room (i - start.sdu) c (left_at start items) there (omega (arith, l, k.from)) ∙ (sym next.sum ∙ ap (λ m. at + m) (sym e)) in
-    subst (λ m. IsPlaced (marks_with lead room c (left_at start items)) m now) (sym q)
-    (placed_more (marks_with lead room c (left_at start items)) (length (led_by lead) + (i - start.sdu)) (at + more) marks now is inside here (n ∙ ap (λ m. with_mark (at + more) (m + (i - start.sdu)) marks) b))
+    let inside : length (led_by lead) + (i - start.sdu) < length (indicators_with lead room c (left_at start items)) = omega (arith, length-indicators lead room c (left_at start items) there, l, k.from) in
+    let here : get_or (indicators_with lead room c (left_at start items)) (length (led_by lead) + (i - start.sdu)) 0 ≡ at + more = indicator_at lead room (i - start.sdu) c (left_at start items) there (omega (arith, l, k.from)) ∙ (sym next.sum ∙ ap (λ m. at + m) (sym e)) in
+    subst (λ m. IsPlaced (indicators_with lead room c (left_at start items)) m now) (sym q)
+    (placed_more (indicators_with lead room c (left_at start items)) (length (led_by lead) + (i - start.sdu)) (at + more) indicators now is inside here (n ∙ ap (λ m. with_indicator (at + more) (m + (i - start.sdu)) indicators) b))
 
 -- all length indicators are written, with that of padding or without
-pub all_padded : (lead : Option ℕ) (room at : ℕ) (c : Cut) (us : List (List ℕ)) (out now : List ℕ) → IsThere c us → length out ≡ length (marks_with lead room c us) → take (length (led_by lead) + c.pieces) out ≡ take (length (led_by lead) + c.pieces) (indicators (marks_with lead room c us)) → c.padded ≡ is_padded room lead c us → c.padded ≡ true → at ≡ length out - 1 → now ≡ with_mark 127 at out → now ≡ indicators (marks_with lead room c us)
+pub all_padded : (lead : Option ℕ) (room at : ℕ) (c : Cut) (us : List (List ℕ)) (out now : List ℕ) → IsThere c us → length out ≡ length (indicators_with lead room c us) → take (length (led_by lead) + c.pieces) out ≡ take (length (led_by lead) + c.pieces) (indicator_octets (indicators_with lead room c us)) → c.padded ≡ is_padded room lead c us → c.padded ≡ true → at ≡ length out - 1 → now ≡ with_indicator 127 at out → now ≡ indicator_octets (indicators_with lead room c us)
 all_padded lead room at c us out now there same front told some e n =
-    let all : length (led_by lead) + c.pieces + 1 ≡ length (marks_with lead room c us) = sym (marks_count lead room c us there told ∙ ap (λ b. length (led_by lead) + c.pieces + cond b 1 0) some) in
+    let all : length (led_by lead) + c.pieces + 1 ≡ length (indicators_with lead room c us) = sym (indicators_count lead room c us there told ∙ ap (λ b. length (led_by lead) + c.pieces + cond b 1 0) some) in
     let last : at ≡ length (led_by lead) + c.pieces = omega (arith, e, same, all) in
-    let more : length (led_by lead) + c.pieces < length (marks_with lead room c us) = omega (arith, all) in
-    let is = placed_more (marks_with lead room c us) (length (led_by lead) + c.pieces) 127 out now (record { same = same; front = front }) more (mark_last lead room c us there more) (n ∙ ap (λ k. with_mark 127 k out) last) in
-    placed_all (marks_with lead room c us) now (subst (λ k. IsPlaced (marks_with lead room c us) k now) all is)
+    let more : length (led_by lead) + c.pieces < length (indicators_with lead room c us) = omega (arith, all) in
+    let is = placed_more (indicators_with lead room c us) (length (led_by lead) + c.pieces) 127 out now (record { same = same; front = front }) more (indicator_last lead room c us there more) (n ∙ ap (λ k. with_indicator 127 k out) last) in
+    placed_all (indicators_with lead room c us) now (subst (λ k. IsPlaced (indicators_with lead room c us) k now) all is)
 
-pub all_ended : (lead : Option ℕ) (room : ℕ) (c : Cut) (us : List (List ℕ)) (out : List ℕ) → IsThere c us → length out ≡ length (marks_with lead room c us) → take (length (led_by lead) + c.pieces) out ≡ take (length (led_by lead) + c.pieces) (indicators (marks_with lead room c us)) → c.padded ≡ is_padded room lead c us → c.padded ≡ false → out ≡ indicators (marks_with lead room c us)
+pub all_ended : (lead : Option ℕ) (room : ℕ) (c : Cut) (us : List (List ℕ)) (out : List ℕ) → IsThere c us → length out ≡ length (indicators_with lead room c us) → take (length (led_by lead) + c.pieces) out ≡ take (length (led_by lead) + c.pieces) (indicator_octets (indicators_with lead room c us)) → c.padded ≡ is_padded room lead c us → c.padded ≡ false → out ≡ indicator_octets (indicators_with lead room c us)
 all_ended lead room c us out there same front told none =
-    let all : length (led_by lead) + c.pieces + 0 ≡ length (marks_with lead room c us) = sym (marks_count lead room c us there told ∙ ap (λ b. length (led_by lead) + c.pieces + cond b 1 0) none) in
-    let e : length (led_by lead) + c.pieces ≡ length (marks_with lead room c us) = omega (arith, all) in
-    placed_all (marks_with lead room c us) out (subst (λ k. IsPlaced (marks_with lead room c us) k out) e (record { same = same; front = front }))
+    let all : length (led_by lead) + c.pieces + 0 ≡ length (indicators_with lead room c us) = sym (indicators_count lead room c us there told ∙ ap (λ b. length (led_by lead) + c.pieces + cond b 1 0) none) in
+    let e : length (led_by lead) + c.pieces ≡ length (indicators_with lead room c us) = omega (arith, all) in
+    placed_all (indicators_with lead room c us) out (subst (λ k. IsPlaced (indicators_with lead room c us) k out) e (record { same = same; front = front }))
 
 byte_is : (b : Bool) → bool_byte b ≡ cond b 1 0
 byte_is true = refl
@@ -176,10 +176,10 @@ byte_is false = refl
 -- a PDU's room is split into length indicators and octets
 pub record IsSplit (lead : Option ℕ) (room n m : ℕ) (c : Cut) (us : List (List ℕ)) : Type 0 where
   pub whole : n + m ≡ room
-  pub count : n ≡ length (marks_with lead (n + m) c us)
-  pub rest : m ≡ room - length (marks_with lead room c us)
+  pub count : n ≡ length (indicators_with lead (n + m) c us)
+  pub rest : m ≡ room - length (indicators_with lead room c us)
 
 pub split_is : (lead : Option ℕ) (room n m ends b : ℕ) (c : Cut) (us : List (List ℕ)) → IsThere c us → n ≡ ends + b → n + m ≡ room → ends ≡ length (led_by lead) + c.pieces → b ≡ bool_byte c.padded → c.padded ≡ is_padded room lead c us → IsSplit lead room n m c us
 split_is lead room n m ends b c us there e whole f g told =
-    let count : n ≡ length (marks_with lead room c us) = omega (arith, e, f, g, byte_is c.padded, marks_count lead room c us there told) in
-    record { whole = whole; count = count ∙ ap (λ r. length (marks_with lead r c us)) (sym whole); rest = omega (arith, count, whole) }
+    let count : n ≡ length (indicators_with lead room c us) = omega (arith, e, f, g, byte_is c.padded, indicators_count lead room c us there told) in
+    record { whole = whole; count = count ∙ ap (λ r. length (indicators_with lead r c us)) (sym whole); rest = omega (arith, count, whole) }

@@ -75,14 +75,14 @@ abbrev pub is_padded : ℕ → Option ℕ → Cut → List (List ℕ) → Bool
 is_padded room lead c us = nat_lt (length (led_by lead) + length (octets_of c us) + c.pieces) room
 
 -- the length indicators of the PDU, of so many octets behind its header: the one that stands first, those of ends, and that of padding
-abbrev pub marks_with : Option ℕ → ℕ → Cut → List (List ℕ) → List ℕ
-marks_with lead room c us = led_by lead ++ (ends_at 0 (take c.pieces us) ++ padding room (length (led_by lead) + length (octets_of c us) + c.pieces))
+abbrev pub indicators_with : Option ℕ → ℕ → Cut → List (List ℕ) → List ℕ
+indicators_with lead room c us = led_by lead ++ (ends_at 0 (take c.pieces us) ++ padding room (length (led_by lead) + length (octets_of c us) + c.pieces))
 
 -- length indicators where one is written at a place: seven bits, and the bit that tells whether one more follows
-abbrev pub with_mark : ℕ → ℕ → List ℕ → List ℕ
-with_mark m at out = slice_set out at (2 * m + (if nat_lt (at + 1) (length out) then 1 else 0))
+abbrev pub with_indicator : ℕ → ℕ → List ℕ → List ℕ
+with_indicator m at out = slice_set out at (2 * m + (if nat_lt (at + 1) (length out) then 1 else 0))
 
 -- the same of the one that stands first, or none
 abbrev pub with_lead : Option ℕ → List ℕ → List ℕ
 with_lead None out = out
-with_lead (Some m) out = with_mark m 0 out
+with_lead (Some m) out = with_indicator m 0 out

@@ -1,7 +1,7 @@
 ghost use Rattle.std.specs.Prelude.{◌≡◌, ◌+◌, ◌<◌, ◌≤◌, ◌++◌, [], All, drop, length, slice_index_or, take};
 ghost use Rattle.dch_rlcpdu.specs.Body.{body_text, padded};
-ghost use Rattle.dch_rlcpdu.specs.Marks.{indicators, more};
-ghost use Rattle.dch_txbuf.specs.Cuts.{IsStart, IsThere, is_padded, led_by, left_at, marks_with, octets_of, with_lead, with_mark};
+ghost use Rattle.dch_rlcpdu.specs.Indicators.{indicator_octets, more};
+ghost use Rattle.dch_txbuf.specs.Cuts.{IsStart, IsThere, is_padded, led_by, left_at, indicators_with, octets_of, with_lead, with_indicator};
 
 use crate::store::SduBuffer;
 use crate::taken::{Cut, Start};
@@ -22,13 +22,13 @@ pub fn write_body(
     requires small { length out.old ≤ 126 }
     requires lead { All (λ m. m < 128) (led_by lead) }
     requires padded { cut.now.padded ≡ is_padded (length out.old) lead cut.now (left_at start.now sdus.now.items) }
-    ensures text { out.new ≡ body_text (marks_with lead (length out.old) cut.now (left_at start.now sdus.now.items)) (octets_of cut.now (left_at start.now sdus.now.items)) (length out.old) }
-    ensures more { result ≡ more (marks_with lead (length out.old) cut.now (left_at start.now sdus.now.items)) }
+    ensures text { out.new ≡ body_text (indicators_with lead (length out.old) cut.now (left_at start.now sdus.now.items)) (octets_of cut.now (left_at start.now sdus.now.items)) (length out.old) }
+    ensures more { result ≡ more (indicators_with lead (length out.old) cut.now (left_at start.now sdus.now.items)) }
 {
     let ends = count_ends(cut, lead);
     let count = ends + usize::from(cut.padded);
-    let (marks, octets) = out.split_at_mut(count);
-    write_parts(sdus, start, cut, lead, marks, octets);
+    let (indicators, octets) = out.split_at_mut(count);
+    write_parts(sdus, start, cut, lead, indicators, octets);
     u8::from(count > 0)
 }
 
@@ -48,23 +48,23 @@ fn write_parts(
     start: &Start,
     cut: &Cut,
     lead: Option<u8>,
-    marks: &mut [u8],
+    indicators: &mut [u8],
     octets: &mut [u8],
 )
     requires start { IsStart sdus.now.items start.now }
     requires there { IsThere cut.now (left_at start.now sdus.now.items) }
-    requires count { length marks.old ≡ length (marks_with lead (length marks.old + length octets.old) cut.now (left_at start.now sdus.now.items)) }
+    requires count { length indicators.old ≡ length (indicators_with lead (length indicators.old + length octets.old) cut.now (left_at start.now sdus.now.items)) }
     requires room { length (octets_of cut.now (left_at start.now sdus.now.items)) ≤ length octets.old }
-    requires small { length marks.old + length octets.old ≤ 126 }
+    requires small { length indicators.old + length octets.old ≤ 126 }
     requires lead { All (λ m. m < 128) (led_by lead) }
-    requires padded { cut.now.padded ≡ is_padded (length marks.old + length octets.old) lead cut.now (left_at start.now sdus.now.items) }
-    ensures marks { marks.new ≡ indicators (marks_with lead (length marks.old + length octets.old) cut.now (left_at start.now sdus.now.items)) }
+    requires padded { cut.now.padded ≡ is_padded (length indicators.old + length octets.old) lead cut.now (left_at start.now sdus.now.items) }
+    ensures indicators { indicators.new ≡ indicator_octets (indicators_with lead (length indicators.old + length octets.old) cut.now (left_at start.now sdus.now.items)) }
     ensures octets { octets.new ≡ padded (length octets.old) (octets_of cut.now (left_at start.now sdus.now.items)) }
 {
-    let carried = write_pieces(sdus, start, cut, lead, marks, octets);
+    let carried = write_pieces(sdus, start, cut, lead, indicators, octets);
     octets[carried..].fill(0);
     if cut.padded {
-        write_mark(PADDING, marks.len() - 1, marks);
+        write_indicator(PADDING, indicators.len() - 1, indicators);
     }
 }
 
@@ -74,32 +74,32 @@ fn write_pieces(
     start: &Start,
     cut: &Cut,
     lead: Option<u8>,
-    marks: &mut [u8],
+    indicators: &mut [u8],
     octets: &mut [u8],
 ) -> usize
     requires start { IsStart sdus.now.items start.now }
     requires there { IsThere cut.now (left_at start.now sdus.now.items) }
-    requires count { length marks.old ≡ length (marks_with lead (length marks.old + length octets.old) cut.now (left_at start.now sdus.now.items)) }
+    requires count { length indicators.old ≡ length (indicators_with lead (length indicators.old + length octets.old) cut.now (left_at start.now sdus.now.items)) }
     requires room { length (octets_of cut.now (left_at start.now sdus.now.items)) ≤ length octets.old }
-    requires small { length marks.old + length octets.old ≤ 126 }
+    requires small { length indicators.old + length octets.old ≤ 126 }
     requires lead { All (λ m. m < 128) (led_by lead) }
     ensures octets { take result octets.new ≡ octets_of cut.now (left_at start.now sdus.now.items) }
     ensures count { result ≡ length (octets_of cut.now (left_at start.now sdus.now.items)) }
     ensures same { length octets.new ≡ length octets.old }
-    ensures marks { take (length (led_by lead) + cut.now.pieces) marks.new ≡ take (length (led_by lead) + cut.now.pieces) (indicators (marks_with lead (length marks.old + length octets.old) cut.now (left_at start.now sdus.now.items))) }
-    ensures number { length marks.new ≡ length marks.old }
+    ensures indicators { take (length (led_by lead) + cut.now.pieces) indicators.new ≡ take (length (led_by lead) + cut.now.pieces) (indicator_octets (indicators_with lead (length indicators.old + length octets.old) cut.now (left_at start.now sdus.now.items))) }
+    ensures number { length indicators.new ≡ length indicators.old }
 {
     let first = start.sdu as usize;
     let pieces = cut.pieces as usize;
     let rest = cut.rest as usize;
-    let before = write_lead(lead, marks);
+    let before = write_lead(lead, indicators);
     let mut at = 0;
     let mut used = start.used as usize;
     for i in first..first + pieces {
         let count = sdus.octets(i) as usize - used;
         copy_part(sdus, i, used, count, at, octets);
         at += count;
-        write_mark(at as u8, before + (i - first), marks);
+        write_indicator(at as u8, before + (i - first), indicators);
         used = 0;
     }
     if rest > 0 {
@@ -109,15 +109,15 @@ fn write_pieces(
 }
 
 /// Writes the length indicator that stands first, where there is one. Answers how many they are.
-fn write_lead(lead: Option<u8>, marks: &mut [u8]) -> usize
-    requires room { length (led_by lead) ≤ length marks.old }
+fn write_lead(lead: Option<u8>, indicators: &mut [u8]) -> usize
+    requires room { length (led_by lead) ≤ length indicators.old }
     requires small { All (λ m. m < 128) (led_by lead) }
     ensures count { result ≡ length (led_by lead) }
-    ensures mark { marks.new ≡ with_lead lead marks.old }
+    ensures indicator { indicators.new ≡ with_lead lead indicators.old }
 {
     match lead {
-        Some(mark) => {
-            write_mark(mark, 0, marks);
+        Some(indicator) => {
+            write_indicator(indicator, 0, indicators);
             1
         }
         None => 0,
@@ -125,12 +125,12 @@ fn write_lead(lead: Option<u8>, marks: &mut [u8]) -> usize
 }
 
 /// Writes a length indicator at its place among all of them.
-fn write_mark(mark: u8, at: usize, marks: &mut [u8])
-    requires small { mark < 128 }
-    requires inside { at < length marks.old }
-    ensures { marks.new ≡ with_mark mark at marks.old }
+fn write_indicator(indicator: u8, at: usize, indicators: &mut [u8])
+    requires small { indicator < 128 }
+    requires inside { at < length indicators.old }
+    ensures { indicators.new ≡ with_indicator indicator at indicators.old }
 {
-    marks[at] = 2 * mark + u8::from(at + 1 < marks.len());
+    indicators[at] = 2 * indicator + u8::from(at + 1 < indicators.len());
 }
 
 /// Copies so many octets of an SDU, from one of them on, to a place of `octets`.

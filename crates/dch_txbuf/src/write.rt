@@ -1,9 +1,9 @@
 ghost use Rattle.std.specs.Prelude.{◌≡◌, ◌+◌, ◌-◌, ◌<◌, ◌≤◌, [], ◌∷◌, All, length, if◌then◌else◌};
-ghost use Rattle.dch_am.specs.Bodies.{carried, marks_of};
+ghost use Rattle.dch_am.specs.Bodies.{carried, indicators_of};
 ghost use Rattle.dch_am.specs.Short.{IsShort};
 ghost use Rattle.dch_rlcpdu.specs.Am.{am_pdu};
 ghost use Rattle.dch_rlcpdu.specs.Um.{um_pdu};
-ghost use Rattle.dch_txbuf.specs.Cuts.{IsStart, IsThere, body_of, has_padding, is_padded, led_by, left_at, marks_with, octets_of};
+ghost use Rattle.dch_txbuf.specs.Cuts.{IsStart, IsThere, body_of, has_padding, is_padded, led_by, left_at, indicators_with, octets_of};
 
 use crate::body::write_body;
 use crate::store::SduBuffer;
@@ -27,7 +27,7 @@ pub fn write_taken(sdus: &SduBuffer, start: &Start, cut: &Cut, header: &Header, 
     requires most { length out.old ≤ 126 }
     requires short { IsShort (length out.old - 2) (body_of header.now.full cut.now (left_at start.now sdus.now.items)) }
     requires padded { cut.now.padded ≡ has_padding (length out.old - 2) (body_of header.now.full cut.now (left_at start.now sdus.now.items)) }
-    ensures { out.new ≡ am_pdu header.now.number header.now.poll (marks_of (length out.old - 2) (body_of header.now.full cut.now (left_at start.now sdus.now.items))) (carried (body_of header.now.full cut.now (left_at start.now sdus.now.items))) (length out.old) }
+    ensures { out.new ≡ am_pdu header.now.number header.now.poll (indicators_of (length out.old - 2) (body_of header.now.full cut.now (left_at start.now sdus.now.items))) (carried (body_of header.now.full cut.now (left_at start.now sdus.now.items))) (length out.old) }
 {
     let lead = lead_of(header.full);
     let (front, body) = out.split_at_mut(2);
@@ -61,7 +61,7 @@ pub fn write_um_taken(
     requires most { length out.old ≤ 126 }
     requires few { length (led_by lead) + length (octets_of cut.now (left_at start.now sdus.now.items)) + cut.now.pieces ≤ length out.old - 1 }
     requires padded { cut.now.padded ≡ is_padded (length out.old - 1) lead cut.now (left_at start.now sdus.now.items) }
-    ensures { out.new ≡ um_pdu number (marks_with lead (length out.old - 1) cut.now (left_at start.now sdus.now.items)) (octets_of cut.now (left_at start.now sdus.now.items)) (length out.old) }
+    ensures { out.new ≡ um_pdu number (indicators_with lead (length out.old - 1) cut.now (left_at start.now sdus.now.items)) (octets_of cut.now (left_at start.now sdus.now.items)) (length out.old) }
 {
     let (front, body) = out.split_at_mut(1);
     let more = write_body(sdus, start, cut, lead, body);

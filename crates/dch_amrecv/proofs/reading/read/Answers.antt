@@ -9,7 +9,7 @@ use Rattle.dch_amrecv.proofs.reading.read.Goals as goal
 
 pub returns-in-Some : goal.returns-in-Some
 returns-in-Some c =
-    let dead : c.min-dead.result ≡ min (dead_pieces c.in-Some.n (body_in c.args.body.now)) (length (ends_of c.args.body.now.marks)) = dead_is c.in-Some.n c.args.body.now c.previous_full-full.result c.from.result c.saturating_sub-left_out.result c.min-dead.result c.previous_full-full.ensures c.from.ensures c.saturating_sub-left_out.ensures (c.min-dead.ensures ∙ ap (min c.saturating_sub-left_out.result) c.ends.ensures.value) in
+    let dead : c.min-dead.result ≡ min (dead_pieces c.in-Some.n (body_in c.args.body.now)) (length (ends_of c.args.body.now.indicators)) = dead_is c.in-Some.n c.args.body.now c.previous_full-full.result c.from.result c.saturating_sub-left_out.result c.min-dead.result c.previous_full-full.ensures c.from.ensures c.saturating_sub-left_out.ensures (c.min-dead.ensures ∙ ap (min c.saturating_sub-left_out.result) c.ends.ensures.value) in
     c.take.ensures
     ∙ (ap (took_parts (drop c.min-dead.result (parts_of c.args.body.now))) c.abandon.ensures
     ∙ (parts_behind c.args.body.now (dead_pieces c.in-Some.n (body_in c.args.body.now)) c.min-dead.result _ dead

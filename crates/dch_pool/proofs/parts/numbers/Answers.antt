@@ -1,6 +1,6 @@
 -- One more number at the end.
 use Rattle.std.proofs.Common.{sym, ◌∙◌, add-one, zero-add}
-use Rattle.dch_pool.proofs.Marks.{range_with_len-more}
+use Rattle.dch_pool.proofs.Flags.{range_with_len-more}
 use Rattle.dch_pool.proofs.parts.numbers.Goals as goal
 
 pub loop-number-preserved : goal.loop-number-preserved

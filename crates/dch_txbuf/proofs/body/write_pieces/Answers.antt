@@ -1,7 +1,7 @@
 use Rattle.std.proofs.Common.{◌≡◌, ◌+◌, ◌-◌, ◌++◌, ◌∙◌, [], ap, take, arith, drop, get_or, length, length-drop, ℕ, List}
 use Rattle.dch_txbuf.specs.Cuts.{left_at}
 use Rattle.dch_txbuf.proofs.Cutting.{all_carried, carries_on, next_piece, none_carried, rest_there}
-use Rattle.dch_txbuf.proofs.Marking.{counts_of, length-marks, placed_on}
+use Rattle.dch_txbuf.proofs.Marking.{counts_of, length-indicators, placed_on}
 use Rattle.dch_txbuf.proofs.body.write_pieces.Goals as goal
 use Rattle.dch_txbuf.proofs.body.write_pieces.Goals.{then-rest-gt0, else-rest-gt0}
 
@@ -10,14 +10,14 @@ copy_part-requires-clause-room c =
     let is = next_piece c.args.sdus.now.items c.args.start.now c.args.cut.now c.args.octets.now c.loop-i.octets c.loop-i.at c.loop-i.used c.loop-i.i c.loop-i.invariant.0 c.loop-i-test.true c.requires.there c.requires.room in
     omega (arith, is.room, c.octets.ensures)
 
-pub write_mark-requires-clause-inside : goal.write_mark-requires-clause-inside
-write_mark-requires-clause-inside c = omega (arith, c.loop-i.invariant.1.same, length-marks c.args.lead (length c.args.marks.now + length c.args.octets.now) c.args.cut.now (left_at c.args.start.now c.args.sdus.now.items) c.requires.there, c.write_lead-before.ensures.count, c.loop-i-test.true, c.loop-i.invariant.0.from)
+pub write_indicator-requires-clause-inside : goal.write_indicator-requires-clause-inside
+write_indicator-requires-clause-inside c = omega (arith, c.loop-i.invariant.1.same, length-indicators c.args.lead (length c.args.indicators.now + length c.args.octets.now) c.args.cut.now (left_at c.args.start.now c.args.sdus.now.items) c.requires.there, c.write_lead-before.ensures.count, c.loop-i-test.true, c.loop-i.invariant.0.from)
 
 pub loop-i-preserved : goal.loop-i-preserved
 loop-i-preserved c =
     let is = next_piece c.args.sdus.now.items c.args.start.now c.args.cut.now c.args.octets.now c.loop-i.octets c.loop-i.at c.loop-i.used c.loop-i.i c.loop-i.invariant.0 c.loop-i-test.true c.requires.there c.requires.room in (
       carries_on c.args.sdus.now.items c.args.start.now c.args.octets.now c.loop-i.octets c.copy_part.new.octets c.loop-i.at c.loop-i.used c.loop-i.i (c.octets.result - c.loop-i.used) c.loop-i.invariant.0 is.inside (ap (λ n. n - c.loop-i.used) c.octets.ensures) (omega (arith, is.room, c.octets.ensures)) c.copy_part.ensures,
-      placed_on c.args.sdus.now.items c.args.start.now c.args.lead (length c.args.marks.now + length c.args.octets.now) c.args.cut.now c.loop-i.marks c.write_mark.new.marks c.loop-i.at c.loop-i.used c.loop-i.i (c.octets.result - c.loop-i.used) c.write_lead-before.result (counts_of c.loop-i.invariant.0) c.loop-i.invariant.1 c.requires.there c.loop-i-test.true (ap (λ n. n - c.loop-i.used) c.octets.ensures) c.write_lead-before.ensures.count c.write_mark.ensures,
+      placed_on c.args.sdus.now.items c.args.start.now c.args.lead (length c.args.indicators.now + length c.args.octets.now) c.args.cut.now c.loop-i.indicators c.write_indicator.new.indicators c.loop-i.at c.loop-i.used c.loop-i.i (c.octets.result - c.loop-i.used) c.write_lead-before.result (counts_of c.loop-i.invariant.0) c.loop-i.invariant.1 c.requires.there c.loop-i-test.true (ap (λ n. n - c.loop-i.used) c.octets.ensures) c.write_lead-before.ensures.count c.write_indicator.ensures,
     )
 
 pub copy_part-requires-then-rest-gt0-clause-inside : goal.copy_part-requires-then-rest-gt0-clause-inside

@@ -9,8 +9,8 @@ returns-clause-short c = short_next
 pub returns-clause-room : goal.returns-clause-room
 returns-clause-room c = room_is
 
-pub returns-clause-marks : goal.returns-clause-marks
-returns-clause-marks c d b small is = (says d b small is).good
+pub returns-clause-indicators : goal.returns-clause-indicators
+returns-clause-indicators c d b small is = (says d b small is).good
 
 pub returns-clause-alone : goal.returns-clause-alone
 returns-clause-alone c d b small is = rw (says d b small is).alone refl

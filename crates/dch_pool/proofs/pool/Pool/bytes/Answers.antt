@@ -3,7 +3,7 @@ use Rattle.std.proofs.Common.{◌≡◌, true, false, get_or, sym}
 use Rattle.dch_pool.specs.Blocks.{Blocks}
 use Rattle.dch_pool.specs.Held.{contents_of}
 use Rattle.dch_pool.proofs.Contents.{lent-marked, Holds-marked, octets_of-Holds, lent-within}
-use Rattle.dch_pool.proofs.Marks.{marked-inside}
+use Rattle.dch_pool.proofs.Flags.{marked-inside}
 use Rattle.dch_pool.proofs.pool.Pool.bytes.Goals as goal
 
 pub part-requires : goal.part-requires

@@ -4,7 +4,7 @@ use Rattle.std.specs.Prelude.{vec_len}
 use Rattle.dch_pool.specs.Blocks.{Blocks}
 use Rattle.dch_pool.specs.Held.{contents_of}
 use Rattle.dch_pool.proofs.Contents.{lent-marked, Holds-marked, octets_of-Holds, lent-within}
-use Rattle.dch_pool.proofs.Marks.{marked-inside}
+use Rattle.dch_pool.proofs.Flags.{marked-inside}
 use Rattle.dch_pool.proofs.Spreading.{region_written, written_alone, written_from}
 use Rattle.dch_pool.proofs.pool.Pool.bytes_mut.Goals as goal
 

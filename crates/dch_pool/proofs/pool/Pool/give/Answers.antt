@@ -1,7 +1,7 @@
 -- The block is marked, so there is room for its number.
 use Rattle.std.proofs.Common.{◌≡◌, true, false, get_or, arith, ap}
 use Rattle.dch_pool.proofs.Contents.{lent-marked, contents_of-given}
-use Rattle.dch_pool.proofs.Marks.{marked-inside, room-given, IsHeld-given}
+use Rattle.dch_pool.proofs.Flags.{marked-inside, room-given, IsHeld-given}
 use Rattle.dch_pool.proofs.pool.Pool.give.Goals as goal
 use Rattle.dch_pool.proofs.pool.Pool.give.Goals.{After-push, After-unwrap}
 

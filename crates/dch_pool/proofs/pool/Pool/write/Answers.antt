@@ -5,7 +5,7 @@ use Rattle.dch_pool.specs.Blocks.{Blocks, IsLent, octets_of, written}
 use Rattle.dch_pool.specs.Held.{contents_of}
 use Rattle.dch_pool.proofs.Contents.{Holds-octets_of, lent-marked, lent-within}
 use Rattle.dch_pool.proofs.Lending.{contents_of-overwritten}
-use Rattle.dch_pool.proofs.Marks.{marked-inside}
+use Rattle.dch_pool.proofs.Flags.{marked-inside}
 use Rattle.dch_pool.proofs.pool.Pool.write.Goals as goal
 
 pub overwrite-requires : goal.overwrite-requires

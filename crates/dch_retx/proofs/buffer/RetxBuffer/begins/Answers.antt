@@ -13,5 +13,5 @@ invariant_of-self c =
     (ap (λ (b : Buffer SentPdu). length b.items) c.clear_request.ensures ∙ length-changed request_cleared c.args.place c.self.inside.flight.items)
     (ap (λ (b : Buffer SentPdu). b.capacity) c.clear_request.ensures)
     (subst (λ n. c.args.place < n) (ap (λ (x : RetxBuffer). length x.in_flight) (sym c.self.view_is)) c.requires.inside)
-    c.requires.mark
+    c.requires.indicator
     c.self.invariant

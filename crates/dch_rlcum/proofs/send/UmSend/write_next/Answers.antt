@@ -4,7 +4,7 @@ use Rattle.circular_buffer.specs.Buffer.{Buffer}
 use Rattle.dch_sar.specs.Filling.{IsCarried}
 use Rattle.dch_am.specs.Bodies.{joined}
 use Rattle.dch_txbuf.specs.declared.taken.Start.{Start}
-use Rattle.dch_txbuf.specs.Cuts.{is_padded, left_at, marks_with, octets_of}
+use Rattle.dch_txbuf.specs.Cuts.{is_padded, left_at, indicators_with, octets_of}
 use Rattle.dch_rlcpdu.specs.Um.{um_pdu}
 use Rattle.dch_rlcum.specs.Queue.{IsQueue, units_at}
 use Rattle.dch_rlcum.specs.Sending.{Sending, after_build, carried_by, pdu_of, room_of}
@@ -48,8 +48,8 @@ returns-clause-text c =
     let size : length c.args.out.now ≡ c.self.inside.pdu = c.requires.size ∙ sym (ap (λ (s : Sending). s.pdu) c.self.view_is) in
     let us = left_at c.self.inside.start c.self.inside.sdus.items in
     c.write_um_taken.ensures
-    ∙ (ap (λ n. um_pdu c.self.inside.number (marks_with c.lead-lead.result (n - 1) c.next_cut-cut.result us) (octets_of c.next_cut-cut.result us) n) size
-    ∙ (ap₂ (λ ms xs. um_pdu c.self.inside.number ms xs c.self.inside.pdu) r.taken.marks r.taken.octets ∙ ap pdu_of c.self.view_is))
+    ∙ (ap (λ n. um_pdu c.self.inside.number (indicators_with c.lead-lead.result (n - 1) c.next_cut-cut.result us) (octets_of c.next_cut-cut.result us) n) size
+    ∙ (ap₂ (λ ms xs. um_pdu c.self.inside.number ms xs c.self.inside.pdu) r.taken.indicators r.taken.octets ∙ ap pdu_of c.self.view_is))
 
 pub returns-clause-after : goal.returns-clause-after
 returns-clause-after c =

@@ -1,4 +1,4 @@
--- The marks of lent blocks and the numbers of spare ones, as blocks are lent and given back.
+-- The flags of lent blocks and the numbers of spare ones, as blocks are lent and given back.
 use Rattle.std.proofs.Common.{◌≡◌, ◌≢◌, ℕ, zero, suc, ◌+◌, ◌*◌, ◌^◌, ◌<◌, ◌≤◌, List, [], ◌∷◌, ◌++◌, length, get_or, Bool, true, false, not, cond, arith, refl, ap, sym, ◌∙◌, subst, inl, inr, ◌⊎◌, length-append}
 use Rattle.std.specs.Prelude.{count_by, replicate}
 use Rattle.std.specs.List.{range_with_len}
@@ -23,11 +23,11 @@ spare-inside [] n h = cc
 spare-inside (l ∷ ls) zero h = omega arith
 spare-inside (l ∷ ls) (suc n) h = let ih = spare-inside ls n h in omega arith
 
--- the mark of a block that is there is the same for both defaults
-pub same-mark : (lent : List Bool) (n : ℕ) (a b : Bool) → n < length lent → get_or lent n a ≡ get_or lent n b
-same-mark [] n a b h = absurd (omega arith)
-same-mark (l ∷ ls) zero a b h = refl
-same-mark (l ∷ ls) (suc n) a b h = same-mark ls n a b (omega arith)
+-- the flag of a block that is there is the same for both defaults
+pub same-flag : (lent : List Bool) (n : ℕ) (a b : Bool) → n < length lent → get_or lent n a ≡ get_or lent n b
+same-flag [] n a b h = absurd (omega arith)
+same-flag (l ∷ ls) zero a b h = refl
+same-flag (l ∷ ls) (suc n) a b h = same-flag ls n a b (omega arith)
 
 -- a number of a list with one more at its end: one of the list, or the last
 one-of : (numbers : List ℕ) (n i : ℕ) → i < length (numbers ++ n ∷ [])
@@ -61,7 +61,7 @@ count-taken lent n inside free =
 pub room-given : (lent : List Bool) (n : ℕ) → get_or lent n false ≡ true → count_by not lent < length lent
 room-given lent n marked =
     let inside : n < length lent = marked-inside lent n marked in
-    let more = count-given lent n inside (same-mark lent n true false inside ∙ marked) in
+    let more = count-given lent n inside (same-flag lent n true false inside ∙ marked) in
     let most = count_by-le-length not (set lent n false) in
     omega (arith, length-set lent n false)
 
@@ -93,7 +93,7 @@ pub IsHeld-given : (size : ℕ) (region : List ℕ) (lent : List Bool) (spare : 
     → IsHeld size region (set lent n false) (spare ++ n ∷ []) more
 IsHeld-given size region lent spare room more n held wider marked =
     let inside : n < length lent = marked-inside lent n marked in
-    let marked_so : get_or lent n true ≡ true = same-mark lent n true false inside ∙ marked in
+    let marked_so : get_or lent n true ≡ true = same-flag lent n true false inside ∙ marked in
     let one_more : length (spare ++ n ∷ []) ≡ length spare + 1 = length-append spare (n ∷ []) in
     let counted = count-given lent n inside marked_so in
     let same_length : length (set lent n false) ≡ length lent = length-set lent n false in
@@ -136,11 +136,11 @@ count_by-replicate n = sum_by-replicate (λ l. cond (not l) 1 0) n false ∙ ome
 pub IsHeld-opened : (size count room : ℕ) (region : List ℕ) → length region ≡ count * size → length region < 2 ^ 64 → count ≤ room
     → IsHeld size region (replicate count false) (range_with_len 0 count) room
 IsHeld-opened size count room region whole small enough =
-    let marks : length (replicate count false) ≡ count = length-replicate count false in
+    let flags : length (replicate count false) ≡ count = length-replicate count false in
     let many : length (range_with_len 0 count) ≡ count = length-range_with_len 0 count in
     let at : (i : ℕ) → i < length (range_with_len 0 count) → get_or (range_with_len 0 count) i 0 ≡ i = λ i h. get_or-range_with_len 0 count i 0 (omega arith) ∙ omega arith in
     record {
-      whole = rw marks whole;
+      whole = rw flags whole;
       small = small;
       free = λ i h. rw (at i h) (get_or-replicate count i false true (omega arith));
       distinct = λ i j hi hj e. sym (at i hi) ∙ e ∙ at j hj;
