@@ -1,16 +1,4 @@
-pub mod Blocks
-pub mod Checks
 pub mod Commands
-pub mod Complete
-pub mod Fronts
 pub mod GenComplete
-pub mod Judging
 pub mod LinkUnits
 pub mod NodeComplete
-pub mod NodeRuns
-pub mod PairComplete
-pub mod Scripts
-pub mod SoftRuns
-pub mod SoftStays
-pub mod Texts
-pub mod Traces

@@ -1,5 +1,5 @@
 -- A run of `link` that went well carries the units of the bearers.
-use Rattle.std.proofs.Common.{◌≡◌, ◌%◌, ◌*◌, ℕ, List, Bool, Option, None, Some, arith, refl, sym, subst, ⊎_elim}
+use Rattle.std.proofs.Common.{◌≡◌, ◌%◌, ◌*◌, ℕ, List, Bool, Option, None, Some, arith, sym, subst, ⊎_elim}
 use Rattle.std.specs.Prelude.{IfSome}
 use Rattle.dch_accept.specs.Plans.{IsPlanned, Planned}
 use Rattle.dch_io.specs.Ends.{End}
@@ -8,8 +8,7 @@ use Rattle.dch_check.specs.declared.both.Second.{Second}
 use Rattle.dch_script.specs.Lines.{lines_of}
 use Rattle.dch_check.specs.ConfigSection.{configuration_of, script_of}
 use Rattle.dch_lines.specs.LineTexts.{HandlesLines}
-use Rattle.dch_lines.specs.declared.stop.Outcome.{Outcome}
-use Rattle.dch_lines.specs.declared.stop.Outcome.TheVariants.{Ok as Done, Refused as MetMalformed, ReadFault as FailedReading, WriteFault as FailedWriting, NoMemory as Lacking, TooLong as TookTooMuch}
+use Rattle.dch_lines.specs.declared.stop.Outcome.TheVariants.{Ok as Done}
 use Rattle.dch_linkcmd.specs.Rules.{link_lines}
 use Rattle.dch_linkcmd.specs.Run.{Run}
 use Rattle.dch_nodecmd.specs.Standing.{CanFollow}
@@ -18,24 +17,17 @@ use Rattle.dch_words.specs.declared.arguments.Subcommand.{Subcommand}
 use Rattle.dch_words.specs.declared.arguments.Subcommand.TheVariants.{Link}
 use Rattle.dch_runlaw.specs.Headline.{IsLater}
 use Rattle.dch_runlaw.proofs.Headline.{carried}
-use Rattle.dch_top.proofs.Fronts.{second_follows}
-use Rattle.dch_top.specs.Benches.{Nodes}
-use Rattle.dch_top.specs.Configured.{EndsLate, FollowsScript, outcome_status}
-use Rattle.dch_top.specs.LinkRuns.{RunsLink, run_of}
+use Rattle.dch_runs.proofs.Fronts.{second_follows}
+use Rattle.dch_runs.proofs.Outcomes.{only_well}
+use Rattle.dch_runs.specs.Benches.{Nodes}
+use Rattle.dch_runs.specs.Configured.{EndsLate, FollowsScript}
+use Rattle.dch_runs.specs.LinkRuns.{RunsLink, run_of}
 use Rattle.dch_top.specs.LinkUnits.{CarriesUnits}
-use Rattle.dch_top.specs.NodeRuns.{later_of}
+use Rattle.dch_runs.specs.NodeRuns.{later_of}
 use Rattle.dch_top.specs.Ran.{Runs}
-use Rattle.dch_top.specs.declared.command.Status.{Status}
-use Rattle.dch_top.specs.declared.command.Status.TheVariants.{Ok as Well}
-use Rattle.dch_top.specs.declared.front.FrontKind.TheVariants.{Both}
-
-pub only_well : (outcome : Outcome) → Well ≡ outcome_status outcome → outcome ≡ Done
-only_well Done same = refl
-only_well MetMalformed same = cc
-only_well FailedReading same = cc
-only_well FailedWriting same = cc
-only_well Lacking same = cc
-only_well TookTooMuch same = cc
+use Rattle.dch_plaincmd.specs.declared.status.Status.{Status}
+use Rattle.dch_plaincmd.specs.declared.status.Status.TheVariants.{Ok as Well}
+use Rattle.dch_runs.specs.declared.front.FrontKind.TheVariants.{Both}
 
 -- a second configuration keeps its limits, and can follow the first one
 laters : (first : Planned) (second : Option Second) → IfSome second (λ s. IsPlanned s.accepted) → IfSome (later_of second) (CanFollow first) → IfSome (later_of second) (IsLater first)

@@ -1,51 +1,31 @@
 -- What a run answers, by the bytes that it took and wrote.
-use Rattle.std.specs.Prelude.{◌≡◌, ◌⊎◌, ℕ, List, [], All, IsOk, true, map, String, codes, string_bytes}
+use Rattle.std.specs.Prelude.{◌≡◌, ℕ, List, [], map, String, codes, string_bytes}
 use Rattle.std.specs.declared.alloc.Global.{Global}
 use Rattle.std.specs.Io.KnownBytes.{Appends}
 use Rattle.dch_io.specs.Ends.{End, Fails, IsCutShort}
 use Rattle.dch_check.specs.declared.both.Configurations.{Configurations}
-use Rattle.dch_script.specs.Code.{meaning}
 use Rattle.dch_words.specs.Parses.{IsCommand, Parses}
 use Rattle.dch_words.specs.declared.arguments.Subcommand.{Subcommand}
 use Rattle.dch_words.specs.declared.arguments.Subcommand.TheVariants.{Check, Encode, NodeB, Rnc, Ue, Link, Soft, Gen, Pair}
 use Rattle.dch_words.specs.declared.arguments.Arguments.{Arguments}
-use Rattle.dch_lines.specs.Processor.{Progress}
-use Rattle.dch_lines.specs.Followed.{FollowsInput}
-use Rattle.dch_lines.specs.LineTexts.{is_empty}
-use Rattle.dch_lines.specs.declared.stop.Outcome.TheVariants.{Ok as Done, Refused as MetMalformed, ReadFault as FailedReading, WriteFault as FailedWriting, TooLong as TookTooMuch}
 use Rattle.dch_nodebcmd.specs.Rules.{node_b_rules}
 use Rattle.dch_rnccmd.specs.Rules.{rnc_rules}
 use Rattle.dch_uecmd.specs.Rules.{ue_rules}
-use Rattle.dch_top.specs.Benches.{Nodes, no_nodes}
-use Rattle.dch_top.specs.Checked.{Checks}
-use Rattle.dch_top.specs.EncodeText.{encoding}
-use Rattle.dch_top.specs.GenRuns.{RunsGen}
-use Rattle.dch_top.specs.LinkRuns.{AreLinkLines, RunsLink}
-use Rattle.dch_top.specs.NodeBRuns.{RunsNodeB}
-use Rattle.dch_top.specs.NodeRuns.{AreNodeLines}
-use Rattle.dch_top.specs.PairRuns.{RunsPair}
-use Rattle.dch_top.specs.RncRuns.{RunsRnc}
-use Rattle.dch_top.specs.SoftRuns.{AreSoftLines, RunsSoft}
-use Rattle.dch_top.specs.UeRuns.{RunsUe}
-use Rattle.dch_top.specs.Untouched.{IsUntouched}
-use Rattle.dch_top.specs.declared.command.Status.{Status}
-use Rattle.dch_top.specs.declared.command.Status.TheVariants.{Ok, Refused, Usage, ReadFault, WriteFault, NoMemory, TooLong}
-use Rattle.dch_top.specs.declared.front.FrontKind.{FrontKind}
-use Rattle.dch_top.specs.declared.front.FrontKind.TheVariants.{Single, Both}
-
--- the work of `encode` before its first line
-abbrev pub beginning : Progress (Unit {0})
-beginning = record { handler = tt; line = []; text = []; bytes = 0; lines = 0; nonempty_lines = 0 }
-
--- what `encode` does: it follows the lines of its input
-abbrev pub Encodes : End → End → Status → Type 0
-Encodes source sink Ok = FollowsInput encoding source sink beginning tt [] Done
-Encodes source sink Refused = FollowsInput encoding source sink beginning tt [] MetMalformed
-Encodes source sink Usage = ⊥
-Encodes source sink ReadFault = FollowsInput encoding source sink beginning tt [] FailedReading
-Encodes source sink WriteFault = FollowsInput encoding source sink beginning tt [] FailedWriting
-Encodes source sink NoMemory = IsUntouched source sink
-Encodes source sink TooLong = FollowsInput encoding source sink beginning tt [] TookTooMuch
+use Rattle.dch_runs.specs.Benches.{Nodes, no_nodes}
+use Rattle.dch_plaincmd.specs.Checked.{Checks}
+use Rattle.dch_plaincmd.specs.Encoded.{Encodes}
+use Rattle.dch_runs.specs.GenRuns.{RunsGen}
+use Rattle.dch_runs.specs.LinkRuns.{AreLinkLines, RunsLink}
+use Rattle.dch_runs.specs.NodeBRuns.{RunsNodeB}
+use Rattle.dch_runs.specs.NodeRuns.{AreNodeLines}
+use Rattle.dch_runs.specs.PairRuns.{RunsPair}
+use Rattle.dch_runs.specs.RncRuns.{RunsRnc}
+use Rattle.dch_runs.specs.SoftRuns.{AreSoftLines, RunsSoft}
+use Rattle.dch_runs.specs.UeRuns.{RunsUe}
+use Rattle.dch_plaincmd.specs.declared.status.Status.{Status}
+use Rattle.dch_plaincmd.specs.declared.status.Status.TheVariants.{Usage, WriteFault, NoMemory}
+use Rattle.dch_runs.specs.declared.front.FrontKind.{FrontKind}
+use Rattle.dch_runs.specs.declared.front.FrontKind.TheVariants.{Single, Both}
 
 abbrev pub usage : List ℕ
 usage = codes "usage: dch COMMAND [COUNT] [--start N] [--quiet]\n"
@@ -92,10 +72,6 @@ Runs Pair arguments source sink bench status = RunsPair source sink status × (b
 pub record Ran (words : List (String Global)) (source sink : End) (bench : Nodes) (status : Status) : Type 0 where
   pub runs : (arguments : Arguments) → Says words arguments → Runs arguments.subcommand arguments source sink bench status
   pub misuses : IsNoCommand words → Misuses source sink status × (bench ≡ no_nodes)
-
--- each of the lines is empty or well formed
-abbrev pub AreGood : List (List ℕ) → Type 0
-AreGood lines = All (λ line. (is_empty line ≡ true) ⊎ IsOk (meaning line)) lines
 
 -- what stands in front of the lines of a command
 abbrev pub front_kind : Subcommand → FrontKind

@@ -8,61 +8,20 @@ ghost use Rattle.dch_check.specs.declared.both.Configurations.{Configurations};
 ghost use Rattle.dch_words.specs.Parses.{AreLegs};
 ghost use Rattle.dch_words.specs.declared.arguments.Subcommand.TheVariants.{Check, Encode, Gen, Link, Pair, Soft};
 ghost use Rattle.dch_words.specs.declared.arguments.Arguments.{Arguments};
-ghost use Rattle.dch_top.specs.Benches.{no_nodes};
+ghost use Rattle.dch_runs.specs.Benches.{no_nodes};
 ghost use Rattle.dch_io.specs.declared.feed.TheConstants.{LIMIT};
-ghost use Rattle.dch_top.specs.Fronts.{AdmitsFront};
+ghost use Rattle.dch_runs.specs.Fronts.{AdmitsFront};
 ghost use Rattle.dch_top.specs.LinkUnits.{CarriesUnits};
-ghost use Rattle.dch_top.specs.PairRuns.{ArePairLines};
-ghost use Rattle.dch_top.specs.Ran.{AreEventsFor, AreGood, Asks, IsNoCommand, Misuses, Ran, Runs, Says, front_kind};
+ghost use Rattle.dch_runs.specs.PairRuns.{ArePairLines};
+ghost use Rattle.dch_plaincmd.specs.Encoded.{AreGood};
+ghost use Rattle.dch_top.specs.Ran.{AreEventsFor, Asks, IsNoCommand, Misuses, Ran, Runs, Says, front_kind};
 
-use crate::bench::Bench;
-use crate::check::check;
-use crate::encode::encode;
-use crate::generate::generate;
-use crate::link::link;
-use crate::node_b::node_b;
-use crate::pair::pair;
-use crate::rnc::rnc;
-use crate::soft::soft;
-use crate::ue::ue;
 use dch_bits::NoMemory;
 use dch_io::{Sink, Source, write_all};
+use dch_plaincmd::{Status, run_check, run_encode};
+use dch_runs::{Bench, run_generate, run_link, run_node_b, run_pair, run_rnc, run_soft, run_ue};
 use dch_words::{Arguments, Subcommand, parse_arguments};
 use std::alloc::Global;
-
-/// How a run ended. The number of a status is its place in this list, from 0.
-#[derive(Clone, Copy, Debug, PartialEq, Eq)]
-pub enum Status {
-    /// All was read and written, and nothing was refused.
-    Ok,
-    /// The configuration is refused, or a line of the input is malformed. The last line written says why.
-    Refused,
-    /// The words are no command. The usage line is written.
-    Usage,
-    /// The source failed.
-    ReadFault,
-    /// The sink failed.
-    WriteFault,
-    /// Memory was wanted and not found. Nothing is written.
-    NoMemory,
-    /// More than 67,108,864 bytes came in.
-    TooLong,
-}
-
-impl Status {
-    /// The exit status of the program.
-    pub fn number(self) -> u8
-        ensures ok { self ≡ Status.Ok → result ≡ 0 }
-        ensures refused { self ≡ Status.Refused → result ≡ 1 }
-        ensures usage { self ≡ Status.Usage → result ≡ 2 }
-        ensures read_fault { self ≡ Status.ReadFault → result ≡ 3 }
-        ensures write_fault { self ≡ Status.WriteFault → result ≡ 4 }
-        ensures no_memory { self ≡ Status.NoMemory → result ≡ 5 }
-        ensures too_long { self ≡ Status.TooLong → result ≡ 6 }
-    {
-        self as u8
-    }
-}
 
 /// Runs the command that the words name: reads from the source and writes to the sink. The words don't hold the
 /// program's name. The bench is empty; where the status is 0 it then holds just the nodes of the command.
@@ -155,15 +114,15 @@ fn run_command<S: Source, K: Sink>(
         ..
     } = arguments;
     match arguments.subcommand {
-        Subcommand::Check => check(alloc, source, sink),
-        Subcommand::Encode => encode(alloc, source, sink),
-        Subcommand::NodeB => node_b(alloc, start, quiet, source, sink, bench),
-        Subcommand::Rnc => rnc(alloc, start, quiet, source, sink, bench),
-        Subcommand::Ue => ue(alloc, start, quiet, source, sink, bench),
-        Subcommand::Link => link(alloc, start, quiet, source, sink, bench),
-        Subcommand::Soft => soft(alloc, arguments, source, sink, bench),
-        Subcommand::Gen => generate(alloc, start, count, sink, bench),
-        Subcommand::Pair => pair(alloc, source, sink),
+        Subcommand::Check => run_check(alloc, source, sink),
+        Subcommand::Encode => run_encode(alloc, source, sink),
+        Subcommand::NodeB => run_node_b(alloc, start, quiet, source, sink, bench),
+        Subcommand::Rnc => run_rnc(alloc, start, quiet, source, sink, bench),
+        Subcommand::Ue => run_ue(alloc, start, quiet, source, sink, bench),
+        Subcommand::Link => run_link(alloc, start, quiet, source, sink, bench),
+        Subcommand::Soft => run_soft(alloc, arguments, source, sink, bench),
+        Subcommand::Gen => run_generate(alloc, start, count, sink, bench),
+        Subcommand::Pair => run_pair(alloc, source, sink),
     }
 }
 

@@ -1,0 +1,5 @@
+pub mod Blocks
+pub mod Checks
+pub mod Complete
+pub mod Judging
+pub mod Texts

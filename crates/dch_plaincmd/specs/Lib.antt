@@ -1,0 +1,5 @@
+pub mod Checked
+pub mod EncodeText
+pub mod Encoded
+pub mod Overlong
+pub mod Untouched

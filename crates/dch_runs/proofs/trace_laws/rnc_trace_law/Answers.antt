@@ -1,0 +1,18 @@
+use Rattle.std.proofs.Common.{[], ◌∷◌}
+use Rattle.dch_types.specs.declared.channel.Dir.TheVariants.{Up}
+use Rattle.dch_node.specs.IubFrames.{refusal_number}
+use Rattle.dch_node.specs.Lines.{IubBad}
+use Rattle.dch_rnccmd.specs.Rules.{rnc_rules}
+use Rattle.dch_rnccmd.proofs.NoTrace.{no_trace}
+use Rattle.dch_runs.specs.NodeRuns.{run_of}
+use Rattle.dch_runs.specs.RncRuns.{HoldsRnc}
+use Rattle.dch_runs.proofs.Traces.{answered, traceless}
+use Rattle.dch_runs.proofs.trace_laws.rnc_trace_law.Goals as goal
+
+pub returns : goal.returns
+returns c = record {
+  answers = answered rnc_rules HoldsRnc;
+  no_trace = λ start quiet input shorter written before after line set error answer has brings.
+      traceless rnc_rules start quiet input shorter written before after line (IubBad Up set (refusal_number error) ∷ []) answer has
+      (no_trace (run_of rnc_rules start quiet answer.accepted) answer.new before after line answer.text set error brings);
+}

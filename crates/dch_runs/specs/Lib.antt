@@ -1,0 +1,12 @@
+pub mod Benches
+pub mod Configured
+pub mod Fronts
+pub mod GenRuns
+pub mod LinkRuns
+pub mod NodeBRuns
+pub mod NodeRuns
+pub mod PairRuns
+pub mod RncRuns
+pub mod SoftRuns
+pub mod Traces
+pub mod UeRuns
