@@ -35,10 +35,6 @@ later_same : (a c : ℕ → Bool) (k : ℕ) (ps : List (List ℕ)) → ((j : ℕ
 later_same a c k [] same = refl
 later_same a c k (p ∷ ps) same = ap₂ (λ t l. cond t (p ∷ l) l) (same k (omega arith)) (later_same a c (k + 1) ps (λ j l. same j (omega (arith, l))))
 
-sent_same : (a c : ℕ → Bool) (k : ℕ) (before : Bool) (ps : List Pdu) → ((j : ℕ) → k ≤ j → a j ≡ c j) → sent_from a k before ps ≡ sent_from c k before ps
-sent_same a c k before [] same = refl
-sent_same a c k before (p ∷ ps) same = ap₂ (λ t l. record { pdu = p; arrived = t; before = before } ∷ l) (same k (omega arith)) (ap (λ t. sent_from a (k + 1) t ps) (same k (omega arith)) ∙ sent_same a c (k + 1) (c k) ps (λ j l. same j (omega (arith, l))))
-
 -- a test of places from k on
 abbrev put : ℕ → Bool → (ℕ → Bool) → ℕ → Bool
 put k t a j = cond (j == k) t (a j)
@@ -52,49 +48,60 @@ put_here : (k : ℕ) (t : Bool) (a : ℕ → Bool) → put k t a k ≡ t
 put_here k t a = rw (same_number k k refl) refl
 
 -- the PDUs that came, as some of those that were sent
-record Found (dir : Dir) (b pdu : ℕ) (units : List (List ℕ)) (k : ℕ) (before : Bool) (ps : List Pdu) (came : List (List ℕ)) (r : Receiving) : Type 0 where
+record Found (pdu : ℕ) (units : List (List ℕ)) (k : ℕ) (ps : List Pdu) (came : List (List ℕ)) : Type 0 where
   arrives : ℕ → Bool
   came_is : arriving arrives k (texts_from pdu units k ps) ≡ came
-  lines : lines_all dir b came r ≡ unit_lines dir b (handed_up pdu (joined units) k r (sent_from arrives k before ps))
 
-found : (dir : Dir) (b pdu : ℕ) (units : List (List ℕ)) (k : ℕ) (before : Bool) (ps : List Pdu) (came : List (List ℕ)) (r : Receiving) → AreRead pdu units k ps → SomeOf came (texts_from pdu units k ps) → Found dir b pdu units k before ps came r
-found dir b pdu units k before [] [] r read h = record { arrives = λ j. false; came_is = refl; lines = refl }
-found dir b pdu units k before [] (x ∷ came) r read h = absurd h
-found dir b pdu units k before (p ∷ ps) [] r read h =
-    let f = found dir b pdu units (k + 1) false ps [] r read.1 tt in
-    missed f
-  where
-    missed : Found dir b pdu units (k + 1) false ps [] r → Found dir b pdu units k before (p ∷ ps) [] r
-    missed f = record {
-      arrives = put k false f.arrives;
-      came_is = rw (put_here k false f.arrives) (later_same (put k false f.arrives) f.arrives (k + 1) (texts_from pdu units (k + 1) ps) (λ j l. put_later k false f.arrives j l) ∙ f.came_is);
-      lines = f.lines ∙ ap (λ xs. unit_lines dir b (handed_up pdu (joined units) (k + 1) r xs)) (sym (sent_same (put k false f.arrives) f.arrives (k + 1) false ps (λ j l. put_later k false f.arrives j l)))
-          ∙ sym (ap (λ t. unit_lines dir b (handed_up pdu (joined units) k r (record { pdu = p; arrived = t; before = before } ∷ sent_from (put k false f.arrives) (k + 1) t ps))) (put_here k false f.arrives));
-    }
-found dir b pdu units k before (p ∷ ps) (x ∷ came) r read h = ⊎_elim
-    (λ (q : (x ≡ text_of pdu units k p) × SomeOf came (texts_from pdu units (k + 1) ps)).
-    let view : um_reading x ≡ Ok (view_of pdu (joined units) k p) = ap um_reading q.0 ∙ reading_back (text_of pdu units k p) (view_of pdu (joined units) k p) read.0 in
-    here q.0 view (found dir b pdu units (k + 1) true ps came (all_handed (after_pdu (view_of pdu (joined units) k p) r)) read.1 q.1))
-    (λ (q : SomeOf (x ∷ came) (texts_from pdu units (k + 1) ps)). missed (found dir b pdu units (k + 1) false ps (x ∷ came) r read.1 q))
+missed : (pdu : ℕ) (units : List (List ℕ)) (k : ℕ) (p : Pdu) (ps : List Pdu) (came : List (List ℕ)) → Found pdu units (k + 1) ps came → Found pdu units k (p ∷ ps) came
+missed pdu units k p ps came f = record {
+  arrives = put k false f.arrives;
+  came_is = rw (put_here k false f.arrives) (later_same (put k false f.arrives) f.arrives (k + 1) (texts_from pdu units (k + 1) ps) (λ j l. put_later k false f.arrives j l) ∙ f.came_is);
+}
+
+found : (pdu : ℕ) (units : List (List ℕ)) (k : ℕ) (ps : List Pdu) (came : List (List ℕ)) → SomeOf came (texts_from pdu units k ps) → Found pdu units k ps came
+found pdu units k [] [] h = record { arrives = λ j. false; came_is = refl }
+found pdu units k [] (x ∷ came) h = absurd h
+found pdu units k (p ∷ ps) [] h = missed pdu units k p ps [] (found pdu units (k + 1) ps [] tt)
+found pdu units k (p ∷ ps) (x ∷ came) h = ⊎_elim
+    (λ (q : (x ≡ text_of pdu units k p) × SomeOf came (texts_from pdu units (k + 1) ps)). here q.0 (found pdu units (k + 1) ps came q.1))
+    (λ (q : SomeOf (x ∷ came) (texts_from pdu units (k + 1) ps)). missed pdu units k p ps (x ∷ came) (found pdu units (k + 1) ps (x ∷ came) q))
     h
   where
-    missed : Found dir b pdu units (k + 1) false ps (x ∷ came) r → Found dir b pdu units k before (p ∷ ps) (x ∷ came) r
-    missed f = record {
-      arrives = put k false f.arrives;
-      came_is = rw (put_here k false f.arrives) (later_same (put k false f.arrives) f.arrives (k + 1) (texts_from pdu units (k + 1) ps) (λ j l. put_later k false f.arrives j l) ∙ f.came_is);
-      lines = f.lines ∙ ap (λ xs. unit_lines dir b (handed_up pdu (joined units) (k + 1) r xs)) (sym (sent_same (put k false f.arrives) f.arrives (k + 1) false ps (λ j l. put_later k false f.arrives j l)))
-          ∙ sym (ap (λ t. unit_lines dir b (handed_up pdu (joined units) k r (record { pdu = p; arrived = t; before = before } ∷ sent_from (put k false f.arrives) (k + 1) t ps))) (put_here k false f.arrives));
-    }
-
-    here : x ≡ text_of pdu units k p → um_reading x ≡ Ok (view_of pdu (joined units) k p) → Found dir b pdu units (k + 1) true ps came (all_handed (after_pdu (view_of pdu (joined units) k p) r)) → Found dir b pdu units k before (p ∷ ps) (x ∷ came) r
-    here is view f = record {
+    here : x ≡ text_of pdu units k p → Found pdu units (k + 1) ps came → Found pdu units k (p ∷ ps) (x ∷ came)
+    here is f = record {
       arrives = put k true f.arrives;
       came_is = rw (put_here k true f.arrives) (ap₂ (λ y l. y ∷ l) (sym is) (later_same (put k true f.arrives) f.arrives (k + 1) (texts_from pdu units (k + 1) ps) (λ j l. put_later k true f.arrives j l) ∙ f.came_is));
-      lines = ap (λ v. lines_one dir b v r ++ lines_all dir b came (receives_one v r)) view
-          ∙ ap (λ l. unit_lines dir b (after_pdu (view_of pdu (joined units) k p) r).waiting ++ l) (f.lines ∙ ap (λ xs. unit_lines dir b (handed_up pdu (joined units) (k + 1) (all_handed (after_pdu (view_of pdu (joined units) k p) r)) xs)) (sym (sent_same (put k true f.arrives) f.arrives (k + 1) true ps (λ j l. put_later k true f.arrives j l))))
-          ∙ sym (units-append dir b (after_pdu (view_of pdu (joined units) k p) r).waiting (handed_up pdu (joined units) (k + 1) (all_handed (after_pdu (view_of pdu (joined units) k p) r)) (sent_from (put k true f.arrives) (k + 1) true ps)))
-          ∙ sym (ap (λ t. unit_lines dir b (handed_up pdu (joined units) k r (record { pdu = p; arrived = t; before = before } ∷ sent_from (put k true f.arrives) (k + 1) t ps))) (put_here k true f.arrives));
     }
+
+-- whichever of those that were sent arrive, the lines are those of the units that are handed up then
+arrived_lines : (dir : Dir) (b pdu : ℕ) (units : List (List ℕ)) (k : ℕ) (before : Bool) (ps : List Pdu) (arrives : ℕ → Bool) (r : Receiving) → AreRead pdu units k ps → lines_all dir b (arriving arrives k (texts_from pdu units k ps)) r ≡ unit_lines dir b (handed_up pdu (joined units) k r (sent_from arrives k before ps))
+arrived_lines dir b pdu units k before [] arrives r read = refl
+arrived_lines dir b pdu units k before (p ∷ ps) arrives r read =
+    by (arrives k) (arrived_lines dir b pdu units (k + 1) true ps arrives (all_handed (after_pdu (view_of pdu (joined units) k p) r)) read.1) (arrived_lines dir b pdu units (k + 1) false ps arrives r read.1)
+  where
+    x : List ℕ
+    x = text_of pdu units k p
+
+    now : Receiving
+    now = after_pdu (view_of pdu (joined units) k p) r
+
+    later : List (List ℕ)
+    later = arriving arrives (k + 1) (texts_from pdu units (k + 1) ps)
+
+    view : um_reading x ≡ Ok (view_of pdu (joined units) k p)
+    view = reading_back x (view_of pdu (joined units) k p) read.0
+
+    there : List (List ℕ)
+    there = handed_up pdu (joined units) (k + 1) (all_handed now) (sent_from arrives (k + 1) true ps)
+
+    away : List (List ℕ)
+    away = handed_up pdu (joined units) (k + 1) r (sent_from arrives (k + 1) false ps)
+
+    by : (t : Bool) → lines_all dir b later (all_handed now) ≡ unit_lines dir b there → lines_all dir b later r ≡ unit_lines dir b away
+        → lines_all dir b (cond t (x ∷ later) later) r ≡ unit_lines dir b (handed_up pdu (joined units) k r (record { pdu = p; arrived = t; before = before } ∷ sent_from arrives (k + 1) t ps))
+    by true one other =
+        ap (λ v. lines_one dir b v r ++ lines_all dir b later (receives_one v r)) view ∙ ap (λ l. unit_lines dir b now.waiting ++ l) one ∙ sym (units-append dir b now.waiting there)
+    by false one other = other
 
 -- the PDUs of a part, and those of two parts
 pub some_in : (config : Config) (out : Dir) (b i : ℕ) (log : Log) → IsFaithful log → SomeOf (pdus_in config out b i log.taken) (pdus_in config out b i log.given)
@@ -113,15 +120,19 @@ some-append (x ∷ xs) ys (u ∷ us) vs h k = ⊎_elim (λ (q : (x ≡ u) × Som
 pub known_history : (config : Config) (out : Dir) (b i : ℕ) (g t : List (List ℕ)) (w : World) → IsUmHistory config out b i g t w → SomeOf t g → IsFaithful (w.out i) → IsKnownHistory config out b i g t w
 known_history config out b i g t w h before faithful =
     let s = h.near.sends in
-    let came = t ++ pdus_in config out b i (w.out i).taken in
+    let came : List (List ℕ) = t ++ pdus_in config out b i (w.out i).taken in
     let read = pdus_read s.sending.pdu s.sending.mark_start s.accepted s.cuts h.near.sender.from h.near.sender.most h.near.units h.near.sender.rising in
     let some : SomeOf came (g ++ pdus_in config out b i (w.out i).given) = some-append t (pdus_in config out b i (w.out i).taken) g (pdus_in config out b i (w.out i).given) before (some_in config out b i (w.out i) faithful) in
-    let f = found out b s.sending.pdu s.accepted 0 true (pdus (s.sending.pdu - 1) s.sending.mark_start (sizes s.accepted) s.cuts) came opened_receiving read (subst (SomeOf came) h.near.given some) in
+    let ps : List Pdu = pdus (s.sending.pdu - 1) s.sending.mark_start (sizes s.accepted) s.cuts in
+    let f = found s.sending.pdu s.accepted 0 ps came (subst (SomeOf came) h.near.given some) in
     record {
       near = h.near;
-      arrives = f.arrives;
-      came = f.came_is;
-      lines = λ few. h.far.lines ∙ f.lines ∙ ap (unit_lines out b) (known_handed s.sending.pdu s.sending.mark_start s.accepted s.cuts f.arrives h.near.sender.from h.near.sender.most h.near.units h.near.sender.rising few);
+      came = came;
+      all = refl;
+      some = (f.arrives, f.came_is);
+      lines = λ arrives is few.
+          h.far.lines ∙ ap (λ l. lines_all out b l opened_receiving) (sym is) ∙ arrived_lines out b s.sending.pdu s.accepted 0 true ps arrives opened_receiving read
+          ∙ ap (unit_lines out b) (known_handed s.sending.pdu s.sending.mark_start s.accepted s.cuts arrives h.near.sender.from h.near.sender.most h.near.units h.near.sender.rising few);
     }
 
 -- over two parts

@@ -108,10 +108,15 @@ pub record IsUmCarried (config : Config) (dir : Dir) (b i : ℕ) (from : Layer) 
   pub count : came + length (filter (is_mine config dir b i) running) ≡ length sends.cuts
   pub lines : lines_of b said ≡ got_lines dir b (marked_units (take came (pdus_of sends)) 0 sends.accepted)
 
--- where PDUs of the bearer were given and taken in another configuration before: some of all the sender's PDUs were taken, in order; where fewer
--- than 128 successive ones are lost, all lines on the bearer are the units that are known
+-- of all the sender's PDUs, those that arrive are these
+abbrev pub ArriveAs : Sends → (ℕ → Bool) → List (List ℕ) → Type 0
+ArriveAs s arrives came = arriving arrives 0 (texts s.sending.pdu s.sending.mark_start s.accepted s.cuts) ≡ came
+
+-- where PDUs of the bearer were given and taken in another configuration before: those that came are some of all the sender's PDUs, in order;
+-- whichever these are, where fewer than 128 successive ones are lost, all lines on the bearer are the units that are known
 pub record IsKnownHistory (config : Config) (out : Dir) (b i : ℕ) (given taken : List (List ℕ)) (w : World) : Type 0 where
   pub near : IsUmSender config out b i given w.near (w.out i)
-  pub arrives : ℕ → Bool
-  pub came : arriving arrives 0 (texts near.sends.sending.pdu near.sends.sending.mark_start near.sends.accepted near.sends.cuts) ≡ taken ++ pdus_in config out b i (w.out i).taken
-  pub lines : AreFewLost 0 (sent_by near.sends arrives) → lines_of b w.far.said ≡ unit_lines out b (known_units (sent_by near.sends arrives) 0 near.sends.accepted)
+  pub came : List (List ℕ)
+  pub all : came ≡ taken ++ pdus_in config out b i (w.out i).taken
+  pub some : (arrives : ℕ → Bool) × ArriveAs near.sends arrives came
+  pub lines : (arrives : ℕ → Bool) → ArriveAs near.sends arrives came → AreFewLost 0 (sent_by near.sends arrives) → lines_of b w.far.said ≡ unit_lines out b (known_units (sent_by near.sends arrives) 0 near.sends.accepted)

@@ -11,7 +11,7 @@ use Rattle.dch_script.specs.Lines.{lines_after}
 use Rattle.dch_script.specs.declared.event.LineError.TheVariants.{Cut, Long}
 use Rattle.dch_lines.specs.Semantics.{Semantics}
 use Rattle.dch_lines.specs.Processor.{HasFaulty, MeetsFault, Progress, Takes}
-use Rattle.dch_lines.specs.Followed.{CoversAll, FollowsInput, IsCutOff, MayFollow}
+use Rattle.dch_lines.specs.Followed.{CoversAll, FollowsInput, IsCutOff, IsMetSoon, MayFollow}
 use Rattle.dch_lines.specs.Pieces.{Going, RefusesIn, LacksIn, BreaksIn, TakesPiece, EndsInput}
 use Rattle.dch_lines.specs.LineTexts.{refusal, nonempty_lines}
 use Rattle.dch_lines.specs.declared.stop.LineFault.TheVariants.{Malformed, NoMemory}
@@ -64,10 +64,14 @@ goes_on semantics a b c k l m f g e h i j first old new part piece going consume
   sink_later = omega (arith, going.sink_later);
 }
 
+-- what stops the work is met with the piece behind what was followed before
+met_soon : {S : Type 0} (semantics : Semantics S) (sink : End) (first old : Progress S) (bytes done piece : List ℕ) (good : List (List ℕ)) → bytes ≡ done ++ piece → length piece ≤ PIECE → Takes semantics sink first old done → IsMetSoon first.line bytes (lines_after first.line done ++ good)
+met_soon semantics sink first old bytes done piece good cut small at = record { before = done; piece = piece; pieces = cut; small = small; since = good; lines = refl; short = rw (← at.line) at.short }
+
 -- a line is refused: `done` was followed before, and then the piece
 refuses : {S : Type 0} (semantics : Semantics S) (a c k l m : Option (List ℕ)) (f e h i j : ℕ) (first old : Progress S) (state : S) (part taken done piece : List ℕ) → part ++ taken ≡ done ++ piece → Consumes a c taken
-    → Takes semantics (span k l h i) first old done → old.bytes + length piece ≤ LIMIT → RefusesIn semantics (span l m i j) old piece → FollowsInput semantics (span a c f e) (span k m h j) first state part Refused
-refuses semantics a c k l m f e h i j first old state part taken done piece cut consumes at within stops =
+    → Takes semantics (span k l h i) first old done → old.bytes + length piece ≤ LIMIT → length piece ≤ PIECE → RefusesIn semantics (span l m i j) old piece → FollowsInput semantics (span a c f e) (span k m h j) first state part Refused
+refuses semantics a c k l m f e h i j first old state part taken done piece cut consumes at within small stops =
     let before : List (List ℕ) = lines_after first.line done in
     let last : List ℕ = refusal (old.lines + length stops.good) stops.why in
     let count : old.lines + length stops.good ≡ first.lines + length (before ++ stops.good) = omega (arith, at.lines, length-append before stops.good) in
@@ -82,6 +86,7 @@ refuses semantics a c k l m f e h i j first old state part taken done piece cut 
         state = stops.state;
         why = stops.why;
         refused = rw cut (inl (meets_on semantics stops.state first.line old.line done piece stops.good (Malformed stops.why) at.line stops.meets));
+        soon = met_soon semantics (span k l h i) first old (part ++ taken) done piece stops.good cut small at;
         text = at.more ++ stops.more;
         handles = says_append semantics first.handler old.handler stops.state before stops.good at.more stops.more at.handles stops.handles;
         all = joined_more at.passes.written old.text first.text at.more stops.more last (refusal (first.lines + length (before ++ stops.good)) stops.why) at.passes.whole (ap (λ n. refusal n stops.why) count);
@@ -97,8 +102,8 @@ lacking_line semantics state begun bytes good meets = ⊎_elim (λ m. m) (λ m. 
 
 -- a line wants memory: `done` was followed before, and then the piece
 lacks : {S : Type 0} (semantics : Semantics S) (a c k l m : Option (List ℕ)) (f e h i j : ℕ) (first old : Progress S) (state : S) (part taken done piece : List ℕ) → part ++ taken ≡ done ++ piece → Consumes a c taken
-    → Takes semantics (span k l h i) first old done → old.bytes + length piece ≤ LIMIT → LacksIn semantics (span l m i j) old piece → FollowsInput semantics (span a c f e) (span k m h j) first state part Lacking
-lacks semantics a c k l m f e h i j first old state part taken done piece cut consumes at within stops =
+    → Takes semantics (span k l h i) first old done → old.bytes + length piece ≤ LIMIT → length piece ≤ PIECE → LacksIn semantics (span l m i j) old piece → FollowsInput semantics (span a c f e) (span k m h j) first state part Lacking
+lacks semantics a c k l m f e h i j first old state part taken done piece cut consumes at within small stops =
     let before : List (List ℕ) = lines_after first.line done in
     record {
       taken = taken;
@@ -110,6 +115,7 @@ lacks semantics a c k l m f e h i j first old state part taken done piece cut co
         good = before ++ stops.good;
         state = stops.state;
         lacks = rw cut (lacking_line semantics stops.state first.line (done ++ piece) (before ++ stops.good) (meets_on semantics stops.state first.line old.line done piece stops.good NoMemory at.line stops.meets));
+        soon = met_soon semantics (span k l h i) first old (part ++ taken) done piece stops.good cut small at;
         text = at.more ++ stops.more;
         handles = says_append semantics first.handler old.handler stops.state before stops.good at.more stops.more at.handles stops.handles;
         all = sym (append_assoc at.passes.written old.text stops.more) ∙ ap (λ l. l ++ stops.more) (sym at.passes.whole) ∙ append_assoc first.text at.more stops.more;
@@ -118,7 +124,7 @@ lacks semantics a c k l m f e h i j first old state part taken done piece cut co
 
 -- the sink fails
 breaks_off : {S : Type 0} (semantics : Semantics S) (a c k l m : Option (List ℕ)) (f e h i j : ℕ) (first old : Progress S) (state : S) (part taken done piece : List ℕ) → part ++ taken ≡ done ++ piece → Consumes a c taken → h ≤ i
-    → (at : Takes semantics (span k l h i) first old done) → old.bytes + length piece ≤ LIMIT → ((since : List ℕ) → (taken ≡ []) ⊎ CoversAll semantics first (part ++ taken) (at.passes.written ++ since)) → BreaksIn semantics (span l m i j) old piece
+    → (at : Takes semantics (span k l h i) first old done) → old.bytes + length piece ≤ LIMIT → ((since : List ℕ) → ((taken ≡ []) × (length part ≤ PIECE)) ⊎ CoversAll semantics first (part ++ taken) (at.passes.written ++ since)) → BreaksIn semantics (span l m i j) old piece
     → FollowsInput semantics (span a c f e) (span k m h j) first state part WriteFault
 breaks_off semantics a c k l m f e h i j first old state part taken done piece cut consumes later at within covers breaks =
     let before : List (List ℕ) = lines_after first.line done in
@@ -167,32 +173,33 @@ covers_before semantics sink first old bytes done piece since cut small at idle 
   state = old.handler;
   text = at.more;
   handles = at.handles;
+  short = rw (← at.line) at.short;
   since = since;
   begins = ap (λ l. l ++ since) (sym (at.passes.whole ∙ ap (λ l. at.passes.written ++ l) idle ∙ append-nil at.passes.written));
 }
 
 -- the part at hand ends the work
-pub part_ends : {S : Type 0} (semantics : Semantics S) (a k m : Option (List ℕ)) (f h j : ℕ) (first new : Progress S) (part : List ℕ) (outcome : Outcome) → length first.line ≤ longest → first.bytes + length part ≤ LIMIT
+pub part_ends : {S : Type 0} (semantics : Semantics S) (a k m : Option (List ℕ)) (f h j : ℕ) (first new : Progress S) (part : List ℕ) (outcome : Outcome) → length first.line ≤ longest → first.bytes + length part ≤ LIMIT → length part ≤ PIECE
     → TakesPiece semantics (span k m h j) first new part (Err outcome) → FollowsInput semantics (span a a f f) (span k m h j) first new.handler part outcome
-part_ends semantics a k m f h j first new part Refused short within takes = refuses semantics a a k k m f f h h j first first new.handler part [] [] part (append-nil part) (Consumes-nil a) (nothing_taken semantics k h first short) within takes
-part_ends semantics a k m f h j first new part WriteFault short within takes =
-    breaks_off semantics a a k k m f f h h j first first new.handler part [] [] part (append-nil part) (Consumes-nil a) (omega arith) (nothing_taken semantics k h first short) within (λ since. inl refl) takes
-part_ends semantics a k m f h j first new part Lacking short within takes = lacks semantics a a k k m f f h h j first first new.handler part [] [] part (append-nil part) (Consumes-nil a) (nothing_taken semantics k h first short) within takes
-part_ends semantics a k m f h j first new part Ok short within takes = absurd takes
-part_ends semantics a k m f h j first new part ReadFault short within takes = absurd takes
-part_ends semantics a k m f h j first new part TooLong short within takes = absurd takes
+part_ends semantics a k m f h j first new part Refused short within small takes = refuses semantics a a k k m f f h h j first first new.handler part [] [] part (append-nil part) (Consumes-nil a) (nothing_taken semantics k h first short) within small takes
+part_ends semantics a k m f h j first new part WriteFault short within small takes =
+    breaks_off semantics a a k k m f f h h j first first new.handler part [] [] part (append-nil part) (Consumes-nil a) (omega arith) (nothing_taken semantics k h first short) within (λ since. inl (refl, small)) takes
+part_ends semantics a k m f h j first new part Lacking short within small takes = lacks semantics a a k k m f f h h j first first new.handler part [] [] part (append-nil part) (Consumes-nil a) (nothing_taken semantics k h first short) within small takes
+part_ends semantics a k m f h j first new part Ok short within small takes = absurd takes
+part_ends semantics a k m f h j first new part ReadFault short within small takes = absurd takes
+part_ends semantics a k m f h j first new part TooLong short within small takes = absurd takes
 
 -- a piece ends the work
 pub piece_ends : {S : Type 0} (semantics : Semantics S) (a b c k l m : Option (List ℕ)) (f g e h i j : ℕ) (first old new : Progress S) (part piece : List ℕ) (outcome : Outcome) → Going semantics (span a b f g) (span k l h i) first old part → Consumes b c piece → old.bytes + length piece ≤ LIMIT → length piece ≤ PIECE
     → TakesPiece semantics (span l m i j) old new piece (Err outcome) → FollowsInput semantics (span a c f e) (span k m h j) first new.handler part outcome
 piece_ends semantics a b c k l m f g e h i j first old new part piece Refused going consumes within small takes =
-    refuses semantics a c k l m f e h i j first old new.handler part (going.taken ++ piece) (part ++ going.taken) piece (sym (append_assoc part going.taken piece)) (Consumes-trans a b c going.taken piece going.takes consumes) going.at within takes
+    refuses semantics a c k l m f e h i j first old new.handler part (going.taken ++ piece) (part ++ going.taken) piece (sym (append_assoc part going.taken piece)) (Consumes-trans a b c going.taken piece going.takes consumes) going.at within small takes
 piece_ends semantics a b c k l m f g e h i j first old new part piece WriteFault going consumes within small takes =
     let cut : part ++ (going.taken ++ piece) ≡ part ++ going.taken ++ piece = sym (append_assoc part going.taken piece) in
     breaks_off semantics a c k l m f e h i j first old new.handler part (going.taken ++ piece) (part ++ going.taken) piece cut (Consumes-trans a b c going.taken piece going.takes consumes) going.sink_later going.at within
     (λ since. inr (covers_before semantics (span k l h i) first old (part ++ (going.taken ++ piece)) (part ++ going.taken) piece since cut small going.at going.idle)) takes
 piece_ends semantics a b c k l m f g e h i j first old new part piece Lacking going consumes within small takes =
-    lacks semantics a c k l m f e h i j first old new.handler part (going.taken ++ piece) (part ++ going.taken) piece (sym (append_assoc part going.taken piece)) (Consumes-trans a b c going.taken piece going.takes consumes) going.at within takes
+    lacks semantics a c k l m f e h i j first old new.handler part (going.taken ++ piece) (part ++ going.taken) piece (sym (append_assoc part going.taken piece)) (Consumes-trans a b c going.taken piece going.takes consumes) going.at within small takes
 piece_ends semantics a b c k l m f g e h i j first old new part piece Ok going consumes within small takes = absurd takes
 piece_ends semantics a b c k l m f g e h i j first old new part piece ReadFault going consumes within small takes = absurd takes
 piece_ends semantics a b c k l m f g e h i j first old new part piece TooLong going consumes within small takes = absurd takes
@@ -211,6 +218,7 @@ too_long semantics a b c k l f g e h i first old part piece going consumes full 
       writes = going.at.passes.writes;
       answers = record {
         long = rw (← append_assoc part going.taken piece) (omega (arith, count, length-append done piece));
+        short = rw (← append_assoc part going.taken piece, front, ← going.at.line) going.at.short;
         state = old.handler;
         text = going.at.more;
         handles = rw (← append_assoc part going.taken piece, front) going.at.handles;
@@ -290,6 +298,7 @@ ends semantics a b c k l m f g e h i j first old new part Refused going none end
         state = old.handler;
         why = Cut;
         refused = inr (refl, cut_off semantics (span a c f e) (span k l h i) first old (part ++ going.taken) end going.at ended.0);
+        soon = rw (← append-nil lines) (met_soon semantics (span k l h i) first old (part ++ going.taken) (part ++ going.taken) [] [] (sym (append-nil (part ++ going.taken))) (omega arith) going.at);
         text = going.at.more;
         handles = going.at.handles;
         all = joined going.at.passes.written old.text first.text going.at.more (refusal old.lines Cut) (refusal (first.lines + length lines) Cut) going.at.passes.whole (ap (λ n. refusal n Cut) going.at.lines);

@@ -34,13 +34,25 @@ pub record IsWhole {S : Type 0} (semantics : Semantics S) (source : End) (old : 
   pub handles : HandlesLines semantics old.handler (lines_after old.line bytes) state text
   pub all : written ≡ old.text ++ text ++ semantics.closing state (old.nonempty_lines + nonempty_lines (lines_after old.line bytes))
 
--- the text of the good lines before a malformed one is written, and the line that says so
+-- what follows these good lines is met with the last piece of the bytes: the lines that ended before it are among them, and the line that had
+-- begun then was not too long
+pub record IsMetSoon (begun bytes : List ℕ) (good : List (List ℕ)) : Type 0 where
+  pub before : List ℕ
+  pub piece : List ℕ
+  pub pieces : bytes ≡ before ++ piece
+  pub small : length piece ≤ PIECE
+  pub since : List (List ℕ)
+  pub lines : good ≡ lines_after begun before ++ since
+  pub short : length (rest_after begun before) ≤ longest
+
+-- the text of the good lines before a malformed one is written, and the line that says so; no more was taken
 pub record Refuses {S : Type 0} (semantics : Semantics S) (source : End) (old : Progress S) (bytes written : List ℕ) : Type 0 where
   pub within : old.bytes + length bytes ≤ LIMIT
   pub good : List (List ℕ)
   pub state : S
   pub why : LineError
   pub refused : IsRefused semantics source state old.line bytes good why
+  pub soon : IsMetSoon old.line bytes good
   pub text : List ℕ
   pub handles : HandlesLines semantics old.handler good state text
   pub all : written ≡ old.text ++ text ++ refusal (old.lines + length good) why
@@ -55,12 +67,13 @@ pub record FailsReading {S : Type 0} (semantics : Semantics S) (source : End) (o
   pub handles : HandlesLines semantics old.handler (lines_after old.line bytes) state text
   pub all : written ≡ old.text ++ text
 
--- a line wants memory; the text of the good lines before it is written
+-- a line wants memory; the text of the good lines before it is written, and no more was taken
 pub record LacksMemory {S : Type 0} (semantics : Semantics S) (old : Progress S) (bytes written : List ℕ) : Type 0 where
   pub within : old.bytes + length bytes ≤ LIMIT
   pub good : List (List ℕ)
   pub state : S
   pub lacks : HasFaulty semantics state old.line bytes good NoMemory
+  pub soon : IsMetSoon old.line bytes good
   pub text : List ℕ
   pub handles : HandlesLines semantics old.handler good state text
   pub all : written ≡ old.text ++ text
@@ -73,7 +86,7 @@ MayFollow semantics source old state text bytes good last =
     × (((IsAtEnd source.now × (lines_after old.line bytes ≡ good) × (rest_after old.line bytes ≡ [])) × (last ≡ semantics.closing state (old.nonempty_lines + nonempty_lines good)))
     ⊎ ((why : LineError) × (IsRefused semantics source state old.line bytes good why × (last ≡ refusal (old.lines + length good) why)))))
 
--- the text of all lines that came before the last piece is written
+-- the text of all lines that came before the last piece is written, and the line that had begun then was not too long
 pub record CoversAll {S : Type 0} (semantics : Semantics S) (old : Progress S) (bytes written : List ℕ) : Type 0 where
   pub before : List ℕ
   pub piece : List ℕ
@@ -82,11 +95,12 @@ pub record CoversAll {S : Type 0} (semantics : Semantics S) (old : Progress S) (
   pub state : S
   pub text : List ℕ
   pub handles : HandlesLines semantics old.handler (lines_after old.line before) state text
+  pub short : length (rest_after old.line before) ≤ longest
   pub since : List ℕ
   pub begins : written ≡ old.text ++ text ++ since
 
 -- a write failed; a front is written of the text of some good lines, the last of them maybe done in part, and of what may follow
--- them. Where the source gave bytes, it covers all lines that came before the last piece
+-- them. It covers all lines that came before the last piece, where that is not what was at hand before
 pub record FailsWriting {S : Type 0} (semantics : Semantics S) (source sink : End) (old : Progress S) (part taken written : List ℕ) : Type 0 where
   pub fails : Fails sink
   pub within : old.bytes + length (part ++ taken) ≤ LIMIT
@@ -99,11 +113,12 @@ pub record FailsWriting {S : Type 0} (semantics : Semantics S) (source sink : En
   pub last : List ℕ
   pub follows : MayFollow semantics source old state text (part ++ taken) good last
   pub cut : IsCutShort written (old.text ++ text ++ last)
-  pub covers : (taken ≡ []) ⊎ CoversAll semantics old (part ++ taken) written
+  pub covers : ((taken ≡ []) × (length part ≤ PIECE)) ⊎ CoversAll semantics old (part ++ taken) written
 
--- more bytes were taken than may come; the text of the whole lines within the limit is written
+-- more bytes were taken than may come; within the limit each whole line is good, the line that has begun is not too long, and the text is written
 pub record IsTooLong {S : Type 0} (semantics : Semantics S) (old : Progress S) (bytes written : List ℕ) : Type 0 where
   pub long : LIMIT < old.bytes + length bytes
+  pub short : length (rest_after old.line (take (LIMIT - old.bytes) bytes)) ≤ longest
   pub state : S
   pub text : List ℕ
   pub handles : HandlesLines semantics old.handler (lines_after old.line (take (LIMIT - old.bytes) bytes)) state text

@@ -1,3 +1,4 @@
 pub mod NoTrace
+pub mod OtherLines
 pub mod Senders
 pub mod Taking

@@ -11,7 +11,7 @@ use Rattle.dch_runlaw.proofs.Changing.{changed_is}
 use Rattle.dch_runlaw.proofs.ClearBetween.{Same, between}
 use Rattle.dch_runlaw.proofs.IntervalAgree.{Agree, Parts, opened_agree, parts, stays}
 
-frames_passed : (planned : Planned) (events : List Event) (old new : LinkState) (lines : List Line) → Runs old events new lines → IsPlanned planned → Agree planned old → new.rnc.state.cfn % 8 ≡ (old.rnc.state.cfn + frames_in events) % 8
+pub frames_passed : (planned : Planned) (events : List Event) (old new : LinkState) (lines : List Line) → Runs old events new lines → IsPlanned planned → Agree planned old → new.rnc.state.cfn % 8 ≡ (old.rnc.state.cfn + frames_in events) % 8
 frames_passed planned [] old new lines run good a =
     let same : new.rnc.state.cfn ≡ old.rnc.state.cfn = ap (λ (l : LinkState). l.rnc.state.cfn) run.0 in
     omega (arith, same)

@@ -17,6 +17,7 @@ use Rattle.dch_runlaw.specs.Intervals.{frames_in}
 use Rattle.dch_runlaw.specs.Parts.{Begins, GoesOver, KeepsAll}
 use Rattle.dch_runlaw.specs.Runs.{Event, Frame, Runs}
 use Rattle.dch_runlaw.specs.Scripts.{ChangesWithin, IsRunOf, RunsOver}
+use Rattle.dch_runlaw.specs.EndEvents.{end_events}
 use Rattle.dch_runlaw.specs.HonestSilent.{Lacks}
 use Rattle.dch_runlaw.specs.TextTold.{IsRead, TellsFalse}
 use Rattle.dch_runlaw.specs.Headline.{Carries, CarriesAlone, CarriesBoth, CarriesFirst, CarriesSecond, IsLater, IsSilentOn, MayCarryBoth}
@@ -65,13 +66,13 @@ first_carried planned first quiet events link reported run text good eighth show
       acknowledged = λ b up down bearer no_up no_down.
           let here = (bearer.good.bearers b bearer.there).up.there up bearer.up_is in
           let there = (bearer.good.bearers b bearer.there).down.there down bearer.down_is in
-          am_rows planned b up down link text bearer (silent_history planned first b up down events link reported run bearer (silent up down reported text (up_low planned up good.good here) (down_low planned down good.good there) tells no_up no_down)) read;
+          am_rows planned first b up down (end_events events (opened_link planned first) link reported run) link text bearer (silent_history planned first b up down events link reported run bearer (silent up down reported text (up_low planned up good.good here) (down_low planned down good.good there) tells no_up no_down)) read;
       unacknowledged_up = λ b up bearer none.
           let there = (bearer.good.bearers b bearer.there).up.there up bearer.channel in
-          um_rows_up planned b up link text bearer (um_silent_up planned first b up events link reported run bearer (lacks_up planned up reported text good.good there tells none)) read;
+          um_rows_up planned first b up (end_events events (opened_link planned first) link reported run) link text bearer (um_silent_up planned first b up events link reported run bearer (lacks_up planned up reported text good.good there tells none)) read;
       unacknowledged_down = λ b down bearer none.
           let there = (bearer.good.bearers b bearer.there).down.there down bearer.channel in
-          um_rows_down planned b down link text bearer (um_silent_down planned first b down events link reported run bearer (lacks_down planned down reported text good.good there tells none)) read;
+          um_rows_down planned first b down (end_events events (opened_link planned first) link reported run) link text bearer (um_silent_down planned first b down events link reported run bearer (lacks_down planned down reported text good.good there tells none)) read;
       transparent_up = λ b up bearer none.
           let there = (bearer.good.bearers b bearer.there).up.there up bearer.channel in
           tm_rows_up planned b up link text bearer (tm_silent_up planned first b up events link reported run bearer (lacks_up planned up reported text good.good there tells none)) read;
@@ -99,19 +100,19 @@ second_carried planned second first quiet before early start over after link lat
           let there = (bearer.good.bearers b bearer.there).down.there down bearer.down_is in
           let here_later = (bearer_later.good.bearers b bearer_later.there).up.there up_later bearer_later.up_is in
           let there_later = (bearer_later.good.bearers b bearer_later.there).down.there down_later bearer_later.down_is in
-          am_rows_over second b up_later down_later over.last link (one ++ two) bearer_later
+          am_rows_over planned second first b up_later down_later (end_events before (opened_link planned first) over.last early over.run) (end_events after start link late run) over.last link (one ++ two) bearer_later
           (silent_over planned second first b up down up_later down_later before after start link early late over run (kept b) bearer bearer_later
           (silent up down early one (up_low planned up good.good here) (down_low planned down good.good there) tells no_up no_down)
           (silent up_later down_later late two (up_low second up_later later.good here_later) (down_low second down_later later.good there_later) tells_later no_up_later no_down_later)) read;
       unacknowledged_up = λ b up up_later bearer bearer_later none none_later.
           let there = (bearer.good.bearers b bearer.there).up.there up bearer.channel in
           let there_later = (bearer_later.good.bearers b bearer_later.there).up.there up_later bearer_later.channel in
-          um_rows_up_over planned second b up up_later over.last link (one ++ two) bearer_later (um_up_silent_over planned second first b up up_later before after start link early late over run bearer bearer_later
+          um_rows_up_over planned second first b up up_later (end_events before (opened_link planned first) over.last early over.run) (end_events after start link late run) over.last link (one ++ two) bearer_later (um_up_silent_over planned second first b up up_later before after start link early late over run bearer bearer_later
           (lacks_up planned up early one good.good there tells none) (lacks_up second up_later late two later.good there_later tells_later none_later)) read;
       unacknowledged_down = λ b down down_later bearer bearer_later none none_later.
           let there = (bearer.good.bearers b bearer.there).down.there down bearer.channel in
           let there_later = (bearer_later.good.bearers b bearer_later.there).down.there down_later bearer_later.channel in
-          um_rows_down_over planned second b down down_later over.last link (one ++ two) bearer_later (um_down_silent_over planned second first b down down_later before after start link early late over run bearer bearer_later
+          um_rows_down_over planned second first b down down_later (end_events before (opened_link planned first) over.last early over.run) (end_events after start link late run) over.last link (one ++ two) bearer_later (um_down_silent_over planned second first b down down_later before after start link early late over run bearer bearer_later
           (lacks_down planned down early one good.good there tells none) (lacks_down second down_later late two later.good there_later tells_later none_later)) read;
       transparent_up = λ b up up_later bearer bearer_later none none_later.
           let there = (bearer.good.bearers b bearer.there).up.there up bearer.channel in

@@ -1,5 +1,5 @@
 -- A radio frame of three nodes, as a run of the terminal and the network controller.
-use Rattle.std.proofs.Common.{◌≡◌, ◌+◌, ◌∙◌, ℕ, List, [], ◌∷◌, ◌++◌, arith, length, refl, sym, ap, subst, append_assoc}
+use Rattle.std.proofs.Common.{◌≡◌, ◌+◌, ◌∙◌, ℕ, List, [], ◌++◌, arith, length, refl, sym, ap, subst, append_assoc}
 use Rattle.std.specs.Prelude.{◌%◌}
 use Rattle.std.proofs.lemmas.List.{append-nil}
 use Rattle.dch_types.specs.declared.channel.Dir.TheVariants.{Up, Down}
@@ -7,8 +7,7 @@ use Rattle.dch_types.specs.Timing.{ends, starts}
 use Rattle.dch_accept.specs.Plans.{Planned}
 use Rattle.dch_node.specs.Lines.{Line}
 use Rattle.dch_layer.specs.Layers.{ticks}
-use Rattle.dch_damage.specs.Damage.{radio_after}
-use Rattle.dch_ue.specs.State.{DownlinkFrame, State as UeState, Tick as UeTicks}
+use Rattle.dch_ue.specs.State.{State as UeState}
 use Rattle.dch_ue.specs.Steps.{IsTick as IsUeTick, has_read}
 use Rattle.dch_nodeb.specs.State.{State as NodeBState}
 use Rattle.dch_rnc.specs.State.{State as RncState, Tick as RncTicks}
@@ -16,7 +15,8 @@ use Rattle.dch_rnc.specs.Steps.{IsTick as IsRncTick, Steps as RncSteps}
 use Rattle.dch_link.specs.Checks.{good_in}
 use Rattle.dch_link.specs.Link.{LinkState}
 use Rattle.dch_runlaw.specs.Frames.{IsFrame, lines_below}
-use Rattle.dch_runlaw.specs.Nodes.{AtRnc, AtUe, Nodes, Runs, given_at}
+use Rattle.dch_runlaw.specs.Nodes.{Nodes, Runs, given_at}
+use Rattle.dch_runlaw.specs.EndEvents.{until_set}
 use Rattle.dch_runlaw.specs.HonestFits.{FrameFits}
 use Rattle.dch_runlaw.proofs.HonestPhases.{On, Phase, next_is, on_holds, phase_holds, reads_log, same_on, same_phase, starts_log}
 use Rattle.dch_runlaw.proofs.HonestSets.{Sets, all_sets}
@@ -24,7 +24,7 @@ use Rattle.dch_runlaw.proofs.HonestStanding.{Onward, Setting, Stand, down_frames
 use Rattle.dch_runlaw.proofs.HonestStaying.{frame_for, left_cfn}
 use Rattle.dch_runlaw.proofs.HonestSteps.{below_given, goes_on, start_on}
 
-pub frame_goes : (planned : Planned) (up down : ℕ) (g : Setting planned up down) (old new : LinkState) (lines : List Line) (f : IsFrame old new lines) → FrameFits g.UpFits planned Up up old new lines f → FrameFits g.DownFits planned Down down old new lines f → (s : Stand planned up down g old) → Onward planned up down g (nodes_of planned up down g old s) new
+pub frame_goes : (planned : Planned) (up down : ℕ) (g : Setting planned up down) (old new : LinkState) (lines : List Line) (f : IsFrame old new lines) → FrameFits g.UpFits planned Up up old new lines f → FrameFits g.DownFits planned Down down old new lines f → (s : Stand planned up down g old) → Onward planned up down g (nodes_of planned up down g old s) (until_set old new lines f 8) new
 frame_goes planned up down g old new lines f up_fits down_fits s = record {
   stand = record {
     ul = t.ul;
@@ -35,10 +35,9 @@ frame_goes planned up down g old new lines f up_fits down_fits s = record {
     up_phase = subst (λ k. Phase g.UpFits (up_frames planned up) k (t.ul up) (new.ue.state.layer.given up).blocks) (sym last_cfn) (t.after g.up_channel.small);
     down_phase = subst (λ k. Phase g.DownFits (down_frames planned down) k (t.dl down) (new.rnc.state.layer.given down).blocks) (sym last_cfn) (subst (λ b. Phase g.DownFits (down_frames planned down) ((c + 1) % 256) (t.dl down) b.blocks) (sym (ap (λ (r : RncState). r.layer.given down) f.rnc_last ∙ t.given down)) t.down_phase);
   };
-  events = t.events;
-  run = subst (λ (x : List Line). Runs g.H n t.events (nodes_at new.ue.state new.rnc.state new.ue.lines x t.ul t.dl)) (append_assoc old.rnc.lines f.rnc_output.lines (lines_below f.taken 8) ∙ sym f.rnc_reported)
-      (subst (λ (x : List Line). Runs g.H n t.events (nodes_at new.ue.state new.rnc.state x (n1.rnc_lines ++ lines_below f.taken 8) t.ul t.dl)) (append_assoc old.ue.lines f.kept_output.lines f.ue_output.lines ∙ sym f.ue_reported)
-      (subst (λ (r : RncState). Runs g.H n t.events (nodes_at new.ue.state r n3.ue_lines (n1.rnc_lines ++ lines_below f.taken 8) t.ul t.dl)) (sym f.rnc_last) t.run));
+  run = subst (λ (x : List Line). Runs g.H n (until_set old new lines f 8) (nodes_at new.ue.state new.rnc.state new.ue.lines x t.ul t.dl)) (append_assoc old.rnc.lines f.rnc_output.lines (lines_below f.taken 8) ∙ sym f.rnc_reported)
+      (subst (λ (x : List Line). Runs g.H n (until_set old new lines f 8) (nodes_at new.ue.state new.rnc.state x (n1.rnc_lines ++ lines_below f.taken 8) t.ul t.dl)) (append_assoc old.ue.lines f.kept_output.lines f.ue_output.lines ∙ sym f.ue_reported)
+      (subst (λ (r : RncState). Runs g.H n (until_set old new lines f 8) (nodes_at new.ue.state r n3.ue_lines (n1.rnc_lines ++ lines_below f.taken 8) t.ul t.dl)) (sym f.rnc_last) t.run));
 }
   where
     n : Nodes
@@ -113,7 +112,7 @@ frame_goes planned up down g old new lines f up_fits down_fits s = record {
         (λ e. goes_on planned ue_tick.rx_frames down (new.ue.state.readings down) (ap (ends (down_frames planned down)) rx_cfn ∙ e) (ue_tick.readings down g.down_channel.there))
         (subst (λ b. On g.DownFits (n2.down down) b.blocks) (given0 down) down2)
 
-    run : Runs g.H n (AtRnc RncTicks ∷ AtUe (DownlinkFrame (radio_after old.damage Down f.down_output.sent)) ∷ AtUe UeTicks ∷ []) n3
+    run : Runs g.H n (until_set old new lines f 0) n3
     run = record {
       next = n1;
       first = record { within = tt; output = f.rnc_output; step = ticks0; reported = refl; ue = refl; ue_lines = refl; down = λ i. refl; up = λ i. refl };
@@ -136,8 +135,7 @@ frame_goes planned up down g old new lines f up_fits down_fits s = record {
     t = all_sets planned up down g old new lines f n3.ue_lines n1.rnc_lines n 8 up_fits s.are s.node_b_cfn (omega arith) (record {
       ul = n3.up;
       dl = n3.down;
-      events = AtRnc RncTicks ∷ AtUe (DownlinkFrame (radio_after old.damage Down f.down_output.sent)) ∷ AtUe UeTicks ∷ [];
-      run = subst (λ (x : List Line). Runs g.H n (AtRnc RncTicks ∷ AtUe (DownlinkFrame (radio_after old.damage Down f.down_output.sent)) ∷ AtUe UeTicks ∷ []) (nodes_at new.ue.state r0 n3.ue_lines x n3.up n3.down)) (sym (append-nil n1.rnc_lines)) run;
+      run = subst (λ (x : List Line). Runs g.H n (until_set old new lines f 0) (nodes_at new.ue.state r0 n3.ue_lines x n3.up n3.down)) (sym (append-nil n1.rnc_lines)) run;
       before = λ le. up3;
       after = λ lt. absurd (omega (arith, lt));
       down_phase = down3;

@@ -15,7 +15,8 @@ use Rattle.dch_layerlaw.specs.Worlds.{IsFront, IsSublist, turned}
 use Rattle.dch_layerlaw.proofs.Bearers.{is_am_bearer, is_tm_bearer, is_um_bearer}
 use Rattle.dch_layerlaw.proofs.Tm.{tm_carried}
 use Rattle.dch_layerlaw.proofs.UmWhole.{um_carried}
-use Rattle.dch_runlaw.specs.Nodes.{Any, AreFaithful, AreWhole, world_of}
+use Rattle.dch_runlaw.specs.EndEvents.{end_events}
+use Rattle.dch_runlaw.specs.Nodes.{Any, AreFaithful, AreWhole, opened_nodes, world_of}
 use Rattle.dch_runlaw.proofs.NodesEvents.{nodes_history, nodes_whole_history, tm_down, tm_down_history, tm_up, tm_up_history, um_down, um_down_history, um_up, um_up_history}
 use Rattle.dch_runlaw.specs.HonestBearers.{HasHistory, HasKnownDown, HasKnownUp, HasTmDown, HasTmSomeDown, HasTmSomeUp, HasTmUp, HasUmDown, HasUmUp, HasWholeHistory, IsAcknowledged, IsTransparent, IsUnacknowledged, down_way, up_way}
 use Rattle.dch_runlaw.specs.HonestFits.{IsChannel, IsHonest, IsUndamaged, IsUndamagedOn, RunFits}
@@ -27,7 +28,7 @@ use Rattle.dch_runlaw.proofs.HonestChannels.{is_channel}
 use Rattle.dch_runlaw.proofs.HonestPhases.{Anything, Joins, anything, honest, phase_holds, undamaged, whole_phase}
 use Rattle.dch_runlaw.proofs.HonestRuns.{fresh_stand, run_goes}
 use Rattle.dch_runlaw.proofs.HonestSilence.{any_fits, run_fits}
-use Rattle.dch_runlaw.proofs.HonestStanding.{Onward, Setting, down_frames, nodes_of, up_frames}
+use Rattle.dch_runlaw.proofs.HonestStanding.{Onward, Setting, any-run, down_frames, nodes_of, up_frames}
 
 -- two channels of good directions
 pub record AreChannels (planned : Planned) (up down : ℕ) : Type 0 where
@@ -61,7 +62,7 @@ part_honest planned dir i events start new lines run good begins l lacks = silen
 -- where the nodes of a run stand at last
 goes : (planned : Planned) (first up down : ℕ) (g : Setting planned up down) (events : List Event) (new : LinkState) (lines : List Line) (run : Runs (opened_link planned first) events new lines)
     → RunFits g.UpFits planned Up up events (opened_link planned first) new lines run → RunFits g.DownFits planned Down down events (opened_link planned first) new lines run
-    → Onward planned up down g (nodes_of planned up down g (opened_link planned first) (fresh_stand planned up down g (opened_link planned first) (opened_fresh planned first))) new
+    → Onward planned up down g (nodes_of planned up down g (opened_link planned first) (fresh_stand planned up down g (opened_link planned first) (opened_fresh planned first))) (end_events events (opened_link planned first) new lines run) new
 goes planned first up down g events new lines run up_fits down_fits = run_goes planned up down g events (opened_link planned first) new lines run up_fits down_fits (fresh_stand planned up down g (opened_link planned first) (opened_fresh planned first))
 
 -- acknowledged bearers
@@ -71,14 +72,17 @@ am_channels planned b up down is = record {
   down_is = is_channel planned.config.downlink.side down is.good.downlink.side ((is.good.bearers b is.there).down.there down is.down_is);
 }
 
-pub silent_history : (planned : Planned) (first b up down : ℕ) (events : List Event) (new : LinkState) (lines : List Line) → Runs (opened_link planned first) events new lines → IsAcknowledged planned b up down → IsSilent up down lines → HasHistory planned b new
+pub silent_history : (planned : Planned) (first b up down : ℕ) (events : List Event) (new : LinkState) (lines : List Line) (run : Runs (opened_link planned first) events new lines) → IsAcknowledged planned b up down → IsSilent up down lines → HasHistory planned first b (end_events events (opened_link planned first) new lines run) new
 silent_history planned first b up down events new lines run is silent =
     let are = am_channels planned b up down is in
     let o = goes planned first up down (honest_setting planned up down are) events new lines run (silent_honest planned Up up events (opened_link planned first) new lines run is.good (opened_fresh planned first).are are.up_is.there silent.up_silent) (silent_honest planned Down down events (opened_link planned first) new lines run is.good (opened_fresh planned first).are are.down_is.there silent.down_silent) in
     record {
-      nodes = nodes_of planned up down (honest_setting planned up down are) new o.stand;
-      are = record { ue = refl; rnc = refl; ue_lines = refl; rnc_lines = refl };
-      history = nodes_history planned first first b up down o.events (nodes_of planned up down (honest_setting planned up down are) new o.stand) (is_am_bearer planned.config b up down is.good is.there is.mode is.up_is is.down_is) o.run;
+      reached = record {
+        nodes = nodes_of planned up down (honest_setting planned up down are) new o.stand;
+        run = any-run (AreFaithful up down) (opened_nodes planned first first) (nodes_of planned up down (honest_setting planned up down are) new o.stand) (end_events events (opened_link planned first) new lines run) o.run;
+        are = record { ue = refl; rnc = refl; ue_lines = refl; rnc_lines = refl };
+      };
+      history = nodes_history planned first first b up down (end_events events (opened_link planned first) new lines run) (nodes_of planned up down (honest_setting planned up down are) new o.stand) (is_am_bearer planned.config b up down is.good is.there is.mode is.up_is is.down_is) o.run;
     }
 
 pub undamaged_history : (planned : Planned) (first b up down : ℕ) (events : List Event) (new : LinkState) (lines : List Line) (run : Runs (opened_link planned first) events new lines) → IsAcknowledged planned b up down → IsUndamaged planned up down events (opened_link planned first) new lines run → HasWholeHistory planned b up down new
@@ -90,7 +94,7 @@ undamaged_history planned first b up down events new lines run is fits =
       are = record { ue = refl; rnc = refl; ue_lines = refl; rnc_lines = refl };
       up_taken = whole_phase (up_frames planned up) new.rnc.state.cfn (o.stand.ul up) (new.ue.state.layer.given up).blocks o.stand.up_phase;
       down_taken = whole_phase (down_frames planned down) new.rnc.state.cfn (o.stand.dl down) (new.rnc.state.layer.given down).blocks o.stand.down_phase;
-      history = nodes_whole_history planned first first b up down o.events (nodes_of planned up down (whole_setting planned up down are) new o.stand) (is_am_bearer planned.config b up down is.good is.there is.mode is.up_is is.down_is) o.run;
+      history = nodes_whole_history planned first first b up down (end_events events (opened_link planned first) new lines run) (nodes_of planned up down (whole_setting planned up down are) new o.stand) (is_am_bearer planned.config b up down is.good is.there is.mode is.up_is is.down_is) o.run;
     }
 
 -- a bearer's own channel, and any channel of the other direction
@@ -107,31 +111,29 @@ down_channels planned b down good there is = record {
 }
 
 -- unacknowledged bearers
-pub um_silent_up : (planned : Planned) (first b up : ℕ) (events : List Event) (new : LinkState) (lines : List Line) → Runs (opened_link planned first) events new lines → IsUnacknowledged planned Up b up → Lacks lines (Differs Up up) → HasKnownUp planned b up new
+pub um_silent_up : (planned : Planned) (first b up : ℕ) (events : List Event) (new : LinkState) (lines : List Line) (run : Runs (opened_link planned first) events new lines) → IsUnacknowledged planned Up b up → Lacks lines (Differs Up up) → HasKnownUp planned first b up (end_events events (opened_link planned first) new lines run) new
 um_silent_up planned first b up events new lines run is lacks =
     let are = up_channels planned b up is.good is.there is.channel in
     let o = goes planned first up 0 (up_setting IsFound IsSublist planned up 0 honest are) events new lines run (silent_honest planned Up up events (opened_link planned first) new lines run is.good (opened_fresh planned first).are are.up_is.there lacks) (any_fits planned Down 0 events (opened_link planned first) new lines run) in
     record {
-      nodes = nodes_of planned up 0 (up_setting IsFound IsSublist planned up 0 honest are) new o.stand;
-      are = record { ue = refl; rnc = refl; ue_lines = refl; rnc_lines = refl };
-      known = um_up planned first first b up o.events (nodes_of planned up 0 (up_setting IsFound IsSublist planned up 0 honest are) new o.stand) (is_um_bearer planned.config Up b up is.good is.there is.mode is.channel) o.run (phase_holds IsFound IsSublist (up_frames planned up) new.rnc.state.cfn (o.stand.ul up) (new.ue.state.layer.given up).blocks honest o.stand.up_phase);
+      reached = record { nodes = nodes_of planned up 0 (up_setting IsFound IsSublist planned up 0 honest are) new o.stand; run = o.run; are = record { ue = refl; rnc = refl; ue_lines = refl; rnc_lines = refl } };
+      known = um_up planned first first b up (end_events events (opened_link planned first) new lines run) (nodes_of planned up 0 (up_setting IsFound IsSublist planned up 0 honest are) new o.stand) (is_um_bearer planned.config Up b up is.good is.there is.mode is.channel) o.run (phase_holds IsFound IsSublist (up_frames planned up) new.rnc.state.cfn (o.stand.ul up) (new.ue.state.layer.given up).blocks honest o.stand.up_phase);
     }
 
-pub um_silent_down : (planned : Planned) (first b down : ℕ) (events : List Event) (new : LinkState) (lines : List Line) → Runs (opened_link planned first) events new lines → IsUnacknowledged planned Down b down → Lacks lines (Differs Down down) → HasKnownDown planned b down new
+pub um_silent_down : (planned : Planned) (first b down : ℕ) (events : List Event) (new : LinkState) (lines : List Line) (run : Runs (opened_link planned first) events new lines) → IsUnacknowledged planned Down b down → Lacks lines (Differs Down down) → HasKnownDown planned first b down (end_events events (opened_link planned first) new lines run) new
 um_silent_down planned first b down events new lines run is lacks =
     let are = down_channels planned b down is.good is.there is.channel in
     let o = goes planned first 0 down (down_setting IsFound IsSublist planned 0 down honest are) events new lines run (any_fits planned Up 0 events (opened_link planned first) new lines run) (silent_honest planned Down down events (opened_link planned first) new lines run is.good (opened_fresh planned first).are are.down_is.there lacks) in
     record {
-      nodes = nodes_of planned 0 down (down_setting IsFound IsSublist planned 0 down honest are) new o.stand;
-      are = record { ue = refl; rnc = refl; ue_lines = refl; rnc_lines = refl };
-      known = um_down planned first first b down o.events (nodes_of planned 0 down (down_setting IsFound IsSublist planned 0 down honest are) new o.stand) (is_um_bearer planned.config Down b down is.good is.there is.mode is.channel) o.run (phase_holds IsFound IsSublist (down_frames planned down) new.rnc.state.cfn (o.stand.dl down) (new.rnc.state.layer.given down).blocks honest o.stand.down_phase);
+      reached = record { nodes = nodes_of planned 0 down (down_setting IsFound IsSublist planned 0 down honest are) new o.stand; run = o.run; are = record { ue = refl; rnc = refl; ue_lines = refl; rnc_lines = refl } };
+      known = um_down planned first first b down (end_events events (opened_link planned first) new lines run) (nodes_of planned 0 down (down_setting IsFound IsSublist planned 0 down honest are) new o.stand) (is_um_bearer planned.config Down b down is.good is.there is.mode is.channel) o.run (phase_holds IsFound IsSublist (down_frames planned down) new.rnc.state.cfn (o.stand.dl down) (new.rnc.state.layer.given down).blocks honest o.stand.down_phase);
     }
 
 pub um_undamaged_up : (planned : Planned) (first b up : ℕ) (events : List Event) (new : LinkState) (lines : List Line) (run : Runs (opened_link planned first) events new lines) → IsUnacknowledged planned Up b up → IsUndamagedOn planned Up up events (opened_link planned first) new lines run → HasUmUp planned b up new
 um_undamaged_up planned first b up events new lines run is fits =
     let are = up_channels planned b up is.good is.there is.channel in
     let o = goes planned first up 0 (up_setting (λ a b. a ≡ b) IsFront planned up 0 undamaged are) events new lines run fits (any_fits planned Down 0 events (opened_link planned first) new lines run) in
-    let h = um_up_history planned first first b up o.events (nodes_of planned up 0 (up_setting (λ a b. a ≡ b) IsFront planned up 0 undamaged are) new o.stand) (is_um_bearer planned.config Up b up is.good is.there is.mode is.channel) o.run in
+    let h = um_up_history planned first first b up (end_events events (opened_link planned first) new lines run) (nodes_of planned up 0 (up_setting (λ a b. a ≡ b) IsFront planned up 0 undamaged are) new o.stand) (is_um_bearer planned.config Up b up is.good is.there is.mode is.channel) o.run in
     um_carried planned.config Up b up (world_of (nodes_of planned up 0 (up_setting (λ a b. a ≡ b) IsFront planned up 0 undamaged are) new o.stand)) (up_way planned up new) h
     (whole_phase (up_frames planned up) new.rnc.state.cfn (o.stand.ul up) (new.ue.state.layer.given up).blocks o.stand.up_phase)
 
@@ -139,7 +141,7 @@ pub um_undamaged_down : (planned : Planned) (first b down : ℕ) (events : List 
 um_undamaged_down planned first b down events new lines run is fits =
     let are = down_channels planned b down is.good is.there is.channel in
     let o = goes planned first 0 down (down_setting (λ a b. a ≡ b) IsFront planned 0 down undamaged are) events new lines run (any_fits planned Up 0 events (opened_link planned first) new lines run) fits in
-    let h = um_down_history planned first first b down o.events (nodes_of planned 0 down (down_setting (λ a b. a ≡ b) IsFront planned 0 down undamaged are) new o.stand) (is_um_bearer planned.config Down b down is.good is.there is.mode is.channel) o.run in
+    let h = um_down_history planned first first b down (end_events events (opened_link planned first) new lines run) (nodes_of planned 0 down (down_setting (λ a b. a ≡ b) IsFront planned 0 down undamaged are) new o.stand) (is_um_bearer planned.config Down b down is.good is.there is.mode is.channel) o.run in
     um_carried planned.config Down b down (turned (world_of (nodes_of planned 0 down (down_setting (λ a b. a ≡ b) IsFront planned 0 down undamaged are) new o.stand))) (down_way planned down new) h
     (whole_phase (down_frames planned down) new.rnc.state.cfn (o.stand.dl down) (new.rnc.state.layer.given down).blocks o.stand.down_phase)
 
@@ -148,19 +150,19 @@ pub tm_silent_up : (planned : Planned) (first b up : ℕ) (events : List Event) 
 tm_silent_up planned first b up events new lines run is lacks =
     let are = up_channels planned b up is.good is.there is.channel in
     let o = goes planned first up 0 (up_setting IsFound IsSublist planned up 0 honest are) events new lines run (silent_honest planned Up up events (opened_link planned first) new lines run is.good (opened_fresh planned first).are are.up_is.there lacks) (any_fits planned Down 0 events (opened_link planned first) new lines run) in
-    tm_up planned first first b up o.events (nodes_of planned up 0 (up_setting IsFound IsSublist planned up 0 honest are) new o.stand) (is_tm_bearer planned.config Up b up is.good is.there is.mode is.channel) o.run (phase_holds IsFound IsSublist (up_frames planned up) new.rnc.state.cfn (o.stand.ul up) (new.ue.state.layer.given up).blocks honest o.stand.up_phase)
+    tm_up planned first first b up (end_events events (opened_link planned first) new lines run) (nodes_of planned up 0 (up_setting IsFound IsSublist planned up 0 honest are) new o.stand) (is_tm_bearer planned.config Up b up is.good is.there is.mode is.channel) o.run (phase_holds IsFound IsSublist (up_frames planned up) new.rnc.state.cfn (o.stand.ul up) (new.ue.state.layer.given up).blocks honest o.stand.up_phase)
 
 pub tm_silent_down : (planned : Planned) (first b down : ℕ) (events : List Event) (new : LinkState) (lines : List Line) → Runs (opened_link planned first) events new lines → IsTransparent planned Down b down → Lacks lines (Differs Down down) → HasTmSomeDown planned b new
 tm_silent_down planned first b down events new lines run is lacks =
     let are = down_channels planned b down is.good is.there is.channel in
     let o = goes planned first 0 down (down_setting IsFound IsSublist planned 0 down honest are) events new lines run (any_fits planned Up 0 events (opened_link planned first) new lines run) (silent_honest planned Down down events (opened_link planned first) new lines run is.good (opened_fresh planned first).are are.down_is.there lacks) in
-    tm_down planned first first b down o.events (nodes_of planned 0 down (down_setting IsFound IsSublist planned 0 down honest are) new o.stand) (is_tm_bearer planned.config Down b down is.good is.there is.mode is.channel) o.run (phase_holds IsFound IsSublist (down_frames planned down) new.rnc.state.cfn (o.stand.dl down) (new.rnc.state.layer.given down).blocks honest o.stand.down_phase)
+    tm_down planned first first b down (end_events events (opened_link planned first) new lines run) (nodes_of planned 0 down (down_setting IsFound IsSublist planned 0 down honest are) new o.stand) (is_tm_bearer planned.config Down b down is.good is.there is.mode is.channel) o.run (phase_holds IsFound IsSublist (down_frames planned down) new.rnc.state.cfn (o.stand.dl down) (new.rnc.state.layer.given down).blocks honest o.stand.down_phase)
 
 pub tm_undamaged_up : (planned : Planned) (first b up : ℕ) (events : List Event) (new : LinkState) (lines : List Line) (run : Runs (opened_link planned first) events new lines) → IsTransparent planned Up b up → IsUndamagedOn planned Up up events (opened_link planned first) new lines run → HasTmUp planned b up new
 tm_undamaged_up planned first b up events new lines run is fits =
     let are = up_channels planned b up is.good is.there is.channel in
     let o = goes planned first up 0 (up_setting (λ a b. a ≡ b) IsFront planned up 0 undamaged are) events new lines run fits (any_fits planned Down 0 events (opened_link planned first) new lines run) in
-    let h = tm_up_history planned first first b up o.events (nodes_of planned up 0 (up_setting (λ a b. a ≡ b) IsFront planned up 0 undamaged are) new o.stand) (is_tm_bearer planned.config Up b up is.good is.there is.mode is.channel) o.run in
+    let h = tm_up_history planned first first b up (end_events events (opened_link planned first) new lines run) (nodes_of planned up 0 (up_setting (λ a b. a ≡ b) IsFront planned up 0 undamaged are) new o.stand) (is_tm_bearer planned.config Up b up is.good is.there is.mode is.channel) o.run in
     tm_carried planned.config Up b up (world_of (nodes_of planned up 0 (up_setting (λ a b. a ≡ b) IsFront planned up 0 undamaged are) new o.stand)) (up_way planned up new) h
     (whole_phase (up_frames planned up) new.rnc.state.cfn (o.stand.ul up) (new.ue.state.layer.given up).blocks o.stand.up_phase)
 
@@ -168,6 +170,6 @@ pub tm_undamaged_down : (planned : Planned) (first b down : ℕ) (events : List 
 tm_undamaged_down planned first b down events new lines run is fits =
     let are = down_channels planned b down is.good is.there is.channel in
     let o = goes planned first 0 down (down_setting (λ a b. a ≡ b) IsFront planned 0 down undamaged are) events new lines run (any_fits planned Up 0 events (opened_link planned first) new lines run) fits in
-    let h = tm_down_history planned first first b down o.events (nodes_of planned 0 down (down_setting (λ a b. a ≡ b) IsFront planned 0 down undamaged are) new o.stand) (is_tm_bearer planned.config Down b down is.good is.there is.mode is.channel) o.run in
+    let h = tm_down_history planned first first b down (end_events events (opened_link planned first) new lines run) (nodes_of planned 0 down (down_setting (λ a b. a ≡ b) IsFront planned 0 down undamaged are) new o.stand) (is_tm_bearer planned.config Down b down is.good is.there is.mode is.channel) o.run in
     tm_carried planned.config Down b down (turned (world_of (nodes_of planned 0 down (down_setting (λ a b. a ≡ b) IsFront planned 0 down undamaged are) new o.stand))) (down_way planned down new) h
     (whole_phase (down_frames planned down) new.rnc.state.cfn (o.stand.dl down) (new.rnc.state.layer.given down).blocks o.stand.down_phase)

@@ -18,6 +18,7 @@ use Rattle.dch_runlaw.specs.Runs.{Between, Event, Frame, Runs, Steps}
 use Rattle.dch_runlaw.proofs.Keeping.{but_rnc, but_ue, rnc_lines, rnc_step, ue_lines, ue_step}
 use Rattle.dch_layerlaw.specs.Worlds.{no_log}
 use Rattle.dch_runlaw.specs.Nodes.{AtRnc, AtUe, given_by_rnc, given_by_ue}
+use Rattle.dch_runlaw.specs.EndEvents.{between, end_events, in_step}
 use Rattle.dch_runlaw.specs.HonestFits.{EventFits, RunFits}
 use Rattle.dch_runlaw.proofs.Begun.{Fresh}
 use Rattle.dch_runlaw.proofs.HonestFrames.{frame_goes}
@@ -27,10 +28,9 @@ use Rattle.dch_runlaw.proofs.HonestStaying.{AreFor, event_for}
 
 -- a step of the terminal that neither gives nor takes
 ue_quiet : (planned : Planned) (up down : ℕ) (g : Setting planned up down) (old new : LinkState) (e : UeEvent) (s : Stand planned up down g old) → UeWithin e → UeGoes old e new → AreFor planned new
-    → ((i : ℕ) → given_by_ue old.ue.state e new.ue.state i ≡ []) → ((i : ℕ) → new.ue.state.readings i ≡ Nothing) → new.ue.state.cfn ≡ old.ue.state.cfn → ((i : ℕ) → new.ue.state.layer.given i ≡ old.ue.state.layer.given i) → Onward planned up down g (nodes_of planned up down g old s) new
+    → ((i : ℕ) → given_by_ue old.ue.state e new.ue.state i ≡ []) → ((i : ℕ) → new.ue.state.readings i ≡ Nothing) → new.ue.state.cfn ≡ old.ue.state.cfn → ((i : ℕ) → new.ue.state.layer.given i ≡ old.ue.state.layer.given i) → Onward planned up down g (nodes_of planned up down g old s) (AtUe e ∷ []) new
 ue_quiet planned up down g old new e s within goes are none taken cfn given = record {
   stand = stand;
-  events = AtUe e ∷ [];
   run = record {
     next = nodes_of planned up down g new stand;
     first = record {
@@ -64,10 +64,9 @@ ue_quiet planned up down g old new e s within goes are none taken cfn given = re
 
 -- and one of the network controller
 rnc_quiet : (planned : Planned) (up down : ℕ) (g : Setting planned up down) (old new : LinkState) (e : RncEvent) (s : Stand planned up down g old) → RncWithin e → RncGoes old e new → AreFor planned new
-    → ((i : ℕ) → given_by_rnc old.rnc.state e new.rnc.state i ≡ []) → ((i : ℕ) → new.rnc.state.readings i ≡ Nothing) → new.rnc.state.cfn ≡ old.rnc.state.cfn → ((i : ℕ) → new.rnc.state.layer.given i ≡ old.rnc.state.layer.given i) → Onward planned up down g (nodes_of planned up down g old s) new
+    → ((i : ℕ) → given_by_rnc old.rnc.state e new.rnc.state i ≡ []) → ((i : ℕ) → new.rnc.state.readings i ≡ Nothing) → new.rnc.state.cfn ≡ old.rnc.state.cfn → ((i : ℕ) → new.rnc.state.layer.given i ≡ old.rnc.state.layer.given i) → Onward planned up down g (nodes_of planned up down g old s) (AtRnc e ∷ []) new
 rnc_quiet planned up down g old new e s within goes are none taken cfn given = record {
   stand = stand;
-  events = AtRnc e ∷ [];
   run = record {
     next = nodes_of planned up down g new stand;
     first = record {
@@ -100,7 +99,7 @@ rnc_quiet planned up down g old new e s within goes are none taken cfn given = r
     }
 
 -- damage that waits changes no node
-waiting : (planned : Planned) (up down : ℕ) (g : Setting planned up down) (old new : LinkState) (s : Stand planned up down g old) → new.ue ≡ old.ue → new.node_b ≡ old.node_b → new.rnc ≡ old.rnc → AreFor planned new → Onward planned up down g (nodes_of planned up down g old s) new
+waiting : (planned : Planned) (up down : ℕ) (g : Setting planned up down) (old new : LinkState) (s : Stand planned up down g old) → new.ue ≡ old.ue → new.node_b ≡ old.node_b → new.rnc ≡ old.rnc → AreFor planned new → Onward planned up down g (nodes_of planned up down g old s) [] new
 waiting planned up down g old new s ue node_b rnc are = record {
   stand = record {
     ul = s.ul;
@@ -112,13 +111,12 @@ waiting planned up down g old new s ue node_b rnc are = record {
         (subst (λ (c : Course RncState RncEvent). Phase g.UpFits (up_frames planned up) c.state.cfn (s.ul up) (old.ue.state.layer.given up).blocks) (sym rnc) s.up_phase);
     down_phase = subst (λ (c : Course RncState RncEvent). Phase g.DownFits (down_frames planned down) c.state.cfn (s.dl down) (c.state.layer.given down).blocks) (sym rnc) s.down_phase;
   };
-  events = [];
   run = ap (λ (c : Course UeState UeEvent). record { ue = c.state; rnc = new.rnc.state; ue_lines = c.lines; rnc_lines = new.rnc.lines; up = s.ul; down = s.dl }) ue
       ∙ ap (λ (c : Course RncState RncEvent). record { ue = old.ue.state; rnc = c.state; ue_lines = old.ue.lines; rnc_lines = c.lines; up = s.ul; down = s.dl }) rnc;
 }
 
 -- what happens between two radio frames
-between_goes : (planned : Planned) (up down : ℕ) (g : Setting planned up down) (old : LinkState) (event : LinkEvent) (new : LinkState) (lines : List Line) → Happens old event new lines → AreFor planned new → (s : Stand planned up down g old) → Onward planned up down g (nodes_of planned up down g old s) new
+between_goes : (planned : Planned) (up down : ℕ) (g : Setting planned up down) (old : LinkState) (event : LinkEvent) (new : LinkState) (lines : List Line) → Happens old event new lines → AreFor planned new → (s : Stand planned up down g old) → Onward planned up down g (nodes_of planned up down g old s) (between event) new
 between_goes planned up down g old (OfferedUnit Up b octets bits) new lines h are s =
     let state = (ue_step old new (UeOffered b octets bits) h.0).state in
     ue_quiet planned up down g old new (UeOffered b octets bits) s tt h.0 are (λ i. refl) (λ i. ap (λ (x : UeState). x.readings i) state) (ap (λ (x : UeState). x.cfn) state) (λ i. ap (λ (x : UeState). x.layer.given i) state)
@@ -135,19 +133,18 @@ between_goes planned up down g old (Damages d) new lines h are s =
     waiting planned up down g old new s (ap (λ (x : LinkState). x.ue) h.0) (ap (λ (x : LinkState). x.node_b) h.0) (ap (λ (x : LinkState). x.rnc) h.0) are
 
 -- an event, and a run
-event_goes : (planned : Planned) (up down : ℕ) (g : Setting planned up down) (old : LinkState) (event : Event) (new : LinkState) (lines : List Line) (step : Steps old event new lines) → EventFits g.UpFits planned Up up old event new lines step → EventFits g.DownFits planned Down down old event new lines step → (s : Stand planned up down g old) → Onward planned up down g (nodes_of planned up down g old s) new
+event_goes : (planned : Planned) (up down : ℕ) (g : Setting planned up down) (old : LinkState) (event : Event) (new : LinkState) (lines : List Line) (step : Steps old event new lines) → EventFits g.UpFits planned Up up old event new lines step → EventFits g.DownFits planned Down down old event new lines step → (s : Stand planned up down g old) → Onward planned up down g (nodes_of planned up down g old s) (in_step event old new lines step) new
 event_goes planned up down g old (Between event) new lines step up_fits down_fits s = between_goes planned up down g old event new lines step (event_for planned old (Between event) new lines step s.are) s
 event_goes planned up down g old Frame new lines step up_fits down_fits s = frame_goes planned up down g old new lines step.frame up_fits down_fits s
 
-pub run_goes : (planned : Planned) (up down : ℕ) (g : Setting planned up down) (events : List Event) (old new : LinkState) (lines : List Line) (run : Runs old events new lines) → RunFits g.UpFits planned Up up events old new lines run → RunFits g.DownFits planned Down down events old new lines run → (s : Stand planned up down g old) → Onward planned up down g (nodes_of planned up down g old s) new
-run_goes planned up down g [] old new lines run up_fits down_fits s = subst (λ (x : LinkState). Onward planned up down g (nodes_of planned up down g old s) x) (sym run.0) (record { stand = s; events = []; run = refl })
+pub run_goes : (planned : Planned) (up down : ℕ) (g : Setting planned up down) (events : List Event) (old new : LinkState) (lines : List Line) (run : Runs old events new lines) → RunFits g.UpFits planned Up up events old new lines run → RunFits g.DownFits planned Down down events old new lines run → (s : Stand planned up down g old) → Onward planned up down g (nodes_of planned up down g old s) (end_events events old new lines run) new
+run_goes planned up down g [] old new lines run up_fits down_fits s = subst (λ (x : LinkState). Onward planned up down g (nodes_of planned up down g old s) [] x) (sym run.0) (record { stand = s; run = refl })
 run_goes planned up down g (event ∷ events) old new lines run up_fits down_fits s =
     let a = event_goes planned up down g old event run.next run.own run.step up_fits.0 down_fits.0 s in
     let b = run_goes planned up down g events run.next new run.rest run.later up_fits.1 down_fits.1 a.stand in
     record {
       stand = b.stand;
-      events = a.events ++ b.events;
-      run = runs-append g.H (nodes_of planned up down g old s) (nodes_of planned up down g run.next a.stand) (nodes_of planned up down g new b.stand) a.events b.events a.run b.run;
+      run = runs-append g.H (nodes_of planned up down g old s) (nodes_of planned up down g run.next a.stand) (nodes_of planned up down g new b.stand) (in_step event old run.next run.own run.step) (end_events events run.next new run.rest run.later) a.run b.run;
     }
 
 -- where a part begins nothing has gone over a channel

@@ -17,6 +17,7 @@ use Rattle.dch_runlaw.specs.Frames.{IsFrame, MayBeTaken, Taken, lines_below}
 use Rattle.dch_layerlaw.specs.Worlds.{Log}
 use Rattle.dch_layerlaw.proofs.Names.{other_number}
 use Rattle.dch_runlaw.specs.Nodes.{AtRnc, Event, Nodes, Runs}
+use Rattle.dch_runlaw.specs.EndEvents.{arrived, iub_arriving, until_set}
 use Rattle.dch_runlaw.specs.HonestFits.{FrameFits, IsChannel}
 use Rattle.dch_runlaw.proofs.HonestPhases.{On, Phase, next_is, on_holds, phase_holds, reads_log, same_on, same_phase}
 use Rattle.dch_runlaw.proofs.HonestStanding.{Setting, down_frames, nodes_at, runs-append, up_frames}
@@ -27,8 +28,7 @@ use Rattle.dch_runlaw.proofs.HonestSteps.{iub_cfn, iub_given, other_set, serves_
 pub record Sets (planned : Planned) (up down : ℕ) (g : Setting planned up down) (old new : LinkState) (lines : List Line) (f : IsFrame old new lines) (us rs : List Line) (n : Nodes) (s : ℕ) : Type 0 where
   pub ul : ℕ → Log
   pub dl : ℕ → Log
-  pub events : List Event
-  pub run : Runs g.H n events (nodes_at new.ue.state (f.rncs s) us (rs ++ lines_below f.taken s) ul dl)
+  pub run : Runs g.H n (until_set old new lines f s) (nodes_at new.ue.state (f.rncs s) us (rs ++ lines_below f.taken s) ul dl)
   pub before : s ≤ (channel_at planned.config.uplink.side up).set → On g.UpFits (ul up) (new.ue.state.layer.given up).blocks
   pub after : (channel_at planned.config.uplink.side up).set < s → Phase g.UpFits (up_frames planned up) ((old.rnc.state.cfn + 1) % 256) (ul up) (new.ue.state.layer.given up).blocks
   pub down_phase : Phase g.DownFits (down_frames planned down) ((old.rnc.state.cfn + 1) % 256) (dl down) (f.rnc.layer.given down).blocks
@@ -56,15 +56,21 @@ below_more taken rs own s e =
     let next : s + 1 ≡ suc s = omega arith in
     ap (λ k. rs ++ lines_below taken k) next ∙ ap (λ l. rs ++ (lines_below taken s ++ l)) e ∙ sym (append_assoc rs (lines_below taken s) own)
 
+-- the events of one set more
+until_more : (old new : LinkState) (lines : List Line) (f : IsFrame old new lines) (s : ℕ) (o : Option (List ℕ)) → iub_arriving old new lines f s ≡ o → until_set old new lines f (s + 1) ≡ until_set old new lines f s ++ arrived s o
+until_more old new lines f s o is =
+    let next : s + 1 ≡ suc s = omega arith in
+    ap (until_set old new lines f) next ∙ ap (λ x. until_set old new lines f s ++ arrived s x) is
+
 -- one more set
 set_next : (planned : Planned) (up down : ℕ) (g : Setting planned up down) (old new : LinkState) (lines : List Line) (f : IsFrame old new lines) (us rs : List Line) (n : Nodes) (s : ℕ) → FrameFits g.UpFits planned Up up old new lines f → AreFor planned old → old.node_b.state.cfn ≡ old.rnc.state.cfn → s < 8
-    → Sets planned up down g old new lines f us rs n s → (o : Option (List ℕ)) → MayBeTaken old.rnc.state.planned s o new.ue.state.layer (f.rncs s) (f.rncs (s + 1)) (f.taken s) (f.rnc_lines s) → Sets planned up down g old new lines f us rs n (s + 1)
-set_next planned up down g old new lines f us rs n s up_fits are same l t None m = record {
+    → Sets planned up down g old new lines f us rs n s → (o : Option (List ℕ)) → iub_arriving old new lines f s ≡ o → MayBeTaken old.rnc.state.planned s o new.ue.state.layer (f.rncs s) (f.rncs (s + 1)) (f.taken s) (f.rnc_lines s) → Sets planned up down g old new lines f us rs n (s + 1)
+set_next planned up down g old new lines f us rs n s up_fits are same l t None is_none m = record {
   ul = t.ul;
   dl = t.dl;
-  events = t.events;
-  run = subst (λ (x : List Line). Runs g.H n t.events (nodes_at new.ue.state (f.rncs (s + 1)) us x t.ul t.dl)) (sym (below_more f.taken rs [] s (ap (λ (x : Taken). x.lines) m.1) ∙ append-nil (rs ++ lines_below f.taken s)))
-      (subst (λ (r : RncState). Runs g.H n t.events (nodes_at new.ue.state r us (rs ++ lines_below f.taken s) t.ul t.dl)) (sym m.0) t.run);
+  run = subst (λ (events : List Event). Runs g.H n events (nodes_at new.ue.state (f.rncs (s + 1)) us (rs ++ lines_below f.taken (s + 1)) t.ul t.dl)) (sym (until_more old new lines f s None is_none ∙ append-nil (until_set old new lines f s)))
+      (subst (λ (x : List Line). Runs g.H n (until_set old new lines f s) (nodes_at new.ue.state (f.rncs (s + 1)) us x t.ul t.dl)) (sym (below_more f.taken rs [] s (ap (λ (x : Taken). x.lines) m.1) ∙ append-nil (rs ++ lines_below f.taken s)))
+      (subst (λ (r : RncState). Runs g.H n (until_set old new lines f s) (nodes_at new.ue.state r us (rs ++ lines_below f.taken s) t.ul t.dl)) (sym m.0) t.run));
   before = λ le. t.before (omega (arith, le));
   after = λ lt. ⊎_elim (λ (q : set < s). t.after q) (λ (q : s ≤ set). let is : set ≡ s = omega (arith, lt, q) in over is (t.before q)) (cases_lt set s);
   down_phase = t.down_phase;
@@ -84,16 +90,15 @@ set_next planned up down g old new lines f us rs n s up_fits are same l t None m
         up_fits
         (none_taken planned up old new lines f g.up_channel are same)
         on
-set_next planned up down g old new lines f us rs n s up_fits are same l t (Some octets) m = record {
+set_next planned up down g old new lines f us rs n s up_fits are same l t (Some octets) is_some m = record {
   ul = ul;
   dl = dl;
-  events = t.events ++ AtRnc (IubFrame s octets) ∷ [];
-  run = runs-append g.H n here there t.events (AtRnc (IubFrame s octets) ∷ []) t.run (record {
+  run = subst (λ (events : List Event). Runs g.H n events there) (sym (until_more old new lines f s (Some octets) is_some)) (runs-append g.H n here there (until_set old new lines f s) (AtRnc (IubFrame s octets) ∷ []) t.run (record {
     next = there;
     first = record { within = tt; output = m.output; step = m.step; reported = below_more f.taken rs m.output.lines s (ap (λ (x : Taken). x.lines) m.is); ue = refl; ue_lines = refl; down = λ i. refl; up = λ i. refl };
     holds = g.build there up_holds (phase_holds g.DownFits g.DownHolds (down_frames planned down) ((old.rnc.state.cfn + 1) % 256) (dl down) (f.rnc.layer.given down).blocks g.down_joins down_now);
     later = refl;
-  });
+  }));
   before = before;
   after = after;
   down_phase = down_now;
@@ -156,4 +161,4 @@ all_sets planned up down g old new lines f us rs n zero up_fits are same l t = t
 all_sets planned up down g old new lines f us rs n (suc s) up_fits are same l t =
     let next : s + 1 ≡ suc s = omega arith in
     subst (Sets planned up down g old new lines f us rs n) next
-    (set_next planned up down g old new lines f us rs n s up_fits are same (omega (arith, l)) (all_sets planned up down g old new lines f us rs n s up_fits are same (omega (arith, l)) t) (iub_after old.damage Up s (f.up_output.iub s)) (f.takes s (omega (arith, l))))
+    (set_next planned up down g old new lines f us rs n s up_fits are same (omega (arith, l)) (all_sets planned up down g old new lines f us rs n s up_fits are same (omega (arith, l)) t) (iub_arriving old new lines f s) refl (f.takes s (omega (arith, l))))

@@ -8,7 +8,7 @@ use Rattle.dch_ue.specs.State.{State as UeState}
 use Rattle.dch_rnc.specs.State.{State as RncState}
 use Rattle.dch_link.specs.Link.{LinkState}
 use Rattle.dch_layerlaw.specs.Worlds.{Log}
-use Rattle.dch_runlaw.specs.Nodes.{Event, Nodes, Runs}
+use Rattle.dch_runlaw.specs.Nodes.{Any, Event, Nodes, Runs}
 use Rattle.dch_runlaw.specs.HonestFits.{IsChannel}
 use Rattle.dch_runlaw.proofs.HonestPhases.{Joins, Phase}
 use Rattle.dch_runlaw.proofs.HonestStaying.{AreFor}
@@ -48,12 +48,16 @@ nodes_at ue rnc us rs ul dl = record { ue = ue; rnc = rnc; ue_lines = us; rnc_li
 abbrev pub nodes_of : (planned : Planned) (up down : ℕ) (g : Setting planned up down) (link : LinkState) → Stand planned up down g link → Nodes
 nodes_of planned up down g link s = nodes_at link.ue.state link.rnc.state link.ue.lines link.rnc.lines s.ul s.dl
 
--- and a run of the terminal and the network controller leads there
-pub record Onward (planned : Planned) (up down : ℕ) (g : Setting planned up down) (n : Nodes) (link : LinkState) : Type 0 where
+-- and these events at the terminal and the network controller lead there
+pub record Onward (planned : Planned) (up down : ℕ) (g : Setting planned up down) (n : Nodes) (events : List Event) (link : LinkState) : Type 0 where
   pub stand : Stand planned up down g link
-  pub events : List Event
   pub run : Runs g.H n events (nodes_of planned up down g link stand)
 
 pub runs-append : (H : Nodes → Type 0) (a b c : Nodes) (xs ys : List Event) → Runs H a xs b → Runs H b ys c → Runs H a (xs ++ ys) c
 runs-append H a b c [] ys r t = subst (λ x. Runs H x ys c) r t
 runs-append H a b c (x ∷ xs) ys r t = record { next = r.next; first = r.first; holds = r.holds; later = runs-append H r.next b c xs ys r.later t }
+
+-- whatever holds after each event
+pub any-run : (H : Nodes → Type 0) (a b : Nodes) (events : List Event) → Runs H a events b → Runs Any a events b
+any-run H a b [] r = r
+any-run H a b (x ∷ xs) r = record { next = r.next; first = r.first; holds = tt; later = any-run H r.next b xs r.later }

@@ -39,6 +39,7 @@ use Rattle.dch_runlaw.proofs.ClearSent.{IsSentRadio, all_sent, heard_as}
 use Rattle.dch_runlaw.proofs.ClearTtis.{Half, half_more, half_next, over_or_on}
 use Rattle.dch_runlaw.specs.Intervals.{AllArrive, AreGood, ArrivesAsSent, DownAsGiven, InFrames, Tti}
 use Rattle.dch_runlaw.proofs.IntervalAgree.{Agree, Parts, down_side, parts, runs_agree, stays}
+use Rattle.dch_runlaw.proofs.IntervalCombinations.{finds_all}
 use Rattle.dch_runlaw.proofs.IntervalCounting.{Stayed, Watch, starts_zero, stayed}
 use Rattle.dch_runlaw.proofs.IntervalWhole.{given_still}
 
@@ -227,6 +228,7 @@ pub down_interval : (planned : Planned) (i : ℕ) (events : List Event) (start m
 down_interval planned i events start mid new lines good begins run inside t arrive = record {
   given = new.node_b.state.given i;
   stays = all.inside;
+  combinations = finds_all planned Down (frames_of planned i) mid new t good a is arrive;
   held = back.held;
   read = back.read;
   whole = back.whole;

@@ -33,6 +33,7 @@ use Rattle.dch_runlaw.proofs.ClearSent.{heard_as}
 use Rattle.dch_runlaw.proofs.ClearTtis.{over_or_on}
 use Rattle.dch_runlaw.specs.Intervals.{AllArrive, AreGood, Tti, UpAsGiven}
 use Rattle.dch_runlaw.proofs.IntervalAgree.{Agree, Parts, parts, runs_agree}
+use Rattle.dch_runlaw.proofs.IntervalCombinations.{finds_all}
 use Rattle.dch_runlaw.proofs.IntervalCounting.{Watch, stayed, starts_zero}
 use Rattle.dch_runlaw.proofs.IntervalUp.{InRunning, UpOn, frames_of, last_sent, run_formats, run_on, up_side, up_watch}
 
@@ -107,6 +108,7 @@ pub up_interval : (planned : Planned) (set : ℕ) (events : List Event) (start m
 up_interval planned set events start mid new lines good begins eighth run small t arrive = record {
   given = λ i. new.ue.state.layer.given i;
   stays = λ i inside member. (stayed planned frames Given (up_watch planned i frames good (same i inside member)) mid new t good is a).inside;
+  combinations = finds_all planned Up frames mid new t good a is arrive;
   octets = done.octets;
   sent = done.sent;
   held = done.held;

@@ -46,6 +46,7 @@ pub mod ClearUp
 pub mod ClearUpFrame
 pub mod ClearUpSets
 pub mod IntervalAgree
+pub mod IntervalCombinations
 pub mod IntervalCounting
 pub mod CountedFrames
 pub mod IntervalDown

@@ -16,6 +16,7 @@ use Rattle.dch_runlaw.specs.Intervals.{frames_in}
 use Rattle.dch_runlaw.specs.Parts.{GoesOver}
 use Rattle.dch_runlaw.specs.Runs.{Event, Frame, Runs}
 use Rattle.dch_runlaw.specs.Scripts.{AreSaid}
+use Rattle.dch_runlaw.specs.EndEvents.{end_events}
 use Rattle.dch_runlaw.specs.HonestBearers.{IsAcknowledged, IsTransparent, IsUnacknowledged}
 use Rattle.dch_runlaw.specs.TextDiffering.{false_words}
 use Rattle.dch_runlaw.specs.Undamaged.{CarriesAll}
@@ -35,9 +36,9 @@ pub record CarriesFirst (planned : Planned) (first : ℕ) (events : List Event) 
   pub received_down : ReceivesDown planned (opened_link planned first)
   pub received_up : ReceivesUp planned (opened_link planned first)
   pub undamaged : IsClear events (opened_link planned first) link reported run → CarriesAll planned link reported
-  pub acknowledged : (b up down : ℕ) → IsAcknowledged planned b up down → IsSilentOn Up up text → IsSilentOn Down down text → HandsUp planned b link text
-  pub unacknowledged_up : (b up : ℕ) → IsUnacknowledged planned Up b up → IsSilentOn Up up text → HandsUpKnownUp planned b up link text
-  pub unacknowledged_down : (b down : ℕ) → IsUnacknowledged planned Down b down → IsSilentOn Down down text → HandsUpKnownDown planned b down link text
+  pub acknowledged : (b up down : ℕ) → IsAcknowledged planned b up down → IsSilentOn Up up text → IsSilentOn Down down text → HandsUp planned first b (end_events events (opened_link planned first) link reported run) link text
+  pub unacknowledged_up : (b up : ℕ) → IsUnacknowledged planned Up b up → IsSilentOn Up up text → HandsUpKnownUp planned first b up (end_events events (opened_link planned first) link reported run) link text
+  pub unacknowledged_down : (b down : ℕ) → IsUnacknowledged planned Down b down → IsSilentOn Down down text → HandsUpKnownDown planned first b down (end_events events (opened_link planned first) link reported run) link text
   pub transparent_up : (b up : ℕ) → IsTransparent planned Up b up → IsSilentOn Up up text → HandsUpSome planned Up b link.ue.state.layer link.rnc.lines text
   pub transparent_down : (b down : ℕ) → IsTransparent planned Down b down → IsSilentOn Down down text → HandsUpSome planned Down b link.rnc.state.layer link.ue.lines text
 
@@ -53,11 +54,11 @@ pub record CarriesSecond (planned second : Planned) (first : ℕ) (before : List
   pub received_up : ReceivesUp second start
   pub undamaged : IsClear before (opened_link planned first) over.last early over.run → IsClear after start link late run → CarriesAll second link (early ++ late)
   pub acknowledged : (b up down up_later down_later : ℕ) → IsAcknowledged planned b up down → IsAcknowledged second b up_later down_later
-      → IsSilentOn Up up one → IsSilentOn Down down one → IsSilentOn Up up_later two → IsSilentOn Down down_later two → HandsUpOver second b over.last link (one ++ two)
+      → IsSilentOn Up up one → IsSilentOn Down down one → IsSilentOn Up up_later two → IsSilentOn Down down_later two → HandsUpOver planned second first b (end_events before (opened_link planned first) over.last early over.run) (end_events after start link late run) over.last link (one ++ two)
   pub unacknowledged_up : (b up up_later : ℕ) → IsUnacknowledged planned Up b up → IsUnacknowledged second Up b up_later
-      → IsSilentOn Up up one → IsSilentOn Up up_later two → HandsUpKnownUpOver planned second b up up_later over.last link (one ++ two)
+      → IsSilentOn Up up one → IsSilentOn Up up_later two → HandsUpKnownUpOver planned second first b up up_later (end_events before (opened_link planned first) over.last early over.run) (end_events after start link late run) over.last link (one ++ two)
   pub unacknowledged_down : (b down down_later : ℕ) → IsUnacknowledged planned Down b down → IsUnacknowledged second Down b down_later
-      → IsSilentOn Down down one → IsSilentOn Down down_later two → HandsUpKnownDownOver planned second b down down_later over.last link (one ++ two)
+      → IsSilentOn Down down one → IsSilentOn Down down_later two → HandsUpKnownDownOver planned second first b down down_later (end_events before (opened_link planned first) over.last early over.run) (end_events after start link late run) over.last link (one ++ two)
   pub transparent_up : (b up up_later : ℕ) → IsTransparent planned Up b up → IsTransparent second Up b up_later
       → IsSilentOn Up up one → IsSilentOn Up up_later two → HandsUpSome second Up b link.ue.state.layer link.rnc.lines (one ++ two)
   pub transparent_down : (b down down_later : ℕ) → IsTransparent planned Down b down → IsTransparent second Down b down_later

@@ -1,5 +1,5 @@
 -- The rows of a run's text that hand up units of a bearer, whatever damage came between its nodes.
-use Rattle.std.specs.Prelude.{◌≡◌, ℕ, List}
+use Rattle.std.specs.Prelude.{◌≡◌, ℕ, List, Bool}
 use Rattle.dch_types.specs.declared.channel.Dir.TheVariants.{Up, Down}
 use Rattle.dch_types.specs.declared.channel.Dir.{Dir}
 use Rattle.dch_accept.specs.Plans.{Planned}
@@ -12,44 +12,46 @@ use Rattle.dch_rlcum.specs.Handing.{AreFewLost, known_units}
 use Rattle.dch_layerlaw.specs.History.{events_over, pair_after}
 use Rattle.dch_layerlaw.specs.Rows.{got_rows, gots, rows_of}
 use Rattle.dch_layerlaw.specs.TmHistory.{IsTmSome, bits_lines}
-use Rattle.dch_layerlaw.specs.UmHistory.{got_lines, sent_by}
+use Rattle.dch_layerlaw.specs.UmHistory.{ArriveAs, got_lines, sent_by}
+use Rattle.dch_runlaw.specs.Nodes.{Event}
 use Rattle.dch_runlaw.specs.HonestBearers.{HasHistory, HasHistoryOver, HasKnownDown, HasKnownDownOver, HasKnownUp, HasKnownUpOver}
 
 -- those of an acknowledged bearer: its two ends stand in a history of two ends with blocks in flight, in order, some of which are lost, and
 -- the rows are those of the units that the history hands up. They are the accepted units, in order, each once and whole, as far as they came
 -- without a gap, but for those that were discarded
-pub record HandsUp (planned : Planned) (b : ℕ) (link : LinkState) (text : List ℕ) : Type 0 where
-  pub units : HasHistory planned b link
+pub record HandsUp (planned : Planned) (first b : ℕ) (happened : List Event) (link : LinkState) (text : List ℕ) : Type 0 where
+  pub units : HasHistory planned first b happened link
   pub up : got_rows Up b (rows text) ≡ rows_of (got_lines Up b (pair_after planned.config Up Down b units.history.events).far.entity.receiver.reading.units)
   pub down : got_rows Down b (rows text) ≡ rows_of (got_lines Down b (pair_after planned.config Up Down b units.history.events).near.entity.receiver.reading.units)
 
 -- over two parts of a run the history goes on behind the first one, and what was in flight at the change is lost
-pub record HandsUpOver (second : Planned) (b : ℕ) (last link : LinkState) (text : List ℕ) : Type 0 where
-  pub units : HasHistoryOver second b last link
+pub record HandsUpOver (planned second : Planned) (first b : ℕ) (earlier later : List Event) (last link : LinkState) (text : List ℕ) : Type 0 where
+  pub units : HasHistoryOver planned second first b earlier later last link
   pub up : got_rows Up b (rows text) ≡ rows_of (got_lines Up b (pair_after second.config Up Down b (events_over second.config Up Down b units.history.before.events units.history.later)).far.entity.receiver.reading.units)
   pub down : got_rows Down b (rows text) ≡ rows_of (got_lines Down b (pair_after second.config Up Down b (events_over second.config Up Down b units.history.before.events units.history.later)).near.entity.receiver.reading.units)
 
--- those of an unacknowledged bearer, where fewer than 128 successive PDUs were lost before each that came: the units of which all came, in order
-pub record HandsUpKnownUp (planned : Planned) (b i : ℕ) (link : LinkState) (text : List ℕ) : Type 0 where
-  pub units : HasKnownUp planned b i link
-  pub rows_are : AreFewLost 0 (sent_by units.known.near.sends units.known.arrives)
-      → got_rows Up b (rows text) ≡ rows_of (gots Up b (unit_lines Up b (known_units (sent_by units.known.near.sends units.known.arrives) 0 units.known.near.sends.accepted)))
+-- those of an unacknowledged bearer, whichever of its PDUs those are that came, where fewer than 128 successive ones were lost before each of them:
+-- the units of which all came, in order
+pub record HandsUpKnownUp (planned : Planned) (first b i : ℕ) (happened : List Event) (link : LinkState) (text : List ℕ) : Type 0 where
+  pub units : HasKnownUp planned first b i happened link
+  pub rows_are : (arrives : ℕ → Bool) → ArriveAs units.known.near.sends arrives units.known.came → AreFewLost 0 (sent_by units.known.near.sends arrives)
+      → got_rows Up b (rows text) ≡ rows_of (gots Up b (unit_lines Up b (known_units (sent_by units.known.near.sends arrives) 0 units.known.near.sends.accepted)))
 
-pub record HandsUpKnownDown (planned : Planned) (b i : ℕ) (link : LinkState) (text : List ℕ) : Type 0 where
-  pub units : HasKnownDown planned b i link
-  pub rows_are : AreFewLost 0 (sent_by units.known.near.sends units.known.arrives)
-      → got_rows Down b (rows text) ≡ rows_of (gots Down b (unit_lines Down b (known_units (sent_by units.known.near.sends units.known.arrives) 0 units.known.near.sends.accepted)))
+pub record HandsUpKnownDown (planned : Planned) (first b i : ℕ) (happened : List Event) (link : LinkState) (text : List ℕ) : Type 0 where
+  pub units : HasKnownDown planned first b i happened link
+  pub rows_are : (arrives : ℕ → Bool) → ArriveAs units.known.near.sends arrives units.known.came → AreFewLost 0 (sent_by units.known.near.sends arrives)
+      → got_rows Down b (rows text) ≡ rows_of (gots Down b (unit_lines Down b (known_units (sent_by units.known.near.sends arrives) 0 units.known.near.sends.accepted)))
 
 -- the same over two parts of a run: what was lost at the change counts as lost
-pub record HandsUpKnownUpOver (planned second : Planned) (b i later : ℕ) (last link : LinkState) (text : List ℕ) : Type 0 where
-  pub units : HasKnownUpOver planned second b i later last link
-  pub rows_are : AreFewLost 0 (sent_by units.known.near.sends units.known.arrives)
-      → got_rows Up b (rows text) ≡ rows_of (gots Up b (unit_lines Up b (known_units (sent_by units.known.near.sends units.known.arrives) 0 units.known.near.sends.accepted)))
+pub record HandsUpKnownUpOver (planned second : Planned) (first b i i_later : ℕ) (earlier later : List Event) (last link : LinkState) (text : List ℕ) : Type 0 where
+  pub units : HasKnownUpOver planned second first b i i_later earlier later last link
+  pub rows_are : (arrives : ℕ → Bool) → ArriveAs units.known.near.sends arrives units.known.came → AreFewLost 0 (sent_by units.known.near.sends arrives)
+      → got_rows Up b (rows text) ≡ rows_of (gots Up b (unit_lines Up b (known_units (sent_by units.known.near.sends arrives) 0 units.known.near.sends.accepted)))
 
-pub record HandsUpKnownDownOver (planned second : Planned) (b i later : ℕ) (last link : LinkState) (text : List ℕ) : Type 0 where
-  pub units : HasKnownDownOver planned second b i later last link
-  pub rows_are : AreFewLost 0 (sent_by units.known.near.sends units.known.arrives)
-      → got_rows Down b (rows text) ≡ rows_of (gots Down b (unit_lines Down b (known_units (sent_by units.known.near.sends units.known.arrives) 0 units.known.near.sends.accepted)))
+pub record HandsUpKnownDownOver (planned second : Planned) (first b i i_later : ℕ) (earlier later : List Event) (last link : LinkState) (text : List ℕ) : Type 0 where
+  pub units : HasKnownDownOver planned second first b i i_later earlier later last link
+  pub rows_are : (arrives : ℕ → Bool) → ArriveAs units.known.near.sends arrives units.known.came → AreFewLost 0 (sent_by units.known.near.sends arrives)
+      → got_rows Down b (rows text) ≡ rows_of (gots Down b (unit_lines Down b (known_units (sent_by units.known.near.sends arrives) 0 units.known.near.sends.accepted)))
 
 -- those of a transparent bearer: some of the accepted units, in order, each at most once
 pub record HandsUpSome (planned : Planned) (dir : Dir) (b : ℕ) (from : Layer) (said : List Line) (text : List ℕ) : Type 0 where

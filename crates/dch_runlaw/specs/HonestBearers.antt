@@ -14,7 +14,7 @@ use Rattle.dch_layer.specs.Layers.{Layer}
 use Rattle.dch_link.specs.Link.{LinkState}
 use Rattle.dch_layerlaw.specs.TmHistory.{IsTmCarried, IsTmSome}
 use Rattle.dch_layerlaw.specs.UmHistory.{IsUmCarried}
-use Rattle.dch_runlaw.specs.Nodes.{IsAmHistory, IsAmHistoryOver, IsDownKnown, IsDownKnownOver, IsUpKnown, IsUpKnownOver, IsWholeAmHistory, Nodes}
+use Rattle.dch_runlaw.specs.Nodes.{Any, Event, IsAmHistory, IsAmHistoryOver, IsDownKnown, IsDownKnownOver, IsUpKnown, IsUpKnownOver, IsWholeAmHistory, Nodes, Runs, RunsInTwo, opened_nodes}
 
 -- an acknowledged bearer of a good configuration, with its two channels
 pub record IsAcknowledged (planned : Planned) (b up down : ℕ) : Type 0 where
@@ -45,19 +45,28 @@ pub record AreOf (link : LinkState) (nodes : Nodes) : Type 0 where
   pub ue_lines : nodes.ue_lines ≡ link.ue.lines
   pub rnc_lines : nodes.rnc_lines ≡ link.rnc.lines
 
--- with what went over their channels they stand in a history of an acknowledged bearer's pair
-pub record HasHistory (planned : Planned) (b : ℕ) (link : LinkState) : Type 0 where
+-- what happened at the two from opening on led to them, with what went over their channels
+pub record AreReached (planned : Planned) (first : ℕ) (happened : List Event) (link : LinkState) : Type 0 where
   pub nodes : Nodes
+  pub run : Runs Any (opened_nodes planned first first) happened nodes
   pub are : AreOf link nodes
-  pub history : IsAmHistory planned b nodes
+
+-- and so in two parts, where another configuration became active behind the first one
+pub record AreReachedOver (planned second : Planned) (first : ℕ) (earlier later : List Event) (last link : LinkState) : Type 0 where
+  pub nodes : Nodes
+  pub run : RunsInTwo planned second Any Any first first earlier later nodes
+  pub are_mid : AreOf last run.mid
+  pub are : AreOf link nodes
+
+-- they stand in a history of an acknowledged bearer's pair
+pub record HasHistory (planned : Planned) (first b : ℕ) (happened : List Event) (link : LinkState) : Type 0 where
+  pub reached : AreReached planned first happened link
+  pub history : IsAmHistory planned b reached.nodes
 
 -- or, behind a first part that led to a last state, in one that goes on from there when all that was in flight is lost
-pub record HasHistoryOver (second : Planned) (b : ℕ) (last link : LinkState) : Type 0 where
-  pub mid : Nodes
-  pub are_mid : AreOf last mid
-  pub nodes : Nodes
-  pub are : AreOf link nodes
-  pub history : IsAmHistoryOver second b mid nodes
+pub record HasHistoryOver (planned second : Planned) (first b : ℕ) (earlier later : List Event) (last link : LinkState) : Type 0 where
+  pub reached : AreReachedOver planned second first earlier later last link
+  pub history : IsAmHistoryOver second b reached.run.mid reached.nodes
 
 -- the blocks that a channel was given for a TTI that has not ended, before the radio frame of a CFN
 abbrev pub on_way : Side → ℕ → Layer → ℕ → List (List Bit)
@@ -79,30 +88,22 @@ pub record HasWholeHistory (planned : Planned) (b up down : ℕ) (link : LinkSta
   pub history : IsWholeAmHistory planned b up down nodes
 
 -- what is known of an unacknowledged bearer's uplink, and of its downlink
-pub record HasKnownUp (planned : Planned) (b up : ℕ) (link : LinkState) : Type 0 where
-  pub nodes : Nodes
-  pub are : AreOf link nodes
-  pub known : IsUpKnown planned b up nodes
+pub record HasKnownUp (planned : Planned) (first b up : ℕ) (happened : List Event) (link : LinkState) : Type 0 where
+  pub reached : AreReached planned first happened link
+  pub known : IsUpKnown planned b up reached.nodes
 
-pub record HasKnownDown (planned : Planned) (b down : ℕ) (link : LinkState) : Type 0 where
-  pub nodes : Nodes
-  pub are : AreOf link nodes
-  pub known : IsDownKnown planned b down nodes
+pub record HasKnownDown (planned : Planned) (first b down : ℕ) (happened : List Event) (link : LinkState) : Type 0 where
+  pub reached : AreReached planned first happened link
+  pub known : IsDownKnown planned b down reached.nodes
 
 -- and where a second configuration became active behind a first part, whose last state is known, too
-pub record HasKnownUpOver (planned second : Planned) (b up up_later : ℕ) (last link : LinkState) : Type 0 where
-  pub mid : Nodes
-  pub are_mid : AreOf last mid
-  pub nodes : Nodes
-  pub are : AreOf link nodes
-  pub known : IsUpKnownOver planned second b up up_later mid nodes
+pub record HasKnownUpOver (planned second : Planned) (first b up up_later : ℕ) (earlier later : List Event) (last link : LinkState) : Type 0 where
+  pub reached : AreReachedOver planned second first earlier later last link
+  pub known : IsUpKnownOver planned second b up up_later reached.run.mid reached.nodes
 
-pub record HasKnownDownOver (planned second : Planned) (b down down_later : ℕ) (last link : LinkState) : Type 0 where
-  pub mid : Nodes
-  pub are_mid : AreOf last mid
-  pub nodes : Nodes
-  pub are : AreOf link nodes
-  pub known : IsDownKnownOver planned second b down down_later mid nodes
+pub record HasKnownDownOver (planned second : Planned) (first b down down_later : ℕ) (earlier later : List Event) (last link : LinkState) : Type 0 where
+  pub reached : AreReachedOver planned second first earlier later last link
+  pub known : IsDownKnownOver planned second b down down_later reached.run.mid reached.nodes
 
 -- handed up of an unacknowledged bearer are the accepted units, in order, whose length indicator was sent in TTIs that have ended
 abbrev pub HasUmUp : Planned → ℕ → ℕ → LinkState → Type 0

@@ -1,5 +1,5 @@
 -- TTIs in runs of three nodes whose radio frames all arrive as they were sent, and what is read of them.
-use Rattle.std.specs.Prelude.{◌≡◌, ◌<◌, ◌+◌, ℕ, List, [], ◌∷◌, Option, Some, false, true, length, IsTrue, slice_index_or}
+use Rattle.std.specs.Prelude.{◌≡◌, ◌<◌, ◌+◌, ◌%◌, ℕ, List, [], ◌∷◌, Option, Some, false, true, length, IsTrue, slice_index_or}
 use Rattle.dch_types.specs.declared.channel.Dir.{Dir}
 use Rattle.dch_types.specs.declared.channel.Dir.TheVariants.{Up, Down}
 use Rattle.dch_types.specs.Parts.{channel_at}
@@ -10,11 +10,15 @@ use Rattle.dch_accept.specs.Plans.{Planned}
 use Rattle.dch_iub.specs.Forms.{IsWrittenForm}
 use Rattle.dch_iub.specs.Shape.{ForSet}
 use Rattle.dch_node.specs.Lines.{Line}
+use Rattle.dch_node.specs.RxFrames.{AreHeard}
 use Rattle.dch_node.specs.Values.{Blocks, Radio}
 use Rattle.dch_damage.specs.Damage.{radio_after}
 use Rattle.dch_layer.specs.Layers.{Given}
 use Rattle.dch_layer2.specs.Joined.{CarriesGiven}
 use Rattle.dch_layer2.specs.Reading.{Read}
+use Rattle.dch_rxframes.specs.RxFrames.{RxFrames, rx_frame_at}
+use Rattle.dch_nodeb.specs.Steps.{IsRadioFrame as IsDownFrame}
+use Rattle.dch_ue.specs.Steps.{IsRadioFrame as IsUpFrame}
 use Rattle.dch_link.specs.Link.{LinkState}
 use Rattle.dch_runlaw.specs.Frames.{IsFrame}
 use Rattle.dch_runlaw.specs.Runs.{Between, Event, Frame, Runs, Steps}
@@ -62,15 +66,46 @@ pub record ArrivesAsSent (dir : Dir) (old new : LinkState) (lines : List Line) (
 abbrev pub AllArrive : Dir → (frames : ℕ) → (old new : LinkState) → Tti frames old new → Type 0
 AllArrive dir frames old new t = InTti (ArrivesAsSent dir) frames old new t
 
+-- the terminal sends this radio frame in the combination that layer 2 runs, or the Node B in that of the blocks that it was given
+pub record SendsUp (planned : Planned) (combination : ℕ) (old new : LinkState) (lines : List Line) (f : IsFrame old new lines) (radio : Radio) : Type 0 where
+  pub written : IsUpFrame planned f.kept.cfn new.ue.state.layer radio
+  pub is : combination ≡ new.ue.state.layer.running
+
+pub record SendsDown (planned : Planned) (combination : ℕ) (old new : LinkState) (lines : List Line) (f : IsFrame old new lines) (radio : Radio) : Type 0 where
+  pub written : IsDownFrame planned f.node_b radio
+  pub is : combination ≡ written.combination
+
+abbrev pub SendsIn : Planned → Dir → ℕ → (old new : LinkState) → (lines : List Line) → IsFrame old new lines → Radio → Type 0
+SendsIn planned Up combination old new lines f radio = SendsUp planned combination old new lines f radio
+SendsIn planned Down combination old new lines f radio = SendsDown planned combination old new lines f radio
+
+-- in what the far end keeps of the radio frames of the last 8 CFNs, this radio frame has the combination in which it was sent
+pub record FindsCombination (planned : Planned) (dir : Dir) (reader : RxFrames) (old new : LinkState) (lines : List Line) (f : IsFrame old new lines) : Type 0 where
+  pub radio : Radio
+  pub sent : radio_sent dir old new lines f ≡ Some radio
+  pub combination : ℕ
+  pub sends : SendsIn planned dir combination old new lines f radio
+  pub found : (rx_frame_at reader.frames (old.rnc.state.cfn % 8)).combination ≡ Some combination
+
+-- the radio frames that have come to the far end, of the last 8 CFNs by their remainders modulo 8
+abbrev pub frames_come : Dir → LinkState → ℕ → Option Radio
+frames_come Up link = link.node_b.state.frames
+frames_come Down link = link.ue.state.frames
+
+-- the far end reads the TTI in the combinations in which its radio frames were sent, whatever it keeps of them
+abbrev pub FindsAll : Planned → Dir → (frames : ℕ) → (old new : LinkState) → Tti frames old new → Type 0
+FindsAll planned dir frames old new t = (reader : RxFrames) → AreHeard planned dir t.last.rnc.state.cfn (frames_come dir new) reader → InTti (FindsCombination planned dir reader) frames old new t
+
 -- all blocks are good
 abbrev pub AreGood : Held → Type 0
 AreGood held = (k : ℕ) → k < length held.good → IsTrue (slice_index_or held.good k false)
 
--- the Node B has the same blocks for downlink channel i in each radio frame of the TTI; and in the last one the terminal reads just these
--- blocks, in their format, all good
+-- the Node B has the same blocks for downlink channel i in each radio frame of the TTI; and in the last one the terminal finds the combination of
+-- each, and reads just these blocks, in their format, all good
 pub record DownAsGiven (planned : Planned) (i : ℕ) (frames : ℕ) (old new : LinkState) (t : Tti frames old new) : Type 0 where
   pub given : Blocks
   pub stays : InTti (λ old new lines f. f.node_b.given i ≡ given) frames old new t
+  pub combinations : FindsAll planned Down frames old new t
   pub held : Held
   pub read : new.ue.state.readings i ≡ Read held
   pub whole : HasFormat (channel_at planned.config.downlink.side i) held
@@ -79,10 +114,12 @@ pub record DownAsGiven (planned : Planned) (i : ℕ) (frames : ℕ) (old new : L
   pub good : AreGood held
 
 -- layer 2 of the terminal has the same blocks for each uplink channel of a set in each radio frame of the TTI; and in the last one the
--- Node B sends the Iub frame of the set with the CFN at which the TTI started and just these blocks, in their formats, all good
+-- Node B finds the combination of each, and sends the Iub frame of the set with the CFN at which the TTI started and just these blocks, in their
+-- formats, all good
 pub record UpAsGiven (planned : Planned) (set : ℕ) (frames : ℕ) (old new : LinkState) (t : Tti frames old new) : Type 0 where
   pub given : ℕ → Given
   pub stays : ForSet planned.config.uplink.side set (λ i. InTti (λ old new lines f. new.ue.state.layer.given i ≡ given i) frames old new t)
+  pub combinations : FindsAll planned Up frames old new t
   pub octets : List ℕ
   pub sent : t.step.frame.up_output.iub set ≡ Some octets
   pub held : HeldSet

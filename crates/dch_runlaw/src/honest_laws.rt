@@ -8,6 +8,7 @@ ghost use Rattle.dch_node.specs.Lines.{Differs, Line};
 ghost use Rattle.dch_link.specs.Link.{LinkState, opened_link};
 ghost use Rattle.dch_runlaw.specs.Parts.{Begins};
 ghost use Rattle.dch_runlaw.specs.Runs.{Event, Runs};
+ghost use Rattle.dch_runlaw.specs.EndEvents.{end_events};
 ghost use Rattle.dch_runlaw.specs.HonestBearers.{HasHistory, HasKnownDown, HasKnownUp, HasTmDown, HasTmSomeDown, HasTmSomeUp, HasTmUp, HasUmDown, HasUmUp, HasWholeHistory, IsAcknowledged, IsTransparent, IsUnacknowledged};
 ghost use Rattle.dch_runlaw.specs.HonestFits.{IsHonest, IsUndamaged, IsUndamagedOn};
 ghost use Rattle.dch_runlaw.specs.HonestSilent.{IsSilent, Lacks};
@@ -25,8 +26,8 @@ pub fn honest_law()
 /// with blocks in flight, in order, some of which are lost. It is safe: handed up are the accepted units in order, each once, as far as
 /// they came without a gap, but for those that were discarded; and all lines on the bearer are the units that are handed up.
 pub fn link_law()
-    ensures { (planned : Planned) (first b up down : ℕ) (events : List Event) (new : LinkState) (lines : List Line) → Runs (opened_link planned first) events new lines →
-        IsAcknowledged planned b up down → IsSilent up down lines → HasHistory planned b new }
+    ensures { (planned : Planned) (first b up down : ℕ) (events : List Event) (new : LinkState) (lines : List Line) (run : Runs (opened_link planned first) events new lines) →
+        IsAcknowledged planned b up down → IsSilent up down lines → HasHistory planned first b (end_events events (opened_link planned first) new lines run) new }
 {}
 
 /// A law: where what is taken as good of each TTI is just what was given for it, nothing is lost. Handed up at each end are just the
@@ -40,10 +41,10 @@ pub fn undamaged_law()
 /// some of the PDUs that were sent came, in order; and where fewer than 128 successive PDUs were lost before each that came, all lines on
 /// the bearer are the units that are known, in order. Nothing is asked of any other channel.
 pub fn um_link_law()
-    ensures up { (planned : Planned) (first b up : ℕ) (events : List Event) (new : LinkState) (lines : List Line) → Runs (opened_link planned first) events new lines →
-        IsUnacknowledged planned Up b up → Lacks lines (Differs Up up) → HasKnownUp planned b up new }
-    ensures down { (planned : Planned) (first b down : ℕ) (events : List Event) (new : LinkState) (lines : List Line) → Runs (opened_link planned first) events new lines →
-        IsUnacknowledged planned Down b down → Lacks lines (Differs Down down) → HasKnownDown planned b down new }
+    ensures up { (planned : Planned) (first b up : ℕ) (events : List Event) (new : LinkState) (lines : List Line) (run : Runs (opened_link planned first) events new lines) →
+        IsUnacknowledged planned Up b up → Lacks lines (Differs Up up) → HasKnownUp planned first b up (end_events events (opened_link planned first) new lines run) new }
+    ensures down { (planned : Planned) (first b down : ℕ) (events : List Event) (new : LinkState) (lines : List Line) (run : Runs (opened_link planned first) events new lines) →
+        IsUnacknowledged planned Down b down → Lacks lines (Differs Down down) → HasKnownDown planned first b down (end_events events (opened_link planned first) new lines run) new }
 {}
 
 /// A law: where what is taken as good of each TTI of its channel is just what was given for it, handed up of an unacknowledged bearer are

@@ -6,6 +6,7 @@ ghost use Rattle.dch_node.specs.Lines.{Differs, Line};
 ghost use Rattle.dch_link.specs.Link.{LinkState, opened_link};
 ghost use Rattle.dch_runlaw.specs.Parts.{GoesOver};
 ghost use Rattle.dch_runlaw.specs.Runs.{Event, Runs};
+ghost use Rattle.dch_runlaw.specs.EndEvents.{end_events};
 ghost use Rattle.dch_runlaw.specs.HonestBearers.{HasHistoryOver, HasKnownDownOver, HasKnownUpOver, HasTmDown, HasTmSomeDown, HasTmSomeUp, HasTmUp, HasUmDown, HasUmUp, HasWholeHistory, IsAcknowledged, IsTransparent, IsUnacknowledged};
 ghost use Rattle.dch_runlaw.specs.HonestFits.{IsUndamaged, IsUndamagedOn};
 ghost use Rattle.dch_runlaw.specs.HonestSilent.{IsSilent, Lacks};
@@ -16,8 +17,8 @@ ghost use Rattle.dch_runlaw.specs.HonestSilent.{IsSilent, Lacks};
 /// that are in flight at the change are. It is safe, and all lines on the bearer are the units that are handed up. Where what is taken of
 /// each TTI in both parts is just what was given for it, and all TTIs have ended at the change, nothing is lost.
 pub fn link_over_law()
-    ensures history { (planned second : Planned) (first b up down up_later down_later : ℕ) (before after : List Event) (start new : LinkState) (early late : List Line) (over : GoesOver planned second first before early start) → Runs start after new late → KeepsBearer planned.config second.config b →
-        IsAcknowledged planned b up down → IsAcknowledged second b up_later down_later → IsSilent up down early → IsSilent up_later down_later late → HasHistoryOver second b over.last new }
+    ensures history { (planned second : Planned) (first b up down up_later down_later : ℕ) (before after : List Event) (start new : LinkState) (early late : List Line) (over : GoesOver planned second first before early start) (run : Runs start after new late) → KeepsBearer planned.config second.config b →
+        IsAcknowledged planned b up down → IsAcknowledged second b up_later down_later → IsSilent up down early → IsSilent up_later down_later late → HasHistoryOver planned second first b (end_events before (opened_link planned first) over.last early over.run) (end_events after start new late run) over.last new }
     ensures whole { (planned second : Planned) (first b up down up_later down_later : ℕ) (before after : List Event) (start new : LinkState) (early late : List Line) (over : GoesOver planned second first before early start) (run : Runs start after new late) → KeepsBearer planned.config second.config b → start.rnc.state.cfn % 8 ≡ 0 →
         IsAcknowledged planned b up down → IsAcknowledged second b up_later down_later → IsUndamaged planned up down before (opened_link planned first) over.last early over.run → IsUndamaged second up_later down_later after start new late run →
         HasWholeHistory second b up_later down_later new }
@@ -28,10 +29,10 @@ pub fn link_over_law()
 /// known, in order. Where just what was given is taken in both parts, handed up are just the accepted units, in order, whose length indicator was sent
 /// in TTIs that have ended.
 pub fn um_over_law()
-    ensures up { (planned second : Planned) (first b up up_later : ℕ) (before after : List Event) (start new : LinkState) (early late : List Line) (over : GoesOver planned second first before early start) → Runs start after new late →
-        IsUnacknowledged planned Up b up → IsUnacknowledged second Up b up_later → Lacks early (Differs Up up) → Lacks late (Differs Up up_later) → HasKnownUpOver planned second b up up_later over.last new }
-    ensures down { (planned second : Planned) (first b down down_later : ℕ) (before after : List Event) (start new : LinkState) (early late : List Line) (over : GoesOver planned second first before early start) → Runs start after new late →
-        IsUnacknowledged planned Down b down → IsUnacknowledged second Down b down_later → Lacks early (Differs Down down) → Lacks late (Differs Down down_later) → HasKnownDownOver planned second b down down_later over.last new }
+    ensures up { (planned second : Planned) (first b up up_later : ℕ) (before after : List Event) (start new : LinkState) (early late : List Line) (over : GoesOver planned second first before early start) (run : Runs start after new late) →
+        IsUnacknowledged planned Up b up → IsUnacknowledged second Up b up_later → Lacks early (Differs Up up) → Lacks late (Differs Up up_later) → HasKnownUpOver planned second first b up up_later (end_events before (opened_link planned first) over.last early over.run) (end_events after start new late run) over.last new }
+    ensures down { (planned second : Planned) (first b down down_later : ℕ) (before after : List Event) (start new : LinkState) (early late : List Line) (over : GoesOver planned second first before early start) (run : Runs start after new late) →
+        IsUnacknowledged planned Down b down → IsUnacknowledged second Down b down_later → Lacks early (Differs Down down) → Lacks late (Differs Down down_later) → HasKnownDownOver planned second first b down down_later (end_events before (opened_link planned first) over.last early over.run) (end_events after start new late run) over.last new }
     ensures whole_up { (planned second : Planned) (first b up up_later : ℕ) (before after : List Event) (start new : LinkState) (early late : List Line) (over : GoesOver planned second first before early start) (run : Runs start after new late) → start.rnc.state.cfn % 8 ≡ 0 →
         IsUnacknowledged planned Up b up → IsUnacknowledged second Up b up_later →
         IsUndamagedOn planned Up up before (opened_link planned first) over.last early over.run → IsUndamagedOn second Up up_later after start new late run → HasUmUp second b up_later new }

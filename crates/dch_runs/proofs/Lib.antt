@@ -1,3 +1,5 @@
+pub mod BadFrames
+pub mod Configurations
 pub mod Fronts
 pub mod NodeRuns
 pub mod Outcomes

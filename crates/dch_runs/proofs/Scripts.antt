@@ -84,6 +84,7 @@ answers_from semantics s t sink old after part later written MetMalformed end fa
   state = is.state;
   why = is.why;
   refused = refused_from semantics s t is.state old.line (part ++ later) is.good is.why end is.refused;
+  soon = is.soon;
   text = is.text;
   handles = is.handles;
   all = is.all;
@@ -137,8 +138,14 @@ follows_whole {S} {kind} semantics opened a b c k l f g h i j room front accepte
       ended = inl (complete_more is.taken run.taken whole.done);
       accepted = accepted;
       is = subst (λ t. ArePlannedAs kind t accepted) (is.text ∙ sym more) good;
-      part = part;
+      old = is.old;
+      piece = is.piece;
       later = run.taken;
+      pieces = ap (λ p. p ++ run.taken) is.pieces;
+      small = is.small;
+      soon = is.soon;
+      part = part;
+      rest = whole.behind ∙ ap (λ t. script_of t) is.pieces;
       script = script ∙ ap (λ p. p ++ run.taken) (sym whole.behind);
       answers = subst (λ (p : Progress _). AnswersTaken semantics (span a c f h) (span k l i j) p after part run.taken run.written outcome) begin
           (answers_from semantics (span b c g h) (span a c f h) (span k l i j) (opened_begin front (opened accepted)) after part run.taken run.written outcome (λ end. end) (λ fails. omega (arith, is.later, fails)) run.answers);
@@ -156,6 +163,7 @@ follows_last : {S : Type 0} {kind : FrontKind} (semantics : Semantics S) (opened
 follows_last {S} {kind} semantics opened a b k l now f g i j room front accepted after outcome is good ended run =
     let part : List ℕ = slice_range room front.pending.from front.pending.to in
     let none : script_of is.taken ≡ [] = script_none is.taken ended.soon in
+    let unread : run.taken ≡ [] = none_taken now run.taken run.takes in
     let empty : part ≡ [] = nil_from_length part (omega (arith, pending_length room front.pending.from front.pending.to is.ordered is.inside, ended.none)) in
     let bytes : length is.taken - length (script_of is.taken) ≡ front.read - (front.pending.to - front.pending.from) = omega (arith, ap length none, is.counted, ended.none) in
     let lines : length (lines_of (configuration_of is.taken)) + (if is_complete is.taken then 1 else 0) ≡ lines_before front = rw (ended.soon, ended.ended, is.text) refl in
@@ -164,9 +172,15 @@ follows_last {S} {kind} semantics opened a b k l now f g i j room front accepted
       ended = inr ended.end;
       accepted = accepted;
       is = subst (λ t. ArePlannedAs kind t accepted) is.text good;
-      part = part;
+      old = is.old;
+      piece = is.piece;
       later = run.taken;
-      script = none ∙ sym (ap (λ p. p ++ run.taken) empty ∙ none_taken now run.taken run.takes);
+      pieces = is.pieces ∙ sym (ap (λ l. (is.old ++ is.piece) ++ l) unread ∙ append-nil (is.old ++ is.piece));
+      small = is.small;
+      soon = is.soon;
+      part = part;
+      rest = empty ∙ sym none ∙ ap (λ t. script_of t) is.pieces;
+      script = none ∙ sym (ap (λ p. p ++ run.taken) empty ∙ unread);
       answers = subst (λ (p : Progress _). AnswersTaken semantics (span a b f g) (span k l i j) p after part run.taken run.written outcome) begin
           (answers_from semantics (span (Some []) now 0 0) (span a b f g) (span k l i j) (opened_begin front (opened accepted)) after part run.taken run.written outcome (λ end. ended.end) (λ fails. absurd (omega (arith, fails))) run.answers);
     }

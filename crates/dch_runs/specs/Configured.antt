@@ -2,7 +2,7 @@
 use Rattle.std.specs.Prelude.{◌≡◌, ◌≢◌, ◌<◌, ◌≤◌, ◌⊎◌, ◌+◌, ◌-◌, ℕ, List, [], ◌++◌, Bool, false, MatchBool, length, take, Option, Some, IfSome, Result, Ok, Err, codes, if◌then◌else◌}
 use Rattle.std.specs.Io.KnownBytes.{Consumes, Appends}
 use Rattle.dch_io.specs.Ends.{End, Fails, IsCutShort, span}
-use Rattle.dch_io.specs.declared.feed.TheConstants.{LIMIT}
+use Rattle.dch_io.specs.declared.feed.TheConstants.{LIMIT, PIECE}
 use Rattle.dch_accept.specs.Plans.{IsPlanned}
 use Rattle.dch_script.specs.Lines.{lines_of}
 use Rattle.dch_check.specs.ConfigSection.{configuration_of, is_complete, script_of, settled}
@@ -66,13 +66,20 @@ pub record ArePlannedAs (kind : FrontKind) (text : List ℕ) (accepted : Configu
   pub plans : IsPlanned accepted.first
   pub later : IfSome accepted.second (λ second. IsPlanned second.accepted)
 
--- what stands in front is complete and accepted, and the lines behind it are followed from the state in which the command is opened for it
+-- what stands in front is complete and accepted, and the lines behind it are followed from the state in which the command is opened for it. At hand
+-- before are no more bytes than what is left of the piece with which it is complete
 pub record FollowsScript {S : Type 0} (kind : FrontKind) (semantics : Semantics S) (opened : Configurations → S) (source sink : End) (taken written : List ℕ) (after : S) (outcome : Outcome) : Type 0 where
   pub ended : HasEnded source taken
   pub accepted : Configurations
   pub is : ArePlannedAs kind (configuration_of taken) accepted
-  pub part : List ℕ
+  pub old : List ℕ
+  pub piece : List ℕ
   pub later : List ℕ
+  pub pieces : taken ≡ (old ++ piece) ++ later
+  pub small : length piece ≤ PIECE
+  pub soon : is_complete old ≡ false
+  pub part : List ℕ
+  pub rest : part ≡ script_of (old ++ piece)
   pub script : script_of taken ≡ part ++ later
   pub answers : AnswersTaken semantics source sink (script_begin taken (opened accepted)) after part later written outcome
 

@@ -1,35 +1,31 @@
 ghost use Rattle.std.specs.Prelude.{ℕ, List, [], ◌∷◌, Bool};
 ghost use Rattle.dch_io.specs.Ends.{End};
 ghost use Rattle.dch_types.specs.declared.channel.Dir.TheVariants.{Down, Up};
-ghost use Rattle.dch_iub.specs.declared.error.IubError.{IubError};
-ghost use Rattle.dch_node.specs.IubFrames.{refusal_number};
 ghost use Rattle.dch_node.specs.Lines.{IubBad};
-ghost use Rattle.dch_nodebcmd.specs.NoTrace.{BringsRefusedAfter as BringsDown};
 ghost use Rattle.dch_nodebcmd.specs.Rules.{node_b_rules};
-ghost use Rattle.dch_rnccmd.specs.NoTrace.{BringsRefusedAfter as BringsUp};
 ghost use Rattle.dch_rnccmd.specs.Rules.{rnc_rules};
 ghost use Rattle.dch_runs.specs.Benches.{Nodes};
 ghost use Rattle.dch_runs.specs.NodeBRuns.{RunsNodeB};
 ghost use Rattle.dch_runs.specs.NodeRuns.{run_of};
 ghost use Rattle.dch_runs.specs.RncRuns.{RunsRnc};
 ghost use Rattle.dch_plaincmd.specs.declared.status.Status.TheVariants.{Ok};
-ghost use Rattle.dch_runs.specs.Traces.{Answers, HasLine, IsAnswer, LeavesNoTrace};
+ghost use Rattle.dch_runs.specs.Traces.{Answers, HasLine, IsAnswer, IsAnsweredBad, LeavesNoTrace};
 
-/// A law of `nodeb`. A run that answers 0 wrote the answer to the input that it took. And where a line of an input brings an Iub frame that is
-/// refused where the lines before it lead, the input without this line is answered by the same text, less the line that tells of the refusal.
+/// A law of `nodeb`. A run that answers 0 wrote the answer to the input that it took. And where a line of an input brings an Iub frame and is
+/// answered by the line that says that it is refused, the input without this line is answered by the same text, less the line that tells of the refusal.
 pub fn node_b_trace_law()
     ensures answers { (start : ℕ) (quiet : Bool) (source sink : End) (nodes : Nodes) → RunsNodeB start quiet source sink nodes Ok → Answers node_b_rules start quiet source sink }
-    ensures no_trace { (start : ℕ) (quiet : Bool) (input shorter written : List ℕ) (before after : List (List ℕ)) (line : List ℕ) (set : ℕ) (error : IubError)
+    ensures no_trace { (start : ℕ) (quiet : Bool) (input shorter written : List ℕ) (before after : List (List ℕ)) (line : List ℕ) (set number : ℕ)
         → (answer : IsAnswer node_b_rules start quiet input written) → HasLine before line after input shorter
-        → BringsDown (run_of node_b_rules start quiet answer.accepted) before line set error
-        → LeavesNoTrace node_b_rules start quiet shorter (IubBad Down set (refusal_number error) ∷ []) written }
+        → IsAnsweredBad node_b_rules Down (run_of node_b_rules start quiet answer.accepted) before line set number
+        → LeavesNoTrace node_b_rules start quiet shorter (IubBad Down set number ∷ []) written }
 {}
 
 /// The same law of `rnc`.
 pub fn rnc_trace_law()
     ensures answers { (start : ℕ) (quiet : Bool) (source sink : End) (nodes : Nodes) → RunsRnc start quiet source sink nodes Ok → Answers rnc_rules start quiet source sink }
-    ensures no_trace { (start : ℕ) (quiet : Bool) (input shorter written : List ℕ) (before after : List (List ℕ)) (line : List ℕ) (set : ℕ) (error : IubError)
+    ensures no_trace { (start : ℕ) (quiet : Bool) (input shorter written : List ℕ) (before after : List (List ℕ)) (line : List ℕ) (set number : ℕ)
         → (answer : IsAnswer rnc_rules start quiet input written) → HasLine before line after input shorter
-        → BringsUp (run_of rnc_rules start quiet answer.accepted) before line set error
-        → LeavesNoTrace rnc_rules start quiet shorter (IubBad Up set (refusal_number error) ∷ []) written }
+        → IsAnsweredBad rnc_rules Up (run_of rnc_rules start quiet answer.accepted) before line set number
+        → LeavesNoTrace rnc_rules start quiet shorter (IubBad Up set number ∷ []) written }
 {}

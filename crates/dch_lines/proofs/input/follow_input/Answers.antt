@@ -1,6 +1,6 @@
 use Rattle.std.proofs.Common.{◌≡◌, ◌≤◌, ◌+◌, ◌-◌, length, drop, take, arith, ap, sym, ◌∙◌, length-take}
 use Rattle.std.specs.Prelude.{slice_range}
-use Rattle.dch_io.specs.declared.feed.TheConstants.{LIMIT}
+use Rattle.dch_io.specs.declared.feed.TheConstants.{LIMIT, PIECE}
 use Rattle.dch_lines.specs.Processor.{standing}
 use Rattle.dch_lines.proofs.Runs.{begins, goes_on, part_ends, piece_ends, too_long, ends_by}
 use Rattle.dch_lines.proofs.input.follow_input.Goals as goal
@@ -8,9 +8,10 @@ use Rattle.dch_lines.proofs.input.follow_input.Goals as goal
 pub returns-in-Err : goal.returns-in-Err
 returns-in-Err g c =
     let within : c.args.processor.now.bytes + length (slice_range c.args.piece.now c.args.pending.from c.args.pending.to) ≤ LIMIT = omega (arith, length-take (c.args.pending.to - c.args.pending.from) (drop c.args.pending.from c.args.piece.now)) in
+    let small : length (slice_range c.args.piece.now c.args.pending.from c.args.pending.to) ≤ PIECE = omega (arith, length-take (c.args.pending.to - c.args.pending.from) (drop c.args.pending.from c.args.piece.now)) in
     λ state is.
     let so = c.in-Err.ensures.taken state is in
-    (so.0, so.1, part_ends g.C.LineHandler.semantics _ _ _ _ _ _ (standing state c.args.processor.now) (standing so.0 c.take_piece.new.processor) _ c.in-Err.outcome c.requires.short within so.2)
+    (so.0, so.1, part_ends g.C.LineHandler.semantics _ _ _ _ _ _ (standing state c.args.processor.now) (standing so.0 c.take_piece.new.processor) _ c.in-Err.outcome c.requires.short within small so.2)
 
 pub pieces-init : goal.pieces-init
 pieces-init g c = record {
