@@ -3,6 +3,7 @@ pub mod Classes
 pub mod Ends
 pub mod Found
 pub mod Held
+pub mod Lead
 pub mod Least
 pub mod Link
 pub mod Lowered
@@ -12,3 +13,4 @@ pub mod Room
 pub mod Rows
 pub mod Spread
 pub mod Split
+pub mod Told

@@ -12,6 +12,7 @@ use Rattle.dch_trellis.specs.Search.{branch_metric, is_free, best, takes_one, ch
 use Rattle.dch_trellis.specs.Steps.{total, near, by_zero, by_one, row_path_metric, IsStep}
 use Rattle.dch_trellis.specs.Classes.{row_near}
 use Rattle.dch_trellis.specs.Tiny.{IsLight, IsLowered, IsLoweredFrom, IsFilled}
+use Rattle.dch_trellis.specs.Undamaged.{IsLeastState}
 use Rattle.dch_trellis.proofs.Classes.{row_near-is, row_near-le}
 use Rattle.dch_trellis.proofs.PathMetrics.{zero_metric-is, one_metric-is}
 use Rattle.dch_trellis.proofs.Spread.{best-near}
@@ -98,11 +99,15 @@ nat_lt-raised x y z w base first second = ⊎_elim
     (leb_tells (suc x) y)
 
 -- the trace by one more step, along lowered rows
-pub walk_lowered : (rate : Rate) (table : List (List Bit)) (votes step : List Vote) (size filler k s : ℕ) (rows : List (List ℕ)) (bit : Bit) → IsOutputs rate table → IsStep rate votes k step → k < size → s < 256 → IsLoweredFrom rate votes size filler 0 rows → bit ≡ choice (is_free size filler k && nat_lt (by_one (get_or rows (k + 1) []) table step s) (by_zero (get_or rows (k + 1) []) table step s)) → trace (branch_metric rate votes) (is_free size filler) (size + 8 - k) k s ≡ bit ∷ trace (branch_metric rate votes) (is_free size filler) (size + 8 - (k + 1)) (k + 1) (after s bit)
-walk_lowered rate table votes step size filler k s rows bit outs stands within small path_metrics chosen =
+pub walk_lowered : (rate : Rate) (table : List (List Bit)) (votes step : List Vote) (size filler from k s : ℕ) (rows : List (List ℕ)) (bit : Bit) → IsOutputs rate table → IsStep rate votes k step → from ≤ k → k < size → s < 256 → IsLoweredFrom rate votes size filler from rows → bit ≡ choice (is_free size filler k && nat_lt (by_one (get_or rows (k + 1) []) table step s) (by_zero (get_or rows (k + 1) []) table step s)) → trace (branch_metric rate votes) (is_free size filler) (size + 8 - k) k s ≡ bit ∷ trace (branch_metric rate votes) (is_free size filler) (size + 8 - (k + 1)) (k + 1) (after s bit)
+walk_lowered rate table votes step size filler from k s rows bit outs stands past within small path_metrics chosen =
     let m : ℕ = size + 8 - (k + 1) in
     let left : size + 8 - k ≡ suc m = omega arith in
     let later : List ℕ = get_or rows (k + 1) [] in
     let held : (base : ℕ) × IsLowered rate votes size filler (k + 1) base later = path_metrics (k + 1) (omega arith) (omega arith) in
     let same : bit ≡ choice (takes_one (branch_metric rate votes) (is_free size filler) m k s) = chosen ∙ ap (λ b. choice (is_free size filler k && b)) (nat_lt-raised _ _ _ _ held.0 (by_one-lowered rate table votes step size filler k held.0 s later outs stands small held.1) (by_zero-lowered rate table votes step size filler k held.0 s later outs stands small held.1)) in
     ap (λ n. trace (branch_metric rate votes) (is_free size filler) n k s) left ∙ ap (λ b. b ∷ trace (branch_metric rate votes) (is_free size filler) m (k + 1) (after s b)) (sym same)
+
+-- a state of no cost less a base is the least
+pub least_lowered : (rate : Rate) (votes : List Vote) (size filler k base s : ℕ) (row : List ℕ) → IsLowered rate votes size filler k base row → s < 256 → get_or row s 0 ≡ 0 → IsLeastState rate votes size filler k s
+least_lowered rate votes size filler k base s row lowered small none other inside = omega (arith, lowered s small, lowered other inside, none)

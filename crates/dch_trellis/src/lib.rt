@@ -7,6 +7,7 @@ mod steps;
 mod table;
 mod tiny;
 mod trellis;
+mod undamaged;
 mod wide;
 
 pub use trellis::Trellis;

@@ -1,14 +1,19 @@
-ghost use Rattle.std.specs.Prelude.{◌≡◌, ◌≢◌, ℕ, [], ◌+◌, ◌-◌, ◌*◌, ◌/◌, ◌^◌, ◌<◌, ◌≤◌, ◌&&◌, length, min, vec_len, IfOk, nat_lt, slice_index, slice_index_or};
+ghost use Rattle.std.specs.Prelude.{◌≡◌, ◌≢◌, ℕ, [], ◌+◌, ◌-◌, ◌*◌, ◌/◌, ◌^◌, ◌<◌, ◌≤◌, ◌&&◌, ◌++◌, length, min, take, vec_len, IfOk, nat_lt, slice_index, slice_index_or};
 ghost use Rattle.dch_bits.specs.declared.bit.Bit.TheVariants.{Zero};
-ghost use Rattle.dch_conv.specs.Conv.{coded_length};
+ghost use Rattle.dch_conv.specs.Conv.{outputs, coded_length};
+ghost use Rattle.dch_trellis.specs.Nearest.{all_copies};
 ghost use Rattle.dch_trellis.specs.Windows.{IsOutputs};
-ghost use Rattle.dch_trellis.specs.Search.{branch_metric, is_free, best, found, choice};
+ghost use Rattle.dch_trellis.specs.Search.{branch_metric, is_free, best, found, choice, trace};
 ghost use Rattle.dch_trellis.specs.Steps.{total, by_zero, by_one};
 ghost use Rattle.dch_trellis.specs.Classes.{class_metric, by_zero_near, lesser_near, row_near};
 ghost use Rattle.dch_trellis.specs.Tiny.{IsLight, IsLowered, IsLoweredFrom};
+ghost use Rattle.dch_trellis.specs.Undamaged.{MeetsLeast, IsFront};
 
-use crate::steps::{after_input, class_metrics, is_free, near_of, step_votes, total_of};
+use crate::steps::{
+    after_input, class_metrics, coded_before, is_free, near_of, step_votes, total_of,
+};
 use crate::table::{Table, classes_of};
+use crate::undamaged::{Front, fewest_of};
 use dch_bits::{Bit, NoMemory, Vote};
 use dch_conv::Rate;
 use std::alloc::Global;
@@ -24,13 +29,15 @@ pub fn rows(alloc: Global, count: usize) -> Result<Vec<PathMetrics>, NoMemory>
     Ok(vec![in alloc; no_metrics(); count]?)
 }
 
-/// Finds the nearest block, and answers how many copies it disagrees with. A step has at most 15 copies: any two
-/// states can meet after eight steps, so their costs are at most 120 apart, and eight steps more add at most 120.
+/// Finds the nearest block, which begins with inputs of `front`, and answers how many copies it disagrees with. A step has
+/// at most 15 copies: any two states can meet after eight steps, so their costs are at most 120 apart, and eight steps more
+/// add at most 120.
 pub fn nearest(
     rate: Rate,
     table: &Table,
     votes: &[Vote],
     filler: usize,
+    front: &Front,
     rows: &mut [PathMetrics],
     out: &mut [Bit],
 ) -> u32
@@ -39,39 +46,59 @@ pub fn nearest(
     requires room { length out.old + 9 ≤ length rows.old }
     requires coded { length votes.now ≡ coded_length rate (length out.old) }
     requires light { IsLight rate votes.now }
+    requires few { all_copies votes.now < 2 ^ 31 }
+    requires front { IsFront rate votes.now (length out.old) filler out.old front.now }
     ensures found { out.new ≡ found rate votes.now (length out.old) filler }
     ensures cost { result ≡ best (branch_metric rate votes.now) (is_free (length out.old) filler) (length out.old + 8) 0 0 }
     ensures rows { length rows.new ≡ length rows.old }
 {
-    let taken = fill(rate, table, votes, out.len(), filler, rows);
-    trace(rate, table, votes, filler, rows, out);
-    taken + u32::from(rows[0][0])
+    let Filled { from, taken } = fill(rate, table, votes, out.len(), filler, front, rows);
+    let state = front.states[from];
+    trace(rate, table, votes, filler, rows, from, state, out);
+    let before = fewest_of(&votes[..coded_before(rate, from)]);
+    before + (taken + u32::from(rows[from][usize::from(state)]))
 }
 
-/// Goes back from the end of the tail: row `k` becomes the least costs from step `k` on, less a base. The answer is
-/// that of row 0. After each eight steps the least cost of the row is taken off.
+/// The rows from a step on are filled, and so much was taken off the first of them.
+#[derive(Clone, Copy)]
+struct Filled {
+    from: usize,
+    taken: u32,
+}
+
+/// Goes back from the end of the tail: row `k` becomes the least costs from step `k` on, less a base. After each eight
+/// steps the least cost of the row is taken off. It ends at the first step, or where the front has a state of no cost.
 fn fill(
     rate: Rate,
     table: &Table,
     votes: &[Vote],
     size: usize,
     filler: usize,
+    front: &Front,
     rows: &mut [PathMetrics],
-) -> u32
+) -> Filled
     requires table { IsOutputs rate table.now }
     requires size { size ≤ 504 }
     requires room { size + 9 ≤ length rows.old }
     requires coded { length votes.now ≡ coded_length rate size }
     requires light { IsLight rate votes.now }
-    ensures rows { IsLoweredFrom rate votes.now size filler 0 rows.new }
-    ensures first { IsLowered rate votes.now size filler 0 result (slice_index_or rows.new 0 []) }
-    ensures few { result < 2 ^ 31 }
+    requires steps { front.now.steps ≤ size }
+    requires states { (k : ℕ) → k ≤ front.now.steps → slice_index front.now.states k < 256 }
+    ensures within { result.from ≤ front.now.steps }
+    ensures rows { IsLoweredFrom rate votes.now size filler result.from rows.new }
+    ensures first { IsLowered rate votes.now size filler result.from result.taken (slice_index_or rows.new result.from []) }
+    ensures few { result.taken < 2 ^ 31 }
+    ensures least { MeetsLeast rate votes.now size filler result.from (slice_index front.now.states result.from) }
 {
     let classes = classes_of(table);
     let mut near = [0u8; 128];
     let mut taken = 0u32;
     rows[size + 8] = no_metrics();
     for done in 0..size + 8 {
+        let next = size + 8 - done;
+        if next <= front.steps && rows[next][usize::from(front.states[next])] == 0 {
+            return Filled { from: next, taken };
+        }
         let k = size + 7 - done;
         let step = step_votes(rate, votes, k);
         pair_metrics(&classes, &step, &mut near);
@@ -86,7 +113,7 @@ fn fill(
             taken += u32::from(lower_row(rows, k));
         }
     }
-    taken
+    Filled { from: 0, taken }
 }
 
 fn no_metrics() -> PathMetrics
@@ -270,13 +297,15 @@ fn zero_metrics(later: &PathMetrics, near: &[u8; 128], total: u8, path_metrics: 
     }
 }
 
-/// Goes forward from state zero, and writes the inputs of least cost.
+/// Goes forward from a step and its state, and writes the inputs of least cost.
 fn trace(
     rate: Rate,
     table: &Table,
     votes: &[Vote],
     filler: usize,
     rows: &[PathMetrics],
+    from: usize,
+    mut state: u8,
     out: &mut [Bit],
 )
     requires table { IsOutputs rate table.now }
@@ -284,12 +313,13 @@ fn trace(
     requires room { length out.old + 9 ≤ length rows.now }
     requires coded { length votes.now ≡ coded_length rate (length out.old) }
     requires light { IsLight rate votes.now }
-    requires path_metrics { IsLoweredFrom rate votes.now (length out.old) filler 0 rows.now }
+    requires from { from ≤ length out.old }
+    requires path_metrics { IsLoweredFrom rate votes.now (length out.old) filler from rows.now }
+    requires written { trace (branch_metric rate votes.now) (is_free (length out.old) filler) (length out.old + 8) 0 0 ≡ take from out.old ++ trace (branch_metric rate votes.now) (is_free (length out.old) filler) (length out.old + 8 - from) from state }
     ensures { out.new ≡ found rate votes.now (length out.old) filler }
 {
     let size = out.len();
-    let mut state = 0u8;
-    for k in 0..size {
+    for k in from..size {
         let step = step_votes(rate, votes, k);
         let bit = choose(&rows[k + 1], table, &step, state, is_free(size, filler, k));
         out[k] = bit;

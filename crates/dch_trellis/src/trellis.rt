@@ -1,10 +1,13 @@
 ghost use Rattle.std.specs.Prelude.{◌≡◌, ℕ, ◌+◌, ◌^◌, ◌<◌, ◌≤◌, length, vec_len, IfOk};
 ghost use Rattle.dch_conv.specs.Conv.{coded_length, encoded};
 ghost use Rattle.dch_trellis.specs.Nearest.{all_copies, disagreement, IsNearest};
+ghost use Rattle.dch_trellis.specs.Search.{branch_metric, is_free, best, found};
+ghost use Rattle.dch_trellis.specs.Undamaged.{IsFront};
 
 use crate::steps::{copies_of, is_light};
 use crate::table::Tables;
-use crate::{narrow, tiny, wide};
+use crate::undamaged::Front;
+use crate::{narrow, tiny, undamaged, wide};
 use dch_bits::{Bit, NoMemory, Vote};
 use dch_conv::Rate;
 use std::alloc::{AllocError, Global};
@@ -63,13 +66,39 @@ impl Trellis {
         ensures copies { result ≡ disagreement votes.now (encoded rate out.new) }
         ensures kept { self.new ≡ self.old }
     {
+        let mut front = Front::new();
+        let outputs = self.tables.outputs(rate);
+        if let Some(copies) = undamaged::nearest(rate, outputs, votes, filler, &mut front, out) {
+            return copies;
+        }
+        self.search(rate, votes, filler, &front, out)
+    }
+
+    /// Searches for the nearest block, by costs of as few bits as hold them.
+    fn search(
+        &mut self,
+        rate: Rate,
+        votes: &[Vote],
+        filler: usize,
+        front: &Front,
+        out: &mut [Bit],
+    ) -> u32
+        requires some { 1 ≤ length out.old }
+        requires room { length out.old ≤ self.old }
+        requires coded { length votes.now ≡ coded_length rate (length out.old) }
+        requires few { all_copies votes.now < 2 ^ 31 }
+        requires front { IsFront rate votes.now (length out.old) filler out.old front.now }
+        ensures found { out.new ≡ found rate votes.now (length out.old) filler }
+        ensures cost { result ≡ best (branch_metric rate votes.now) (is_free (length out.old) filler) (length out.old + 8) 0 0 }
+        ensures kept { self.new ≡ self.old }
+    {
         let table = self.tables.of(rate);
         if is_light(rate, votes) {
-            tiny::nearest(rate, table, votes, filler, &mut self.tiny, out)
+            tiny::nearest(rate, table, votes, filler, front, &mut self.tiny, out)
         } else if copies_of(votes) < 65_536 {
-            narrow::nearest(rate, table, votes, filler, &mut self.narrow, out)
+            narrow::nearest(rate, table, votes, filler, front, &mut self.narrow, out)
         } else {
-            wide::nearest(rate, table, votes, filler, &mut self.wide, out)
+            wide::nearest(rate, table, votes, filler, front, &mut self.wide, out)
         }
     }
 }

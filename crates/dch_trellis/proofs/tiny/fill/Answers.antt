@@ -1,11 +1,11 @@
-use Rattle.std.proofs.Common.{◌≡◌, ◌+◌, ◌-◌, ◌*◌, ◌%◌, ◌<◌, ◌≤◌, ℕ, [], List, get_or, ap, subst, ◌∙◌, arith}
+use Rattle.std.proofs.Common.{◌≡◌, ◌+◌, ◌-◌, ◌*◌, ◌%◌, ◌<◌, ◌≤◌, ℕ, [], List, get_or, ap, sym, subst, ◌∙◌, inr, arith}
 use Rattle.dch_bits.specs.declared.bit.Vote.{Vote}
 use Rattle.dch_trellis.specs.Steps.{near, total}
 use Rattle.dch_trellis.specs.Tiny.{IsFilled}
 use Rattle.dch_trellis.specs.Classes.{row_near, class_metric}
 use Rattle.dch_trellis.proofs.Pairs.{near-le}
 use Rattle.dch_trellis.proofs.Classes.{class_metric-near}
-use Rattle.dch_trellis.proofs.Lowered.{filled_more, filled_lower}
+use Rattle.dch_trellis.proofs.Lowered.{filled_more, filled_lower, least_lowered}
 use Rattle.dch_trellis.proofs.Spread.{total-light}
 use Rattle.dch_trellis.proofs.tiny.fill.Goals as goal
 use Rattle.dch_trellis.proofs.tiny.fill.Goals.{then-done-eq7, else-done-eq7}
@@ -50,3 +50,15 @@ loop-done-preserved c =
             few = omega (arith, w.taken-is, c.loop-done.invariant.few);
           }
     ]
+
+pub returns-then-rows-next-eq0-clause-rows : goal.returns-then-rows-next-eq0-clause-rows
+returns-then-rows-next-eq0-clause-rows c = c.loop-done.invariant.filled.rows_from
+
+pub returns-then-rows-next-eq0-clause-first : goal.returns-then-rows-next-eq0-clause-first
+returns-then-rows-next-eq0-clause-first c = c.loop-done.invariant.filled.here
+
+pub returns-then-rows-next-eq0-clause-least : goal.returns-then-rows-next-eq0-clause-least
+returns-then-rows-next-eq0-clause-least c =
+    let next : ℕ = c.args.size + 8 - c.loop-done.done in
+    let row : List ℕ = get_or c.loop-done.rows next [] in
+    inr (least_lowered c.args.rate c.args.votes.now c.args.size c.args.filler next c.loop-done.taken (get_or c.args.front.now.states next 0) row c.loop-done.invariant.filled.here (c.requires.states next c.if-next-front.true) (ap (λ s. get_or row s 0) (sym c.from.ensures) ∙ c.if-rows-next-eq0.true))

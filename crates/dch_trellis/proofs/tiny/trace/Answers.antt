@@ -21,7 +21,7 @@ loop-k-preserved c =
     let chosen : c.choose-bit.result ≡ choice (free k && nat_lt (by_one later c.args.table.now c.step_votes-step.result c.loop-k.state) (by_zero later c.args.table.now c.step_votes-step.result c.loop-k.state)) =
     c.choose-bit.ensures ∙ ap (λ free. choice (free && nat_lt (by_one later c.args.table.now c.step_votes-step.result c.loop-k.state) (by_zero later c.args.table.now c.step_votes-step.result c.loop-k.state))) c.is_free.ensures in
     let step : trace p free (size + 8 - k) k c.loop-k.state ≡ c.choose-bit.result ∷ trace p free (size + 8 - (k + 1)) (k + 1) c.after_input-state.result =
-    walk_lowered c.args.rate c.args.table.now c.args.votes.now c.step_votes-step.result size c.args.filler k c.loop-k.state c.args.rows.now c.choose-bit.result c.requires.table c.step_votes-step.ensures (omega arith) c.loop-k.invariant.small c.requires.path_metrics chosen
+    walk_lowered c.args.rate c.args.table.now c.args.votes.now c.step_votes-step.result size c.args.filler c.args.from k c.loop-k.state c.args.rows.now c.choose-bit.result c.requires.table c.step_votes-step.ensures (omega arith) (omega arith) c.loop-k.invariant.small c.requires.path_metrics chosen
     ∙ ap (λ state. c.choose-bit.result ∷ trace p free (size + 8 - (k + 1)) (k + 1) state) (sym c.after_input-state.ensures) in
     record {
       small = c.after_input-state.type_inv;
