@@ -1,11 +1,8 @@
 -- Blocks in text order, and by the place of their first One.
-use Rattle.std.proofs.Common.{◌≡◌, ◌<◌, ◌≤◌, ℕ, zero, suc, List, [], ◌∷◌, length, get_or, arith, refl, ap}
-use Rattle.std.specs.Prelude.{replicate}
+use Rattle.std.proofs.Common.{◌≡◌, ◌<◌, ◌≤◌, ℕ, zero, suc, List, [], ◌∷◌, length, get_or, arith, refl}
 use Rattle.dch_bits.specs.declared.bit.Bit.{Bit}
 use Rattle.dch_bits.specs.declared.bit.Bit.TheVariants.{Zero, One}
-use Rattle.dch_bits.specs.Bits.{plus}
 use Rattle.dch_trellis.specs.Nearest.{IsFirst}
-use Rattle.dch_collision.proofs.Linear.{sum}
 
 -- how many zeros a block begins with
 abbrev pub leading : List Bit → ℕ
@@ -51,24 +48,3 @@ first_when (One ∷ bits) (One ∷ other) ones = first_when bits other (λ j one
     shifted : (b : Bit) (bits other : List Bit) (j : ℕ) → ((i : ℕ) → i < j → get_or bits i Zero ≡ get_or other i Zero) → (i : ℕ) → i < suc j → get_or (b ∷ bits) i Zero ≡ get_or (b ∷ other) i Zero
     shifted b bits other j same zero below = refl
     shifted b bits other j same (suc i) below = same i (omega arith)
-
--- zeros and a block make the block
-pub sum-zeros : (n : ℕ) (b : List Bit) → n ≡ length b → sum (replicate n Zero) b ≡ b
-sum-zeros zero b same = refl
-sum-zeros (suc n) [] same = absurd (omega arith)
-sum-zeros (suc n) (x ∷ b) same = ap (λ rest. x ∷ rest) (sum-zeros n b (omega arith))
-
--- blocks whose sum is zeros are the same
-pub sum-same : (a b : List Bit) → length a ≡ length b → ((t : ℕ) → get_or (sum a b) t Zero ≡ Zero) → a ≡ b
-sum-same [] [] sized none = refl
-sum-same [] (y ∷ b) sized none = absurd (omega arith)
-sum-same (x ∷ a) [] sized none = absurd (omega arith)
-sum-same (x ∷ a) (y ∷ b) sized none =
-    let rest : a ≡ b = sum-same a b (omega arith) (λ t. none (suc t)) in
-    rw (rest, equal x y (none 0)) refl
-  where
-    equal : (x y : Bit) → plus x y ≡ Zero → x ≡ y
-    equal Zero Zero none = refl
-    equal Zero One none = cc
-    equal One Zero none = cc
-    equal One One none = refl

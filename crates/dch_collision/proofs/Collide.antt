@@ -13,12 +13,13 @@ use Rattle.dch_conv.specs.declared.rate.Rate.{Rate}
 use Rattle.dch_conv.specs.declared.rate.Rate.TheVariants.{Half, Third}
 use Rattle.dch_conv.specs.Conv.{outputs, coded_length, encoded}
 use Rattle.dch_conv.proofs.Codes.{length-encoded}
+use Rattle.dch_conv.proofs.Linear.{sum, get_or-sum, length-sum, sum-zeros, sum-same}
 use Rattle.dch_trellis.specs.Nearest.{differing, disagreement, all_copies, IsBlock, IsFirst, IsNearest}
 use Rattle.dch_trellis.specs.Search.{no_votes}
 use Rattle.dch_collision.specs.Collisions.{IsCollision, IsFirstCollision, NoneCollide, copies_kept}
 use Rattle.dch_collision.specs.Hidden.{coding_of, is_punctured, vote_for, removed, AreVotes, IsHidden, IsFirstHidden}
-use Rattle.dch_collision.proofs.Linear.{sum, get_or-sum, length-sum, encoded-sum, encoded-start, encoded-first, encoded-zeros, start-inside, first-inside, get_or-zeros}
-use Rattle.dch_collision.proofs.BlockLists.{leading, leading-zero, leading-one, first_when, sum-zeros, sum-same}
+use Rattle.dch_collision.proofs.Linear.{encoded-agreed, encoded-start, encoded-first, encoded-zeros, start-inside, first-inside, get_or-zeros}
+use Rattle.dch_collision.proofs.BlockLists.{leading, leading-zero, leading-one, first_when}
 use Rattle.dch_collision.proofs.Costs.{free_at, free_all, all_copies-le, vote-few, some-cost}
 
 code-same : (rate : Rate) (block : List Bit) → coded_as (coding_of rate) block ≡ encoded rate block
@@ -95,7 +96,7 @@ hides-sum rate sent_flags size filler a b collision =
       hidden = record {
         shape = record { sized = long; filled = λ k early. leading-zero (sum a b) k early };
         one = one;
-        silent = λ t within sent. encoded-sum rate size a b t collision.first.sized collision.second.sized within (agree-sent rate sent_flags size filler a b collision t within sent);
+        silent = λ t within sent. encoded-agreed rate a b t (collision.first.sized ∙ sym collision.second.sized) (agree-sent rate sent_flags size filler a b collision t within sent);
       };
     }
   where

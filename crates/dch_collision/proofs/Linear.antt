@@ -1,4 +1,4 @@
--- The code is linear: the coded bits of a sum of blocks are the sums of theirs, modulo 2.
+-- The coded bits of a block that begins with zeros, of zeros, and of a sum where two codes agree.
 use Rattle.std.proofs.Common.{◌≡◌, ◌+◌, ◌-◌, ◌*◌, ◌/◌, ◌%◌, ◌<◌, ◌≤◌, ℕ, zero, suc, List, [], ◌∷◌, true, false, length, get_or, sum_by, arith, refl, ap, sym, ◌∙◌, ⊎_elim, subst}
 use Rattle.std.specs.Prelude.{nat_le, replicate}
 use Rattle.std.proofs.lemmas.List.Sums.{sum_by-cons}
@@ -8,75 +8,22 @@ use Rattle.dch_bits.specs.declared.bit.Bit.TheVariants.{Zero, One}
 use Rattle.dch_bits.specs.Bits.{number_of, plus, bit_of_number}
 use Rattle.dch_conv.specs.declared.rate.Rate.{Rate}
 use Rattle.dch_conv.specs.declared.rate.Rate.TheVariants.{Half, Third}
-use Rattle.dch_conv.specs.Conv.{outputs, taps, input, coded, coded_bit, coded_length, encoded}
+use Rattle.dch_conv.specs.Conv.{outputs, taps, input, coded, coded_length, encoded}
 use Rattle.dch_conv.proofs.Codes.{encoded-at, coded_bit-at}
+use Rattle.dch_conv.proofs.Linear.{sum, get_or-sum, encoded-sum}
 use Rattle.dch_trellis.specs.Nearest.{IsBlock}
 
--- the sum of two blocks, bit by bit modulo 2
-abbrev pub sum : List Bit → List Bit → List Bit
-sum [] b = b
-sum (x ∷ a) [] = x ∷ a
-sum (x ∷ a) (y ∷ b) = plus x y ∷ sum a b
-
-plus-zero : (x : Bit) → plus x Zero ≡ x
-plus-zero Zero = refl
-plus-zero One = refl
-
-pub get_or-sum : (a b : List Bit) (t : ℕ) → get_or (sum a b) t Zero ≡ plus (get_or a t Zero) (get_or b t Zero)
-get_or-sum [] b t = refl
-get_or-sum (x ∷ a) [] t = sym (plus-zero (get_or (x ∷ a) t Zero))
-get_or-sum (x ∷ a) (y ∷ b) zero = refl
-get_or-sum (x ∷ a) (y ∷ b) (suc t) = get_or-sum a b t
-
-pub length-sum : (a b : List Bit) → length a ≡ length b → length (sum a b) ≡ length a
-length-sum [] b same = sym same
-length-sum (x ∷ a) [] same = refl
-length-sum (x ∷ a) (y ∷ b) same = ap suc (length-sum a b (omega arith))
-
-number-plus : (x y : Bit) → number_of (plus x y) % 2 ≡ (number_of x + number_of y) % 2
-number-plus Zero Zero = refl
-number-plus Zero One = refl
-number-plus One Zero = refl
-number-plus One One = refl
-
--- an input of the sum
-input-sum : (a b : List Bit) (k d : ℕ) → input (sum a b) k d % 2 ≡ (input a k d + input b k d) % 2
-input-sum a b k d = ⊎_elim
-    (λ (inside : (nat_le d k ≡ true) × (d ≤ k)). rw inside.0 (ap (λ x. number_of x % 2) (get_or-sum a b (k - d)) ∙ number-plus (get_or a (k - d) Zero) (get_or b (k - d) Zero)))
-    (λ (before : (nat_le d k ≡ false) × (k < d)). rw before.0 refl)
-    (leb_tells d k)
-
--- a sum of sums modulo 2
-sum_by-sum : (f g h : ℕ → ℕ) → ((d : ℕ) → f d % 2 ≡ (g d + h d) % 2) → (ds : List ℕ) → sum_by f ds % 2 ≡ (sum_by g ds + sum_by h ds) % 2
-sum_by-sum f g h parts [] = refl
-sum_by-sum f g h parts (d ∷ ds) = omega (arith, sum_by-cons f d ds, sum_by-cons g d ds, sum_by-cons h d ds, parts d, sum_by-sum f g h parts ds)
-
-coded-sum : (rate : Rate) (a b : List Bit) (k t : ℕ) → coded rate (sum a b) k t ≡ (coded rate a k t + coded rate b k t) % 2
-coded-sum rate a b k t = omega (arith, sum_by-sum (input (sum a b) k) (input a k) (input b k) (input-sum a b k) (taps rate t))
-
-bit_of_number-same : (m n : ℕ) → m < 2 → n < 2 → bit_of_number m ≡ bit_of_number n → m ≡ n
-bit_of_number-same zero zero low high same = refl
-bit_of_number-same zero (suc zero) low high same = cc
-bit_of_number-same (suc zero) zero low high same = cc
-bit_of_number-same (suc zero) (suc zero) low high same = refl
-bit_of_number-same (suc (suc m)) n low high same = absurd (omega arith)
-bit_of_number-same zero (suc (suc n)) low high same = absurd (omega arith)
-bit_of_number-same (suc zero) (suc (suc n)) low high same = absurd (omega arith)
+plus-self : (x : Bit) → plus x x ≡ Zero
+plus-self Zero = refl
+plus-self One = refl
 
 -- where two codes agree that of the sum is zero
-coded_bit-sum : (rate : Rate) (a b : List Bit) (i : ℕ) → coded_bit rate a i ≡ coded_bit rate b i → coded_bit rate (sum a b) i ≡ Zero
-coded_bit-sum rate a b i same =
-    let k : ℕ = i / outputs rate in
-    let t : ℕ = i % outputs rate in
-    let equal : coded rate a k t ≡ coded rate b k t = bit_of_number-same (coded rate a k t) (coded rate b k t) (omega arith) (omega arith) same in
-    let none : coded rate (sum a b) k t ≡ 0 = omega (arith, coded-sum rate a b k t, equal) in
-    ap bit_of_number none
-
-pub encoded-sum : (rate : Rate) (size : ℕ) (a b : List Bit) (i : ℕ) → length a ≡ size → length b ≡ size → i < coded_length rate size → get_or (encoded rate a) i Zero ≡ get_or (encoded rate b) i Zero → get_or (encoded rate (sum a b)) i Zero ≡ Zero
-encoded-sum rate size a b i first second within same =
-    let here : (block : List Bit) → length block ≡ size → get_or (encoded rate block) i Zero ≡ coded_bit rate block i = λ block sized. encoded-at rate block i (let P : ℕ → Type 0 = λ n. i < coded_length rate n in subst P (sym sized) within) in
-    here (sum a b) (length-sum a b (first ∙ sym second) ∙ first)
-    ∙ coded_bit-sum rate a b i (sym (here a first) ∙ same ∙ here b second)
+pub encoded-agreed : (rate : Rate) (a b : List Bit) (i : ℕ) → length a ≡ length b → get_or (encoded rate a) i Zero ≡ get_or (encoded rate b) i Zero → get_or (encoded rate (sum a b)) i Zero ≡ Zero
+encoded-agreed rate a b i sized same =
+    ap (λ code. get_or code i Zero) (encoded-sum rate a b sized)
+    ∙ get_or-sum (encoded rate a) (encoded rate b) i
+    ∙ ap (λ bit. plus bit (get_or (encoded rate b) i Zero)) same
+    ∙ plus-self (get_or (encoded rate b) i Zero)
 
 -- a function that is zero at each member of a list
 abbrev AllZero : (ℕ → ℕ) → List ℕ → Type 0

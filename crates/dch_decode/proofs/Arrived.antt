@@ -1,5 +1,5 @@
 -- The blocks that are written and marked are those that were read, and where nothing is damaged those that were sent.
-use Rattle.std.proofs.Common.{◌≡◌, ◌+◌, ◌*◌, ◌/◌, ◌%◌, ◌<◌, ◌≤◌, ◌^◌, ℕ, zero, suc, List, length, take, drop, get_or, arith, ap, sym, ◌∙◌, subst}
+use Rattle.std.proofs.Common.{◌≡◌, ◌+◌, ◌*◌, ◌/◌, ◌%◌, ◌<◌, ◌≤◌, ℕ, zero, suc, List, length, take, drop, get_or, arith, ap, sym, ◌∙◌, subst}
 use Rattle.std.specs.Prelude.{◌↔◌, IsTrue, false, reverse}
 use Rattle.std.proofs.lemmas.List.{same_lists, take_at}
 use Rattle.std.proofs.lemmas.Nat.{div-add-mod', div_below, mod_below}
@@ -11,16 +11,18 @@ use Rattle.dch_types.specs.declared.channel.Format.{Format}
 use Rattle.dch_types.specs.declared.channel.Trch.{Trch}
 use Rattle.dch_types.specs.Lengths.{crc_size, joined_bits, coded_bits, tti_bits}
 use Rattle.dch_crc.specs.Parity.{IsAttached}
-use Rattle.dch_coding.specs.Ttis.{IsCodedTti, part}
+use Rattle.dch_coding.specs.Ttis.{AreJoined, IsCodedTti, part}
 use Rattle.dch_accept.specs.Blocks.{Held, bits_of, block_at}
 use Rattle.dch_accept.specs.BlockLending.{with_bits}
 use Rattle.dch_accept.specs.Frames.{overwritten}
 use Rattle.dch_decode.specs.Read.{AreRead}
 use Rattle.dch_decode.specs.Copies.{AreCopies}
 use Rattle.dch_collision.specs.Clear.{HasNoCollision}
+use Rattle.dch_decode.specs.Corrected.{ReadsCorrectable}
 use Rattle.dch_decode.specs.Received.{IsReceived, ArrivesAs}
 use Rattle.dch_decode.proofs.Lengths.{joined_le}
 use Rattle.dch_decode.proofs.Parts.{length-part, get_or-part}
+use Rattle.dch_decode.proofs.Corrected.{joined_corrected}
 use Rattle.dch_decode.proofs.Sent.{joined_found}
 
 -- a list that is written over whole
@@ -76,24 +78,15 @@ same_parts xs ys n size long longer same = same_lists xs ys (omega (arith, long,
     some_size n zero k inside = absurd (omega arith)
     some_size n (suc size) k inside = omega arith
 
--- a TTI that arrives undamaged gives its blocks, all good
-pub arrived : (channel : Trch) (number : ℕ) (format : Format) (votes : List Vote) (held : Held) (blocks coded : List Bit) (kept : ℕ → ℕ) → IsReceived channel number format votes held → length votes ≡ tti_bits channel format → length votes ≤ 131072 → length blocks ≡ bits_of format → IsCodedTti channel format blocks coded → AreCopies votes coded kept → HasNoCollision channel.coding (joined_bits channel format) kept → ArrivesAs blocks held
-unfolding tti_bits
-arrived channel number format votes held blocks coded kept received size short whole sent copies apart =
-    let coding : Coding = channel.coding in
-    let joined : List Bit = received.joined in
-    let long : length votes ≡ coded_bits coding (length joined) = size ∙ ap (coded_bits coding) (sym received.long) in
-    let small : length joined ≤ 2 ^ 31 = omega (arith, joined_le (length joined) coding, long, short) in
-    let same : joined ≡ sent.joined =
-    joined_found coding votes joined sent.joined kept small long (sent.are.whole ∙ sym received.long) received.read
-    (subst (λ (bits : List Bit). AreCopies votes bits kept) sent.coded copies)
-    (subst (λ (n : ℕ). HasNoCollision coding n kept) (sym sent.are.whole) apart) in
+-- where the joined bits of blocks are read, the blocks are received, all good
+arrived_as : (channel : Trch) (number : ℕ) (format : Format) (votes : List Vote) (held : Held) (blocks joined : List Bit) (received : IsReceived channel number format votes held) → length blocks ≡ bits_of format → AreJoined channel format blocks joined → received.joined ≡ joined → ArrivesAs blocks held
+arrived_as channel number format votes held blocks joined received whole are same =
     let width : ℕ = format.size + crc_size channel.crc in
     let fits : (i : ℕ) → i < format.number → length (part i format.size blocks) ≡ format.size = λ i inside. length-part blocks format.number format.size i inside (omega (arith, whole)) in
     let block : (i : ℕ) → i < format.number → block_at held i ≡ part i format.size blocks = λ i inside.
     (received.blocks i inside).front
     ∙ ap (λ (bits : List Bit). take format.size (part i width bits)) same
-    ∙ attached_front channel.crc (part i format.size blocks) (part i width sent.joined) format.size (fits i inside) (sent.are.parts i inside) in
+    ∙ attached_front channel.crc (part i format.size blocks) (part i width joined) format.size (fits i inside) (are.parts i inside) in
     record {
       same = same_parts held.bits blocks format.number format.size received.whole whole
           (λ i inside. ap (λ n. part i n held.bits) (sym received.sized) ∙ block i inside);
@@ -101,5 +94,29 @@ arrived channel number format votes held blocks coded kept received size short w
           let within : i < format.number = omega (arith, received.counted) in
           (received.blocks i within).fits.1
           (subst (λ (bits : List Bit). IsAttached channel.crc (block_at held i) (part i width bits)) (sym same)
-          (subst (λ (b : List Bit). IsAttached channel.crc b (part i width sent.joined)) (sym (block i within)) (sent.are.parts i within)));
+          (subst (λ (b : List Bit). IsAttached channel.crc b (part i width joined)) (sym (block i within)) (are.parts i within)));
     }
+
+read_long : (channel : Trch) (number : ℕ) (format : Format) (votes : List Vote) (held : Held) (received : IsReceived channel number format votes held) → length votes ≡ tti_bits channel format → length votes ≡ coded_bits channel.coding (length received.joined)
+unfolding tti_bits
+read_long channel number format votes held received size = size ∙ ap (coded_bits channel.coding) (sym received.long)
+
+-- a TTI that arrives undamaged gives its blocks, all good
+pub arrived : (channel : Trch) (number : ℕ) (format : Format) (votes : List Vote) (held : Held) (blocks coded : List Bit) (kept : ℕ → ℕ) → IsReceived channel number format votes held → length votes ≡ tti_bits channel format → length votes ≤ 131072 → length blocks ≡ bits_of format → IsCodedTti channel format blocks coded → AreCopies votes coded kept → HasNoCollision channel.coding (joined_bits channel format) kept → ArrivesAs blocks held
+arrived channel number format votes held blocks coded kept received size short whole sent copies apart =
+    let coding : Coding = channel.coding in
+    let joined : List Bit = received.joined in
+    let long : length votes ≡ coded_bits coding (length joined) = read_long channel number format votes held received size in
+    arrived_as channel number format votes held blocks sent.joined received whole sent.are
+    (joined_found coding votes joined sent.joined kept (omega (arith, joined_le (length joined) coding, long, short)) long (sent.are.whole ∙ sym received.long) received.read
+    (subst (λ (bits : List Bit). AreCopies votes bits kept) sent.coded copies)
+    (subst (λ (n : ℕ). HasNoCollision coding n kept) (sym sent.are.whole) apart))
+
+-- and so does one of which each code block is correctable
+pub arrived_correctable : (channel : Trch) (number : ℕ) (format : Format) (votes : List Vote) (held : Held) → IsReceived channel number format votes held → length votes ≡ tti_bits channel format → length votes ≤ 131072 → ReadsCorrectable channel format votes held
+arrived_correctable channel number format votes held received size short blocks bits sent whole are correctable =
+    let coding : Coding = channel.coding in
+    let joined : List Bit = received.joined in
+    let long : length votes ≡ coded_bits coding (length joined) = read_long channel number format votes held received size in
+    arrived_as channel number format votes held blocks bits received whole are
+    (joined_corrected coding votes joined bits sent (omega (arith, joined_le (length joined) coding, long, short)) long (are.whole ∙ sym received.long) received.read correctable)

@@ -7,4 +7,5 @@ pub mod Lengths
 pub mod Arrived
 pub mod Marks
 pub mod Coded
+pub mod Corrected
 pub mod One

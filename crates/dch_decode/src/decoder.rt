@@ -10,6 +10,8 @@ ghost use Rattle.dch_trellis.specs.Nearest.{disagreement};
 ghost use Rattle.dch_decode.specs.Read.{IsRead, AreRead};
 ghost use Rattle.dch_coding.specs.Ttis.{part};
 ghost use Rattle.dch_decode.specs.Copies.{AreCopies};
+ghost use Rattle.dch_decode.specs.Corrected.{AreCorrectable, AreFewWrong};
+ghost use Rattle.dch_trellis.specs.Distance.{HaveCopies};
 ghost use Rattle.dch_collision.specs.Clear.{HasNoCollision};
 
 use crate::block::read_block;
@@ -55,7 +57,8 @@ impl Decoder {
 
     /// Reads the joined bits of a TTI from the votes for its coded bits (TS 25.212 4.2.2 and 4.2.3): each code block is the
     /// one that the fewest received copies speak against, and a bit that is not coded is One where more ones than zeros
-    /// were received. A bit has no more copies than eight radio frames have cells, 460,800.
+    /// were received. A bit has no more copies than eight radio frames have cells, 460,800. With a copy of each coded bit, a code
+    /// block of which at most five copies are wrong at rate 1/2, or eight at rate 1/3, is read as it was sent.
     pub fn decode(&mut self, coding: Coding, votes: &[Vote], joined: &mut [Bit])
         requires coded { length votes.now ≡ coded_bits coding (length joined.old) }
         requires short { length votes.now ≤ 131072 }
@@ -65,6 +68,8 @@ impl Decoder {
         ensures read { AreRead coding votes.now joined.new }
         ensures undamaged { (sent : List Bit) (kept : ℕ → ℕ) → length sent ≡ length joined.new → AreCopies votes.now (coded_of coding sent) kept →
             HasNoCollision coding (length sent) kept → (joined.new ≡ sent) × (disagreement votes.now (coded_of coding joined.new) ≡ 0) }
+        ensures corrected { (bits : List Bit) (least : ℕ) → length bits ≡ length joined.new → HaveCopies least votes.now → AreFewWrong coding least votes.now bits → joined.new ≡ bits }
+        ensures told_apart { (bits : List Bit) (sent : ℕ → ℕ) → length bits ≡ length joined.new → AreCorrectable coding sent votes.now bits → joined.new ≡ bits }
         ensures kept { self.new ≡ self.old }
     {
         decode_with(&mut self.trellis, &mut self.blocks, coding, votes, joined);

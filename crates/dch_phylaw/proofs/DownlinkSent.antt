@@ -33,7 +33,7 @@ cell_same : (planned : Planned) (i m : ℕ) (a b : Option ℕ) (xs ys : List Tri
 cell_same planned i m None b xs ys same cells = ap (λ o. received_cell planned i o ys m) same
 cell_same planned i m (Some c) b xs ys same cells = ap (λ o. received_cell planned i o ys m) same ∙ ap (λ zs. received_cell planned i (Some c) zs m) (cells c (λ t. Some c))
 
-tti_cell-same : (planned : Planned) (one other : RxFrames) (i len p : ℕ) → KeepTheSame one other → tti_cell planned other i len p ≡ tti_cell planned one i len p
+pub tti_cell-same : (planned : Planned) (one other : RxFrames) (i len p : ℕ) → KeepTheSame one other → tti_cell planned other i len p ≡ tti_cell planned one i len p
 tti_cell-same planned one other i len p same =
     let side : Side = planned.config.downlink.side in
     let n : ℕ = frame_of (channel_at side i).frames len p in

@@ -1,4 +1,10 @@
+pub mod Changed
+pub mod DamagedFrame
+pub mod DownlinkDamaged
+pub mod FewChanged
+pub mod UplinkDamaged
 pub mod DownlinkSent
 pub mod Readers
+pub mod ToldApart
 pub mod UplinkCopies
 pub mod UplinkSent

@@ -28,7 +28,7 @@ use Rattle.dch_match.specs.Uplinks.{IsPlan, before_of, sent_of, uplink_pattern, 
 use Rattle.dch_match.proofs.MatchedLemmas.{matched_kept, odd_start}
 use Rattle.dch_match.proofs.SharesLemmas.{nothing_shared, shared_le}
 use Rattle.dch_match.proofs.Sizes.{largest_most}
-use Rattle.dch_puncture.specs.Copies.{bits_in, frame_copies, uplink_copies}
+use Rattle.dch_puncture.specs.Copies.{bits_in, frame_copies, padded_in, uplink_copies}
 use Rattle.dch_puncture.specs.Plans.{plan_at}
 use Rattle.dch_puncture.proofs.Sizes.{frame_size-plan}
 use Rattle.dch_frame.specs.Stages.{as_cell, origin_of}
@@ -40,12 +40,13 @@ use Rattle.dch_accept.specs.Blocks.{Held}
 use Rattle.dch_accept.specs.Plans.{IsPlanned, Planned}
 use Rattle.dch_accept.proofs.Sizes.{plan_sized}
 use Rattle.dch_decode.specs.Copies.{AreCopies}
+use Rattle.dch_rxframes.specs.Read.{coded_in}
 use Rattle.dch_rxframes.specs.RxFrames.{RxFrame, RxFrames, frame_at}
 use Rattle.dch_rxframes.proofs.Sent.{sent_number}
 use Rattle.dch_ttibuf.specs.Loaded.{Loaded}
 use Rattle.dch_ulphy.specs.Frames.{bits_before, multiplexed}
 use Rattle.dch_ulphy.specs.Loaded.{AreInterleaved}
-use Rattle.dch_ulphy.specs.Read.{IsTtiRead, channel_cells, frame_votes, pattern_in}
+use Rattle.dch_ulphy.specs.Read.{IsTtiRead, channel_cells, frame_votes, pattern_in, tti_votes}
 use Rattle.dch_ulphy.specs.Sent.{IsSentFrame, IsSentTti}
 use Rattle.dch_ulphy.proofs.Arrived.{segment_bit, segment_bits, segment_shown}
 use Rattle.dch_ulphy.proofs.SentBack.{loaded_long}
@@ -121,26 +122,31 @@ frame_counts planned i n c loaded kept sent coded rows j good channel listed is_
     ∙ ap (λ size. copies_as_votes (get_or coded j Zero) (copies (uplink_pattern side c size i n).kind m)) (sym (frame_size-plan planned.config.uplink c plan is_plan))
 
 -- and so are those of the TTI
-pub sent_copies : (planned : Planned) (cfn : ℕ) (frames : ℕ → Option Radio) (reader : RxFrames) (i : ℕ) (sequence : List ℕ) (blocks : List Bit) (held : Held) (sent : IsSentTti planned reader i held.format sequence blocks) (read : IsTtiRead planned reader i held)
-    → IsPlanned planned → AreHeard planned Up cfn frames reader → i < length planned.config.uplink.side.channels → AreCopies read.votes sent.from.coded (uplink_copies planned.config.uplink i held.format sequence)
+pub sent_votes : (planned : Planned) (reader : RxFrames) (i g : ℕ) (sequence : List ℕ) (blocks : List Bit) (sent : IsSentTti planned reader i g sequence blocks)
+    → IsPlanned planned → i < length planned.config.uplink.side.channels → ((n : ℕ) → n < (channel_at planned.config.uplink.side i).frames → slice_index sequence n < length planned.config.uplink.side.combinations)
+    → (j : ℕ) → j < coded_in planned.config.uplink.side i g → tti_votes planned reader i (padded_in planned.config.uplink.side i g) j ≡ copies_as_votes (get_or sent.from.coded j Zero) (uplink_copies planned.config.uplink i g sequence j)
 unfolding uplink_copies
-sent_copies planned cfn frames reader i sequence blocks held sent read good heard inside = λ j v within.
+sent_votes planned reader i g sequence blocks sent good inside listed j within =
     let side : Side = planned.config.uplink.side in
     let trch : Trch = channel_at side i in
-    let g : ℕ = held.format in
     let f : ℕ = trch.frames in
     let is : IsFrames f = (good.good.uplink.side.channels i inside).frames in
     let some : 0 < f = omega (arith, is) in
     let rows : ℕ = div_ceil (bits_in side i g) f in
     let padded : bits_in side i g ≤ rows * f = (div_ceil_times (bits_in side i g) f some).0 in
-    let early : j < rows * f = omega (arith, within, read.long, padded) in
+    let early : j < rows * f = omega (arith, within, padded) in
     let n : ℕ = frame_of f (rows * f) j in
     let below : n < f = frame_of-below f (rows * f) j is (whole_rows f rows (rows * f) some refl) early in
     let c : ℕ = slice_index sequence n in
     let frame : IsSentFrame planned i n c sent.loaded (frame_at side reader i n) = sent.frames n below in
-    let there : c < length side.combinations = is_listed planned Up cfn frames reader i n c heard frame.found in
+    let there : c < length side.combinations = listed n below in
     let number : format_number side c i ≡ g = sent_number planned Up (multiplexed planned) i g n c sent.loaded (frame_at side reader i n) frame sent.from.format inside in
     let height : rows ≡ before_of side c i = ap (λ f. div_ceil (tti_bits trch (format_at trch f)) trch.frames) (sym number) in
     let long : length sent.loaded.cells ≡ rows * f = loaded_long trch g blocks sent.loaded sent.from in
+    frame_counts planned i n c sent.loaded (frame_at side reader i n) frame sent.from.coded rows j good.good.uplink inside there (good.uplink.each c there) below height long sent.from.cells early refl
+
+pub sent_copies : (planned : Planned) (cfn : ℕ) (frames : ℕ → Option Radio) (reader : RxFrames) (i : ℕ) (sequence : List ℕ) (blocks : List Bit) (held : Held) (sent : IsSentTti planned reader i held.format sequence blocks) (read : IsTtiRead planned reader i held)
+    → IsPlanned planned → AreHeard planned Up cfn frames reader → i < length planned.config.uplink.side.channels → AreCopies read.votes sent.from.coded (uplink_copies planned.config.uplink i held.format sequence)
+sent_copies planned cfn frames reader i sequence blocks held sent read good heard inside = λ j v within.
     read.are j v within
-    ∙ frame_counts planned i n c sent.loaded (frame_at side reader i n) frame sent.from.coded rows j good.good.uplink inside there (good.uplink.each c there) below height long sent.from.cells early refl
+    ∙ sent_votes planned reader i held.format sequence blocks sent good inside (λ n below. is_listed planned Up cfn frames reader i n (slice_index sequence n) heard (sent.frames n below).found) j (omega (arith, within, read.long))

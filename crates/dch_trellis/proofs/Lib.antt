@@ -1,7 +1,10 @@
 pub mod PathMetrics
+pub mod Apart
 pub mod Classes
+pub mod Damage
 pub mod Ends
 pub mod Found
+pub mod FreeDistance
 pub mod Held
 pub mod Lead
 pub mod Least

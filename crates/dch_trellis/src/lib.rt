@@ -2,6 +2,7 @@
 //! opening.
 #![tactic(auto)]
 
+mod laws;
 mod narrow;
 mod steps;
 mod table;
@@ -10,4 +11,5 @@ mod trellis;
 mod undamaged;
 mod wide;
 
+pub use laws::{copies_law, free_distance_law};
 pub use trellis::Trellis;

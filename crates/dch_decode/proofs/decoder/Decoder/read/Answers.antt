@@ -3,7 +3,7 @@ use Rattle.std.proofs.lemmas.List.{length-take-le, take_at}
 use Rattle.dch_bits.specs.declared.bit.Bit.{Bit}
 use Rattle.dch_types.specs.Lengths.{coded_bits, joined_bits, tti_bits}
 use Rattle.dch_decode.specs.Read.{AreRead}
-use Rattle.dch_decode.proofs.Arrived.{received_are, arrived}
+use Rattle.dch_decode.proofs.Arrived.{received_are, arrived, arrived_correctable}
 use Rattle.dch_decode.proofs.decoder.Decoder.read.Goals as goal
 
 pub decode_front-requires-clause-coded : goal.decode_front-requires-clause-coded
@@ -25,3 +25,6 @@ returns-clause-read c =
 
 pub returns-clause-undamaged : goal.returns-clause-undamaged
 returns-clause-undamaged c blocks coded kept whole sent copies apart = arrived c.args.channel.now c.args.number c.args.format.now c.args.votes.now c.mark_blocks.new.out blocks coded kept (returns-clause-read c) c.requires.coded c.requires.short whole sent copies apart
+
+pub returns-clause-corrected : goal.returns-clause-corrected
+returns-clause-corrected c = arrived_correctable c.args.channel.now c.args.number c.args.format.now c.args.votes.now c.mark_blocks.new.out (returns-clause-read c) c.requires.coded c.requires.short
