@@ -4,7 +4,7 @@ use Rattle.std.proofs.lemmas.List.{get_or_append_left, get_or_at, length_push}
 use Rattle.dch_types.specs.declared.config.Uplink.{Uplink}
 use Rattle.dch_match.specs.declared.uplink_plan.UplinkPlan.{UplinkPlan}
 use Rattle.dch_match.specs.Uplinks.{IsPlan}
-use Rattle.dch_puncture.specs.Plans.{plan_at, no_plan}
+use Rattle.dch_collision.specs.Plans.{plan_at, no_plan}
 use Rattle.dch_accept.specs.Answers.{HasNoRate, HavePlans}
 
 pub plans_more : (uplink : Uplink) (n : ℕ) (plans : List UplinkPlan) (plan : UplinkPlan) → HavePlans uplink n plans → ¬ HasNoRate uplink n → IsPlan uplink n plan → HavePlans uplink (n + 1) (plans ++ plan ∷ [])

@@ -9,14 +9,14 @@ use Rattle.dch_types.specs.declared.config.Uplink.{Uplink}
 use Rattle.dch_types.specs.Parts.{side_of}
 use Rattle.dch_match.specs.declared.uplink_plan.UplinkPlan.{UplinkPlan}
 use Rattle.dch_match.specs.Uplinks.{demand_of, set2}
-use Rattle.dch_puncture.specs.Copies.{uplink_copies, downlink_copies}
-use Rattle.dch_puncture.specs.Counted.{search_count}
+use Rattle.dch_collision.specs.Copies.{uplink_copies, downlink_copies}
+use Rattle.dch_collision.specs.Counted.{search_count}
 use Rattle.dch_collision.specs.Clear.{Copies, IsClear, IsClearSide}
 use Rattle.dch_collision.specs.Found.{IsFirstOf}
+use Rattle.dch_collision.specs.Plans.{ArePlans}
 use Rattle.dch_accept.specs.declared.refusal.Refusal.{Refusal}
 use Rattle.dch_accept.specs.declared.refusal.Refusal.TheVariants.{NoMemory, NoRate, Sequences, Collision}
 use Rattle.dch_accept.specs.Plans.{Planned}
-use Rattle.dch_puncture.specs.Plans.{ArePlans}
 
 -- at no frame size does the puncturing of combination c keep to its limit
 abbrev pub HasNoRate : Uplink → ℕ → Type 0

@@ -3,7 +3,7 @@ use Rattle.std.specs.Prelude.{ℕ, min}
 use Rattle.dch_types.specs.declared.channel.Dir.{Dir}
 use Rattle.dch_types.specs.declared.channel.Dir.TheVariants.{Up, Down}
 use Rattle.dch_types.specs.Lengths.{code_bits, frame_bits}
-use Rattle.dch_puncture.specs.Plans.{plan_at}
+use Rattle.dch_collision.specs.Plans.{plan_at}
 use Rattle.dch_accept.specs.Plans.{Planned}
 
 -- Ndata: the cells of a radio frame of a direction in combination c; the downlink's have the same in each

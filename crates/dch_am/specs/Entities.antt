@@ -1,7 +1,7 @@
 -- An entity of the acknowledged mode (TS 25.322 4.2.1.3), which sends and receives: what it writes when it may write a PDU, how much it offers
 -- to send, and what each event makes of it.
 use Rattle.std.specs.Prelude.{◌≡◌, ◌+◌, ◌-◌, ◌*◌, ◌<◌, ◌≤◌, ℕ, List, [], ◌∷◌, length, Bool, true, false, nat_lt, Option, Some, None, if◌then◌else◌}
-use Rattle.dch_status.specs.Fields.{Field}
+use Rattle.dch_rlcpdu.specs.Fields.{Field}
 use Rattle.dch_rlcpdu.specs.declared.am.AmView.{AmView}
 use Rattle.dch_rlcpdu.specs.declared.am.AmView.TheVariants.{Payload, Status, Reset, ResetAck}
 use Rattle.dch_am.specs.Acknowledging.{after_fields}

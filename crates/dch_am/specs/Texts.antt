@@ -2,8 +2,8 @@
 use Rattle.std.specs.Prelude.{◌≡◌, ◌+◌, ℕ, List, ◌∷◌, ◌++◌, map, Option, Some, None, Ok}
 use Rattle.dch_rlcpdu.specs.declared.am.AmView.TheVariants.{Status}
 use Rattle.dch_rlcpdu.specs.Am.{am_pdu, am_reading}
-use Rattle.dch_status.specs.Fields.{mrw_fields}
-use Rattle.dch_status.specs.Writing.{IsText, mrw_ack_text, mrw_text, status_text}
+use Rattle.dch_rlcpdu.specs.Fields.{mrw_fields}
+use Rattle.dch_rlcpdu.specs.Writing.{IsText, mrw_ack_text, mrw_text, status_text}
 use Rattle.dch_am.specs.Bodies.{carried, indicators_of}
 use Rattle.dch_am.specs.Building.{Choice, body_of_choice, choice, number_of, polls_at}
 use Rattle.dch_am.specs.Numbers.{wrapped}

@@ -4,7 +4,7 @@ use Rattle.std.specs.Prelude.{not, nat_lt, nat_le, map}
 use Rattle.std.proofs.lemmas.List.{take-append-drop}
 use Rattle.dch_am.specs.Numbers.{range, wrapped}
 use Rattle.dch_am.specs.Rules.{Rules}
-use Rattle.dch_status.specs.Fields.{Field, AckField, ListField, MrwAckField, fifteens, status_fields}
+use Rattle.dch_rlcpdu.specs.Fields.{Field, AckField, ListField, MrwAckField, fifteens, status_fields}
 use Rattle.dch_am.specs.Names.{named}
 use Rattle.dch_am.specs.Bodies.{is_empty}
 use Rattle.dch_am.specs.Moves.{move_in}

@@ -8,3 +8,9 @@ pub mod Lost
 pub mod History
 pub mod Short
 mod Examples
+pub mod Lossless
+pub mod Units
+pub mod Readings
+pub mod Places
+pub mod Receivers
+pub mod Views

@@ -13,7 +13,7 @@ use Rattle.dch_am.specs.Status.{fields_of}
 use Rattle.dch_am.specs.declared.answers.StatusTaken.{StatusTaken}
 use Rattle.dch_am.specs.declared.answers.StatusTaken.TheVariants.{Taken as Inside, Outside as Unknown}
 use Rattle.dch_bits.specs.declared.offer.Offer.TheVariants.{Accepted, Full, WrongSize}
-use Rattle.dch_status.specs.Fields.{Field, NoMoreField, WindowField, AckField, ListField, BitmapField, MrwField, MrwAckField}
+use Rattle.dch_rlcpdu.specs.Fields.{Field, NoMoreField, WindowField, AckField, ListField, BitmapField, MrwField, MrwAckField}
 use Rattle.dch_amlaw.specs.Pair.{Arrive, At, Block, Build, End, Event, Far, IsSafe, Lose, Mrw, Near, Offer, Pair, Payload, Report, Tick, after, arrives, happens, happens_near, in_span, loses, opened, picked, takes, turned}
 use Rattle.dch_amlaw.proofs.History.{always_safe}
 

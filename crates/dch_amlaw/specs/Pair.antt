@@ -1,6 +1,6 @@
 -- Two ends of a bearer in acknowledged mode (TS 25.322 11.3), and the blocks that are in flight between them, in order.
 use Rattle.std.specs.Prelude.{◌+◌, ◌-◌, ◌*◌, ℕ, ◌≡◌, ◌≤◌, ◌<◌, ◌⊎◌, List, [], ◌∷◌, ◌++◌, ◌&&◌, ◌||◌, length, nat_le, nat_lt, take, max, Option, Some, None, Bool, true, false, if◌then◌else◌}
-use Rattle.dch_status.specs.Fields.{mrw_fields}
+use Rattle.dch_rlcpdu.specs.Fields.{mrw_fields}
 use Rattle.dch_am.specs.Numbers.{has, below, run_of, top, wrapped}
 use Rattle.dch_am.specs.Status.{Told, fields_of}
 use Rattle.dch_am.specs.Bodies.{Body, ends}

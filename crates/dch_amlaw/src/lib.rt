@@ -1,6 +1,11 @@
-//! What holds of two ends of a bearer in acknowledged mode (TS 25.322 11.3), whatever is offered, built, lost and delivered.
+//! What holds of two ends of a bearer in acknowledged mode (TS 25.322 11.3), whatever is offered, built, lost and delivered, and where no block is lost,
+//! and how many bytes of report a receiver leads to at most. Definitions and laws, no code.
 #![tactic(auto)]
 
+mod bound_laws;
 mod laws;
+mod lossless_laws;
 
+pub use bound_laws::told_law;
 pub use laws::in_order_law;
+pub use lossless_laws::lossless_law;

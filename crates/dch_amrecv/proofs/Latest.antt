@@ -1,8 +1,8 @@
 -- The last MRW of a status.
 use Rattle.std.proofs.Common.{◌≡◌, ◌<◌, ℕ, List, [], ◌∷◌, Option, Some, None, drop, length, slice_index_or, arith, refl, sym}
 use Rattle.dch_am.specs.Moves.{later_of, move_in}
-use Rattle.dch_status.specs.Fields.{Field, NoMoreField, WindowField, AckField, ListField, BitmapField, MrwField, MrwAckField}
-use Rattle.dch_status.specs.Sufis.{sufi_of}
+use Rattle.dch_rlcpdu.specs.Fields.{Field, NoMoreField, WindowField, AckField, ListField, BitmapField, MrwField, MrwAckField}
+use Rattle.dch_rlcpdu.specs.Sufis.{sufi_of}
 use Rattle.dch_amrecv.specs.Moves.{seen}
 
 -- what was found, unless there is a later one

@@ -5,20 +5,19 @@ use Rattle.std.proofs.lemmas.Bool.Decides.{nat_tests}
 use Rattle.dch_am.specs.Bodies.{Body}
 use Rattle.dch_am.specs.Numbers.{has, less, range, wrapped}
 use Rattle.dch_am.specs.Receiver.{Receiver, vr_h, vr_r, got}
-use Rattle.dch_am.specs.Status.{MrwAck, fields_of, missing, most, runs, runs_from, status_of, wrapped_pair}
+use Rattle.dch_am.specs.Status.{MrwAck, fields_of, missing, most, runs, runs_from, status_of, wrapped_pair, Told}
 use Rattle.dch_am.specs.Telling.{after_telling as after_told, due_of, is_due as is_told, plain_due as plain_told, telling, tells_now}
-use Rattle.dch_status.specs.Fields.{status_fields, mrw_status_fields}
-use Rattle.dch_amrecv.specs.Places.{is_kept, vacant}
-use Rattle.dch_amrecv.specs.Holding.{Holding, after_telling, fields_told, missing_runs, is_due, lsn_told, numbered, pairs_told, plain_due, some_ack}
+use Rattle.dch_rlcpdu.specs.Fields.{status_fields, mrw_status_fields}
 use Rattle.dch_am.specs.Rules.{rules_of}
-use Rattle.dch_amrecv.specs.Standing.{Stands, said, sent_ack}
 use Rattle.dch_am.specs.Texts.{IsHeard, IsTold, told_text}
-use Rattle.dch_amrecv.specs.Texts.{text_told}
-use Rattle.dch_am.specs.Status.{Told}
-use Rattle.dch_status.specs.Reading.{status_of as fields_in}
-use Rattle.dch_status.specs.Writing.{IsText, mrw_ack_text, status_text}
+use Rattle.dch_rlcpdu.specs.Reading.{status_of as fields_in}
+use Rattle.dch_rlcpdu.specs.Writing.{IsText, mrw_ack_text, status_text}
 use Rattle.dch_rlcpdu.specs.declared.am.AmView.TheVariants.{Status}
 use Rattle.dch_rlcpdu.proofs.AmPdus.{am_back, status_written}
+use Rattle.dch_amrecv.specs.Places.{is_kept, vacant}
+use Rattle.dch_amrecv.specs.Holding.{Holding, after_telling, fields_told, missing_runs, is_due, lsn_told, numbered, pairs_told, plain_due, some_ack}
+use Rattle.dch_amrecv.specs.Standing.{Stands, said, sent_ack}
+use Rattle.dch_amrecv.specs.Texts.{text_told}
 use Rattle.dch_amrecv.proofs.Events.{there}
 
 due_same : (o : Option MrwAck) (b : Bool) → (some_ack (sent_ack o) || b) ≡ due_of o b

@@ -5,7 +5,7 @@ use Rattle.dch_rlcpdu.specs.Indicators.{indicator_octets}
 use Rattle.dch_rlcpdu.specs.Parts.{Content}
 use Rattle.dch_rlcpdu.specs.declared.am.AmView.{AmView}
 use Rattle.dch_rlcpdu.specs.declared.am.AmView.TheVariants.{Payload}
-use Rattle.dch_status.specs.Fields.{Field}
+use Rattle.dch_rlcpdu.specs.Fields.{Field}
 
 length-indicator_octets : (ms : List ℕ) → length (indicator_octets ms) ≡ length ms
 length-indicator_octets [] = refl

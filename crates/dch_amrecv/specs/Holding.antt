@@ -8,7 +8,7 @@ use Rattle.dch_am.specs.declared.answers.MrwTaken.TheVariants.{Nothing, Obeyed, 
 use Rattle.dch_am.specs.Bodies.{Body}
 use Rattle.dch_am.specs.Numbers.{ahead}
 use Rattle.dch_am.specs.Status.{most, runs}
-use Rattle.dch_status.specs.Fields.{Field, mrw_ack_fields, mrw_status_fields, status_fields}
+use Rattle.dch_rlcpdu.specs.Fields.{Field, mrw_ack_fields, mrw_status_fields, status_fields}
 use Rattle.dch_amrecv.specs.Lines.{Kept, nothing, passed, run_on, with_body, handed}
 use Rattle.dch_amrecv.specs.Places.{front, is_kept, put, vacant}
 

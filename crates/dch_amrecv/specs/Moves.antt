@@ -1,7 +1,7 @@
 -- The fields of a status that a receiver looks at (TS 25.322 9.2.2.11).
 use Rattle.std.specs.Prelude.{ℕ, Option, Some}
-use Rattle.dch_status.specs.declared.sufi.Sufi.{Sufi}
-use Rattle.dch_status.specs.declared.sufi.Sufi.TheVariants.{NoMore, Window, Ack, List as Runs, Bitmap, Mrw, MrwAck}
+use Rattle.dch_rlcpdu.specs.declared.sufi.Sufi.{Sufi}
+use Rattle.dch_rlcpdu.specs.declared.sufi.Sufi.TheVariants.{NoMore, Window, Ack, List as Runs, Bitmap, Mrw, MrwAck}
 
 -- a field more is looked at
 abbrev pub seen : Option (ℕ × ℕ) → Sufi → Option (ℕ × ℕ)

@@ -5,7 +5,7 @@ use Rattle.dch_am.specs.Bodies.{Body, Reading}
 use Rattle.dch_am.specs.Numbers.{has, wrapped}
 use Rattle.dch_am.specs.Status.{MrwAck, Told, fields_of}
 use Rattle.dch_am.specs.Receiver.{Receiver, vr_h, body_of, vr_r, got}
-use Rattle.dch_status.specs.Fields.{Field}
+use Rattle.dch_rlcpdu.specs.Fields.{Field}
 use Rattle.dch_sar.specs.Taking.{Waiting}
 use Rattle.dch_amrecv.specs.Holding.{Holding}
 

@@ -1,6 +1,6 @@
 -- What a receiver tells, as the half octets of its control PDU (TS 25.322 9.2.1.5, 9.2.2.11).
 use Rattle.std.specs.Prelude.{◌-◌, ℕ, List, ◌++◌, Bool, true, false, Option, Some, None}
-use Rattle.dch_status.specs.Writing.{mrw_ack_text, status_text}
+use Rattle.dch_rlcpdu.specs.Writing.{mrw_ack_text, status_text}
 use Rattle.dch_amrecv.specs.Holding.{Holding, lsn_told, pairs_told}
 
 -- what is written where an MRW_ACK, or a status, is due

@@ -1,16 +1,15 @@
 ghost use Rattle.std.specs.Prelude.{◌≡◌, ◌+◌, ◌<◌, ◌≤◌, ◌==◌, [], IfOk, false, length};
 ghost use Rattle.dch_am.specs.Status.{runs};
-ghost use Rattle.dch_amrecv.specs.Lines.{handed, nothing, passed, run_on, with_body, with_kept};
 ghost use Rattle.dch_sar.specs.Taking.{handed_of, written};
 ghost use Rattle.dch_am.specs.Contents.{body_in};
+ghost use Rattle.dch_amrecv.specs.Lines.{handed, nothing, passed, run_on, with_body, with_kept};
 ghost use Rattle.dch_amrecv.specs.Places.{front, is_kept, laid, put, vacant};
 
 use crate::reading::{greater_trim, read, read_on, run_on};
 use crate::window::RxWindow;
 use dch_bits::NoMemory;
-use dch_rlcpdu::{Body, Handed};
+use dch_rlcpdu::{Body, Handed, SnRun};
 use dch_sar::Reassembler;
-use dch_status::SnRun;
 use std::alloc::Global;
 use std::marker::Model;
 

@@ -1,18 +1,19 @@
 ghost use Rattle.std.specs.Prelude.{◌≡◌, ◌+◌, ◌*◌, ◌%◌, ◌<◌, ◌≤◌, ◌==◌, [], ◌∷◌, All, IfOk, Some, length, take, true};
 ghost use Rattle.dch_sar.specs.Taking.{handed_of, written};
 ghost use Rattle.dch_am.specs.Contents.{body_in};
-ghost use Rattle.dch_amrecv.specs.Holding.{after_answer, after_move, after_telling, after_tick, after_unit, answer, fields_told, is_due, lsn_told, move_answer, opened, pairs_told, plain_due};
 ghost use Rattle.dch_am.specs.Status.{fits};
-ghost use Rattle.dch_status.specs.Reading.{status_of};
-ghost use Rattle.dch_status.specs.Writing.{IsText};
+ghost use Rattle.dch_rlcpdu.specs.Reading.{status_of};
+ghost use Rattle.dch_rlcpdu.specs.Writing.{IsText};
+ghost use Rattle.dch_amrecv.specs.Holding.{after_answer, after_move, after_telling, after_tick, after_unit, answer, fields_told, is_due, lsn_told, move_answer, opened, pairs_told, plain_due};
 ghost use Rattle.dch_amrecv.specs.Texts.{text_told};
 
 use crate::buffer::RxBuffer;
 use crate::telling::{most, number};
 use dch_am::{MrwTaken, Taken};
 use dch_bits::NoMemory;
-use dch_rlcpdu::{Body, Handed};
-use dch_status::{MrwPlace, NUMBERS, SnRun, write_ack, write_mrw_ack, write_mrw_status};
+use dch_rlcpdu::{
+    Body, Handed, MrwPlace, NUMBERS, SnRun, write_ack, write_mrw_ack, write_mrw_status,
+};
 use dch_types::AmRules;
 use std::alloc::Global;
 use std::marker::Model;

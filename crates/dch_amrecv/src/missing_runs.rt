@@ -5,7 +5,7 @@ ghost use Rattle.dch_amrecv.specs.Places.{front, laid, vacant};
 use crate::places::is_taken;
 use circular_buffer::HeapCircularBuffer;
 use dch_pool::Block;
-use dch_status::SnRun;
+use dch_rlcpdu::SnRun;
 
 /// The vacant places as runs of at most 16, of which as many are written as find room: the first place, and how many follow it.
 /// Answers how many runs there are. Places are counted from one on, which is vacant.

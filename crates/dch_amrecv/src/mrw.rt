@@ -1,9 +1,9 @@
 ghost use Rattle.std.specs.Prelude.{◌≡◌, ◌<◌, IfSome};
 ghost use Rattle.dch_am.specs.Moves.{move_in};
-ghost use Rattle.dch_status.specs.Sufis.{IsInRange};
+ghost use Rattle.dch_rlcpdu.specs.Sufis.{IsInRange};
 ghost use Rattle.dch_amrecv.specs.Moves.{seen};
 
-use dch_status::{MrwPlace, StatusView, Sufi};
+use dch_rlcpdu::{MrwPlace, StatusView, Sufi};
 
 /// Where the last MRW of a status moves the window.
 pub fn last_move(status: &StatusView<'_>) -> Option<MrwPlace>

@@ -6,18 +6,17 @@ ghost use Rattle.dch_am.specs.Receiver.{Receiver, after_pdu, opened_receiver, ta
 ghost use Rattle.dch_am.specs.Telling.{after_telling as after_told, is_due as is_told, tells_now, tick_receiver};
 ghost use Rattle.dch_am.specs.Contents.{body_in};
 ghost use Rattle.dch_sar.specs.Taking.{handed_of, written};
-ghost use Rattle.dch_status.specs.Reading.{status_of};
-ghost use Rattle.dch_amrecv.specs.Holding.{after_unit, is_due, is_settled, opened, with_mrw_ack, with_owed};
+ghost use Rattle.dch_rlcpdu.specs.Reading.{status_of};
 ghost use Rattle.dch_am.specs.Rules.{rules_of};
-ghost use Rattle.dch_amrecv.specs.Standing.{IsSame, Stands, given_after, said};
 ghost use Rattle.dch_am.specs.Texts.{IsHeard, IsTold};
+ghost use Rattle.dch_amrecv.specs.Holding.{after_unit, is_due, is_settled, opened, with_mrw_ack, with_owed};
+ghost use Rattle.dch_amrecv.specs.Standing.{IsSame, Stands, given_after, said};
 
 use crate::holder::Holder;
 use crate::mrw::last_move;
 use dch_am::{MrwTaken, Taken};
 use dch_bits::NoMemory;
-use dch_rlcpdu::{Body, Handed};
-use dch_status::StatusView;
+use dch_rlcpdu::{Body, Handed, StatusView};
 use dch_types::AmRules;
 use std::alloc::Global;
 use std::marker::Model;

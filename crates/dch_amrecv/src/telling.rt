@@ -2,7 +2,7 @@ ghost use Rattle.std.specs.Prelude.{◌≡◌, ◌+◌, ◌<◌, ◌≤◌, ◌+
 ghost use Rattle.dch_am.specs.Status.{fits, most};
 ghost use Rattle.dch_amrecv.specs.Holding.{numbered};
 
-use dch_status::{NUMBERS, SnRun};
+use dch_rlcpdu::{NUMBERS, SnRun};
 
 /// The greatest number of runs, at most all of these, that fit so many bits.
 pub fn most(bits: usize, runs: usize) -> usize

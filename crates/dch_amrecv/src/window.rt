@@ -10,8 +10,7 @@ use crate::stored::{store, stored};
 use circular_buffer::HeapCircularBuffer;
 use dch_bits::NoMemory;
 use dch_pool::{Block, Pool};
-use dch_rlcpdu::Body;
-use dch_status::SnRun;
+use dch_rlcpdu::{Body, SnRun};
 use std::alloc::Global;
 use std::marker::Model;
 

@@ -24,7 +24,7 @@ use Rattle.dch_am.proofs.Listing.{Alike, alike_answer, alike_place}
 use Rattle.dch_am.proofs.Reading.{cut_next, cut_unit}
 use Rattle.dch_am.proofs.Restarting.{cut_fresh, cut_full, full_drop}
 use Rattle.dch_rlcpdu.specs.Am.{am_pdu}
-use Rattle.dch_status.specs.Fields.{Field}
+use Rattle.dch_rlcpdu.specs.Fields.{Field}
 use Rattle.dch_retx.specs.declared.buffer.Pick.TheVariants.{Again, New, Last, NoPdu}
 use Rattle.dch_retx.specs.RetxBuffer.{RetxBuffer, discarding, number_at}
 use Rattle.dch_retx.specs.Polling.{again_line, again_poll, last_line, last_poll, new_line, new_poll, picked}
@@ -32,6 +32,7 @@ use Rattle.dch_retx.specs.Standing.{AreKept, IsAlike, IsInFlight, IsPolled, IsRe
 use Rattle.dch_retx.proofs.Keeping.{discarding_kept, resent_kept}
 use Rattle.dch_retx.proofs.Sending.{again_sends, last_sends, new_sends}
 use Rattle.dch_retx.proofs.Ticking.{discards_stand, number_is}
+use Rattle.dch_am.specs.Texts.{next_pdu, pdu_of_choice}
 use Rattle.dch_amsend.specs.BufferStanding.{HasBody, BufferStands, Takes, fills}
 use Rattle.dch_amsend.specs.DiscardStanding.{released}
 use Rattle.dch_amsend.specs.TxBuffer.{IsHere, TxBuffer, buffer_after_build, buffer_after_offer, ended_before, next_in_flight, released_by, unsent_of}
@@ -39,7 +40,6 @@ use Rattle.dch_amsend.proofs.Offering.{takes_more}
 use Rattle.dch_amsend.proofs.Placing.{IsWhole, here_is}
 use Rattle.dch_amsend.proofs.Extents.{IsFirst, IsLater, ended_few, ended_is, released_keeps, takes_later, takes_longer}
 use Rattle.dch_amsend.specs.Counting.{builds_of}
-use Rattle.dch_am.specs.Texts.{next_pdu, pdu_of_choice}
 use Rattle.dch_amsend.specs.Outgoing.{IsLast, IsOutgoing, IsRunning, Outgoing, available_of, first_in_flight, pdu_in, with_line}
 use Rattle.dch_amsend.proofs.Counting.{counts, no_more}
 

@@ -12,6 +12,12 @@ use Rattle.dch_am.specs.Discards.{after_moving, after_mrw, after_tick, can_take,
 use Rattle.dch_am.specs.Texts.{IsMoved, IsMrw}
 use Rattle.dch_am.specs.Rules.{Rules, rules_of}
 use Rattle.dch_am.specs.Sender.{Discard, Sender, after_offer, discarded, vt_a, vt_s, offered}
+use Rattle.dch_retx.specs.RetxBuffer.{RetxBuffer}
+use Rattle.dch_retx.specs.Standing.{Stands as LineStands, IsRunning, timed, timer_of}
+use Rattle.dch_retx.specs.Flights.{at}
+use Rattle.dch_am.specs.Cuts.{IsCut}
+use Rattle.dch_retx.specs.declared.buffer.Running.{Running}
+use Rattle.dch_rlcpdu.specs.Fields.{Field, NoMoreField, WindowField, AckField, ListField, BitmapField, MrwField, MrwAckField}
 use Rattle.dch_amsend.specs.SduDiscard.{SduDiscard}
 use Rattle.dch_amsend.specs.DiscardStanding.{AreReleased, DiscardStands, HasSameSdus, IsTicked, released}
 use Rattle.dch_amsend.proofs.Discards.{alike_stands, few_released}
@@ -19,14 +25,7 @@ use Rattle.dch_amsend.proofs.Events.{low_next}
 use Rattle.dch_amsend.proofs.Extents.{released_next}
 use Rattle.dch_amsend.specs.declared.scan.Overdue.{Overdue}
 use Rattle.dch_amsend.specs.Discarding.{discarded_by}
-use Rattle.dch_retx.specs.RetxBuffer.{RetxBuffer}
-use Rattle.dch_retx.specs.Standing.{Stands as LineStands}
 use Rattle.dch_amsend.specs.BufferStanding.{HasBody}
-use Rattle.dch_retx.specs.Flights.{at}
-use Rattle.dch_am.specs.Cuts.{IsCut}
-use Rattle.dch_retx.specs.Standing.{IsRunning, timed, timer_of}
-use Rattle.dch_retx.specs.declared.buffer.Running.{Running}
-use Rattle.dch_status.specs.Fields.{Field, NoMoreField, WindowField, AckField, ListField, BitmapField, MrwField, MrwAckField}
 use Rattle.dch_amsend.specs.Outgoing.{IsOutgoing, Outgoing}
 use Rattle.dch_amsend.specs.Standing.{Sending, Stands}
 

@@ -9,8 +9,8 @@ ghost use Rattle.dch_am.specs.Rules.{Rules, rules_of};
 ghost use Rattle.dch_am.specs.Sender.{Sender, after_offer, discarded, offered, opened_sender};
 ghost use Rattle.dch_am.specs.Short.{IsShort};
 ghost use Rattle.dch_am.specs.Texts.{IsMrw, next_pdu};
-ghost use Rattle.dch_amsend.specs.SduDiscard.{capped};
 ghost use Rattle.dch_retx.specs.Standing.{timed};
+ghost use Rattle.dch_amsend.specs.SduDiscard.{capped};
 ghost use Rattle.dch_amsend.specs.Outgoing.{available_of};
 ghost use Rattle.dch_amsend.specs.Standing.{IsSame, Stands, is_control_due, is_due, pdu_octets, room_in};
 
@@ -19,7 +19,7 @@ use crate::outgoing::Outgoing;
 use crate::pass::overdue;
 use dch_am::StatusTaken;
 use dch_bits::{NoMemory, Offer};
-use dch_status::StatusView;
+use dch_rlcpdu::StatusView;
 use dch_types::AmRules;
 use std::alloc::Global;
 use std::marker::Model;

@@ -1,11 +1,14 @@
-ghost use Rattle.dch_roundtrip.specs.Trips.{IsTripOf};
+ghost use Rattle.dch_bench.specs.Trips.{IsTripOf};
 
+use crate::downlink::DownlinkEnds;
+use crate::ends::Ends;
 use crate::fault::Fault;
+use crate::round_trip::RoundTrip;
+use crate::uplink::UplinkEnds;
 use crate::work::{Mode, Speed, Unit, nanos_of};
 use dch_accept::Accepted;
 use dch_bits::NoMemory;
-use dch_genaccept::accept_gen;
-use dch_roundtrip::{DownlinkEnds, Ends, RoundTrip, UplinkEnds};
+use dch_gen::accept_gen;
 use dch_types::Dir;
 use std::alloc::Global;
 use std::io;

@@ -2,16 +2,23 @@
 //! machine. With the word `measure` it repeats each piece, and prints how much of it is done in a second.
 #![tactic(auto)]
 
+mod carry;
 mod chance;
 mod coder;
+mod downlink;
+mod ends;
 mod fault;
 mod frames;
 mod generator;
+mod given;
 mod nearest;
 mod parity;
 mod rlc;
+mod round_trip;
 mod sum;
 mod tfci;
+mod trip_chance;
+mod uplink;
 mod work;
 
 use crate::coder::CodedBlocks;

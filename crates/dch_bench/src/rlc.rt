@@ -1,10 +1,10 @@
 ghost use Rattle.std.specs.Prelude.{◌≡◌, ◌≤◌, length};
-ghost use Rattle.dch_amentity.specs.Standing.{AreSizes, size_in, size_of};
+ghost use Rattle.dch_pair.specs.EntityStanding.{AreSizes, size_in, size_of};
 
 use crate::sum::Sum;
 use crate::work::{Unit, Work};
-use dch_amentity::AmEntity;
 use dch_bits::NoMemory;
+use dch_pair::AmEntity;
 use dch_rlcpdu::{Handed, read_am};
 use dch_types::AmRules;
 use std::alloc::Global;

@@ -12,3 +12,13 @@ pub mod Visits
 pub mod Whole
 pub mod Uncounted
 pub mod Under
+pub mod Flags
+pub mod Punctured
+pub mod Removed
+pub mod SentSizes
+pub mod Chains
+pub mod Filling
+pub mod Following
+pub mod SequenceOrder
+pub mod SequenceVisits
+pub mod Ways

@@ -1,6 +1,6 @@
 -- Legal sequences as numbers, which rise from each one to the next.
 use Rattle.std.proofs.Common.{◌≡◌, ◌<◌, ◌≤◌, ◌+◌, ◌-◌, ◌*◌, ℕ, zero, suc, List, [], ◌∷◌, length, get_or, refl, ap, ◌∙◌, arith}
-use Rattle.dch_legal.specs.Sequences.{IsBefore}
+use Rattle.dch_collision.specs.Sequences.{IsBefore}
 
 -- 128 to the power of a length
 pub power : List ℕ → ℕ

@@ -9,11 +9,11 @@ use Rattle.dch_types.specs.Limits.{IsDownlink, IsSide, IsUplink}
 use Rattle.dch_types.specs.Parts.{channel_at}
 use Rattle.dch_types.specs.Sums.{total}
 use Rattle.dch_types.proofs.Sums.{part_le}
-use Rattle.dch_legal.specs.Counted.{how_many, is_legal, legal_count}
-use Rattle.dch_legal.specs.Sequences.{IsLegal}
-use Rattle.dch_legal.proofs.Ways.{tells_legal}
-use Rattle.dch_puncture.specs.Copies.{downlink_copies, uplink_copies}
-use Rattle.dch_puncture.specs.Counted.{blocks_in, downlink_count, downlink_punctures, in_channel, over_formats, search_count, uplink_count, uplink_punctures}
+use Rattle.dch_collision.specs.LegalCounted.{how_many, is_legal, legal_count}
+use Rattle.dch_collision.specs.Sequences.{IsLegal}
+use Rattle.dch_collision.proofs.Ways.{tells_legal}
+use Rattle.dch_collision.specs.Copies.{downlink_copies, uplink_copies}
+use Rattle.dch_collision.specs.Counted.{blocks_in, downlink_count, downlink_punctures, in_channel, over_formats, search_count, uplink_count, uplink_punctures}
 use Rattle.dch_collision.specs.Clear.{IsClear, IsClearFormat}
 use Rattle.dch_collision.proofs.Under.{clear_channel}
 use Rattle.dch_collision.proofs.Unpunctured.{downlink_whole, uplink_whole}

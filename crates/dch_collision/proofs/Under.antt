@@ -13,7 +13,7 @@ use Rattle.dch_types.specs.Parts.{channel_at}
 use Rattle.dch_segment.specs.declared.cut.Plan.{Plan}
 use Rattle.dch_collision.specs.Collisions.{copies_kept}
 use Rattle.dch_collision.proofs.Collide.{sent-one, one-sent}
-use Rattle.dch_puncture.specs.Copies.{AreSentFlags}
+use Rattle.dch_collision.specs.Copies.{AreSentFlags}
 use Rattle.dch_collision.specs.declared.found.Found.{Found}
 use Rattle.dch_collision.specs.declared.found.FormatCollision.{FormatCollision}
 use Rattle.dch_collision.specs.declared.shape.Shape.{Shape}

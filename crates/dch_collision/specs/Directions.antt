@@ -2,8 +2,8 @@
 use Rattle.dch_types.specs.declared.channel.Side.{Side}
 use Rattle.dch_types.specs.Limits.{IsDownlink, IsUplink}
 use Rattle.dch_match.specs.Downlinks.{IsDownlinkPlan}
-use Rattle.dch_puncture.specs.Copies.{downlink_copies, uplink_copies}
-use Rattle.dch_puncture.specs.Plans.{AreAllPlans}
+use Rattle.dch_collision.specs.Copies.{downlink_copies, uplink_copies}
+use Rattle.dch_collision.specs.Plans.{AreAllPlans}
 use Rattle.dch_collision.specs.declared.direction.Direction.{Direction}
 use Rattle.dch_collision.specs.declared.direction.Direction.TheVariants.{Up, Down}
 use Rattle.dch_collision.specs.Clear.{Copies}

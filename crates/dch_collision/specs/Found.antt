@@ -6,7 +6,7 @@ use Rattle.dch_types.specs.declared.channel.Side.{Side}
 use Rattle.dch_types.specs.Parts.{channel_at}
 use Rattle.dch_segment.specs.declared.cut.Plan.{Plan}
 use Rattle.dch_segment.specs.Segments.{plan_of, filler_of}
-use Rattle.dch_legal.specs.Sequences.{IsLegal, IsBefore}
+use Rattle.dch_collision.specs.Sequences.{IsLegal, IsBefore}
 use Rattle.dch_collision.specs.Collisions.{IsFirstCollision}
 use Rattle.dch_collision.specs.declared.found.Found.{Found}
 use Rattle.dch_collision.specs.Clear.{block_copies, joined_in, Copies, IsClearBlock, IsClearUnder, IsClearFormat, IsClearChannel, IsClearSide}

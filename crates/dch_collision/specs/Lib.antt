@@ -4,3 +4,10 @@ pub mod Directions
 pub mod Found
 pub mod Hidden
 pub mod Shapes
+pub mod Copies
+pub mod Counted
+pub mod Plans
+pub mod Removed
+pub mod LegalCounted
+pub mod Sequences
+pub mod Steps

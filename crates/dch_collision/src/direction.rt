@@ -2,7 +2,7 @@ ghost use Rattle.std.specs.Prelude.{◌≡◌, ◌<◌, None, length, IfSome};
 ghost use Rattle.dch_types.specs.Limits.{IsSide};
 ghost use Rattle.dch_types.specs.Parts.{channel_at, format_at};
 ghost use Rattle.dch_coding.specs.Rooms.{Holds, format_room};
-ghost use Rattle.dch_legal.specs.Sequences.{frames_of};
+ghost use Rattle.dch_collision.specs.Sequences.{frames_of};
 ghost use Rattle.dch_collision.specs.Clear.{IsClearFormat};
 ghost use Rattle.dch_collision.specs.Directions.{IsPlanned, copies_in, side_in};
 ghost use Rattle.dch_collision.specs.Shapes.{IsCollisionInFormat};

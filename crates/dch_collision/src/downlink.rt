@@ -4,20 +4,21 @@ ghost use Rattle.dch_types.specs.Limits.{IsDownlink};
 ghost use Rattle.dch_types.specs.Parts.{channel_at, format_at};
 ghost use Rattle.dch_coding.specs.Rooms.{Holds, format_room};
 ghost use Rattle.dch_match.specs.Downlinks.{IsDownlinkPlan};
-ghost use Rattle.dch_legal.specs.Sequences.{frames_of};
-ghost use Rattle.dch_puncture.specs.Copies.{downlink_copies, AreSentFlags};
+ghost use Rattle.dch_collision.specs.Sequences.{frames_of};
+ghost use Rattle.dch_collision.specs.Copies.{downlink_copies, AreSentFlags};
 ghost use Rattle.dch_collision.specs.Clear.{IsClearUnder, IsClearFormat};
 ghost use Rattle.dch_collision.specs.Shapes.{IsFirstUnder, IsCollisionInFormat, IsShape};
 
 use crate::blocks::first_collision;
 use crate::collider::Collider;
+use crate::flagging::downlink_sent_flags;
 use crate::found::{FormatCollision, format_collision};
+use crate::legal_sequences::first;
+use crate::puncturing::downlink_punctures;
 use crate::search::Room;
 use crate::shape::{Shape, shape_of};
 use dch_bits::Bit;
-use dch_legal::first;
 use dch_match::DownlinkPlan;
-use dch_puncture::{downlink_punctures, downlink_sent_flags};
 use dch_types::Downlink;
 
 /// The first collision in a format: under its first legal sequence, since the others remove the same bits.

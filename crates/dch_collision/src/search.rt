@@ -1,6 +1,6 @@
 ghost use Rattle.std.specs.Prelude.{◌≡◌, ◌<◌, ◌≤◌, None, length, IfOk, IfSome};
 ghost use Rattle.dch_coding.specs.Rooms.{HoldsSide};
-ghost use Rattle.dch_legal.specs.Sequences.{frames_of};
+ghost use Rattle.dch_collision.specs.Sequences.{frames_of};
 ghost use Rattle.dch_collision.specs.Clear.{IsClearChannel};
 ghost use Rattle.dch_collision.specs.Directions.{IsPlanned, copies_in, side_in};
 ghost use Rattle.dch_collision.specs.Found.{Finds};

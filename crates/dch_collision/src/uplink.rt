@@ -2,20 +2,21 @@ ghost use Rattle.std.specs.Prelude.{◌≡◌, ◌<◌, ◌≤◌, None, length,
 ghost use Rattle.dch_types.specs.Limits.{IsUplink};
 ghost use Rattle.dch_types.specs.Parts.{channel_at, format_at};
 ghost use Rattle.dch_coding.specs.Rooms.{Holds, format_room};
-ghost use Rattle.dch_legal.specs.Sequences.{frames_of, IsLegal};
-ghost use Rattle.dch_puncture.specs.Plans.{AreAllPlans};
-ghost use Rattle.dch_puncture.specs.Copies.{uplink_copies, AreSentFlags};
+ghost use Rattle.dch_collision.specs.Sequences.{frames_of, IsLegal};
+ghost use Rattle.dch_collision.specs.Plans.{AreAllPlans};
+ghost use Rattle.dch_collision.specs.Copies.{uplink_copies, AreSentFlags};
 ghost use Rattle.dch_collision.specs.Clear.{IsClearUnder, IsClearFormat};
 ghost use Rattle.dch_collision.specs.Shapes.{Fits, IsFirstUnder, IsCollisionInFormat, IsShape};
 
 use crate::blocks::first_collision;
+use crate::flagging::uplink_sent_flags;
 use crate::found::{FormatCollision, format_collision};
+use crate::legal_sequences::{first, next};
+use crate::puncturing::uplink_punctures;
 use crate::search::Room;
 use crate::shape::{Shape, shape_of};
 use dch_bits::Bit;
-use dch_legal::{first, next};
 use dch_match::UplinkPlan;
-use dch_puncture::{uplink_punctures, uplink_sent_flags};
 use dch_types::Uplink;
 
 /// The first collision in a format: under each legal sequence, if some of them removes bits.

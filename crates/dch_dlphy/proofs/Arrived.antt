@@ -23,9 +23,9 @@ use Rattle.dch_frame.specs.Stages.{as_cell, code_back, origin_of}
 use Rattle.dch_frame.proofs.Carried.{place_inside, rows_of, whole_rows}
 use Rattle.dch_frame.proofs.Codes.{code_back-inside, code_place-back}
 use Rattle.dch_accept.specs.Plans.{Planned}
-use Rattle.dch_rxframes.specs.RxFrames.{IsReaderOf, RxFrame, RxFrames, frame_at, tti_place}
-use Rattle.dch_ttibuf.specs.Loaded.{Loaded, loaded_at}
-use Rattle.dch_rxframes.proofs.Sent.{sent_number}
+use Rattle.dch_tti.specs.RxFrames.{IsReaderOf, RxFrame, RxFrames, frame_at, tti_place}
+use Rattle.dch_tti.specs.Loaded.{Loaded, loaded_at}
+use Rattle.dch_tti.proofs.Sent.{sent_number}
 use Rattle.dch_dlphy.specs.Frames.{multiplexed, multiplexed_cell, bits_before, bits_per_frame, sent_cell}
 use Rattle.dch_dlphy.specs.Loaded.{filled_cell, matching_of, tti_cells}
 use Rattle.dch_dlphy.specs.Read.{received_cell, tti_cell, tti_pattern}

@@ -11,11 +11,11 @@ use Rattle.dch_types.specs.Parts.{channel_at, format_number}
 use Rattle.dch_match.specs.declared.pattern.Pattern.{Pattern}
 use Rattle.dch_match.specs.Downlinks.{IsDownlinkPlan}
 use Rattle.dch_match.specs.Patterns.{copies}
-use Rattle.dch_legal.specs.Sequences.{IsLegal}
+use Rattle.dch_collision.specs.Sequences.{IsLegal}
 use Rattle.dch_collision.specs.Clear.{HasNoCollision, IsClear, joined_in}
 use Rattle.dch_accept.specs.Plans.{Planned}
-use Rattle.dch_rxframes.specs.RxFrames.{IsReaderOf, RxFrames, tti_place}
-use Rattle.dch_rxframes.proofs.Sent.{sent_number}
+use Rattle.dch_tti.specs.RxFrames.{IsReaderOf, RxFrames, tti_place}
+use Rattle.dch_tti.proofs.Sent.{sent_number}
 use Rattle.dch_dlphy.specs.Frames.{multiplexed}
 use Rattle.dch_dlphy.specs.Read.{tti_pattern}
 use Rattle.dch_dlphy.specs.Sent.{IsSentTti}

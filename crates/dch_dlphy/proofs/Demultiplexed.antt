@@ -7,7 +7,7 @@ use Rattle.dch_bits.specs.declared.bit.Trit.TheVariants.{Off}
 use Rattle.dch_match.specs.declared.pattern.Pattern.{Pattern}
 use Rattle.dch_match.specs.Patterns.{copies_below}
 use Rattle.dch_accept.specs.Plans.{Planned}
-use Rattle.dch_rxframes.specs.RxFrames.{RxFrames}
+use Rattle.dch_tti.specs.RxFrames.{RxFrames}
 use Rattle.dch_dlphy.specs.Loaded.{tti_cells}
 use Rattle.dch_dlphy.specs.Read.{AreKeptCells, tti_cell, tti_pattern}
 

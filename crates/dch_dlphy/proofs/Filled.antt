@@ -14,7 +14,7 @@ use Rattle.dch_match.specs.Patterns.{copies_below}
 use Rattle.dch_frame.specs.Stages.{as_cell, origin_of}
 use Rattle.dch_frame.proofs.Kept.{origin_of-inside}
 use Rattle.dch_inter.specs.Places.{first_of}
-use Rattle.dch_ttibuf.specs.Loaded.{AreInterleaved}
+use Rattle.dch_tti.specs.Loaded.{AreInterleaved}
 use Rattle.dch_dlphy.specs.Loaded.{AreFilled, filled_cell}
 
 -- a place that rate matching keeps shows its bit

@@ -13,9 +13,9 @@ use Rattle.dch_accept.specs.declared.room.TtiRoom.{TtiRoom}
 use Rattle.dch_accept.specs.Plans.{Planned}
 use Rattle.dch_accept.specs.Rooms.{tti_room}
 use Rattle.dch_accept.proofs.Rooms.{holds_coding, holds_tti, places_held}
-use Rattle.dch_rxframes.specs.Read.{coded_in}
-use Rattle.dch_rxframes.specs.RxFrames.{IsReaderOf, RxFrames}
-use Rattle.dch_ttibuf.specs.Loaded.{AreWithin, Loaded, loaded_at}
+use Rattle.dch_tti.specs.Read.{coded_in}
+use Rattle.dch_tti.specs.RxFrames.{IsReaderOf, RxFrames}
+use Rattle.dch_tti.specs.Loaded.{AreWithin, Loaded, loaded_at}
 use Rattle.dch_dlphy.specs.Loaded.{IsTtiOf, matching_of, tti_cells}
 
 -- a TTI of a channel in a format fits into its buffer, and into memory for so many coded bits and cells

@@ -6,8 +6,8 @@ use Rattle.dch_bits.specs.declared.bit.Trit.TheVariants.{Off}
 use Rattle.dch_types.specs.declared.channel.Dir.TheVariants.{Down}
 use Rattle.dch_accept.specs.Frames.{Frame}
 use Rattle.dch_accept.specs.Plans.{Planned}
-use Rattle.dch_ttibuf.specs.Frames.{multiplexed_place}
-use Rattle.dch_ttibuf.specs.Loaded.{Loaded, frame_number, loaded_at}
+use Rattle.dch_tti.specs.Frames.{multiplexed_place}
+use Rattle.dch_tti.specs.Loaded.{Loaded, frame_number, loaded_at}
 use Rattle.dch_dlphy.specs.Frames.{IsFrame, bits_before, bits_per_frame, multiplexed_cell, sent_cell}
 
 sent_same : (planned : Planned) (xs ys : List Loaded) (cfn c i q : ℕ) → loaded_at xs i ≡ loaded_at ys i → sent_cell planned xs cfn c i q ≡ sent_cell planned ys cfn c i q

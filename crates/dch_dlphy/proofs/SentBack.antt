@@ -14,8 +14,8 @@ use Rattle.dch_frame.specs.Stages.{as_cell, origin_of}
 use Rattle.dch_frame.proofs.Counts.{votes_of-shown}
 use Rattle.dch_accept.specs.Plans.{Planned}
 use Rattle.dch_collision.specs.Clear.{IsClear}
-use Rattle.dch_rxframes.specs.Read.{AreVotesOf, coded_in}
-use Rattle.dch_rxframes.specs.RxFrames.{IsReaderOf, RxFrames}
+use Rattle.dch_tti.specs.Read.{AreVotesOf, coded_in}
+use Rattle.dch_tti.specs.RxFrames.{IsReaderOf, RxFrames}
 use Rattle.dch_dlphy.specs.Loaded.{tti_cells}
 use Rattle.dch_dlphy.specs.Read.{AreVotes, tti_pattern}
 use Rattle.dch_dlphy.specs.Sent.{IsSentTti}

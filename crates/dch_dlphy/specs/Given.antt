@@ -1,7 +1,7 @@
 -- Where blocks were sent, all radio frames of their TTI give the channel the format of the blocks.
 use Rattle.dch_types.specs.declared.channel.Dir.TheVariants.{Down}
-use Rattle.dch_rxframes.specs.Outcomes.{GivesItsFormat}
-use Rattle.dch_rxframes.proofs.Sent.{sent_formats}
+use Rattle.dch_tti.specs.Outcomes.{GivesItsFormat}
+use Rattle.dch_tti.proofs.Sent.{sent_formats}
 use Rattle.dch_dlphy.specs.Frames.{multiplexed}
 use Rattle.dch_dlphy.specs.Sent.{WasSent}
 

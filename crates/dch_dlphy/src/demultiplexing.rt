@@ -4,8 +4,8 @@ ghost use Rattle.dch_types.specs.declared.channel.Dir.TheVariants.{Down};
 ghost use Rattle.dch_types.specs.Parts.{channel_at};
 ghost use Rattle.dch_inter.specs.Places.{frame_of, place_of};
 ghost use Rattle.dch_types.specs.Lengths.{frame_bits};
-ghost use Rattle.dch_rxframes.specs.Formats.{IsFormatOf};
-ghost use Rattle.dch_rxframes.specs.RxFrames.{IsKeptOf, IsReaderOf};
+ghost use Rattle.dch_tti.specs.Formats.{IsFormatOf};
+ghost use Rattle.dch_tti.specs.RxFrames.{IsKeptOf, IsReaderOf};
 ghost use Rattle.dch_dlphy.specs.Frames.{bits_before, bits_per_frame};
 ghost use Rattle.dch_dlphy.specs.Loaded.{matching_of};
 ghost use Rattle.dch_dlphy.specs.Read.{received_cell, tti_cell};
@@ -14,7 +14,7 @@ use crate::parts::bits_in_frame;
 use dch_accept::Accepted;
 use dch_bits::Trit;
 use dch_frame::put_segment;
-use dch_rxframes::{ReceivedFrame, ReceivedFrames};
+use dch_tti::{ReceivedFrame, ReceivedFrames};
 use dch_types::Dir;
 
 /// Puts what the radio frames of a channel's TTI carried of it to its places before the first interleaver.

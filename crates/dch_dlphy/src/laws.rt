@@ -3,8 +3,8 @@ ghost use Rattle.dch_bits.specs.declared.bit.Bit.{Bit};
 ghost use Rattle.dch_types.specs.Limits.{IsSide};
 ghost use Rattle.dch_accept.specs.Blocks.{Held};
 ghost use Rattle.dch_accept.specs.Plans.{Planned};
-ghost use Rattle.dch_rxframes.specs.RxFrames.{RxFrames};
-ghost use Rattle.dch_ttibuf.specs.Loaded.{Loaded};
+ghost use Rattle.dch_tti.specs.RxFrames.{RxFrames};
+ghost use Rattle.dch_tti.specs.Loaded.{Loaded};
 ghost use Rattle.dch_dlphy.specs.Loaded.{IsLoaded};
 ghost use Rattle.dch_dlphy.specs.Read.{IsTtiRead};
 

@@ -4,7 +4,7 @@ use dch_accept::{Accepted, TtiRoom};
 use dch_bits::{NoMemory, Trit, Vote};
 use dch_frame::count_votes;
 use dch_match::kept;
-use dch_rxframes::{CountVotes, ReceivedFrames, TtiReader};
+use dch_tti::{CountVotes, ReceivedFrames, TtiReader};
 use dch_types::Dir;
 use std::alloc::Global;
 

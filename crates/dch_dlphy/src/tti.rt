@@ -5,7 +5,7 @@ ghost use Rattle.dch_types.specs.Parts.{channel_at, format_at};
 ghost use Rattle.dch_match.specs.Patterns.{IsWellFormed, copies_below};
 ghost use Rattle.dch_coding.specs.Ttis.{IsCodedTti};
 ghost use Rattle.dch_accept.specs.Blocks.{bits_of};
-ghost use Rattle.dch_ttibuf.specs.Loaded.{loaded_at};
+ghost use Rattle.dch_tti.specs.Loaded.{loaded_at};
 ghost use Rattle.dch_dlphy.specs.Loaded.{IsLoaded, IsMatched, IsTtiOf};
 
 use crate::fill::fill_front;
@@ -14,7 +14,7 @@ use dch_accept::Accepted;
 use dch_bits::{Bit, NoMemory, Trit};
 use dch_coding::TtiCoder;
 use dch_match::Pattern;
-use dch_ttibuf::{TtiBuffer, tti_buffers};
+use dch_tti::{TtiBuffer, tti_buffers};
 use dch_types::{Dir, Format, Trch};
 use std::alloc::Global;
 use std::marker::Model;
@@ -132,7 +132,7 @@ impl Drop for DlTti {
 
 impl Model for DlTti {
     ghost use Rattle.std.specs.Prelude.{List, length};
-    ghost use Rattle.dch_ttibuf.specs.Loaded.{AreWithin, Loaded};
+    ghost use Rattle.dch_tti.specs.Loaded.{AreWithin, Loaded};
 
     ghost Value = { List Loaded };
 

@@ -2,7 +2,7 @@ ghost use Rattle.std.specs.Prelude.{◌≡◌, ◌<◌, ◌≤◌, ◌+◌, ◌*
 ghost use Rattle.dch_bits.specs.declared.bit.Trit.TheVariants.{Off};
 ghost use Rattle.dch_types.specs.declared.channel.Dir.TheVariants.{Down};
 ghost use Rattle.dch_accept.specs.Frames.{IsOpenedFor};
-ghost use Rattle.dch_ttibuf.specs.Loaded.{AreFormats};
+ghost use Rattle.dch_tti.specs.Loaded.{AreFormats};
 ghost use Rattle.dch_dlphy.specs.Loaded.{IsTtiOf};
 ghost use Rattle.dch_dlphy.specs.Frames.{IsFrame, bits_per_frame, sent_cell};
 
@@ -11,7 +11,7 @@ use crate::parts::bits_in_frame;
 use crate::tti::DlTti;
 use dch_accept::{Accepted, PhyFrame};
 use dch_bits::Trit;
-use dch_ttibuf::{MultiplexFrame, TtiBuffer, write_frame};
+use dch_tti::{MultiplexFrame, TtiBuffer, write_frame};
 use dch_types::Dir;
 
 /// Writes the radio frame of a CFN in a combination: its TFCI, and of each channel the radio frame of its TTI that is on

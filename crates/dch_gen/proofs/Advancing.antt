@@ -15,9 +15,9 @@ use Rattle.dch_link.specs.Stages.{AtStage}
 use Rattle.dch_link.specs.Standing.{IsLinkOf, Represents}
 use Rattle.dch_link.specs.declared.stage.Stage.{Stage}
 use Rattle.dch_link.specs.declared.stage.Stage.TheVariants.{RncTick, IubDown, RadioDown, UeTick, RadioUp, IubUp}
-use Rattle.dch_summary.specs.Counting.{AreCountsOf}
-use Rattle.dch_summary.proofs.Counted.{room_less}
-use Rattle.dch_summary.specs.declared.counts.Counts.{Counts}
+use Rattle.dch_gen.specs.Counting.{AreCountsOf}
+use Rattle.dch_gen.proofs.Counted.{room_less}
+use Rattle.dch_gen.specs.declared.counts.Counts.{Counts}
 use Rattle.dch_gen.specs.Run.{Follows, HappenAll, PassFrames, PassFrom, PassesAll, PassesFrame}
 use Rattle.dch_gen.specs.Standing.{Advances, HasPassed, IsReady, MayCount, Parts, stage_bytes}
 

@@ -6,8 +6,8 @@ use Rattle.dch_script.specs.Lines.{lines_of}
 use Rattle.dch_node.specs.Lines.{Line, text_of}
 use Rattle.dch_link.specs.Link.{LinkState}
 use Rattle.dch_link.specs.Standing.{IsLinkOf, LeadsTo, Represents}
-use Rattle.dch_summary.specs.Counting.{AreCountsOf, HasRoom}
-use Rattle.dch_summary.proofs.Counted.{room_less}
+use Rattle.dch_gen.specs.Counting.{AreCountsOf, HasRoom}
+use Rattle.dch_gen.proofs.Counted.{room_less}
 use Rattle.dch_gen.specs.Standing.{Advances, HasBearers, IsReady, Parts, stage_bytes}
 
 pub stepped : (Does : LinkState → LinkState → List Line → Type 0) (old new : Parts) (reported : Held) (text : List ℕ) → text ≡ reported.text → IsReady old → ((began : Planned) (first : ℕ) (link : LinkState) → Represents began old.accepted first link old.link → LeadsTo began old.accepted first (Does link) new.link old.step reported)

@@ -2,3 +2,23 @@ pub mod Run
 pub mod Sizes
 pub mod Standing
 pub mod Units
+pub mod Channels
+pub mod Combinations
+pub mod Bearers
+pub mod Configuration
+pub mod Refused
+pub mod GenRuns
+pub mod Counts
+pub mod Counting
+pub mod LineWords
+pub mod Summary
+pub use Rattle.dch_link.specs.SoftValues
+pub use Rattle.dch_link.specs.SoftEvents
+pub use Rattle.dch_link.specs.Legs as LinkLegs
+pub use Rattle.dch_link.specs.SoftPassing
+pub use Rattle.dch_link.specs.Soft as LinkSoft
+pub use Rattle.dch_link.specs.SoftStages
+pub use Rattle.dch_link.specs.declared.soft_stage
+pub use Rattle.dch_link.specs.Standing as LinkStanding
+pub use Rattle.dch_link.specs.SoftStanding as LinkSoftStanding
+pub use Rattle.dch_link.specs.Link as LinkLink

@@ -10,8 +10,8 @@ use Rattle.dch_node.specs.Lines.{Line, text_of}
 use Rattle.dch_link.specs.Link.{LinkState, opened_link}
 use Rattle.dch_link.specs.Standing.{IsLinkOf, Represents, SendsTo}
 use Rattle.dch_link.specs.Values.{Nodes}
-use Rattle.dch_summary.specs.Counting.{AreCountsOf, HasRoom}
-use Rattle.dch_summary.specs.declared.counts.Counts.{Counts}
+use Rattle.dch_gen.specs.Counting.{AreCountsOf, HasRoom}
+use Rattle.dch_gen.specs.declared.counts.Counts.{Counts}
 use Rattle.dch_gen.specs.Run.{PassFrames}
 
 -- the configuration, the nodes, room for the text of a step, and what was counted

@@ -7,22 +7,19 @@ ghost use Rattle.dch_link.specs.Link.{LinkState, opened_link};
 ghost use Rattle.dch_link.specs.Passing.{IsStage};
 ghost use Rattle.dch_link.specs.Stages.{AtStage};
 ghost use Rattle.dch_link.specs.Standing.{HaveHistories, MayCome, Represents, event_of};
-ghost use Rattle.dch_summary.specs.Summary.{summary};
+ghost use Rattle.dch_gen.specs.Summary.{summary};
 ghost use Rattle.dch_gen.specs.Run.{HappenAll, PassesAll, PassesFrame, Runs};
 ghost use Rattle.dch_gen.specs.Standing.{Advances, HasBearers, HasPassed, IsReady, MayCount};
 ghost use Rattle.dch_gen.specs.Units.{offered_below, offers};
 ghost use Rattle.dch_gen.specs.Sizes.{size_of};
 
+use crate::counts::{BEARERS, Counts};
 use crate::units::{MOST_BITS, MOST_OCTETS, UnitSize, fill_bits, fill_octets, unit_size};
 use dch_accept::Accepted;
 use dch_bits::{Bit, NoMemory};
-use dch_link::{CHECKS, Link, LinkEvent, Stage};
-use dch_nodeb::NodeB;
-use dch_rnc::Rnc;
+use dch_link::{CHECKS, Link, LinkEvent, NodeB, Rnc, Stage, Ue};
 use dch_script::Report;
-use dch_summary::{BEARERS, Counts};
 use dch_types::Dir;
-use dch_ue::Ue;
 use std::alloc::Global;
 use std::marker::Model;
 

@@ -13,10 +13,10 @@ use Rattle.dch_rlcpdu.specs.declared.handed.PduError.{PduError}
 use Rattle.dch_rlcpdu.specs.declared.um.UmView.{UmView}
 use Rattle.dch_rlctm.specs.Waiting.{Waiting, after_offer, answer_of}
 use Rattle.dch_rlcum.specs.Receiving.{Receiving}
-use Rattle.dch_layer.specs.Bearings.{Acknowledged, Bearing, Sends, Transparent, Unacknowledged, after_answer, answers, bearer_in, channel_of, opened_bearing, opened_mode, sizes_on, ticked}
-use Rattle.dch_layer.specs.Building.{Builds, Gives}
-use Rattle.dch_layer.specs.Hearing.{hears, hears_um}
-use Rattle.dch_layer.specs.Octets.{octets_of}
+use Rattle.dch_layer2.specs.Bearings.{Acknowledged, Bearing, Sends, Transparent, Unacknowledged, after_answer, answers, bearer_in, channel_of, opened_bearing, opened_mode, sizes_on, ticked}
+use Rattle.dch_layer2.specs.Building.{Builds, Gives}
+use Rattle.dch_layer2.specs.Hearing.{hears, hears_um}
+use Rattle.dch_layer2.specs.Octets.{octets_of}
 use Rattle.dch_layer2.specs.Sharing.{HasBits, HaveBits}
 
 have_more : (us : List (List Bit)) (u : List Bit) → HaveBits us → 0 < length u → HaveBits (us ++ u ∷ [])

@@ -21,14 +21,14 @@ use Rattle.dch_select.specs.declared.head.Head.{Head}
 use Rattle.dch_select.specs.Asked.{Asked, format_in, starts}
 use Rattle.dch_select.specs.Candidates.{IsCandidate, IsServed, StartsIdle}
 use Rattle.dch_select.specs.Offered.{ahead, given, head_at, offered, waiting}
-use Rattle.dch_layer.specs.Bearings.{Acknowledged, Bearing, Transparent, Unacknowledged, channel_of, head_of}
-use Rattle.dch_layer.specs.Building.{Gives}
-use Rattle.dch_layer.specs.Starting.{blocks_for, in_turn, is_on, joined}
-use Rattle.dch_layer.proofs.Good.{am_fits, um_fits}
-use Rattle.dch_bound.proofs.Blocks.{side_good}
-use Rattle.dch_bearer.specs.Standing.{Represents as StandsFor}
-use Rattle.dch_bearer.specs.declared.bearer.Bearer.{Bearer}
-use Rattle.dch_bearer.specs.declared.bearer.Bearer.TheVariants.{Tm, Um, Am}
+use Rattle.dch_layer2.specs.Bearings.{Acknowledged, Bearing, Transparent, Unacknowledged, channel_of, head_of}
+use Rattle.dch_layer2.specs.Building.{Gives}
+use Rattle.dch_layer2.specs.Starting.{blocks_for, in_turn, is_on, joined}
+use Rattle.dch_layer2.proofs.Good.{am_fits, um_fits}
+use Rattle.dch_layer2.proofs.BoundBlocks.{side_good}
+use Rattle.dch_layer2.specs.BearerStanding.{Represents as StandsFor}
+use Rattle.dch_layer2.specs.declared.bearer.Bearer.{Bearer}
+use Rattle.dch_layer2.specs.declared.bearer.Bearer.TheVariants.{Tm, Um, Am}
 use Rattle.dch_layer2.specs.Sharing.{AreAllServed, AreReady, HasBits, HaveBits, IsShared, Moment, asked_by, built_on, front, head_in}
 use Rattle.dch_layer2.specs.Started.{IsChannelStarted}
 use Rattle.dch_layer2.specs.Values.{entity_at}

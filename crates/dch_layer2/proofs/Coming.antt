@@ -11,15 +11,15 @@ use Rattle.dch_mac.specs.declared.answer.Demux.{Demux}
 use Rattle.dch_mac.specs.declared.answer.Demux.TheVariants.{To}
 use Rattle.dch_mac.specs.Field.{field_bits}
 use Rattle.dch_mac.specs.Receivers.{receiver}
-use Rattle.dch_layer.specs.Bearings.{Bearing, Transparent, Unacknowledged, Acknowledged, block_bits, pdu_octets}
-use Rattle.dch_layer.specs.Layers.{Layer, Outcome, goes, takes_good}
-use Rattle.dch_layer.proofs.Good.{AreFilled, am_fits, no_field, um_fits}
-use Rattle.dch_bearer.specs.Reports.{HasRoomFor}
-use Rattle.dch_bearer.specs.Standing.{CanTake, MayCome, Represents as StandsFor}
-use Rattle.dch_bearer.specs.declared.bearer.Bearer.{Bearer}
-use Rattle.dch_bearer.specs.declared.bearer.Bearer.TheVariants.{Tm, Um, Am}
-use Rattle.dch_bound.proofs.Blocks.{IsReached, one_long, sent_size}
 use Rattle.dch_script.specs.Held.{Held as Text}
+use Rattle.dch_layer2.specs.Bearings.{Bearing, Transparent, Unacknowledged, Acknowledged, block_bits, pdu_octets}
+use Rattle.dch_layer2.specs.Layers.{Layer, Outcome, goes, takes_good}
+use Rattle.dch_layer2.proofs.Good.{AreFilled, am_fits, no_field, um_fits}
+use Rattle.dch_layer2.specs.Reports.{HasRoomFor}
+use Rattle.dch_layer2.specs.BearerStanding.{CanTake, MayCome, Represents as StandsFor}
+use Rattle.dch_layer2.specs.declared.bearer.Bearer.{Bearer}
+use Rattle.dch_layer2.specs.declared.bearer.Bearer.TheVariants.{Tm, Um, Am}
+use Rattle.dch_layer2.proofs.BoundBlocks.{IsReached, one_long, sent_size}
 use Rattle.dch_layer2.specs.Coming.{HasRoomForBlock, HasRoomToPass, IsBlockSize}
 use Rattle.dch_layer2.specs.Values.{LayerRunning, entity_at}
 

@@ -13,9 +13,9 @@ use Rattle.dch_accept.specs.BlockLending.{with_block}
 use Rattle.dch_accept.specs.Frames.{overwritten}
 use Rattle.dch_accept.proofs.Overwritten.{part_shown}
 use Rattle.dch_select.specs.declared.head.Head.{Head}
-use Rattle.dch_layer.specs.Bearings.{Bearing, head_of}
-use Rattle.dch_bearer.specs.Standing.{Built, CanBuild, Represents as StandsFor}
-use Rattle.dch_bearer.specs.declared.bearer.Bearer.{Bearer}
+use Rattle.dch_layer2.specs.Bearings.{Bearing, head_of}
+use Rattle.dch_layer2.specs.BearerStanding.{Built, CanBuild, Represents as StandsFor}
+use Rattle.dch_layer2.specs.declared.bearer.Bearer.{Bearer}
 use Rattle.dch_layer2.specs.Sharing.{Fills, IsSameShape, Offers, front, share}
 use Rattle.dch_layer2.proofs.Serving.{HasMore}
 use Rattle.dch_layer2.proofs.Offers.{gives_has, gives_join, gives_one}

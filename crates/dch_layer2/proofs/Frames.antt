@@ -14,12 +14,12 @@ use Rattle.dch_select.specs.declared.head.Head.{Head}
 use Rattle.dch_select.specs.Asked.{Asked, asked_of, format_in, starts}
 use Rattle.dch_select.specs.Best.{IsBest}
 use Rattle.dch_select.specs.Offered.{given}
-use Rattle.dch_layer.specs.Bearings.{channel_of, head_of}
-use Rattle.dch_layer.specs.Building.{Gives}
-use Rattle.dch_layer.specs.Layers.{Given, Layer}
-use Rattle.dch_layer.specs.Starting.{asked_in, count_on, given_now, heads_of}
-use Rattle.dch_layer.proofs.Good.{there}
-use Rattle.dch_bearer.specs.declared.bearer.Bearer.{Bearer}
+use Rattle.dch_layer2.specs.Bearings.{channel_of, head_of}
+use Rattle.dch_layer2.specs.Building.{Gives}
+use Rattle.dch_layer2.specs.Layers.{Given, Layer}
+use Rattle.dch_layer2.specs.Starting.{asked_in, count_on, given_now, heads_of}
+use Rattle.dch_layer2.proofs.Good.{there}
+use Rattle.dch_layer2.specs.declared.bearer.Bearer.{Bearer}
 use Rattle.dch_layer2.specs.Opening.{IsGiven}
 use Rattle.dch_layer2.specs.Sharing.{AreHeads, IsMoment, Moment, asked_by, head_in}
 use Rattle.dch_layer2.specs.Standing.{HasStarted, IsLayerOf, Represents}

@@ -7,8 +7,8 @@ use Rattle.dch_types.specs.declared.config.Config.{Config}
 use Rattle.dch_types.specs.Parts.{side_of}
 use Rattle.dch_config.specs.Changes.{KeepsBearer}
 use Rattle.dch_accept.specs.Blocks.{Held}
-use Rattle.dch_layer.specs.Layers.{Layer, changed_layer}
-use Rattle.dch_bearer.specs.declared.bearer.Bearer.{Bearer}
+use Rattle.dch_layer2.specs.Layers.{Layer, changed_layer}
+use Rattle.dch_layer2.specs.declared.bearer.Bearer.{Bearer}
 use Rattle.dch_layer2.specs.Changing.{AllGoOn, CanAllGoOn, CanGoOn, IsNextLayer}
 use Rattle.dch_layer2.specs.Standing.{Represents}
 use Rattle.dch_layer2.specs.Values.{LayerRunning, NextLayer}

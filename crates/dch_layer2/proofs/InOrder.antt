@@ -7,10 +7,10 @@ use Rattle.dch_types.specs.declared.channel.Dir.{Dir}
 use Rattle.dch_types.specs.declared.config.Config.{Config}
 use Rattle.dch_script.specs.Held.{Held as Text}
 use Rattle.dch_accept.specs.Blocks.{Held, block_at}
-use Rattle.dch_layer.specs.Layers.{Came, Layer, Outcome, takes, takes_one}
 use Rattle.dch_node.specs.Lines.{Line}
-use Rattle.dch_bearer.specs.Reports.{HasRoomFor, added}
-use Rattle.dch_bearer.proofs.Lines.{added-added, room_first, room_next}
+use Rattle.dch_layer2.specs.Layers.{Came, Layer, Outcome, takes, takes_one}
+use Rattle.dch_layer2.specs.Reports.{HasRoomFor, added}
+use Rattle.dch_layer2.proofs.Lines.{added-added, room_first, room_next}
 use Rattle.dch_layer2.specs.Coming.{AreTaken, HasRoomForOne, HasRoomForTti, came_at, came_below}
 use Rattle.dch_layer2.specs.Standing.{IsSameEnd, Represents}
 use Rattle.dch_layer2.specs.Values.{LayerRunning}

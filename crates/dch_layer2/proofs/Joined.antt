@@ -13,7 +13,7 @@ use Rattle.dch_types.specs.declared.config.Config.{Config}
 use Rattle.dch_types.specs.Parts.{channel_at, side_of}
 use Rattle.dch_accept.specs.Blocks.{Held, block_at}
 use Rattle.dch_accept.specs.HeldSets.{HasFormat, held_at}
-use Rattle.dch_layer.specs.Layers.{Given, Layer}
+use Rattle.dch_layer2.specs.Layers.{Given, Layer}
 use Rattle.dch_layer2.specs.Joined.{CarriesGiven, joined_bits}
 use Rattle.dch_layer2.specs.Opening.{IsGiven, blocks_in}
 use Rattle.dch_layer2.specs.Standing.{IsLayerOf, Represents}

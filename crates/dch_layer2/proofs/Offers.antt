@@ -18,8 +18,8 @@ use Rattle.dch_am.specs.Rules.{Rules}
 use Rattle.dch_am.specs.Sender.{Discard, Sender}
 use Rattle.dch_am.specs.Telling.{after_telling, is_due}
 use Rattle.dch_am.proofs.Turns.{turn_moves, turn_sends, turn_tells}
-use Rattle.dch_layer.specs.Bearings.{Acknowledged, Bearing, Transparent, Unacknowledged, head_of, pdu_octets, rules_in}
-use Rattle.dch_layer.specs.Building.{Builds, Gives}
+use Rattle.dch_layer2.specs.Bearings.{Acknowledged, Bearing, Transparent, Unacknowledged, head_of, pdu_octets, rules_in}
+use Rattle.dch_layer2.specs.Building.{Builds, Gives}
 use Rattle.dch_layer2.proofs.Serving.{HasMore}
 
 -- the acknowledged mode: what is told, and what moves the window, is due no more

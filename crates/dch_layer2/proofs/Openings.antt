@@ -13,9 +13,9 @@ use Rattle.dch_types.specs.declared.config.Config.{Config}
 use Rattle.dch_types.specs.Limits.{IsChannel, idle_format, is_idle}
 use Rattle.dch_types.specs.Parts.{channel_at, format_at, side_of}
 use Rattle.dch_accept.specs.Blocks.{Held, HoldsTtis, bits_of, block_at, zero_blocks}
-use Rattle.dch_layer.specs.Bearings.{opened_bearing}
-use Rattle.dch_bearer.specs.Standing.{Represents as StandsFor}
-use Rattle.dch_bearer.specs.declared.bearer.Bearer.{Bearer}
+use Rattle.dch_layer2.specs.Bearings.{opened_bearing}
+use Rattle.dch_layer2.specs.BearerStanding.{Represents as StandsFor}
+use Rattle.dch_layer2.specs.declared.bearer.Bearer.{Bearer}
 use Rattle.dch_layer2.specs.Opening.{AreOpened, IsIdle, blocks_in}
 use Rattle.dch_layer2.specs.Values.{entity_at}
 

@@ -13,14 +13,14 @@ use Rattle.dch_accept.specs.HeldSets.{HasFormat}
 use Rattle.dch_accept.specs.Reports.{step_bytes}
 use Rattle.dch_script.specs.Held.{Held as Text}
 use Rattle.dch_node.specs.Lines.{BadTti, Line, text_of}
-use Rattle.dch_layer.specs.Layers.{Came, Layer, Outcome, takes}
-use Rattle.dch_bearer.specs.Reports.{added}
-use Rattle.dch_bearer.proofs.Lines.{added-added}
-use Rattle.dch_bound.specs.Bounded.{AreBounded}
-use Rattle.dch_bound.specs.Coming.{AreBlocks, IsBlock}
-use Rattle.dch_bound.proofs.Blocks.{side_good}
-use Rattle.dch_bound.proofs.Layers.{IsTaken, all_taken, layer_few, none_told, of_both, of_more, short_told}
-use Rattle.dch_bound.proofs.Texts.{text_long}
+use Rattle.dch_layer2.specs.Layers.{Came, Layer, Outcome, takes}
+use Rattle.dch_layer2.specs.Reports.{added}
+use Rattle.dch_layer2.proofs.Lines.{added-added}
+use Rattle.dch_layer2.specs.BoundedBytes.{AreBounded}
+use Rattle.dch_layer2.specs.ComingBytes.{AreBlocks, IsBlock}
+use Rattle.dch_layer2.proofs.BoundBlocks.{side_good}
+use Rattle.dch_layer2.proofs.Layers.{IsTaken, all_taken, layer_few, none_told, of_both, of_more, short_told}
+use Rattle.dch_layer2.proofs.Texts.{text_long}
 use Rattle.dch_layer2.specs.Bounded.{HasLayer, HasRead, IsTti}
 use Rattle.dch_layer2.specs.Coming.{HasRoomForTti, came_at, came_below, came_of}
 use Rattle.dch_layer2.specs.Reading.{Bad, Nothing, Read, Reading, reads, reads_below}

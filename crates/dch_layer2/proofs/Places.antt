@@ -4,10 +4,10 @@ use Rattle.std.specs.Prelude.{◌==◌}
 use Rattle.dch_bits.specs.declared.bit.Bit.{Bit}
 use Rattle.dch_types.specs.declared.channel.Dir.{Dir}
 use Rattle.dch_types.specs.declared.config.Config.{Config}
-use Rattle.dch_layer.specs.Bearings.{Bearing, after_answer, answers}
-use Rattle.dch_layer.specs.Layers.{Layer, with_bearing}
-use Rattle.dch_bearer.specs.Standing.{CanSend, Represents as StandsFor}
-use Rattle.dch_bearer.specs.declared.bearer.Bearer.{Bearer}
+use Rattle.dch_layer2.specs.Bearings.{Bearing, after_answer, answers}
+use Rattle.dch_layer2.specs.Layers.{Layer, with_bearing}
+use Rattle.dch_layer2.specs.BearerStanding.{CanSend, Represents as StandsFor}
+use Rattle.dch_layer2.specs.declared.bearer.Bearer.{Bearer}
 use Rattle.dch_layer2.specs.Sharing.{HasBits}
 use Rattle.dch_layer2.specs.Standing.{CanOffer, Represents}
 use Rattle.dch_layer2.specs.Values.{LayerRunning, entity_at}

@@ -7,9 +7,9 @@ use Rattle.dch_accept.specs.Blocks.{Held}
 use Rattle.dch_select.specs.declared.head.Head.{Head}
 use Rattle.dch_select.specs.Asked.{Asked, priority_of}
 use Rattle.dch_select.specs.Offered.{given, offered}
-use Rattle.dch_layer.specs.Bearings.{Bearing}
-use Rattle.dch_layer.specs.Starting.{in_turn, is_on, of_priority}
-use Rattle.dch_bearer.specs.declared.bearer.Bearer.{Bearer}
+use Rattle.dch_layer2.specs.Bearings.{Bearing}
+use Rattle.dch_layer2.specs.Starting.{in_turn, is_on, of_priority}
+use Rattle.dch_layer2.specs.declared.bearer.Bearer.{Bearer}
 use Rattle.dch_layer2.specs.Sharing.{AreStanding, IsSameShape, IsShared, Moment, asked_by}
 
 -- so many blocks of a size are offered

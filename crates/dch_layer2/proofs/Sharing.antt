@@ -14,11 +14,11 @@ use Rattle.dch_tree.specs.Bearers.{bearer_at}
 use Rattle.dch_config.specs.Bearers.{channel_number, names}
 use Rattle.dch_select.specs.Asked.{priority_of}
 use Rattle.dch_select.specs.Offered.{given}
-use Rattle.dch_layer.specs.Bearings.{Bearing}
-use Rattle.dch_layer.specs.Building.{Gives}
-use Rattle.dch_layer.specs.Starting.{in_turn, is_on, joined, of_priority}
-use Rattle.dch_bearer.specs.Standing.{Represents as StandsFor}
-use Rattle.dch_bearer.specs.declared.bearer.Bearer.{Bearer}
+use Rattle.dch_layer2.specs.Bearings.{Bearing}
+use Rattle.dch_layer2.specs.Building.{Gives}
+use Rattle.dch_layer2.specs.Starting.{in_turn, is_on, joined, of_priority}
+use Rattle.dch_layer2.specs.BearerStanding.{Represents as StandsFor}
+use Rattle.dch_layer2.specs.declared.bearer.Bearer.{Bearer}
 use Rattle.dch_layer2.specs.Sharing.{AreAllServed, CanShare, Fills, IsSameShape, IsShared, Moment, Offers, asked_by, built_on, front, head_in, share}
 use Rattle.dch_layer2.specs.Values.{entity_at}
 use Rattle.dch_layer2.proofs.Serving.{AreServed, before, built_to, turns_to}

@@ -10,11 +10,11 @@ use Rattle.dch_accept.specs.Blocks.{Held}
 use Rattle.dch_accept.specs.HeldSets.{held_at}
 use Rattle.dch_select.specs.Asked.{Asked, format_in, starts}
 use Rattle.dch_select.specs.Offered.{given}
-use Rattle.dch_layer.specs.Bearings.{Bearing, channel_of, head_of}
-use Rattle.dch_layer.specs.Building.{Gives}
-use Rattle.dch_layer.specs.Layers.{Given}
-use Rattle.dch_layer.specs.Starting.{is_on}
-use Rattle.dch_bearer.specs.declared.bearer.Bearer.{Bearer}
+use Rattle.dch_layer2.specs.Bearings.{Bearing, channel_of, head_of}
+use Rattle.dch_layer2.specs.Building.{Gives}
+use Rattle.dch_layer2.specs.Layers.{Given}
+use Rattle.dch_layer2.specs.Starting.{is_on}
+use Rattle.dch_layer2.specs.declared.bearer.Bearer.{Bearer}
 use Rattle.dch_layer2.specs.Opening.{IsGiven}
 use Rattle.dch_layer2.specs.Sharing.{AreReady, CanShare, Moment, asked_by, built_on}
 use Rattle.dch_layer2.specs.Started.{CanStart, HaveStarted, IsAfter, IsBefore, IsChannelStarted, count_to, given_by, given_to, is_started}

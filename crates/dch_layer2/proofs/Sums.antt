@@ -8,7 +8,7 @@ use Rattle.dch_types.specs.Sums.{total}
 use Rattle.dch_types.proofs.Sums.{total_same}
 use Rattle.dch_select.specs.Asked.{Asked, priority_of}
 use Rattle.dch_select.specs.Offered.{ahead, given, head_at, offered, waiting}
-use Rattle.dch_layer.specs.Starting.{is_on}
+use Rattle.dch_layer2.specs.Starting.{is_on}
 use Rattle.dch_layer2.specs.Sharing.{share}
 use Rattle.dch_layer2.proofs.Serving.{before, served}
 

@@ -5,9 +5,9 @@ use Rattle.dch_types.specs.declared.config.Config.{Config}
 use Rattle.dch_types.specs.Parts.{channel_at, side_of}
 use Rattle.dch_accept.specs.HeldSets.{HasFormat}
 use Rattle.dch_script.specs.Held.{Held as Text}
-use Rattle.dch_layer.specs.Layers.{Layer}
-use Rattle.dch_bearer.specs.Reports.{added}
-use Rattle.dch_bound.specs.Bounded.{AreBounded}
+use Rattle.dch_layer2.specs.Layers.{Layer}
+use Rattle.dch_layer2.specs.Reports.{added}
+use Rattle.dch_layer2.specs.BoundedBytes.{AreBounded}
 use Rattle.dch_layer2.specs.Reading.{Bad, Nothing, Read, Reading, reads_below}
 use Rattle.dch_layer2.specs.Standing.{IsSameEnd, Represents}
 use Rattle.dch_layer2.specs.Values.{LayerRunning}

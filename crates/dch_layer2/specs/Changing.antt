@@ -4,10 +4,10 @@ use Rattle.dch_types.specs.declared.channel.Dir.{Dir}
 use Rattle.dch_types.specs.declared.config.Config.{Config}
 use Rattle.dch_types.specs.Parts.{side_of}
 use Rattle.dch_config.specs.Changes.{KeepsBearer}
-use Rattle.dch_layer.specs.Bearings.{Bearing}
-use Rattle.dch_layer.specs.Layers.{Layer}
-use Rattle.dch_bearer.specs.Standing.{CanGoOn as CanGoOnAlone, Represents as StandsFor}
-use Rattle.dch_bearer.specs.declared.bearer.Bearer.{Bearer}
+use Rattle.dch_layer2.specs.Bearings.{Bearing}
+use Rattle.dch_layer2.specs.Layers.{Layer}
+use Rattle.dch_layer2.specs.BearerStanding.{CanGoOn as CanGoOnAlone, Represents as StandsFor}
+use Rattle.dch_layer2.specs.declared.bearer.Bearer.{Bearer}
 use Rattle.dch_layer2.specs.Opening.{AreIdle}
 use Rattle.dch_layer2.specs.Standing.{Represents}
 use Rattle.dch_layer2.specs.Values.{LayerRunning, NextLayer, entity_at}

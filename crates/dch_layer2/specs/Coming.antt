@@ -7,8 +7,8 @@ use Rattle.dch_types.specs.Parts.{channel_at, format_at, side_of}
 use Rattle.dch_accept.specs.Blocks.{Held, block_at}
 use Rattle.dch_mac.specs.declared.answer.Demux.{Demux}
 use Rattle.dch_script.specs.Held.{Held as Text}
-use Rattle.dch_layer.specs.Layers.{Came, Layer, goes, takes, takes_good, takes_one}
-use Rattle.dch_bearer.specs.Reports.{HasRoomFor, added}
+use Rattle.dch_layer2.specs.Layers.{Came, Layer, goes, takes, takes_good, takes_one}
+use Rattle.dch_layer2.specs.Reports.{HasRoomFor, added}
 use Rattle.dch_layer2.specs.Standing.{IsSameEnd, Represents}
 use Rattle.dch_layer2.specs.Values.{LayerRunning}
 

@@ -2,7 +2,7 @@
 use Rattle.std.specs.Prelude.{◌≡◌, ◌++◌, List, [], ◌∷◌}
 use Rattle.dch_bits.specs.declared.bit.Bit.{Bit}
 use Rattle.dch_accept.specs.Blocks.{Held}
-use Rattle.dch_layer.specs.Layers.{Given}
+use Rattle.dch_layer2.specs.Layers.{Given}
 
 -- the bits of blocks, one after another
 abbrev pub joined_bits : List (List Bit) → List Bit

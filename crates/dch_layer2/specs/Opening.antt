@@ -8,10 +8,10 @@ use Rattle.dch_types.specs.Limits.{idle_format}
 use Rattle.dch_types.specs.Parts.{channel_at, side_of}
 use Rattle.dch_accept.specs.Blocks.{Held, HoldsTtis, block_at}
 use Rattle.dch_accept.specs.HeldSets.{HasFormat, held_at}
-use Rattle.dch_layer.specs.Bearings.{opened_bearing}
-use Rattle.dch_layer.specs.Layers.{Given}
-use Rattle.dch_bearer.specs.Standing.{Represents as StandsFor}
-use Rattle.dch_bearer.specs.declared.bearer.Bearer.{Bearer}
+use Rattle.dch_layer2.specs.Bearings.{opened_bearing}
+use Rattle.dch_layer2.specs.Layers.{Given}
+use Rattle.dch_layer2.specs.BearerStanding.{Represents as StandsFor}
+use Rattle.dch_layer2.specs.declared.bearer.Bearer.{Bearer}
 use Rattle.dch_layer2.specs.Values.{entity_at}
 
 -- the first bearers are as they are opened

@@ -4,7 +4,7 @@ use Rattle.dch_types.specs.declared.channel.Dir.{Dir}
 use Rattle.dch_types.specs.declared.config.Config.{Config}
 use Rattle.dch_accept.specs.Blocks.{Held}
 use Rattle.dch_node.specs.Lines.{BadTti}
-use Rattle.dch_layer.specs.Layers.{Layer, Outcome, takes}
+use Rattle.dch_layer2.specs.Layers.{Layer, Outcome, takes}
 use Rattle.dch_layer2.specs.Coming.{came_of}
 
 -- of a channel nothing is read, the blocks of its TTI, or that one of its radio frames is bad

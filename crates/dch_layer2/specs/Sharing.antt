@@ -9,11 +9,11 @@ use Rattle.dch_accept.specs.Blocks.{Held, block_at}
 use Rattle.dch_select.specs.declared.head.Head.{Head}
 use Rattle.dch_select.specs.Asked.{Asked, asked_of}
 use Rattle.dch_select.specs.Offered.{given, waiting}
-use Rattle.dch_layer.specs.Bearings.{Acknowledged, Bearing, Transparent, Unacknowledged, head_of}
-use Rattle.dch_layer.specs.Building.{Gives}
-use Rattle.dch_layer.specs.Starting.{in_turn, is_on, joined}
-use Rattle.dch_bearer.specs.Standing.{Represents as StandsFor}
-use Rattle.dch_bearer.specs.declared.bearer.Bearer.{Bearer}
+use Rattle.dch_layer2.specs.Bearings.{Acknowledged, Bearing, Transparent, Unacknowledged, head_of}
+use Rattle.dch_layer2.specs.Building.{Gives}
+use Rattle.dch_layer2.specs.Starting.{in_turn, is_on, joined}
+use Rattle.dch_layer2.specs.BearerStanding.{Represents as StandsFor}
+use Rattle.dch_layer2.specs.declared.bearer.Bearer.{Bearer}
 use Rattle.dch_layer2.specs.Values.{entity_at}
 
 -- a radio frame at which TTIs start, with what the bearers offer

@@ -4,11 +4,11 @@ use Rattle.dch_types.specs.declared.channel.Dir.{Dir}
 use Rattle.dch_types.specs.declared.config.Config.{Config}
 use Rattle.dch_types.specs.Parts.{side_of}
 use Rattle.dch_accept.specs.HeldSets.{held_at}
-use Rattle.dch_layer.specs.Bearings.{Bearing, channel_of, ticked}
-use Rattle.dch_layer.specs.Layers.{Layer, opened_layer}
-use Rattle.dch_layer.specs.Starting.{IsStart}
-use Rattle.dch_bearer.specs.Standing.{Represents as StandsFor}
-use Rattle.dch_bearer.specs.declared.bearer.Bearer.{Bearer}
+use Rattle.dch_layer2.specs.Bearings.{Bearing, channel_of, ticked}
+use Rattle.dch_layer2.specs.Layers.{Layer, opened_layer}
+use Rattle.dch_layer2.specs.Starting.{IsStart}
+use Rattle.dch_layer2.specs.BearerStanding.{Represents as StandsFor}
+use Rattle.dch_layer2.specs.declared.bearer.Bearer.{Bearer}
 use Rattle.dch_layer2.specs.Opening.{IsGiven}
 use Rattle.dch_layer2.specs.Sharing.{HasBits}
 use Rattle.dch_layer2.specs.Values.{LayerRunning, entity_at}

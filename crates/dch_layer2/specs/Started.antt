@@ -7,12 +7,12 @@ use Rattle.dch_accept.specs.Blocks.{Held}
 use Rattle.dch_accept.specs.HeldSets.{held_at}
 use Rattle.dch_select.specs.Asked.{Asked, format_in, starts}
 use Rattle.dch_select.specs.Offered.{given}
-use Rattle.dch_layer.specs.Bearings.{Bearing, channel_of, head_of}
-use Rattle.dch_layer.specs.Building.{Gives}
-use Rattle.dch_layer.specs.Layers.{Given}
-use Rattle.dch_layer.specs.Starting.{blocks_for}
-use Rattle.dch_bearer.specs.Standing.{Represents as StandsFor}
-use Rattle.dch_bearer.specs.declared.bearer.Bearer.{Bearer}
+use Rattle.dch_layer2.specs.Bearings.{Bearing, channel_of, head_of}
+use Rattle.dch_layer2.specs.Building.{Gives}
+use Rattle.dch_layer2.specs.Layers.{Given}
+use Rattle.dch_layer2.specs.Starting.{blocks_for}
+use Rattle.dch_layer2.specs.BearerStanding.{Represents as StandsFor}
+use Rattle.dch_layer2.specs.declared.bearer.Bearer.{Bearer}
 use Rattle.dch_layer2.specs.Opening.{IsGiven}
 use Rattle.dch_layer2.specs.Sharing.{AreStanding, HasBits, Moment, asked_by, built_on, head_in}
 use Rattle.dch_layer2.specs.Values.{entity_at}

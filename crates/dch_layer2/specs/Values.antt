@@ -4,8 +4,8 @@ use Rattle.dch_types.specs.declared.channel.Dir.{Dir}
 use Rattle.dch_types.specs.declared.channel.Dir.TheVariants.{Up}
 use Rattle.dch_accept.specs.Blocks.{Held}
 use Rattle.dch_select.specs.declared.head.Head.{Head}
-use Rattle.dch_bearer.specs.declared.bearer.Bearer.{Bearer}
-use Rattle.dch_bearer.specs.declared.bearer.Bearer.TheVariants.{Tm}
+use Rattle.dch_layer2.specs.declared.bearer.Bearer.{Bearer}
+use Rattle.dch_layer2.specs.declared.bearer.Bearer.TheVariants.{Tm}
 
 -- the directions in which it sends and receives, its bearers, which combinations are blocked, the one that runs, the blocks of the
 -- running TTIs, and room for what each bearer offers and for a unit

@@ -1,9 +1,9 @@
 ghost use Rattle.std.specs.Prelude.{IfOk};
 ghost use Rattle.dch_layer2.specs.Changing.{AllGoOn, CanAllGoOn, IsNextLayer};
 
+use crate::bearer::Bearer;
 use crate::opening::open_given;
 use dch_accept::{Accepted, TtiBlocks};
-use dch_bearer::Bearer;
 use dch_bits::NoMemory;
 use dch_types::Dir;
 use std::alloc::Global;

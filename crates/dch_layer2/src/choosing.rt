@@ -4,11 +4,11 @@ ghost use Rattle.dch_config.specs.Bearers.{channel_number, names};
 ghost use Rattle.dch_config.specs.Good.{IsGood};
 ghost use Rattle.dch_select.specs.Asked.{priority_of, starts};
 ghost use Rattle.dch_select.specs.Best.{IsBest};
-ghost use Rattle.dch_layer.specs.Starting.{is_on};
+ghost use Rattle.dch_layer2.specs.Starting.{is_on};
 ghost use Rattle.dch_layer2.specs.Sharing.{AreHeads, asked_by, head_in};
 
+use crate::bearer::Bearer;
 use dch_accept::Accepted;
-use dch_bearer::Bearer;
 use dch_select::{Head, choose};
 use dch_types::{Config, Dir, starts};
 use std::marker::Model;

@@ -3,8 +3,8 @@ ghost use Rattle.dch_types.specs.Limits.{IsChannel, idle_format, is_idle};
 ghost use Rattle.dch_types.specs.Parts.{side_of};
 ghost use Rattle.dch_layer2.specs.Opening.{AreIdle, AreOpened, IsIdle};
 
+use crate::bearer::Bearer;
 use dch_accept::{Accepted, TtiBlocks};
-use dch_bearer::Bearer;
 use dch_bits::NoMemory;
 use dch_select::Head;
 use dch_types::{Dir, Format, Trch};

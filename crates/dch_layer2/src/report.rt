@@ -1,6 +1,6 @@
 ghost use Rattle.std.specs.Prelude.{◌≡◌, [], ◌∷◌};
 ghost use Rattle.dch_node.specs.Lines.{Bad, NoBearer, Nobody, Reserved};
-ghost use Rattle.dch_bearer.specs.Reports.{HasRoomFor, added};
+ghost use Rattle.dch_layer2.specs.Reports.{HasRoomFor, added};
 
 use dch_script::{Line, Report};
 use dch_types::Dir;

@@ -5,14 +5,14 @@ ghost use Rattle.dch_types.specs.Parts.{side_of};
 ghost use Rattle.dch_accept.specs.Blocks.{HoldsTtis};
 ghost use Rattle.dch_select.specs.Asked.{starts};
 ghost use Rattle.dch_select.specs.Candidates.{IsCandidate};
-ghost use Rattle.dch_layer.specs.Bearings.{Bearing};
-ghost use Rattle.dch_bearer.specs.Standing.{Represents as StandsFor};
+ghost use Rattle.dch_layer2.specs.Bearings.{Bearing};
+ghost use Rattle.dch_layer2.specs.BearerStanding.{Represents as StandsFor};
 ghost use Rattle.dch_layer2.specs.Sharing.{AreAllServed, AreReady, CanShare, Fills, Offers, asked_by, share};
 ghost use Rattle.dch_layer2.specs.Started.{CanStart, HaveStarted, IsChannelStarted};
 
+use crate::bearer::Bearer;
 use crate::choosing::Moment;
 use dch_accept::TtiBlocks;
-use dch_bearer::Bearer;
 use dch_select::Head;
 use dch_types::Format;
 

@@ -12,8 +12,8 @@ use Rattle.dch_types.specs.declared.config.Config.{Config}
 use Rattle.dch_tree.specs.Bearers.{bearer_at, same_channel, shares}
 use Rattle.dch_config.specs.Bearers.{channel_number, has_ct, names}
 use Rattle.dch_config.specs.Good.{IsBearer, IsGood, IsSharing}
-use Rattle.dch_layer.specs.Bearings.{bearer_in, channel_of}
-use Rattle.dch_layer.proofs.Good.{am_fits, field_named, there, um_fits}
+use Rattle.dch_layer2.specs.Bearings.{bearer_in, channel_of}
+use Rattle.dch_layer2.proofs.Good.{am_fits, field_named, there, um_fits}
 use Rattle.dch_layerlaw.specs.History.{AreApart, IsAmBearer}
 use Rattle.dch_layerlaw.specs.TmHistory.{IsTmBearer}
 use Rattle.dch_layerlaw.specs.UmHistory.{IsUmBearer}

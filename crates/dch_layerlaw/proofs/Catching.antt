@@ -14,15 +14,15 @@ use Rattle.dch_am.specs.Acknowledging.{status_answer}
 use Rattle.dch_rlcpdu.specs.declared.am.AmView.{AmView}
 use Rattle.dch_rlcpdu.specs.declared.handed.PduError.{PduError}
 use Rattle.dch_rlcpdu.specs.Am.{am_reading}
-use Rattle.dch_layer.specs.Hearing.{receiver_of, sender_of, lines_by}
+use Rattle.dch_layer2.specs.Hearing.{receiver_of, sender_of, lines_by}
 use Rattle.dch_amlaw.specs.Pair.{Arrive, At, Block, End, IsSafe, Lose, Mrw, Near, Pair, Payload, Report, after, answers_outside, is_beyond, is_refused, takes}
 use Rattle.dch_amlaw.proofs.Heard.{told_still}
-use Rattle.dch_amentity.specs.Answers.{is_unknown}
-use Rattle.dch_amwhole.specs.Lossless.{NoneLost}
+use Rattle.dch_pair.specs.Answers.{is_unknown}
+use Rattle.dch_amlaw.specs.Lossless.{NoneLost}
 use Rattle.dch_pair.proofs.Lines.{IsWire}
 use Rattle.dch_node.specs.Lines.{Outside}
-use Rattle.dch_layer.specs.UnitLines.{line_if, unit_lines}
-use Rattle.dch_layer.specs.Octets.{octets_of}
+use Rattle.dch_layer2.specs.UnitLines.{line_if, unit_lines}
+use Rattle.dch_layer2.specs.Octets.{octets_of}
 use Rattle.dch_layerlaw.specs.Worlds.{IsFront, IsSublist}
 use Rattle.dch_layerlaw.proofs.Sublists.{either, past, same, same_false, same_true}
 

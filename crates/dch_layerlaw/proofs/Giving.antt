@@ -11,17 +11,17 @@ use Rattle.dch_am.specs.Receiver.{Receiver}
 use Rattle.dch_am.specs.Rules.{Rules}
 use Rattle.dch_am.specs.Entities.{Build as BuildEvent, IsWritten, Turn, receiver_after, sender_after, turn}
 use Rattle.dch_amlaw.specs.Pair.{At, Block, Build, End, Near, after, block_of as block_at, sent_on, stepped}
-use Rattle.dch_amwhole.specs.Lossless.{NoneLost}
+use Rattle.dch_amlaw.specs.Lossless.{NoneLost}
 use Rattle.dch_pair.proofs.Lines.{IsSent, IsWire, written_sent}
 use Rattle.dch_pair.proofs.Peers.{read_same}
-use Rattle.dch_layer.specs.Bearings.{Acknowledged, Bearing, Transparent, Unacknowledged, channel_of, ct_of, pdu_octets, rules_in}
-use Rattle.dch_layer.specs.Building.{Builds, Gives, IsAtTurn}
+use Rattle.dch_layer2.specs.Bearings.{Acknowledged, Bearing, Transparent, Unacknowledged, channel_of, ct_of, pdu_octets, rules_in}
+use Rattle.dch_layer2.specs.Building.{Builds, Gives, IsAtTurn}
+use Rattle.dch_layer2.specs.Octets.{bits_of, field_for, octets_of}
+use Rattle.dch_layer2.specs.Starting.{joined}
+use Rattle.dch_layer2.proofs.Octets.{block_back}
 use Rattle.dch_layerlaw.specs.History.{AreApart, is_mine, is_to}
-use Rattle.dch_layer.specs.Octets.{bits_of, field_for, octets_of}
-use Rattle.dch_layer.specs.Starting.{joined}
 use Rattle.dch_layerlaw.proofs.Catching.{Wires, pair_of}
 use Rattle.dch_layerlaw.proofs.Names.{comes_to}
-use Rattle.dch_layer.proofs.Octets.{block_back}
 use Rattle.dch_layerlaw.proofs.Taking.{after-append, none_lost-append}
 
 -- the end after blocks were built: events of the history, and what stands at the back of its line

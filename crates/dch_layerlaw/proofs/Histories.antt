@@ -12,13 +12,13 @@ use Rattle.dch_mac.specs.Field.{field_bits}
 use Rattle.dch_mac.specs.Receivers.{receiver}
 use Rattle.dch_am.specs.Rules.{Rules}
 use Rattle.dch_amlaw.specs.Pair.{At, Block, Far as FarAt, IsSafe, Near as NearAt, Pair, after, happens, opened, turned as turned_pair}
-use Rattle.dch_amwhole.specs.Lossless.{NoneLost}
+use Rattle.dch_amlaw.specs.Lossless.{NoneLost}
 use Rattle.dch_amlaw.proofs.History.{always_safe}
-use Rattle.dch_amwhole.proofs.Lossless.{always_whole}
-use Rattle.dch_layer.specs.Bearings.{channel_of, ct_of, opened_mode, pdu_octets, rules_in}
+use Rattle.dch_amlaw.proofs.Lossless.{always_whole}
+use Rattle.dch_layer2.specs.Bearings.{channel_of, ct_of, opened_mode, pdu_octets, rules_in}
+use Rattle.dch_layer2.specs.Layers.{Came, takes}
 use Rattle.dch_layerlaw.specs.Doings.{Blocks, Doing, Offers, Says, Starts, Takes, Ticks, good_blocks, taken_by}
 use Rattle.dch_layerlaw.specs.History.{AreLeft, IsAmBearer, IsEndOf, IsHistory, IsWholeHistory, pair_after, is_mine, is_to}
-use Rattle.dch_layer.specs.Layers.{Came, takes}
 use Rattle.dch_layerlaw.specs.Lines.{lines_of}
 use Rattle.dch_layerlaw.specs.Worlds.{AreFaithful, AreWholeSoFar, At as OneEvent, DoesAll, DoesNear, Far, Happens, IsFront, IsSublist, Log, Near, Runs, World, opened_world, turned}
 use Rattle.dch_layerlaw.proofs.Catching.{AlwaysSafe, Wires}

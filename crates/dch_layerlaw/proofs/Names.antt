@@ -14,11 +14,11 @@ use Rattle.dch_config.specs.Bearers.{channel_number, has_ct, names}
 use Rattle.dch_mac.specs.declared.answer.Demux.TheVariants.{To}
 use Rattle.dch_mac.specs.Field.{field_bits, field_of}
 use Rattle.dch_mac.specs.Receivers.{alone, is_named, named_by, only_receiver, receiver, receiver_of_field}
-use Rattle.dch_layer.specs.Bearings.{bearer_in, channel_of, ct_of, field_on}
+use Rattle.dch_layer2.specs.Bearings.{bearer_in, channel_of, ct_of, field_on}
+use Rattle.dch_layer2.specs.Octets.{field_for}
+use Rattle.dch_layer2.proofs.Good.{there}
+use Rattle.dch_layer2.proofs.Octets.{field_is}
 use Rattle.dch_layerlaw.specs.History.{AreApart}
-use Rattle.dch_layer.specs.Octets.{field_for}
-use Rattle.dch_layer.proofs.Good.{there}
-use Rattle.dch_layer.proofs.Octets.{field_is}
 use Rattle.dch_layerlaw.proofs.Sublists.{either}
 
 -- tests of numbers

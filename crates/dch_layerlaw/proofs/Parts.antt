@@ -9,11 +9,11 @@ use Rattle.dch_config.specs.Changes.{GoesOnAs, KeepsBearer}
 use Rattle.dch_am.specs.Rules.{Rules}
 use Rattle.dch_amlaw.specs.Pair.{At, Block, End, Pair, after, opened}
 use Rattle.dch_amlaw.proofs.History.{always_safe}
-use Rattle.dch_amwhole.proofs.Lossless.{always_whole}
-use Rattle.dch_layer.specs.Bearings.{bearer_in, pdu_octets, rules_in}
-use Rattle.dch_layer.proofs.Changing.{kept_octets, kept_rules}
-use Rattle.dch_layer.proofs.Good.{there}
-use Rattle.dch_amwhole.specs.Lossless.{NoneLost}
+use Rattle.dch_amlaw.proofs.Lossless.{always_whole}
+use Rattle.dch_layer2.specs.Bearings.{bearer_in, pdu_octets, rules_in}
+use Rattle.dch_layer2.proofs.StateChanging.{kept_octets, kept_rules}
+use Rattle.dch_layer2.proofs.Good.{there}
+use Rattle.dch_amlaw.specs.Lossless.{NoneLost}
 use Rattle.dch_layerlaw.specs.History.{ArePair, IsAmBearer, IsHistoryOver, IsWholeHistory, all_lost, events_over, far_lost, near_lost, pair_after}
 use Rattle.dch_layerlaw.specs.Lines.{lines_of}
 use Rattle.dch_layerlaw.specs.Worlds.{AreFaithful, AreWholeSoFar, At as OneEvent, HasChanged, Log, RunsInTwo, World, opened_world}

@@ -23,19 +23,19 @@ use Rattle.dch_am.specs.Acknowledging.{status_answer}
 use Rattle.dch_am.specs.Rules.{Rules}
 use Rattle.dch_am.specs.Sender.{Sender}
 use Rattle.dch_rlcum.specs.Receiving.{Receiving, after_pdu as after_um}
-use Rattle.dch_layer.specs.Hearing.{receiver_of, hears, hears_am, hears_um, new_units, rides_outside}
+use Rattle.dch_layer2.specs.Hearing.{receiver_of, hears, hears_am, hears_um, new_units, rides_outside}
 use Rattle.dch_amlaw.specs.Pair.{is_beyond, is_outside_answer}
-use Rattle.dch_amentity.specs.Answers.{is_unknown}
-use Rattle.dch_layer.specs.Bearings.{Acknowledged, Bearing, Sends, Transparent, Unacknowledged, line_of_answer, rules_in}
-use Rattle.dch_layerlaw.specs.Directions.{is_on, lines_on, same_dir}
-use Rattle.dch_layer.specs.Layers.{Came, Layer, goes, takes, takes_one}
+use Rattle.dch_pair.specs.Answers.{is_unknown}
+use Rattle.dch_layer2.specs.Bearings.{Acknowledged, Bearing, Sends, Transparent, Unacknowledged, line_of_answer, rules_in}
+use Rattle.dch_layer2.specs.Layers.{Came, Layer, goes, takes, takes_one}
 use Rattle.dch_node.specs.Lines.{Line, Took, Full, Wrong, Bad, Reserved, NoBearer, Nobody, PduBad, Outside, Overlong, Got, GotBits, Iub, IubBad, Phy, PhyNone, BadTti, Differs}
-use Rattle.dch_layer.specs.UnitLines.{line_if, unit_lines}
+use Rattle.dch_layer2.specs.UnitLines.{line_if, unit_lines}
+use Rattle.dch_layer2.specs.Octets.{octets_of}
+use Rattle.dch_layer2.proofs.Good.{there}
+use Rattle.dch_layerlaw.specs.Directions.{is_on, lines_on, same_dir}
 use Rattle.dch_layerlaw.specs.TmHistory.{bits_lines}
 use Rattle.dch_layerlaw.specs.UmHistory.{got_lines}
 use Rattle.dch_layerlaw.specs.Rows.{AreSmall, IsSmall, gots, is_got}
-use Rattle.dch_layer.specs.Octets.{octets_of}
-use Rattle.dch_layer.proofs.Good.{there}
 use Rattle.dch_layerlaw.proofs.Names.{receiver_has, same_number}
 use Rattle.dch_layerlaw.proofs.Sublists.{either}
 

@@ -10,15 +10,15 @@ use Rattle.dch_types.specs.declared.channel.Dir.{Dir}
 use Rattle.dch_types.specs.declared.config.Config.{Config}
 use Rattle.dch_mac.specs.Field.{field_bits}
 use Rattle.dch_amlaw.specs.Pair.{At, Block, End, Near, Offer, Pair, Tick, after}
-use Rattle.dch_amwhole.specs.Lossless.{NoneLost}
-use Rattle.dch_layer.specs.Bearings.{Acknowledged, after_answer, answers, channel_of, ct_of, line_of_answer, pdu_octets, rules_in, ticked}
+use Rattle.dch_amlaw.specs.Lossless.{NoneLost}
+use Rattle.dch_layer2.specs.Bearings.{Acknowledged, after_answer, answers, channel_of, ct_of, line_of_answer, pdu_octets, rules_in, ticked}
+use Rattle.dch_layer2.specs.Layers.{blocks, offers}
+use Rattle.dch_node.specs.Lines.{Line}
+use Rattle.dch_layer2.specs.UnitLines.{unit_lines}
+use Rattle.dch_layer2.specs.Starting.{IsStart, asked_in, count_on}
 use Rattle.dch_layerlaw.specs.Doings.{Blocks, Offers, Says, Starts, Ticks, given_by}
 use Rattle.dch_layerlaw.specs.History.{ArePair, IsAmBearer, IsEndOf, is_mine}
-use Rattle.dch_layer.specs.Layers.{blocks, offers}
-use Rattle.dch_node.specs.Lines.{Line}
 use Rattle.dch_layerlaw.specs.Lines.{lines_of}
-use Rattle.dch_layer.specs.UnitLines.{unit_lines}
-use Rattle.dch_layer.specs.Starting.{IsStart, asked_in, count_on}
 use Rattle.dch_layerlaw.specs.Worlds.{DoesNear, IsSublist, Log, World}
 use Rattle.dch_layerlaw.proofs.Catching.{Wires, pair_of}
 use Rattle.dch_layerlaw.proofs.Giving.{Gave, all_given, wires-append}

@@ -23,24 +23,24 @@ use Rattle.dch_am.specs.Acknowledging.{status_answer}
 use Rattle.dch_am.specs.Rules.{Rules}
 use Rattle.dch_am.specs.Sender.{Sender}
 use Rattle.dch_rlcum.specs.Receiving.{Receiving, after_pdu as after_um}
-use Rattle.dch_layer.specs.Hearing.{receiver_of, hears, hears_am, hears_um, new_units, rides_outside}
-use Rattle.dch_amentity.specs.Answers.{is_unknown}
+use Rattle.dch_layer2.specs.Hearing.{receiver_of, hears, hears_am, hears_um, new_units, rides_outside}
+use Rattle.dch_pair.specs.Answers.{is_unknown}
 use Rattle.dch_amlaw.specs.Pair.{At, Block, End, IsSafe, Pair, after, happens, is_beyond, is_outside_answer}
-use Rattle.dch_amwhole.specs.Lossless.{NoneLost}
-use Rattle.dch_layer.specs.Bearings.{Acknowledged, Bearing, Sends, Transparent, Unacknowledged, ct_of, pdu_octets, rules_in}
+use Rattle.dch_amlaw.specs.Lossless.{NoneLost}
+use Rattle.dch_layer2.specs.Bearings.{Acknowledged, Bearing, Sends, Transparent, Unacknowledged, ct_of, pdu_octets, rules_in}
+use Rattle.dch_layer2.specs.Layers.{Came, Layer, Outcome, goes, takes, takes_one}
+use Rattle.dch_node.specs.Lines.{Line, Outside}
+use Rattle.dch_layer2.specs.UnitLines.{line_if, unit_line, unit_lines}
+use Rattle.dch_layer2.specs.Octets.{octets_of}
+use Rattle.dch_am.specs.Entities.{pdu_of}
+use Rattle.dch_pair.proofs.Units.{Grown, grown_by_pdu}
 use Rattle.dch_layerlaw.specs.Doings.{block_if, good_blocks, has_bits}
 use Rattle.dch_layerlaw.specs.History.{is_mine, is_to}
-use Rattle.dch_layer.specs.Layers.{Came, Layer, Outcome, goes, takes, takes_one}
-use Rattle.dch_node.specs.Lines.{Line, Outside}
 use Rattle.dch_layerlaw.specs.Lines.{is_of, lines_of}
-use Rattle.dch_layer.specs.UnitLines.{line_if, unit_line, unit_lines}
-use Rattle.dch_layer.specs.Octets.{octets_of}
 use Rattle.dch_layerlaw.specs.Worlds.{IsFront, IsSublist}
 use Rattle.dch_layerlaw.proofs.Catching.{AlwaysSafe, Caught, Wires, catches, pair_of}
 use Rattle.dch_layerlaw.proofs.Names.{number_same, other_number, receiver_has, receiver_skips, same_number}
 use Rattle.dch_layerlaw.proofs.Sublists.{behind, behind-append, either, front_behind, front_first, past, sub_behind, sub_front}
-use Rattle.dch_am.specs.Entities.{pdu_of}
-use Rattle.dch_pair.proofs.Units.{Grown, grown_by_pdu}
 
 -- the lines of a bearer among more
 pub lines-append : (b : ℕ) (xs ys : List Line) → lines_of b (xs ++ ys) ≡ lines_of b xs ++ lines_of b ys

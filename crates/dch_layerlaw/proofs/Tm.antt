@@ -13,22 +13,22 @@ use Rattle.dch_mac.specs.declared.answer.Demux.TheVariants.{To, Reserved, NoBear
 use Rattle.dch_mac.specs.Field.{field_bits}
 use Rattle.dch_mac.specs.Receivers.{receiver}
 use Rattle.dch_rlctm.specs.Waiting.{Waiting, after_offer as after_unit}
-use Rattle.dch_layer.specs.Bearings.{Bearing, Transparent, after_answer, answers, bearer_in, channel_of, ct_of, ticked, with_unit}
-use Rattle.dch_layer.specs.Building.{Builds, Gives}
-use Rattle.dch_layerlaw.specs.Doings.{Blocks, Does, Doing, Offers, Says, Starts, Takes, Ticks, block_if, given_by, good_blocks, has_bits, taken_by}
-use Rattle.dch_layer.specs.Hearing.{hears}
-use Rattle.dch_layerlaw.specs.History.{AreApart, is_mine, is_to}
-use Rattle.dch_layer.specs.Layers.{Came, Layer, Outcome, goes, takes, takes_one}
+use Rattle.dch_layer2.specs.Bearings.{Bearing, Transparent, after_answer, answers, bearer_in, channel_of, ct_of, ticked, with_unit}
+use Rattle.dch_layer2.specs.Building.{Builds, Gives}
+use Rattle.dch_layer2.specs.Hearing.{hears}
+use Rattle.dch_layer2.specs.Layers.{Came, Layer, Outcome, goes, takes, takes_one}
 use Rattle.dch_node.specs.Lines.{GotBits, Line}
+use Rattle.dch_layer2.specs.Starting.{IsStart, asked_in, count_on}
+use Rattle.dch_layer2.proofs.Octets.{behind_field}
+use Rattle.dch_layerlaw.specs.Doings.{Blocks, Does, Doing, Offers, Says, Starts, Takes, Ticks, block_if, given_by, good_blocks, has_bits, taken_by}
+use Rattle.dch_layerlaw.specs.History.{AreApart, is_mine, is_to}
 use Rattle.dch_layerlaw.specs.Lines.{lines_of}
-use Rattle.dch_layer.specs.Starting.{IsStart, asked_in, count_on}
 use Rattle.dch_layerlaw.specs.TmHistory.{IsTmCarried, IsTmHistory, IsTmSome, bits_lines, unit_in, units_in}
 use Rattle.dch_layerlaw.specs.Worlds.{IsFaithful, IsSublist, Log, World}
 use Rattle.dch_layerlaw.proofs.Histories.{taken_mine}
 use Rattle.dch_layerlaw.proofs.Steps.{answer_line}
 use Rattle.dch_layerlaw.proofs.Turns.{start_mine}
 use Rattle.dch_layerlaw.proofs.Names.{number_same, other_number, receiver_has, receiver_skips, same_number}
-use Rattle.dch_layer.proofs.Octets.{behind_field}
 use Rattle.dch_layerlaw.proofs.Sublists.{either, sub_filter, sub_more}
 use Rattle.dch_layerlaw.proofs.Taking.{lines-append, other_hears}
 

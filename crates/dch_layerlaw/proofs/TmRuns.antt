@@ -4,7 +4,7 @@ use Rattle.std.proofs.lemmas.List.{append-nil}
 use Rattle.dch_bits.specs.declared.bit.Bit.{Bit}
 use Rattle.dch_types.specs.declared.channel.Dir.{Dir}
 use Rattle.dch_types.specs.declared.config.Config.{Config}
-use Rattle.dch_layer.specs.Bearings.{opened_mode}
+use Rattle.dch_layer2.specs.Bearings.{opened_mode}
 use Rattle.dch_layerlaw.specs.Doings.{Doing, given_by, taken_by}
 use Rattle.dch_layerlaw.specs.Lines.{lines_of}
 use Rattle.dch_layerlaw.specs.TmHistory.{IsTmBearer, IsTmHistory, IsTmReceiver, IsTmSender, bits_lines, units_in}

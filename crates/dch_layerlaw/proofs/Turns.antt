@@ -7,14 +7,14 @@ use Rattle.dch_bits.specs.declared.bit.Bit.{Bit}
 use Rattle.dch_types.specs.declared.channel.Dir.{Dir}
 use Rattle.dch_types.specs.declared.config.Config.{Config}
 use Rattle.dch_select.specs.Asked.{Asked, priority_of, starts}
-use Rattle.dch_layer.specs.Bearings.{bearer_in, channel_of}
-use Rattle.dch_layer.specs.Building.{Gives}
+use Rattle.dch_layer2.specs.Bearings.{bearer_in, channel_of}
+use Rattle.dch_layer2.specs.Building.{Gives}
+use Rattle.dch_layer2.specs.Layers.{Layer}
+use Rattle.dch_layer2.specs.Starting.{IsStart, asked_in, count_on, in_turn, is_on, joined, of_priority}
+use Rattle.dch_layer2.proofs.Good.{there}
 use Rattle.dch_layerlaw.specs.Doings.{given_by, Starts}
 use Rattle.dch_layerlaw.specs.History.{AreApart, is_mine}
-use Rattle.dch_layer.specs.Layers.{Layer}
-use Rattle.dch_layer.specs.Starting.{IsStart, asked_in, count_on, in_turn, is_on, joined, of_priority}
 use Rattle.dch_layerlaw.proofs.Giving.{joined-append, mine_all}
-use Rattle.dch_layer.proofs.Good.{there}
 use Rattle.dch_layerlaw.proofs.Names.{both_true, is_named_by, named_is, number_same, other_number, same_number}
 use Rattle.dch_layerlaw.proofs.Sublists.{either}
 

@@ -21,21 +21,21 @@ use Rattle.dch_rlcum.specs.History.{IsSenderOf, accepted, texts}
 use Rattle.dch_rlcum.specs.Receiving.{Receiving}
 use Rattle.dch_rlcum.specs.Sending.{Sending, after_build, after_offer as after_waiting, answer_of, pdu_of}
 use Rattle.dch_rlcum.proofs.Histories.{built_next, sender_built, sender_offered, texts_offered}
-use Rattle.dch_layer.specs.Bearings.{Bearing, Sends, Unacknowledged, after_answer, answers, bearer_in, channel_of, ct_of, ticked}
-use Rattle.dch_layer.specs.Building.{Builds, Gives}
-use Rattle.dch_layerlaw.specs.Doings.{Blocks, Does, Doing, Offers, Says, Starts, Takes, Ticks, block_if, given_by, good_blocks, has_bits, taken_by}
-use Rattle.dch_layer.specs.Hearing.{hears, hears_um}
-use Rattle.dch_layerlaw.specs.History.{AreApart, is_mine, is_to}
-use Rattle.dch_layer.specs.Layers.{Came, Layer, Outcome, goes, takes, takes_one}
+use Rattle.dch_layer2.specs.Bearings.{Bearing, Sends, Unacknowledged, after_answer, answers, bearer_in, channel_of, ct_of, ticked}
+use Rattle.dch_layer2.specs.Building.{Builds, Gives}
+use Rattle.dch_layer2.specs.Hearing.{hears, hears_um}
+use Rattle.dch_layer2.specs.Layers.{Came, Layer, Outcome, goes, takes, takes_one}
 use Rattle.dch_node.specs.Lines.{Line}
+use Rattle.dch_layer2.specs.Starting.{IsStart, asked_in, count_on}
+use Rattle.dch_layer2.proofs.Octets.{block_back}
+use Rattle.dch_layerlaw.specs.Doings.{Blocks, Does, Doing, Offers, Says, Starts, Takes, Ticks, block_if, given_by, good_blocks, has_bits, taken_by}
+use Rattle.dch_layerlaw.specs.History.{AreApart, is_mine, is_to}
 use Rattle.dch_layerlaw.specs.Lines.{lines_of}
-use Rattle.dch_layer.specs.Starting.{IsStart, asked_in, count_on}
 use Rattle.dch_layerlaw.specs.UmHistory.{lines_all, lines_one, pdu_in, pdus_in, receives, receives_one}
 use Rattle.dch_layerlaw.proofs.Histories.{taken_mine}
 use Rattle.dch_layerlaw.proofs.Steps.{answer_line}
 use Rattle.dch_layerlaw.proofs.Turns.{start_mine}
 use Rattle.dch_layerlaw.proofs.Names.{number_same, other_number, receiver_has, receiver_skips, same_number}
-use Rattle.dch_layer.proofs.Octets.{block_back}
 use Rattle.dch_layerlaw.proofs.Sublists.{either}
 use Rattle.dch_layerlaw.proofs.Taking.{lines-append, other_hears, own_lines}
 

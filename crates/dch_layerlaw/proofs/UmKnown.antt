@@ -11,8 +11,8 @@ use Rattle.dch_rlcum.specs.Handing.{AreRead, all_handed, handed_up, sent_from, v
 use Rattle.dch_rlcum.specs.History.{joined, sizes, text_of, texts_from}
 use Rattle.dch_rlcum.specs.Receiving.{Receiving, after_pdu, opened as opened_receiving}
 use Rattle.dch_rlcum.proofs.Handed.{known_handed, pdus_read}
+use Rattle.dch_layer2.specs.UnitLines.{unit_lines}
 use Rattle.dch_layerlaw.specs.History.{is_mine}
-use Rattle.dch_layer.specs.UnitLines.{unit_lines}
 use Rattle.dch_layerlaw.specs.UmHistory.{IsKnownHistory, IsUmHistory, arriving, lines_all, lines_one, pdu_in, pdus_in, receives_one}
 use Rattle.dch_layerlaw.specs.Worlds.{IsFaithful, IsSublist, Log, World}
 use Rattle.dch_layerlaw.proofs.Names.{other_number, same_number}

@@ -6,7 +6,7 @@ use Rattle.dch_types.specs.declared.channel.Dir.{Dir}
 use Rattle.dch_types.specs.declared.config.Config.{Config}
 use Rattle.dch_rlcum.specs.Receiving.{opened as opened_receiving}
 use Rattle.dch_rlcum.proofs.Histories.{sender_opened}
-use Rattle.dch_layer.specs.Bearings.{Unacknowledged, opened_mode}
+use Rattle.dch_layer2.specs.Bearings.{Unacknowledged, opened_mode}
 use Rattle.dch_layerlaw.specs.Doings.{Doing, given_by, taken_by}
 use Rattle.dch_layerlaw.specs.Lines.{lines_of}
 use Rattle.dch_layerlaw.specs.UmHistory.{Any, IsUmBearer, IsUmHistory, IsUmReceiver, IsUmSender, lines_all, pdus_in, receives}

@@ -11,15 +11,15 @@ use Rattle.dch_sar.specs.Pdus.{Pdu, first_front, pdus}
 use Rattle.dch_sar.proofs.Fronts.{length-pdus}
 use Rattle.dch_rlcpdu.specs.Um.{um_reading}
 use Rattle.dch_rlcpdu.proofs.Splits.{reading_back}
-use Rattle.dch_layerlaw.specs.Ended.{has_end, marked_units}
 use Rattle.dch_rlcum.specs.Handing.{AreRead, AreUnits, all_handed, handed_up, sent_from, view_of}
 use Rattle.dch_rlcum.specs.History.{joined, sizes, text_of, texts, texts_from}
 use Rattle.dch_rlcum.specs.Receiving.{Receiving, after_pdu, opened as opened_receiving}
-use Rattle.dch_layerlaw.proofs.Firsts.{AreFirst, first_below, first_known, next_first, next_none, none_before}
 use Rattle.dch_rlcum.proofs.Handed.{known_handed, pdus_read}
-use Rattle.dch_layerlaw.specs.History.{is_mine}
 use Rattle.dch_node.specs.Lines.{Got, Overlong}
-use Rattle.dch_layer.specs.UnitLines.{unit_lines}
+use Rattle.dch_layer2.specs.UnitLines.{unit_lines}
+use Rattle.dch_layerlaw.specs.Ended.{has_end, marked_units}
+use Rattle.dch_layerlaw.proofs.Firsts.{AreFirst, first_below, first_known, next_first, next_none, none_before}
+use Rattle.dch_layerlaw.specs.History.{is_mine}
 use Rattle.dch_layerlaw.specs.UmHistory.{IsUmCarried, IsUmHistory, got_lines, lines_all, lines_one, pdu_in, pdus_in, pdus_of, receives_one}
 use Rattle.dch_layerlaw.specs.Worlds.{World}
 use Rattle.dch_layerlaw.proofs.Sublists.{either}

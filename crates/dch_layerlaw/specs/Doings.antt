@@ -5,9 +5,9 @@ use Rattle.dch_types.specs.declared.channel.Dir.{Dir}
 use Rattle.dch_types.specs.declared.config.Config.{Config}
 use Rattle.dch_select.specs.Asked.{starts}
 use Rattle.dch_node.specs.Lines.{Line}
+use Rattle.dch_layer2.specs.Layers.{Came, Layer, blocks, offers, takes, ticks}
+use Rattle.dch_layer2.specs.Starting.{IsStart, asked_in}
 use Rattle.dch_layerlaw.specs.Lines.{lines_of}
-use Rattle.dch_layer.specs.Layers.{Came, Layer, blocks, offers, takes, ticks}
-use Rattle.dch_layer.specs.Starting.{IsStart, asked_in}
 
 -- a unit is offered, a combination is blocked or free, timers tick, a channel's blocks are taken, TTIs start, or lines are reported
 pub data Doing : Type 0 where

@@ -9,10 +9,10 @@ use Rattle.dch_mac.specs.declared.answer.Demux.{Demux}
 use Rattle.dch_mac.specs.declared.answer.Demux.TheVariants.{To, Reserved, NoBearer, Nobody}
 use Rattle.dch_mac.specs.Receivers.{receiver}
 use Rattle.dch_amlaw.specs.Pair.{At, Block, End, Far, IsSafe, Lose, Near, Pair, after, opened}
-use Rattle.dch_amwhole.specs.Lossless.{AreWhole, NoneLost}
+use Rattle.dch_amlaw.specs.Lossless.{AreWhole, NoneLost}
+use Rattle.dch_layer2.specs.UnitLines.{unit_lines}
+use Rattle.dch_layer2.specs.Bearings.{Acknowledged, bearer_in, channel_of, pdu_octets, rules_in}
 use Rattle.dch_layerlaw.specs.Lines.{lines_of}
-use Rattle.dch_layer.specs.UnitLines.{unit_lines}
-use Rattle.dch_layer.specs.Bearings.{Acknowledged, bearer_in, channel_of, pdu_octets, rules_in}
 use Rattle.dch_layerlaw.specs.Worlds.{Log, Side, World}
 
 -- the bearers of a channel can be told apart: there is one alone, or each has a logical channel of its own

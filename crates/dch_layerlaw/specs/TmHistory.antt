@@ -6,10 +6,10 @@ use Rattle.dch_types.specs.declared.bearer.Mode.TheVariants.{Tm}
 use Rattle.dch_types.specs.declared.config.Config.{Config}
 use Rattle.dch_mac.specs.Field.{field_bits}
 use Rattle.dch_rlctm.specs.Waiting.{Waiting}
-use Rattle.dch_layer.specs.Bearings.{Transparent, bearer_in, channel_of, ct_of}
-use Rattle.dch_layerlaw.specs.History.{AreApart, is_mine}
-use Rattle.dch_layer.specs.Layers.{Layer}
+use Rattle.dch_layer2.specs.Bearings.{Transparent, bearer_in, channel_of, ct_of}
+use Rattle.dch_layer2.specs.Layers.{Layer}
 use Rattle.dch_node.specs.Lines.{GotBits, Line}
+use Rattle.dch_layerlaw.specs.History.{AreApart, is_mine}
 use Rattle.dch_layerlaw.specs.Lines.{lines_of}
 use Rattle.dch_layerlaw.specs.Worlds.{IsSublist, Log, Side, World}
 

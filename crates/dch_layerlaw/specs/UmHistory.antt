@@ -9,18 +9,18 @@ use Rattle.dch_rlcpdu.specs.declared.um.UmView.{UmView}
 use Rattle.dch_rlcpdu.specs.Um.{um_reading}
 use Rattle.dch_rlcum.specs.Receiving.{Receiving, after_pdu, opened as opened_receiving}
 use Rattle.dch_sar.specs.Pdus.{Pdu, pdus}
-use Rattle.dch_layerlaw.specs.Ended.{marked_units}
 use Rattle.dch_rlcum.specs.Handing.{AreFewLost, AreUnits, Sent, all_handed, known_units, sent_from}
 use Rattle.dch_rlcum.specs.History.{IsSenderOf, sizes, texts}
 use Rattle.dch_node.specs.Lines.{Got, Line, PduBad}
-use Rattle.dch_layerlaw.specs.Lines.{lines_of}
-use Rattle.dch_layer.specs.UnitLines.{unit_lines}
+use Rattle.dch_layer2.specs.UnitLines.{unit_lines}
 use Rattle.dch_types.specs.declared.bearer.Mode.TheVariants.{Um}
-use Rattle.dch_layer.specs.Bearings.{Sends, Unacknowledged, bearer_in, channel_of, ct_of, pdu_octets}
-use Rattle.dch_layer.specs.Hearing.{error_number}
+use Rattle.dch_layer2.specs.Bearings.{Sends, Unacknowledged, bearer_in, channel_of, ct_of, pdu_octets}
+use Rattle.dch_layer2.specs.Hearing.{error_number}
+use Rattle.dch_layer2.specs.Layers.{Layer}
+use Rattle.dch_layer2.specs.Octets.{octets_of}
+use Rattle.dch_layerlaw.specs.Ended.{marked_units}
+use Rattle.dch_layerlaw.specs.Lines.{lines_of}
 use Rattle.dch_layerlaw.specs.History.{AreApart, is_mine}
-use Rattle.dch_layer.specs.Layers.{Layer}
-use Rattle.dch_layer.specs.Octets.{octets_of}
 use Rattle.dch_layerlaw.specs.Worlds.{Log, Side, World}
 
 -- PDUs of the unacknowledged mode are taken one after another: the receiver, and the lines

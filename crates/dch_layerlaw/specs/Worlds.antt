@@ -4,7 +4,7 @@ use Rattle.dch_bits.specs.declared.bit.Bit.{Bit}
 use Rattle.dch_types.specs.declared.channel.Dir.{Dir}
 use Rattle.dch_types.specs.declared.config.Config.{Config}
 use Rattle.dch_node.specs.Lines.{Line}
-use Rattle.dch_layer.specs.Layers.{Layer, changed_layer, opened_layer}
+use Rattle.dch_layer2.specs.Layers.{Layer, changed_layer, opened_layer}
 use Rattle.dch_layerlaw.specs.Doings.{Doing, Does, given_by, taken_by}
 
 -- blocks without bits are left out

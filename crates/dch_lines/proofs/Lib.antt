@@ -6,3 +6,5 @@ pub mod LineSteps
 pub mod Runs
 pub mod Steps
 pub mod Texts
+pub mod Letters
+pub mod Units

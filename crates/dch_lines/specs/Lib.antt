@@ -3,3 +3,4 @@ pub mod Processor
 pub mod Followed
 pub mod Pieces
 pub mod LineTexts
+pub mod Texts

@@ -8,7 +8,7 @@ use Rattle.dch_types.specs.Timing.{has_set}
 use Rattle.dch_accept.specs.Frames.{tfci_bits}
 use Rattle.dch_accept.specs.Plans.{Planned}
 use Rattle.dch_accept.specs.declared.frame.FrameView.{FrameView}
-use Rattle.dch_rxframes.specs.RxFrames.{HasTfci}
+use Rattle.dch_tti.specs.RxFrames.{HasTfci}
 use Rattle.dch_node.specs.Values.{Radio}
 use Rattle.dch_txframes.specs.Lending.{octets_of, radio_of}
 use Rattle.dch_damage.specs.Damage.{Damage, each_changed, flips, iub_after, is_lost, radio_after}

@@ -6,7 +6,7 @@ use Rattle.dch_types.specs.Parts.{side_of}
 use Rattle.dch_accept.specs.HeldSets.{held_at}
 use Rattle.dch_accept.specs.Plans.{Planned}
 use Rattle.dch_script.specs.Held.{Held as Text}
-use Rattle.dch_layer.specs.Layers.{Layer}
+use Rattle.dch_layer2.specs.Layers.{Layer}
 use Rattle.dch_layer2.specs.Opening.{blocks_in}
 use Rattle.dch_layer2.specs.Reading.{Bad, Nothing, Read, Reading}
 use Rattle.dch_layer2.specs.Standing.{Represents as LayerStands}

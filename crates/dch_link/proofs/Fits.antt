@@ -14,11 +14,11 @@ use Rattle.dch_accept.specs.Frames.{Frame, tfci_bits}
 use Rattle.dch_accept.specs.HeldSets.{HeldSet}
 use Rattle.dch_accept.specs.Plans.{Planned}
 use Rattle.dch_iub.specs.Forms.{IsWrittenForm}
-use Rattle.dch_ttibuf.specs.Frames.{IsFrameOf}
-use Rattle.dch_rxframes.specs.RxFrames.{RxFrames}
+use Rattle.dch_tti.specs.Frames.{IsFrameOf}
+use Rattle.dch_tti.specs.RxFrames.{RxFrames}
 use Rattle.dch_node.specs.Lines.{Line}
 use Rattle.dch_node.specs.Values.{Output, Radio, says}
-use Rattle.dch_layer.specs.Layers.{Layer}
+use Rattle.dch_layer2.specs.Layers.{Layer}
 use Rattle.dch_ue.specs.State.{Event as UeEvent, BlockedCombination as UeBlocked, Change as UeChange, DownlinkFrame, OfferedUnit as UeOffered, State as UeState, Tick as UeTicks}
 use Rattle.dch_ue.specs.Steps.{Steps as UeSteps}
 use Rattle.dch_nodeb.specs.State.{Change as NodeBChange, DownlinkDue, Event as NodeBEvent, IubFrame as IubDown, State as NodeBState, UplinkFrame}

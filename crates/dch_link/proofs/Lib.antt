@@ -9,3 +9,11 @@ pub mod Nexts
 pub mod Opened
 pub mod Reporting
 pub mod Sublists
+mod SoftArriving
+mod Given
+mod Hit
+mod Legs
+mod SoftNexts
+mod SoftOpened
+mod Timing
+pub use Rattle.dch_nodeb.proofs.Steady

@@ -10,3 +10,25 @@ pub mod Stages
 pub mod Standing
 pub mod Values
 pub mod Within
+pub mod Errors
+pub mod SoftEvents
+pub mod Hearing
+pub mod Legs
+pub mod SoftPassing
+pub mod Rooms
+pub mod Soft
+pub mod SoftStages
+pub mod SoftStanding
+pub mod SoftValues
+pub use Rattle.dch_rnc.specs.Standing as RncStanding
+pub use Rattle.dch_rnc.specs.Values as RncValues
+pub use Rattle.dch_nodeb.specs.Values as NodebValues
+pub use Rattle.dch_ue.specs.Standing as UeStanding
+pub use Rattle.dch_ue.specs.Values as UeValues
+pub use Rattle.dch_damage.specs.Damage
+pub use Rattle.dch_rnc.specs.State as RncState
+pub use Rattle.dch_rnc.specs.Steps as RncSteps
+pub use Rattle.dch_ue.specs.State as UeState
+pub use Rattle.dch_ue.specs.Steps as UeSteps
+pub use Rattle.dch_nodeb.specs.State as NodebState
+pub use Rattle.dch_nodeb.specs.Steps as NodebSteps

@@ -3,7 +3,7 @@ use Rattle.std.specs.Prelude.{◌≡◌, ◌++◌, ℕ, List, [], Option, Some, 
 use Rattle.dch_types.specs.declared.channel.Dir.{Dir}
 use Rattle.dch_types.specs.declared.channel.Dir.TheVariants.{Up, Down}
 use Rattle.dch_types.specs.declared.channel.Side.{Side}
-use Rattle.dch_layer.specs.Layers.{Layer}
+use Rattle.dch_layer2.specs.Layers.{Layer}
 use Rattle.dch_layer2.specs.Reading.{Reading}
 use Rattle.dch_node.specs.Lines.{Line}
 use Rattle.dch_damage.specs.Damage.{iub_after, radio_after}

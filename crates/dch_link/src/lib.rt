@@ -1,12 +1,24 @@
-//! The terminal, the Node B and the network controller together: one radio frame of 10 ms after another through all three, with damage
-//! between them.
+//! Nodes together, one radio frame of 10 ms after another through all of them, with damage between them: the terminal, the Node B and the network
+//! controller; and in soft handover the terminal, one to six Node Bs, each the end of a leg, and the network controller.
 #![tactic(auto)]
 
 mod check;
 mod event;
+mod hearing;
+mod leg;
 mod link;
+mod report;
+mod soft;
+mod soft_event;
+pub mod soft_stage;
 mod stage;
 
+pub use dch_nodeb::NodeB;
+pub use dch_rnc::Rnc;
+pub use dch_ue::Ue;
 pub use event::LinkEvent;
+pub use leg::Leg;
 pub use link::{CHECKS, Link};
+pub use soft::{COMBINED, Soft};
+pub use soft_event::{LegDamage, SoftEvent};
 pub use stage::{STAGES, Stage};

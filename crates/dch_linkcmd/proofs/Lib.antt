@@ -10,3 +10,9 @@ pub mod Stages
 pub mod Staying
 pub mod Taking
 pub mod Walking
+pub mod Leading
+pub mod SoftPassing
+pub mod SoftShowing
+pub mod SoftStages
+pub mod SoftTaking
+pub use Rattle.dch_link.proofs.Steady

@@ -4,7 +4,7 @@ use Rattle.std.specs.Prelude.{◌⊎◌, if◌then◌else◌}
 use Rattle.std.proofs.lemmas.Bool.Decides.{eqb_tells}
 use Rattle.dch_accept.specs.Plans.{Planned}
 use Rattle.dch_lines.specs.Semantics.{Resumes}
-use Rattle.dch_rnc.specs.State.{Change as RncChange, State as RncState}
+use Rattle.dch_nodecmd.specs.RncState.{Change as RncChange, State as RncState}
 use Rattle.dch_link.specs.Changing.{Changes}
 use Rattle.dch_link.specs.Link.{LinkState, active}
 use Rattle.dch_link.specs.Passing.{IsStage, is_first, next_stage, stages_left}

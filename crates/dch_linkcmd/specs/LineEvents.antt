@@ -6,9 +6,9 @@ use Rattle.dch_script.specs.Meaning.{meaning_in}
 use Rattle.dch_script.specs.ParsedLine.{ParsedLine, unit, block, free, flip, lose, lose_iub, spoil, frame}
 use Rattle.dch_script.specs.Units.{mode_at}
 use Rattle.dch_script.specs.declared.event.Command.TheVariants.{Link}
-use Rattle.dch_damage.specs.Damage.{Flip, Lose, LoseIub, Spoil}
+use Rattle.dch_link.specs.Damage.{Flip, Lose, LoseIub, Spoil}
 use Rattle.dch_link.specs.Events.{BlockedCombination, Damages, Event, OfferedUnit}
-use Rattle.dch_texts.specs.Texts.{unit_bits, unit_octets}
+use Rattle.dch_lines.specs.Texts.{unit_bits, unit_octets}
 
 -- something happens between two radio frames, or so many radio frames pass
 pub data Said : Type 0 where

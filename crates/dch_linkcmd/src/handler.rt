@@ -7,26 +7,24 @@ ghost use Rattle.dch_link.specs.Link.{opened_link};
 ghost use Rattle.dch_link.specs.Standing.{HasNext, HaveHistories, IsLinkOf, Represents};
 ghost use Rattle.dch_nodecmd.specs.Standing.{CanFollow};
 ghost use Rattle.dch_nodecmd.specs.declared.later.Later.{Later as Coming};
+ghost use Rattle.dch_lines.specs.declared.line_texts.TheConstants.{OCTETS};
 ghost use Rattle.dch_linkcmd.specs.Counting.{counts_of};
 ghost use Rattle.dch_linkcmd.specs.Overlong.{link_refuses_long};
 ghost use Rattle.dch_linkcmd.specs.Rules.{Begins, MayChange, PassesNext, PassesStage, link_lines};
 ghost use Rattle.dch_linkcmd.specs.Run.{Run, opened_run, steps_left};
 ghost use Rattle.dch_linkcmd.specs.Standing.{HasStageRoom, IsEnough, IsPrepared, IsReady, RepresentsRun, most_bytes, stage_bytes};
 ghost use Rattle.dch_linkcmd.specs.Taking.{Tells};
-ghost use Rattle.dch_texts.specs.declared.texts.TheConstants.{OCTETS};
 
 use crate::filter::Filter;
 use crate::reading::{LinkLine, read_line};
 use dch_accept::Accepted;
 use dch_bits::{Bit, NoMemory};
-use dch_lines::{LineFault, LineHandler};
+use dch_lines::{LineFault, LineHandler, OCTETS, UNIT_BITS};
 use dch_link::{CHECKS, Link, STAGES, Stage};
-use dch_nodeb::NodeB;
-use dch_nodecmd::Later;
-use dch_rnc::Rnc;
+use dch_nodecmd::dch_rnc::Rnc;
+use dch_nodecmd::dch_ue::Ue;
+use dch_nodecmd::{Later, NodeB};
 use dch_script::{Line, LineError, Report};
-use dch_texts::{OCTETS, UNIT_BITS};
-use dch_ue::Ue;
 use std::alloc::Global;
 use std::marker::Model;
 use std::mem;
@@ -66,8 +64,8 @@ impl Drop for LinkHandler {
 
 impl Model for LinkHandler {
     ghost use Rattle.std.specs.Prelude.{◌≡◌, length};
+    ghost use Rattle.dch_lines.specs.declared.line_texts.TheConstants.{OCTETS};
     ghost use Rattle.dch_linkcmd.specs.Standing.{Handler};
-    ghost use Rattle.dch_texts.specs.declared.texts.TheConstants.{OCTETS};
 
     ghost Value = { Handler };
 

@@ -1,8 +1,14 @@
-//! The command link: what its lines say to three nodes that run together, and its radio frames stage by stage.
+//! The commands link and soft: what their lines say to three nodes that run together and to the nodes of a soft handover, and their radio frames stage
+//! by stage.
 #![tactic(auto)]
 
 mod filter;
 mod handler;
+mod led;
 mod reading;
+mod soft_filter;
+mod soft_handler;
+mod soft_reading;
 
 pub use handler::LinkHandler;
+pub use soft_handler::SoftHandler;

@@ -4,15 +4,15 @@ ghost use Rattle.dch_script.specs.Meaning.{meaning_in};
 ghost use Rattle.dch_script.specs.ParsedLine.{parsed_of};
 ghost use Rattle.dch_script.specs.declared.event.Command.TheVariants.{Link};
 ghost use Rattle.dch_link.specs.Standing.{MayCome, event_of};
+ghost use Rattle.dch_lines.specs.declared.line_texts.TheConstants.{OCTETS, UNIT_BITS};
 ghost use Rattle.dch_linkcmd.specs.LineEvents.{Says, said_by, unit_event};
 ghost use Rattle.dch_linkcmd.specs.Reading.{MayBe, said_of};
-ghost use Rattle.dch_texts.specs.declared.texts.TheConstants.{OCTETS, UNIT_BITS};
 
 use dch_accept::Accepted;
 use dch_bits::Bit;
+use dch_lines::read_unit;
 use dch_link::LinkEvent;
 use dch_script::{Command, Event, LineError, parse_in};
-use dch_texts::read_unit;
 use dch_types::Dir;
 
 /// What a line of `link` says.

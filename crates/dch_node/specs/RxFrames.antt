@@ -2,7 +2,7 @@
 use Rattle.std.specs.Prelude.{◌≡◌, ◌<◌, ℕ, Option, Some, None}
 use Rattle.dch_types.specs.declared.channel.Dir.{Dir}
 use Rattle.dch_accept.specs.Plans.{Planned}
-use Rattle.dch_rxframes.specs.RxFrames.{IsKept, RxFrame, RxFrames, rx_frame_at}
+use Rattle.dch_tti.specs.RxFrames.{IsKept, RxFrame, RxFrames, rx_frame_at}
 use Rattle.dch_node.specs.Values.{Radio}
 
 -- what is kept of a radio frame of a direction, which may be missing

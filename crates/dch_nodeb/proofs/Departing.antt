@@ -12,19 +12,19 @@ use Rattle.dch_accept.specs.Blocks.{Held}
 use Rattle.dch_accept.specs.declared.set_blocks.Idle.{Idle}
 use Rattle.dch_accept.specs.HeldSets.{HeldSet, IsIdleSet, IsSetOf, idle_at}
 use Rattle.dch_accept.specs.Plans.{Planned}
-use Rattle.dch_ttibuf.specs.Loaded.{Loaded, loaded_at}
+use Rattle.dch_tti.specs.Loaded.{Loaded, loaded_at}
 use Rattle.dch_dlphy.specs.Loaded.{IsLoaded}
 use Rattle.dch_script.specs.Held.{Held as Text}
+use Rattle.dch_types.specs.Timing.{set_frames, starts}
+use Rattle.dch_node.specs.Values.{Blocks, Output, Radio, idle_blocks}
+use Rattle.dch_node.specs.IubFrames.{blocks_at}
+use Rattle.dch_txframes.specs.Values.{radio_sent}
 use Rattle.dch_nodeb.specs.Moves.{AreGiven, AreReady, Transmits, IsReady, RunsIn, Writes}
 use Rattle.dch_nodeb.specs.Opened.{AreNoted, AreRxBuffersOf}
-use Rattle.dch_types.specs.Timing.{set_frames, starts}
 use Rattle.dch_nodeb.specs.Standing.{NothingSent, KeepsFrame, Represents, Stepped}
-use Rattle.dch_node.specs.Values.{Blocks, Output, Radio, idle_blocks}
 use Rattle.dch_nodeb.specs.State.{DownlinkIubFrame, DownlinkDue, State, given_now, kept_still, leaving, taken}
-use Rattle.dch_node.specs.IubFrames.{blocks_at}
 use Rattle.dch_nodeb.specs.Steps.{AreAllLoaded, AreRunning, IsDeparture, IsRadio, radio_line}
 use Rattle.dch_nodeb.specs.Values.{Node, IubRxBuffer, DownlinkTransmitter, rx_buffer_at}
-use Rattle.dch_txframes.specs.Values.{radio_sent}
 use Rattle.dch_nodeb.proofs.Steady.{set_frames-member, tells}
 
 none_of : (count : ℕ) → count ≡ 0 → replicate count Zero ≡ []

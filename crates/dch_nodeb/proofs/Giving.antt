@@ -5,10 +5,10 @@ use Rattle.dch_types.specs.Parts.{channel_at}
 use Rattle.dch_accept.specs.Blocks.{Held}
 use Rattle.dch_accept.specs.HeldSets.{held_at}
 use Rattle.dch_accept.specs.Plans.{Planned}
-use Rattle.dch_ttibuf.specs.Loaded.{Loaded}
+use Rattle.dch_tti.specs.Loaded.{Loaded}
 use Rattle.dch_dlphy.specs.Loaded.{IsLoaded}
-use Rattle.dch_nodeb.specs.Moves.{AreGiven, IsGiven, IsUntouched, Loads}
 use Rattle.dch_types.specs.Timing.{starts}
+use Rattle.dch_nodeb.specs.Moves.{AreGiven, IsGiven, IsUntouched, Loads}
 use Rattle.dch_nodeb.specs.Values.{IubRxBuffer, DownlinkTransmitter, rx_buffer_at}
 
 given_still : (planned : Planned) (i : ℕ) (held : Held) (now new : DownlinkTransmitter) → IsUntouched i now new → IsGiven planned i held now → IsGiven planned i held new

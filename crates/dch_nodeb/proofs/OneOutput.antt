@@ -3,7 +3,7 @@ use Rattle.std.proofs.Common.{◌≡◌, ◌<◌, ◌∙◌, ◌++◌, ℕ, zero
 use Rattle.dch_types.specs.declared.channel.Dir.TheVariants.{Up}
 use Rattle.dch_types.specs.Limits.{IsSide}
 use Rattle.dch_accept.specs.Plans.{IsPlanned, Planned}
-use Rattle.dch_rxframes.proofs.Alike.{KeepTheSame}
+use Rattle.dch_tti.proofs.Alike.{KeepTheSame}
 use Rattle.dch_node.specs.Lines.{Line, joined}
 use Rattle.dch_node.specs.Traces.{Trace}
 use Rattle.dch_node.specs.Values.{Output, Radio}

@@ -6,7 +6,7 @@ use Rattle.dch_dlphy.specs.Frames.{IsFrame}
 use Rattle.dch_dlphy.specs.Loaded.{IsLoaded}
 use Rattle.dch_dlphy.proofs.One.{loaded_one}
 use Rattle.dch_dlphy.proofs.OneFrame.{frame_same}
-use Rattle.dch_ttibuf.specs.Loaded.{loaded_at}
+use Rattle.dch_tti.specs.Loaded.{loaded_at}
 use Rattle.dch_node.specs.Values.{Blocks, Radio}
 use Rattle.dch_nodeb.specs.State.{State}
 use Rattle.dch_nodeb.specs.Steps.{AreRunning, IsRadio, IsRadioFrame}

@@ -8,11 +8,11 @@ use Rattle.dch_types.specs.Limits.{IsSide}
 use Rattle.dch_types.specs.Timing.{ends, set_frames, started}
 use Rattle.dch_accept.specs.HeldSets.{held_at}
 use Rattle.dch_accept.specs.Plans.{Planned}
-use Rattle.dch_rxframes.specs.Formats.{IsBadFrame}
-use Rattle.dch_rxframes.specs.RxFrames.{RxFrames}
-use Rattle.dch_rxframes.proofs.Alike.{KeepTheSame, bad_alike, format_alike}
-use Rattle.dch_rxframes.proofs.One.{format_one}
-use Rattle.dch_rxframes.proofs.Sent.{none_bad}
+use Rattle.dch_tti.specs.Formats.{IsBadFrame}
+use Rattle.dch_tti.specs.RxFrames.{RxFrames}
+use Rattle.dch_tti.proofs.Alike.{KeepTheSame, bad_alike, format_alike}
+use Rattle.dch_tti.proofs.OneKept.{format_one}
+use Rattle.dch_tti.proofs.Sent.{none_bad}
 use Rattle.dch_ulphy.proofs.Alike.{read_alike}
 use Rattle.dch_ulphy.proofs.One.{read_one}
 use Rattle.dch_iub.specs.Forms.{IsWrittenForm}

@@ -3,13 +3,13 @@ use Rattle.std.proofs.Common.{◌≡◌, ◌<◌, ◌∙◌, ℕ, List, [], leng
 use Rattle.dch_types.specs.Limits.{IsSide}
 use Rattle.dch_types.specs.Parts.{channel_at}
 use Rattle.dch_accept.specs.Plans.{Planned}
-use Rattle.dch_ttibuf.specs.Loaded.{loaded_at}
+use Rattle.dch_tti.specs.Loaded.{loaded_at}
 use Rattle.dch_dlphy.specs.Loaded.{IsLoaded}
+use Rattle.dch_types.specs.Timing.{starts}
+use Rattle.dch_node.specs.Values.{Blocks, idle_blocks, no_output}
 use Rattle.dch_nodeb.specs.Moves.{AreGiven}
 use Rattle.dch_nodeb.specs.Opened.{AreNew, AreNewRxBuffers, AreNoted, AreRxBuffersOf, IsNewTransmitter, IsNodeOf}
-use Rattle.dch_types.specs.Timing.{starts}
 use Rattle.dch_nodeb.specs.Standing.{Represents, RepresentsHistory, Shows}
-use Rattle.dch_node.specs.Values.{Blocks, idle_blocks, no_output}
 use Rattle.dch_nodeb.specs.State.{opened_state}
 use Rattle.dch_nodeb.specs.Steps.{AreAllLoaded}
 use Rattle.dch_nodeb.specs.Values.{IubRxBuffer, DownlinkTransmitter, Parts, node_of, rx_buffer_at}

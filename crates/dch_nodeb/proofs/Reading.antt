@@ -7,8 +7,8 @@ use Rattle.dch_types.specs.declared.config.Config.{Config}
 use Rattle.dch_accept.specs.Blocks.{Held}
 use Rattle.dch_accept.specs.HeldSets.{HasFormat, HeldSet, IsSetOf, held_at}
 use Rattle.dch_accept.specs.Plans.{Planned}
-use Rattle.dch_rxframes.specs.RxFrames.{RxFrames}
-use Rattle.dch_rxframes.specs.Formats.{IsBadFrame}
+use Rattle.dch_tti.specs.RxFrames.{RxFrames}
+use Rattle.dch_tti.specs.Formats.{IsBadFrame}
 use Rattle.dch_ulphy.specs.Read.{IsTtiRead}
 use Rattle.dch_nodeb.specs.Steps.{IsBadTti}
 

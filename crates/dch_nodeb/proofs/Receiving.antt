@@ -4,17 +4,17 @@ use Rattle.std.specs.Prelude.{◌%◌}
 use Rattle.std.proofs.lemmas.Bool.Decides.{eqb_tells}
 use Rattle.dch_types.specs.declared.channel.Dir.TheVariants.{Up}
 use Rattle.dch_accept.specs.Plans.{Planned}
-use Rattle.dch_rxframes.specs.RxFrames.{RxFrame, RxFrames, rx_frame_at}
+use Rattle.dch_tti.specs.RxFrames.{RxFrame, RxFrames, rx_frame_at}
 use Rattle.dch_script.specs.Held.{Held as Text}
-use Rattle.dch_nodeb.specs.Moves.{Hears, Receives}
-use Rattle.dch_nodeb.specs.Standing.{NothingSent, Represents, Stepped}
 use Rattle.dch_node.specs.Values.{Output, Radio}
-use Rattle.dch_nodeb.specs.State.{UplinkFrame, State, coming}
 use Rattle.dch_node.specs.RxFrames.{KeepsRadio}
 use Rattle.dch_node.specs.Lines.{joined}
+use Rattle.dch_txframes.specs.Values.{IubTxBuffer, tx_buffer_at}
+use Rattle.dch_nodeb.specs.Moves.{Hears, Receives}
+use Rattle.dch_nodeb.specs.Standing.{NothingSent, Represents, Stepped}
+use Rattle.dch_nodeb.specs.State.{UplinkFrame, State, coming}
 use Rattle.dch_nodeb.specs.Steps.{IsReception}
 use Rattle.dch_nodeb.specs.Values.{Node, UplinkReceiver}
-use Rattle.dch_txframes.specs.Values.{IubTxBuffer, tx_buffer_at}
 
 -- the frames that are kept then
 frames_kept : (planned : Planned) (state : State) (radio : Option Radio) (old new : RxFrames) → Hears planned state.cfn radio old new

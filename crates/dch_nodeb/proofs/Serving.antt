@@ -9,15 +9,15 @@ use Rattle.dch_types.specs.Timing.{ends, set_frames, started}
 use Rattle.std.specs.Prelude.{◌==◌, if◌then◌else◌, slice_set}
 use Rattle.std.proofs.lemmas.Bool.Decides.{eqb_tells}
 use Rattle.dch_accept.specs.Plans.{Planned}
-use Rattle.dch_rxframes.specs.RxFrames.{RxFrames}
+use Rattle.dch_tti.specs.RxFrames.{RxFrames}
 use Rattle.dch_script.specs.Held.{Held as Text}
-use Rattle.dch_nodeb.specs.Moves.{AreDelivered, Delivered}
 use Rattle.dch_txframes.specs.Opened.{AreTxBuffersOf, IsTxBufferOf}
 use Rattle.dch_txframes.specs.Reports.{added}
 use Rattle.dch_txframes.specs.Sending.{SendsFrame}
 use Rattle.dch_txframes.specs.Values.{IubTxBuffer, tx_buffer_at}
-use Rattle.dch_nodeb.specs.Opened.{IsReceiverOf}
 use Rattle.dch_node.specs.Lines.{BadTti, Iub, Line, joined, text_of}
+use Rattle.dch_nodeb.specs.Moves.{AreDelivered, Delivered}
+use Rattle.dch_nodeb.specs.Opened.{IsReceiverOf}
 use Rattle.dch_nodeb.specs.Steps.{AreRead, DeliversSet, IsBadTti}
 use Rattle.dch_nodeb.specs.Values.{UplinkReceiver}
 

@@ -8,8 +8,8 @@ use Rattle.dch_accept.specs.Blocks.{Held}
 use Rattle.dch_accept.specs.Frames.{Frame}
 use Rattle.dch_accept.specs.HeldSets.{IsIdleSet, IsSetOf, held_at}
 use Rattle.dch_accept.specs.Plans.{Planned}
-use Rattle.dch_ttibuf.specs.Loaded.{loaded_at}
-use Rattle.dch_rxframes.specs.RxFrames.{RxFrames, rx_frame_at}
+use Rattle.dch_tti.specs.Loaded.{loaded_at}
+use Rattle.dch_tti.specs.RxFrames.{RxFrames, rx_frame_at}
 use Rattle.dch_dlphy.specs.Frames.{IsFrame}
 use Rattle.dch_dlphy.specs.Loaded.{IsLoaded}
 use Rattle.dch_iub.specs.Answers.{IsCause}
@@ -19,12 +19,12 @@ use Rattle.dch_script.specs.Held.{Held as Text}
 use Rattle.dch_txframes.specs.Opened.{AreTxBuffersOf, IsTxBufferOf}
 use Rattle.dch_txframes.specs.Reports.{added}
 use Rattle.dch_txframes.specs.Values.{IubTxBuffer, radio_sent, tx_buffer_at}
-use Rattle.dch_nodeb.specs.Opened.{AreRxBuffersOf, IsReceiverOf, IsTransmitterOf}
 use Rattle.dch_types.specs.Timing.{set_frames, starts}
 use Rattle.dch_node.specs.Values.{Radio}
 use Rattle.dch_node.specs.RxFrames.{KeepsRadio}
 use Rattle.dch_node.specs.Lines.{IubBad, Line, joined, text_of}
 use Rattle.dch_node.specs.IubFrames.{refusal_number}
+use Rattle.dch_nodeb.specs.Opened.{AreRxBuffersOf, IsReceiverOf, IsTransmitterOf}
 use Rattle.dch_nodeb.specs.Steps.{DeliversSet, radio_line}
 use Rattle.dch_nodeb.specs.Values.{IubRxBuffer, UplinkReceiver, DownlinkTransmitter, rx_buffer_at}
 

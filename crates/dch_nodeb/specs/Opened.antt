@@ -6,8 +6,8 @@ use Rattle.dch_accept.specs.Blocks.{HoldsTtis}
 use Rattle.dch_accept.specs.Frames.{most_cells}
 use Rattle.dch_accept.specs.HeldSets.{IsIdleSet, IsSetOf}
 use Rattle.dch_accept.specs.Plans.{Planned}
-use Rattle.dch_rxframes.specs.RxFrames.{AreMissing, IsReaderOf}
-use Rattle.dch_ttibuf.specs.Loaded.{Loaded, loaded_at}
+use Rattle.dch_tti.specs.RxFrames.{AreMissing, IsReaderOf}
+use Rattle.dch_tti.specs.Loaded.{Loaded, loaded_at}
 use Rattle.dch_dlphy.specs.Loaded.{IsTtiOf}
 use Rattle.dch_node.specs.Values.{idle_blocks}
 use Rattle.dch_txframes.specs.Opened.{AreTxBuffersOf, IsRadioTxOf}

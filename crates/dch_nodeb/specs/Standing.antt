@@ -4,18 +4,18 @@ use Rattle.dch_types.specs.declared.channel.Dir.TheVariants.{Up}
 use Rattle.dch_types.specs.declared.channel.Side.{Side}
 use Rattle.dch_types.specs.Timing.{has_set}
 use Rattle.dch_accept.specs.Plans.{Planned}
-use Rattle.dch_rxframes.specs.RxFrames.{HasTfci, rx_frame_at}
+use Rattle.dch_tti.specs.RxFrames.{HasTfci, rx_frame_at}
 use Rattle.dch_iub.specs.Shape.{ForSet}
-use Rattle.dch_nodeb.specs.declared.event.NodeBEvent.{NodeBEvent}
-use Rattle.dch_nodeb.specs.declared.event.NodeBEvent.TheVariants.{Iub, Down as Due, Phy, Change as Changes}
 use Rattle.dch_node.specs.Lines.{Line}
 use Rattle.dch_node.specs.Standing.{HasHistory, HasLongerHistory, TakesStep}
 use Rattle.dch_node.specs.Values.{Output}
 use Rattle.dch_txframes.specs.Lending.{radio_of}
-use Rattle.dch_nodeb.specs.Opened.{CanChange, HasNext, IsNodeOf}
-use Rattle.dch_nodeb.specs.State.{Change, Event, IubFrame, DownlinkDue, UplinkFrame, DownlinkIubFrame, State, opened_state}
 use Rattle.dch_node.specs.RxFrames.{KeepsRadio}
 use Rattle.dch_node.specs.IubFrames.{blocks_at}
+use Rattle.dch_nodeb.specs.declared.event.NodeBEvent.{NodeBEvent}
+use Rattle.dch_nodeb.specs.declared.event.NodeBEvent.TheVariants.{Iub, Down as Due, Phy, Change as Changes}
+use Rattle.dch_nodeb.specs.Opened.{CanChange, HasNext, IsNodeOf}
+use Rattle.dch_nodeb.specs.State.{Change, Event, IubFrame, DownlinkDue, UplinkFrame, DownlinkIubFrame, State, opened_state}
 use Rattle.dch_nodeb.specs.Steps.{AreAllLoaded, Steps}
 use Rattle.dch_nodeb.specs.Values.{Node, IubRxBuffer, iub_shown, rx_buffer_at, radio_shown}
 

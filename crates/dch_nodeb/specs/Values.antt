@@ -2,8 +2,8 @@
 use Rattle.std.specs.Prelude.{ℕ, List, [], Option, None, slice_index_or}
 use Rattle.dch_accept.specs.Blocks.{Held}
 use Rattle.dch_accept.specs.HeldSets.{HeldSet}
-use Rattle.dch_ttibuf.specs.Loaded.{Loaded}
-use Rattle.dch_rxframes.specs.RxFrames.{RxFrames}
+use Rattle.dch_tti.specs.Loaded.{Loaded}
+use Rattle.dch_tti.specs.RxFrames.{RxFrames}
 use Rattle.dch_node.specs.Values.{Radio}
 use Rattle.dch_txframes.specs.declared.radio_tx_buffer.RadioTxBuffer.{RadioTxBuffer}
 use Rattle.dch_txframes.specs.Values.{IubTxBuffer, radio_sent, tx_buffer_at}

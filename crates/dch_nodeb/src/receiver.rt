@@ -3,12 +3,12 @@ ghost use Rattle.dch_types.specs.declared.channel.Dir.TheVariants.{Up};
 ghost use Rattle.dch_types.specs.Parts.{channel_at};
 ghost use Rattle.dch_accept.specs.Frames.{most_cells};
 ghost use Rattle.dch_accept.specs.HeldSets.{IsSetOf, held_at};
-ghost use Rattle.dch_rxframes.specs.Formats.{IsBadFrame};
+ghost use Rattle.dch_tti.specs.Formats.{IsBadFrame};
 ghost use Rattle.dch_ulphy.specs.Read.{IsTtiRead};
-ghost use Rattle.dch_rxframes.specs.RxFrames.{AreMissing, HasTfci};
+ghost use Rattle.dch_tti.specs.RxFrames.{AreMissing, HasTfci};
+ghost use Rattle.dch_txframes.specs.Lending.{radio_of};
 ghost use Rattle.dch_nodeb.specs.Moves.{Hears};
 ghost use Rattle.dch_nodeb.specs.Opened.{IsReceiverOf};
-ghost use Rattle.dch_txframes.specs.Lending.{radio_of};
 ghost use Rattle.dch_nodeb.specs.Steps.{AreRead, IsBadTti};
 
 use dch_accept::{Accepted, FrameView, SetBlocks, TtiBlocks};

@@ -1,13 +1,13 @@
 ghost use Rattle.std.specs.Prelude.{◌≡◌, ◌<◌, ℕ, None, true};
 ghost use Rattle.dch_types.specs.declared.channel.Dir.TheVariants.{Up};
 ghost use Rattle.dch_types.specs.Timing.{ends, set_frames, started};
-ghost use Rattle.dch_rxframes.specs.RxFrames.{HasTfci};
-ghost use Rattle.dch_nodeb.specs.Moves.{Receives, Delivered};
-ghost use Rattle.dch_nodeb.specs.Opened.{IsReceiverOf};
+ghost use Rattle.dch_tti.specs.RxFrames.{HasTfci};
 ghost use Rattle.dch_txframes.specs.Opened.{AreTxBuffersOf, IsTxBufferOf};
 ghost use Rattle.dch_txframes.specs.Rooms.{HasRoomFor};
 ghost use Rattle.dch_txframes.specs.Lending.{radio_of};
 ghost use Rattle.dch_txframes.specs.Values.{tx_buffer_at};
+ghost use Rattle.dch_nodeb.specs.Moves.{Receives, Delivered};
+ghost use Rattle.dch_nodeb.specs.Opened.{IsReceiverOf};
 
 use crate::receiver::UplinkReceiver;
 use dch_accept::{Accepted, FrameView};

@@ -5,3 +5,13 @@ pub mod OtherLines
 pub mod RunLines
 pub mod Running
 pub mod Said
+pub mod NodeBNoTrace
+pub mod NodeBTaking
+pub mod NodeBTexts
+pub mod RncNoTrace
+pub mod RncOtherLines
+pub mod RncSenders
+pub mod RncTaking
+pub mod UeSenders
+pub mod UeTaking
+pub mod UeTexts

@@ -6,3 +6,23 @@ pub mod Run
 pub mod RunLines
 pub mod Shown
 pub mod Standing
+pub mod NodeBLasting
+pub mod NodeBLineEvents
+pub mod NodeBNoTrace
+pub mod NodeBReading
+pub mod NodeBRules
+pub mod RncLasting
+pub mod RncLineEvents
+pub mod RncNoTrace
+pub mod RncReading
+pub mod RncRules
+pub mod UeLasting
+pub mod UeLineEvents
+pub mod UeReading
+pub mod UeRules
+pub use Rattle.dch_rnc.specs.State as RncState
+pub use Rattle.dch_rnc.specs.Steps as RncSteps
+pub use Rattle.dch_ue.specs.State as UeState
+pub use Rattle.dch_nodeb.specs.State as NodebState
+pub use Rattle.dch_ue.specs.Values as UeValues
+pub use Rattle.dch_ue.specs.Standing as UeStanding

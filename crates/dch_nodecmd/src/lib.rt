@@ -1,16 +1,31 @@
-//! What the commands with one node share: each line is one event of the node, and what is shown of its text.
+//! The commands with one node, `nodeb`, `rnc` and `ue`: what they share, as each line is one event of the node, with what is shown of its text, and what
+//! each of their lines says to the Node B, to the network controller and to the terminal.
 #![tactic(auto)]
 
 mod handler;
 mod later;
 mod laws;
 mod node;
+mod node_b;
+pub mod node_b_laws;
+mod node_b_reading;
+mod rnc;
+pub mod rnc_laws;
+mod rnc_reading;
 mod shown;
 mod taken;
+mod ue;
+mod ue_reading;
 
+pub use dch_nodeb::NodeB;
+pub use dch_rnc;
+pub use dch_ue;
 pub use handler::{MOST_TEXT, NodeHandler};
 pub use later::Later;
 pub use laws::no_trace_law;
 pub use node::CommandNode;
+pub use node_b::NodeBLines;
+pub use rnc::RncLines;
 pub use shown::put_other_lines;
 pub use taken::Taken;
+pub use ue::UeLines;

@@ -14,7 +14,7 @@ use Rattle.dch_am.specs.Texts.{IsHeard, IsMrw, pdu_of_choice}
 use Rattle.dch_am.proofs.Turns.{sends_gives}
 use Rattle.dch_rlcpdu.specs.declared.am.AmView.TheVariants.{Payload as Read, Status}
 use Rattle.dch_rlcpdu.specs.Am.{am_pdu, am_reading}
-use Rattle.dch_status.specs.Fields.{mrw_fields}
+use Rattle.dch_rlcpdu.specs.Fields.{mrw_fields}
 use Rattle.dch_txbuf.specs.Content.{content_of}
 use Rattle.dch_txbuf.proofs.Bodies.{body_is, read_is}
 use Rattle.dch_amlaw.specs.Pair.{Block, Payload, Mrw, Report, End, all_handed, block_of, mrw_of, payload_of, pdu_in, report_of}

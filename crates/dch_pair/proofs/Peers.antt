@@ -6,14 +6,14 @@ use Rattle.std.proofs.lemmas.List.{length-map}
 use Rattle.std.proofs.Math.Seq.{drop-append_seam}
 use Rattle.dch_bits.specs.declared.offer.Offer.{Offer}
 use Rattle.dch_bits.specs.declared.offer.Offer.TheVariants.{Accepted, Full, WrongSize}
-use Rattle.dch_status.specs.Fields.{Field}
+use Rattle.dch_rlcpdu.specs.Fields.{Field}
 use Rattle.dch_am.specs.Entities.{Come, Entity, HandUp, Pdu, DataPdu, StatusPdu, ResetPdu, ResetAckPdu, IsWritten, Turn, Tells, Moves, Sends, Rests, after_riding, receiver_after, receiver_by, sender_after, sender_by, step, with_sides, writes}
 use Rattle.dch_am.specs.Receiver.{Receiver}
 use Rattle.dch_am.specs.Rules.{Rules}
 use Rattle.dch_am.specs.Sender.{Sender, after_offer}
 use Rattle.dch_amlaw.specs.Pair.{all_handed}
 use Rattle.dch_amlaw.proofs.Short.{fields_same}
-use Rattle.dch_amentity.specs.Standing.{Represents, Running, is_settled, waiting_in}
+use Rattle.dch_pair.specs.EntityStanding.{Represents, Running, is_settled, waiting_in}
 use Rattle.dch_pair.specs.Standing.{Earlier, IsPeer, Peer, whole}
 use Rattle.dch_pair.proofs.Units.{Grown, grown_by_pdu, whole-append, whole-map}
 

@@ -13,7 +13,7 @@ use Rattle.dch_am.specs.declared.answers.MrwTaken.{MrwTaken}
 use Rattle.dch_am.specs.declared.answers.MrwTaken.TheVariants.{Nothing, Obeyed, Old, Outside as Beyond}
 use Rattle.dch_am.specs.declared.answers.Taken.{Taken}
 use Rattle.dch_am.specs.declared.answers.Taken.TheVariants.{Kept, Duplicate, Outside}
-use Rattle.dch_status.specs.Fields.{Field}
+use Rattle.dch_rlcpdu.specs.Fields.{Field}
 use Rattle.dch_pair.specs.Standing.{whole}
 
 pub whole-append : (xs ys : List (List ℕ)) → whole (xs ++ ys) ≡ whole xs ++ whole ys

@@ -5,7 +5,7 @@ use Rattle.dch_rlcpdu.specs.declared.handed.PduError.{PduError}
 use Rattle.dch_am.specs.Entities.{Come, Entity, pdu_of, step}
 use Rattle.dch_am.specs.Rules.{Rules}
 use Rattle.dch_amlaw.specs.Pair.{Pair, all_handed}
-use Rattle.dch_amentity.specs.Standing.{Represents, Running as RunningEntity, size_in as octets_in, size_of as octets_of}
+use Rattle.dch_pair.specs.EntityStanding.{Represents, Running as RunningEntity, size_in as octets_in, size_of as octets_of}
 
 -- an entity, how many units it has accepted, and those that it has handed up
 pub record Peer : Type 0 where

@@ -1,7 +1,11 @@
-//! Two ends of a bearer in acknowledged mode (TS 25.322 11.3): what holds whatever is offered, built, lost and delivered, and two that run.
+//! An entity of RLC acknowledged mode (TS 25.322 4.2.1.3), which is its sending side and its receiving side with the PDUs that go and come, and two
+//! of them that run, with the blocks in flight between them (TS 25.322 11.3).
 #![tactic(auto)]
 
+mod answers;
+mod entity;
 mod inside;
+mod laws;
 mod outcome;
 mod peer;
 mod run;
@@ -9,8 +13,11 @@ mod running;
 mod setup;
 mod store;
 
+pub use answers::{Built, Received};
 pub use dch_amlaw::in_order_law;
+pub use entity::AmEntity;
 pub use inside::are_inside;
+pub use laws::events_law;
 pub use outcome::PairEnd;
 pub use run::run_pair;
 pub use setup::{End, PairEvent, PairSetup};

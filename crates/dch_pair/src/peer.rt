@@ -5,11 +5,11 @@ ghost use Rattle.dch_am.specs.Sender.{discarded};
 ghost use Rattle.dch_amsend.specs.SduDiscard.{capped};
 ghost use Rattle.dch_rlcpdu.specs.Am.{am_reading};
 ghost use Rattle.dch_amlaw.specs.Pair.{all_handed};
-ghost use Rattle.dch_amentity.specs.Standing.{AreSizes, Represents, is_settled, waiting_in};
+ghost use Rattle.dch_pair.specs.EntityStanding.{AreSizes, Represents, is_settled, waiting_in};
 ghost use Rattle.dch_pair.specs.Standing.{AreSame, Earlier, IsPeer, hears, nothing_earlier, size_in, size_of, whole};
 
+use crate::entity::AmEntity;
 use crate::store::Store;
-use dch_amentity::AmEntity;
 use dch_bits::{NoMemory, Offer};
 use dch_rlcpdu::{Handed, read_am};
 use dch_txbuf::LONGEST_SDU;
@@ -27,7 +27,7 @@ pub struct Peer {
 
 impl Model for Peer {
     ghost use Rattle.std.specs.Prelude.{◌≡◌, true};
-    ghost use Rattle.dch_amentity.specs.Standing.{is_settled};
+    ghost use Rattle.dch_pair.specs.EntityStanding.{is_settled};
     ghost use Rattle.dch_pair.specs.Standing.{Peer};
 
     ghost Value = { Peer };

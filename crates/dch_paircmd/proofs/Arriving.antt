@@ -9,11 +9,11 @@ use Rattle.dch_am.specs.Entities.{Entity, Turn as EntityTurn, Tells, Moves, Send
 use Rattle.dch_am.specs.Receiver.{Receiver}
 use Rattle.dch_am.specs.Rules.{Rules}
 use Rattle.dch_am.specs.Telling.{tick_receiver}
-use Rattle.dch_ambound.specs.Bounded.{IsBoundedReceiver, Takes}
-use Rattle.dch_ambound.specs.Bytes.{unit_bytes, units_bytes}
-use Rattle.dch_ambound.proofs.Receivers.{IsLightView, receiver_most, receiver_opened, view_taken}
-use Rattle.dch_ambound.proofs.Views.{reading_light}
-use Rattle.dch_amentity.specs.Answers.{waiting}
+use Rattle.dch_amlaw.specs.Bounded.{IsBoundedReceiver, Takes}
+use Rattle.dch_amlaw.specs.Bytes.{unit_bytes, units_bytes}
+use Rattle.dch_amlaw.proofs.Receivers.{IsLightView, receiver_most, receiver_opened, view_taken}
+use Rattle.dch_amlaw.proofs.Views.{reading_light}
+use Rattle.dch_pair.specs.Answers.{waiting}
 use Rattle.dch_bits.specs.declared.offer.Offer.{Offer}
 use Rattle.dch_bits.specs.declared.offer.Offer.TheVariants.{Accepted, Full, WrongSize}
 use Rattle.dch_pair.proofs.Peers.{handed_is}
@@ -22,7 +22,7 @@ use Rattle.dch_rlcpdu.specs.declared.am.AmView.{AmView}
 use Rattle.dch_rlcpdu.specs.declared.am.AmView.TheVariants.{Payload, Status, Reset, ResetAck}
 use Rattle.dch_rlcpdu.specs.declared.handed.PduError.{PduError}
 use Rattle.dch_rlcpdu.specs.declared.handed.PduError.TheVariants.{Short, Reserved as ReservedValue, Indicator, Sufi}
-use Rattle.dch_resetlaw.specs.Ends.{Pending, is_asked, is_heard}
+use Rattle.dch_reset.specs.Ends.{Pending, is_asked, is_heard}
 use Rattle.dch_reset.specs.Answers.{answer_read, came_read}
 use Rattle.dch_reset.specs.History.{handed_up}
 use Rattle.dch_reset.specs.Standing.{Represents, Running, is_settled, size_of, waiting_in}

@@ -5,7 +5,7 @@ use Rattle.std.proofs.lemmas.Bool.{le-ltb, ne_eqb}
 use Rattle.std.proofs.lemmas.List.{append-nil}
 use Rattle.dch_am.specs.Entities.{Entity, HandUp as HandsUp, step as entity_step}
 use Rattle.dch_am.specs.Rules.{Rules}
-use Rattle.dch_amentity.specs.Standing.{Represents as StandsFor}
+use Rattle.dch_pair.specs.EntityStanding.{Represents as StandsFor}
 use Rattle.dch_pair.proofs.Peers.{handed_to, now_handed as now_handed_there, none_waits as none_waits_there, one_handed as one_handed_there}
 use Rattle.dch_reset.specs.History.{handed_up}
 use Rattle.dch_reset.specs.Standing.{AreSizes, Represents, Running, is_settled, waiting_in}

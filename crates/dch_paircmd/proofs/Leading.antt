@@ -9,7 +9,7 @@ use Rattle.dch_bits.specs.declared.offer.Offer.{Offer}
 use Rattle.dch_reset.specs.State.{Build, IsTold as TellsAt, IsWritten, Offer as Offers, Reset, Tick, step, turn, writes}
 use Rattle.dch_script.specs.Held.{Held}
 use Rattle.dch_script.specs.Pair.{ParsedPair, arrive, build, lose, offer, reset, tick}
-use Rattle.dch_texts.specs.Texts.{octets_of}
+use Rattle.dch_lines.specs.Texts.{octets_of}
 use Rattle.dch_paircmd.specs.Ends.{Sides}
 use Rattle.dch_paircmd.specs.Rules.{Happened, HappensAs, arrives_at, builds, is_early, may_build, offers, steps_to, told_near, with_coming}
 use Rattle.dch_paircmd.specs.Standing.{AreSides, Arrives, IsSide, LeadsTo, SideValue}

@@ -3,7 +3,7 @@
 use Rattle.std.specs.Prelude.{◌≡◌, ◌⊎◌, ◌&&◌, ◌++◌, ◌==◌, ℕ, List, [], ◌∷◌, Bool, true, false, not, Option, Some, None, is_some, Ok, Err, codes, drop, length, nat_lt}
 use Rattle.dch_am.specs.Rules.{Rules}
 use Rattle.dch_am.specs.Sender.{offered}
-use Rattle.dch_amentity.specs.Answers.{waiting}
+use Rattle.dch_pair.specs.Answers.{waiting}
 use Rattle.dch_rlcpdu.specs.Am.{am_reading}
 use Rattle.dch_reset.specs.Answers.{answer_read, came_read}
 use Rattle.dch_reset.specs.History.{handed_up}
@@ -14,7 +14,7 @@ use Rattle.dch_script.specs.declared.event.LineError.{LineError}
 use Rattle.dch_script.specs.declared.event.LineError.TheVariants.{When}
 use Rattle.dch_script.specs.declared.report.Line.TheVariants.{Open, EndLines}
 use Rattle.dch_lines.specs.Semantics.{Semantics}
-use Rattle.dch_texts.specs.Texts.{octets_of}
+use Rattle.dch_lines.specs.Texts.{octets_of}
 use Rattle.dch_paircmd.specs.Ends.{Ends, PairEnd, Sides, opened_ends, sides_at, with_sides}
 use Rattle.dch_paircmd.specs.Texts.{got_text, octets_text, offer_text, units_text}
 

@@ -1,7 +1,7 @@
 -- What the handler of `pair` has, and the ends that it stands for.
 use Rattle.std.specs.Prelude.{◌≡◌, ◌≤◌, ◌++◌, ℕ, List, true, false, All, Option, Some, None, Result, Ok, Err, length}
 use Rattle.dch_am.specs.Rules.{Rules}
-use Rattle.dch_ambound.specs.Bounded.{IsBoundedReceiver}
+use Rattle.dch_amlaw.specs.Bounded.{IsBoundedReceiver}
 use Rattle.dch_reset.specs.Standing.{Represents, Running, is_settled, size_in, size_of}
 use Rattle.dch_script.specs.Held.{Held}
 use Rattle.dch_script.specs.Pair.{IsOfPair, ParsedPair, is_opening}

@@ -12,8 +12,8 @@ use crate::queue::{MOST_OCTETS, MOST_PDUS};
 use crate::side::Side;
 use crate::texts::{put_octets, put_offer};
 use dch_bits::NoMemory;
+use dch_lines::{OCTETS, read_octets};
 use dch_script::{LineError, PairLine, Report};
-use dch_texts::{OCTETS, read_octets};
 use std::alloc::Global;
 use std::marker::Model;
 
@@ -29,7 +29,7 @@ pub struct Rooms {
 
 impl Model for Rooms {
     ghost use Rattle.std.specs.Prelude.{◌≡◌, length};
-    ghost use Rattle.dch_texts.specs.declared.texts.TheConstants.{OCTETS};
+    ghost use Rattle.dch_lines.specs.declared.line_texts.TheConstants.{OCTETS};
 
     ghost Value = { Unit {0} };
 

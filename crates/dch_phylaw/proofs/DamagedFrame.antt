@@ -10,8 +10,8 @@ use Rattle.dch_tfci.proofs.Weights.{four_wrong}
 use Rattle.dch_accept.specs.Cells.{frame_cells}
 use Rattle.dch_accept.specs.Frames.{Frame, tfci_bits}
 use Rattle.dch_accept.specs.Plans.{Planned}
-use Rattle.dch_ttibuf.specs.Frames.{IsFrameOf}
-use Rattle.dch_rxframes.specs.RxFrames.{Finds, IsKept, RxFrame}
+use Rattle.dch_tti.specs.Frames.{IsFrameOf}
+use Rattle.dch_tti.specs.RxFrames.{Finds, IsKept, RxFrame}
 use Rattle.dch_phylaw.specs.Damaged.{IsLittleDamaged}
 
 -- the combination that is found in it

@@ -23,13 +23,13 @@ use Rattle.dch_trellis.specs.Distance.{lost}
 use Rattle.dch_trellis.specs.Search.{no_votes}
 use Rattle.dch_accept.specs.Blocks.{Held}
 use Rattle.dch_accept.specs.Plans.{IsPlanned, Planned}
-use Rattle.dch_decode.specs.Received.{ArrivesAs}
-use Rattle.dch_decode.proofs.Arrived.{arrived_correctable}
-use Rattle.dch_rxframes.specs.Formats.{AllGive, format_in}
-use Rattle.dch_rxframes.specs.Read.{coded_in}
-use Rattle.dch_rxframes.specs.RxFrames.{RxFrames}
-use Rattle.dch_rxframes.proofs.Alike.{KeepTheSame}
-use Rattle.dch_rxframes.proofs.Sent.{given_format, none_bad}
+use Rattle.dch_tti.specs.Received.{ArrivesAs}
+use Rattle.dch_tti.proofs.Arrived.{arrived_correctable}
+use Rattle.dch_tti.specs.Formats.{AllGive, format_in}
+use Rattle.dch_tti.specs.Read.{coded_in}
+use Rattle.dch_tti.specs.RxFrames.{RxFrames}
+use Rattle.dch_tti.proofs.Alike.{KeepTheSame}
+use Rattle.dch_tti.proofs.Sent.{given_format, none_bad}
 use Rattle.dch_dlphy.specs.Frames.{multiplexed}
 use Rattle.dch_dlphy.specs.Loaded.{tti_cells}
 use Rattle.dch_dlphy.specs.Read.{AreVotes, IsTtiRead, tti_cell, tti_pattern}

@@ -11,13 +11,13 @@ use Rattle.dch_types.specs.Parts.{channel_at, format_at}
 use Rattle.dch_inter.specs.Places.{frame_of, place_of}
 use Rattle.dch_accept.specs.Blocks.{Held}
 use Rattle.dch_accept.specs.Plans.{IsPlanned, Planned}
-use Rattle.dch_decode.specs.Received.{ArrivesAs}
-use Rattle.dch_decode.proofs.Arrived.{arrived}
-use Rattle.dch_rxframes.specs.Formats.{AllGive}
-use Rattle.dch_rxframes.specs.Read.{AreVotesOf}
-use Rattle.dch_rxframes.specs.RxFrames.{RxFrames, frame_at}
-use Rattle.dch_rxframes.proofs.Alike.{KeepTheSame, reading_alike, same_cells, same_combination}
-use Rattle.dch_rxframes.proofs.Sent.{given_format, none_bad, sent_formats}
+use Rattle.dch_tti.specs.Received.{ArrivesAs}
+use Rattle.dch_tti.proofs.Arrived.{arrived}
+use Rattle.dch_tti.specs.Formats.{AllGive}
+use Rattle.dch_tti.specs.Read.{AreVotesOf}
+use Rattle.dch_tti.specs.RxFrames.{RxFrames, frame_at}
+use Rattle.dch_tti.proofs.Alike.{KeepTheSame, reading_alike, same_cells, same_combination}
+use Rattle.dch_tti.proofs.Sent.{given_format, none_bad, sent_formats}
 use Rattle.dch_dlphy.specs.Frames.{multiplexed}
 use Rattle.dch_dlphy.specs.Loaded.{tti_cells}
 use Rattle.dch_dlphy.specs.Read.{AreVotes, IsTtiRead, received_cell, tti_cell}

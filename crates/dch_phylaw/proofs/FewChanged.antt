@@ -14,11 +14,11 @@ use Rattle.dch_coding.specs.Ttis.{IsCodedTti}
 use Rattle.dch_trellis.specs.Distance.{damage, lost}
 use Rattle.dch_trellis.specs.Search.{no_votes}
 use Rattle.dch_collision.specs.Clear.{block_copies, joined_in}
-use Rattle.dch_decode.specs.Corrected.{AreCorrectable, IsCorrectable, block_votes, coded_bits_of, least_distance}
-use Rattle.dch_decode.proofs.Blocks.{coded_blocks-at}
-use Rattle.dch_decode.proofs.Corrected.{told_in_coding}
-use Rattle.dch_decode.proofs.Parts.{get_or-part, length-part, part_fits}
-use Rattle.dch_rxframes.specs.Read.{coded_in}
+use Rattle.dch_tti.specs.Corrected.{AreCorrectable, IsCorrectable, block_votes, coded_bits_of, least_distance}
+use Rattle.dch_tti.proofs.Blocks.{coded_blocks-at}
+use Rattle.dch_tti.proofs.Corrected.{told_in_coding}
+use Rattle.dch_tti.proofs.Parts.{get_or-part, length-part, part_fits}
+use Rattle.dch_tti.specs.Read.{coded_in}
 use Rattle.dch_phylaw.specs.Damaged.{AreFewChanged, AreLittleChanged, block_changes}
 use Rattle.dch_phylaw.proofs.Changed.{damage-changed}
 

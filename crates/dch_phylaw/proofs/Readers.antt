@@ -13,10 +13,10 @@ use Rattle.dch_accept.specs.Plans.{Planned}
 use Rattle.dch_accept.specs.Rooms.{most_room}
 use Rattle.dch_node.specs.RxFrames.{AreHeard, KeepsRadio}
 use Rattle.dch_node.specs.Values.{Radio}
-use Rattle.dch_rxframes.specs.RxFrames.{AreBack, Finds, IsFound, IsKeptOf, IsReaderOf, RxFrame, RxFrames, frame_at, rx_frame_at, tti_place}
-use Rattle.dch_rxframes.specs.Sent.{AreSentFrames, IsSentFrame}
-use Rattle.dch_rxframes.proofs.Alike.{KeepTheSame, same_cells, same_combination}
-use Rattle.dch_ttibuf.specs.Loaded.{Loaded}
+use Rattle.dch_tti.specs.RxFrames.{AreBack, Finds, IsFound, IsKeptOf, IsReaderOf, RxFrame, RxFrames, frame_at, rx_frame_at, tti_place}
+use Rattle.dch_tti.specs.Sent.{AreSentFrames, IsSentFrame}
+use Rattle.dch_tti.proofs.Alike.{KeepTheSame, same_cells, same_combination}
+use Rattle.dch_tti.specs.Loaded.{Loaded}
 
 -- a kept frame with the room that its direction wants
 abbrev with_room : Planned → Dir → RxFrame → RxFrame

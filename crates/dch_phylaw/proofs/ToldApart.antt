@@ -8,7 +8,7 @@ use Rattle.dch_types.specs.Lengths.{coded_block}
 use Rattle.dch_coding.specs.Chain.{coded_as}
 use Rattle.dch_trellis.specs.Distance.{AreToldApart, copies_between}
 use Rattle.dch_collision.specs.Collisions.{NoneCollide}
-use Rattle.dch_decode.proofs.Blocks.{length-coded_as}
+use Rattle.dch_tti.proofs.Blocks.{length-coded_as}
 
 -- bits between which there is no copy are the same where there is one
 same_bit : (n rest : ℕ) (x y : Bit) → n * number_of (plus x y) + rest ≡ 0 → 0 < n → x ≡ y

@@ -28,9 +28,9 @@ use Rattle.dch_match.specs.Uplinks.{IsPlan, before_of, sent_of, uplink_pattern, 
 use Rattle.dch_match.proofs.MatchedLemmas.{matched_kept, odd_start}
 use Rattle.dch_match.proofs.SharesLemmas.{nothing_shared, shared_le}
 use Rattle.dch_match.proofs.Sizes.{largest_most}
-use Rattle.dch_puncture.specs.Copies.{bits_in, frame_copies, padded_in, uplink_copies}
-use Rattle.dch_puncture.specs.Plans.{plan_at}
-use Rattle.dch_puncture.proofs.Sizes.{frame_size-plan}
+use Rattle.dch_collision.specs.Copies.{bits_in, frame_copies, padded_in, uplink_copies}
+use Rattle.dch_collision.specs.Plans.{plan_at}
+use Rattle.dch_collision.proofs.SentSizes.{frame_size-plan}
 use Rattle.dch_frame.specs.Stages.{as_cell, origin_of}
 use Rattle.dch_frame.specs.Votes.{copies_as_votes}
 use Rattle.dch_frame.proofs.Carried.{place_inside, whole_rows}
@@ -39,11 +39,11 @@ use Rattle.dch_frame.proofs.Kept.{origin_of-inside}
 use Rattle.dch_accept.specs.Blocks.{Held}
 use Rattle.dch_accept.specs.Plans.{IsPlanned, Planned}
 use Rattle.dch_accept.proofs.Sizes.{plan_sized}
-use Rattle.dch_decode.specs.Copies.{AreCopies}
-use Rattle.dch_rxframes.specs.Read.{coded_in}
-use Rattle.dch_rxframes.specs.RxFrames.{RxFrame, RxFrames, frame_at}
-use Rattle.dch_rxframes.proofs.Sent.{sent_number}
-use Rattle.dch_ttibuf.specs.Loaded.{Loaded}
+use Rattle.dch_tti.specs.Copies.{AreCopies}
+use Rattle.dch_tti.specs.Read.{coded_in}
+use Rattle.dch_tti.specs.RxFrames.{RxFrame, RxFrames, frame_at}
+use Rattle.dch_tti.proofs.Sent.{sent_number}
+use Rattle.dch_tti.specs.Loaded.{Loaded}
 use Rattle.dch_ulphy.specs.Frames.{bits_before, multiplexed}
 use Rattle.dch_ulphy.specs.Loaded.{AreInterleaved}
 use Rattle.dch_ulphy.specs.Read.{IsTtiRead, channel_cells, frame_votes, pattern_in, tti_votes}

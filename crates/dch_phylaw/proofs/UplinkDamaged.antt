@@ -17,18 +17,18 @@ use Rattle.dch_match.specs.declared.pattern.Pattern.{Pattern}
 use Rattle.dch_match.specs.Patterns.{copies, copies_below}
 use Rattle.dch_frame.specs.Votes.{copies_as_votes, votes_of}
 use Rattle.dch_frame.proofs.Carried.{whole_rows}
-use Rattle.dch_puncture.specs.Copies.{bits_in, padded_in, uplink_copies}
-use Rattle.dch_puncture.specs.Plans.{plan_at}
+use Rattle.dch_collision.specs.Copies.{bits_in, padded_in, uplink_copies}
+use Rattle.dch_collision.specs.Plans.{plan_at}
 use Rattle.dch_trellis.specs.Distance.{lost}
 use Rattle.dch_trellis.specs.Search.{no_votes}
 use Rattle.dch_accept.specs.Blocks.{Held}
 use Rattle.dch_accept.specs.Plans.{IsPlanned, Planned}
-use Rattle.dch_decode.specs.Received.{ArrivesAs}
-use Rattle.dch_decode.proofs.Arrived.{arrived_correctable}
-use Rattle.dch_rxframes.specs.Formats.{AllGive, format_in}
-use Rattle.dch_rxframes.specs.Read.{coded_in}
-use Rattle.dch_rxframes.specs.RxFrames.{RxFrames, frame_at}
-use Rattle.dch_rxframes.proofs.Sent.{given_format, none_bad}
+use Rattle.dch_tti.specs.Received.{ArrivesAs}
+use Rattle.dch_tti.proofs.Arrived.{arrived_correctable}
+use Rattle.dch_tti.specs.Formats.{AllGive, format_in}
+use Rattle.dch_tti.specs.Read.{coded_in}
+use Rattle.dch_tti.specs.RxFrames.{RxFrames, frame_at}
+use Rattle.dch_tti.proofs.Sent.{given_format, none_bad}
 use Rattle.dch_ulphy.specs.Read.{IsTtiRead, channel_cells, frame_votes, pattern_in, tti_votes}
 use Rattle.dch_phylaw.specs.Damaged.{WasDamagedUp, uplink_changes}
 use Rattle.dch_phylaw.specs.SentRead.{IsReadAsSent}

@@ -6,15 +6,15 @@ use Rattle.dch_types.specs.declared.channel.Side.{Side}
 use Rattle.dch_types.specs.declared.channel.Trch.{Trch}
 use Rattle.dch_types.specs.Limits.{IsFrames}
 use Rattle.dch_types.specs.Parts.{channel_at, format_at}
-use Rattle.dch_legal.specs.Sequences.{IsLegal}
-use Rattle.dch_puncture.specs.Copies.{uplink_copies}
+use Rattle.dch_collision.specs.Sequences.{IsLegal}
+use Rattle.dch_collision.specs.Copies.{uplink_copies}
 use Rattle.dch_accept.specs.Blocks.{Held}
 use Rattle.dch_accept.specs.Plans.{IsPlanned, Planned}
-use Rattle.dch_decode.specs.Received.{ArrivesAs}
-use Rattle.dch_decode.proofs.Arrived.{arrived}
-use Rattle.dch_rxframes.specs.Formats.{AllGive}
-use Rattle.dch_rxframes.specs.RxFrames.{RxFrames}
-use Rattle.dch_rxframes.proofs.Sent.{given_format, none_bad, sent_formats}
+use Rattle.dch_tti.specs.Received.{ArrivesAs}
+use Rattle.dch_tti.proofs.Arrived.{arrived}
+use Rattle.dch_tti.specs.Formats.{AllGive}
+use Rattle.dch_tti.specs.RxFrames.{RxFrames}
+use Rattle.dch_tti.proofs.Sent.{given_format, none_bad, sent_formats}
 use Rattle.dch_ulphy.specs.Frames.{multiplexed}
 use Rattle.dch_ulphy.specs.Read.{IsTtiRead}
 use Rattle.dch_ulphy.specs.Sent.{IsSentTti, WasSent}

@@ -11,8 +11,8 @@ use Rattle.dch_types.specs.Parts.{channel_at}
 use Rattle.dch_types.specs.Sums.{total}
 use Rattle.dch_inter.specs.Places.{frame_of, place_of}
 use Rattle.dch_match.specs.Patterns.{copies, copies_below}
-use Rattle.dch_puncture.specs.Copies.{padded_in, uplink_copies}
-use Rattle.dch_puncture.specs.Plans.{plan_at}
+use Rattle.dch_collision.specs.Copies.{padded_in, uplink_copies}
+use Rattle.dch_collision.specs.Plans.{plan_at}
 use Rattle.dch_segment.specs.Segments.{plan_of, filler_of}
 use Rattle.dch_segment.specs.declared.cut.Plan.{Plan}
 use Rattle.dch_coding.specs.Chain.{coded_as}
@@ -21,8 +21,8 @@ use Rattle.dch_trellis.specs.Distance.{AreToldApart}
 use Rattle.dch_collision.specs.Clear.{block_copies, joined_in}
 use Rattle.dch_accept.specs.Frames.{Frame}
 use Rattle.dch_accept.specs.Plans.{Planned}
-use Rattle.dch_decode.specs.Corrected.{least_distance}
-use Rattle.dch_rxframes.specs.RxFrames.{RxFrames, frame_at}
+use Rattle.dch_tti.specs.Corrected.{least_distance}
+use Rattle.dch_tti.specs.RxFrames.{RxFrames, frame_at}
 use Rattle.dch_ulphy.specs.Read.{channel_cells, pattern_in}
 use Rattle.dch_ulphy.specs.Sent.{WasSent as WasSentUp}
 use Rattle.dch_dlphy.specs.Loaded.{tti_cells}

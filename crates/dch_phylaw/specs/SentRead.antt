@@ -5,9 +5,9 @@ use Rattle.dch_types.specs.declared.channel.Dir.{Dir}
 use Rattle.dch_types.specs.Parts.{side_of}
 use Rattle.dch_accept.specs.Blocks.{Held}
 use Rattle.dch_accept.specs.Plans.{Planned}
-use Rattle.dch_decode.specs.Received.{ArrivesAs}
-use Rattle.dch_rxframes.specs.Formats.{IsBadFrame}
-use Rattle.dch_rxframes.specs.RxFrames.{RxFrames}
+use Rattle.dch_tti.specs.Received.{ArrivesAs}
+use Rattle.dch_tti.specs.Formats.{IsBadFrame}
+use Rattle.dch_tti.specs.RxFrames.{RxFrames}
 
 -- no radio frame of channel i's TTI is bad; whatever is read of it has format f, and is just these blocks, all good
 pub record IsReadAsSent (planned : Planned) (dir : Dir) (IsRead : RxFrames → ℕ → Held → Type 0) (reader : RxFrames) (i f : ℕ) (blocks : List Bit) : Type 0 where

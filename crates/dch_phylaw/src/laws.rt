@@ -6,22 +6,22 @@ ghost use Rattle.dch_types.specs.declared.channel.Dir.{Dir};
 ghost use Rattle.dch_types.specs.declared.channel.Dir.TheVariants.{Up, Down};
 ghost use Rattle.dch_types.specs.declared.channel.Side.{Side};
 ghost use Rattle.dch_types.specs.Parts.{side_of};
-ghost use Rattle.dch_rxframes.specs.Read.{coded_in};
+ghost use Rattle.dch_tti.specs.Read.{coded_in};
 ghost use Rattle.dch_coding.specs.Chain.{coded_as};
 ghost use Rattle.dch_trellis.specs.Distance.{AreToldApart};
 ghost use Rattle.dch_collision.specs.Collisions.{NoneCollide};
 ghost use Rattle.dch_accept.specs.Frames.{Frame};
-ghost use Rattle.dch_ttibuf.specs.Frames.{IsFrameOf};
+ghost use Rattle.dch_tti.specs.Frames.{IsFrameOf};
 ghost use Rattle.dch_accept.specs.Plans.{IsPlanned, Planned};
 ghost use Rattle.dch_dlphy.specs.Read.{IsTtiRead as IsDownlinkRead};
 ghost use Rattle.dch_dlphy.specs.Sent.{WasSent as WasSentDown};
 ghost use Rattle.dch_node.specs.RxFrames.{AreHeard};
 ghost use Rattle.dch_node.specs.Values.{Radio};
-ghost use Rattle.dch_phylaw.specs.Damaged.{AreFewChanged, AreLittleChanged, IsLittleDamaged, WasDamagedDown, WasDamagedUp};
-ghost use Rattle.dch_phylaw.specs.SentRead.{IsReadAsSent};
-ghost use Rattle.dch_rxframes.specs.RxFrames.{IsKept, RxFrame, RxFrames};
+ghost use Rattle.dch_tti.specs.RxFrames.{IsKept, RxFrame, RxFrames};
 ghost use Rattle.dch_ulphy.specs.Read.{IsTtiRead as IsUplinkRead};
 ghost use Rattle.dch_ulphy.specs.Sent.{WasSent as WasSentUp};
+ghost use Rattle.dch_phylaw.specs.Damaged.{AreFewChanged, AreLittleChanged, IsLittleDamaged, WasDamagedDown, WasDamagedUp};
+ghost use Rattle.dch_phylaw.specs.SentRead.{IsReadAsSent};
 
 /// A law: of a TTI whose radio frames are kept just as they were sent no frame is bad, its format is the one in which its blocks were sent,
 /// and just these blocks are read, all good. In the uplink its radio frames were sent in a legal sequence of combinations.

@@ -21,9 +21,9 @@ use Rattle.dch_am.specs.declared.answers.Taken.TheVariants.{Kept, Duplicate as A
 use Rattle.dch_am.proofs.Turns.{sends_gives, tells_due, told_due}
 use Rattle.dch_amlaw.specs.Pair.{Block, Payload, Mrw, Report, End, all_handed, answers_outside as block_outside, block_of, built, is_beyond, is_outside_answer, is_refused, mrw_of, payload_of, pdu_in, report_of, takes}
 use Rattle.dch_amlaw.proofs.Heard.{told_still}
-use Rattle.dch_amentity.specs.Answers.{received}
-use Rattle.dch_resetlaw.specs.Ends.{Built, Pending, ResetEnd, Sent, Data, ResetPdu, ResetAckPdu, builds_by, hears, hears_data, hfni_of, is_asked, is_heard, labelled, resets_by, restarted as history_restarted}
-use Rattle.dch_resetlaw.specs.Law.{answers_outside}
+use Rattle.dch_pair.specs.Answers.{received}
+use Rattle.dch_reset.specs.Ends.{Built, Pending, ResetEnd, Sent, Data, ResetPdu, ResetAckPdu, builds_by, hears, hears_data, hfni_of, is_asked, is_heard, labelled, resets_by, restarted as history_restarted}
+use Rattle.dch_reset.specs.Law.{answers_outside}
 use Rattle.dch_reset.specs.Answers.{answer, data_answer, entity_answer, move_answer, unless_pending, unless_unknown}
 use Rattle.dch_reset.specs.History.{IsAllHanded, handed_up, is_outside, pdu_sent, state_of}
 use Rattle.dch_reset.specs.State.{Asks, Come, State, Turn as ResetTurn, Waits, after_turn, asked_again, came, reset_by, restarted, step, taken_by, turn_by, writes}

@@ -2,9 +2,9 @@
 use Rattle.std.proofs.Common.{◌≡◌, ◌+◌, ◌-◌, ◌%◌, ◌^◌, ℕ, true, false, Option, Some, None, is_some, min, refl, arith}
 use Rattle.dch_am.specs.Entities.{Come as Comes, Pdu, step as entity_step}
 use Rattle.dch_am.specs.Rules.{Rules}
-use Rattle.dch_amentity.specs.Standing.{Represents as StandsFor, Running as RunningEntity}
+use Rattle.dch_pair.specs.EntityStanding.{Represents as StandsFor, Running as RunningEntity}
 use Rattle.dch_amsend.specs.SduDiscard.{capped}
-use Rattle.dch_resetlaw.specs.Ends.{Pending, hfni_of}
+use Rattle.dch_reset.specs.Ends.{Pending, hfni_of}
 use Rattle.dch_reset.specs.Answers.{unless_pending}
 use Rattle.dch_reset.specs.Standing.{Represents, Running, pending_of}
 use Rattle.dch_reset.specs.State.{State, taken_by}

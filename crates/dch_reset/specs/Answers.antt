@@ -9,12 +9,12 @@ use Rattle.dch_am.specs.declared.answers.StatusTaken.{StatusTaken}
 use Rattle.dch_am.specs.declared.answers.StatusTaken.TheVariants.{Taken as Heard, Outside as Unknown}
 use Rattle.dch_am.specs.declared.answers.Taken.{Taken as PduTaken}
 use Rattle.dch_am.specs.declared.answers.Taken.TheVariants.{Kept, Duplicate as Again, Outside as NotInside}
-use Rattle.dch_amentity.specs.Answers.{received}
-use Rattle.dch_amentity.specs.declared.answers.Received.{Received}
-use Rattle.dch_amentity.specs.declared.answers.Received.TheVariants.{Data, Control, Reset, ResetAck}
+use Rattle.dch_pair.specs.Answers.{received}
+use Rattle.dch_pair.specs.declared.answers.Received.{Received}
+use Rattle.dch_pair.specs.declared.answers.Received.TheVariants.{Data, Control, Reset, ResetAck}
 use Rattle.dch_rlcpdu.specs.declared.am.AmView.{AmView}
 use Rattle.dch_rlcpdu.specs.declared.handed.PduError.{PduError}
-use Rattle.dch_resetlaw.specs.Ends.{Pending, is_asked, is_heard}
+use Rattle.dch_reset.specs.Ends.{Pending, is_asked, is_heard}
 use Rattle.dch_reset.specs.State.{Come, State, step}
 use Rattle.dch_reset.specs.declared.answers.Got.{Got}
 use Rattle.dch_reset.specs.declared.answers.Got.TheVariants.{Bad, Restarted, Repeated, Ignored, Taken, Duplicate, Outside}

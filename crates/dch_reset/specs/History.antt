@@ -2,7 +2,7 @@
 use Rattle.std.specs.Prelude.{◌≡◌, Bool, true, false, length}
 use Rattle.dch_am.specs.Entities.{Pdu, ResetPdu, ResetAckPdu}
 use Rattle.dch_amlaw.specs.Pair.{all_handed, pdu_in}
-use Rattle.dch_resetlaw.specs.Ends.{ResetEnd, Sent, Data, ResetPdu as ResetSent, ResetAckPdu as ResetAckSent}
+use Rattle.dch_reset.specs.Ends.{ResetEnd, Sent, Data, ResetPdu as ResetSent, ResetAckPdu as ResetAckSent}
 use Rattle.dch_reset.specs.State.{State}
 use Rattle.dch_reset.specs.declared.answers.Got.{Got}
 use Rattle.dch_reset.specs.declared.answers.Got.TheVariants.{Bad, Restarted, Repeated, Ignored, Taken, Duplicate, Outside}

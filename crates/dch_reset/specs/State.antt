@@ -4,9 +4,9 @@ use Rattle.std.specs.Prelude.{◌≡◌, ◌+◌, ℕ, List, not, ◌==◌, Opti
 use Rattle.dch_am.specs.Entities.{Entity, Event as EntityEvent, Build as Builds, Come as Comes, HandUp as HandsUp, Offer as Offers, Tick as Ticks, IsWritten as IsEntityWritten, Pdu, DataPdu, StatusPdu, ResetPdu, ResetAckPdu, Turn as EntityTurn, opened_entity, step as entity_step, turn as entity_turn, writes as entity_writes}
 use Rattle.dch_am.specs.Restart.{restarted_entity}
 use Rattle.dch_am.specs.Rules.{Rules}
-use Rattle.dch_amentity.specs.Answers.{IsToldAt}
-use Rattle.dch_resetlaw.specs.Ends.{Pending, hfni_of, is_asked, is_heard, rsn_of, ticked}
+use Rattle.dch_pair.specs.Answers.{IsToldAt}
 use Rattle.dch_rlcpdu.specs.AmControl.{reset_text}
+use Rattle.dch_reset.specs.Ends.{Pending, hfni_of, is_asked, is_heard, rsn_of, ticked}
 
 pub record State : Type 0 where
   pub entity : Entity  -- since the last restart

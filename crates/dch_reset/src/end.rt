@@ -3,11 +3,11 @@ ghost use Rattle.dch_bits.specs.declared.offer.Offer.TheVariants.{Accepted};
 ghost use Rattle.dch_am.specs.Entities.{IsSmall, ResetAckPdu, ResetPdu, pdu_of};
 ghost use Rattle.dch_am.specs.Rules.{Rules, rules_of};
 ghost use Rattle.dch_am.specs.Sender.{offered};
-ghost use Rattle.dch_amentity.specs.Answers.{received, waiting};
+ghost use Rattle.dch_pair.specs.Answers.{received, waiting};
 ghost use Rattle.dch_amsend.specs.SduDiscard.{capped};
-ghost use Rattle.dch_resetlaw.specs.Ends.{is_asked, is_heard};
 ghost use Rattle.dch_rlcpdu.specs.Am.{am_reading};
 ghost use Rattle.dch_sar.specs.Taking.{handed_of, written};
+ghost use Rattle.dch_reset.specs.Ends.{is_asked, is_heard};
 ghost use Rattle.dch_reset.specs.Answers.{answer, answer_read, came_read, data_answer, entity_answer, is_unread, unless_pending};
 ghost use Rattle.dch_reset.specs.Standing.{AreSizes, IsSame, Represents, is_due, is_settled, size_in, size_of, waiting_in};
 ghost use Rattle.dch_reset.specs.State.{Build, Come, HandUp, IsTold, IsWritten, Offer as Offers, Reset, State, Tick, came, opened_state, restarted, step, taken_by, turn, writes};
@@ -16,8 +16,8 @@ ghost use Rattle.dch_reset.specs.declared.answers.Got.TheVariants.{Ignored, Repe
 use crate::answers::Got;
 use crate::pending::{Pending, REPEAT, is_asked, is_heard};
 use dch_am::{MrwTaken, StatusTaken, Taken};
-use dch_amentity::{AmEntity, Received};
 use dch_bits::{NoMemory, Offer};
+use dch_pair::{AmEntity, Received};
 use dch_rlcpdu::{AmView, Handed, read_am, write_reset};
 use dch_types::AmRules;
 use std::alloc::Global;
@@ -52,7 +52,7 @@ impl Drop for ResetEnd {
 
 impl Model for ResetEnd {
     ghost use Rattle.std.specs.Prelude.{◌<◌, ◌^◌, ◌≤◌};
-    ghost use Rattle.dch_amentity.specs.Standing.{size_of};
+    ghost use Rattle.dch_pair.specs.EntityStanding.{size_of};
     ghost use Rattle.dch_reset.specs.Standing.{Running, pending_of};
 
     ghost Value = { Running };

@@ -1,7 +1,7 @@
 ghost use Rattle.std.specs.Prelude.{◌≡◌, ℕ, List, is_some};
 ghost use Rattle.dch_am.specs.Rules.{Rules};
-ghost use Rattle.dch_resetlaw.specs.Ends.{ResetEnd as End, Sent, builds, hears, offers, opened_reset_end, resets, ticks};
-ghost use Rattle.dch_resetlaw.specs.Law.{answers_outside};
+ghost use Rattle.dch_reset.specs.Ends.{ResetEnd as End, Sent, builds, hears, offers, opened_reset_end, resets, ticks};
+ghost use Rattle.dch_reset.specs.Law.{answers_outside};
 ghost use Rattle.dch_reset.specs.Answers.{answer};
 ghost use Rattle.dch_reset.specs.History.{IsAllHanded, handed_up, is_outside, pdu_sent, state_of};
 ghost use Rattle.dch_reset.specs.State.{Build, Come, Offer, Reset, Tick, opened_state, step, turn, writes};

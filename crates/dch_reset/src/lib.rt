@@ -1,11 +1,26 @@
-//! One end of a bearer in acknowledged mode that can be reset (TS 25.322 11.4): an entity, the RESETs that it sends and those that it answers.
+//! Bearers in acknowledged mode that can be reset (TS 25.322 11.4): one end, which is an entity with the RESETs that it sends and those that it
+//! answers; two ends that run, with the blocks in flight between them; and what holds of two ends whatever is offered, built, lost and delivered,
+//! and however often they are reset.
 #![tactic(auto)]
 
 mod answers;
 mod end;
+mod history_laws;
+mod inside;
 mod laws;
+mod line;
+mod outcome;
+mod peer;
 mod pending;
+mod run;
+mod running;
+mod setup;
 
 pub use answers::Got;
 pub use end::ResetEnd;
+pub use history_laws::reset_law;
+pub use inside::are_inside;
 pub use laws::calls_law;
+pub use outcome::ResetRun;
+pub use run::run_reset;
+pub use setup::ResetEvent;

@@ -1,5 +1,5 @@
 ghost use Rattle.std.specs.Prelude.{◌≡◌, ◌==◌, ◌-◌, Some};
-ghost use Rattle.dch_resetlaw.specs.Ends.{is_asked, is_heard, rsn_of};
+ghost use Rattle.dch_reset.specs.Ends.{is_asked, is_heard, rsn_of};
 ghost use Rattle.dch_reset.specs.Standing.{pending_of};
 
 /// How many ticks of 10 ms pass before a RESET is sent again.

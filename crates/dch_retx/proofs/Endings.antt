@@ -3,13 +3,12 @@ use Rattle.std.proofs.Common.{◌≡◌, ◌+◌, ℕ, List, [], ◌∷◌, ◌+
 use Rattle.std.specs.Prelude.{map, ◌==◌}
 use Rattle.std.specs.Option.{option_or}
 use Rattle.std.proofs.lemmas.Bool.{both_ways}
-use Rattle.dch_status.specs.Fields.{Field, NoMoreField, WindowField, AckField, ListField, BitmapField, MrwField, MrwAckField}
-use Rattle.dch_status.specs.declared.sufi.Sufi.{Sufi}
-use Rattle.dch_status.specs.Sufis.{sufi_of}
+use Rattle.dch_rlcpdu.specs.Fields.{Field, NoMoreField, WindowField, AckField, ListField, BitmapField, MrwField, MrwAckField}
+use Rattle.dch_rlcpdu.specs.declared.sufi.Sufi.{Sufi}
+use Rattle.dch_rlcpdu.specs.Sufis.{sufi_of}
 use Rattle.dch_am.specs.Names.{named}
-use Rattle.dch_retx.specs.StatusItems.{StatusItem}
+use Rattle.dch_retx.specs.StatusItems.{StatusItem, bits_from, missing_of, said_by, said_in}
 use Rattle.dch_retx.specs.StatusItem.{ending_of, ends_at, ends_with, first_ending, or_else}
-use Rattle.dch_retx.specs.StatusItems.{bits_from, missing_of, said_by, said_in}
 use Rattle.dch_retx.specs.declared.buffer.Running.{Running}
 use Rattle.dch_retx.specs.Telling.{ends_by, ends_with_indicator}
 

@@ -4,7 +4,7 @@ use Rattle.std.specs.Prelude.{is_some, map, nat_le, ◌==◌}
 use Rattle.std.proofs.lemmas.Bool.{both_ways, cases_lt, eqb-true, le-leb, lt-leb}
 use Rattle.std.proofs.lemmas.List.{drop_more, map-append}
 use Rattle.circular_buffer.specs.Buffer.{Buffer, buffer}
-use Rattle.dch_status.specs.Fields.{Field, NoMoreField}
+use Rattle.dch_rlcpdu.specs.Fields.{Field, NoMoreField}
 use Rattle.dch_am.specs.Numbers.{range, wrapped}
 use Rattle.dch_am.specs.Names.{named}
 use Rattle.dch_am.specs.Acknowledging.{first_of_both}

@@ -2,19 +2,16 @@
 use Rattle.std.proofs.Common.{◌≡◌, ◌+◌, ◌-◌, ℕ, suc, List, [], ◌∷◌, ◌++◌, Bool, true, false, cond, not, ◌&&◌, ◌||◌, length, Option, Some, None, arith, refl, sym, ap, ap₂, ◌∙◌, subst}
 use Rattle.std.specs.Prelude.{map, nat_lt, nat_le}
 use Rattle.std.proofs.lemmas.Bool.Decides.{nat_tests}
-use Rattle.dch_status.specs.Fields.{Field, NoMoreField, WindowField, AckField, ListField, BitmapField, MrwField, MrwAckField}
+use Rattle.dch_rlcpdu.specs.Fields.{Field, NoMoreField, WindowField, AckField, ListField, BitmapField, MrwField, MrwAckField}
 use Rattle.dch_am.specs.Numbers.{ahead, range, wrapped}
 use Rattle.dch_am.specs.Names.{named, ones, zeros}
 use Rattle.dch_am.specs.Bodies.{is_empty}
 use Rattle.dch_am.specs.Rules.{Rules}
 use Rattle.dch_am.specs.Sender.{Sender, vt_s, vt_a}
 use Rattle.dch_am.specs.Acknowledging.{after_ack, after_acks, after_answer, after_fields, after_telling_of, all_names, first_beyond, first_of_both, first_unknown, lsn_of, offending, outside_of, read_from, status_answer, reports, those_below, told, unwrap}
-use Rattle.dch_retx.specs.StatusItems.{StatusItem}
-use Rattle.dch_retx.specs.StatusItems.{Missing, Unset, Set, Below, Obeyed}
-use Rattle.dch_retx.specs.StatusItems.{bits_from, missing_of, said_by}
+use Rattle.dch_retx.specs.StatusItems.{StatusItem, Missing, Unset, Set, Below, Obeyed, bits_from, missing_of, said_by}
 use Rattle.dch_retx.specs.StatusItem.{below_said, first_outside, number_in, offends, place_of, reports_some}
-use Rattle.dch_retx.specs.RetxBuffer.{RetxBuffer, after_hearing, after_moves, after_told, answer_of, answered, base_after, below_from, ending, first_number, listened, outside_from}
-use Rattle.dch_retx.specs.RetxBuffer.{after_answer as line_after}
+use Rattle.dch_retx.specs.RetxBuffer.{RetxBuffer, after_hearing, after_moves, after_told, answer_of, answered, base_after, below_from, ending, first_number, listened, outside_from, after_answer as line_after}
 use Rattle.dch_retx.specs.Standing.{Stands}
 use Rattle.dch_retx.proofs.Saying.{IsBase, base_is, listened_stands, place_is, said_lsn, said_names}
 use Rattle.dch_retx.proofs.Freeing.{HasMoved, moves_stand, said_acks}

@@ -2,9 +2,9 @@
 use Rattle.std.proofs.Common.{◌≡◌, ◌+◌, ◌<◌, ◌≤◌, ℕ, zero, suc, List, [], ◌∷◌, ◌++◌, Bool, true, false, cond, not, ◌||◌, length, drop, get_or, arith, refl, sym, ap, ap₂, ◌∙◌, ⊎_elim}
 use Rattle.std.specs.Prelude.{map, min, nat_lt, unwrap_or, ◌==◌}
 use Rattle.std.proofs.lemmas.Bool.{cases_lt, le-ltb, lt-ltb}
-use Rattle.dch_status.specs.Fields.{Field, NoMoreField, WindowField, AckField, ListField, BitmapField, MrwField, MrwAckField}
-use Rattle.dch_status.specs.Sufis.{sufi_of}
-use Rattle.dch_status.specs.declared.sufi.Sufi.TheVariants.{MrwAck}
+use Rattle.dch_rlcpdu.specs.Fields.{Field, NoMoreField, WindowField, AckField, ListField, BitmapField, MrwField, MrwAckField}
+use Rattle.dch_rlcpdu.specs.Sufis.{sufi_of}
+use Rattle.dch_rlcpdu.specs.declared.sufi.Sufi.TheVariants.{MrwAck}
 use Rattle.dch_am.specs.Bodies.{is_empty}
 use Rattle.dch_am.specs.Numbers.{range}
 use Rattle.dch_am.specs.Names.{named}

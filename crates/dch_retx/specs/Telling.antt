@@ -1,7 +1,7 @@
 -- What a status tells as a whole, field by field.
 use Rattle.std.specs.Prelude.{◌≡◌, ◌≤◌, ◌++◌, ◌||◌, ℕ, List, Bool, Option, Some, None, min, unwrap_or}
-use Rattle.dch_status.specs.declared.sufi.Sufi.{Sufi}
-use Rattle.dch_status.specs.declared.sufi.Sufi.TheVariants.{NoMore, Window, Ack, List as Runs, Bitmap, Mrw, MrwAck}
+use Rattle.dch_rlcpdu.specs.declared.sufi.Sufi.{Sufi}
+use Rattle.dch_rlcpdu.specs.declared.sufi.Sufi.TheVariants.{NoMore, Window, Ack, List as Runs, Bitmap, Mrw, MrwAck}
 use Rattle.dch_retx.specs.declared.buffer.Running.{Running}
 use Rattle.dch_retx.specs.StatusItems.{StatusItem}
 use Rattle.dch_retx.specs.declared.tell.Told.{Told}

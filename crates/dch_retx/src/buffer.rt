@@ -1,6 +1,4 @@
 ghost use Rattle.std.specs.Prelude.{ℕ, Some, true, ◌≡◌, ◌≢◌, ◌+◌, ◌-◌, ◌<◌, ◌≤◌, ◌++◌, ◌∷◌, false, IfOk, drop, is_some, length, min, nat_lt, slice_set};
-ghost use Rattle.dch_retx.specs.Flights.{at, built, first_requested, front_acked, requested_in};
-ghost use Rattle.dch_retx.specs.StatusItems.{said_by};
 ghost use Rattle.dch_am.specs.declared.answers.StatusTaken.TheVariants.{Taken};
 ghost use Rattle.dch_am.specs.Acknowledging.{after_fields, status_answer};
 ghost use Rattle.dch_am.specs.Discards.{after_mrw, discards_at, mrw_due};
@@ -10,6 +8,8 @@ ghost use Rattle.dch_am.specs.Bodies.{after_body, ends_of, is_left, next_body};
 ghost use Rattle.dch_am.specs.Building.{Again, New, Last, after_choice, again_polls, anew_polls, choice, once_more_polls};
 ghost use Rattle.dch_am.specs.Restart.{restarted_sender};
 ghost use Rattle.dch_am.specs.Sender.{Discard, Sender, vt_a, vt_s, opened_sender};
+ghost use Rattle.dch_retx.specs.Flights.{at, built, first_requested, front_acked, requested_in};
+ghost use Rattle.dch_retx.specs.StatusItems.{said_by};
 ghost use Rattle.dch_retx.specs.Standing.{AreKept, chosen, IsNew, Sends, Stands, timed};
 ghost use Rattle.dch_retx.specs.Polling.{again_line, again_poll, counted, crosses, is_far, last_line, last_poll, new_line, new_poll, picked, poll_of, sent_line};
 ghost use Rattle.dch_retx.specs.Telling.{IsTold};
@@ -22,7 +22,7 @@ use crate::sent_pdu::SentPdu;
 use crate::tell::{Told, tell};
 use dch_am::StatusTaken;
 use dch_bits::NoMemory;
-use dch_status::{MrwPlace, NUMBERS, StatusView};
+use dch_rlcpdu::{MrwPlace, NUMBERS, StatusView};
 use dch_types::AmRules;
 use std::alloc::Global;
 use std::marker::Model;
@@ -61,8 +61,8 @@ pub struct RetxBuffer {
 }
 
 impl Model for RetxBuffer {
-    ghost use Rattle.dch_retx.specs.RetxBuffer.{RetxBuffer, IsLine};
     ghost use Rattle.dch_am.specs.Rules.{rules_of};
+    ghost use Rattle.dch_retx.specs.RetxBuffer.{RetxBuffer, IsLine};
 
     ghost Value = { RetxBuffer };
 

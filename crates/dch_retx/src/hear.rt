@@ -1,10 +1,10 @@
 ghost use Rattle.std.specs.Prelude.{◌≡◌, ◌+◌, ◌<◌, ◌≤◌, length, map};
-ghost use Rattle.dch_status.specs.Fields.{AckField, BitmapField, ListField, bits_of, pairs_of};
+ghost use Rattle.dch_rlcpdu.specs.Fields.{AckField, BitmapField, ListField, bits_of, pairs_of};
 ghost use Rattle.dch_am.specs.Numbers.{range};
 ghost use Rattle.dch_retx.specs.StatusItems.{first_of, missing_of, said_by, said_in};
 ghost use Rattle.dch_retx.specs.StatusItem.{first_outside, is_unknown, place_of};
 
-use dch_status::{Cursor, NUMBERS, SnRun, StatusView, Sufi};
+use dch_rlcpdu::{Cursor, NUMBERS, SnRun, StatusView, Sufi};
 
 /// Where a number stands among PDUs in flight, the first of which has another one.
 pub fn place_of(first: u16, number: u16) -> u16

@@ -1,13 +1,13 @@
 ghost use Rattle.std.specs.Prelude.{◌≡◌, ◌+◌, ◌<◌, ◌≤◌, length, map};
 ghost use Rattle.circular_buffer.specs.Buffer.{buffer};
-ghost use Rattle.dch_status.specs.Fields.{BitmapField, ListField, bits_of, pairs_of};
+ghost use Rattle.dch_rlcpdu.specs.Fields.{BitmapField, ListField, bits_of, pairs_of};
 ghost use Rattle.dch_am.specs.Numbers.{range};
 ghost use Rattle.dch_retx.specs.StatusItems.{Missing, bit_item, first_of, missing_of, said_by, said_in};
 ghost use Rattle.dch_retx.specs.StatusItem.{is_named, names_place, with_name, with_names};
 
 use crate::flight::Flight;
 use crate::hear::place_of;
-use dch_status::{Cursor, NUMBERS, SnRun, StatusView, Sufi};
+use dch_rlcpdu::{Cursor, NUMBERS, SnRun, StatusView, Sufi};
 
 /// What names do: the number of the first PDU in flight, the place from which named PDUs are requested, the place before which they are marked, and
 /// the place of the PDU that is asked for.

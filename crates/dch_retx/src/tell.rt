@@ -1,6 +1,6 @@
 ghost use Rattle.std.specs.Prelude.{◌≡◌, ◌+◌, ◌<◌, ◌≤◌, IfSome, length, map};
-ghost use Rattle.dch_status.specs.Fields.{AckField, BitmapField, ListField, bits_of, pairs_of};
-ghost use Rattle.dch_status.specs.Sufis.{bits_in, pairs_in, sufi_of, IsInRange};
+ghost use Rattle.dch_rlcpdu.specs.Fields.{AckField, BitmapField, ListField, bits_of, pairs_of};
+ghost use Rattle.dch_rlcpdu.specs.Sufis.{bits_in, pairs_in, sufi_of, IsInRange};
 ghost use Rattle.dch_am.specs.Numbers.{range};
 ghost use Rattle.dch_retx.specs.StatusItems.{bit_item, first_of, missing_of, said_by, said_in};
 ghost use Rattle.dch_retx.specs.StatusItem.{ends_at, limit_in, limit_of};
@@ -8,7 +8,7 @@ ghost use Rattle.dch_retx.specs.Telling.{ends_by, told_more, IsPassed, IsTold};
 
 use crate::buffer::Running;
 use crate::hear::{SentNumbers, place_of};
-use dch_status::{Cursor, NUMBERS, SnRun, StatusView, Sufi};
+use dch_rlcpdu::{Cursor, NUMBERS, SnRun, StatusView, Sufi};
 
 /// Nothing is outside, wherever the lowest open PDU stands.
 const NO_LIMIT: u16 = NUMBERS + 1;

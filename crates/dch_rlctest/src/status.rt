@@ -1,4 +1,4 @@
-use dch_status::{StatusView, Sufi};
+use dch_rlcpdu::{StatusView, Sufi};
 
 // What field `i` of a status says, with its first run or bit.
 fn said(octets: &[u8], i: usize) -> Option<(Sufi, (u16, u8), bool)> {

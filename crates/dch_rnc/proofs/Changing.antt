@@ -7,10 +7,10 @@ use Rattle.dch_types.specs.declared.config.Config.{Config}
 use Rattle.dch_config.specs.Changes.{KeepsBearer}
 use Rattle.dch_accept.specs.Plans.{Planned}
 use Rattle.dch_node.specs.Values.{no_output}
-use Rattle.dch_layer.specs.Layers.{Layer, changed_layer}
+use Rattle.dch_layer2.specs.Layers.{Layer, changed_layer}
 use Rattle.dch_layer2.specs.Standing.{IsSameEnd, Represents as StandsFor}
 use Rattle.dch_layer2.specs.Values.{LayerRunning}
-use Rattle.dch_bound.proofs.Layers.{changed_are}
+use Rattle.dch_layer2.proofs.Layers.{changed_are}
 use Rattle.dch_rnc.specs.Opened.{AreNew, CanChange, HasNext, Holds, IsNext, IsNodeOf}
 use Rattle.dch_rnc.specs.Standing.{IsAt, NothingShown, Stepped}
 use Rattle.dch_rnc.specs.State.{Change, State, changed}

@@ -15,7 +15,7 @@ use Rattle.dch_accept.specs.Padded.{bits_from}
 use Rattle.dch_iub.specs.Forms.{ArePadded, IsWrittenForm, StandAt}
 use Rattle.dch_iub.specs.Shape.{ForSet, blocks_place}
 use Rattle.dch_iub.proofs.OneWriting.{written_one}
-use Rattle.dch_layer.specs.Layers.{Given, Layer}
+use Rattle.dch_layer2.specs.Layers.{Given, Layer}
 use Rattle.dch_layer2.specs.Joined.{joined_bits}
 use Rattle.dch_rnc.specs.Moves.{IsSameBlocks}
 use Rattle.dch_rnc.specs.Steps.{IsDownlinkFrame, IsSent}

@@ -15,21 +15,21 @@ use Rattle.dch_script.specs.Held.{Held as Text}
 use Rattle.dch_node.specs.IubFrames.{refusal_number}
 use Rattle.dch_node.specs.Lines.{IubBad, Line}
 use Rattle.dch_node.specs.Values.{Output, says}
-use Rattle.dch_bearer.specs.Reports.{added}
-use Rattle.dch_layer.specs.Bearings.{answers, channel_of, line_of_answer}
-use Rattle.dch_layer.specs.Layers.{Layer, Outcome, blocks, offers, ticks}
-use Rattle.dch_layer.specs.Starting.{IsStart}
+use Rattle.dch_layer2.specs.Reports.{added}
+use Rattle.dch_layer2.specs.Bearings.{answers, channel_of, line_of_answer}
+use Rattle.dch_layer2.specs.Layers.{Layer, Outcome, blocks, offers, ticks}
+use Rattle.dch_layer2.specs.Starting.{IsStart}
 use Rattle.dch_layer2.specs.Reading.{reads_below}
 use Rattle.dch_layer2.specs.Standing.{CanOffer, HasStarted, Represents as StandsFor}
 use Rattle.dch_layer2.specs.Values.{LayerRunning}
+use Rattle.dch_txframes.specs.Sending.{sent_of}
+use Rattle.dch_txframes.specs.Values.{IubTxBuffer}
 use Rattle.dch_rnc.specs.Moves.{AreServed, IsRefused, IsTaken}
 use Rattle.dch_rnc.specs.Opened.{AreChannelSets, IsNodeOf}
 use Rattle.dch_rnc.specs.Standing.{IsAt, NothingShown, SendsDown, Stepped, blocks_read}
 use Rattle.dch_rnc.specs.State.{BlockedCombination, IubFrame, OfferedUnit, State, Tick, no_readings, set_readings, ticking, with_layer}
 use Rattle.dch_rnc.specs.Steps.{IsArrival, IsOffer, IsSent, IsTick, sent_lines}
 use Rattle.dch_rnc.specs.Values.{Node, blocks_if_read, rx_set_at, taken_shown}
-use Rattle.dch_txframes.specs.Sending.{sent_of}
-use Rattle.dch_txframes.specs.Values.{IubTxBuffer}
 use Rattle.dch_rnc.proofs.Given.{gives_sent}
 use Rattle.dch_rnc.proofs.Taking.{reading_off, reading_on}
 

@@ -18,7 +18,7 @@ use Rattle.dch_node.specs.IubFrames.{refusal_number}
 use Rattle.dch_node.specs.Lines.{IubBad}
 use Rattle.dch_node.specs.Values.{Output, says}
 use Rattle.dch_node.proofs.IubFrames.{one_number}
-use Rattle.dch_layer.specs.Layers.{Came, Layer, Outcome, takes}
+use Rattle.dch_layer2.specs.Layers.{Came, Layer, Outcome, takes}
 use Rattle.dch_layer2.specs.Coming.{came_below, came_of}
 use Rattle.dch_layer2.specs.Reading.{Reading, reads, reads_below}
 use Rattle.dch_rnc.specs.State.{IubFrame, State, no_readings, set_readings}

@@ -3,10 +3,10 @@ use Rattle.std.proofs.Common.{ℕ, [], refl, Option, None}
 use Rattle.dch_types.specs.declared.channel.Dir.TheVariants.{Up, Down}
 use Rattle.dch_accept.specs.Plans.{Planned}
 use Rattle.dch_node.specs.Values.{no_output}
-use Rattle.dch_layer.specs.Layers.{opened_layer}
+use Rattle.dch_layer2.specs.Layers.{opened_layer}
 use Rattle.dch_layer2.specs.Standing.{IsOpened}
 use Rattle.dch_layer2.specs.Values.{LayerRunning}
-use Rattle.dch_bound.proofs.Layers.{opened_are}
+use Rattle.dch_layer2.proofs.Layers.{opened_are}
 use Rattle.dch_rnc.specs.Opened.{AreNew, IsNodeOf}
 use Rattle.dch_rnc.specs.Standing.{RepresentsHistory}
 use Rattle.dch_rnc.specs.State.{opened_state}

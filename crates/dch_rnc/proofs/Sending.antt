@@ -10,14 +10,14 @@ use Rattle.dch_accept.specs.Plans.{Planned}
 use Rattle.dch_script.specs.Held.{Held as Text}
 use Rattle.dch_node.specs.Lines.{Line, text_of}
 use Rattle.dch_node.proofs.Texts.{text_of-append}
-use Rattle.dch_bearer.specs.Reports.{added}
-use Rattle.dch_bearer.proofs.Lines.{added-added}
+use Rattle.dch_layer2.specs.Reports.{added}
+use Rattle.dch_layer2.proofs.Lines.{added-added}
 use Rattle.dch_layer2.specs.Values.{LayerRunning}
-use Rattle.dch_rnc.specs.Moves.{AreFilled, AreServed, Gives, Serves}
-use Rattle.dch_rnc.specs.Steps.{sent_line, sent_lines}
 use Rattle.dch_txframes.specs.Opened.{AreTxBuffersOf, IsTxBufferOf}
 use Rattle.dch_txframes.specs.Sending.{SendsFrame, sent_of}
 use Rattle.dch_txframes.specs.Values.{IubTxBuffer, tx_buffer_at}
+use Rattle.dch_rnc.specs.Moves.{AreFilled, AreServed, Gives, Serves}
+use Rattle.dch_rnc.specs.Steps.{sent_line, sent_lines}
 
 -- the frame of a set was sent
 pub set_sent : (planned : Planned) (cfn : ℕ) (v : LayerRunning) (set : ℕ) (old new : IubTxBuffer) (before after : Text) → SendsFrame planned Down set cfn old new before after → AreFilled planned.config set v old.held

@@ -8,18 +8,18 @@ use Rattle.dch_accept.specs.HeldSets.{HeldSet, IsSetOf}
 use Rattle.dch_accept.specs.Plans.{Planned}
 use Rattle.dch_accept.specs.Reports.{step_bytes}
 use Rattle.dch_script.specs.Held.{Held as Text}
-use Rattle.dch_layer.specs.Layers.{Layer, blocks, offers, ticks}
-use Rattle.dch_bound.proofs.Layers.{blocks_hold, offers_hold, start_holds, ticks_hold}
+use Rattle.dch_layer2.specs.Layers.{Layer, blocks, offers, ticks}
+use Rattle.dch_layer2.proofs.Layers.{blocks_hold, offers_hold, start_holds, ticks_hold}
 use Rattle.dch_layer2.specs.Bounded.{HasLayer}
 use Rattle.dch_layer2.specs.Standing.{HasStarted, IsLayerOf, IsSameEnd, Represents as StandsFor}
 use Rattle.dch_layer2.specs.Values.{LayerRunning}
 use Rattle.dch_layer2.proofs.Paying.{read_few, read_layer, read_most}
+use Rattle.dch_txframes.specs.Opened.{AreTxBuffersOf}
+use Rattle.dch_txframes.specs.Values.{IubTxBuffer}
 use Rattle.dch_rnc.specs.Moves.{TakesSet}
 use Rattle.dch_rnc.specs.Opened.{AreRxSetsOf, IsNodeOf}
 use Rattle.dch_rnc.specs.State.{set_readings}
 use Rattle.dch_rnc.specs.Values.{Node}
-use Rattle.dch_txframes.specs.Opened.{AreTxBuffersOf}
-use Rattle.dch_txframes.specs.Values.{IubTxBuffer}
 use Rattle.dch_rnc.proofs.Taking.{tti_in}
 
 -- it still fits the configuration where its parts do

@@ -19,17 +19,17 @@ use Rattle.dch_iub.specs.Forms.{IsReadForm}
 use Rattle.dch_iub.specs.declared.error.IubError.{IubError}
 use Rattle.dch_node.specs.IubFrames.{refusal_number}
 use Rattle.dch_node.specs.Lines.{IubBad, text_of}
-use Rattle.dch_bearer.specs.Reports.{added}
-use Rattle.dch_layer.specs.Layers.{Layer, takes}
+use Rattle.dch_layer2.specs.Reports.{added}
+use Rattle.dch_layer2.specs.Layers.{Layer, takes}
 use Rattle.dch_layer2.specs.Bounded.{HasLayer, HasRead, IsTti}
 use Rattle.dch_layer2.specs.Coming.{HasRoomForTti, came_of}
 use Rattle.dch_layer2.specs.Reading.{Nothing, Read, Reading}
 use Rattle.dch_layer2.specs.Standing.{IsSameEnd, Represents as StandsFor}
 use Rattle.dch_layer2.specs.Values.{LayerRunning}
 use Rattle.dch_layer2.proofs.Paying.{next_room, taken_on}
+use Rattle.dch_txframes.specs.Rooms.{HasRoomFor}
 use Rattle.dch_rnc.specs.Moves.{IsTaken, Receives, TakesSet}
 use Rattle.dch_rnc.specs.Opened.{AreNewRxSets, AreRxSetsOf}
-use Rattle.dch_txframes.specs.Rooms.{HasRoomFor}
 use Rattle.dch_rnc.specs.State.{set_readings}
 use Rattle.dch_rnc.specs.Values.{rx_set_at}
 

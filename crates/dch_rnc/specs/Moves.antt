@@ -13,7 +13,7 @@ use Rattle.dch_iub.specs.declared.error.IubError.{IubError}
 use Rattle.dch_script.specs.Held.{Held as Text}
 use Rattle.dch_node.specs.IubFrames.{refusal_number}
 use Rattle.dch_node.specs.Lines.{IubBad, text_of}
-use Rattle.dch_bearer.specs.Reports.{added}
+use Rattle.dch_layer2.specs.Reports.{added}
 use Rattle.dch_txframes.specs.Octets.{AreOctets}
 use Rattle.dch_txframes.specs.Opened.{AreTxBuffersOf, IsTxBufferOf}
 use Rattle.dch_txframes.specs.Sending.{sent_of}

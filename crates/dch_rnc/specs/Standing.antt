@@ -5,7 +5,7 @@ use Rattle.dch_types.specs.declared.config.Config.{Config}
 use Rattle.dch_types.specs.Timing.{has_set}
 use Rattle.dch_accept.specs.Blocks.{Held}
 use Rattle.dch_accept.specs.Plans.{Planned}
-use Rattle.dch_layer.specs.Bearings.{channel_of}
+use Rattle.dch_layer2.specs.Bearings.{channel_of}
 use Rattle.dch_layer2.specs.Reading.{Bad, Nothing, Read, Reading}
 use Rattle.dch_layer2.specs.Standing.{Represents as StandsFor}
 use Rattle.dch_node.specs.Lines.{Line}

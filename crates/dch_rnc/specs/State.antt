@@ -6,7 +6,7 @@ use Rattle.dch_types.specs.declared.channel.Side.{Side}
 use Rattle.dch_types.specs.Parts.{channel_at}
 use Rattle.dch_accept.specs.HeldSets.{HeldSet, held_at}
 use Rattle.dch_accept.specs.Plans.{Planned}
-use Rattle.dch_layer.specs.Layers.{Layer, changed_layer, opened_layer}
+use Rattle.dch_layer2.specs.Layers.{Layer, changed_layer, opened_layer}
 use Rattle.dch_layer2.specs.Reading.{Nothing, Read, Reading}
 
 -- the configuration that is active, the CFN of the TTIs that start with the next tick, layer 2, and what the last step read of each

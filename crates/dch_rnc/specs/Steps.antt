@@ -13,9 +13,9 @@ use Rattle.dch_iub.specs.declared.error.IubError.{IubError}
 use Rattle.dch_node.specs.IubFrames.{refusal_number}
 use Rattle.dch_node.specs.Lines.{Iub, IubBad, Line}
 use Rattle.dch_node.specs.Values.{Output, no_output, says}
-use Rattle.dch_layer.specs.Layers.{Layer, blocks, offers, ticks}
+use Rattle.dch_layer2.specs.Layers.{Layer, blocks, offers, ticks}
 use Rattle.dch_txframes.specs.Octets.{AreOctets}
-use Rattle.dch_layer.specs.Starting.{IsStart}
+use Rattle.dch_layer2.specs.Starting.{IsStart}
 use Rattle.dch_layer2.specs.Joined.{CarriesGiven}
 use Rattle.dch_layer2.specs.Reading.{reads_below}
 use Rattle.dch_rnc.specs.State.{Change, Event, OfferedUnit, BlockedCombination, IubFrame, Tick, State, changed, no_readings, set_readings, ticking, with_layer}

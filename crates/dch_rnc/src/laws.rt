@@ -6,7 +6,7 @@ ghost use Rattle.dch_iub.specs.declared.error.IubError.{IubError};
 ghost use Rattle.dch_node.specs.IubFrames.{refusal_number};
 ghost use Rattle.dch_node.specs.Lines.{IubBad};
 ghost use Rattle.dch_node.specs.Values.{Output, says};
-ghost use Rattle.dch_layer.specs.Layers.{Layer};
+ghost use Rattle.dch_layer2.specs.Layers.{Layer};
 ghost use Rattle.dch_rnc.specs.State.{IubFrame, State, no_readings};
 ghost use Rattle.dch_rnc.specs.Steps.{IsSent, Steps};
 

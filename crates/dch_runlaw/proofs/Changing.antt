@@ -2,12 +2,12 @@
 use Rattle.std.proofs.Common.{◌≡◌, ◌∙◌, ◌++◌, append-nil, ap}
 use Rattle.dch_accept.specs.Plans.{Planned}
 use Rattle.dch_node.specs.Values.{Output}
-use Rattle.dch_ue.specs.State.{Change as UeChange, Event as UeEvent, State as UeState, changed as ue_changed}
-use Rattle.dch_nodeb.specs.State.{Change as NodeBChange, Event as NodeBEvent, State as NodeBState, changed as node_b_changed}
-use Rattle.dch_rnc.specs.State.{Change as RncChange, Event as RncEvent, State as RncState, changed as rnc_changed}
-use Rattle.dch_link.specs.Changing.{Changes}
-use Rattle.dch_link.specs.Courses.{Course}
-use Rattle.dch_link.specs.Link.{LinkState}
+use Rattle.dch_linkcmd.specs.UeState.{Change as UeChange, Event as UeEvent, State as UeState, changed as ue_changed}
+use Rattle.dch_linkcmd.specs.NodebState.{Change as NodeBChange, Event as NodeBEvent, State as NodeBState, changed as node_b_changed}
+use Rattle.dch_linkcmd.specs.RncState.{Change as RncChange, Event as RncEvent, State as RncState, changed as rnc_changed}
+use Rattle.dch_linkcmd.specs.LinkChanging.{Changes}
+use Rattle.dch_linkcmd.specs.Courses.{Course}
+use Rattle.dch_linkcmd.specs.LinkLink.{LinkState}
 use Rattle.dch_runlaw.proofs.Keeping.{but_node_b, but_rnc, but_ue, node_b_step, rnc_lines, rnc_step, ue_lines, ue_step}
 
 -- each node has changed, without a word, and what waits of damage stays

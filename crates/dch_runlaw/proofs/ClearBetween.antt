@@ -10,17 +10,17 @@ use Rattle.dch_types.specs.Timing.{starts}
 use Rattle.dch_accept.specs.Plans.{Planned}
 use Rattle.dch_node.specs.Lines.{Line}
 use Rattle.dch_node.specs.Values.{Output, Radio}
-use Rattle.dch_layer.specs.Bearings.{answers, line_of_answer}
-use Rattle.dch_layer.specs.Layers.{Given}
-use Rattle.dch_nodeb.specs.State.{State as NodeBState}
-use Rattle.dch_rnc.specs.State.{BlockedCombination as RncBlocked, Event as RncEvent, OfferedUnit as RncOffered, State as RncState}
-use Rattle.dch_rnc.specs.Steps.{Steps as RncSteps}
-use Rattle.dch_ue.specs.State.{BlockedCombination as UeBlocked, Event as UeEvent, OfferedUnit as UeOffered, State as UeState}
-use Rattle.dch_ue.specs.Steps.{Steps as UeSteps}
-use Rattle.dch_link.specs.Courses.{Course}
-use Rattle.dch_link.specs.Events.{BlockedCombination, Damages, Event, Happens, OfferedUnit}
-use Rattle.dch_link.specs.Link.{LinkState}
-use Rattle.dch_link.specs.Stages.{RncGoes, UeGoes}
+use Rattle.dch_layer2.specs.Bearings.{answers, line_of_answer}
+use Rattle.dch_layer2.specs.Layers.{Given}
+use Rattle.dch_linkcmd.specs.NodebState.{State as NodeBState}
+use Rattle.dch_linkcmd.specs.RncState.{BlockedCombination as RncBlocked, Event as RncEvent, OfferedUnit as RncOffered, State as RncState}
+use Rattle.dch_linkcmd.specs.RncSteps.{Steps as RncSteps}
+use Rattle.dch_linkcmd.specs.UeState.{BlockedCombination as UeBlocked, Event as UeEvent, OfferedUnit as UeOffered, State as UeState}
+use Rattle.dch_linkcmd.specs.UeSteps.{Steps as UeSteps}
+use Rattle.dch_linkcmd.specs.Courses.{Course}
+use Rattle.dch_linkcmd.specs.Events.{BlockedCombination, Damages, Event, Happens, OfferedUnit}
+use Rattle.dch_linkcmd.specs.LinkLink.{LinkState}
+use Rattle.dch_linkcmd.specs.LinkStages.{RncGoes, UeGoes}
 use Rattle.dch_runlaw.proofs.Keeping.{but_rnc, but_ue, rnc_step, ue_step}
 use Rattle.dch_runlaw.specs.ClearSound.{AreSound, is_sound}
 use Rattle.dch_runlaw.proofs.ClearDown.{DownHalf, RunsGiven}

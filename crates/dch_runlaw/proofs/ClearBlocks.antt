@@ -5,10 +5,10 @@ use Rattle.std.proofs.lemmas.Bool.Decides.{eqb_tells}
 use Rattle.std.proofs.lemmas.List.{drop-drop, drop_at, length-append, take_at}
 use Rattle.dch_bits.specs.declared.bit.Bit.{Bit}
 use Rattle.dch_accept.specs.Blocks.{Held, block_at}
-use Rattle.dch_decode.specs.Received.{ArrivesAs}
+use Rattle.dch_tti.specs.Received.{ArrivesAs}
 use Rattle.dch_layer2.specs.Joined.{joined_bits}
 use Rattle.dch_layer2.specs.Reading.{Read}
-use Rattle.dch_link.specs.Checks.{good_blocks, good_from, good_in}
+use Rattle.dch_linkcmd.specs.Checks.{good_blocks, good_from, good_in}
 use Rattle.dch_runlaw.specs.Sized.{AreSized}
 
 -- no block has no bits

@@ -10,12 +10,12 @@ use Rattle.dch_types.specs.Timing.{ends, set_frames, starts}
 use Rattle.dch_accept.specs.Blocks.{bits_of}
 use Rattle.dch_accept.specs.HeldSets.{HasFormat, held_at}
 use Rattle.dch_accept.specs.Plans.{IsPlanned, Planned}
-use Rattle.dch_rxframes.specs.RxFrames.{RxFrames}
+use Rattle.dch_tti.specs.RxFrames.{RxFrames}
 use Rattle.dch_dlphy.specs.Frames.{multiplexed}
 use Rattle.dch_dlphy.specs.Loaded.{IsLoaded}
 use Rattle.dch_dlphy.specs.Read.{IsTtiRead}
 use Rattle.dch_dlphy.specs.Sent.{WasSent}
-use Rattle.dch_ttibuf.specs.Loaded.{Loaded}
+use Rattle.dch_tti.specs.Loaded.{Loaded}
 use Rattle.dch_iub.specs.Back.{IsReadBack}
 use Rattle.dch_iub.specs.Shape.{ForSet}
 use Rattle.dch_iub.proofs.Back.{one_reading}
@@ -25,14 +25,14 @@ use Rattle.dch_node.specs.RxFrames.{AreHeard}
 use Rattle.dch_node.specs.Values.{Blocks, Output, Radio}
 use Rattle.dch_phylaw.specs.SentRead.{IsReadAsSent}
 use Rattle.dch_phylaw.proofs.DownlinkSent.{downlink_sent}
-use Rattle.dch_layer.specs.Layers.{Given, Layer}
+use Rattle.dch_layer2.specs.Layers.{Given, Layer}
 use Rattle.dch_layer2.specs.Joined.{joined_bits}
 use Rattle.dch_layer2.specs.Reading.{Bad, Nothing, Read, Reading}
-use Rattle.dch_nodeb.specs.State.{DownlinkIubFrame, State as NodeBState, keeping}
-use Rattle.dch_nodeb.specs.Steps.{IsArrival, IsKeptFrame}
-use Rattle.dch_rnc.specs.Steps.{IsDownlinkFrame, IsSent}
-use Rattle.dch_ue.specs.Steps.{IsReading}
-use Rattle.dch_link.specs.Checks.{good_in}
+use Rattle.dch_linkcmd.specs.NodebState.{DownlinkIubFrame, State as NodeBState, keeping}
+use Rattle.dch_linkcmd.specs.NodebSteps.{IsArrival, IsKeptFrame}
+use Rattle.dch_linkcmd.specs.RncSteps.{IsDownlinkFrame, IsSent}
+use Rattle.dch_linkcmd.specs.UeSteps.{IsReading}
+use Rattle.dch_linkcmd.specs.Checks.{good_in}
 use Rattle.dch_runlaw.specs.Frames.{MayArrive}
 use Rattle.dch_runlaw.specs.Sized.{AreSized}
 use Rattle.dch_runlaw.proofs.ClearBlocks.{arrive_good}

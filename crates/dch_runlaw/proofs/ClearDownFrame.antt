@@ -8,7 +8,7 @@ use Rattle.dch_types.specs.Limits.{IsFrames, IsSide}
 use Rattle.dch_types.specs.Parts.{channel_at, format_number}
 use Rattle.dch_types.specs.Timing.{ends, set_frames, starts}
 use Rattle.dch_accept.specs.Plans.{IsPlanned, Planned}
-use Rattle.dch_ttibuf.specs.Loaded.{loaded_at}
+use Rattle.dch_tti.specs.Loaded.{loaded_at}
 use Rattle.dch_dlphy.specs.Frames.{multiplexed}
 use Rattle.dch_dlphy.specs.Loaded.{IsLoaded}
 use Rattle.dch_dlphy.specs.Sent.{WasSent}
@@ -17,17 +17,17 @@ use Rattle.dch_damage.specs.Damage.{radio_after}
 use Rattle.dch_node.specs.Lines.{Line, joined}
 use Rattle.dch_node.specs.RxFrames.{AreHeard}
 use Rattle.dch_node.specs.Values.{Blocks, Radio}
-use Rattle.dch_layer.specs.Layers.{Given, ticks}
+use Rattle.dch_layer2.specs.Layers.{Given, ticks}
 use Rattle.dch_layer2.specs.Joined.{joined_bits}
-use Rattle.dch_nodeb.specs.State.{DownlinkIubFrame, State as NodeBState, given_now, taken}
-use Rattle.dch_nodeb.specs.Steps.{IsDeparture, IsRadio, IsRadioFrame, IsReception}
-use Rattle.dch_nodeb.proofs.Steady.{set_frames-member, tells}
-use Rattle.dch_rnc.specs.Steps.{IsTick as IsRncTick}
-use Rattle.dch_rnc.specs.State.{State as RncState}
-use Rattle.dch_ue.specs.State.{State as UeState, frames_now}
-use Rattle.dch_ue.specs.Steps.{IsTick as IsUeTick}
-use Rattle.dch_link.specs.Checks.{good_in}
-use Rattle.dch_link.specs.Link.{LinkState}
+use Rattle.dch_linkcmd.specs.NodebState.{DownlinkIubFrame, State as NodeBState, given_now, taken}
+use Rattle.dch_linkcmd.specs.NodebSteps.{IsDeparture, IsRadio, IsRadioFrame, IsReception}
+use Rattle.dch_linkcmd.proofs.Steady.{set_frames-member, tells}
+use Rattle.dch_linkcmd.specs.RncSteps.{IsTick as IsRncTick}
+use Rattle.dch_linkcmd.specs.RncState.{State as RncState}
+use Rattle.dch_linkcmd.specs.UeState.{State as UeState, frames_now}
+use Rattle.dch_linkcmd.specs.UeSteps.{IsTick as IsUeTick}
+use Rattle.dch_linkcmd.specs.Checks.{good_in}
+use Rattle.dch_linkcmd.specs.LinkLink.{LinkState}
 use Rattle.dch_runlaw.specs.Frames.{IsFrame, MayArrive}
 use Rattle.dch_runlaw.specs.Clear.{FrameClear}
 use Rattle.dch_runlaw.specs.Sized.{AreAllSized}

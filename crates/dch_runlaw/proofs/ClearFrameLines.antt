@@ -6,14 +6,14 @@ use Rattle.dch_types.specs.Timing.{ends}
 use Rattle.dch_accept.specs.Plans.{Planned}
 use Rattle.dch_node.specs.Lines.{Line, Phy, joined}
 use Rattle.dch_node.specs.Values.{Radio}
-use Rattle.dch_layer.specs.Layers.{ticks}
-use Rattle.dch_nodeb.specs.Steps.{IsDeparture, radio_line}
-use Rattle.dch_nodeb.proofs.Steady.{tells}
-use Rattle.dch_rnc.specs.Steps.{IsTick as IsRncTick, sent_line, sent_lines}
-use Rattle.dch_ue.specs.Steps.{IsTick as IsUeTick, has_read}
-use Rattle.dch_link.specs.Checks.{IsSublist, good_in}
-use Rattle.dch_link.specs.Link.{LinkState}
-use Rattle.dch_link.specs.Stages.{AreCompared}
+use Rattle.dch_layer2.specs.Layers.{ticks}
+use Rattle.dch_linkcmd.specs.NodebSteps.{IsDeparture, radio_line}
+use Rattle.dch_linkcmd.proofs.Steady.{tells}
+use Rattle.dch_linkcmd.specs.RncSteps.{IsTick as IsRncTick, sent_line, sent_lines}
+use Rattle.dch_linkcmd.specs.UeSteps.{IsTick as IsUeTick, has_read}
+use Rattle.dch_linkcmd.specs.Checks.{IsSublist, good_in}
+use Rattle.dch_linkcmd.specs.LinkLink.{LinkState}
+use Rattle.dch_linkcmd.specs.LinkStages.{AreCompared}
 use Rattle.dch_runlaw.specs.Frames.{IsFrame}
 use Rattle.dch_runlaw.specs.Clear.{FrameClear}
 use Rattle.dch_runlaw.specs.ClearSound.{AreSound}

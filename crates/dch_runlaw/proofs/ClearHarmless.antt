@@ -9,10 +9,10 @@ use Rattle.dch_damage.specs.Turns.{turned_bit, turned_cell}
 use Rattle.dch_damage.proofs.Changed.{unchanged}
 use Rattle.dch_node.specs.Lines.{Line}
 use Rattle.dch_node.specs.Values.{Radio}
-use Rattle.dch_ue.specs.State.{BlockedCombination as UeBlocked, OfferedUnit as UeOffered}
-use Rattle.dch_rnc.specs.State.{BlockedCombination as RncBlocked, OfferedUnit as RncOffered}
-use Rattle.dch_link.specs.Events.{BlockedCombination, Damages, Event as LinkEvent, Happens, OfferedUnit}
-use Rattle.dch_link.specs.Link.{LinkState}
+use Rattle.dch_linkcmd.specs.UeState.{BlockedCombination as UeBlocked, OfferedUnit as UeOffered}
+use Rattle.dch_linkcmd.specs.RncState.{BlockedCombination as RncBlocked, OfferedUnit as RncOffered}
+use Rattle.dch_linkcmd.specs.Events.{BlockedCombination, Damages, Event as LinkEvent, Happens, OfferedUnit}
+use Rattle.dch_linkcmd.specs.LinkLink.{LinkState}
 use Rattle.dch_runlaw.specs.Frames.{IsFrame}
 use Rattle.dch_runlaw.specs.Runs.{Between, Event, Frame, Runs}
 use Rattle.dch_runlaw.proofs.Keeping.{but_rnc, but_ue}

@@ -8,9 +8,9 @@ use Rattle.dch_types.specs.Timing.{starts}
 use Rattle.dch_mac.specs.declared.answer.Demux.{Demux}
 use Rattle.dch_mac.specs.declared.answer.Demux.TheVariants.{To, Reserved, NoBearer, Nobody}
 use Rattle.dch_mac.specs.Receivers.{receiver}
-use Rattle.dch_nodeb.proofs.Steady.{tells}
-use Rattle.dch_layer.specs.Layers.{Came, Given, Layer, goes, takes, takes_good, takes_one}
-use Rattle.dch_layer.specs.Starting.{IsStart}
+use Rattle.dch_linkcmd.proofs.Steady.{tells}
+use Rattle.dch_layer2.specs.Layers.{Came, Given, Layer, goes, takes, takes_good, takes_one}
+use Rattle.dch_layer2.specs.Starting.{IsStart}
 use Rattle.dch_layer2.specs.Coming.{came_of}
 use Rattle.dch_layer2.specs.Reading.{Bad, Nothing, Read, Reading, reads, reads_below}
 

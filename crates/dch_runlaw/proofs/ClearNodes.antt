@@ -5,12 +5,12 @@ use Rattle.dch_accept.specs.Plans.{Planned}
 use Rattle.dch_damage.specs.Damage.{iub_after}
 use Rattle.dch_node.specs.Lines.{Line}
 use Rattle.dch_node.specs.Values.{Output}
-use Rattle.dch_layer.specs.Layers.{Layer}
-use Rattle.dch_ue.specs.State.{State as UeState}
-use Rattle.dch_ue.specs.Steps.{IsTick as IsUeTick}
-use Rattle.dch_rnc.specs.State.{State as RncState, set_readings}
-use Rattle.dch_rnc.specs.Steps.{IsArrival, IsTick as IsRncTick}
-use Rattle.dch_link.specs.Link.{LinkState}
+use Rattle.dch_layer2.specs.Layers.{Layer}
+use Rattle.dch_linkcmd.specs.UeState.{State as UeState}
+use Rattle.dch_linkcmd.specs.UeSteps.{IsTick as IsUeTick}
+use Rattle.dch_linkcmd.specs.RncState.{State as RncState, set_readings}
+use Rattle.dch_linkcmd.specs.RncSteps.{IsArrival, IsTick as IsRncTick}
+use Rattle.dch_linkcmd.specs.LinkLink.{LinkState}
 use Rattle.dch_runlaw.specs.Frames.{IsFrame, MayBeTaken, Taken}
 use Rattle.dch_runlaw.proofs.ClearKept.{KeepsLayer, below_keeps}
 

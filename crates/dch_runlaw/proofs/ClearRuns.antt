@@ -8,8 +8,8 @@ use Rattle.dch_types.specs.Parts.{side_of}
 use Rattle.dch_types.specs.Timing.{starts}
 use Rattle.dch_accept.specs.Plans.{IsPlanned, Planned}
 use Rattle.dch_node.specs.Lines.{Line}
-use Rattle.dch_nodeb.proofs.Steady.{starts-eighth}
-use Rattle.dch_link.specs.Link.{LinkState}
+use Rattle.dch_linkcmd.proofs.Steady.{starts-eighth}
+use Rattle.dch_linkcmd.specs.LinkLink.{LinkState}
 use Rattle.dch_runlaw.specs.Frames.{IsFrame}
 use Rattle.dch_runlaw.specs.Runs.{Between, Event, Frame, Runs, Steps}
 use Rattle.dch_runlaw.specs.Clear.{IsClear, EventClear}

@@ -6,7 +6,7 @@ use Rattle.dch_types.specs.Parts.{format_at}
 use Rattle.dch_accept.specs.Blocks.{Held, bits_of}
 use Rattle.dch_accept.specs.HeldSets.{HasFormat}
 use Rattle.dch_coding.specs.Ttis.{part}
-use Rattle.dch_decode.proofs.Arrived.{same_parts}
+use Rattle.dch_tti.proofs.Arrived.{same_parts}
 use Rattle.dch_iub.specs.Back.{IsSameTti}
 
 pub same_bits : (channel : Trch) (old new : Held) → HasFormat channel old → HasFormat channel new → IsSameTti old new → new.bits ≡ old.bits

@@ -13,11 +13,11 @@ use Rattle.dch_accept.specs.Frames.{Frame}
 use Rattle.dch_accept.specs.Plans.{Planned}
 use Rattle.dch_node.specs.RxFrames.{AreHeard, KeepsRadio}
 use Rattle.dch_node.specs.Values.{Radio}
-use Rattle.dch_rxframes.specs.RxFrames.{IsKept, RxFrame, RxFrames, frame_at, rx_frame_at, tti_place}
-use Rattle.dch_rxframes.specs.Sent.{AreSentFrames, IsSentFrame}
-use Rattle.dch_rxframes.proofs.Written.{kept-written}
-use Rattle.dch_ttibuf.specs.Frames.{IsFrameOf}
-use Rattle.dch_ttibuf.specs.Loaded.{AreFormats, Loaded, frame_number, loaded_at}
+use Rattle.dch_tti.specs.RxFrames.{IsKept, RxFrame, RxFrames, frame_at, rx_frame_at, tti_place}
+use Rattle.dch_tti.specs.Sent.{AreSentFrames, IsSentFrame}
+use Rattle.dch_tti.proofs.Written.{kept-written}
+use Rattle.dch_tti.specs.Frames.{IsFrameOf}
+use Rattle.dch_tti.specs.Loaded.{AreFormats, Loaded, frame_number, loaded_at}
 use Rattle.dch_runlaw.proofs.ClearTtis.{HasRadio, Half}
 
 -- a radio frame as it was sent in frame m of a TTI of channel i, in combination c, while this was loaded of the channel

@@ -21,17 +21,17 @@ use Rattle.dch_am.specs.Sender.{Sender}
 use Rattle.dch_am.specs.Acknowledging.{status_answer}
 use Rattle.dch_am.specs.Moves.{control_answer}
 use Rattle.dch_amlaw.specs.Pair.{is_beyond, is_outside_answer}
-use Rattle.dch_amentity.specs.Answers.{is_unknown}
+use Rattle.dch_pair.specs.Answers.{is_unknown}
 use Rattle.dch_node.specs.Lines.{Line, Outside}
-use Rattle.dch_nodeb.proofs.Steady.{tells}
-use Rattle.dch_layer.specs.Bearings.{Bearing, Transparent, Unacknowledged, Acknowledged, Sends, rules_in}
-use Rattle.dch_layer.specs.Hearing.{hears, hears_um, lines_by, new_units, receiver_of, rides_outside}
-use Rattle.dch_layer.specs.Layers.{Came, Layer, goes, takes, takes_good, takes_one}
-use Rattle.dch_layer.specs.Octets.{octets_of}
-use Rattle.dch_layer.specs.UnitLines.{line_if, unit_line, unit_lines}
+use Rattle.dch_linkcmd.proofs.Steady.{tells}
+use Rattle.dch_layer2.specs.Bearings.{Bearing, Transparent, Unacknowledged, Acknowledged, Sends, rules_in}
+use Rattle.dch_layer2.specs.Hearing.{hears, hears_um, lines_by, new_units, receiver_of, rides_outside}
+use Rattle.dch_layer2.specs.Layers.{Came, Layer, goes, takes, takes_good, takes_one}
+use Rattle.dch_layer2.specs.Octets.{octets_of}
+use Rattle.dch_layer2.specs.UnitLines.{line_if, unit_line, unit_lines}
 use Rattle.dch_layer2.specs.Coming.{came_at, came_below, came_of}
 use Rattle.dch_layer2.specs.Reading.{Bad, Nothing, Read, Reading, reads, reads_below}
-use Rattle.dch_link.specs.Checks.{AreChecked, IsSublist}
+use Rattle.dch_linkcmd.specs.Checks.{AreChecked, IsSublist}
 use Rattle.dch_runlaw.specs.ClearSound.{AreSound, is_sound}
 use Rattle.dch_runlaw.proofs.ClearClean.{IsClean}
 

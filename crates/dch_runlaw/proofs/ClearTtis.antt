@@ -4,8 +4,8 @@ use Rattle.std.specs.Prelude.{◌==◌, if◌then◌else◌, nat_lt}
 use Rattle.std.proofs.lemmas.Bool.{cases_eq, cases_lt, eq-eqb, ne_eqb}
 use Rattle.std.proofs.lemmas.Bool.Decides.{nat_tests}
 use Rattle.dch_types.specs.Limits.{IsFrames}
-use Rattle.dch_ttibuf.specs.Loaded.{Loaded}
-use Rattle.dch_rxframes.specs.RxFrames.{tti_place}
+use Rattle.dch_tti.specs.Loaded.{Loaded}
+use Rattle.dch_tti.specs.RxFrames.{tti_place}
 use Rattle.dch_types.specs.Timing.{ends, starts}
 use Rattle.dch_node.specs.Values.{Radio}
 

@@ -12,9 +12,9 @@ use Rattle.dch_types.specs.Parts.{channel_at, format_at, format_number}
 use Rattle.dch_accept.specs.Blocks.{Held, bits_of}
 use Rattle.dch_accept.specs.HeldSets.{HasFormat}
 use Rattle.dch_accept.specs.Plans.{IsPlanned, Planned}
-use Rattle.dch_decode.specs.Received.{ArrivesAs}
-use Rattle.dch_rxframes.specs.RxFrames.{RxFrames}
-use Rattle.dch_ttibuf.specs.Loaded.{Loaded}
+use Rattle.dch_tti.specs.Received.{ArrivesAs}
+use Rattle.dch_tti.specs.RxFrames.{RxFrames}
+use Rattle.dch_tti.specs.Loaded.{Loaded}
 use Rattle.dch_ulphy.specs.Frames.{multiplexed}
 use Rattle.dch_ulphy.specs.Loaded.{IsLoaded}
 use Rattle.dch_ulphy.specs.Read.{IsTtiRead}
@@ -24,10 +24,10 @@ use Rattle.dch_node.specs.RxFrames.{AreHeard}
 use Rattle.dch_node.specs.Values.{Radio}
 use Rattle.dch_phylaw.specs.SentRead.{IsReadAsSent}
 use Rattle.dch_phylaw.proofs.UplinkSent.{uplink_sent}
-use Rattle.dch_layer.specs.Layers.{Given}
+use Rattle.dch_layer2.specs.Layers.{Given}
 use Rattle.dch_layer2.specs.Joined.{joined_bits}
 use Rattle.dch_layer2.specs.Reading.{Read}
-use Rattle.dch_link.specs.Checks.{good_in}
+use Rattle.dch_linkcmd.specs.Checks.{good_in}
 use Rattle.dch_runlaw.specs.Sized.{AreSized}
 use Rattle.dch_runlaw.proofs.ClearBlocks.{arrive_good}
 use Rattle.dch_runlaw.proofs.ClearSame.{same_bits}

@@ -7,24 +7,24 @@ use Rattle.dch_types.specs.Limits.{IsFrames}
 use Rattle.dch_types.specs.Parts.{channel_at, format_number}
 use Rattle.dch_types.specs.Timing.{ends, starts}
 use Rattle.dch_accept.specs.Plans.{IsPlanned, Planned}
-use Rattle.dch_ttibuf.specs.Loaded.{loaded_at}
+use Rattle.dch_tti.specs.Loaded.{loaded_at}
 use Rattle.dch_ulphy.specs.Frames.{multiplexed}
 use Rattle.dch_ulphy.proofs.One.{loaded_one}
 use Rattle.dch_damage.specs.Damage.{radio_after}
 use Rattle.dch_node.specs.Lines.{Line, joined}
 use Rattle.dch_node.specs.RxFrames.{AreHeard}
 use Rattle.dch_node.specs.Values.{Radio}
-use Rattle.dch_layer.specs.Layers.{Given, Layer, ticks}
-use Rattle.dch_layer.specs.Starting.{IsStart}
+use Rattle.dch_layer2.specs.Layers.{Given, Layer, ticks}
+use Rattle.dch_layer2.specs.Starting.{IsStart}
 use Rattle.dch_layer2.specs.Joined.{joined_bits}
-use Rattle.dch_nodeb.specs.State.{State as NodeBState}
-use Rattle.dch_nodeb.specs.Steps.{IsDeparture, IsReception}
-use Rattle.dch_rnc.specs.State.{State as RncState}
-use Rattle.dch_rnc.specs.Steps.{IsTick as IsRncTick}
-use Rattle.dch_ue.specs.State.{State as UeState}
-use Rattle.dch_ue.specs.Steps.{IsRadioFrame, IsTick as IsUeTick, has_read}
-use Rattle.dch_link.specs.Checks.{good_in}
-use Rattle.dch_link.specs.Link.{LinkState}
+use Rattle.dch_linkcmd.specs.NodebState.{State as NodeBState}
+use Rattle.dch_linkcmd.specs.NodebSteps.{IsDeparture, IsReception}
+use Rattle.dch_linkcmd.specs.RncState.{State as RncState}
+use Rattle.dch_linkcmd.specs.RncSteps.{IsTick as IsRncTick}
+use Rattle.dch_linkcmd.specs.UeState.{State as UeState}
+use Rattle.dch_linkcmd.specs.UeSteps.{IsRadioFrame, IsTick as IsUeTick, has_read}
+use Rattle.dch_linkcmd.specs.Checks.{good_in}
+use Rattle.dch_linkcmd.specs.LinkLink.{LinkState}
 use Rattle.dch_runlaw.specs.Frames.{IsFrame, MayBeTaken}
 use Rattle.dch_runlaw.specs.Clear.{FrameClear}
 use Rattle.dch_runlaw.specs.Sized.{AreAllSized, AreAllWhole}

@@ -11,7 +11,7 @@ use Rattle.dch_types.specs.Parts.{channel_at}
 use Rattle.dch_types.specs.Timing.{ends, set_frames, started}
 use Rattle.dch_accept.specs.HeldSets.{HeldSet, held_at}
 use Rattle.dch_accept.specs.Plans.{IsPlanned, Planned}
-use Rattle.dch_rxframes.specs.RxFrames.{RxFrames}
+use Rattle.dch_tti.specs.RxFrames.{RxFrames}
 use Rattle.dch_ulphy.specs.Sent.{WasSent}
 use Rattle.dch_iub.specs.Back.{IsReadBack}
 use Rattle.dch_iub.proofs.Back.{one_reading}
@@ -20,14 +20,14 @@ use Rattle.dch_node.specs.Lines.{Line}
 use Rattle.dch_node.specs.RxFrames.{AreHeard}
 use Rattle.dch_node.specs.Values.{Output, Radio}
 use Rattle.dch_phylaw.proofs.UplinkSent.{uplink_sent}
-use Rattle.dch_layer.specs.Layers.{Layer}
+use Rattle.dch_layer2.specs.Layers.{Layer}
 use Rattle.dch_layer2.specs.Joined.{joined_bits}
 use Rattle.dch_layer2.specs.Reading.{Nothing, Read, Reading}
-use Rattle.dch_nodeb.specs.Steps.{DeliversSet, IsLost, IsSentUp}
-use Rattle.dch_nodeb.proofs.Steady.{set_frames-member, tells}
-use Rattle.dch_rnc.specs.State.{State as RncState, set_readings}
-use Rattle.dch_rnc.specs.Steps.{IsArrival, IsReadFrame}
-use Rattle.dch_link.specs.Checks.{IsSublist, good_in}
+use Rattle.dch_linkcmd.specs.NodebSteps.{DeliversSet, IsLost, IsSentUp}
+use Rattle.dch_linkcmd.proofs.Steady.{set_frames-member, tells}
+use Rattle.dch_linkcmd.specs.RncState.{State as RncState, set_readings}
+use Rattle.dch_linkcmd.specs.RncSteps.{IsArrival, IsReadFrame}
+use Rattle.dch_linkcmd.specs.Checks.{IsSublist, good_in}
 use Rattle.dch_runlaw.specs.Frames.{IsTaken, MayBeTaken, Taken}
 use Rattle.dch_runlaw.specs.Sized.{AreAllSized}
 use Rattle.dch_runlaw.specs.ClearSound.{AreSound}

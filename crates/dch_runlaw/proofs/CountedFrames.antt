@@ -2,8 +2,8 @@
 use Rattle.std.proofs.Common.{◌≡◌, ◌+◌, ◌%◌, ◌∙◌, ℕ, List, [], ◌∷◌, arith, ap}
 use Rattle.dch_accept.specs.Plans.{IsPlanned, Planned}
 use Rattle.dch_node.specs.Lines.{Line}
-use Rattle.dch_rnc.specs.State.{State as RncState}
-use Rattle.dch_link.specs.Link.{LinkState, opened_link}
+use Rattle.dch_linkcmd.specs.RncState.{State as RncState}
+use Rattle.dch_linkcmd.specs.LinkLink.{LinkState, opened_link}
 use Rattle.dch_runlaw.specs.Intervals.{frames_in}
 use Rattle.dch_runlaw.specs.Parts.{GoesOver}
 use Rattle.dch_runlaw.specs.Runs.{Between, Event, Frame, Runs}

@@ -2,17 +2,17 @@
 use Rattle.std.proofs.Common.{◌≡◌, ◌<◌, ◌≤◌, ◌+◌, ◌∙◌, ◌++◌, ℕ, zero, suc, List, Option, append_assoc, append-nil, arith, refl, ap, sym, subst}
 use Rattle.dch_types.specs.declared.channel.Dir.TheVariants.{Up, Down}
 use Rattle.dch_accept.specs.Plans.{Planned}
-use Rattle.dch_layer.specs.Layers.{Layer}
+use Rattle.dch_layer2.specs.Layers.{Layer}
 use Rattle.dch_node.specs.Lines.{Line, joined}
 use Rattle.dch_damage.specs.Damage.{Damage, iub_after, radio_after}
-use Rattle.dch_ue.specs.State.{DownlinkFrame, Event as UeEvent, State as UeState, Tick as UeTicks}
-use Rattle.dch_ue.specs.Steps.{Steps as UeSteps}
-use Rattle.dch_nodeb.specs.State.{DownlinkDue, Event as NodeBEvent, State as NodeBState, UplinkFrame}
-use Rattle.dch_nodeb.specs.Steps.{Steps as NodeBSteps}
-use Rattle.dch_rnc.specs.State.{Event as RncEvent, State as RncState, Tick as RncTicks}
-use Rattle.dch_link.specs.Courses.{Course}
-use Rattle.dch_link.specs.Link.{LinkState, active}
-use Rattle.dch_link.specs.Stages.{AreCompared, AtStage, MayGoDown, MayGoUp}
+use Rattle.dch_linkcmd.specs.UeState.{DownlinkFrame, Event as UeEvent, State as UeState, Tick as UeTicks}
+use Rattle.dch_linkcmd.specs.UeSteps.{Steps as UeSteps}
+use Rattle.dch_linkcmd.specs.NodebState.{DownlinkDue, Event as NodeBEvent, State as NodeBState, UplinkFrame}
+use Rattle.dch_linkcmd.specs.NodebSteps.{Steps as NodeBSteps}
+use Rattle.dch_linkcmd.specs.RncState.{Event as RncEvent, State as RncState, Tick as RncTicks}
+use Rattle.dch_linkcmd.specs.Courses.{Course}
+use Rattle.dch_linkcmd.specs.LinkLink.{LinkState, active}
+use Rattle.dch_linkcmd.specs.LinkStages.{AreCompared, AtStage, MayGoDown, MayGoUp}
 use Rattle.dch_linkcmd.proofs.Staying.{stage_stays}
 use Rattle.dch_runlaw.specs.Frames.{IsFrame, MayArrive, MayBeTaken, Taken, lines_below, stage_at}
 use Rattle.dch_runlaw.proofs.Eight.{by_eight, joined-split}

@@ -6,7 +6,7 @@ use Rattle.dch_types.specs.Parts.{side_of}
 use Rattle.dch_config.specs.Good.{IsGood}
 use Rattle.dch_accept.specs.Plans.{Planned}
 use Rattle.dch_node.specs.Lines.{Line}
-use Rattle.dch_link.specs.Link.{LinkState, opened_link}
+use Rattle.dch_linkcmd.specs.LinkLink.{LinkState, opened_link}
 use Rattle.dch_runlaw.specs.Runs.{Event, Runs}
 use Rattle.dch_runlaw.specs.Parts.{GoesOver, KeepsAll}
 use Rattle.dch_runlaw.specs.HonestBearers.{HasTmDown, HasTmUp, HasUmDown, HasUmUp, HasWholeHistory, IsAcknowledged, IsTransparent, IsUnacknowledged}

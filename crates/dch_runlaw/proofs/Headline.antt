@@ -6,11 +6,11 @@ use Rattle.dch_config.specs.Good.{IsGood}
 use Rattle.dch_accept.specs.Plans.{IsPlanned, Planned}
 use Rattle.dch_lines.specs.LineTexts.{HandlesLines}
 use Rattle.dch_node.specs.Lines.{Differs, Line, text_of}
-use Rattle.dch_nodecmd.specs.Shown.{shown}
-use Rattle.dch_nodecmd.specs.declared.later.Later.{Later}
-use Rattle.dch_rnc.specs.State.{State as RncState}
-use Rattle.dch_link.specs.Changing.{Changes}
-use Rattle.dch_link.specs.Link.{LinkState, opened_link}
+use Rattle.dch_linkcmd.specs.Shown.{shown}
+use Rattle.dch_linkcmd.specs.later.Later.{Later}
+use Rattle.dch_linkcmd.specs.RncState.{State as RncState}
+use Rattle.dch_linkcmd.specs.LinkChanging.{Changes}
+use Rattle.dch_linkcmd.specs.LinkLink.{LinkState, opened_link}
 use Rattle.dch_linkcmd.specs.Rules.{link_lines}
 use Rattle.dch_linkcmd.specs.Run.{Run, opened_run}
 use Rattle.dch_runlaw.specs.Intervals.{frames_in}

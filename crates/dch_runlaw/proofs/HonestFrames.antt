@@ -6,14 +6,14 @@ use Rattle.dch_types.specs.declared.channel.Dir.TheVariants.{Up, Down}
 use Rattle.dch_types.specs.Timing.{ends, starts}
 use Rattle.dch_accept.specs.Plans.{Planned}
 use Rattle.dch_node.specs.Lines.{Line}
-use Rattle.dch_layer.specs.Layers.{ticks}
-use Rattle.dch_ue.specs.State.{State as UeState}
-use Rattle.dch_ue.specs.Steps.{IsTick as IsUeTick, has_read}
-use Rattle.dch_nodeb.specs.State.{State as NodeBState}
-use Rattle.dch_rnc.specs.State.{State as RncState, Tick as RncTicks}
-use Rattle.dch_rnc.specs.Steps.{IsTick as IsRncTick, Steps as RncSteps}
-use Rattle.dch_link.specs.Checks.{good_in}
-use Rattle.dch_link.specs.Link.{LinkState}
+use Rattle.dch_layer2.specs.Layers.{ticks}
+use Rattle.dch_linkcmd.specs.UeState.{State as UeState}
+use Rattle.dch_linkcmd.specs.UeSteps.{IsTick as IsUeTick, has_read}
+use Rattle.dch_linkcmd.specs.NodebState.{State as NodeBState}
+use Rattle.dch_linkcmd.specs.RncState.{State as RncState, Tick as RncTicks}
+use Rattle.dch_linkcmd.specs.RncSteps.{IsTick as IsRncTick, Steps as RncSteps}
+use Rattle.dch_linkcmd.specs.Checks.{good_in}
+use Rattle.dch_linkcmd.specs.LinkLink.{LinkState}
 use Rattle.dch_runlaw.specs.Frames.{IsFrame, lines_below}
 use Rattle.dch_runlaw.specs.Nodes.{Nodes, Runs, given_at}
 use Rattle.dch_runlaw.specs.EndEvents.{until_set}

@@ -7,14 +7,14 @@ use Rattle.dch_types.specs.Parts.{side_of}
 use Rattle.dch_config.specs.Good.{IsGood}
 use Rattle.dch_accept.specs.Plans.{Planned}
 use Rattle.dch_node.specs.Lines.{Differs, Line}
-use Rattle.dch_layer.specs.Bearings.{channel_of}
-use Rattle.dch_link.specs.Checks.{IsSublist as IsFound}
-use Rattle.dch_link.specs.Link.{LinkState, opened_link}
-use Rattle.dch_runlaw.specs.Runs.{Event, Runs}
+use Rattle.dch_layer2.specs.Bearings.{channel_of}
+use Rattle.dch_linkcmd.specs.Checks.{IsSublist as IsFound}
+use Rattle.dch_linkcmd.specs.LinkLink.{LinkState, opened_link}
 use Rattle.dch_layerlaw.specs.Worlds.{IsFront, IsSublist, turned}
 use Rattle.dch_layerlaw.proofs.Bearers.{is_am_bearer, is_tm_bearer, is_um_bearer}
 use Rattle.dch_layerlaw.proofs.Tm.{tm_carried}
 use Rattle.dch_layerlaw.proofs.UmWhole.{um_carried}
+use Rattle.dch_runlaw.specs.Runs.{Event, Runs}
 use Rattle.dch_runlaw.specs.EndEvents.{end_events}
 use Rattle.dch_runlaw.specs.Nodes.{Any, AreFaithful, AreWhole, opened_nodes, world_of}
 use Rattle.dch_runlaw.proofs.NodesEvents.{nodes_history, nodes_whole_history, tm_down, tm_down_history, tm_up, tm_up_history, um_down, um_down_history, um_up, um_up_history}

@@ -10,10 +10,10 @@ use Rattle.dch_config.specs.Changes.{KeepsBearer}
 use Rattle.dch_accept.specs.Plans.{Planned}
 use Rattle.dch_node.specs.Lines.{Differs, Line}
 use Rattle.dch_node.specs.Values.{no_output}
-use Rattle.dch_nodeb.proofs.Steady.{starts-eighth}
-use Rattle.dch_rnc.specs.State.{State as RncState}
-use Rattle.dch_link.specs.Checks.{IsSublist as IsFound}
-use Rattle.dch_link.specs.Link.{LinkState, opened_link}
+use Rattle.dch_linkcmd.proofs.Steady.{starts-eighth}
+use Rattle.dch_linkcmd.specs.RncState.{State as RncState}
+use Rattle.dch_linkcmd.specs.Checks.{IsSublist as IsFound}
+use Rattle.dch_linkcmd.specs.LinkLink.{LinkState, opened_link}
 use Rattle.dch_layerlaw.specs.Worlds.{IsFront, IsSublist}
 use Rattle.dch_layerlaw.proofs.Bearers.{is_am_bearer, is_tm_bearer, is_um_bearer}
 use Rattle.dch_runlaw.specs.Runs.{Event, Runs}

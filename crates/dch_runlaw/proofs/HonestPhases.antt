@@ -4,7 +4,7 @@ use Rattle.std.specs.Prelude.{◌%◌, ◌==◌, ◌&&◌, nat_lt}
 use Rattle.std.proofs.lemmas.List.{append-nil}
 use Rattle.dch_bits.specs.declared.bit.Bit.{Bit}
 use Rattle.dch_types.specs.Timing.{ends, starts}
-use Rattle.dch_link.specs.Checks.{IsSublist as IsFound}
+use Rattle.dch_linkcmd.specs.Checks.{IsSublist as IsFound}
 use Rattle.dch_layerlaw.specs.Worlds.{IsFront, IsSublist, Log}
 use Rattle.dch_layerlaw.proofs.Sublists.{either, sub_more}
 

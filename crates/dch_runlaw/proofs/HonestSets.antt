@@ -9,10 +9,10 @@ use Rattle.dch_types.specs.Timing.{ends, set_frames}
 use Rattle.dch_accept.specs.Plans.{Planned}
 use Rattle.dch_node.specs.Lines.{Line}
 use Rattle.dch_damage.specs.Damage.{iub_after, radio_after}
-use Rattle.dch_nodeb.specs.Steps.{IsReception}
-use Rattle.dch_rnc.specs.State.{IubFrame, State as RncState}
-use Rattle.dch_link.specs.Checks.{good_in}
-use Rattle.dch_link.specs.Link.{LinkState}
+use Rattle.dch_linkcmd.specs.NodebSteps.{IsReception}
+use Rattle.dch_linkcmd.specs.RncState.{IubFrame, State as RncState}
+use Rattle.dch_linkcmd.specs.Checks.{good_in}
+use Rattle.dch_linkcmd.specs.LinkLink.{LinkState}
 use Rattle.dch_runlaw.specs.Frames.{IsFrame, MayBeTaken, Taken, lines_below}
 use Rattle.dch_layerlaw.specs.Worlds.{Log}
 use Rattle.dch_layerlaw.proofs.Names.{other_number}

@@ -9,12 +9,12 @@ use Rattle.dch_types.specs.declared.channel.Dir.TheVariants.{Up, Down}
 use Rattle.dch_types.specs.Parts.{channel_at, side_of}
 use Rattle.dch_accept.specs.Plans.{Planned}
 use Rattle.dch_node.specs.Lines.{Differs, Line, joined}
-use Rattle.dch_layer.specs.Layers.{Layer}
+use Rattle.dch_layer2.specs.Layers.{Layer}
 use Rattle.dch_damage.specs.Damage.{iub_after}
-use Rattle.dch_rnc.specs.State.{State as RncState}
-use Rattle.dch_link.specs.Checks.{AreChecked, IsChecked, IsSublist, good_in}
-use Rattle.dch_link.specs.Link.{LinkState}
-use Rattle.dch_link.specs.Stages.{AreCompared}
+use Rattle.dch_linkcmd.specs.RncState.{State as RncState}
+use Rattle.dch_linkcmd.specs.Checks.{AreChecked, IsChecked, IsSublist, good_in}
+use Rattle.dch_linkcmd.specs.LinkLink.{LinkState}
+use Rattle.dch_linkcmd.specs.LinkStages.{AreCompared}
 use Rattle.dch_runlaw.specs.Frames.{IsFrame, MayBeTaken, Taken}
 use Rattle.dch_runlaw.specs.Runs.{Between, Event, Frame, Runs, Steps}
 use Rattle.dch_runlaw.specs.HonestFits.{EventFits, FrameFits, IsChannel, IsHonest, RunFits}

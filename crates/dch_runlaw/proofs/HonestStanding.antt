@@ -4,9 +4,9 @@ use Rattle.dch_bits.specs.declared.bit.Bit.{Bit}
 use Rattle.dch_types.specs.Parts.{channel_at}
 use Rattle.dch_accept.specs.Plans.{Planned}
 use Rattle.dch_node.specs.Lines.{Line}
-use Rattle.dch_ue.specs.State.{State as UeState}
-use Rattle.dch_rnc.specs.State.{State as RncState}
-use Rattle.dch_link.specs.Link.{LinkState}
+use Rattle.dch_linkcmd.specs.UeState.{State as UeState}
+use Rattle.dch_linkcmd.specs.RncState.{State as RncState}
+use Rattle.dch_linkcmd.specs.LinkLink.{LinkState}
 use Rattle.dch_layerlaw.specs.Worlds.{Log}
 use Rattle.dch_runlaw.specs.Nodes.{Any, Event, Nodes, Runs}
 use Rattle.dch_runlaw.specs.HonestFits.{IsChannel}

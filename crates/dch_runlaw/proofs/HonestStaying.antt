@@ -3,17 +3,17 @@ use Rattle.std.proofs.Common.{◌≡◌, ◌≤◌, ◌+◌, ◌∙◌, ℕ, zer
 use Rattle.dch_types.specs.declared.channel.Dir.TheVariants.{Up, Down}
 use Rattle.dch_accept.specs.Plans.{Planned}
 use Rattle.dch_node.specs.Lines.{Line}
-use Rattle.dch_layer.specs.Layers.{Layer}
+use Rattle.dch_layer2.specs.Layers.{Layer}
 use Rattle.dch_damage.specs.Damage.{iub_after, radio_after}
-use Rattle.dch_ue.specs.State.{BlockedCombination as UeBlocked, DownlinkFrame, Event as UeEvent, OfferedUnit as UeOffered, State as UeState, Tick as UeTicks}
-use Rattle.dch_nodeb.specs.State.{Event as NodeBEvent, State as NodeBState}
-use Rattle.dch_nodeb.specs.Steps.{IsKeptFrame, IsRefusedFrame}
-use Rattle.dch_rnc.specs.State.{BlockedCombination as RncBlocked, Event as RncEvent, IubFrame as IubFrameUp, OfferedUnit as RncOffered, State as RncState, Tick as RncTicks}
-use Rattle.dch_link.specs.Courses.{Course}
-use Rattle.dch_link.specs.Events.{BlockedCombination, Damages, Event as LinkEvent, Happens, OfferedUnit}
-use Rattle.dch_link.specs.Link.{LinkState}
-use Rattle.dch_link.specs.Stages.{RncGoes, UeGoes}
-use Rattle.dch_link.specs.Within.{RncWithin, UeWithin}
+use Rattle.dch_linkcmd.specs.UeState.{BlockedCombination as UeBlocked, DownlinkFrame, Event as UeEvent, OfferedUnit as UeOffered, State as UeState, Tick as UeTicks}
+use Rattle.dch_linkcmd.specs.NodebState.{Event as NodeBEvent, State as NodeBState}
+use Rattle.dch_linkcmd.specs.NodebSteps.{IsKeptFrame, IsRefusedFrame}
+use Rattle.dch_linkcmd.specs.RncState.{BlockedCombination as RncBlocked, Event as RncEvent, IubFrame as IubFrameUp, OfferedUnit as RncOffered, State as RncState, Tick as RncTicks}
+use Rattle.dch_linkcmd.specs.Courses.{Course}
+use Rattle.dch_linkcmd.specs.Events.{BlockedCombination, Damages, Event as LinkEvent, Happens, OfferedUnit}
+use Rattle.dch_linkcmd.specs.LinkLink.{LinkState}
+use Rattle.dch_linkcmd.specs.LinkStages.{RncGoes, UeGoes}
+use Rattle.dch_linkcmd.specs.Within.{RncWithin, UeWithin}
 use Rattle.dch_runlaw.specs.Frames.{IsFrame, MayArrive, MayBeTaken, Taken}
 use Rattle.dch_runlaw.specs.Runs.{Between, Event, Frame, Steps}
 use Rattle.dch_runlaw.proofs.Keeping.{but_rnc, but_ue, rnc_step, ue_step}

@@ -10,21 +10,21 @@ use Rattle.dch_types.specs.Parts.{channel_at, side_of}
 use Rattle.dch_types.specs.Timing.{ends, set_frames, starts}
 use Rattle.dch_accept.specs.HeldSets.{HeldSet}
 use Rattle.dch_accept.specs.Plans.{Planned}
-use Rattle.dch_rxframes.specs.RxFrames.{RxFrames}
+use Rattle.dch_tti.specs.RxFrames.{RxFrames}
 use Rattle.dch_mac.specs.declared.answer.Demux.{Demux}
 use Rattle.dch_mac.specs.declared.answer.Demux.TheVariants.{To, Reserved, NoBearer, Nobody}
 use Rattle.dch_mac.specs.Receivers.{receiver}
 use Rattle.dch_node.specs.Lines.{Line}
 use Rattle.dch_node.specs.Values.{Output}
-use Rattle.dch_layer.specs.Layers.{Came, Layer, goes, takes, takes_one}
-use Rattle.dch_layer.specs.Starting.{IsStart}
+use Rattle.dch_layer2.specs.Layers.{Came, Layer, goes, takes, takes_one}
+use Rattle.dch_layer2.specs.Starting.{IsStart}
 use Rattle.dch_layer2.specs.Coming.{came_of}
 use Rattle.dch_layer2.specs.Reading.{Bad, Nothing, Read, Reading, reads, reads_below}
-use Rattle.dch_ue.specs.Steps.{IsReading}
-use Rattle.dch_nodeb.specs.Steps.{DeliversSet, IsLost, IsSentUp, IsWaiting}
-use Rattle.dch_rnc.specs.State.{IubFrame, State as RncState, set_readings}
-use Rattle.dch_rnc.specs.Steps.{IsReadFrame, IsRefusedFrame, Steps as RncSteps}
-use Rattle.dch_link.specs.Checks.{good_in}
+use Rattle.dch_linkcmd.specs.UeSteps.{IsReading}
+use Rattle.dch_linkcmd.specs.NodebSteps.{DeliversSet, IsLost, IsSentUp, IsWaiting}
+use Rattle.dch_linkcmd.specs.RncState.{IubFrame, State as RncState, set_readings}
+use Rattle.dch_linkcmd.specs.RncSteps.{IsReadFrame, IsRefusedFrame, Steps as RncSteps}
+use Rattle.dch_linkcmd.specs.Checks.{good_in}
 use Rattle.dch_layerlaw.proofs.Sublists.{either}
 
 -- taking blocks leaves what channels were given

@@ -5,13 +5,13 @@ use Rattle.dch_types.specs.declared.channel.Side.{Side}
 use Rattle.dch_accept.specs.Plans.{IsPlanned, Planned}
 use Rattle.dch_damage.specs.Damage.{iub_after, radio_after}
 use Rattle.dch_node.specs.Lines.{Line}
-use Rattle.dch_nodeb.specs.State.{State as NodeBState, given_now}
-use Rattle.dch_nodeb.specs.Steps.{IsDeparture, IsReception}
-use Rattle.dch_rnc.specs.Steps.{IsTick as IsRncTick}
-use Rattle.dch_rnc.specs.State.{State as RncState}
-use Rattle.dch_ue.specs.State.{State as UeState}
-use Rattle.dch_ue.specs.Steps.{IsTick as IsUeTick}
-use Rattle.dch_link.specs.Link.{LinkState, opened_link}
+use Rattle.dch_linkcmd.specs.NodebState.{State as NodeBState, given_now}
+use Rattle.dch_linkcmd.specs.NodebSteps.{IsDeparture, IsReception}
+use Rattle.dch_linkcmd.specs.RncSteps.{IsTick as IsRncTick}
+use Rattle.dch_linkcmd.specs.RncState.{State as RncState}
+use Rattle.dch_linkcmd.specs.UeState.{State as UeState}
+use Rattle.dch_linkcmd.specs.UeSteps.{IsTick as IsUeTick}
+use Rattle.dch_linkcmd.specs.LinkLink.{LinkState, opened_link}
 use Rattle.dch_runlaw.specs.Frames.{IsFrame}
 use Rattle.dch_runlaw.specs.Runs.{Between, Event, Frame, Runs}
 use Rattle.dch_runlaw.proofs.ClearBetween.{Same, between}

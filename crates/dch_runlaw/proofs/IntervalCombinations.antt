@@ -9,19 +9,19 @@ use Rattle.dch_types.specs.declared.channel.Dir.{Dir}
 use Rattle.dch_types.specs.declared.channel.Dir.TheVariants.{Down, Up}
 use Rattle.dch_types.specs.Limits.{IsFrames}
 use Rattle.dch_accept.specs.Plans.{IsPlanned, Planned}
-use Rattle.dch_rxframes.specs.RxFrames.{IsKept, RxFrame, RxFrames, rx_frame_at}
-use Rattle.dch_rxframes.proofs.Written.{kept-written}
+use Rattle.dch_tti.specs.RxFrames.{IsKept, RxFrame, RxFrames, rx_frame_at}
+use Rattle.dch_tti.proofs.Written.{kept-written}
 use Rattle.dch_dlphy.specs.Frames.{multiplexed as down_multiplexed}
 use Rattle.dch_ulphy.specs.Frames.{multiplexed as up_multiplexed}
 use Rattle.dch_damage.specs.Damage.{radio_after}
 use Rattle.dch_node.specs.Lines.{Line}
 use Rattle.dch_node.specs.RxFrames.{AreHeard, KeepsRadio}
 use Rattle.dch_node.specs.Values.{Radio}
-use Rattle.dch_nodeb.specs.State.{State as NodeBState}
-use Rattle.dch_nodeb.specs.Steps.{IsRadio, IsRadioFrame as IsDownFrame}
-use Rattle.dch_ue.specs.State.{State as UeState}
-use Rattle.dch_ue.specs.Steps.{IsRadioFrame as IsUpFrame}
-use Rattle.dch_link.specs.Link.{LinkState}
+use Rattle.dch_linkcmd.specs.NodebState.{State as NodeBState}
+use Rattle.dch_linkcmd.specs.NodebSteps.{IsRadio, IsRadioFrame as IsDownFrame}
+use Rattle.dch_linkcmd.specs.UeState.{State as UeState}
+use Rattle.dch_linkcmd.specs.UeSteps.{IsRadioFrame as IsUpFrame}
+use Rattle.dch_linkcmd.specs.LinkLink.{LinkState}
 use Rattle.dch_runlaw.specs.Frames.{IsFrame}
 use Rattle.dch_runlaw.specs.Runs.{Between, Event, Frame, Runs}
 use Rattle.dch_runlaw.specs.Intervals.{AllArrive, ArrivesAsSent, FindsAll, FindsCombination, InFrames, Tti, frames_come, frames_in, radio_sent}

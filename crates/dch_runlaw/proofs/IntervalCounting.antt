@@ -5,7 +5,7 @@ use Rattle.dch_types.specs.Limits.{IsFrames}
 use Rattle.dch_types.specs.Timing.{starts}
 use Rattle.dch_accept.specs.Plans.{IsPlanned, Planned}
 use Rattle.dch_node.specs.Lines.{Line}
-use Rattle.dch_link.specs.Link.{LinkState}
+use Rattle.dch_linkcmd.specs.LinkLink.{LinkState}
 use Rattle.dch_runlaw.specs.Frames.{IsFrame}
 use Rattle.dch_runlaw.specs.Runs.{Between, Event, Frame, Runs}
 use Rattle.dch_runlaw.proofs.ClearBetween.{Same, between}

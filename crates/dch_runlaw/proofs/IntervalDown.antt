@@ -9,13 +9,13 @@ use Rattle.dch_types.specs.Timing.{ends, starts}
 use Rattle.dch_accept.specs.Blocks.{Held, bits_of}
 use Rattle.dch_accept.specs.HeldSets.{HasFormat}
 use Rattle.dch_accept.specs.Plans.{IsPlanned, Planned}
-use Rattle.dch_rxframes.specs.RxFrames.{RxFrames}
+use Rattle.dch_tti.specs.RxFrames.{RxFrames}
 use Rattle.dch_dlphy.specs.Frames.{multiplexed}
 use Rattle.dch_dlphy.specs.Loaded.{IsLoaded}
 use Rattle.dch_dlphy.specs.Read.{IsTtiRead}
 use Rattle.dch_dlphy.specs.Sent.{WasSent}
 use Rattle.dch_dlphy.proofs.One.{loaded_one}
-use Rattle.dch_ttibuf.specs.Loaded.{Loaded, loaded_at}
+use Rattle.dch_tti.specs.Loaded.{Loaded, loaded_at}
 use Rattle.dch_damage.specs.Damage.{radio_after}
 use Rattle.dch_node.specs.Lines.{Line}
 use Rattle.dch_node.specs.RxFrames.{AreHeard}
@@ -23,12 +23,12 @@ use Rattle.dch_node.specs.Values.{Blocks, Radio}
 use Rattle.dch_phylaw.specs.SentRead.{IsReadAsSent}
 use Rattle.dch_phylaw.proofs.DownlinkSent.{downlink_sent}
 use Rattle.dch_layer2.specs.Reading.{Bad, Nothing, Read, Reading}
-use Rattle.dch_nodeb.specs.State.{State as NodeBState}
-use Rattle.dch_nodeb.specs.Steps.{IsRadio, IsRadioFrame}
-use Rattle.dch_nodeb.proofs.Steady.{tells}
-use Rattle.dch_ue.specs.State.{State as UeState, frames_now}
-use Rattle.dch_ue.specs.Steps.{IsReading}
-use Rattle.dch_link.specs.Link.{LinkState}
+use Rattle.dch_linkcmd.specs.NodebState.{State as NodeBState}
+use Rattle.dch_linkcmd.specs.NodebSteps.{IsRadio, IsRadioFrame}
+use Rattle.dch_linkcmd.proofs.Steady.{tells}
+use Rattle.dch_linkcmd.specs.UeState.{State as UeState, frames_now}
+use Rattle.dch_linkcmd.specs.UeSteps.{IsReading}
+use Rattle.dch_linkcmd.specs.LinkLink.{LinkState}
 use Rattle.dch_runlaw.specs.Frames.{IsFrame}
 use Rattle.dch_runlaw.specs.Runs.{Between, Event, Frame, Runs}
 use Rattle.dch_runlaw.specs.Parts.{Begins}

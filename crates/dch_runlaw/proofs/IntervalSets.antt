@@ -8,7 +8,7 @@ use Rattle.dch_types.specs.Parts.{channel_at}
 use Rattle.dch_types.specs.Timing.{ends, frames_among, set_frames, started, starts}
 use Rattle.dch_accept.specs.HeldSets.{HeldSet, held_at}
 use Rattle.dch_accept.specs.Plans.{IsPlanned, Planned}
-use Rattle.dch_rxframes.specs.RxFrames.{RxFrames}
+use Rattle.dch_tti.specs.RxFrames.{RxFrames}
 use Rattle.dch_ulphy.specs.Sent.{WasSent}
 use Rattle.dch_iub.specs.Forms.{IsWrittenForm}
 use Rattle.dch_iub.specs.Shape.{ForSet}
@@ -16,11 +16,11 @@ use Rattle.dch_node.specs.Lines.{Line}
 use Rattle.dch_node.specs.RxFrames.{AreHeard}
 use Rattle.dch_node.specs.Values.{Radio}
 use Rattle.dch_phylaw.proofs.UplinkSent.{uplink_sent}
-use Rattle.dch_layer.specs.Layers.{Given, Layer}
+use Rattle.dch_layer2.specs.Layers.{Given, Layer}
 use Rattle.dch_layer2.specs.Joined.{CarriesGiven, joined_bits}
-use Rattle.dch_nodeb.specs.Steps.{DeliversSet}
-use Rattle.dch_nodeb.proofs.Steady.{set_frames-member, starts-eighth, tells}
-use Rattle.dch_link.specs.Link.{LinkState}
+use Rattle.dch_linkcmd.specs.NodebSteps.{DeliversSet}
+use Rattle.dch_linkcmd.proofs.Steady.{set_frames-member, starts-eighth, tells}
+use Rattle.dch_linkcmd.specs.LinkLink.{LinkState}
 use Rattle.dch_runlaw.specs.Frames.{IsFrame}
 use Rattle.dch_runlaw.specs.Runs.{Event, Frame, Runs, Steps}
 use Rattle.dch_runlaw.specs.SizedLinks.{IsSized}

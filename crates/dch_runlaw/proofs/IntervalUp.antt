@@ -8,7 +8,7 @@ use Rattle.dch_types.specs.Parts.{channel_at, format_at, format_number}
 use Rattle.dch_types.specs.Timing.{starts}
 use Rattle.dch_accept.specs.Blocks.{bits_of}
 use Rattle.dch_accept.specs.Plans.{IsPlanned, Planned}
-use Rattle.dch_ttibuf.specs.Loaded.{loaded_at}
+use Rattle.dch_tti.specs.Loaded.{loaded_at}
 use Rattle.dch_ulphy.specs.Frames.{multiplexed}
 use Rattle.dch_ulphy.specs.Sent.{WasSent}
 use Rattle.dch_ulphy.proofs.One.{loaded_one}
@@ -16,13 +16,13 @@ use Rattle.dch_damage.specs.Damage.{radio_after}
 use Rattle.dch_node.specs.Lines.{Line}
 use Rattle.dch_node.specs.RxFrames.{AreHeard}
 use Rattle.dch_node.specs.Values.{Radio}
-use Rattle.dch_layer.specs.Layers.{Given, Layer, ticks}
-use Rattle.dch_layer.specs.Starting.{IsStart}
+use Rattle.dch_layer2.specs.Layers.{Given, Layer, ticks}
+use Rattle.dch_layer2.specs.Starting.{IsStart}
 use Rattle.dch_layer2.specs.Joined.{joined_bits}
-use Rattle.dch_nodeb.specs.State.{State as NodeBState}
-use Rattle.dch_ue.specs.State.{State as UeState}
-use Rattle.dch_ue.specs.Steps.{IsRadioFrame, has_read}
-use Rattle.dch_link.specs.Link.{LinkState}
+use Rattle.dch_linkcmd.specs.NodebState.{State as NodeBState}
+use Rattle.dch_linkcmd.specs.UeState.{State as UeState}
+use Rattle.dch_linkcmd.specs.UeSteps.{IsRadioFrame, has_read}
+use Rattle.dch_linkcmd.specs.LinkLink.{LinkState}
 use Rattle.dch_runlaw.specs.Frames.{IsFrame}
 use Rattle.dch_runlaw.specs.Runs.{Between, Event, Frame, Runs}
 use Rattle.dch_runlaw.proofs.ClearBetween.{Same, between}

@@ -13,9 +13,9 @@ use Rattle.dch_iub.specs.Shape.{ForSet}
 use Rattle.dch_node.specs.Lines.{Line}
 use Rattle.dch_node.specs.Values.{Blocks, Output, idle_blocks}
 use Rattle.dch_layer2.proofs.Openings.{idle_is_idle}
-use Rattle.dch_nodeb.specs.State.{DownlinkIubFrame, State, given_now, keeping, kept_still, taken}
-use Rattle.dch_nodeb.specs.Steps.{IsArrival}
-use Rattle.dch_nodeb.proofs.Steady.{tells}
+use Rattle.dch_linkcmd.specs.NodebState.{DownlinkIubFrame, State, given_now, keeping, kept_still, taken}
+use Rattle.dch_linkcmd.specs.NodebSteps.{IsArrival}
+use Rattle.dch_linkcmd.proofs.Steady.{tells}
 use Rattle.dch_runlaw.specs.Frames.{MayArrive}
 
 -- blocks are as many bits as their format has

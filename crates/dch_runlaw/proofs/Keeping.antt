@@ -2,17 +2,17 @@
 use Rattle.std.proofs.Common.{◌≡◌, ◌∙◌, ◌++◌, ℕ, List, Option, Some, None, append-nil, ap, refl, sym, subst}
 use Rattle.dch_node.specs.Lines.{Line}
 use Rattle.dch_accept.specs.Plans.{Planned}
-use Rattle.dch_layer.specs.Layers.{Layer}
+use Rattle.dch_layer2.specs.Layers.{Layer}
 use Rattle.dch_types.specs.declared.channel.Dir.TheVariants.{Up}
-use Rattle.dch_ue.specs.State.{Event as UeEvent, State as UeState}
-use Rattle.dch_ue.specs.Steps.{Steps as UeSteps}
-use Rattle.dch_nodeb.specs.State.{Event as NodeBEvent, IubFrame as IubFrameDown, State as NodeBState}
-use Rattle.dch_nodeb.specs.Steps.{Steps as NodeBSteps}
-use Rattle.dch_rnc.specs.State.{Event as RncEvent, IubFrame as IubFrameUp, State as RncState}
-use Rattle.dch_rnc.specs.Steps.{Steps as RncSteps}
-use Rattle.dch_link.specs.Courses.{Course}
-use Rattle.dch_link.specs.Link.{LinkState, active}
-use Rattle.dch_link.specs.Stages.{AreCompared, MayGoDown, MayGoUp, NodeBGoes, RncGoes, UeGoes}
+use Rattle.dch_linkcmd.specs.UeState.{Event as UeEvent, State as UeState}
+use Rattle.dch_linkcmd.specs.UeSteps.{Steps as UeSteps}
+use Rattle.dch_linkcmd.specs.NodebState.{Event as NodeBEvent, IubFrame as IubFrameDown, State as NodeBState}
+use Rattle.dch_linkcmd.specs.NodebSteps.{Steps as NodeBSteps}
+use Rattle.dch_linkcmd.specs.RncState.{Event as RncEvent, IubFrame as IubFrameUp, State as RncState}
+use Rattle.dch_linkcmd.specs.RncSteps.{Steps as RncSteps}
+use Rattle.dch_linkcmd.specs.Courses.{Course}
+use Rattle.dch_linkcmd.specs.LinkLink.{LinkState, active}
+use Rattle.dch_linkcmd.specs.LinkStages.{AreCompared, MayGoDown, MayGoUp, NodeBGoes, RncGoes, UeGoes}
 use Rattle.dch_runlaw.specs.Frames.{MayArrive, MayBeTaken, Taken, nothing_taken}
 
 -- two states are the same but for one node

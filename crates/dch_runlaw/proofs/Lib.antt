@@ -79,3 +79,15 @@ pub mod HeadlineSilence
 pub mod Headline
 pub mod UndamagedHandedUp
 pub mod Undamaged
+pub mod Phases
+pub mod Changes
+pub mod Agreeing
+pub mod Coming
+pub mod Delivering
+pub mod Counting
+pub mod Taking
+pub mod EndEvents
+pub mod Telling
+pub mod Unharmed
+pub mod Scripting
+pub use Rattle.dch_linkcmd.proofs.RunLines as LinkcmdRunLines

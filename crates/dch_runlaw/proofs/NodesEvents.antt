@@ -5,11 +5,11 @@ use Rattle.dch_types.specs.declared.channel.Dir.TheVariants.{Up, Down}
 use Rattle.dch_types.specs.declared.config.Config.{Config}
 use Rattle.dch_accept.specs.Plans.{Planned}
 use Rattle.dch_node.specs.Values.{Output}
-use Rattle.dch_ue.specs.State.{Event as UeEvent, OfferedUnit as UeOffered, BlockedCombination as UeBlocked, Change as UeChange, DownlinkFrame, Tick as UeTicks, State as UeState}
-use Rattle.dch_ue.specs.Steps.{Steps as UeSteps}
-use Rattle.dch_rnc.specs.State.{Event as RncEvent, OfferedUnit as RncOffered, BlockedCombination as RncBlocked, Change as RncChange, IubFrame, Tick as RncTicks, State as RncState}
-use Rattle.dch_rnc.specs.Steps.{IsReadFrame, IsRefusedFrame, Steps as RncSteps}
-use Rattle.dch_link.specs.Within.{RncWithin, UeWithin}
+use Rattle.dch_linkcmd.specs.UeState.{Event as UeEvent, OfferedUnit as UeOffered, BlockedCombination as UeBlocked, Change as UeChange, DownlinkFrame, Tick as UeTicks, State as UeState}
+use Rattle.dch_linkcmd.specs.UeSteps.{Steps as UeSteps}
+use Rattle.dch_linkcmd.specs.RncState.{Event as RncEvent, OfferedUnit as RncOffered, BlockedCombination as RncBlocked, Change as RncChange, IubFrame, Tick as RncTicks, State as RncState}
+use Rattle.dch_linkcmd.specs.RncSteps.{IsReadFrame, IsRefusedFrame, Steps as RncSteps}
+use Rattle.dch_linkcmd.specs.Within.{RncWithin, UeWithin}
 use Rattle.dch_layerlaw.specs.History.{IsAmBearer, IsHistory, IsWholeHistory}
 use Rattle.dch_layerlaw.specs.TmHistory.{IsTmBearer, IsTmHistory, IsTmSome}
 use Rattle.dch_layerlaw.specs.UmHistory.{Any as AnyWorld, IsKnownHistory, IsUmBearer, IsUmHistory}

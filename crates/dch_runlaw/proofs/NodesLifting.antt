@@ -7,7 +7,7 @@ use Rattle.dch_bits.specs.declared.bit.Bit.{Bit}
 use Rattle.dch_types.specs.declared.channel.Dir.{Dir}
 use Rattle.dch_types.specs.declared.config.Config.{Config}
 use Rattle.dch_layerlaw.specs.Doings.{Does, Doing, Says, Takes, given_by, taken_by}
-use Rattle.dch_layer.specs.Layers.{Layer}
+use Rattle.dch_layer2.specs.Layers.{Layer}
 use Rattle.dch_node.specs.Lines.{BadTti, Line}
 use Rattle.dch_layerlaw.specs.Worlds.{DoesAll, World}
 use Rattle.dch_layerlaw.proofs.Names.{number_same, other_number, same_number}

@@ -7,8 +7,8 @@ use Rattle.dch_config.specs.Changes.{KeepsBearer}
 use Rattle.dch_accept.specs.Plans.{Planned}
 use Rattle.dch_node.specs.Lines.{Line}
 use Rattle.dch_node.specs.Values.{Output}
-use Rattle.dch_ue.specs.State.{State as UeState}
-use Rattle.dch_rnc.specs.State.{State as RncState}
+use Rattle.dch_linkcmd.specs.UeState.{State as UeState}
+use Rattle.dch_linkcmd.specs.RncState.{State as RncState}
 use Rattle.dch_layerlaw.specs.History.{IsAmBearer}
 use Rattle.dch_layerlaw.specs.TmHistory.{IsTmBearer, IsTmCarried, IsTmSome, units_in}
 use Rattle.dch_layerlaw.specs.UmHistory.{Any as AnyWorld, IsUmBearer, IsUmCarried, pdus_in}

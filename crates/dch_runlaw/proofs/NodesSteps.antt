@@ -13,17 +13,17 @@ use Rattle.dch_types.specs.Parts.{channel_at}
 use Rattle.dch_accept.specs.HeldSets.{HasFormat, HeldSet, held_at}
 use Rattle.dch_accept.specs.Blocks.{Held}
 use Rattle.dch_accept.specs.Plans.{Planned}
-use Rattle.dch_rxframes.specs.RxFrames.{RxFrames}
+use Rattle.dch_tti.specs.RxFrames.{RxFrames}
 use Rattle.dch_node.specs.IubFrames.{refusal_number}
 use Rattle.dch_node.specs.Lines.{IubBad, Line, Phy}
 use Rattle.dch_node.specs.Values.{Output}
-use Rattle.dch_layer.specs.Layers.{ticks}
+use Rattle.dch_layer2.specs.Layers.{ticks}
 use Rattle.dch_layer2.specs.Reading.{Bad, Nothing, Read, Reading}
-use Rattle.dch_link.specs.Checks.{good_in}
-use Rattle.dch_ue.specs.State.{Event as UeEvent, OfferedUnit as UeOffered, BlockedCombination as UeBlocked, Change as UeChange, DownlinkFrame, Tick as UeTicks, State as UeState}
-use Rattle.dch_ue.specs.Steps.{IsReading, IsTick as IsUeTick}
-use Rattle.dch_rnc.specs.State.{Event as RncEvent, OfferedUnit as RncOffered, BlockedCombination as RncBlocked, Change as RncChange, IubFrame, Tick as RncTicks, State as RncState, set_readings}
-use Rattle.dch_rnc.specs.Steps.{IsReadFrame, IsRefusedFrame, IsTick as IsRncTick, sent_line, sent_lines}
+use Rattle.dch_linkcmd.specs.Checks.{good_in}
+use Rattle.dch_linkcmd.specs.UeState.{Event as UeEvent, OfferedUnit as UeOffered, BlockedCombination as UeBlocked, Change as UeChange, DownlinkFrame, Tick as UeTicks, State as UeState}
+use Rattle.dch_linkcmd.specs.UeSteps.{IsReading, IsTick as IsUeTick}
+use Rattle.dch_linkcmd.specs.RncState.{Event as RncEvent, OfferedUnit as RncOffered, BlockedCombination as RncBlocked, Change as RncChange, IubFrame, Tick as RncTicks, State as RncState, set_readings}
+use Rattle.dch_linkcmd.specs.RncSteps.{IsReadFrame, IsRefusedFrame, IsTick as IsRncTick, sent_line, sent_lines}
 use Rattle.dch_layerlaw.specs.Doings.{Blocks, Doing, Offers, Says, Starts, Ticks}
 use Rattle.dch_layerlaw.specs.Lines.{lines_of}
 use Rattle.dch_layerlaw.specs.Worlds.{DoesAll, DoesNear, World, turned}

@@ -6,10 +6,10 @@ use Rattle.std.proofs.lemmas.List.{length-take-le}
 use Rattle.std.proofs.lemmas.Nat.{row_fits}
 use Rattle.dch_bits.specs.declared.bit.Bit.{Bit}
 use Rattle.dch_accept.specs.Blocks.{Held, block_at}
-use Rattle.dch_layer.specs.Layers.{Came}
+use Rattle.dch_layer2.specs.Layers.{Came}
 use Rattle.dch_layer2.specs.Coming.{came_at, came_below, came_of}
 use Rattle.dch_layer2.specs.Reading.{Bad, Nothing, Read, Reading}
-use Rattle.dch_link.specs.Checks.{good_blocks as good_of, good_from, good_in}
+use Rattle.dch_linkcmd.specs.Checks.{good_blocks as good_of, good_from, good_in}
 use Rattle.dch_layerlaw.specs.Doings.{block_if, good_blocks, has_bits}
 use Rattle.dch_layerlaw.proofs.Sublists.{either}
 

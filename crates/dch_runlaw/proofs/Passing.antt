@@ -4,12 +4,12 @@ use Rattle.std.specs.Prelude.{◌==◌, if◌then◌else◌, nat_le}
 use Rattle.std.proofs.lemmas.Bool.Decides.{eqb_tells, leb_tells}
 use Rattle.dch_lines.specs.Semantics.{Resumes}
 use Rattle.dch_node.specs.Lines.{Line, joined, text_of}
-use Rattle.dch_nodecmd.specs.Shown.{shown}
-use Rattle.dch_link.specs.Link.{LinkState}
-use Rattle.dch_link.specs.Passing.{is_first, next_stage}
-use Rattle.dch_link.specs.Stages.{AtStage}
-use Rattle.dch_link.specs.declared.stage.Stage.{Stage}
-use Rattle.dch_link.specs.declared.stage.Stage.TheVariants.{RncTick}
+use Rattle.dch_linkcmd.specs.Shown.{shown}
+use Rattle.dch_linkcmd.specs.LinkLink.{LinkState}
+use Rattle.dch_linkcmd.specs.Passing.{is_first, next_stage}
+use Rattle.dch_linkcmd.specs.LinkStages.{AtStage}
+use Rattle.dch_linkcmd.specs.stage.Stage.{Stage}
+use Rattle.dch_linkcmd.specs.stage.Stage.TheVariants.{RncTick}
 use Rattle.dch_linkcmd.specs.Rules.{MayChange, PassesNext, link_lines}
 use Rattle.dch_linkcmd.specs.Run.{Run, passed, passed_by}
 use Rattle.dch_runlaw.specs.Frames.{IsFrame, stage_at}

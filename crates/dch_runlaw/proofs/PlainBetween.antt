@@ -6,16 +6,16 @@ use Rattle.dch_config.specs.Good.{IsGood}
 use Rattle.dch_accept.specs.Plans.{Planned}
 use Rattle.dch_node.specs.Lines.{Line}
 use Rattle.dch_node.specs.Values.{Output}
-use Rattle.dch_layer.specs.Bearings.{answers}
-use Rattle.dch_ue.specs.State.{BlockedCombination as UeBlocked, Event as UeEvent, OfferedUnit as UeOffered, State as UeState}
-use Rattle.dch_ue.specs.Steps.{Steps as UeSteps}
-use Rattle.dch_nodeb.specs.State.{Event as NodeBEvent, State as NodeBState}
-use Rattle.dch_rnc.specs.State.{BlockedCombination as RncBlocked, Event as RncEvent, OfferedUnit as RncOffered, State as RncState}
-use Rattle.dch_rnc.specs.Steps.{Steps as RncSteps}
-use Rattle.dch_link.specs.Courses.{Course}
-use Rattle.dch_link.specs.Events.{BlockedCombination, Damages, Event as LinkEvent, Happens, OfferedUnit}
-use Rattle.dch_link.specs.Link.{LinkState}
-use Rattle.dch_link.specs.Stages.{RncGoes, UeGoes}
+use Rattle.dch_layer2.specs.Bearings.{answers}
+use Rattle.dch_linkcmd.specs.UeState.{BlockedCombination as UeBlocked, Event as UeEvent, OfferedUnit as UeOffered, State as UeState}
+use Rattle.dch_linkcmd.specs.UeSteps.{Steps as UeSteps}
+use Rattle.dch_linkcmd.specs.NodebState.{Event as NodeBEvent, State as NodeBState}
+use Rattle.dch_linkcmd.specs.RncState.{BlockedCombination as RncBlocked, Event as RncEvent, OfferedUnit as RncOffered, State as RncState}
+use Rattle.dch_linkcmd.specs.RncSteps.{Steps as RncSteps}
+use Rattle.dch_linkcmd.specs.Courses.{Course}
+use Rattle.dch_linkcmd.specs.Events.{BlockedCombination, Damages, Event as LinkEvent, Happens, OfferedUnit}
+use Rattle.dch_linkcmd.specs.LinkLink.{LinkState}
+use Rattle.dch_linkcmd.specs.LinkStages.{RncGoes, UeGoes}
 use Rattle.dch_runlaw.specs.Runs.{Between, Event, Frame, Runs, Steps}
 use Rattle.dch_runlaw.proofs.Keeping.{but_rnc, but_ue, rnc_lines, rnc_step, ue_lines, ue_step}
 use Rattle.dch_runlaw.proofs.HonestStaying.{event_for}

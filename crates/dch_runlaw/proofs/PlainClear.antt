@@ -6,12 +6,12 @@ use Rattle.dch_types.specs.declared.channel.Dir.TheVariants.{Up, Down}
 use Rattle.dch_config.specs.Good.{IsGood}
 use Rattle.dch_accept.specs.Plans.{IsPlanned, Planned}
 use Rattle.dch_node.specs.Lines.{Line, Took, Full, Wrong, Bad, Reserved, NoBearer, Nobody, PduBad, Outside, Overlong, Got, GotBits, Iub, IubBad, Phy, PhyNone, BadTti, Differs}
-use Rattle.dch_layer.specs.Bearings.{bearer_in, channel_of}
-use Rattle.dch_layer.proofs.Good.{there}
-use Rattle.dch_link.specs.Link.{LinkState, opened_link}
-use Rattle.dch_runlaw.specs.Runs.{Between, Event, Frame, Runs}
+use Rattle.dch_layer2.specs.Bearings.{bearer_in, channel_of}
+use Rattle.dch_layer2.proofs.Good.{there}
+use Rattle.dch_linkcmd.specs.LinkLink.{LinkState, opened_link}
 use Rattle.dch_layerlaw.specs.Lines.{lines_of}
 use Rattle.dch_layerlaw.proofs.Bearers.{is_am_bearer}
+use Rattle.dch_runlaw.specs.Runs.{Between, Event, Frame, Runs}
 use Rattle.dch_runlaw.specs.Nodes.{world_of}
 use Rattle.dch_runlaw.specs.HonestBearers.{down_way, up_way}
 use Rattle.dch_runlaw.specs.Parts.{Begins}

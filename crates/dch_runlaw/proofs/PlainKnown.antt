@@ -24,13 +24,13 @@ use Rattle.dch_am.specs.Sender.{Sender}
 use Rattle.dch_am.specs.Acknowledging.{status_answer}
 use Rattle.dch_am.specs.Moves.{control_answer}
 use Rattle.dch_amlaw.specs.Pair.{is_beyond, is_outside_answer}
-use Rattle.dch_amentity.specs.Answers.{is_unknown}
+use Rattle.dch_pair.specs.Answers.{is_unknown}
 use Rattle.dch_node.specs.Lines.{Line, Took, Full, Wrong, Bad, Reserved, NoBearer, Nobody, PduBad, Outside, Overlong, Got, GotBits, Iub, IubBad, Phy, PhyNone, BadTti, Differs}
-use Rattle.dch_layer.specs.Bearings.{Bearing, Transparent, Unacknowledged, Acknowledged, Sends, channel_of, line_of_answer, rules_in}
-use Rattle.dch_layer.specs.Hearing.{hears, hears_um, lines_by, new_units, receiver_of, rides_outside}
-use Rattle.dch_layer.specs.Layers.{Came, Layer, goes, takes, takes_good, takes_one}
-use Rattle.dch_layer.specs.Octets.{octets_of}
-use Rattle.dch_layer.specs.UnitLines.{line_if, unit_line, unit_lines}
+use Rattle.dch_layer2.specs.Bearings.{Bearing, Transparent, Unacknowledged, Acknowledged, Sends, channel_of, line_of_answer, rules_in}
+use Rattle.dch_layer2.specs.Hearing.{hears, hears_um, lines_by, new_units, receiver_of, rides_outside}
+use Rattle.dch_layer2.specs.Layers.{Came, Layer, goes, takes, takes_good, takes_one}
+use Rattle.dch_layer2.specs.Octets.{octets_of}
+use Rattle.dch_layer2.specs.UnitLines.{line_if, unit_line, unit_lines}
 use Rattle.dch_layerlaw.proofs.Names.{receiver_has}
 use Rattle.dch_runlaw.proofs.PlainReaching.{Reaches}
 

@@ -10,28 +10,27 @@ use Rattle.dch_accept.specs.Plans.{Planned}
 use Rattle.dch_damage.specs.Damage.{iub_after, radio_after}
 use Rattle.dch_node.specs.Lines.{Line, Phy}
 use Rattle.dch_node.specs.Values.{Output}
-use Rattle.dch_layer.specs.Layers.{Layer, ticks}
+use Rattle.dch_layer2.specs.Layers.{Layer, ticks}
 use Rattle.dch_layer2.specs.Reading.{reads_below}
-use Rattle.dch_ue.specs.State.{State as UeState}
-use Rattle.dch_ue.specs.Steps.{IsTick as IsUeTick, has_read}
-use Rattle.dch_nodeb.specs.State.{State as NodeBState}
-use Rattle.dch_nodeb.specs.Steps.{IsReception}
-use Rattle.dch_rnc.specs.State.{State as RncState, set_readings}
-use Rattle.dch_rnc.specs.Steps.{IsReadFrame, IsRefusedFrame, IsTick as IsRncTick, sent_line, sent_lines}
-use Rattle.dch_link.specs.Checks.{good_in}
-use Rattle.dch_link.specs.Changing.{Changes}
-use Rattle.dch_link.specs.Link.{LinkState, opened_link}
+use Rattle.dch_linkcmd.specs.UeState.{State as UeState}
+use Rattle.dch_linkcmd.specs.UeSteps.{IsTick as IsUeTick, has_read}
+use Rattle.dch_linkcmd.specs.NodebState.{State as NodeBState}
+use Rattle.dch_linkcmd.specs.NodebSteps.{IsReception}
+use Rattle.dch_linkcmd.specs.RncState.{State as RncState, set_readings}
+use Rattle.dch_linkcmd.specs.RncSteps.{IsReadFrame, IsRefusedFrame, IsTick as IsRncTick, sent_line, sent_lines}
+use Rattle.dch_linkcmd.specs.Checks.{good_in}
+use Rattle.dch_linkcmd.specs.LinkChanging.{Changes}
+use Rattle.dch_linkcmd.specs.LinkLink.{LinkState, opened_link}
+use Rattle.dch_layerlaw.proofs.Names.{number_same}
+use Rattle.dch_layerlaw.proofs.Sublists.{either}
 use Rattle.dch_runlaw.specs.Parts.{KeepsAll}
 use Rattle.dch_runlaw.proofs.Begun.{Fresh, changed_fresh, opened_fresh}
 use Rattle.dch_runlaw.proofs.Changing.{IsChanged, changed_is}
 use Rattle.dch_runlaw.proofs.HonestKept.{known_kept}
-use Rattle.dch_runlaw.proofs.HonestSteps.{set_none}
+use Rattle.dch_runlaw.proofs.HonestSteps.{set_none, below_given, goes_on, iub_cfn, iub_given, serves_none}
 use Rattle.dch_runlaw.specs.Frames.{IsFrame, MayBeTaken, Taken, lines_below}
-use Rattle.dch_layerlaw.proofs.Names.{number_same}
-use Rattle.dch_layerlaw.proofs.Sublists.{either}
 use Rattle.dch_runlaw.proofs.HonestChannels.{is_channel}
 use Rattle.dch_runlaw.proofs.HonestStaying.{AreFor, frame_for, left_cfn, left_planned, rncs_planned}
-use Rattle.dch_runlaw.proofs.HonestSteps.{below_given, goes_on, iub_cfn, iub_given, serves_none}
 use Rattle.dch_runlaw.proofs.PlainKnown.{AreKnown, known-append}
 use Rattle.dch_runlaw.proofs.PlainReaching.{AllReach, GivenReach, kept_reaches, start_reaches}
 use Rattle.dch_runlaw.proofs.PlainRead.{below_known}

@@ -9,9 +9,9 @@ use Rattle.dch_am.specs.Rules.{Rules}
 use Rattle.dch_amlaw.specs.Pair.{Pair}
 use Rattle.dch_amlaw.proofs.Short.{AreShort, BothRead, always_short}
 use Rattle.dch_node.specs.Lines.{Line, Took, Full, Wrong, Bad, Reserved, NoBearer, Nobody, PduBad, Outside, Overlong, Got, GotBits, Iub, IubBad, Phy, PhyNone, BadTti, Differs}
-use Rattle.dch_layer.specs.Bearings.{pdu_octets, rules_in}
-use Rattle.dch_layer.specs.Layers.{Layer}
-use Rattle.dch_layer.specs.UnitLines.{unit_line, unit_lines}
+use Rattle.dch_layer2.specs.Bearings.{pdu_octets, rules_in}
+use Rattle.dch_layer2.specs.Layers.{Layer}
+use Rattle.dch_layer2.specs.UnitLines.{unit_line, unit_lines}
 use Rattle.dch_layerlaw.specs.History.{IsAmBearer, IsWholeHistory, pair_after}
 use Rattle.dch_layerlaw.specs.Lines.{is_of, lines_of}
 use Rattle.dch_layerlaw.specs.TmHistory.{IsTmCarried, bits_lines}

@@ -5,7 +5,7 @@ use Rattle.dch_types.specs.declared.bearer.Mode.TheVariants.{Am}
 use Rattle.dch_types.specs.declared.channel.Dir.TheVariants.{Up, Down}
 use Rattle.dch_types.specs.declared.config.Config.{Config}
 use Rattle.dch_config.specs.Good.{IsGood}
-use Rattle.dch_layer.specs.Bearings.{bearer_in, channel_of}
+use Rattle.dch_layer2.specs.Bearings.{bearer_in, channel_of}
 
 -- what an option holds
 record Holds (o : Option ℕ) : Type 0 where

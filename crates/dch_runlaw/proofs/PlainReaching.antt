@@ -10,10 +10,10 @@ use Rattle.dch_mac.specs.declared.answer.Demux.TheVariants.{To}
 use Rattle.dch_mac.specs.Field.{field_bits}
 use Rattle.dch_mac.specs.Receivers.{receiver}
 use Rattle.dch_select.specs.Asked.{Asked, priority_of, starts}
-use Rattle.dch_layer.specs.Bearings.{Bearing, channel_of, ct_of}
-use Rattle.dch_layer.specs.Building.{Gives}
-use Rattle.dch_layer.specs.Layers.{Given, Layer}
-use Rattle.dch_layer.specs.Starting.{IsStart, asked_in, count_on, in_turn, is_on, joined, of_priority}
+use Rattle.dch_layer2.specs.Bearings.{Bearing, channel_of, ct_of}
+use Rattle.dch_layer2.specs.Building.{Gives}
+use Rattle.dch_layer2.specs.Layers.{Given, Layer}
+use Rattle.dch_layer2.specs.Starting.{IsStart, asked_in, count_on, in_turn, is_on, joined, of_priority}
 use Rattle.dch_layerlaw.specs.History.{AreApart}
 use Rattle.dch_layerlaw.proofs.Bearers.{is_apart}
 use Rattle.dch_layerlaw.proofs.Giving.{HasField, has_field, joined-append}

@@ -4,20 +4,20 @@ use Rattle.dch_bits.specs.declared.bit.Bit.{Bit}
 use Rattle.dch_types.specs.declared.channel.Dir.{Dir}
 use Rattle.dch_types.specs.declared.channel.Dir.TheVariants.{Up, Down}
 use Rattle.dch_accept.specs.Plans.{Planned}
-use Rattle.dch_rxframes.specs.RxFrames.{RxFrames}
+use Rattle.dch_tti.specs.RxFrames.{RxFrames}
 use Rattle.dch_damage.specs.Damage.{iub_after}
 use Rattle.dch_node.specs.Lines.{Differs, Line, joined}
 use Rattle.dch_node.specs.Values.{Output, Radio}
-use Rattle.dch_layer.specs.Layers.{Layer}
-use Rattle.dch_nodeb.specs.State.{State as NodeBState}
-use Rattle.dch_nodeb.specs.Steps.{DeliversSet, IsKeptFrame, IsLost, IsRefusedFrame, IsSentUp, IsWaiting, radio_line}
-use Rattle.dch_rnc.specs.State.{BlockedCombination as RncBlocked, Event as RncEvent, OfferedUnit as RncOffered, State as RncState}
-use Rattle.dch_ue.specs.State.{BlockedCombination as UeBlocked, Event as UeEvent, OfferedUnit as UeOffered, State as UeState}
-use Rattle.dch_link.specs.Checks.{AreChecked, IsChecked, IsSublist, good_in}
-use Rattle.dch_link.specs.Courses.{Course}
-use Rattle.dch_link.specs.Events.{BlockedCombination, Damages, Event as LinkEvent, Happens, OfferedUnit}
-use Rattle.dch_link.specs.Link.{LinkState}
-use Rattle.dch_link.specs.Stages.{RncGoes, UeGoes}
+use Rattle.dch_layer2.specs.Layers.{Layer}
+use Rattle.dch_linkcmd.specs.NodebState.{State as NodeBState}
+use Rattle.dch_linkcmd.specs.NodebSteps.{DeliversSet, IsKeptFrame, IsLost, IsRefusedFrame, IsSentUp, IsWaiting, radio_line}
+use Rattle.dch_linkcmd.specs.RncState.{BlockedCombination as RncBlocked, Event as RncEvent, OfferedUnit as RncOffered, State as RncState}
+use Rattle.dch_linkcmd.specs.UeState.{BlockedCombination as UeBlocked, Event as UeEvent, OfferedUnit as UeOffered, State as UeState}
+use Rattle.dch_linkcmd.specs.Checks.{AreChecked, IsChecked, IsSublist, good_in}
+use Rattle.dch_linkcmd.specs.Courses.{Course}
+use Rattle.dch_linkcmd.specs.Events.{BlockedCombination, Damages, Event as LinkEvent, Happens, OfferedUnit}
+use Rattle.dch_linkcmd.specs.LinkLink.{LinkState}
+use Rattle.dch_linkcmd.specs.LinkStages.{RncGoes, UeGoes}
 use Rattle.dch_runlaw.specs.Frames.{IsFrame, MayArrive, MayBeTaken, Taken, lines_below}
 use Rattle.dch_runlaw.specs.Runs.{Between, Event, Frame, Runs, Steps}
 use Rattle.dch_runlaw.proofs.Keeping.{but_rnc, but_ue, rnc_lines, ue_lines}

@@ -4,10 +4,10 @@ use Rattle.std.proofs.lemmas.Bool.Decides.{leb_tells}
 use Rattle.dch_types.specs.declared.config.Config.{Config}
 use Rattle.dch_accept.specs.Plans.{Planned}
 use Rattle.dch_node.specs.Lines.{Line}
-use Rattle.dch_nodecmd.specs.RunLines.{coming}
-use Rattle.dch_nodecmd.specs.declared.later.Later.{Later}
-use Rattle.dch_link.specs.Link.{LinkState, active}
-use Rattle.dch_rnc.specs.State.{State as RncState}
+use Rattle.dch_linkcmd.specs.NodecmdRunLines.{coming}
+use Rattle.dch_linkcmd.specs.later.Later.{Later}
+use Rattle.dch_linkcmd.specs.LinkLink.{LinkState, active}
+use Rattle.dch_linkcmd.specs.RncState.{State as RncState}
 use Rattle.dch_linkcmd.specs.RunLines.{active_behind}
 use Rattle.dch_runlaw.specs.Intervals.{frames_in}
 use Rattle.dch_runlaw.specs.Runs.{Between, Event, Frame, Runs}

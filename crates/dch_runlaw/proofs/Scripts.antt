@@ -5,13 +5,13 @@ use Rattle.dch_types.specs.declared.config.Config.{Config}
 use Rattle.dch_lines.specs.LineTexts.{HandlesLine, HandlesLines, is_empty}
 use Rattle.dch_lines.specs.Semantics.{LineSteps, Resumes}
 use Rattle.dch_node.specs.Lines.{Line, joined, text_of}
-use Rattle.dch_nodecmd.specs.RunLines.{coming}
-use Rattle.dch_nodecmd.specs.Shown.{shown}
-use Rattle.dch_nodecmd.specs.declared.later.Later.{Later}
-use Rattle.dch_link.specs.Events.{Event as LinkEvent, Happens}
-use Rattle.dch_link.specs.Link.{LinkState}
-use Rattle.dch_link.specs.Passing.{next_stage}
-use Rattle.dch_link.specs.declared.stage.Stage.TheVariants.{IubDown, RncTick}
+use Rattle.dch_linkcmd.specs.NodecmdRunLines.{coming}
+use Rattle.dch_linkcmd.specs.Shown.{shown}
+use Rattle.dch_linkcmd.specs.later.Later.{Later}
+use Rattle.dch_linkcmd.specs.Events.{Event as LinkEvent, Happens}
+use Rattle.dch_linkcmd.specs.LinkLink.{LinkState}
+use Rattle.dch_linkcmd.specs.Passing.{next_stage}
+use Rattle.dch_linkcmd.specs.stage.Stage.TheVariants.{IubDown, RncTick}
 use Rattle.dch_linkcmd.specs.LineEvents.{Frames, OneEvent, Said, Says}
 use Rattle.dch_linkcmd.specs.Rules.{MayChange, PassesNext, Takes, link_lines}
 use Rattle.dch_linkcmd.specs.Run.{Run, config_of, passed_by, steps_left}

@@ -28,12 +28,12 @@ use Rattle.dch_rlctm.specs.Waiting.{Waiting, front_of}
 use Rattle.dch_rlcum.specs.Receiving.{Receiving}
 use Rattle.dch_rlcum.specs.Sending.{Sending, Units, after_offer, answer_of, carried, carried_by, closing, leading, left_by, indicators_in, pdu_of, room_of}
 use Rattle.dch_rlcum.proofs.Marking.{Rise, place_octets, rise}
-use Rattle.dch_layer.specs.Bearings.{Bearing, Sends, Transparent, Unacknowledged, Acknowledged, after_answer, answers, bearer_in, block_bits, channel_of, ct_of, head_of, opened_bearing, opened_mode, pdu_octets, ticked}
-use Rattle.dch_layer.specs.Building.{Builds, Gives}
-use Rattle.dch_layer.specs.Hearing.{hears, hears_um}
-use Rattle.dch_layer.specs.Octets.{bits_of, block_of, field_for, octets_of}
-use Rattle.dch_layer.proofs.Changing.{kept_octets}
-use Rattle.dch_layer.proofs.Good.{am_fits, no_field, um_fits}
+use Rattle.dch_layer2.specs.Bearings.{Bearing, Sends, Transparent, Unacknowledged, Acknowledged, after_answer, answers, bearer_in, block_bits, channel_of, ct_of, head_of, opened_bearing, opened_mode, pdu_octets, ticked}
+use Rattle.dch_layer2.specs.Building.{Builds, Gives}
+use Rattle.dch_layer2.specs.Hearing.{hears, hears_um}
+use Rattle.dch_layer2.specs.Octets.{bits_of, block_of, field_for, octets_of}
+use Rattle.dch_layer2.proofs.StateChanging.{kept_octets}
+use Rattle.dch_layer2.proofs.Good.{am_fits, no_field, um_fits}
 use Rattle.dch_layer2.specs.Sharing.{HasBits, HaveBits}
 use Rattle.dch_layer2.proofs.Bits.{given_bits, heard_bits, offered_bits, opened_bits, ticked_bits}
 use Rattle.dch_layer2.proofs.Sums.{either, number_same}

@@ -9,9 +9,9 @@ use Rattle.dch_config.specs.Good.{IsGood}
 use Rattle.dch_mac.specs.declared.answer.Demux.{Demux}
 use Rattle.dch_mac.specs.declared.answer.Demux.TheVariants.{To, Reserved, NoBearer, Nobody}
 use Rattle.dch_mac.specs.Receivers.{receiver}
-use Rattle.dch_layer.specs.Bearings.{Bearing, after_answer, answers}
-use Rattle.dch_layer.specs.Hearing.{hears}
-use Rattle.dch_layer.specs.Layers.{Came, Layer, blocks, goes, offers, opened_layer, takes, takes_good, takes_one, ticks, with_bearing}
+use Rattle.dch_layer2.specs.Bearings.{Bearing, after_answer, answers}
+use Rattle.dch_layer2.specs.Hearing.{hears}
+use Rattle.dch_layer2.specs.Layers.{Came, Layer, blocks, goes, offers, opened_layer, takes, takes_good, takes_one, ticks, with_bearing}
 use Rattle.dch_layer2.specs.Coming.{came_of}
 use Rattle.dch_layer2.specs.Reading.{Bad, Nothing, Read, Reading, reads, reads_below}
 use Rattle.dch_layer2.proofs.Sums.{either, number_same}

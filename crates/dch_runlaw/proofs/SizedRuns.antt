@@ -2,19 +2,19 @@
 use Rattle.std.proofs.Common.{◌≡◌, ◌<◌, ◌+◌, ◌∙◌, ℕ, zero, suc, List, [], ◌∷◌, Option, Some, None, length, arith, refl, sym, ap, subst, ⊎_elim}
 use Rattle.dch_types.specs.declared.channel.Dir.TheVariants.{Up, Down}
 use Rattle.dch_accept.specs.Plans.{IsPlanned, Planned}
-use Rattle.dch_layer.specs.Layers.{Layer, offers, ticks}
+use Rattle.dch_layer2.specs.Layers.{Layer, offers, ticks}
 use Rattle.dch_node.specs.Lines.{Line}
 use Rattle.dch_node.specs.Values.{Output}
 use Rattle.dch_damage.specs.Damage.{iub_after, radio_after}
-use Rattle.dch_ue.specs.State.{BlockedCombination as UeBlocked, Change as UeChange, DownlinkFrame, Event as UeEvent, OfferedUnit as UeOffered, State as UeState, Tick as UeTicks}
-use Rattle.dch_ue.specs.Steps.{IsTick as IsUeTick, Steps as UeSteps, has_read}
-use Rattle.dch_rnc.specs.State.{BlockedCombination as RncBlocked, Change as RncChange, Event as RncEvent, IubFrame, OfferedUnit as RncOffered, State as RncState, Tick as RncTicks, set_readings}
-use Rattle.dch_rnc.specs.Steps.{IsReadFrame, IsRefusedFrame, IsTick as IsRncTick, Steps as RncSteps}
-use Rattle.dch_link.specs.Courses.{Course}
-use Rattle.dch_link.specs.Events.{BlockedCombination, Damages, Event as LinkEvent, OfferedUnit}
-use Rattle.dch_link.specs.Link.{LinkState, opened_link}
-use Rattle.dch_link.specs.Stages.{RncGoes, UeGoes}
-use Rattle.dch_link.specs.Within.{RncWithin, UeWithin}
+use Rattle.dch_linkcmd.specs.UeState.{BlockedCombination as UeBlocked, Change as UeChange, DownlinkFrame, Event as UeEvent, OfferedUnit as UeOffered, State as UeState, Tick as UeTicks}
+use Rattle.dch_linkcmd.specs.UeSteps.{IsTick as IsUeTick, Steps as UeSteps, has_read}
+use Rattle.dch_linkcmd.specs.RncState.{BlockedCombination as RncBlocked, Change as RncChange, Event as RncEvent, IubFrame, OfferedUnit as RncOffered, State as RncState, Tick as RncTicks, set_readings}
+use Rattle.dch_linkcmd.specs.RncSteps.{IsReadFrame, IsRefusedFrame, IsTick as IsRncTick, Steps as RncSteps}
+use Rattle.dch_linkcmd.specs.Courses.{Course}
+use Rattle.dch_linkcmd.specs.Events.{BlockedCombination, Damages, Event as LinkEvent, OfferedUnit}
+use Rattle.dch_linkcmd.specs.LinkLink.{LinkState, opened_link}
+use Rattle.dch_linkcmd.specs.LinkStages.{RncGoes, UeGoes}
+use Rattle.dch_linkcmd.specs.Within.{RncWithin, UeWithin}
 use Rattle.dch_runlaw.specs.Frames.{IsFrame, MayBeTaken, Taken}
 use Rattle.dch_runlaw.specs.Runs.{Between, Event, Frame, Runs, Steps}
 use Rattle.dch_runlaw.specs.Parts.{KeepsAll}

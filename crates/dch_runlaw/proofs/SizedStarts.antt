@@ -19,12 +19,12 @@ use Rattle.dch_select.specs.declared.head.Head.{Head}
 use Rattle.dch_select.specs.Asked.{Asked, format_in, priority_of, starts}
 use Rattle.dch_select.specs.Candidates.{IsCandidate, IsServed, StartsIdle}
 use Rattle.dch_select.specs.Offered.{ahead, fits, given, head_at, offered, waiting}
-use Rattle.dch_layer.specs.Bearings.{Bearing, channel_of, head_of}
-use Rattle.dch_layer.specs.Building.{Gives}
-use Rattle.dch_layer.specs.Layers.{Given, Layer, changed_layer, opened_layer}
-use Rattle.dch_layer.specs.Starting.{IsStart, asked_in, blocks_for, count_on, in_turn, is_on, joined, of_priority}
-use Rattle.dch_layer.proofs.Good.{there}
-use Rattle.dch_bound.proofs.Blocks.{side_good}
+use Rattle.dch_layer2.specs.Bearings.{Bearing, channel_of, head_of}
+use Rattle.dch_layer2.specs.Building.{Gives}
+use Rattle.dch_layer2.specs.Layers.{Given, Layer, changed_layer, opened_layer}
+use Rattle.dch_layer2.specs.Starting.{IsStart, asked_in, blocks_for, count_on, in_turn, is_on, joined, of_priority}
+use Rattle.dch_layer2.proofs.Good.{there}
+use Rattle.dch_layer2.proofs.BoundBlocks.{side_good}
 use Rattle.dch_layer2.specs.Joined.{joined_bits}
 use Rattle.dch_layer2.proofs.Openings.{idle_is_idle}
 use Rattle.dch_layer2.proofs.Sums.{both_true, either, number_same}

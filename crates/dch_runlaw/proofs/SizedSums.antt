@@ -5,7 +5,7 @@ use Rattle.std.proofs.lemmas.List.{append-nil}
 use Rattle.dch_types.specs.declared.channel.Format.{Format}
 use Rattle.dch_select.specs.Asked.{Asked, priority_of}
 use Rattle.dch_select.specs.Offered.{given, waiting}
-use Rattle.dch_layer.specs.Starting.{in_turn, is_on, of_priority}
+use Rattle.dch_layer2.specs.Starting.{in_turn, is_on, of_priority}
 use Rattle.dch_layer2.proofs.Serving.{served}
 use Rattle.dch_layer2.proofs.Sums.{both_true, share_all, share_first, share_given, share_more, share_next, share_same}
 

@@ -5,23 +5,23 @@ use Rattle.dch_types.specs.declared.channel.Dir.{Dir}
 use Rattle.dch_types.specs.declared.channel.Dir.TheVariants.{Up, Down}
 use Rattle.dch_types.specs.declared.config.Config.{Config}
 use Rattle.dch_accept.specs.Plans.{Planned}
-use Rattle.dch_layer.specs.Bearings.{answers}
-use Rattle.dch_layer.specs.Layers.{Layer, offers, ticks}
+use Rattle.dch_layer2.specs.Bearings.{answers}
+use Rattle.dch_layer2.specs.Layers.{Layer, offers, ticks}
 use Rattle.dch_layer2.specs.Coming.{came_of}
 use Rattle.dch_layer2.specs.Reading.{Bad as BadReading, Nothing, Read, Reading, reads, reads_below}
 use Rattle.dch_node.specs.Lines.{Line, Phy}
 use Rattle.dch_node.specs.Values.{Output}
-use Rattle.dch_ue.specs.State.{BlockedCombination as UeBlocked, Change as UeChange, DownlinkFrame, Event as UeEvent, OfferedUnit as UeOffered, State as UeState, Tick as UeTicks}
-use Rattle.dch_ue.specs.Steps.{Steps as UeSteps}
-use Rattle.dch_rnc.specs.State.{BlockedCombination as RncBlocked, Change as RncChange, Event as RncEvent, IubFrame, OfferedUnit as RncOffered, State as RncState, Tick as RncTicks, set_readings}
-use Rattle.dch_rnc.specs.Steps.{IsArrival, Steps as RncSteps, sent_line, sent_lines}
-use Rattle.dch_link.specs.Checks.{AreChecked, IsChecked}
-use Rattle.dch_link.specs.Within.{RncWithin, UeWithin}
-use Rattle.dch_runlaw.specs.TextDiffering.{AreLow}
+use Rattle.dch_linkcmd.specs.UeState.{BlockedCombination as UeBlocked, Change as UeChange, DownlinkFrame, Event as UeEvent, OfferedUnit as UeOffered, State as UeState, Tick as UeTicks}
+use Rattle.dch_linkcmd.specs.UeSteps.{Steps as UeSteps}
+use Rattle.dch_linkcmd.specs.RncState.{BlockedCombination as RncBlocked, Change as RncChange, Event as RncEvent, IubFrame, OfferedUnit as RncOffered, State as RncState, Tick as RncTicks, set_readings}
+use Rattle.dch_linkcmd.specs.RncSteps.{IsArrival, Steps as RncSteps, sent_line, sent_lines}
+use Rattle.dch_linkcmd.specs.Checks.{AreChecked, IsChecked}
+use Rattle.dch_linkcmd.specs.Within.{RncWithin, UeWithin}
 use Rattle.dch_layerlaw.specs.Directions.{lines_on}
 use Rattle.dch_layerlaw.specs.Rows.{AreSmall}
 use Rattle.dch_layerlaw.proofs.Directions.{AllIn, answer_goes, in_append, on-append, takes_go}
 use Rattle.dch_layerlaw.proofs.Small.{answer_small, small_append, takes_small}
+use Rattle.dch_runlaw.specs.TextDiffering.{AreLow}
 use Rattle.dch_runlaw.proofs.TextLow.{answer_low, low_append, takes_low}
 
 -- what a step reports goes in one direction, and is low; and it is small where bearers are few

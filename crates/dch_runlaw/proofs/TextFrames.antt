@@ -4,26 +4,26 @@ use Rattle.std.proofs.lemmas.List.{append-nil}
 use Rattle.dch_types.specs.declared.channel.Dir.{Dir}
 use Rattle.dch_types.specs.declared.channel.Dir.TheVariants.{Up, Down}
 use Rattle.dch_accept.specs.Plans.{Planned}
-use Rattle.dch_layer.specs.Layers.{Layer}
-use Rattle.dch_link.specs.Checks.{good_in}
-use Rattle.dch_link.specs.Link.{LinkState}
+use Rattle.dch_layer2.specs.Layers.{Layer}
+use Rattle.dch_linkcmd.specs.Checks.{good_in}
+use Rattle.dch_linkcmd.specs.LinkLink.{LinkState}
 use Rattle.dch_node.specs.Lines.{Line, joined}
 use Rattle.dch_node.specs.Values.{Output}
 use Rattle.dch_damage.specs.Damage.{iub_after, radio_after}
-use Rattle.dch_ue.specs.State.{DownlinkFrame, Tick as UeTicks}
-use Rattle.dch_nodeb.specs.State.{DownlinkDue, UplinkFrame}
-use Rattle.dch_rnc.specs.State.{IubFrame, State as RncState, Tick as RncTicks}
-use Rattle.dch_runlaw.specs.Frames.{IsFrame, MayBeTaken, Taken, lines_below}
-use Rattle.dch_runlaw.specs.TextDiffering.{AreLow}
+use Rattle.dch_linkcmd.specs.UeState.{DownlinkFrame, Tick as UeTicks}
+use Rattle.dch_linkcmd.specs.NodebState.{DownlinkDue, UplinkFrame}
+use Rattle.dch_linkcmd.specs.RncState.{IubFrame, State as RncState, Tick as RncTicks}
 use Rattle.dch_layerlaw.specs.Directions.{lines_on}
 use Rattle.dch_layerlaw.specs.Lines.{lines_of}
 use Rattle.dch_layerlaw.specs.Rows.{AreSmall}
-use Rattle.dch_runlaw.specs.TextTold.{AreFewBearers, AreFewChannels}
 use Rattle.dch_layerlaw.proofs.Taking.{lines-append}
 use Rattle.dch_layerlaw.proofs.Directions.{off_is, on-append, on_is}
+use Rattle.dch_layerlaw.proofs.Small.{small_append}
+use Rattle.dch_runlaw.specs.Frames.{IsFrame, MayBeTaken, Taken, lines_below}
+use Rattle.dch_runlaw.specs.TextDiffering.{AreLow}
+use Rattle.dch_runlaw.specs.TextTold.{AreFewBearers, AreFewChannels}
 use Rattle.dch_runlaw.proofs.TextEnds.{IsCheck, IsOwn, checks, rnc_own, rnc_stays, ue_own, ue_stays}
 use Rattle.dch_runlaw.proofs.TextRadio.{AreRadio, fed_radio, node_b_radio, radio_low, radio_off, radio_small, sets_radio}
-use Rattle.dch_layerlaw.proofs.Small.{small_append}
 use Rattle.dch_runlaw.proofs.TextLow.{low_append}
 
 -- an Iub frame that the network controller takes, if one comes

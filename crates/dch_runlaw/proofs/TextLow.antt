@@ -4,8 +4,8 @@ use Rattle.dch_bits.specs.declared.offer.Offer.{Offer}
 use Rattle.dch_bits.specs.declared.offer.Offer.TheVariants.{Accepted, Full as NoRoom, WrongSize}
 use Rattle.dch_types.specs.declared.channel.Dir.{Dir}
 use Rattle.dch_types.specs.declared.config.Config.{Config}
-use Rattle.dch_layer.specs.Bearings.{line_of_answer}
-use Rattle.dch_layer.specs.Layers.{Came, Layer, takes}
+use Rattle.dch_layer2.specs.Bearings.{line_of_answer}
+use Rattle.dch_layer2.specs.Layers.{Came, Layer, takes}
 use Rattle.dch_node.specs.Lines.{Line}
 use Rattle.dch_runlaw.specs.TextDiffering.{AreLow, IsLow}
 use Rattle.dch_runlaw.proofs.TextTakes.{Covers, Every, takes_all}

@@ -2,15 +2,15 @@
 use Rattle.std.proofs.Common.{◌≡◌, ◌<◌, ℕ, zero, suc, List, [], ◌∷◌, ◌++◌, Bool, true, false, Option, Some, None, inl, inr, arith, refl, sym, subst}
 use Rattle.dch_types.specs.declared.channel.Dir.{Dir}
 use Rattle.dch_accept.specs.Plans.{Planned}
-use Rattle.dch_rxframes.specs.RxFrames.{RxFrames}
+use Rattle.dch_tti.specs.RxFrames.{RxFrames}
 use Rattle.dch_node.specs.Lines.{Line, Took, Full, Wrong, Bad, Reserved, NoBearer, Nobody, PduBad, Outside, Overlong, Got, GotBits, Iub, IubBad, Phy, PhyNone, BadTti, Differs, joined}
 use Rattle.dch_node.specs.Values.{Output, Radio}
-use Rattle.dch_nodeb.specs.State.{Change, DownlinkDue, Event as NodeBEvent, IubFrame, State as NodeBState, UplinkFrame}
-use Rattle.dch_nodeb.specs.Steps.{DeliversSet, IsArrival, Steps as NodeBSteps, radio_line}
-use Rattle.dch_runlaw.specs.Frames.{MayArrive}
-use Rattle.dch_runlaw.specs.TextDiffering.{AreLow, IsLow}
+use Rattle.dch_linkcmd.specs.NodebState.{Change, DownlinkDue, Event as NodeBEvent, IubFrame, State as NodeBState, UplinkFrame}
+use Rattle.dch_linkcmd.specs.NodebSteps.{DeliversSet, IsArrival, Steps as NodeBSteps, radio_line}
 use Rattle.dch_layerlaw.specs.Directions.{is_on, lines_on}
 use Rattle.dch_layerlaw.specs.Rows.{AreSmall, IsSmall}
+use Rattle.dch_runlaw.specs.Frames.{MayArrive}
+use Rattle.dch_runlaw.specs.TextDiffering.{AreLow, IsLow}
 
 abbrev pub is_radio : Line → Bool
 is_radio (Iub dir set octets) = true

@@ -21,14 +21,14 @@ use Rattle.dch_am.specs.Rules.{Rules}
 use Rattle.dch_am.specs.Sender.{Sender}
 use Rattle.dch_rlcum.specs.Receiving.{Receiving, after_pdu as after_um}
 use Rattle.dch_amlaw.specs.Pair.{is_beyond, is_outside_answer}
-use Rattle.dch_amentity.specs.Answers.{is_unknown}
+use Rattle.dch_pair.specs.Answers.{is_unknown}
 use Rattle.dch_node.specs.Lines.{Line, Bad, Reserved, NoBearer, Nobody, PduBad, Outside, Overlong, Got, GotBits}
-use Rattle.dch_layer.specs.Bearings.{Acknowledged, Bearing, Sends, Transparent, Unacknowledged, rules_in}
-use Rattle.dch_layer.specs.Hearing.{error_number, hears, hears_um, lines_by, new_units, receiver_of, rides_outside}
-use Rattle.dch_layer.specs.Layers.{Came, Layer, goes, takes, takes_good, takes_one}
-use Rattle.dch_layer.specs.Octets.{octets_of}
-use Rattle.dch_layer.specs.UnitLines.{line_if, unit_lines}
-use Rattle.dch_bound.proofs.Blocks.{reached}
+use Rattle.dch_layer2.specs.Bearings.{Acknowledged, Bearing, Sends, Transparent, Unacknowledged, rules_in}
+use Rattle.dch_layer2.specs.Hearing.{error_number, hears, hears_um, lines_by, new_units, receiver_of, rides_outside}
+use Rattle.dch_layer2.specs.Layers.{Came, Layer, goes, takes, takes_good, takes_one}
+use Rattle.dch_layer2.specs.Octets.{octets_of}
+use Rattle.dch_layer2.specs.UnitLines.{line_if, unit_lines}
+use Rattle.dch_layer2.proofs.BoundBlocks.{reached}
 
 abbrev pub Every : (Line → Type 0) → List Line → Type 0
 Every P [] = Unit {0}

@@ -7,14 +7,14 @@ use Rattle.dch_accept.specs.Plans.{Planned}
 use Rattle.dch_config.specs.Good.{IsGood}
 use Rattle.dch_script.specs.Lines.{lines_of as rows}
 use Rattle.dch_node.specs.Lines.{Line, text_of}
-use Rattle.dch_nodecmd.specs.Shown.{shown}
-use Rattle.dch_ue.specs.State.{BlockedCombination as UeBlocked, Event as UeEvent, OfferedUnit as UeOffered, State as UeState}
-use Rattle.dch_rnc.specs.State.{BlockedCombination as RncBlocked, Event as RncEvent, OfferedUnit as RncOffered, State as RncState}
-use Rattle.dch_link.specs.Courses.{Course}
-use Rattle.dch_link.specs.Events.{BlockedCombination, Damages, Event as LinkEvent, Happens, OfferedUnit}
-use Rattle.dch_link.specs.Link.{LinkState, opened_link}
-use Rattle.dch_link.specs.Stages.{RncReports, UeReports}
-use Rattle.dch_link.specs.Within.{RncWithin, UeWithin}
+use Rattle.dch_linkcmd.specs.Shown.{shown}
+use Rattle.dch_linkcmd.specs.UeState.{BlockedCombination as UeBlocked, Event as UeEvent, OfferedUnit as UeOffered, State as UeState}
+use Rattle.dch_linkcmd.specs.RncState.{BlockedCombination as RncBlocked, Event as RncEvent, OfferedUnit as RncOffered, State as RncState}
+use Rattle.dch_linkcmd.specs.Courses.{Course}
+use Rattle.dch_linkcmd.specs.Events.{BlockedCombination, Damages, Event as LinkEvent, Happens, OfferedUnit}
+use Rattle.dch_linkcmd.specs.LinkLink.{LinkState, opened_link}
+use Rattle.dch_linkcmd.specs.LinkStages.{RncReports, UeReports}
+use Rattle.dch_linkcmd.specs.Within.{RncWithin, UeWithin}
 use Rattle.dch_runlaw.specs.Frames.{lines_below}
 use Rattle.dch_runlaw.specs.Runs.{Between, Event, Frame, Runs, Steps}
 use Rattle.dch_runlaw.specs.Parts.{GoesOver}

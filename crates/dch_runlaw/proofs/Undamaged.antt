@@ -2,8 +2,8 @@
 use Rattle.std.proofs.Common.{◌≡◌, ◌%◌, ◌∙◌, ◌++◌, ℕ, List, refl, inl, inr}
 use Rattle.dch_accept.specs.Plans.{IsPlanned, Planned}
 use Rattle.dch_node.specs.Lines.{Line, text_of}
-use Rattle.dch_nodecmd.specs.Shown.{shown}
-use Rattle.dch_link.specs.Link.{LinkState, opened_link}
+use Rattle.dch_linkcmd.specs.Shown.{shown}
+use Rattle.dch_linkcmd.specs.LinkLink.{LinkState, opened_link}
 use Rattle.dch_runlaw.specs.Runs.{Event, Runs}
 use Rattle.dch_runlaw.specs.Parts.{Begins, GoesOver, KeepsAll}
 use Rattle.dch_runlaw.specs.Clear.{AreHarmless, IsClear}

@@ -3,8 +3,8 @@ use Rattle.std.specs.Prelude.{◌≡◌, ◌<◌, ℕ, List, [], ◌∷◌}
 use Rattle.dch_types.specs.declared.channel.Dir.TheVariants.{Up, Down}
 use Rattle.dch_damage.specs.Damage.{iub_after, radio_after}
 use Rattle.dch_node.specs.Lines.{Line}
-use Rattle.dch_link.specs.Events.{BlockedCombination, Damages, Event as LinkEvent, OfferedUnit}
-use Rattle.dch_link.specs.Link.{LinkState}
+use Rattle.dch_linkcmd.specs.Events.{BlockedCombination, Damages, Event as LinkEvent, OfferedUnit}
+use Rattle.dch_linkcmd.specs.LinkLink.{LinkState}
 use Rattle.dch_runlaw.specs.Frames.{IsFrame}
 use Rattle.dch_runlaw.specs.Runs.{Between, Event, Frame, Runs, Steps}
 

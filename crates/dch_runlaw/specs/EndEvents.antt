@@ -3,10 +3,10 @@ use Rattle.std.specs.Prelude.{◌++◌, ℕ, zero, suc, List, [], ◌∷◌, Opt
 use Rattle.dch_types.specs.declared.channel.Dir.TheVariants.{Up, Down}
 use Rattle.dch_node.specs.Lines.{Line}
 use Rattle.dch_damage.specs.Damage.{iub_after, radio_after}
-use Rattle.dch_ue.specs.State.{BlockedCombination as UeBlocked, DownlinkFrame, OfferedUnit as UeOffered, Tick as UeTicks}
-use Rattle.dch_rnc.specs.State.{BlockedCombination as RncBlocked, IubFrame, OfferedUnit as RncOffered, Tick as RncTicks}
-use Rattle.dch_link.specs.Events.{BlockedCombination, Damages, Event as LinkEvent, OfferedUnit}
-use Rattle.dch_link.specs.Link.{LinkState}
+use Rattle.dch_linkcmd.specs.UeState.{BlockedCombination as UeBlocked, DownlinkFrame, OfferedUnit as UeOffered, Tick as UeTicks}
+use Rattle.dch_linkcmd.specs.RncState.{BlockedCombination as RncBlocked, IubFrame, OfferedUnit as RncOffered, Tick as RncTicks}
+use Rattle.dch_linkcmd.specs.Events.{BlockedCombination, Damages, Event as LinkEvent, OfferedUnit}
+use Rattle.dch_linkcmd.specs.LinkLink.{LinkState}
 use Rattle.dch_runlaw.specs.Frames.{IsFrame}
 use Rattle.dch_runlaw.specs.Nodes.{AtRnc, AtUe, Event as NodesEvent}
 use Rattle.dch_runlaw.specs.Runs.{Between, Event, Frame, Runs, Steps}

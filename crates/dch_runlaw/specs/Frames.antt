@@ -2,21 +2,21 @@
 use Rattle.std.specs.Prelude.{◌≡◌, ◌<◌, ◌+◌, ◌-◌, ◌++◌, ◌==◌, ℕ, zero, suc, List, [], Option, Some, None, if◌then◌else◌, nat_lt}
 use Rattle.dch_types.specs.declared.channel.Dir.TheVariants.{Up, Down}
 use Rattle.dch_accept.specs.Plans.{Planned}
-use Rattle.dch_layer.specs.Layers.{Layer}
+use Rattle.dch_layer2.specs.Layers.{Layer}
 use Rattle.dch_layer2.specs.Reading.{Nothing, Reading}
 use Rattle.dch_node.specs.Lines.{Line, joined}
 use Rattle.dch_node.specs.Values.{Output}
 use Rattle.dch_damage.specs.Damage.{iub_after, radio_after}
-use Rattle.dch_ue.specs.State.{DownlinkFrame, State as UeState, Tick as UeTicks}
-use Rattle.dch_ue.specs.Steps.{Steps as UeSteps}
-use Rattle.dch_nodeb.specs.State.{DownlinkDue, IubFrame as IubFrameDown, State as NodeBState, UplinkFrame}
-use Rattle.dch_nodeb.specs.Steps.{Steps as NodeBSteps}
-use Rattle.dch_rnc.specs.State.{IubFrame as IubFrameUp, State as RncState, Tick as RncTicks}
-use Rattle.dch_rnc.specs.Steps.{Steps as RncSteps}
-use Rattle.dch_link.specs.Link.{LinkState}
-use Rattle.dch_link.specs.Stages.{AreCompared}
-use Rattle.dch_link.specs.declared.stage.Stage.{Stage}
-use Rattle.dch_link.specs.declared.stage.Stage.TheVariants.{RncTick, IubDown, RadioDown, UeTick, RadioUp, IubUp}
+use Rattle.dch_linkcmd.specs.UeState.{DownlinkFrame, State as UeState, Tick as UeTicks}
+use Rattle.dch_linkcmd.specs.UeSteps.{Steps as UeSteps}
+use Rattle.dch_linkcmd.specs.NodebState.{DownlinkDue, IubFrame as IubFrameDown, State as NodeBState, UplinkFrame}
+use Rattle.dch_linkcmd.specs.NodebSteps.{Steps as NodeBSteps}
+use Rattle.dch_linkcmd.specs.RncState.{IubFrame as IubFrameUp, State as RncState, Tick as RncTicks}
+use Rattle.dch_linkcmd.specs.RncSteps.{Steps as RncSteps}
+use Rattle.dch_linkcmd.specs.LinkLink.{LinkState}
+use Rattle.dch_linkcmd.specs.LinkStages.{AreCompared}
+use Rattle.dch_linkcmd.specs.stage.Stage.{Stage}
+use Rattle.dch_linkcmd.specs.stage.Stage.TheVariants.{RncTick, IubDown, RadioDown, UeTick, RadioUp, IubUp}
 
 -- the stages in order, from 0 on
 abbrev pub stage_at : ℕ → Stage

@@ -5,11 +5,11 @@ use Rattle.dch_types.specs.declared.channel.Dir.TheVariants.{Up, Down}
 use Rattle.dch_accept.specs.Plans.{IsPlanned, Planned}
 use Rattle.dch_script.specs.Lines.{lines_of as rows}
 use Rattle.dch_node.specs.Lines.{Line, text_of}
-use Rattle.dch_nodecmd.specs.RunLines.{coming}
-use Rattle.dch_nodecmd.specs.Shown.{shown}
-use Rattle.dch_nodecmd.specs.Standing.{CanFollow}
-use Rattle.dch_nodecmd.specs.declared.later.Later.{Later}
-use Rattle.dch_link.specs.Link.{LinkState, opened_link}
+use Rattle.dch_linkcmd.specs.NodecmdRunLines.{coming}
+use Rattle.dch_linkcmd.specs.Shown.{shown}
+use Rattle.dch_linkcmd.specs.NodecmdStanding.{CanFollow}
+use Rattle.dch_linkcmd.specs.later.Later.{Later}
+use Rattle.dch_linkcmd.specs.LinkLink.{LinkState, opened_link}
 use Rattle.dch_linkcmd.specs.RunLines.{active_behind}
 use Rattle.dch_runlaw.specs.Clear.{IsClear}
 use Rattle.dch_runlaw.specs.Intervals.{frames_in}

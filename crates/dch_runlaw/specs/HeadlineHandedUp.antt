@@ -5,9 +5,9 @@ use Rattle.dch_types.specs.declared.channel.Dir.{Dir}
 use Rattle.dch_accept.specs.Plans.{Planned}
 use Rattle.dch_script.specs.Lines.{lines_of as rows}
 use Rattle.dch_node.specs.Lines.{Line}
-use Rattle.dch_layer.specs.Layers.{Layer}
-use Rattle.dch_layer.specs.UnitLines.{unit_lines}
-use Rattle.dch_link.specs.Link.{LinkState}
+use Rattle.dch_layer2.specs.Layers.{Layer}
+use Rattle.dch_layer2.specs.UnitLines.{unit_lines}
+use Rattle.dch_linkcmd.specs.LinkLink.{LinkState}
 use Rattle.dch_rlcum.specs.Handing.{AreFewLost, known_units}
 use Rattle.dch_layerlaw.specs.History.{events_over, pair_after}
 use Rattle.dch_layerlaw.specs.Rows.{got_rows, gots, rows_of}

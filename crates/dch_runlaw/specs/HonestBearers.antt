@@ -9,9 +9,9 @@ use Rattle.dch_types.specs.Parts.{channel_at}
 use Rattle.dch_types.specs.Timing.{starts}
 use Rattle.dch_config.specs.Good.{IsGood}
 use Rattle.dch_accept.specs.Plans.{Planned}
-use Rattle.dch_layer.specs.Bearings.{bearer_in, channel_of}
-use Rattle.dch_layer.specs.Layers.{Layer}
-use Rattle.dch_link.specs.Link.{LinkState}
+use Rattle.dch_layer2.specs.Bearings.{bearer_in, channel_of}
+use Rattle.dch_layer2.specs.Layers.{Layer}
+use Rattle.dch_linkcmd.specs.LinkLink.{LinkState}
 use Rattle.dch_layerlaw.specs.TmHistory.{IsTmCarried, IsTmSome}
 use Rattle.dch_layerlaw.specs.UmHistory.{IsUmCarried}
 use Rattle.dch_runlaw.specs.Nodes.{Any, Event, IsAmHistory, IsAmHistoryOver, IsDownKnown, IsDownKnownOver, IsUpKnown, IsUpKnownOver, IsWholeAmHistory, Nodes, Runs, RunsInTwo, opened_nodes}

@@ -13,13 +13,13 @@ use Rattle.dch_node.specs.Lines.{Line}
 use Rattle.dch_node.specs.RxFrames.{AreHeard}
 use Rattle.dch_node.specs.Values.{Blocks, Radio}
 use Rattle.dch_damage.specs.Damage.{radio_after}
-use Rattle.dch_layer.specs.Layers.{Given}
+use Rattle.dch_layer2.specs.Layers.{Given}
 use Rattle.dch_layer2.specs.Joined.{CarriesGiven}
 use Rattle.dch_layer2.specs.Reading.{Read}
-use Rattle.dch_rxframes.specs.RxFrames.{RxFrames, rx_frame_at}
-use Rattle.dch_nodeb.specs.Steps.{IsRadioFrame as IsDownFrame}
-use Rattle.dch_ue.specs.Steps.{IsRadioFrame as IsUpFrame}
-use Rattle.dch_link.specs.Link.{LinkState}
+use Rattle.dch_tti.specs.RxFrames.{RxFrames, rx_frame_at}
+use Rattle.dch_linkcmd.specs.NodebSteps.{IsRadioFrame as IsDownFrame}
+use Rattle.dch_linkcmd.specs.UeSteps.{IsRadioFrame as IsUpFrame}
+use Rattle.dch_linkcmd.specs.LinkLink.{LinkState}
 use Rattle.dch_runlaw.specs.Frames.{IsFrame}
 use Rattle.dch_runlaw.specs.Runs.{Between, Event, Frame, Runs, Steps}
 

@@ -21,3 +21,18 @@ pub mod HeadlineReceived
 pub mod Headline
 pub mod UndamagedHandedUp
 pub mod Undamaged
+pub mod SoftRuns
+pub mod SoftEndEvents
+pub mod Ttis
+pub mod Legs
+pub mod Told
+pub mod SoftScripts
+pub use Rattle.dch_linkcmd.specs.Rules as LinkcmdRules
+pub use Rattle.dch_linkcmd.specs.Run as LinkcmdRun
+pub use Rattle.dch_linkcmd.specs.Overlong as LinkcmdOverlong
+pub use Rattle.dch_linkcmd.specs.RunLines as LinkcmdRunLines
+pub use Rattle.dch_linkcmd.specs.SoftLineEvents
+pub use Rattle.dch_linkcmd.specs.SoftOverlong
+pub use Rattle.dch_linkcmd.specs.SoftRules
+pub use Rattle.dch_linkcmd.specs.SoftRun
+pub use Rattle.dch_linkcmd.specs.Standing as LinkcmdStanding

@@ -9,13 +9,13 @@ use Rattle.dch_types.specs.Timing.{starts}
 use Rattle.dch_accept.specs.Plans.{Planned}
 use Rattle.dch_node.specs.Lines.{Line}
 use Rattle.dch_node.specs.Values.{Output}
-use Rattle.dch_layer.specs.Layers.{Layer}
-use Rattle.dch_ue.specs.State.{Event as UeEvent, OfferedUnit as UeOffered, BlockedCombination as UeBlocked, Change as UeChange, DownlinkFrame, Tick as UeTicks, State as UeState, opened_state as opened_ue}
-use Rattle.dch_ue.specs.Steps.{Steps as UeSteps}
-use Rattle.dch_rnc.specs.State.{Event as RncEvent, OfferedUnit as RncOffered, BlockedCombination as RncBlocked, Change as RncChange, IubFrame, Tick as RncTicks, State as RncState, opened_state as opened_rnc}
-use Rattle.dch_rnc.specs.Steps.{Steps as RncSteps}
-use Rattle.dch_link.specs.Checks.{good_in}
-use Rattle.dch_link.specs.Within.{RncWithin, UeWithin}
+use Rattle.dch_layer2.specs.Layers.{Layer}
+use Rattle.dch_linkcmd.specs.UeState.{Event as UeEvent, OfferedUnit as UeOffered, BlockedCombination as UeBlocked, Change as UeChange, DownlinkFrame, Tick as UeTicks, State as UeState, opened_state as opened_ue}
+use Rattle.dch_linkcmd.specs.UeSteps.{Steps as UeSteps}
+use Rattle.dch_linkcmd.specs.RncState.{Event as RncEvent, OfferedUnit as RncOffered, BlockedCombination as RncBlocked, Change as RncChange, IubFrame, Tick as RncTicks, State as RncState, opened_state as opened_rnc}
+use Rattle.dch_linkcmd.specs.RncSteps.{Steps as RncSteps}
+use Rattle.dch_linkcmd.specs.Checks.{good_in}
+use Rattle.dch_linkcmd.specs.Within.{RncWithin, UeWithin}
 use Rattle.dch_layerlaw.specs.Worlds.{IsFaithful, IsFront, Log, World, no_log, turned}
 use Rattle.dch_layerlaw.specs.History.{IsHistory, IsHistoryOver, IsWholeHistory}
 use Rattle.dch_layerlaw.specs.UmHistory.{IsKnownHistory, pdus_in}

@@ -3,8 +3,8 @@ use Rattle.std.specs.Prelude.{◌≡◌, ◌⊎◌, ℕ, List}
 use Rattle.dch_config.specs.Changes.{KeepsBearer}
 use Rattle.dch_accept.specs.Plans.{IsPlanned, Planned}
 use Rattle.dch_node.specs.Lines.{Line}
-use Rattle.dch_link.specs.Changing.{Changes}
-use Rattle.dch_link.specs.Link.{LinkState, opened_link}
+use Rattle.dch_linkcmd.specs.LinkChanging.{Changes}
+use Rattle.dch_linkcmd.specs.LinkLink.{LinkState, opened_link}
 use Rattle.dch_runlaw.specs.Runs.{Event, Runs}
 
 -- the events of a first part, which begins at opening, have these lines, and behind them a second configuration becomes active

@@ -1,8 +1,8 @@
 -- Runs of three nodes: what happens between radio frames, and radio frames, one after another, with the lines of all.
 use Rattle.std.specs.Prelude.{◌≡◌, ◌++◌, List, [], ◌∷◌}
 use Rattle.dch_node.specs.Lines.{Line}
-use Rattle.dch_link.specs.Events.{Event as LinkEvent, Happens}
-use Rattle.dch_link.specs.Link.{LinkState}
+use Rattle.dch_linkcmd.specs.Events.{Event as LinkEvent, Happens}
+use Rattle.dch_linkcmd.specs.LinkLink.{LinkState}
 use Rattle.dch_runlaw.specs.Frames.{IsFrame}
 
 -- a unit is offered, a combination is blocked or free, or damage waits; or a radio frame passes

@@ -3,12 +3,12 @@ use Rattle.std.specs.Prelude.{◌≡◌, ◌≤◌, ◌+◌, ◌++◌, ◌⊎◌
 use Rattle.dch_types.specs.declared.config.Config.{Config}
 use Rattle.dch_lines.specs.LineTexts.{is_empty}
 use Rattle.dch_node.specs.Lines.{Line, text_of}
-use Rattle.dch_nodecmd.specs.Shown.{shown}
-use Rattle.dch_nodecmd.specs.RunLines.{coming}
-use Rattle.dch_nodecmd.specs.declared.later.Later.{Later}
-use Rattle.dch_link.specs.Changing.{Changes}
-use Rattle.dch_link.specs.Link.{LinkState}
-use Rattle.dch_link.specs.declared.stage.Stage.TheVariants.{RncTick}
+use Rattle.dch_linkcmd.specs.Shown.{shown}
+use Rattle.dch_linkcmd.specs.NodecmdRunLines.{coming}
+use Rattle.dch_linkcmd.specs.later.Later.{Later}
+use Rattle.dch_linkcmd.specs.LinkChanging.{Changes}
+use Rattle.dch_linkcmd.specs.LinkLink.{LinkState}
+use Rattle.dch_linkcmd.specs.stage.Stage.TheVariants.{RncTick}
 use Rattle.dch_linkcmd.specs.LineEvents.{Frames, OneEvent, Said, Says}
 use Rattle.dch_linkcmd.specs.Run.{Run, config_of}
 use Rattle.dch_linkcmd.specs.RunLines.{active_behind}

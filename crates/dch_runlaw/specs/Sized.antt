@@ -4,7 +4,7 @@ use Rattle.dch_bits.specs.declared.bit.Bit.{Bit}
 use Rattle.dch_types.specs.declared.channel.Side.{Side}
 use Rattle.dch_types.specs.Parts.{channel_at, format_at}
 use Rattle.dch_accept.specs.Blocks.{bits_of}
-use Rattle.dch_layer.specs.Layers.{Layer}
+use Rattle.dch_layer2.specs.Layers.{Layer}
 use Rattle.dch_layer2.specs.Joined.{joined_bits}
 
 -- these blocks have a size, and bits

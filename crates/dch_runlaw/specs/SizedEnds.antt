@@ -3,8 +3,8 @@ use Rattle.std.specs.Prelude.{◌≡◌, ℕ, List, [], ◌∷◌, Bool}
 use Rattle.dch_bits.specs.declared.bit.Bit.{Bit}
 use Rattle.dch_types.specs.declared.channel.Dir.{Dir}
 use Rattle.dch_types.specs.declared.config.Config.{Config}
-use Rattle.dch_layer.specs.Layers.{Came, Layer, blocks, offers, takes, ticks}
-use Rattle.dch_layer.specs.Starting.{IsStart}
+use Rattle.dch_layer2.specs.Layers.{Came, Layer, blocks, offers, takes, ticks}
+use Rattle.dch_layer2.specs.Starting.{IsStart}
 
 -- a unit is offered to a bearer, a combination is blocked or free, the timers tick, blocks come on a channel, of which the first is block
 -- k, or TTIs start at a CFN

@@ -1,9 +1,9 @@
 -- In a run of three nodes each channel is given just the blocks of its format.
 use Rattle.std.specs.Prelude.{List, [], ◌∷◌}
 use Rattle.dch_accept.specs.Plans.{Planned}
-use Rattle.dch_layer.specs.Layers.{Layer}
+use Rattle.dch_layer2.specs.Layers.{Layer}
 use Rattle.dch_node.specs.Lines.{Line}
-use Rattle.dch_link.specs.Link.{LinkState}
+use Rattle.dch_linkcmd.specs.LinkLink.{LinkState}
 use Rattle.dch_runlaw.specs.Runs.{Between, Event, Frame, Runs, Steps}
 use Rattle.dch_runlaw.specs.Sized.{AreAllSized, AreAllWhole}
 

@@ -4,8 +4,8 @@ use Rattle.dch_types.specs.declared.channel.Dir.{Dir}
 use Rattle.dch_types.specs.declared.channel.Dir.TheVariants.{Up, Down}
 use Rattle.dch_script.specs.Lines.{lines_of as rows, rest_of}
 use Rattle.dch_node.specs.Lines.{Differs, Line, text_of}
-use Rattle.dch_nodecmd.specs.Shown.{shown}
-use Rattle.dch_link.specs.Link.{LinkState}
+use Rattle.dch_linkcmd.specs.Shown.{shown}
+use Rattle.dch_linkcmd.specs.LinkLink.{LinkState}
 use Rattle.dch_runlaw.specs.TextDiffering.{AreLow, false_rows, false_words, falses}
 use Rattle.dch_layerlaw.specs.Directions.{lines_on}
 use Rattle.dch_layerlaw.specs.Lines.{lines_of}

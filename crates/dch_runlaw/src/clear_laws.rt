@@ -3,7 +3,7 @@ ghost use Rattle.dch_accept.specs.Plans.{IsPlanned, Planned};
 ghost use Rattle.dch_runlaw.specs.Clear.{AreHarmless, IsClear};
 ghost use Rattle.dch_runlaw.specs.ClearSound.{AreSound};
 ghost use Rattle.dch_runlaw.specs.HonestFits.{IsUndamaged};
-ghost use Rattle.dch_link.specs.Link.{LinkState};
+ghost use Rattle.dch_linkcmd.specs.LinkLink.{LinkState};
 ghost use Rattle.dch_runlaw.specs.Parts.{Begins};
 ghost use Rattle.dch_runlaw.specs.Runs.{Event, Runs};
 ghost use Rattle.dch_node.specs.Lines.{Line};

@@ -1,8 +1,8 @@
 ghost use Rattle.std.specs.Prelude.{◌≡◌, ◌<◌, ◌+◌, ℕ, List};
 ghost use Rattle.dch_node.specs.Lines.{Line, joined};
 ghost use Rattle.dch_lines.specs.LineTexts.{HandlesLines};
-ghost use Rattle.dch_link.specs.Link.{LinkState};
-ghost use Rattle.dch_link.specs.Stages.{AtStage};
+ghost use Rattle.dch_linkcmd.specs.LinkLink.{LinkState};
+ghost use Rattle.dch_linkcmd.specs.LinkStages.{AtStage};
 ghost use Rattle.dch_linkcmd.specs.Rules.{link_lines};
 ghost use Rattle.dch_linkcmd.specs.Run.{Run};
 ghost use Rattle.dch_runlaw.specs.Frames.{IsFrame, stage_at};

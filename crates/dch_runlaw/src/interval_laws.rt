@@ -1,7 +1,7 @@
 ghost use Rattle.std.specs.Prelude.{◌≡◌, ◌<◌, ◌%◌, ℕ, List, length};
 ghost use Rattle.dch_accept.specs.Plans.{IsPlanned, Planned};
 ghost use Rattle.dch_runlaw.specs.Intervals.{AllArrive, DownAsGiven, Tti, UpAsGiven};
-ghost use Rattle.dch_link.specs.Link.{LinkState};
+ghost use Rattle.dch_linkcmd.specs.LinkLink.{LinkState};
 ghost use Rattle.dch_runlaw.specs.Parts.{Begins};
 ghost use Rattle.dch_runlaw.specs.Runs.{Event, Runs};
 ghost use Rattle.dch_node.specs.Lines.{Line};

@@ -3,7 +3,7 @@ ghost use Rattle.dch_config.specs.Changes.{KeepsBearer};
 ghost use Rattle.dch_accept.specs.Plans.{Planned};
 ghost use Rattle.dch_types.specs.declared.channel.Dir.TheVariants.{Down, Up};
 ghost use Rattle.dch_node.specs.Lines.{Differs, Line};
-ghost use Rattle.dch_link.specs.Link.{LinkState, opened_link};
+ghost use Rattle.dch_linkcmd.specs.LinkLink.{LinkState, opened_link};
 ghost use Rattle.dch_runlaw.specs.Parts.{GoesOver};
 ghost use Rattle.dch_runlaw.specs.Runs.{Event, Runs};
 ghost use Rattle.dch_runlaw.specs.EndEvents.{end_events};

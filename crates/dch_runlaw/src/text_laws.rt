@@ -1,11 +1,11 @@
 ghost use Rattle.std.specs.Prelude.{◌++◌, ℕ, List, Bool};
 ghost use Rattle.dch_accept.specs.Plans.{Planned};
 ghost use Rattle.dch_config.specs.Good.{IsGood};
-ghost use Rattle.dch_link.specs.Link.{LinkState, opened_link};
+ghost use Rattle.dch_linkcmd.specs.LinkLink.{LinkState, opened_link};
 ghost use Rattle.dch_runlaw.specs.Parts.{Begins, GoesOver};
 ghost use Rattle.dch_runlaw.specs.Runs.{Event, Runs};
 ghost use Rattle.dch_node.specs.Lines.{Line, text_of};
-ghost use Rattle.dch_nodecmd.specs.Shown.{shown};
+ghost use Rattle.dch_linkcmd.specs.Shown.{shown};
 ghost use Rattle.dch_runlaw.specs.TextTold.{IsRead, IsTold, ShowsUnits, TellsFalse};
 
 /// A law: of the lines of a run, those on units and PDUs of a bearer that went up are just those that the network controller has reported

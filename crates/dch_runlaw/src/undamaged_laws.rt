@@ -1,7 +1,7 @@
 ghost use Rattle.std.specs.Prelude.{◌≡◌, ◌%◌, ◌++◌, ℕ, List};
 ghost use Rattle.dch_accept.specs.Plans.{IsPlanned, Planned};
 ghost use Rattle.dch_runlaw.specs.Clear.{AreHarmless, IsClear};
-ghost use Rattle.dch_link.specs.Link.{LinkState, opened_link};
+ghost use Rattle.dch_linkcmd.specs.LinkLink.{LinkState, opened_link};
 ghost use Rattle.dch_runlaw.specs.Parts.{GoesOver, KeepsAll};
 ghost use Rattle.dch_runlaw.specs.Runs.{Event, Runs};
 ghost use Rattle.dch_node.specs.Lines.{Line};

@@ -3,14 +3,14 @@ use Rattle.std.proofs.Common.{◌≡◌, ℕ, List, [], Option, map, string_byte
 use Rattle.std.proofs.KnownBytes.{Appends-nil, Consumes-nil}
 use Rattle.std.specs.declared.alloc.Global.{Global}
 use Rattle.dch_io.specs.Ends.{End, span}
-use Rattle.dch_words.specs.declared.arguments.Subcommand.{Subcommand}
-use Rattle.dch_words.specs.declared.arguments.Subcommand.TheVariants.{Check, Encode, NodeB, Rnc, Ue, Link, Soft, Gen, Pair}
-use Rattle.dch_words.specs.declared.arguments.Arguments.{Arguments}
-use Rattle.dch_words.proofs.Meanings.{one_meaning}
-use Rattle.dch_runs.specs.Benches.{Nodes, no_nodes}
+use Rattle.dch_top.specs.declared.arguments.Subcommand.{Subcommand}
+use Rattle.dch_top.specs.declared.arguments.Subcommand.TheVariants.{Check, Encode, NodeB, Rnc, Ue, Link, Soft, Gen, Pair}
+use Rattle.dch_top.specs.declared.arguments.Arguments.{Arguments}
+use Rattle.dch_top.proofs.Meanings.{one_meaning}
+use Rattle.dch_top.specs.Benches.{Nodes, no_nodes}
 use Rattle.dch_top.specs.Ran.{Asks, Ran, Runs, Says}
-use Rattle.dch_plaincmd.specs.declared.status.Status.{Status}
-use Rattle.dch_plaincmd.specs.declared.status.Status.TheVariants.{NoMemory}
+use Rattle.dch_top.specs.declared.status.Status.{Status}
+use Rattle.dch_top.specs.declared.status.Status.TheVariants.{NoMemory}
 
 -- the words name a command
 pub ran_command : (words : List (String Global)) (arguments : Arguments) (source sink : End) (nodes : Nodes) (status : Status) → Says words arguments → Runs arguments.subcommand arguments source sink nodes status → Ran words source sink nodes status

@@ -9,25 +9,25 @@ use Rattle.dch_script.specs.Lines.{lines_of}
 use Rattle.dch_check.specs.ConfigSection.{configuration_of, script_of}
 use Rattle.dch_lines.specs.LineTexts.{HandlesLines}
 use Rattle.dch_lines.specs.declared.stop.Outcome.TheVariants.{Ok as Done}
-use Rattle.dch_linkcmd.specs.Rules.{link_lines}
-use Rattle.dch_linkcmd.specs.Run.{Run}
+use Rattle.dch_runlaw.specs.LinkcmdRules.{link_lines}
+use Rattle.dch_runlaw.specs.LinkcmdRun.{Run}
 use Rattle.dch_nodecmd.specs.Standing.{CanFollow}
-use Rattle.dch_words.specs.declared.arguments.Arguments.{Arguments}
-use Rattle.dch_words.specs.declared.arguments.Subcommand.{Subcommand}
-use Rattle.dch_words.specs.declared.arguments.Subcommand.TheVariants.{Link}
 use Rattle.dch_runlaw.specs.Headline.{IsLater}
 use Rattle.dch_runlaw.proofs.Headline.{carried}
-use Rattle.dch_runs.proofs.Fronts.{second_follows}
-use Rattle.dch_runs.proofs.Outcomes.{only_well}
-use Rattle.dch_runs.specs.Benches.{Nodes}
-use Rattle.dch_runs.specs.Configured.{EndsLate, FollowsScript}
-use Rattle.dch_runs.specs.LinkRuns.{RunsLink, run_of}
+use Rattle.dch_top.specs.declared.arguments.Arguments.{Arguments}
+use Rattle.dch_top.specs.declared.arguments.Subcommand.{Subcommand}
+use Rattle.dch_top.specs.declared.arguments.Subcommand.TheVariants.{Link}
+use Rattle.dch_top.proofs.Fronts.{second_follows}
+use Rattle.dch_top.proofs.Outcomes.{only_well}
+use Rattle.dch_top.specs.Benches.{Nodes}
+use Rattle.dch_top.specs.Configured.{EndsLate, FollowsScript}
+use Rattle.dch_top.specs.LinkRuns.{RunsLink, run_of}
 use Rattle.dch_top.specs.LinkUnits.{CarriesUnits}
-use Rattle.dch_runs.specs.NodeRuns.{later_of}
+use Rattle.dch_top.specs.NodeRuns.{later_of}
 use Rattle.dch_top.specs.Ran.{Runs}
-use Rattle.dch_plaincmd.specs.declared.status.Status.{Status}
-use Rattle.dch_plaincmd.specs.declared.status.Status.TheVariants.{Ok as Well}
-use Rattle.dch_runs.specs.declared.front.FrontKind.TheVariants.{Both}
+use Rattle.dch_top.specs.declared.status.Status.{Status}
+use Rattle.dch_top.specs.declared.status.Status.TheVariants.{Ok as Well}
+use Rattle.dch_top.specs.declared.front.FrontKind.TheVariants.{Both}
 
 -- a second configuration keeps its limits, and can follow the first one
 laters : (first : Planned) (second : Option Second) → IfSome second (λ s. IsPlanned s.accepted) → IfSome (later_of second) (CanFollow first) → IfSome (later_of second) (IsLater first)

@@ -27,40 +27,40 @@ use Rattle.dch_nodecmd.specs.Run.{Run}
 use Rattle.dch_nodecmd.specs.RunLines.{AreRunLines, coming}
 use Rattle.dch_nodecmd.proofs.RunLines.{none_refused as none_in_run}
 use Rattle.dch_nodecmd.proofs.Said.{ok_err}
-use Rattle.dch_words.specs.declared.arguments.Subcommand.{Subcommand}
-use Rattle.dch_words.specs.declared.arguments.Subcommand.TheVariants.{Check, Encode, NodeB, Rnc, Ue, Link, Soft, Gen, Pair}
-use Rattle.dch_words.specs.declared.arguments.Arguments.{Arguments}
-use Rattle.dch_nodebcmd.specs.Lasting.{node_b_lasting}
-use Rattle.dch_nodebcmd.specs.Rules.{node_b_rules}
-use Rattle.dch_rnccmd.specs.Lasting.{rnc_lasting}
-use Rattle.dch_rnccmd.specs.Rules.{rnc_rules}
-use Rattle.dch_uecmd.specs.Lasting.{ue_lasting}
-use Rattle.dch_uecmd.specs.Rules.{ue_rules}
+use Rattle.dch_nodecmd.specs.NodeBLasting.{node_b_lasting}
+use Rattle.dch_nodecmd.specs.NodeBRules.{node_b_rules}
+use Rattle.dch_nodecmd.specs.RncLasting.{rnc_lasting}
+use Rattle.dch_nodecmd.specs.RncRules.{rnc_rules}
+use Rattle.dch_nodecmd.specs.UeLasting.{ue_lasting}
+use Rattle.dch_nodecmd.specs.UeRules.{ue_rules}
 use Rattle.dch_script.specs.Soft.{soft_meaning}
-use Rattle.dch_linkcmd.specs.Overlong.{link_refuses_long}
-use Rattle.dch_linkcmd.specs.Rules.{link_lines}
-use Rattle.dch_linkcmd.specs.Run.{Run as LinkRun}
-use Rattle.dch_linkcmd.specs.RunLines.{AreRunLines as AreLinkRunLines}
-use Rattle.dch_linkcmd.proofs.RunLines.{none_in_run as none_in_link, opened_between}
-use Rattle.dch_softcmd.specs.LineEvents.{Said as SoftSaid, Says as SoftSays}
-use Rattle.dch_softcmd.specs.Overlong.{soft_refuses_long}
-use Rattle.dch_softcmd.specs.Rules.{soft_lines}
-use Rattle.dch_softcmd.specs.Run.{Run as SoftRun, config_of as soft_config, opened_run as opened_soft}
-use Rattle.dch_runs.specs.Benches.{Nodes}
-use Rattle.dch_plaincmd.specs.Checked.{HasEnded}
-use Rattle.dch_runs.specs.Configured.{EndsEarly, EndsLate, FollowsScript, RunsConfigured, outcome_status}
-use Rattle.dch_runs.specs.Fronts.{AdmitsFront, RefusesFront}
-use Rattle.dch_runs.specs.LinkRuns.{AreLinkLines, run_of as link_run_of}
-use Rattle.dch_runs.specs.NodeRuns.{AreNodeLines, later_of, run_of}
+use Rattle.dch_runlaw.specs.LinkcmdOverlong.{link_refuses_long}
+use Rattle.dch_runlaw.specs.LinkcmdRules.{link_lines}
+use Rattle.dch_runlaw.specs.LinkcmdRun.{Run as LinkRun}
+use Rattle.dch_runlaw.specs.LinkcmdRunLines.{AreRunLines as AreLinkRunLines}
+use Rattle.dch_runlaw.proofs.LinkcmdRunLines.{none_in_run as none_in_link, opened_between}
+use Rattle.dch_runlaw.specs.SoftLineEvents.{Said as SoftSaid, Says as SoftSays}
+use Rattle.dch_runlaw.specs.SoftOverlong.{soft_refuses_long}
+use Rattle.dch_runlaw.specs.SoftRules.{soft_lines}
+use Rattle.dch_runlaw.specs.SoftRun.{Run as SoftRun, config_of as soft_config, opened_run as opened_soft}
+use Rattle.dch_top.specs.declared.arguments.Subcommand.{Subcommand}
+use Rattle.dch_top.specs.declared.arguments.Subcommand.TheVariants.{Check, Encode, NodeB, Rnc, Ue, Link, Soft, Gen, Pair}
+use Rattle.dch_top.specs.declared.arguments.Arguments.{Arguments}
+use Rattle.dch_top.specs.Benches.{Nodes}
+use Rattle.dch_top.specs.Checked.{HasEnded}
+use Rattle.dch_top.specs.Configured.{EndsEarly, EndsLate, FollowsScript, RunsConfigured, outcome_status}
+use Rattle.dch_top.specs.Fronts.{AdmitsFront, RefusesFront}
+use Rattle.dch_top.specs.LinkRuns.{AreLinkLines, run_of as link_run_of}
+use Rattle.dch_top.specs.NodeRuns.{AreNodeLines, later_of, run_of}
 use Rattle.dch_top.specs.Ran.{AreEventsFor, Runs, front_kind}
-use Rattle.dch_runs.specs.SoftRuns.{AreSoftLines}
-use Rattle.dch_plaincmd.specs.declared.status.Status.{Status}
-use Rattle.dch_plaincmd.specs.declared.status.Status.TheVariants.{Ok as Well, Refused, Usage, ReadFault, WriteFault, NoMemory, TooLong}
-use Rattle.dch_runs.specs.declared.front.FrontKind.{FrontKind}
-use Rattle.dch_runs.specs.declared.front.FrontKind.TheVariants.{Single, Both}
-use Rattle.dch_plaincmd.proofs.Checks.{same_configuration}
-use Rattle.dch_runs.proofs.Fronts.{AreAlike, one_front, same_front}
-use Rattle.dch_runs.proofs.SoftStays.{soft_lines_stay}
+use Rattle.dch_top.specs.SoftRuns.{AreSoftLines}
+use Rattle.dch_top.specs.declared.status.Status.{Status}
+use Rattle.dch_top.specs.declared.status.Status.TheVariants.{Ok as Well, Refused, Usage, ReadFault, WriteFault, NoMemory, TooLong}
+use Rattle.dch_top.specs.declared.front.FrontKind.{FrontKind}
+use Rattle.dch_top.specs.declared.front.FrontKind.TheVariants.{Single, Both}
+use Rattle.dch_top.proofs.Checks.{same_configuration}
+use Rattle.dch_top.proofs.Fronts.{AreAlike, one_front, same_front}
+use Rattle.dch_top.proofs.SoftStays.{soft_lines_stay}
 
 -- the script of a whole input goes on with what was not taken
 script_whole : (source : End) (input taken more : List ℕ) → input ≡ taken ++ more → (IsAtEnd source.now → input ≡ taken) → HasEnded source taken → (rest : List ℕ) × ((script_of input ≡ script_of taken ++ rest) × (IsAtEnd source.now → script_of input ≡ script_of taken))

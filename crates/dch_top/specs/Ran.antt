@@ -4,28 +4,28 @@ use Rattle.std.specs.declared.alloc.Global.{Global}
 use Rattle.std.specs.Io.KnownBytes.{Appends}
 use Rattle.dch_io.specs.Ends.{End, Fails, IsCutShort}
 use Rattle.dch_check.specs.declared.both.Configurations.{Configurations}
-use Rattle.dch_words.specs.Parses.{IsCommand, Parses}
-use Rattle.dch_words.specs.declared.arguments.Subcommand.{Subcommand}
-use Rattle.dch_words.specs.declared.arguments.Subcommand.TheVariants.{Check, Encode, NodeB, Rnc, Ue, Link, Soft, Gen, Pair}
-use Rattle.dch_words.specs.declared.arguments.Arguments.{Arguments}
-use Rattle.dch_nodebcmd.specs.Rules.{node_b_rules}
-use Rattle.dch_rnccmd.specs.Rules.{rnc_rules}
-use Rattle.dch_uecmd.specs.Rules.{ue_rules}
-use Rattle.dch_runs.specs.Benches.{Nodes, no_nodes}
-use Rattle.dch_plaincmd.specs.Checked.{Checks}
-use Rattle.dch_plaincmd.specs.Encoded.{Encodes}
-use Rattle.dch_runs.specs.GenRuns.{RunsGen}
-use Rattle.dch_runs.specs.LinkRuns.{AreLinkLines, RunsLink}
-use Rattle.dch_runs.specs.NodeBRuns.{RunsNodeB}
-use Rattle.dch_runs.specs.NodeRuns.{AreNodeLines}
-use Rattle.dch_runs.specs.PairRuns.{RunsPair}
-use Rattle.dch_runs.specs.RncRuns.{RunsRnc}
-use Rattle.dch_runs.specs.SoftRuns.{AreSoftLines, RunsSoft}
-use Rattle.dch_runs.specs.UeRuns.{RunsUe}
-use Rattle.dch_plaincmd.specs.declared.status.Status.{Status}
-use Rattle.dch_plaincmd.specs.declared.status.Status.TheVariants.{Usage, WriteFault, NoMemory}
-use Rattle.dch_runs.specs.declared.front.FrontKind.{FrontKind}
-use Rattle.dch_runs.specs.declared.front.FrontKind.TheVariants.{Single, Both}
+use Rattle.dch_nodecmd.specs.NodeBRules.{node_b_rules}
+use Rattle.dch_nodecmd.specs.RncRules.{rnc_rules}
+use Rattle.dch_nodecmd.specs.UeRules.{ue_rules}
+use Rattle.dch_top.specs.Parses.{IsCommand, Parses}
+use Rattle.dch_top.specs.declared.arguments.Subcommand.{Subcommand}
+use Rattle.dch_top.specs.declared.arguments.Subcommand.TheVariants.{Check, Encode, NodeB, Rnc, Ue, Link, Soft, Gen, Pair}
+use Rattle.dch_top.specs.declared.arguments.Arguments.{Arguments}
+use Rattle.dch_top.specs.Benches.{Nodes, no_nodes}
+use Rattle.dch_top.specs.Checked.{Checks}
+use Rattle.dch_top.specs.Encoded.{Encodes}
+use Rattle.dch_top.specs.GenRuns.{RunsGen}
+use Rattle.dch_top.specs.LinkRuns.{AreLinkLines, RunsLink}
+use Rattle.dch_top.specs.NodeBRuns.{RunsNodeB}
+use Rattle.dch_top.specs.NodeRuns.{AreNodeLines}
+use Rattle.dch_top.specs.PairRuns.{RunsPair}
+use Rattle.dch_top.specs.RncRuns.{RunsRnc}
+use Rattle.dch_top.specs.SoftRuns.{AreSoftLines, RunsSoft}
+use Rattle.dch_top.specs.UeRuns.{RunsUe}
+use Rattle.dch_top.specs.declared.status.Status.{Status}
+use Rattle.dch_top.specs.declared.status.Status.TheVariants.{Usage, WriteFault, NoMemory}
+use Rattle.dch_top.specs.declared.front.FrontKind.{FrontKind}
+use Rattle.dch_top.specs.declared.front.FrontKind.TheVariants.{Single, Both}
 
 abbrev pub usage : List ℕ
 usage = codes "usage: dch COMMAND [COUNT] [--start N] [--quiet]\n"

@@ -1,8 +1,30 @@
-//! The top call of the program `dch`: words and bytes in, bytes and a status out.
+//! The top call of the program `dch`: words and bytes in, bytes and a status out. The words of the command line, `COMMAND [COUNT] [--start N] [--quiet]`,
+//! and a run of each command, from the first byte to the status, with the nodes that it leaves on the bench.
 #![tactic(auto)]
 
+mod arguments;
+mod bench;
+mod check;
 mod command;
+mod configured;
+mod encode;
+mod encode_handler;
+mod front;
+mod generate;
+mod line;
+mod link;
+mod node_b;
+mod node_run;
+mod number;
+mod pair;
+mod rnc;
+mod soft;
+mod status;
+mod trace_laws;
+mod ue;
 
+pub use arguments::one_meaning_law;
+pub use bench::Bench;
 pub use command::run;
-pub use dch_plaincmd::Status;
-pub use dch_runs::{Bench, node_b_trace_law, rnc_trace_law};
+pub use status::Status;
+pub use trace_laws::{node_b_trace_law, rnc_trace_law};

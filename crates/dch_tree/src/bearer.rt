@@ -15,7 +15,7 @@ use std::alloc::Global;
 use toml::{Table, Value};
 
 /// The rules of a bearer whose keys say nothing of them.
-fn default_rules() -> AmRules
+pub fn default_rules() -> AmRules
     ensures { result ≡ default_rules }
 {
     AmRules {

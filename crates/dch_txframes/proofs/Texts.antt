@@ -9,7 +9,7 @@ use Rattle.dch_bits.specs.declared.bit.Bit.{Bit}
 use Rattle.dch_bits.specs.declared.bit.Trit.{Trit}
 use Rattle.dch_bits.specs.declared.offer.Offer.{Offer}
 use Rattle.dch_bits.specs.declared.offer.Offer.TheVariants.{Accepted, Full, WrongSize}
-use Rattle.dch_layer.specs.Bearings.{line_of_answer}
+use Rattle.dch_layer2.specs.Bearings.{line_of_answer}
 use Rattle.dch_node.specs.Lines.{text_of}
 use Rattle.dch_bits.specs.Text.{cell_letter, letter_of}
 use Rattle.dch_types.specs.declared.channel.Dir.{Dir}

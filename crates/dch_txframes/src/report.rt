@@ -1,5 +1,5 @@
 ghost use Rattle.std.specs.Prelude.{◌≡◌, ◌<◌, ◌≤◌, ◌+◌, ◌++◌, [], ◌∷◌, length};
-ghost use Rattle.dch_layer.specs.Bearings.{line_of_answer};
+ghost use Rattle.dch_layer2.specs.Bearings.{line_of_answer};
 ghost use Rattle.dch_node.specs.IubFrames.{refusal_number};
 ghost use Rattle.dch_node.specs.Lines.{BadTti, Iub, IubBad, Phy, PhyNone, text_of};
 ghost use Rattle.dch_txframes.specs.Reports.{added};

@@ -3,7 +3,7 @@ use Rattle.std.proofs.Common.{◌≡◌, ◌∙◌, length, ap, sym, subst, true
 use Rattle.std.specs.Prelude.{◌%◌}
 use Rattle.dch_types.specs.declared.channel.Dir.TheVariants.{Down}
 use Rattle.dch_accept.specs.Plans.{Planned}
-use Rattle.dch_rxframes.specs.RxFrames.{RxFrames, rx_frame_at}
+use Rattle.dch_tti.specs.RxFrames.{RxFrames, rx_frame_at}
 use Rattle.dch_node.specs.RxFrames.{KeepsRadio}
 use Rattle.dch_ue.specs.Moves.{AreClearedTo}
 use Rattle.dch_ue.specs.Opened.{AreNoted, IsNodeOf, IsTransmitterOf}

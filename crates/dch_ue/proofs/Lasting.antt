@@ -6,7 +6,7 @@ use Rattle.dch_types.specs.declared.config.Config.{Config}
 use Rattle.dch_mac.specs.declared.answer.Demux.{Demux}
 use Rattle.dch_mac.specs.declared.answer.Demux.TheVariants.{To, Reserved, NoBearer, Nobody}
 use Rattle.dch_mac.specs.Receivers.{receiver}
-use Rattle.dch_layer.specs.Layers.{Came, Layer, Outcome, goes, takes, takes_good, takes_one}
+use Rattle.dch_layer2.specs.Layers.{Came, Layer, Outcome, goes, takes, takes_good, takes_one}
 use Rattle.dch_layer2.specs.Coming.{came_of}
 use Rattle.dch_layer2.specs.Reading.{Bad, Nothing, Read, Reading, reads, reads_below}
 

@@ -9,7 +9,7 @@ use Rattle.dch_types.specs.Parts.{channel_at, side_of}
 use Rattle.dch_types.specs.Timing.{starts}
 use Rattle.dch_accept.specs.HeldSets.{held_at}
 use Rattle.dch_accept.specs.Plans.{Planned}
-use Rattle.dch_ttibuf.specs.Loaded.{AreFormats, Loaded, loaded_at}
+use Rattle.dch_tti.specs.Loaded.{AreFormats, Loaded, loaded_at}
 use Rattle.dch_ulphy.specs.Loaded.{IsLoaded, IsTtiOf}
 use Rattle.dch_layer2.specs.Standing.{IsLayerOf}
 use Rattle.dch_layer2.specs.Values.{LayerRunning}

@@ -7,13 +7,13 @@ use Rattle.dch_types.specs.declared.channel.Dir.{Dir}
 use Rattle.dch_types.specs.declared.channel.Dir.TheVariants.{Up, Down}
 use Rattle.dch_types.specs.Parts.{side_of}
 use Rattle.dch_accept.specs.Plans.{Planned}
-use Rattle.dch_rxframes.specs.declared.outcome.TtiOutcome.{TtiOutcome}
-use Rattle.dch_rxframes.specs.RxFrames.{RxFrame}
+use Rattle.dch_tti.specs.declared.outcome.TtiOutcome.{TtiOutcome}
+use Rattle.dch_tti.specs.RxFrames.{RxFrame}
 use Rattle.dch_script.specs.Held.{Held as Text}
 use Rattle.dch_node.specs.RxFrames.{KeepsRadio}
 use Rattle.dch_node.specs.Values.{Radio, says}
-use Rattle.dch_layer.specs.Bearings.{answers, channel_of, line_of_answer}
-use Rattle.dch_layer.specs.Layers.{blocks, offers}
+use Rattle.dch_layer2.specs.Bearings.{answers, channel_of, line_of_answer}
+use Rattle.dch_layer2.specs.Layers.{blocks, offers}
 use Rattle.dch_layer2.specs.Standing.{CanOffer, Represents as StandsFor}
 use Rattle.dch_layer2.specs.Values.{LayerRunning}
 use Rattle.dch_txframes.specs.Reports.{added}

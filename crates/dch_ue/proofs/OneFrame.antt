@@ -6,16 +6,16 @@ use Rattle.dch_bits.specs.declared.bit.Trit.TheVariants.{Off}
 use Rattle.dch_types.specs.declared.channel.Dir.TheVariants.{Up}
 use Rattle.dch_accept.specs.Frames.{Frame}
 use Rattle.dch_accept.specs.Plans.{Planned}
-use Rattle.dch_puncture.specs.Plans.{plan_at}
+use Rattle.dch_collision.specs.Plans.{plan_at}
 use Rattle.dch_frame.specs.Stages.{origin_of}
 use Rattle.dch_match.specs.declared.pattern.Pattern.{Pattern}
-use Rattle.dch_ttibuf.specs.Frames.{multiplexed_place}
-use Rattle.dch_ttibuf.specs.Loaded.{Loaded, frame_number, loaded_at}
+use Rattle.dch_tti.specs.Frames.{multiplexed_place}
+use Rattle.dch_tti.specs.Loaded.{Loaded, frame_number, loaded_at}
 use Rattle.dch_ulphy.specs.Frames.{IsFrame, bits_before, multiplexed_cell, pattern_of, sent_cell}
 use Rattle.dch_ulphy.specs.Loaded.{IsLoaded}
 use Rattle.dch_ulphy.proofs.One.{loaded_one}
 use Rattle.dch_node.specs.Values.{Radio}
-use Rattle.dch_layer.specs.Layers.{Given, Layer}
+use Rattle.dch_layer2.specs.Layers.{Given, Layer}
 use Rattle.dch_layer2.specs.Joined.{joined_bits}
 use Rattle.dch_ue.specs.Steps.{IsRadioFrame}
 

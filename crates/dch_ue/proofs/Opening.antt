@@ -8,11 +8,11 @@ use Rattle.dch_types.specs.Parts.{channel_at}
 use Rattle.dch_types.specs.Timing.{starts}
 use Rattle.dch_accept.specs.Frames.{most_cells}
 use Rattle.dch_accept.specs.Plans.{Planned}
-use Rattle.dch_rxframes.specs.RxFrames.{AreMissing}
+use Rattle.dch_tti.specs.RxFrames.{AreMissing}
 use Rattle.dch_node.specs.Lines.{Line}
 use Rattle.dch_node.specs.Values.{no_output}
-use Rattle.dch_layer.specs.Layers.{opened_layer}
-use Rattle.dch_bound.proofs.Layers.{opened_are}
+use Rattle.dch_layer2.specs.Layers.{opened_layer}
+use Rattle.dch_layer2.proofs.Layers.{opened_are}
 use Rattle.dch_layer2.specs.Standing.{IsOpened}
 use Rattle.dch_layer2.specs.Values.{LayerRunning}
 use Rattle.dch_ue.specs.Opened.{AreNewTtis, IsNodeOf, IsReceiverOf, IsTransmitterOf}

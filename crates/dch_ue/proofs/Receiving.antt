@@ -8,8 +8,8 @@ use Rattle.dch_types.specs.Parts.{channel_at}
 use Rattle.dch_types.specs.Timing.{ends}
 use Rattle.dch_accept.specs.Blocks.{HoldsTtis}
 use Rattle.dch_accept.specs.Plans.{Planned}
-use Rattle.dch_rxframes.specs.declared.outcome.TtiOutcome.{TtiOutcome}
-use Rattle.dch_rxframes.specs.RxFrames.{IsReaderOf, RxFrames}
+use Rattle.dch_tti.specs.declared.outcome.TtiOutcome.{TtiOutcome}
+use Rattle.dch_tti.specs.RxFrames.{IsReaderOf, RxFrames}
 use Rattle.dch_ue.specs.Moves.{AreClearedTo, AreReadTo}
 use Rattle.dch_ue.specs.Opened.{IsReceiverOf}
 use Rattle.dch_ue.specs.Steps.{IsReading}

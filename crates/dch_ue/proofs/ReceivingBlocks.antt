@@ -8,12 +8,12 @@ use Rattle.dch_config.specs.Good.{IsGood}
 use Rattle.dch_accept.specs.Plans.{Planned}
 use Rattle.dch_accept.specs.Reports.{step_bytes}
 use Rattle.dch_script.specs.Held.{Held as Text}
-use Rattle.dch_rxframes.specs.RxFrames.{RxFrames}
-use Rattle.dch_bearer.proofs.Lines.{added-added}
+use Rattle.dch_tti.specs.RxFrames.{RxFrames}
+use Rattle.dch_layer2.proofs.Lines.{added-added}
 use Rattle.dch_node.specs.Lines.{Line, text_of}
 use Rattle.dch_txframes.specs.Reports.{added}
 use Rattle.dch_txframes.specs.Rooms.{HasRoomFor}
-use Rattle.dch_layer.specs.Layers.{Layer, Outcome}
+use Rattle.dch_layer2.specs.Layers.{Layer, Outcome}
 use Rattle.dch_layer2.specs.Bounded.{HasLayer, HasRead, IsTti}
 use Rattle.dch_layer2.specs.Reading.{Bad, Nothing, Read, Reading, reads, reads_below}
 use Rattle.dch_layer2.specs.Standing.{Represents as StandsFor}

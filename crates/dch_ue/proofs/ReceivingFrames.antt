@@ -6,11 +6,11 @@ use Rattle.dch_types.specs.declared.channel.Dir.TheVariants.{Down}
 use Rattle.dch_accept.specs.Frames.{most_cells}
 use Rattle.dch_accept.specs.Plans.{Planned}
 use Rattle.dch_script.specs.Held.{Held as Text}
-use Rattle.dch_rxframes.specs.declared.outcome.TtiOutcome.{TtiOutcome}
-use Rattle.dch_rxframes.specs.RxFrames.{AreMissing, RxFrame, RxFrames, rx_frame_at}
+use Rattle.dch_tti.specs.declared.outcome.TtiOutcome.{TtiOutcome}
+use Rattle.dch_tti.specs.RxFrames.{AreMissing, RxFrame, RxFrames, rx_frame_at}
 use Rattle.dch_node.specs.RxFrames.{AreHeard, KeepsRadio}
 use Rattle.dch_node.specs.Values.{Radio}
-use Rattle.dch_layer.specs.Layers.{Layer}
+use Rattle.dch_layer2.specs.Layers.{Layer}
 use Rattle.dch_layer2.specs.Reading.{Nothing, Reading}
 use Rattle.dch_layer2.specs.Values.{LayerRunning}
 use Rattle.dch_ue.specs.Moves.{Comes, Completes, Hears, Receives}

@@ -8,10 +8,10 @@ use Rattle.dch_types.specs.Parts.{channel_at, format_number}
 use Rattle.dch_types.specs.Timing.{starts}
 use Rattle.dch_accept.specs.HeldSets.{held_at}
 use Rattle.dch_accept.specs.Plans.{Planned}
-use Rattle.dch_ttibuf.specs.Loaded.{AreFormats, Loaded, loaded_at}
+use Rattle.dch_tti.specs.Loaded.{AreFormats, Loaded, loaded_at}
 use Rattle.dch_ulphy.specs.Loaded.{IsLoaded}
-use Rattle.dch_layer.specs.Layers.{Given, Layer}
-use Rattle.dch_layer.specs.Starting.{IsStart, asked_in, given_now}
+use Rattle.dch_layer2.specs.Layers.{Given, Layer}
+use Rattle.dch_layer2.specs.Starting.{IsStart, asked_in, given_now}
 use Rattle.dch_layer2.specs.Joined.{joined_bits}
 use Rattle.dch_layer2.specs.Opening.{IsGiven}
 use Rattle.dch_layer2.specs.Standing.{HasStarted}

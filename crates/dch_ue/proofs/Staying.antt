@@ -6,11 +6,11 @@ use Rattle.dch_types.specs.declared.config.Config.{Config}
 use Rattle.dch_config.specs.Good.{IsGood}
 use Rattle.dch_accept.specs.Plans.{Planned}
 use Rattle.dch_accept.specs.Reports.{step_bytes}
-use Rattle.dch_ttibuf.specs.Loaded.{AreFormats, Loaded}
+use Rattle.dch_tti.specs.Loaded.{AreFormats, Loaded}
 use Rattle.dch_script.specs.Held.{Held as Text}
 use Rattle.dch_node.specs.Lines.{Line, Phy, text_of}
-use Rattle.dch_layer.specs.Layers.{Layer, blocks, offers, ticks}
-use Rattle.dch_bound.proofs.Layers.{blocks_hold, offers_hold, start_holds, ticks_hold}
+use Rattle.dch_layer2.specs.Layers.{Layer, blocks, offers, ticks}
+use Rattle.dch_layer2.proofs.Layers.{blocks_hold, offers_hold, start_holds, ticks_hold}
 use Rattle.dch_layer2.specs.Bounded.{HasLayer, IsTti}
 use Rattle.dch_layer2.specs.Reading.{Reading}
 use Rattle.dch_layer2.specs.Standing.{HasStarted, IsLayerOf, IsSameEnd, Represents as StandsFor}

@@ -5,17 +5,17 @@ use Rattle.std.proofs.lemmas.Bool.Decides.{eqb_tells}
 use Rattle.dch_types.specs.declared.channel.Dir.{Dir}
 use Rattle.dch_types.specs.declared.channel.Dir.TheVariants.{Up, Down}
 use Rattle.dch_accept.specs.Plans.{Planned}
-use Rattle.dch_ttibuf.specs.Loaded.{Loaded}
+use Rattle.dch_tti.specs.Loaded.{Loaded}
 use Rattle.dch_ulphy.specs.Frames.{IsFrame}
-use Rattle.dch_rxframes.specs.declared.outcome.TtiOutcome.{TtiOutcome}
-use Rattle.dch_rxframes.specs.RxFrames.{RxFrame, RxFrames, rx_frame_at}
+use Rattle.dch_tti.specs.declared.outcome.TtiOutcome.{TtiOutcome}
+use Rattle.dch_tti.specs.RxFrames.{RxFrame, RxFrames, rx_frame_at}
 use Rattle.dch_script.specs.Held.{Held as Text}
 use Rattle.dch_node.specs.Lines.{Line, Phy, text_of}
 use Rattle.dch_node.specs.RxFrames.{AreHeard, KeepsRadio}
 use Rattle.dch_node.specs.Values.{Output, Radio}
 use Rattle.dch_node.proofs.Texts.{text_of-append}
-use Rattle.dch_layer.specs.Layers.{Layer, ticks}
-use Rattle.dch_layer.specs.Starting.{IsStart}
+use Rattle.dch_layer2.specs.Layers.{Layer, ticks}
+use Rattle.dch_layer2.specs.Starting.{IsStart}
 use Rattle.dch_layer2.specs.Reading.{Nothing, Reading}
 use Rattle.dch_layer2.specs.Standing.{HasStarted, Represents as StandsFor}
 use Rattle.dch_layer2.specs.Values.{LayerRunning}

@@ -7,14 +7,14 @@ use Rattle.dch_types.specs.Timing.{starts}
 use Rattle.dch_accept.specs.HeldSets.{held_at}
 use Rattle.dch_accept.specs.Plans.{Planned}
 use Rattle.dch_script.specs.Held.{Held as Text}
-use Rattle.dch_ttibuf.specs.Loaded.{Loaded, loaded_at}
-use Rattle.dch_rxframes.specs.RxFrames.{RxFrames, rx_frame_at}
+use Rattle.dch_tti.specs.Loaded.{Loaded, loaded_at}
+use Rattle.dch_tti.specs.RxFrames.{RxFrames, rx_frame_at}
 use Rattle.dch_ulphy.specs.Frames.{IsFrame}
 use Rattle.dch_ulphy.specs.Loaded.{IsLoaded, IsTtiOf}
 use Rattle.dch_node.specs.Lines.{Phy, text_of}
 use Rattle.dch_node.specs.RxFrames.{KeepsRadio}
 use Rattle.dch_node.specs.Values.{Radio}
-use Rattle.dch_layer.specs.Layers.{Layer}
+use Rattle.dch_layer2.specs.Layers.{Layer}
 use Rattle.dch_layer2.specs.Bounded.{HasRead}
 use Rattle.dch_layer2.specs.Coming.{HasRoomForTti}
 use Rattle.dch_layer2.specs.Reading.{Bad, Nothing, Read, Reading, reads}

@@ -9,8 +9,8 @@ use Rattle.dch_accept.specs.Blocks.{HoldsTtis}
 use Rattle.dch_accept.specs.Frames.{most_cells}
 use Rattle.dch_accept.specs.HeldSets.{held_at}
 use Rattle.dch_accept.specs.Plans.{Planned}
-use Rattle.dch_ttibuf.specs.Loaded.{Loaded, loaded_at}
-use Rattle.dch_rxframes.specs.RxFrames.{AreMissing, IsReaderOf}
+use Rattle.dch_tti.specs.Loaded.{Loaded, loaded_at}
+use Rattle.dch_tti.specs.RxFrames.{AreMissing, IsReaderOf}
 use Rattle.dch_ulphy.specs.Loaded.{IsTtiOf}
 use Rattle.dch_layer2.specs.Bounded.{HasLayer}
 use Rattle.dch_layer2.specs.Changing.{IsNextLayer}

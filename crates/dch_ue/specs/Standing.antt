@@ -5,11 +5,11 @@ use Rattle.dch_types.specs.declared.config.Config.{Config}
 use Rattle.dch_types.specs.Parts.{channel_at}
 use Rattle.dch_types.specs.Timing.{starts}
 use Rattle.dch_accept.specs.Plans.{Planned}
-use Rattle.dch_ttibuf.specs.Loaded.{Loaded, loaded_at}
-use Rattle.dch_rxframes.specs.RxFrames.{HasTfci, rx_frame_at}
+use Rattle.dch_tti.specs.Loaded.{Loaded, loaded_at}
+use Rattle.dch_tti.specs.RxFrames.{HasTfci, rx_frame_at}
 use Rattle.dch_ulphy.specs.Loaded.{IsLoaded}
-use Rattle.dch_layer.specs.Bearings.{channel_of}
-use Rattle.dch_layer.specs.Layers.{Layer}
+use Rattle.dch_layer2.specs.Bearings.{channel_of}
+use Rattle.dch_layer2.specs.Layers.{Layer}
 use Rattle.dch_layer2.specs.Joined.{joined_bits}
 use Rattle.dch_layer2.specs.Standing.{Represents as StandsFor}
 use Rattle.dch_node.specs.Lines.{Line}

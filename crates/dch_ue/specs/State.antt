@@ -5,7 +5,7 @@ use Rattle.dch_bits.specs.declared.bit.Bit.{Bit}
 use Rattle.dch_types.specs.declared.channel.Dir.TheVariants.{Up}
 use Rattle.dch_accept.specs.Plans.{Planned}
 use Rattle.dch_node.specs.Values.{Radio}
-use Rattle.dch_layer.specs.Layers.{Layer, changed_layer, opened_layer}
+use Rattle.dch_layer2.specs.Layers.{Layer, changed_layer, opened_layer}
 use Rattle.dch_layer2.specs.Reading.{Nothing, Reading}
 
 -- the configuration that is active, the CFN of the radio frame that is on, the downlink radio frame that came for it, those of the last

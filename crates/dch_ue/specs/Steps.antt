@@ -6,17 +6,17 @@ use Rattle.dch_types.specs.Parts.{channel_at}
 use Rattle.dch_types.specs.Timing.{ends}
 use Rattle.dch_accept.specs.Frames.{Frame}
 use Rattle.dch_accept.specs.Plans.{Planned}
-use Rattle.dch_ttibuf.specs.Loaded.{Loaded, loaded_at}
-use Rattle.dch_rxframes.specs.Formats.{IsBadFrame}
-use Rattle.dch_rxframes.specs.RxFrames.{RxFrames}
+use Rattle.dch_tti.specs.Loaded.{Loaded, loaded_at}
+use Rattle.dch_tti.specs.Formats.{IsBadFrame}
+use Rattle.dch_tti.specs.RxFrames.{RxFrames}
 use Rattle.dch_dlphy.specs.Read.{IsTtiRead}
 use Rattle.dch_ulphy.specs.Frames.{IsFrame}
 use Rattle.dch_ulphy.specs.Loaded.{IsLoaded}
 use Rattle.dch_node.specs.Lines.{Phy}
 use Rattle.dch_node.specs.RxFrames.{AreHeard}
 use Rattle.dch_node.specs.Values.{Output, Radio, no_output, says}
-use Rattle.dch_layer.specs.Layers.{Layer, Outcome, blocks, offers, ticks}
-use Rattle.dch_layer.specs.Starting.{IsStart}
+use Rattle.dch_layer2.specs.Layers.{Layer, Outcome, blocks, offers, ticks}
+use Rattle.dch_layer2.specs.Starting.{IsStart}
 use Rattle.dch_layer2.specs.Joined.{joined_bits}
 use Rattle.dch_layer2.specs.Reading.{Bad, Nothing, Read, Reading, reads_below}
 use Rattle.dch_ue.specs.State.{Event, OfferedUnit, BlockedCombination, DownlinkFrame, Tick, Change, State, changed, coming, frames_now, ticking, with_layer}

@@ -1,10 +1,10 @@
 -- The parts of a terminal as contracts see them.
 use Rattle.std.specs.Prelude.{ℕ, List, [], Bool, Option, Some, None, slice_index_or}
 use Rattle.dch_accept.specs.Blocks.{Held}
-use Rattle.dch_ttibuf.specs.Loaded.{Loaded}
-use Rattle.dch_rxframes.specs.declared.outcome.TtiOutcome.{TtiOutcome}
-use Rattle.dch_rxframes.specs.declared.outcome.TtiOutcome.TheVariants.{Blocks, BadFrame}
-use Rattle.dch_rxframes.specs.RxFrames.{RxFrames}
+use Rattle.dch_tti.specs.Loaded.{Loaded}
+use Rattle.dch_tti.specs.declared.outcome.TtiOutcome.{TtiOutcome}
+use Rattle.dch_tti.specs.declared.outcome.TtiOutcome.TheVariants.{Blocks, BadFrame}
+use Rattle.dch_tti.specs.RxFrames.{RxFrames}
 use Rattle.dch_layer2.specs.Reading.{Bad, Nothing, Read, Reading}
 use Rattle.dch_layer2.specs.Values.{LayerRunning, NextLayer}
 use Rattle.dch_node.specs.Values.{Radio}

@@ -1,6 +1,6 @@
 ghost use Rattle.std.specs.Prelude.{◌≡◌, ◌<◌, ℕ, length};
 ghost use Rattle.dch_accept.specs.Plans.{IsPlanned, Planned};
-ghost use Rattle.dch_layer.specs.Layers.{Layer};
+ghost use Rattle.dch_layer2.specs.Layers.{Layer};
 ghost use Rattle.dch_node.specs.Values.{Output, Radio};
 ghost use Rattle.dch_ue.specs.Same.{ReadsSame};
 ghost use Rattle.dch_ue.specs.State.{State, Tick};

@@ -4,7 +4,7 @@ ghost use Rattle.dch_config.specs.Changes.{KeepsBearer};
 ghost use Rattle.dch_accept.specs.HeldSets.{held_at};
 ghost use Rattle.dch_accept.specs.Plans.{Planned};
 ghost use Rattle.dch_accept.specs.Reports.{step_bytes};
-ghost use Rattle.dch_rxframes.specs.RxFrames.{HasTfci};
+ghost use Rattle.dch_tti.specs.RxFrames.{HasTfci};
 ghost use Rattle.dch_node.specs.Lines.{Line};
 ghost use Rattle.dch_txframes.specs.Lending.{radio_of};
 ghost use Rattle.dch_txframes.specs.Rooms.{HasRoomFor};

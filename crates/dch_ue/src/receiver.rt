@@ -5,7 +5,7 @@ ghost use Rattle.dch_types.specs.Timing.{ends};
 ghost use Rattle.dch_accept.specs.Blocks.{HoldsTtis};
 ghost use Rattle.dch_accept.specs.Frames.{most_cells};
 ghost use Rattle.dch_accept.specs.Reports.{step_bytes};
-ghost use Rattle.dch_rxframes.specs.RxFrames.{AreMissing, HasTfci, IsReaderOf};
+ghost use Rattle.dch_tti.specs.RxFrames.{AreMissing, HasTfci, IsReaderOf};
 ghost use Rattle.dch_layer2.specs.Bounded.{HasLayer, HasRead, IsTti};
 ghost use Rattle.dch_txframes.specs.Lending.{radio_of};
 ghost use Rattle.dch_txframes.specs.Rooms.{HasRoomFor};

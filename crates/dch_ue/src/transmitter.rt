@@ -1,6 +1,6 @@
 ghost use Rattle.std.specs.Prelude.{◌≡◌, ◌<◌, false, length, IfOk};
 ghost use Rattle.dch_types.specs.declared.channel.Dir.TheVariants.{Up};
-ghost use Rattle.dch_ttibuf.specs.Loaded.{AreFormats};
+ghost use Rattle.dch_tti.specs.Loaded.{AreFormats};
 ghost use Rattle.dch_ulphy.specs.Loaded.{IsTtiOf};
 ghost use Rattle.dch_layer2.specs.Standing.{IsLayerOf};
 ghost use Rattle.dch_txframes.specs.Lending.{radio_of};

@@ -6,11 +6,11 @@ use Rattle.dch_types.specs.declared.channel.Dir.TheVariants.{Up}
 use Rattle.dch_types.specs.declared.channel.Side.{Side}
 use Rattle.dch_types.specs.Parts.{channel_at}
 use Rattle.dch_inter.specs.Places.{frame_of, place_of}
-use Rattle.dch_puncture.specs.Copies.{padded_in}
+use Rattle.dch_collision.specs.Copies.{padded_in}
 use Rattle.dch_accept.specs.Blocks.{Held}
 use Rattle.dch_accept.specs.Plans.{Planned}
-use Rattle.dch_rxframes.specs.RxFrames.{RxFrames, frame_at}
-use Rattle.dch_rxframes.proofs.Alike.{KeepTheSame, reading_alike, same_cells, same_combination}
+use Rattle.dch_tti.specs.RxFrames.{RxFrames, frame_at}
+use Rattle.dch_tti.proofs.Alike.{KeepTheSame, reading_alike, same_cells, same_combination}
 use Rattle.dch_ulphy.specs.Read.{AreVotes, IsTtiRead, frame_votes, tti_votes}
 
 frame_votes-same : (planned : Planned) (i n m : ℕ) (a b : Option ℕ) (xs ys : List Trit) → b ≡ a → ((c : ℕ) → a ≡ Some c → ys ≡ xs) → frame_votes planned i n b ys m ≡ frame_votes planned i n a xs m

@@ -16,8 +16,8 @@ use Rattle.dch_types.specs.Parts.{channel_at}
 use Rattle.dch_inter.specs.Places.{first_of, first_back_of, frame_of, place_of}
 use Rattle.dch_inter.proofs.FirstColumns.{first_of-back, frame_place}
 use Rattle.dch_match.specs.Uplinks.{IsPlan, before_of, uplink_pattern}
-use Rattle.dch_puncture.specs.Copies.{frame_copies}
-use Rattle.dch_puncture.proofs.Sizes.{frame_size-plan}
+use Rattle.dch_collision.specs.Copies.{frame_copies}
+use Rattle.dch_collision.proofs.SentSizes.{frame_size-plan}
 use Rattle.dch_match.specs.Patterns.{copies, copies_below}
 use Rattle.dch_frame.specs.Votes.{copies_as_votes}
 use Rattle.dch_match.specs.Matched.{frame_pattern}
@@ -29,15 +29,15 @@ use Rattle.dch_frame.proofs.Carried.{rows_of, whole_rows, place_inside}
 use Rattle.dch_frame.proofs.Codes.{code_back-inside, code_place-back}
 use Rattle.dch_frame.proofs.Kept.{origin_of-inside}
 use Rattle.dch_accept.specs.Plans.{Planned}
-use Rattle.dch_puncture.specs.Plans.{plan_at}
+use Rattle.dch_collision.specs.Plans.{plan_at}
+use Rattle.dch_tti.specs.Loaded.{frame_number, loaded_at, Loaded}
+use Rattle.dch_tti.specs.RxFrames.{RxFrame}
+use Rattle.dch_frame.specs.Sizes.{IsFrameSize}
+use Rattle.dch_accept.proofs.Sizes.{plan_sized}
 use Rattle.dch_ulphy.specs.Frames.{pattern_of, sent_cell, bits_before, multiplexed_cell}
-use Rattle.dch_ttibuf.specs.Loaded.{frame_number, loaded_at, Loaded}
-use Rattle.dch_rxframes.specs.RxFrames.{RxFrame}
 use Rattle.dch_ulphy.specs.Loaded.{AreInterleaved}
 use Rattle.dch_ulphy.specs.Read.{channel_cells, pattern_in}
 use Rattle.dch_ulphy.specs.Sent.{IsSentFrame}
-use Rattle.dch_frame.specs.Sizes.{IsFrameSize}
-use Rattle.dch_accept.proofs.Sizes.{plan_sized}
 use Rattle.dch_ulphy.proofs.Sent.{multiplexed_before, multiplexed_here}
 
 -- a place of channel i shows what that channel sends, however many channels follow

@@ -9,10 +9,10 @@ use Rattle.dch_types.specs.Parts.{channel_at}
 use Rattle.dch_inter.specs.Places.{frame_of, place_of}
 use Rattle.dch_frame.specs.Votes.{copies_as_votes}
 use Rattle.dch_accept.specs.Plans.{Planned}
-use Rattle.dch_rxframes.specs.RxFrames.{RxFrame, RxFrames, frame_at}
+use Rattle.dch_tti.specs.RxFrames.{RxFrame, RxFrames, frame_at}
+use Rattle.dch_tti.specs.Loaded.{Loaded}
+use Rattle.dch_collision.specs.Copies.{frame_copies}
 use Rattle.dch_ulphy.specs.Loaded.{AreInterleaved}
-use Rattle.dch_ttibuf.specs.Loaded.{Loaded}
-use Rattle.dch_puncture.specs.Copies.{frame_copies}
 use Rattle.dch_ulphy.specs.Read.{frame_votes, tti_votes}
 use Rattle.dch_ulphy.specs.Sent.{AreSentFrames, IsSentFrame, tti_copies}
 

@@ -12,9 +12,9 @@ use Rattle.dch_inter.specs.Places.{first_column, first_of}
 use Rattle.dch_types.specs.Limits.{IsFrames}
 use Rattle.dch_inter.proofs.FirstColumns.{frame_of_column, frame_of-below}
 use Rattle.dch_frame.specs.Stages.{as_cell}
-use Rattle.dch_ttibuf.specs.Loaded.{AreInterleaved as AreCellsInterleaved}
-use Rattle.dch_ulphy.specs.Loaded.{AreInterleaved}
+use Rattle.dch_tti.specs.Loaded.{AreInterleaved as AreCellsInterleaved}
 use Rattle.dch_types.specs.Lengths.{padded}
+use Rattle.dch_ulphy.specs.Loaded.{AreInterleaved}
 
 -- the first interleaver names places of its input
 first_of-inside : (f len k : ℕ) → IsFrames f → len % f ≡ 0 → k < len → first_of f len k < len

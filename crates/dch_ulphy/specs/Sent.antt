@@ -5,16 +5,16 @@ use Rattle.dch_types.specs.declared.channel.Dir.TheVariants.{Up}
 use Rattle.dch_types.specs.declared.config.Uplink.{Uplink}
 use Rattle.dch_types.specs.Parts.{channel_at, format_at}
 use Rattle.dch_inter.specs.Places.{frame_of, place_of}
-use Rattle.dch_legal.specs.Sequences.{IsLegal}
-use Rattle.dch_puncture.specs.Copies.{frame_copies}
+use Rattle.dch_collision.specs.Sequences.{IsLegal}
+use Rattle.dch_collision.specs.Copies.{frame_copies}
 use Rattle.dch_accept.specs.Blocks.{bits_of}
 use Rattle.dch_accept.specs.Plans.{Planned}
-use Rattle.dch_rxframes.specs.RxFrames.{RxFrame, RxFrames}
-use Rattle.dch_rxframes.specs.Sent.{AreSentFrames as AreSentFramesBy, IsSentFrame as IsSentFrameBy}
-use Rattle.dch_rxframes.specs.Pushed.{AreSentAndPushed as AreSentAndPushedBy}
+use Rattle.dch_tti.specs.RxFrames.{RxFrame, RxFrames}
+use Rattle.dch_tti.specs.Sent.{AreSentFrames as AreSentFramesBy, IsSentFrame as IsSentFrameBy}
+use Rattle.dch_tti.specs.Pushed.{AreSentAndPushed as AreSentAndPushedBy}
+use Rattle.dch_tti.specs.Loaded.{Loaded}
 use Rattle.dch_ulphy.specs.Frames.{multiplexed}
 use Rattle.dch_ulphy.specs.Loaded.{IsLoaded}
-use Rattle.dch_ttibuf.specs.Loaded.{Loaded}
 
 -- a frame is kept as it was written in combination c, as frame n of the TTI of channel i, of which this was loaded
 abbrev pub IsSentFrame : Planned → ℕ → ℕ → ℕ → Loaded → RxFrame → Type 0

@@ -7,11 +7,11 @@ ghost use Rattle.dch_types.specs.Parts.{channel_at};
 ghost use Rattle.dch_inter.specs.Places.{frame_of, place_of};
 ghost use Rattle.dch_match.specs.Uplinks.{before_of};
 ghost use Rattle.dch_frame.specs.Votes.{copies_as_votes};
-ghost use Rattle.dch_puncture.specs.Copies.{frame_copies};
+ghost use Rattle.dch_collision.specs.Copies.{frame_copies};
+ghost use Rattle.dch_tti.specs.RxFrames.{IsKeptOf, IsReaderOf, frame_at};
+ghost use Rattle.dch_tti.specs.Loaded.{Loaded};
 ghost use Rattle.dch_ulphy.specs.Frames.{bits_before};
-ghost use Rattle.dch_rxframes.specs.RxFrames.{IsKeptOf, IsReaderOf, frame_at};
 ghost use Rattle.dch_ulphy.specs.Loaded.{AreInterleaved};
-ghost use Rattle.dch_ttibuf.specs.Loaded.{Loaded};
 ghost use Rattle.dch_ulphy.specs.Read.{channel_cells, frame_votes, tti_votes};
 ghost use Rattle.dch_ulphy.specs.Sent.{AreSentFrames, IsSentFrame, tti_copies};
 
@@ -19,7 +19,7 @@ use dch_accept::Accepted;
 use dch_bits::{Trit, Vote};
 use dch_frame::rate_dematch;
 use dch_match::{UplinkPlan, frame};
-use dch_rxframes::{ReceivedFrame, ReceivedFrames};
+use dch_tti::{ReceivedFrame, ReceivedFrames};
 use dch_types::Dir;
 
 /// Counts the votes for the bits of a channel's TTI, padded to whole radio frames, in all of its frames. `counted` is room

@@ -9,7 +9,7 @@ mod reader;
 mod tti;
 mod writer;
 
-pub use dch_rxframes::TtiOutcome;
+pub use dch_tti::TtiOutcome;
 pub use laws::{one_load_law, one_reading_law};
 pub use reader::UlReader;
 pub use tti::UlTti;

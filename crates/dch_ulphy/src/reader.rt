@@ -1,7 +1,7 @@
 use crate::demultiplexing::demultiplex_tti;
 use dch_accept::{Accepted, TtiRoom};
 use dch_bits::{NoMemory, Vote};
-use dch_rxframes::{CountVotes, ReceivedFrames, TtiReader};
+use dch_tti::{CountVotes, ReceivedFrames, TtiReader};
 use dch_types::Dir;
 use std::alloc::Global;
 

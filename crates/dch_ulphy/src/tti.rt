@@ -3,14 +3,14 @@ ghost use Rattle.dch_types.specs.Lengths.{tti_bits};
 ghost use Rattle.dch_types.specs.Limits.{IsChannel};
 ghost use Rattle.dch_types.specs.Parts.{channel_at, format_at};
 ghost use Rattle.dch_accept.specs.Blocks.{bits_of};
-ghost use Rattle.dch_ttibuf.specs.Loaded.{IsLong, loaded_at};
+ghost use Rattle.dch_tti.specs.Loaded.{IsLong, loaded_at};
 ghost use Rattle.dch_ulphy.specs.Loaded.{IsLoaded, IsPadded, IsTtiOf, padded_cells};
 
 use crate::pad::pad;
 use dch_accept::Accepted;
 use dch_bits::{Bit, NoMemory, Trit};
 use dch_coding::TtiCoder;
-use dch_ttibuf::{TtiBuffer, tti_buffers};
+use dch_tti::{TtiBuffer, tti_buffers};
 use dch_types::{Dir, Trch};
 use std::alloc::Global;
 use std::marker::Model;
@@ -37,7 +37,7 @@ impl Drop for UlTti {
 
 impl Model for UlTti {
     ghost use Rattle.std.specs.Prelude.{◌≡◌, List, length};
-    ghost use Rattle.dch_ttibuf.specs.Loaded.{AreWithin, Loaded};
+    ghost use Rattle.dch_tti.specs.Loaded.{AreWithin, Loaded};
 
     ghost Value = { List Loaded };
 

@@ -2,9 +2,9 @@ ghost use Rattle.std.specs.Prelude.{◌≡◌, ◌<◌, ◌≤◌, ◌+◌, ◌*
 ghost use Rattle.dch_bits.specs.declared.bit.Trit.TheVariants.{Off};
 ghost use Rattle.dch_types.specs.declared.channel.Dir.TheVariants.{Up};
 ghost use Rattle.dch_accept.specs.Frames.{IsOpenedFor};
-ghost use Rattle.dch_puncture.specs.Plans.{plan_at};
+ghost use Rattle.dch_collision.specs.Plans.{plan_at};
+ghost use Rattle.dch_tti.specs.Loaded.{loaded_at, AreFormats};
 ghost use Rattle.dch_ulphy.specs.Loaded.{IsTtiOf};
-ghost use Rattle.dch_ttibuf.specs.Loaded.{loaded_at, AreFormats};
 ghost use Rattle.dch_ulphy.specs.Frames.{IsFrame, sent_cell};
 
 use crate::tti::UlTti;
@@ -12,7 +12,7 @@ use dch_accept::{Accepted, PhyFrame};
 use dch_bits::Trit;
 use dch_frame::rate_match;
 use dch_match::frame;
-use dch_ttibuf::{MultiplexFrame, TtiBuffer, write_frame};
+use dch_tti::{MultiplexFrame, TtiBuffer, write_frame};
 use dch_types::Dir;
 
 /// Writes the radio frame of a CFN in a combination: its TFCI, and of each channel the radio frame of its TTI that is on

@@ -1,5 +1,5 @@
 use Rattle.std.proofs.Common.{◌≡◌, ◌+◌, ◌∙◌, ℕ, ap, arith, drop, map, set, subst, sym, take}
-use Rattle.dch_status.proofs.Texts.{same_at}
+use Rattle.dch_rlcpdu.proofs.Texts.{same_at}
 use Rattle.dch_amrecv.specs.Holding.{numbered}
 use Rattle.dch_amrecv.proofs.Runs.{changed_more}
 use Rattle.dch_amrecv.proofs.telling.number.Goals as goal

@@ -1,4 +1,4 @@
-use Rattle.dch_roundtrip.specs.Trips.{IsTripOf}
+use Rattle.dch_bench.specs.Trips.{IsTripOf}
 use Rattle.dch_bench.proofs.frames.pass.Given as goal
 
 abbrev pub invariant-loop-n : goal.invariant-loop-n

@@ -1,5 +1,5 @@
-use Rattle.dch_amentity.specs.Standing.{size_in}
-use Rattle.dch_amentity.proofs.Sizes.{read_small}
+use Rattle.dch_pair.specs.EntityStanding.{size_in}
+use Rattle.dch_pair.proofs.Sizes.{read_small}
 use Rattle.dch_bench.proofs.rlc.take.Goals as goal
 
 pub receive-requires-clause-small : goal.receive-requires-clause-small

@@ -1,6 +1,6 @@
 use Rattle.std.proofs.Common.{◌≡◌, ◌≤◌, ℕ, List, Bool, length, drop, arith, sym, subst, ◌∙◌}
 use Rattle.std.proofs.lemmas.List.{length-take-le}
-use Rattle.dch_puncture.specs.Copies.{downlink_copies, AreSentFlags}
+use Rattle.dch_collision.specs.Copies.{downlink_copies, AreSentFlags}
 use Rattle.dch_collision.proofs.Under.{front_is}
 use Rattle.dch_collision.proofs.downlink.flag.Goals as goal
 

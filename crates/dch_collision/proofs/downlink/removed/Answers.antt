@@ -1,5 +1,5 @@
 use Rattle.std.proofs.Common.{arith}
-use Rattle.dch_puncture.specs.Copies.{downlink_copies}
+use Rattle.dch_collision.specs.Copies.{downlink_copies}
 use Rattle.dch_collision.proofs.Under.{if_some, found_under, clear_under}
 use Rattle.dch_collision.proofs.downlink.removed.Goals as goal
 

@@ -1,6 +1,6 @@
 use Rattle.std.proofs.Common.{◌∙◌, arith, refl, subst, sym}
 use Rattle.dch_coding.specs.declared.room.CodingRoom.{CodingRoom}
-use Rattle.dch_puncture.specs.Copies.{uplink_copies}
+use Rattle.dch_collision.specs.Copies.{uplink_copies}
 use Rattle.dch_collision.specs.Shapes.{Fits}
 use Rattle.dch_collision.proofs.Sizes.{shape_fits}
 use Rattle.dch_collision.proofs.Unpunctured.{uplink_whole}

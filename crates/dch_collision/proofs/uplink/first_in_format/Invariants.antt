@@ -1,5 +1,5 @@
 use Rattle.std.proofs.Common.{◌≡◌, ◌-◌}
-use Rattle.dch_puncture.specs.Copies.{uplink_copies}
+use Rattle.dch_collision.specs.Copies.{uplink_copies}
 use Rattle.dch_collision.proofs.Order.{power, value}
 use Rattle.dch_collision.proofs.Visits.{IsReached}
 use Rattle.dch_collision.proofs.uplink.first_in_format.Given as goal

@@ -1,6 +1,6 @@
 use Rattle.std.proofs.Common.{◌≡◌, ◌≤◌, ◌∙◌, List, Bool, length, arith, ap, subst, sym}
 use Rattle.dch_coding.specs.declared.room.CodingRoom.{CodingRoom}
-use Rattle.dch_puncture.specs.Copies.{uplink_copies}
+use Rattle.dch_collision.specs.Copies.{uplink_copies}
 use Rattle.dch_collision.specs.declared.shape.Shape.{Shape}
 use Rattle.dch_collision.proofs.Under.{AreFlags, if_some, found_under, clear_under, front_is}
 use Rattle.dch_collision.proofs.uplink.first_under_sequence.Goals as goal

@@ -2,7 +2,7 @@ use Rattle.std.proofs.Common.{◌≡◌, ◌+◌, ◌*◌, ◌%◌, ℕ, List, l
 use Rattle.std.proofs.lemmas.List.{get_or_default}
 use Rattle.dch_bits.specs.declared.bit.Trit.{Trit}
 use Rattle.dch_bits.specs.declared.bit.Trit.TheVariants.{Off}
-use Rattle.dch_ttibuf.specs.Loaded.{frame_number}
+use Rattle.dch_tti.specs.Loaded.{frame_number}
 use Rattle.dch_dlphy.specs.Frames.{bits_per_frame}
 use Rattle.dch_dlphy.proofs.Sent.{sent_is}
 use Rattle.dch_dlphy.proofs.writer.write_channel.Goals as goal

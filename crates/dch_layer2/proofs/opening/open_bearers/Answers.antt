@@ -1,5 +1,5 @@
 use Rattle.std.proofs.Common.{◌+◌, List, subst, sym}
-use Rattle.dch_bearer.specs.declared.bearer.Bearer.{Bearer}
+use Rattle.dch_layer2.specs.declared.bearer.Bearer.{Bearer}
 use Rattle.dch_layer2.specs.Opening.{AreOpened}
 use Rattle.dch_layer2.proofs.Openings.{opened_more}
 use Rattle.dch_layer2.proofs.opening.open_bearers.Goals as goal

@@ -1,10 +1,10 @@
 use Rattle.std.proofs.Common.{sym, subst}
 use Rattle.dch_types.specs.declared.channel.Dir.TheVariants.{Up}
-use Rattle.dch_rxframes.specs.RxFrames.{RxFrames}
-use Rattle.dch_nodeb.specs.Moves.{Delivered}
+use Rattle.dch_tti.specs.RxFrames.{RxFrames}
 use Rattle.dch_txframes.specs.Opened.{IsTxBufferOf}
 use Rattle.dch_txframes.specs.Values.{IubTxBuffer}
 use Rattle.dch_txframes.proofs.Sending.{tx_buffer_in}
+use Rattle.dch_nodeb.specs.Moves.{Delivered}
 use Rattle.dch_nodeb.proofs.Serving.{none_served, served_next}
 use Rattle.dch_nodeb.proofs.uplink.receive.Goals as goal
 

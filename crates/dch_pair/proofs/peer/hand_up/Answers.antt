@@ -1,5 +1,5 @@
 use Rattle.std.proofs.Common.{◌≡◌, ◌++◌, ◌∙◌, ap, take, sym}
-use Rattle.dch_amentity.specs.Standing.{waiting_in}
+use Rattle.dch_pair.specs.EntityStanding.{waiting_in}
 use Rattle.dch_pair.specs.Standing.{whole}
 use Rattle.dch_pair.proofs.Peers.{one_handed}
 use Rattle.dch_pair.proofs.Units.{handed_front, ok_more, ok_none, ok_value}

@@ -1,7 +1,7 @@
 use Rattle.std.proofs.Common.{◌≡◌, ◌++◌, ◌-◌, IfOk, length}
 use Rattle.dch_am.specs.Entities.{Entity}
 use Rattle.dch_am.specs.Rules.{Rules}
-use Rattle.dch_amentity.specs.Standing.{AreSizes, Represents, waiting_in}
+use Rattle.dch_pair.specs.EntityStanding.{AreSizes, Represents, waiting_in}
 use Rattle.dch_pair.specs.Standing.{whole}
 use Rattle.dch_pair.proofs.Peers.{handed_to}
 use Rattle.dch_pair.proofs.peer.hand_up.Given as goal

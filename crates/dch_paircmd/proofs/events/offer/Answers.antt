@@ -1,6 +1,6 @@
 use Rattle.std.proofs.Common.{arith, inr, refl}
 use Rattle.dch_types.specs.declared.bearer.Mode.TheVariants.{Am}
-use Rattle.dch_texts.proofs.Units.{unit_of_octets}
+use Rattle.dch_lines.proofs.Units.{unit_of_octets}
 use Rattle.dch_paircmd.proofs.Arriving.{offer_short}
 use Rattle.dch_paircmd.proofs.Leading.{given}
 use Rattle.dch_paircmd.proofs.events.offer.Goals as goal

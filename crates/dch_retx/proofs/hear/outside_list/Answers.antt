@@ -1,5 +1,5 @@
 use Rattle.std.proofs.Common.{◌∙◌, arith, sym}
-use Rattle.dch_status.specs.Fields.{pairs_of}
+use Rattle.dch_rlcpdu.specs.Fields.{pairs_of}
 use Rattle.dch_retx.specs.StatusItems.{first_of}
 use Rattle.dch_retx.proofs.Fields.{run_inside, run_outside}
 use Rattle.dch_retx.proofs.hear.outside_list.Goals as goal

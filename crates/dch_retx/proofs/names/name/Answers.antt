@@ -1,5 +1,5 @@
 use Rattle.std.proofs.Common.{◌≡◌, ◌++◌, ◌||◌, List, ap, get_or, subst, sym, ◌∙◌}
-use Rattle.dch_status.specs.Fields.{Field, NoMoreField}
+use Rattle.dch_rlcpdu.specs.Fields.{Field, NoMoreField}
 use Rattle.dch_retx.specs.StatusItems.{said_by, said_in}
 use Rattle.dch_retx.proofs.Fields.{IsNaming, naming_part, said_next}
 use Rattle.dch_retx.proofs.names.name.Goals as goal

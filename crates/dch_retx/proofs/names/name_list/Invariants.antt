@@ -1,6 +1,6 @@
 use Rattle.std.proofs.Common.{drop}
 use Rattle.std.specs.Prelude.{map}
-use Rattle.dch_status.specs.Fields.{pairs_of}
+use Rattle.dch_rlcpdu.specs.Fields.{pairs_of}
 use Rattle.dch_am.specs.Names.{named}
 use Rattle.dch_retx.specs.StatusItems.{first_of, missing_of}
 use Rattle.dch_retx.proofs.Fields.{IsNaming}

@@ -1,5 +1,5 @@
 use Rattle.std.proofs.Common.{◌≡◌, ◌+◌, ap, arith}
-use Rattle.dch_status.specs.Fields.{bits_of}
+use Rattle.dch_rlcpdu.specs.Fields.{bits_of}
 use Rattle.dch_retx.specs.StatusItems.{bits_from, first_of}
 use Rattle.dch_retx.specs.StatusItem.{limit_in}
 use Rattle.dch_retx.proofs.Limits.{limit_low}

@@ -1,6 +1,6 @@
 use Rattle.std.proofs.Common.{◌≡◌, ◌+◌, ◌≤◌, drop}
 use Rattle.std.specs.Prelude.{min}
-use Rattle.dch_status.specs.Fields.{bits_of}
+use Rattle.dch_rlcpdu.specs.Fields.{bits_of}
 use Rattle.dch_retx.specs.StatusItems.{bits_from, first_of}
 use Rattle.dch_retx.specs.StatusItem.{limit_in}
 use Rattle.dch_retx.proofs.tell.limit_bits.Given as goal

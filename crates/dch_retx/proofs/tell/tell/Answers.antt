@@ -1,6 +1,6 @@
 use Rattle.std.proofs.Common.{◌∙◌, ◌||◌, List, ap, arith, sym}
 use Rattle.std.specs.Prelude.{unwrap_or}
-use Rattle.dch_status.specs.Fields.{Field}
+use Rattle.dch_rlcpdu.specs.Fields.{Field}
 use Rattle.dch_retx.specs.StatusItems.{said_by}
 use Rattle.dch_retx.specs.StatusItem.{below_said, ending_of, limit_in, or_else, reports_some}
 use Rattle.dch_retx.proofs.Endings.{ending-step, ending_none, or_is}

@@ -1,5 +1,5 @@
 use Rattle.std.proofs.Common.{subst, sym}
-use Rattle.dch_status.specs.Fields.{bits_of}
+use Rattle.dch_rlcpdu.specs.Fields.{bits_of}
 use Rattle.dch_retx.specs.StatusItems.{bits_from, first_of}
 use Rattle.dch_retx.specs.declared.tell.Told.{Told}
 use Rattle.dch_retx.specs.Telling.{IsPassed}

@@ -1,11 +1,11 @@
-use Rattle.dch_words.specs.declared.arguments.Subcommand.TheVariants.{Check, Encode, Gen, Pair}
-use Rattle.dch_plaincmd.proofs.Checks.{good_answered, refused_answered}
+use Rattle.dch_top.specs.declared.arguments.Subcommand.TheVariants.{Check, Encode, Gen, Pair}
+use Rattle.dch_top.proofs.Checks.{good_answered, refused_answered}
 use Rattle.dch_top.proofs.Commands.{runs_as}
-use Rattle.dch_plaincmd.proofs.Complete.{completes}
+use Rattle.dch_top.proofs.Complete.{completes}
 use Rattle.dch_top.proofs.GenComplete.{gen_answered}
 use Rattle.dch_top.proofs.LinkUnits.{units_carried}
 use Rattle.dch_top.proofs.NodeComplete.{events_answered}
-use Rattle.dch_runs.proofs.PairComplete.{pair_answered}
+use Rattle.dch_top.proofs.PairComplete.{pair_answered}
 use Rattle.dch_top.proofs.command.run.Goals as goal
 
 pub returns-clause-complete : goal.returns-clause-complete

@@ -3,7 +3,7 @@ use Rattle.dch_types.specs.declared.channel.Side.{Side}
 use Rattle.dch_types.specs.declared.channel.Trch.{Trch}
 use Rattle.dch_types.specs.Parts.{channel_at}
 use Rattle.dch_types.specs.Timing.{ends}
-use Rattle.dch_rxframes.specs.RxFrames.{RxFrames}
+use Rattle.dch_tti.specs.RxFrames.{RxFrames}
 use Rattle.dch_ue.specs.Moves.{AreReadTo}
 use Rattle.dch_ue.specs.Steps.{IsReading}
 use Rattle.dch_ue.specs.Values.{RxTti, reading_of}

@@ -4,7 +4,7 @@ use Rattle.dch_types.specs.declared.channel.Trch.{Trch}
 use Rattle.dch_types.specs.Parts.{channel_at}
 use Rattle.dch_types.specs.Timing.{starts}
 use Rattle.dch_accept.specs.Blocks.{Held}
-use Rattle.dch_ttibuf.specs.Loaded.{Loaded}
+use Rattle.dch_tti.specs.Loaded.{Loaded}
 use Rattle.dch_ue.specs.Moves.{AreLoadedTo}
 use Rattle.dch_ue.proofs.Loading.{loaded_off, loaded_on}
 use Rattle.dch_ue.proofs.transmitter.load.Goals as goal

@@ -15,7 +15,7 @@ use Rattle.dch_types.proofs.Sums.{part_le}
 use Rattle.dch_match.proofs.Sizes.{largest_most}
 use Rattle.dch_frame.specs.Stages.{as_cell, origin_of}
 use Rattle.dch_frame.specs.Votes.{copies_as_votes}
-use Rattle.dch_puncture.specs.Plans.{plan_at}
+use Rattle.dch_collision.specs.Plans.{plan_at}
 use Rattle.dch_ulphy.specs.Frames.{bits_before}
 use Rattle.dch_ulphy.specs.Read.{channel_cells, pattern_in}
 use Rattle.dch_ulphy.proofs.Arrived.{frame_arrived}

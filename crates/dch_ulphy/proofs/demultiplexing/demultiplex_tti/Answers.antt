@@ -4,7 +4,7 @@ use Rattle.dch_types.specs.Parts.{channel_at}
 use Rattle.dch_inter.specs.Places.{frame_of}
 use Rattle.dch_inter.proofs.FirstColumns.{frame_of-below}
 use Rattle.dch_frame.proofs.Carried.{whole_rows}
-use Rattle.dch_rxframes.specs.RxFrames.{rx_frame_at, tti_place}
+use Rattle.dch_tti.specs.RxFrames.{rx_frame_at, tti_place}
 use Rattle.dch_ulphy.proofs.Demultiplexed.{heard_none, heard_more}
 use Rattle.dch_ulphy.proofs.demultiplexing.demultiplex_tti.Goals as goal
 

@@ -10,8 +10,8 @@ use Rattle.dch_match.specs.Patterns.{copies_below}
 use Rattle.dch_match.specs.Uplinks.{before_of, sent_of, uplink_pattern}
 use Rattle.dch_frame.specs.Stages.{origin_of}
 use Rattle.dch_frame.proofs.Kept.{origin_of-inside}
-use Rattle.dch_puncture.specs.Plans.{plan_at}
-use Rattle.dch_ttibuf.specs.Loaded.{loaded_at, Loaded, frame_number}
+use Rattle.dch_collision.specs.Plans.{plan_at}
+use Rattle.dch_tti.specs.Loaded.{loaded_at, Loaded, frame_number}
 use Rattle.dch_ulphy.specs.Frames.{pattern_of}
 use Rattle.dch_ulphy.proofs.Sent.{segment_room, sent_is}
 use Rattle.dch_ulphy.proofs.writer.write_channel.Goals as goal

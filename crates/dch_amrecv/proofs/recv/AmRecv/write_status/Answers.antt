@@ -1,8 +1,8 @@
 use Rattle.std.proofs.Common.{◌*◌, ◌∙◌, ◌∷◌, Some, ap, refl, subst, sym}
+use Rattle.dch_am.specs.Telling.{tells_now}
+use Rattle.dch_rlcpdu.specs.Writing.{IsText}
 use Rattle.dch_amrecv.specs.Holding.{after_telling, fields_told, plain_due}
 use Rattle.dch_amrecv.specs.Standing.{IsSame}
-use Rattle.dch_am.specs.Telling.{tells_now}
-use Rattle.dch_status.specs.Writing.{IsText}
 use Rattle.dch_amrecv.specs.Texts.{text_told}
 use Rattle.dch_amrecv.proofs.Tells.{fields_are, heard, text_is}
 use Rattle.dch_amrecv.proofs.recv.AmRecv.write_status.Goals as goal

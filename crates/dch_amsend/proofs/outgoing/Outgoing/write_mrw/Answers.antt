@@ -3,8 +3,8 @@ use Rattle.dch_am.specs.Discards.{after_moving}
 use Rattle.dch_am.specs.Numbers.{wrapped}
 use Rattle.dch_retx.specs.RetxBuffer.{RetxBuffer, is_due}
 use Rattle.dch_retx.proofs.Ticking.{due_is}
-use Rattle.dch_status.specs.Fields.{mrw_fields}
-use Rattle.dch_status.specs.Writing.{IsText, mrw_text}
+use Rattle.dch_rlcpdu.specs.Fields.{mrw_fields}
+use Rattle.dch_rlcpdu.specs.Writing.{IsText, mrw_text}
 use Rattle.dch_amsend.specs.Outgoing.{IsOutgoing, IsRunning, Outgoing}
 use Rattle.dch_amsend.proofs.Events.{mrw_goes, mrw_runs}
 use Rattle.dch_amsend.proofs.outgoing.Outgoing.write_mrw.Goals as goal

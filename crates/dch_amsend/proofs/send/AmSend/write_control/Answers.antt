@@ -2,8 +2,8 @@ use Rattle.std.proofs.Common.{◌≡◌, ◌-◌, ◌∙◌, subst, sym, true}
 use Rattle.dch_am.specs.Numbers.{wrapped}
 use Rattle.dch_rlcpdu.specs.declared.am.AmView.TheVariants.{Status}
 use Rattle.dch_rlcpdu.proofs.AmPdus.{am_back, status_written}
-use Rattle.dch_status.specs.Fields.{mrw_fields}
-use Rattle.dch_status.specs.Writing.{mrw_text}
+use Rattle.dch_rlcpdu.specs.Fields.{mrw_fields}
+use Rattle.dch_rlcpdu.specs.Writing.{mrw_text}
 use Rattle.dch_retx.specs.RetxBuffer.{is_due}
 use Rattle.dch_retx.proofs.Ticking.{due_is}
 use Rattle.dch_amsend.specs.Standing.{Sending, Stands}

@@ -12,8 +12,8 @@ use Rattle.dch_match.specs.Patterns.{copies_below}
 use Rattle.dch_frame.specs.Votes.{votes_of}
 use Rattle.dch_frame.proofs.Kept.{copies_inside}
 use Rattle.dch_collision.specs.Clear.{IsClear}
-use Rattle.dch_rxframes.specs.Read.{coded_in, votes_in}
-use Rattle.dch_rxframes.proofs.Reading.{take_whole}
+use Rattle.dch_tti.specs.Read.{coded_in, votes_in}
+use Rattle.dch_tti.proofs.Reading.{take_whole}
 use Rattle.dch_dlphy.specs.Loaded.{tti_cells}
 use Rattle.dch_dlphy.specs.Read.{AreVotes}
 use Rattle.dch_dlphy.proofs.Demultiplexed.{kept_cells, read_back}

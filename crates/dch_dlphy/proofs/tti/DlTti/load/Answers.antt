@@ -1,6 +1,6 @@
 use Rattle.std.proofs.Common.{◌≡◌, ◌<◌, ◌∙◌, List, length, arith, ap, subst, sym}
-use Rattle.dch_ttibuf.specs.Loaded.{Loaded, loaded_at}
-use Rattle.dch_ttibuf.proofs.Ttis.{loaded_in, within_set}
+use Rattle.dch_tti.specs.Loaded.{Loaded, loaded_at}
+use Rattle.dch_tti.proofs.Ttis.{loaded_in, within_set}
 use Rattle.dch_dlphy.specs.Loaded.{IsTtiOf}
 use Rattle.dch_dlphy.proofs.Fits.{TtiFits, tti_fits}
 use Rattle.dch_dlphy.proofs.tti.DlTti.load.Goals as goal

@@ -1,7 +1,7 @@
 use Rattle.std.proofs.Common.{length, arith, ap}
 use Rattle.dch_types.specs.declared.channel.Dir.TheVariants.{Down}
 use Rattle.dch_accept.specs.declared.room.TtiRoom.{TtiRoom}
-use Rattle.dch_ttibuf.proofs.Ttis.{tti_empty, within_empty}
+use Rattle.dch_tti.proofs.Ttis.{tti_empty, within_empty}
 use Rattle.dch_dlphy.specs.Loaded.{tti_cells}
 use Rattle.dch_dlphy.proofs.tti.DlTti.open.Goals as goal
 

@@ -3,7 +3,7 @@ use Rattle.dch_bits.specs.declared.bit.Bit.{Bit}
 use Rattle.dch_bits.specs.declared.bit.Trit.{Trit}
 use Rattle.dch_types.specs.declared.channel.Format.{Format}
 use Rattle.dch_coding.specs.Ttis.{IsCodedTti}
-use Rattle.dch_ttibuf.specs.Loaded.{AreInterleaved}
+use Rattle.dch_tti.specs.Loaded.{AreInterleaved}
 use Rattle.dch_dlphy.specs.Loaded.{filled_cell}
 use Rattle.dch_dlphy.proofs.Filled.{are_filled, take_whole}
 use Rattle.dch_dlphy.proofs.tti.Room.load.Goals as goal

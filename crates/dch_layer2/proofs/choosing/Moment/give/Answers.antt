@@ -2,9 +2,9 @@ use Rattle.std.proofs.Common.{◌≡◌, ◌<◌, ◌+◌, ◌-◌, ◌∙◌, �
 use Rattle.std.specs.Prelude.{◌==◌}
 use Rattle.dch_config.specs.Good.{IsGood}
 use Rattle.dch_select.specs.Asked.{priority_of}
-use Rattle.dch_layer.specs.Starting.{is_on}
-use Rattle.dch_bearer.specs.Standing.{Represents as StandsFor}
-use Rattle.dch_bearer.specs.declared.bearer.Bearer.{Bearer}
+use Rattle.dch_layer2.specs.Starting.{is_on}
+use Rattle.dch_layer2.specs.BearerStanding.{Represents as StandsFor}
+use Rattle.dch_layer2.specs.declared.bearer.Bearer.{Bearer}
 use Rattle.dch_layer2.specs.Sharing.{Fills, Offers, asked_by, head_in, share}
 use Rattle.dch_layer2.specs.Values.{entity_at}
 use Rattle.dch_layer2.proofs.Serving.{AreServed}

@@ -1,7 +1,7 @@
 use Rattle.std.proofs.Common.{◌<◌, ap, arith, length, set, subst, sym}
 use Rattle.dch_types.specs.declared.channel.Dir.{Dir}
-use Rattle.dch_layer.specs.Bearings.{after_answer, answers}
-use Rattle.dch_layer.specs.Layers.{with_bearing}
+use Rattle.dch_layer2.specs.Bearings.{after_answer, answers}
+use Rattle.dch_layer2.specs.Layers.{with_bearing}
 use Rattle.dch_layer2.specs.Standing.{CanOffer, Represents}
 use Rattle.dch_layer2.specs.Values.{LayerRunning}
 use Rattle.dch_layer2.specs.contracts.layer.Layer2.{the_view}

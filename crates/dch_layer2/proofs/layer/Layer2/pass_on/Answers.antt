@@ -1,10 +1,10 @@
 use Rattle.std.proofs.Common.{◌∙◌, subst, sym}
 use Rattle.dch_config.specs.Good.{IsGood}
 use Rattle.dch_mac.specs.declared.answer.Demux.{Demux}
-use Rattle.dch_layer.specs.Layers.{goes}
+use Rattle.dch_layer2.specs.Layers.{goes}
 use Rattle.dch_layer2.specs.Coming.{HasRoomToPass}
 use Rattle.dch_layer2.specs.Standing.{Represents}
-use Rattle.dch_bound.proofs.Blocks.{reached}
+use Rattle.dch_layer2.proofs.BoundBlocks.{reached}
 use Rattle.dch_layer2.proofs.Coming.{passes}
 use Rattle.dch_layer2.proofs.layer.Layer2.pass_on.Goals as goal
 

@@ -1,9 +1,9 @@
 use Rattle.std.proofs.Common.{◌≡◌, ◌++◌, ◌∙◌, List, ap, drop, length, subst, sym, take}
-use Rattle.dch_bearer.specs.declared.bearer.Bearer.{Bearer}
 use Rattle.dch_config.specs.Good.{IsGood}
 use Rattle.dch_accept.proofs.Overwritten.{whole_written}
 use Rattle.dch_accept.specs.Blocks.{Held}
 use Rattle.dch_select.specs.declared.head.Head.{Head}
+use Rattle.dch_layer2.specs.declared.bearer.Bearer.{Bearer}
 use Rattle.dch_layer2.specs.Sharing.{AreHeads}
 use Rattle.dch_layer2.specs.Standing.{HasStarted, IsLayerOf, Represents}
 use Rattle.dch_layer2.specs.contracts.layer.Layer2.{the_view}

@@ -1,5 +1,5 @@
 use Rattle.std.proofs.Common.{◌≡◌, ◌<◌, arith, length, subst}
-use Rattle.dch_layer.specs.Layers.{takes}
+use Rattle.dch_layer2.specs.Layers.{takes}
 use Rattle.dch_layer2.specs.Coming.{came_below}
 use Rattle.dch_layer2.specs.Standing.{Represents}
 use Rattle.dch_layer2.proofs.InOrder.{one_room, one_taken}

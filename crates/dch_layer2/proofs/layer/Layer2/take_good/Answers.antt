@@ -1,7 +1,7 @@
 use Rattle.std.proofs.Common.{◌<◌, ◌∙◌, ap, length, subst, sym}
 use Rattle.dch_mac.specs.Receivers.{receiver}
-use Rattle.dch_layer.specs.Layers.{Outcome}
-use Rattle.dch_bearer.specs.Reports.{added}
+use Rattle.dch_layer2.specs.Layers.{Outcome}
+use Rattle.dch_layer2.specs.Reports.{added}
 use Rattle.dch_layer2.specs.Standing.{Represents}
 use Rattle.dch_layer2.specs.Values.{LayerRunning}
 use Rattle.dch_layer2.proofs.Coming.{pass_room, some_bits, takes_goes}

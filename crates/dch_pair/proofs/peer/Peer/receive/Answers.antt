@@ -1,7 +1,7 @@
 use Rattle.std.proofs.Common.{◌≡◌, ◌++◌, subst, sym}
 use Rattle.dch_am.specs.Entities.{IsSmall, pdu_of}
-use Rattle.dch_amentity.specs.Standing.{waiting_in}
-use Rattle.dch_amentity.proofs.Sizes.{read_small}
+use Rattle.dch_pair.specs.EntityStanding.{waiting_in}
+use Rattle.dch_pair.proofs.Sizes.{read_small}
 use Rattle.dch_pair.specs.Standing.{IsPeer, Peer, hears, size_in as octets_in, size_of, whole}
 use Rattle.dch_pair.proofs.Peers.{peer_hears}
 use Rattle.dch_pair.proofs.Units.{ok_more}

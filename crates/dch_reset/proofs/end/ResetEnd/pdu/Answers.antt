@@ -1,4 +1,4 @@
-use Rattle.dch_amentity.proofs.Sizes.{read_small}
+use Rattle.dch_pair.proofs.Sizes.{read_small}
 use Rattle.dch_reset.specs.Standing.{size_in}
 use Rattle.dch_reset.proofs.end.ResetEnd.pdu.Goals as goal
 

@@ -1,6 +1,6 @@
 use Rattle.std.proofs.Common.{◌≡◌, ◌∙◌, false, is_some, ap, subst, sym}
 use Rattle.dch_am.specs.Entities.{pdu_of}
-use Rattle.dch_amentity.specs.Answers.{received}
+use Rattle.dch_pair.specs.Answers.{received}
 use Rattle.dch_reset.specs.Answers.{entity_answer}
 use Rattle.dch_reset.specs.Standing.{Represents, Running, pending_of, size_of}
 use Rattle.dch_reset.specs.State.{taken_by}

@@ -1,5 +1,5 @@
 use Rattle.std.proofs.Common.{◌≡◌, ◌∙◌, false, true, cond, Some, ap, refl, subst, sym}
-use Rattle.dch_resetlaw.specs.Ends.{is_heard}
+use Rattle.dch_reset.specs.Ends.{is_heard}
 use Rattle.dch_reset.specs.Standing.{Represents, Running, pending_of}
 use Rattle.dch_reset.specs.State.{restarted}
 use Rattle.dch_reset.proofs.end.ResetEnd.receive_reset.Goals as goal

@@ -2,13 +2,13 @@ use Rattle.std.proofs.Common.{◌≡◌, ◌+◌, ◌∙◌, List, sym, subst}
 use Rattle.std.specs.Prelude.{◌%◌}
 use Rattle.std.proofs.lemmas.List.{with_items_is}
 use Rattle.dch_types.specs.declared.channel.Dir.TheVariants.{Down}
-use Rattle.dch_layer.specs.Layers.{ticks}
+use Rattle.dch_layer2.specs.Layers.{ticks}
+use Rattle.dch_txframes.specs.Values.{IubTxBuffer}
 use Rattle.dch_rnc.specs.Opened.{IsNodeOf}
 use Rattle.dch_rnc.specs.Standing.{IsAt, NothingShown, Stepped}
 use Rattle.dch_rnc.specs.State.{Tick}
 use Rattle.dch_rnc.specs.Values.{Node}
 use Rattle.dch_rnc.specs.contracts.node.Rnc.{the_view}
-use Rattle.dch_txframes.specs.Values.{IubTxBuffer}
 use Rattle.dch_rnc.proofs.Moving.{ticked}
 use Rattle.dch_rnc.proofs.Staying.{ends_through, layer_of, still_ticked, ticked_layer}
 use Rattle.dch_rnc.proofs.node.Rnc.tick.Goals as goal

@@ -2,7 +2,7 @@ use Rattle.std.proofs.Common.{◌≡◌, ◌+◌, ◌∙◌, arith, sym, subst}
 use Rattle.std.specs.Prelude.{◌%◌}
 use Rattle.dch_types.specs.declared.channel.Dir.TheVariants.{Up}
 use Rattle.dch_config.specs.Good.{IsGood}
-use Rattle.dch_layer.specs.Layers.{ticks}
+use Rattle.dch_layer2.specs.Layers.{ticks}
 use Rattle.dch_layer2.specs.Bounded.{HasLayer}
 use Rattle.dch_ue.specs.Opened.{IsNodeOf}
 use Rattle.dch_ue.specs.Standing.{IsAt, NothingShown}

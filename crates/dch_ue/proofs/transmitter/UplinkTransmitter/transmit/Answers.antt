@@ -1,5 +1,5 @@
 use Rattle.std.proofs.Common.{◌<◌, length, sym, subst}
-use Rattle.dch_ttibuf.specs.Loaded.{AreFormats}
+use Rattle.dch_tti.specs.Loaded.{AreFormats}
 use Rattle.dch_ue.specs.Opened.{AreNoted}
 use Rattle.dch_ue.specs.Values.{UplinkTransmitter}
 use Rattle.dch_ue.proofs.Loading.{formats_all, runs_up}

@@ -5,9 +5,9 @@ use Rattle.dch_types.specs.declared.channel.Trch.{Trch}
 use Rattle.dch_types.specs.Parts.{channel_at}
 use Rattle.dch_accept.specs.declared.room.TtiRoom.{TtiRoom}
 use Rattle.dch_accept.specs.Rooms.{tti_room}
-use Rattle.dch_ttibuf.specs.Loaded.{IsLong, Loaded, loaded_at}
-use Rattle.dch_rxframes.proofs.Reading.{take_whole}
-use Rattle.dch_ttibuf.proofs.Ttis.{loaded_in, loaded_set, tti_set, within_set}
+use Rattle.dch_tti.specs.Loaded.{IsLong, Loaded, loaded_at}
+use Rattle.dch_tti.proofs.Reading.{take_whole}
+use Rattle.dch_tti.proofs.Ttis.{loaded_in, loaded_set, tti_set, within_set}
 use Rattle.dch_ulphy.specs.Loaded.{IsPadded, IsTtiOf, padded_cells, tti_cells}
 use Rattle.dch_ulphy.proofs.Rooms.{TtiFits, tti_fits}
 use Rattle.dch_ulphy.proofs.tti.UlTti.load.Goals as goal

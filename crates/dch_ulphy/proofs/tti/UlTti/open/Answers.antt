@@ -1,7 +1,7 @@
 use Rattle.std.proofs.Common.{length, arith, ap}
 use Rattle.dch_types.specs.declared.channel.Dir.TheVariants.{Up}
 use Rattle.dch_accept.specs.declared.room.TtiRoom.{TtiRoom}
-use Rattle.dch_ttibuf.proofs.Ttis.{tti_empty, within_empty}
+use Rattle.dch_tti.proofs.Ttis.{tti_empty, within_empty}
 use Rattle.dch_ulphy.specs.Loaded.{tti_cells}
 use Rattle.dch_ulphy.proofs.tti.UlTti.open.Goals as goal
 

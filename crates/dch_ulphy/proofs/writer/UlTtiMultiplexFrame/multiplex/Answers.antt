@@ -7,7 +7,7 @@ use Rattle.dch_match.specs.declared.uplink_plan.UplinkPlan.{UplinkPlan}
 use Rattle.dch_match.specs.Uplinks.{IsPlan}
 use Rattle.dch_types.proofs.Sums.{part_le}
 use Rattle.dch_frame.proofs.Codes.{length_code}
-use Rattle.dch_puncture.specs.Plans.{plan_at}
+use Rattle.dch_collision.specs.Plans.{plan_at}
 use Rattle.dch_ulphy.specs.Frames.{bits_before}
 use Rattle.dch_ulphy.proofs.Sent.{multiplexed_none, multiplexed_more}
 use Rattle.dch_ulphy.proofs.writer.UlTtiMultiplexFrame.multiplex.Goals as goal

@@ -1,9 +1,0 @@
-pub mod Blocks
-pub mod Lines
-pub mod Small
-pub mod UmSides
-pub mod AmSides
-pub mod Bearings
-pub mod Formats
-pub mod Fitting
-pub mod Changing

@@ -1,5 +1,0 @@
-pub mod Shapes
-pub mod Reports
-pub mod Values
-pub mod Acknowledged
-pub mod Standing

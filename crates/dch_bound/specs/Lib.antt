@@ -1,4 +1,0 @@
-pub mod Bytes
-pub mod Coming
-pub mod Bounded
-pub mod Few

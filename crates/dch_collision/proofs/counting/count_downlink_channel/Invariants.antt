@@ -1,0 +1,7 @@
+use Rattle.std.proofs.Common.{◌≡◌, ◌≤◌, ◌*◌, ◌^◌}
+use Rattle.dch_types.specs.Sums.{total}
+use Rattle.dch_collision.specs.Counted.{downlink_count}
+use Rattle.dch_collision.proofs.counting.count_downlink_channel.Given as goal
+
+abbrev pub invariant-loop-f : goal.invariant-loop-f
+invariant-loop-f l = (l.sum ≡ total (downlink_count l.config l.i) l.f) × (l.sum ≤ l.f * 2 ^ 75)

@@ -1,5 +1,0 @@
-use Rattle.dch_decode.proofs.Marks.{AreMarked}
-use Rattle.dch_decode.proofs.tti.mark_blocks.Given as goal
-
-abbrev pub invariant-loop-i : goal.invariant-loop-i
-invariant-loop-i l = AreMarked l.crc l.size l.joined l.fn.out l.out l.i

@@ -1,2 +1,0 @@
-pub mod Bearers
-pub mod Runs

@@ -1,4 +1,0 @@
-pub mod Counting
-pub mod GoodSides
-pub mod GoodBearers
-pub mod Good

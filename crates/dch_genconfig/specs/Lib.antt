@@ -1,4 +1,0 @@
-pub mod Channels
-pub mod Combinations
-pub mod Bearers
-pub mod Configuration

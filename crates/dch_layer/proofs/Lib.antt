@@ -1,4 +1,0 @@
-pub mod Octets
-pub mod Counting
-pub mod Good
-pub mod Changing

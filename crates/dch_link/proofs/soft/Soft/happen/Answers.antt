@@ -1,0 +1,8 @@
+use Rattle.dch_link.specs.SoftEvents.{Happens}
+use Rattle.dch_link.specs.SoftStanding.{event_of}
+use Rattle.dch_link.proofs.SoftNexts.{still}
+use Rattle.dch_link.proofs.soft.Soft.happen.Goals as goal
+
+pub returns-clause-opened : goal.returns-clause-opened
+returns-clause-opened c =
+    still c.args.accepted.now (λ soft. Happens soft (event_of c.args.event)) c.args.self.now c.take_event.new.self c.args.report.now c.take_event.new.report c.requires.opened c.take_event.ensures.opened c.take_event.ensures.happens

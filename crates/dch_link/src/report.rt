@@ -1,0 +1,39 @@
+ghost use Rattle.std.specs.Prelude.{◌≡◌, ◌≤◌, ◌+◌, [], ◌∷◌, length};
+ghost use Rattle.dch_types.specs.declared.channel.Dir.TheVariants.{Up};
+ghost use Rattle.dch_node.specs.Lines.{IubBad, text_of};
+ghost use Rattle.dch_txframes.specs.Reports.{added};
+ghost use Rattle.dch_txframes.specs.Rooms.{HasRoomFor};
+ghost use Rattle.dch_link.specs.Errors.{error_number};
+
+use dch_combine::CombineError;
+use dch_script::{Line, Report};
+use dch_txframes::put_refusal;
+use dch_types::Dir;
+
+/// The number of the cause that a frame is one of another TTI than was asked for.
+const OTHER_CFN: u8 = 7;
+
+/// Reports the cause for which the uplink Iub frame of a leg isn't taken for a set.
+pub fn put_error(report: &mut Report, set: u8, error: CombineError)
+    requires room { HasRoomFor report.old 300 }
+    ensures reported { report.new ≡ added report.old (IubBad Up set (error_number error) ∷ []) }
+    ensures few { length (text_of (IubBad Up set (error_number error) ∷ [])) ≤ 300 }
+{
+    match error {
+        CombineError::Frame(error) => put_refusal(report, Dir::Up, set, error),
+        CombineError::Cfn(_) => put_other_cfn(report, set),
+    }
+}
+
+/// Reports that the uplink Iub frame of a leg is one of another TTI than was asked for.
+fn put_other_cfn(report: &mut Report, set: u8)
+    requires room { HasRoomFor report.old 300 }
+    ensures reported { report.new ≡ added report.old (IubBad Up set 7 ∷ []) }
+    ensures few { length (text_of (IubBad Up set 7 ∷ [])) ≤ 300 }
+{
+    report.put(&Line::IubBad {
+        dir: Dir::Up,
+        set,
+        number: OTHER_CFN,
+    });
+}

@@ -1,0 +1,50 @@
+-- A line that a handler takes, as a step of a run.
+use Rattle.std.proofs.Common.{◌≡◌, ◌∙◌, ◌++◌, ℕ, List, length, refl, ap, sym, subst}
+use Rattle.dch_accept.specs.Plans.{Planned}
+use Rattle.dch_script.specs.Held.{Held}
+use Rattle.dch_lines.specs.Semantics.{Adds}
+use Rattle.dch_node.specs.Lines.{text_of}
+use Rattle.dch_nodecmd.specs.Shown.{shown}
+use Rattle.dch_link.specs.SoftStanding.{Represents}
+use Rattle.dch_linkcmd.specs.SoftLineEvents.{Frames, OneEvent, Said, Says}
+use Rattle.dch_linkcmd.specs.SoftRules.{PassesStage, TakesLine}
+use Rattle.dch_linkcmd.specs.SoftRun.{Run, config_of}
+use Rattle.dch_linkcmd.specs.SoftStanding.{Handler, RepresentsRun}
+use Rattle.dch_linkcmd.specs.SoftTaking.{TakesEvent}
+
+-- what a line says under the configuration of a handler it says under that of the run
+pub says_here : (run : Run) (handler : Handler) (line : List ℕ) (said : Said) → RepresentsRun run handler → Says (length handler.soft.legs) handler.accepted.config line said → Says run.soft.count (config_of run) line said
+says_here run handler line said is says = subst (λ n. Says n (config_of run) line said) (sym is.stands.count) (subst (λ (p : Planned). Says (length handler.soft.legs) p.config line said) (sym is.stands.rnc.stands.at.active) says)
+
+-- something has happened
+pub took_event : (run : Run) (old new : Handler) (line : List ℕ) (before after : Held) → RepresentsRun run old → TakesEvent old.accepted line old.quiet old.soft new.soft before after
+    → new.accepted ≡ old.accepted → new.quiet ≡ old.quiet → new.stage ≡ old.stage → new.left ≡ old.left → new.frames ≡ old.frames → (next : Run) × RepresentsRun next new × Adds (TakesLine run line next) before after
+took_event run old new line before after is takes accepted quiet stage left frames =
+    let shows = takes.happens run.first run.soft is.stands in
+    let next : Run = record run { soft = shows.next } in (
+      next,
+      record {
+        quiet = is.quiet ∙ sym quiet;
+        stage = is.stage ∙ sym stage;
+        left = is.left ∙ sym left;
+        frames = is.frames ∙ sym frames;
+        stands = subst (λ (p : Planned). Represents p run.first shows.next new.soft) (sym accepted) shows.stands;
+      },
+      record {
+        more = shown run.quiet (text_of shows.lines);
+        handles = record {
+          said = OneEvent takes.event;
+          says = says_here run old line (OneEvent takes.event) is takes.says;
+          takes = record { soft = shows.next; lines = shows.lines; happens = shows.does; goes_on = refl; shows = refl };
+        };
+        added = shows.reported ∙ ap (λ q. record { text = before.text ++ shown q (text_of shows.lines); most = before.most }) (sym is.quiet);
+      },
+    )
+
+-- radio frames were asked for, and the first stage has passed
+pub asked_frames : (run : Run) (old : Handler) (line : List ℕ) (count : ℕ) (next : Run) (before after : Held) → RepresentsRun run old → Says (length old.soft.legs) old.accepted.config line (Frames count) → Adds (PassesStage (record run { left = count }) next) before after → Adds (TakesLine run line next) before after
+asked_frames run old line count next before after is says adds = record {
+  more = adds.more;
+  handles = record { said = Frames count; says = says_here run old line (Frames count) is says; takes = adds.handles };
+  added = adds.added;
+}

@@ -1,0 +1,65 @@
+-- What the handler of `soft` has, and the runs that it stands for.
+use Rattle.std.specs.Prelude.{◌≡◌, ◌≤◌, ◌+◌, ◌*◌, ◌++◌, ℕ, List, [], Bool, length}
+use Rattle.dch_types.specs.declared.config.Config.{Config}
+use Rattle.dch_accept.specs.Plans.{Planned}
+use Rattle.dch_accept.specs.Reports.{step_bytes}
+use Rattle.dch_io.specs.declared.feed.TheConstants.{LIMIT}
+use Rattle.dch_script.specs.Held.{Held}
+use Rattle.dch_node.specs.Lines.{Line, text_of}
+use Rattle.dch_link.specs.SoftPassing.{IsStage}
+use Rattle.dch_link.specs.Soft.{SoftState}
+use Rattle.dch_link.specs.SoftStanding.{IsSoftOf, Represents}
+use Rattle.dch_link.specs.SoftValues.{Parts}
+use Rattle.dch_link.specs.declared.soft_stage.Stage.{Stage}
+use Rattle.dch_linkcmd.specs.SoftRun.{Run}
+
+-- the configuration, the nodes, whether the lines of frames are left out, the next stage, how many radio frames are left of a line and how
+-- many have passed, how many lines asked for radio frames, and room for the text of a stage, as it is reported and as it is shown
+pub record Handler : Type 0 where
+  pub accepted : Planned
+  pub soft : Parts
+  pub quiet : Bool
+  pub stage : Stage
+  pub left : ℕ
+  pub frames : ℕ
+  pub lines : ℕ
+  pub step : Held
+  pub kept : Held
+
+-- the most bytes of a stage as it is reported, and with the words that lead its lines
+abbrev pub stage_bytes : Config → ℕ
+stage_bytes config = step_bytes config + 300000
+
+abbrev pub led_bytes : Config → ℕ
+led_bytes config = step_bytes config + 24000000
+
+-- empty room for the text of a stage
+pub record HasStageRoom (config : Config) (step : Held) : Type 0 where
+  pub empty : step.text ≡ []
+  pub enough : stage_bytes config ≤ step.most
+
+-- what a handler keeps at any time
+pub record IsReady (handler : Handler) : Type 0 where
+  pub opened : IsSoftOf handler.accepted handler.soft
+  pub stage : IsStage (length handler.soft.legs) handler.stage
+  pub left : handler.left ≤ 100000
+  pub lines : handler.lines ≤ LIMIT
+  pub few : handler.frames + handler.left ≤ 100000 * handler.lines
+  pub step : HasStageRoom handler.accepted.config handler.step
+  pub kept : HasStageRoom handler.accepted.config handler.kept
+
+-- a handler stands for a run
+pub record RepresentsRun (run : Run) (handler : Handler) : Type 0 where
+  pub quiet : run.quiet ≡ handler.quiet
+  pub stage : run.stage ≡ handler.stage
+  pub left : run.left ≡ handler.left
+  pub frames : run.frames ≡ handler.frames
+  pub stands : Represents handler.accepted run.first run.soft handler.soft
+
+-- something was done from a state of the nodes, and what is shown of its lines is added to a report
+pub record Shows (planned : Planned) (first : ℕ) (shows : List ℕ → List ℕ) (Does : SoftState → List Line → Type 0) (parts : Parts) (before after : Held) : Type 0 where
+  pub next : SoftState
+  pub lines : List Line
+  pub does : Does next lines
+  pub stands : Represents planned first next parts
+  pub reported : after ≡ record before { text = before.text ++ shows (text_of lines) }

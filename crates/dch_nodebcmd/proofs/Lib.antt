@@ -1,3 +1,0 @@
-pub mod NoTrace
-pub mod Taking
-pub mod Texts

@@ -1,0 +1,176 @@
+ghost use Rattle.std.specs.Prelude.{◌≡◌, ◌≤◌, ◌+◌, length, IfErr, IfOk, IfNone, IfSome};
+ghost use Rattle.dch_accept.specs.Reports.{step_bytes};
+ghost use Rattle.dch_accept.specs.Plans.{Planned};
+ghost use Rattle.dch_nodeb.specs.Opened.{HasNext, IsNodeOf};
+ghost use Rattle.dch_nodeb.specs.Standing.{Represents, Shows};
+ghost use Rattle.dch_lines.specs.declared.line_texts.TheConstants.{CELLS, OCTETS};
+ghost use Rattle.dch_nodecmd.specs.NodeBLasting.{node_b_lasting};
+ghost use Rattle.dch_nodecmd.specs.NodeBReading.{IsCounted};
+ghost use Rattle.dch_nodecmd.specs.NodeBRules.{node_b_rules};
+ghost use Rattle.dch_nodecmd.specs.NodeRules.{IsMalformed};
+ghost use Rattle.dch_nodecmd.specs.Standing.{TakesAs, frames_of as frames_taken};
+
+use crate::node::CommandNode;
+use crate::node_b_reading::{TFCI_BITS, read_line};
+use crate::taken::Taken;
+use dch_accept::Accepted;
+use dch_bits::{Bit, NoMemory, Trit};
+use dch_lines::{CELLS, OCTETS};
+use dch_nodeb::{NodeB, NodeBEvent};
+use dch_script::{LineError, Report};
+use std::alloc::Global;
+use std::marker::Model;
+
+/// The Node B of the command `nodeb`, which takes each line as an event, with room for the octets and cells of a line.
+#[derive(Drop)]
+pub struct NodeBLines {
+    node: NodeB,
+    octets: Vec<u8>,
+    cells: Vec<Trit>,
+}
+
+impl Model for NodeBLines {
+    ghost use Rattle.std.specs.Prelude.{◌≡◌, length};
+    ghost use Rattle.dch_nodeb.specs.Values.{Node};
+    ghost use Rattle.dch_lines.specs.declared.line_texts.TheConstants.{CELLS, OCTETS};
+
+    ghost Value = { Node };
+
+    ghost view = { λ l. l.node };
+
+    ghost invariant = { λ l. record { octets : length l.octets.items ≡ OCTETS; cells : length l.cells.items ≡ CELLS } };
+}
+
+impl NodeBLines {
+    /// The Node B, after the work.
+    pub fn into_node(self) -> NodeB
+        ensures { result ≡ self }
+    {
+        self.node
+    }
+}
+
+impl CommandNode for NodeBLines {
+    ghost use Rattle.dch_nodeb.specs.State.{Event, State};
+
+    ghost State = { State };
+
+    ghost Event = { Event };
+
+    ghost rules = { node_b_rules };
+
+    ghost is_opened = { IsNodeOf };
+
+    ghost has_next = { HasNext };
+
+    ghost represents = { Represents };
+
+    ghost shows = { Shows };
+
+    fn open(alloc: Global, accepted: &Accepted, first_cfn: u8) -> Result<NodeBLines, NoMemory> {
+        let (octets, cells) = open_rooms(alloc)?;
+        let node = NodeB::open(alloc, accepted, first_cfn)?;
+        Ok(NodeBLines {
+            node,
+            octets,
+            cells,
+        })
+    }
+
+    fn open_both(
+        alloc: Global,
+        first: &Accepted,
+        second: &Accepted,
+        first_cfn: u8,
+    ) -> Result<NodeBLines, NoMemory> {
+        let (octets, cells) = open_rooms(alloc)?;
+        let node = NodeB::open_both(alloc, first, second, first_cfn)?;
+        Ok(NodeBLines {
+            node,
+            octets,
+            cells,
+        })
+    }
+
+    fn take_line(
+        &mut self,
+        accepted: &Accepted,
+        line: &[u8],
+        report: &mut Report,
+    ) -> Result<Taken, LineError> {
+        take(
+            accepted,
+            line,
+            &mut self.octets,
+            &mut self.cells,
+            &mut self.node,
+            report,
+        )
+    }
+
+    fn change(&mut self, accepted: &Accepted, report: &mut Report) {
+        self.node.step(accepted, NodeBEvent::Change, report);
+    }
+
+    ghost active = { λ planned state node stands. stands.active };
+
+    ghost lasting = { node_b_lasting };
+}
+
+/// Room for the octets of the longest line, and for its cells.
+fn open_rooms(alloc: Global) -> Result<(Vec<u8>, Vec<Trit>), NoMemory>
+    ensures octets { IfOk result (λ rooms. length rooms.0.items ≡ OCTETS) }
+    ensures cells { IfOk result (λ rooms. length rooms.1.items ≡ CELLS) }
+{
+    let octets = vec![in alloc; 0; OCTETS]?;
+    let cells = vec![in alloc; Trit::Off; CELLS]?;
+    Ok((octets, cells))
+}
+
+/// Takes a line as an event. `octets` and `cells` are room for its texts.
+fn take(
+    accepted: &Accepted,
+    line: &[u8],
+    octets: &mut [u8],
+    cells: &mut [Trit],
+    node: &mut NodeB,
+    report: &mut Report,
+) -> Result<Taken, LineError>
+    requires octets { length octets.old ≡ OCTETS }
+    requires cells { length cells.old ≡ CELLS }
+    requires opened { IsNodeOf accepted.now node.old }
+    requires room { length report.old.text + step_bytes accepted.now.config ≤ report.old.most }
+    ensures ok { IfOk result (TakesAs node_b_rules Represents Shows accepted.now line.now node.old node.new report.old report.new) }
+    ensures at_most { IfOk result (λ taken. frames_taken taken ≤ 1) }
+    ensures err { IfErr result (IsMalformed node_b_rules accepted.now.config line.now) }
+    ensures same { IfErr result (λ _. (node.new ≡ node.old) × (report.new ≡ report.old)) }
+    ensures opened { IsNodeOf accepted.now node.new }
+    ensures next { (second : Planned) → HasNext accepted.now second node.old → HasNext accepted.now second node.new }
+    ensures most { report.new.most ≡ report.old.most }
+    ensures few { IfOk result (λ _. length report.new.text ≤ length report.old.text + step_bytes accepted.now.config) }
+{
+    let mut tfci = [Bit::Zero; TFCI_BITS];
+    match read_line(accepted, line, octets, &mut tfci, cells) {
+        Ok(event) => match frames_of(event) {
+            Some(frames) => {
+                node.step(accepted, event, report);
+                Ok(Taken::Event(frames))
+            }
+            None => Ok(Taken::Change),
+        },
+        Err(why) => Err(why),
+    }
+}
+
+/// How many radio frames of 10 ms an event stands for. None for a change.
+fn frames_of(event: NodeBEvent<'_>) -> Option<u64>
+    ensures some { IfSome result (IsCounted event.entry) }
+    ensures few { IfSome result (λ count. count ≤ 1) }
+    ensures none { IfNone result (event.entry ≡ NodeBEvent.Change) }
+{
+    match event {
+        NodeBEvent::Iub { .. } | NodeBEvent::Down => Some(0),
+        NodeBEvent::Phy { .. } => Some(1),
+        NodeBEvent::Change => None,
+    }
+}

@@ -1,4 +1,0 @@
-pub mod Flags
-pub mod Punctured
-pub mod Removed
-pub mod Sizes

@@ -1,5 +1,0 @@
-use Rattle.dch_puncture.proofs.Flags.{AreCarried}
-use Rattle.dch_puncture.proofs.flagging.uplink_sent_flags.Given as goal
-
-abbrev pub invariant-loop-n : goal.invariant-loop-n
-invariant-loop-n l = AreCarried l.config l.i l.f l.sequence l.sent_flags l.n

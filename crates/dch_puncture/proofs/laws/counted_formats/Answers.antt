@@ -1,8 +1,0 @@
-use Rattle.dch_puncture.proofs.Removed.{counted_uplink, counted_downlink}
-use Rattle.dch_puncture.proofs.laws.counted_formats.Goals as goal
-
-pub returns-clause-uplink : goal.returns-clause-uplink
-returns-clause-uplink c = counted_uplink
-
-pub returns-clause-downlink : goal.returns-clause-downlink
-returns-clause-downlink c = counted_downlink

@@ -1,4 +1,0 @@
-pub mod Copies
-pub mod Counted
-pub mod Plans
-pub mod Removed

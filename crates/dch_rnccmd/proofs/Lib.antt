@@ -1,4 +1,0 @@
-pub mod NoTrace
-pub mod OtherLines
-pub mod Senders
-pub mod Taking

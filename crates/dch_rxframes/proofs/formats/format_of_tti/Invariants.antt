@@ -1,7 +1,0 @@
-use Rattle.std.proofs.Common.{◌≡◌, ◌<◌, ℕ}
-use Rattle.std.specs.Prelude.{Some}
-use Rattle.dch_rxframes.specs.Formats.{tti_format}
-use Rattle.dch_rxframes.proofs.formats.format_of_tti.Given as goal
-
-abbrev pub invariant-loop-n : goal.invariant-loop-n
-invariant-loop-n l = (m : ℕ) → m < l.n → tti_format l.side l.rx_frames l.channel m ≡ Some l.format

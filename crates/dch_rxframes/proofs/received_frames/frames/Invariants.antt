@@ -1,5 +1,0 @@
-use Rattle.dch_rxframes.specs.RxFrames.{AreMissing}
-use Rattle.dch_rxframes.proofs.received_frames.frames.Given as goal
-
-abbrev pub invariant-loop-n : goal.invariant-loop-n
-invariant-loop-n l = AreMissing l.room l._n l.frames.items

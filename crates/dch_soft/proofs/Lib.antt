@@ -1,7 +1,0 @@
-mod Arriving
-mod Given
-mod Hit
-mod Legs
-mod Nexts
-mod Opened
-mod Timing

@@ -1,5 +1,0 @@
-use Rattle.dch_soft.proofs.Hit.{ClearedTo}
-use Rattle.dch_soft.proofs.hearing.clear_damage.Given as goal
-
-abbrev pub invariant-loop-k : goal.invariant-loop-k
-invariant-loop-k l = ClearedTo l.k l.fn.legs l.legs

@@ -1,5 +1,0 @@
-use Rattle.dch_soft.proofs.Hit.{HitTo}
-use Rattle.dch_soft.proofs.hearing.hit_radios.Given as goal
-
-abbrev pub invariant-loop-k : goal.invariant-loop-k
-invariant-loop-k l = HitTo l.k l.fn.legs l.legs

@@ -1,8 +1,0 @@
-use Rattle.std.proofs.Common.{◌∙◌, ap, sym}
-use Rattle.dch_damage.specs.Tables.{radio_arrived}
-use Rattle.dch_link.proofs.Arriving.{radio_same}
-use Rattle.dch_soft.specs.Values.{LegParts}
-use Rattle.dch_soft.proofs.leg.Leg.radio.Goals as goal
-
-pub returns : goal.returns
-returns c = sym (radio_same c.radio.result) ∙ c.radio.ensures ∙ ap (λ (l : LegParts). radio_arrived l.damage) c.self.view_is

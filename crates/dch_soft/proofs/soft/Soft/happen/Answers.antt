@@ -1,8 +1,0 @@
-use Rattle.dch_soft.specs.Events.{Happens}
-use Rattle.dch_soft.specs.Standing.{event_of}
-use Rattle.dch_soft.proofs.Nexts.{still}
-use Rattle.dch_soft.proofs.soft.Soft.happen.Goals as goal
-
-pub returns-clause-opened : goal.returns-clause-opened
-returns-clause-opened c =
-    still c.args.accepted.now (λ soft. Happens soft (event_of c.args.event)) c.args.self.now c.take_event.new.self c.args.report.now c.take_event.new.report c.requires.opened c.take_event.ensures.opened c.take_event.ensures.happens

@@ -1,7 +1,0 @@
-use Rattle.dch_soft.specs.Stages.{AtStage}
-use Rattle.dch_soft.proofs.Nexts.{still}
-use Rattle.dch_soft.proofs.soft.Soft.pass.Goals as goal
-
-pub returns-clause-opened : goal.returns-clause-opened
-returns-clause-opened c =
-    still c.args.accepted.now (AtStage c.args.stage) c.args.self.now c.run_stage.new.self c.args.report.now c.run_stage.new.report c.requires.opened c.run_stage.ensures.opened c.run_stage.ensures.passes

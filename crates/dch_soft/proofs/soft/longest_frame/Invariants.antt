@@ -1,6 +1,0 @@
-use Rattle.std.proofs.Common.{◌<◌, ℕ}
-use Rattle.dch_combine.specs.Opened.{HoldsLongest}
-use Rattle.dch_soft.proofs.soft.longest_frame.Given as goal
-
-abbrev pub invariant-loop-set : goal.invariant-loop-set
-invariant-loop-set l = (s : ℕ) → s < l.set → HoldsLongest l.accepted.config s l.octets

@@ -1,5 +1,0 @@
-use Rattle.dch_softlaw.proofs.Taking.{leg_takes}
-use Rattle.dch_softlaw.proofs.legs_laws.leg_law.Goals as goal
-
-pub returns : goal.returns
-returns c = leg_takes

@@ -1,5 +1,0 @@
-use Rattle.dch_softlaw.proofs.Unharmed.{unharmed_gets}
-use Rattle.dch_softlaw.proofs.legs_laws.unharmed_law.Goals as goal
-
-pub returns : goal.returns
-returns c = unharmed_gets

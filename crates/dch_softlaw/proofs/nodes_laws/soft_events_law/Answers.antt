@@ -1,8 +1,0 @@
-use Rattle.dch_softlaw.proofs.EndEvents.{run_faithful, run_listed}
-use Rattle.dch_softlaw.proofs.nodes_laws.soft_events_law.Goals as goal
-
-pub returns-clause-events : goal.returns-clause-events
-returns-clause-events c = run_listed
-
-pub returns-clause-faithful : goal.returns-clause-faithful
-returns-clause-faithful c = run_faithful

@@ -1,5 +1,0 @@
-use Rattle.dch_softlaw.proofs.EndEvents.{run_hands_up}
-use Rattle.dch_softlaw.proofs.nodes_laws.soft_nodes_law.Goals as goal
-
-pub returns : goal.returns
-returns c = run_hands_up

@@ -1,4 +1,0 @@
-pub mod Counts
-pub mod Counting
-pub mod LineWords
-pub mod Summary

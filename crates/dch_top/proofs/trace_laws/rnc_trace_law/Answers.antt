@@ -1,0 +1,22 @@
+use Rattle.std.proofs.Common.{[], ◌∷◌, subst}
+use Rattle.dch_types.specs.declared.channel.Dir.TheVariants.{Up}
+use Rattle.dch_node.specs.IubFrames.{refusal_number}
+use Rattle.dch_node.specs.Lines.{IubBad}
+use Rattle.dch_nodecmd.specs.RncRules.{rnc_rules}
+use Rattle.dch_nodecmd.proofs.RncNoTrace.{no_trace}
+use Rattle.dch_top.specs.NodeRuns.{run_of}
+use Rattle.dch_top.specs.RncRuns.{HoldsRnc}
+use Rattle.dch_top.specs.Traces.{LeavesNoTrace}
+use Rattle.dch_top.proofs.BadFrames.{rnc_refused}
+use Rattle.dch_top.proofs.Traces.{answered, traceless}
+use Rattle.dch_top.proofs.trace_laws.rnc_trace_law.Goals as goal
+
+pub returns : goal.returns
+returns c = record {
+  answers = answered rnc_rules HoldsRnc;
+  no_trace = λ start quiet input shorter written before after line set number answer has bad.
+      let is = rnc_refused (run_of rnc_rules start quiet answer.accepted) before line set number bad in
+      subst (λ n. LeavesNoTrace rnc_rules start quiet shorter (IubBad Up set n ∷ []) written) is.1.1
+      (traceless rnc_rules start quiet input shorter written before after line (IubBad Up set (refusal_number is.0) ∷ []) answer has
+      (no_trace (run_of rnc_rules start quiet answer.accepted) answer.new before after line answer.text set is.0 is.1.0));
+}

@@ -1,0 +1,12 @@
+pub mod BitsRead
+pub mod Copies
+pub mod Received
+pub mod Corrected
+pub mod Frames
+pub mod Loaded
+pub mod Formats
+pub mod Outcomes
+pub mod Pushed
+pub mod Read
+pub mod RxFrames
+pub mod Sent

@@ -1,0 +1,42 @@
+-- The TTI of a channel as it is read from the kept radio frames: its format, and the blocks that the votes for its coded bits give
+-- (TS 25.212 4.2.1 to 4.2.3, read backwards). A direction tells these votes.
+use Rattle.std.specs.Prelude.{◌≡◌, ℕ, List, length, take}
+use Rattle.dch_bits.specs.declared.bit.Bit.{Bit}
+use Rattle.dch_bits.specs.declared.bit.Vote.{Vote}
+use Rattle.dch_types.specs.declared.channel.Dir.{Dir}
+use Rattle.dch_types.specs.declared.channel.Side.{Side}
+use Rattle.dch_types.specs.Lengths.{joined_bits, tti_bits}
+use Rattle.dch_types.specs.Parts.{channel_at, format_at, side_of}
+use Rattle.dch_coding.specs.Ttis.{IsCodedTti}
+use Rattle.dch_collision.specs.Clear.{HasNoCollision}
+use Rattle.dch_accept.specs.Blocks.{Held, bits_of}
+use Rattle.dch_accept.specs.Plans.{Planned}
+use Rattle.dch_tti.specs.Copies.{AreCopies}
+use Rattle.dch_tti.specs.Received.{IsReceived}
+use Rattle.dch_tti.specs.Formats.{IsFormatOf}
+use Rattle.dch_tti.specs.RxFrames.{RxFrames}
+
+-- the coded bits of a TTI of channel i in format f
+abbrev pub coded_in : Side → ℕ → ℕ → ℕ
+coded_in side i f = tti_bits (channel_at side i) (format_at (channel_at side i) f)
+
+-- the front of counted votes, as many as these bits are
+abbrev pub votes_in : Side → ℕ → ℕ → List Vote → List Vote
+votes_in side i f votes = take (coded_in side i f) votes
+
+-- what is read of channel i
+pub record IsTtiRead (planned : Planned) (dir : Dir) (AreVotes : RxFrames → ℕ → ℕ → List Vote → Type 0) (reader : RxFrames) (i : ℕ) (held : Held) : Type 0 where
+  pub format : IsFormatOf (side_of planned.config dir) reader i held.format
+  pub votes : List Vote
+  pub long : length votes ≡ coded_in (side_of planned.config dir) i held.format
+  pub are : AreVotes reader i held.format votes
+  pub blocks : IsReceived (channel_at (side_of planned.config dir) i) held.format (format_at (channel_at (side_of planned.config dir) i) held.format) votes held
+
+-- the votes are just the copies of the coded bits of these blocks, of which no two code blocks collide
+pub record AreVotesOf (side : Side) (i f : ℕ) (blocks : List Bit) (votes : List Vote) : Type 0 where
+  pub whole : length blocks ≡ bits_of (format_at (channel_at side i) f)
+  pub coded : List Bit
+  pub is : IsCodedTti (channel_at side i) (format_at (channel_at side i) f) blocks coded
+  pub sent : ℕ → ℕ
+  pub copies : AreCopies votes coded sent
+  pub clear : HasNoCollision (channel_at side i).coding (joined_bits (channel_at side i) (format_at (channel_at side i) f)) sent

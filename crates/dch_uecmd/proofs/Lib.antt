@@ -1,3 +1,0 @@
-pub mod Senders
-pub mod Taking
-pub mod Texts

@@ -1,4 +1,0 @@
-pub mod Lasting
-pub mod LineEvents
-pub mod Reading
-pub mod Rules
