@@ -4,7 +4,6 @@ use Rattle.std.specs.Prelude.{nat_eq, nat_lt}
 use Rattle.std.proofs.lemmas.Bool.{le-ltb, lt-ltb, ltb-false, ltb-true, ne_eqb}
 use Rattle.std.proofs.lemmas.List.{append-nil, take_all}
 use Rattle.dch_types.specs.declared.channel.Dir.{Dir}
-use Rattle.dch_script.specs.Held.{Held}
 use Rattle.dch_rlcpdu.specs.declared.am.AmView.{AmView}
 use Rattle.dch_rlcpdu.specs.declared.am.AmView.TheVariants.{Payload, Status, Reset as ResetView, ResetAck as ResetAckView}
 use Rattle.dch_am.specs.Acknowledging.{status_answer}
@@ -22,13 +21,13 @@ use Rattle.dch_pair.specs.EntityStanding.{AreSizes, IsSame, Represents, Running,
 use Rattle.dch_pair.specs.declared.answers.Received.{Received}
 use Rattle.dch_pair.proofs.Peers.{handed_to}
 use Rattle.dch_sar.specs.Taking.{handed_of}
-use Rattle.dch_node.specs.Lines.{Line, Outside}
+use Rattle.dch_indication.specs.Lines.{Line, Outside}
+use Rattle.dch_indication.specs.Told.{Told}
+use Rattle.dch_indication.proofs.Telling.{told-append}
 use Rattle.dch_layer2.specs.Hearing.{lines_by, new_units}
 use Rattle.dch_layer2.specs.UnitLines.{line_if, unit_line, unit_lines}
-use Rattle.dch_layer2.specs.Acknowledged.{HasRoomToHear, IsAmShape, entity_of, lines_on, outside_first, outside_last, received_lines}
-use Rattle.dch_layer2.specs.Reports.{HasRoomFor, added}
+use Rattle.dch_layer2.specs.Acknowledged.{IsAmShape, entity_of, lines_on, outside_first, outside_last, received_lines}
 use Rattle.dch_layer2.specs.declared.shape.Shape.{Shape}
-use Rattle.dch_layer2.proofs.Lines.{added-added, room_first, room_next}
 
 -- more than 1,501 octets of a unit aren't wanted
 pub lines-cut : (dir : Dir) (b : ℕ) (us : List (List ℕ)) → unit_lines dir b (map (take 1501) us) ≡ unit_lines dir b us
@@ -73,22 +72,15 @@ heard_lines rules dir b size view s r mid answer is stands =
     ∙ ap (λ lines. line_if (outside_first answer) (Outside dir b) ++ lines ++ line_if (outside_last answer) (Outside dir b))
     (sym (lines-cut dir b (new_units r (receiver_by rules (pdu_of view) r))) ∙ ap (unit_lines dir b) (sym stands.receiver.units.waiting)))
 
--- there is room for the lines by its answer
-pub heard_room : (dir : Dir) (b size : ℕ) (view : AmView) (v mid : Running) (answer : Received) (report : Held) → HasRoomToHear v dir b (Ok view) report →
-    ((rules : Rules) (e : Entity) → Represents rules v e → answer ≡ received rules e (pdu_of view)) →
-    ((rules : Rules) (e : Entity) → Represents rules v e → Represents rules mid (step rules size e (Come (pdu_of view)))) →
-    HasRoomFor report (received_lines dir b answer (waiting_in mid))
-heard_room dir b size view v mid answer report room answers stands =
-    subst (HasRoomFor report) (heard_lines room.rules dir b size view room.sender room.receiver mid answer (answers room.rules (entity_of room.sender room.receiver) room.entity) (stands room.rules (entity_of room.sender room.receiver) room.entity)) room.room
-
--- the report after all three parts
-pub heard_report : (dir : Dir) (b : ℕ) (answer : Received) (waiting : List (List ℕ)) (report one two now : Held) (first last : Bool) → first ≡ outside_first answer → last ≡ outside_last answer →
-    one ≡ added report (line_if first (Outside dir b)) → two ≡ added one (unit_lines dir b waiting) → now ≡ added two (line_if last (Outside dir b)) →
-    now ≡ added report (received_lines dir b answer waiting)
-heard_report dir b answer waiting report one two now first last f l a c d =
-    d ∙ (ap₂ (λ t x. added t (line_if x (Outside dir b))) (c ∙ ap (λ t. added t (unit_lines dir b waiting)) (a ∙ ap (λ x. added report (line_if x (Outside dir b))) f)) l
-    ∙ (ap (λ t. added t (line_if (outside_last answer) (Outside dir b))) (added-added report (line_if (outside_first answer) (Outside dir b)) (unit_lines dir b waiting))
-    ∙ added-added report (line_if (outside_first answer) (Outside dir b) ++ unit_lines dir b waiting) (line_if (outside_last answer) (Outside dir b))))
+-- whoever is told all three parts is told the lines by its answer
+pub heard_told : {S : Type 0} (shows : S → Line → S → Type 0) (dir : Dir) (b : ℕ) (answer : Received) (waiting : List (List ℕ)) (old one two new : S) (first last : Bool) → first ≡ outside_first answer → last ≡ outside_last answer →
+    Told shows old (line_if first (Outside dir b)) one → Told shows one (unit_lines dir b waiting) two → Told shows two (line_if last (Outside dir b)) new →
+    Told shows old (received_lines dir b answer waiting) new
+heard_told shows dir b answer waiting old one two new first last f l a c d =
+    let front : List Line = line_if (outside_first answer) (Outside dir b) in
+    told-append shows old two new (front ++ unit_lines dir b waiting) (line_if (outside_last answer) (Outside dir b))
+    (told-append shows old one two front (unit_lines dir b waiting) (subst (λ x. Told shows old (line_if x (Outside dir b)) one) f a) c)
+    (subst (λ x. Told shows two (line_if x (Outside dir b)) new) l d)
 
 -- what is written at a turn doesn't change which units were read
 pub read_same : (t : Turn) (rules : Rules) (r : Receiver) → (receiver_after t rules r).reading.units ≡ r.reading.units
@@ -140,26 +132,3 @@ sizes_on a b c first then = record { out = then.out ∙ first.out; in_ = then.in
 pub some_waits : (us : List (List ℕ)) (h : Handed) → Some h ≡ handed_of us → nat_eq (length us) 0 ≡ false
 some_waits [] h e = absurd (cc)
 some_waits (u ∷ us) h e = ne_eqb (length (u ∷ us)) 0 (λ q. omega (arith, q))
-
--- there is room for each part
-pub first_room : (dir : Dir) (b : ℕ) (answer : Received) (waiting : List (List ℕ)) (report : Held) (first : Bool) → HasRoomFor report (received_lines dir b answer waiting) → first ≡ outside_first answer →
-    HasRoomFor report (line_if first (Outside dir b))
-first_room dir b answer waiting report first room f =
-    let front : List Line = line_if (outside_first answer) (Outside dir b) in
-    subst (λ x. HasRoomFor report (line_if x (Outside dir b))) (sym f)
-    (room_first report front (unit_lines dir b waiting) (room_first report (front ++ unit_lines dir b waiting) (line_if (outside_last answer) (Outside dir b)) room))
-
-pub units_room : (dir : Dir) (b : ℕ) (answer : Received) (waiting : List (List ℕ)) (report one : Held) (first : Bool) → HasRoomFor report (received_lines dir b answer waiting) → first ≡ outside_first answer →
-    one ≡ added report (line_if first (Outside dir b)) → HasRoomFor one (unit_lines dir b waiting)
-units_room dir b answer waiting report one first room f is =
-    let front : List Line = line_if (outside_first answer) (Outside dir b) in
-    subst (λ t. HasRoomFor t (unit_lines dir b waiting)) (sym (is ∙ ap (λ x. added report (line_if x (Outside dir b))) f))
-    (room_next report front (unit_lines dir b waiting) (room_first report (front ++ unit_lines dir b waiting) (line_if (outside_last answer) (Outside dir b)) room))
-
-pub last_room : (dir : Dir) (b : ℕ) (answer : Received) (waiting : List (List ℕ)) (report one two : Held) (first last : Bool) → HasRoomFor report (received_lines dir b answer waiting) → first ≡ outside_first answer → last ≡ outside_last answer →
-    one ≡ added report (line_if first (Outside dir b)) → two ≡ added one (unit_lines dir b waiting) → HasRoomFor two (line_if last (Outside dir b))
-last_room dir b answer waiting report one two first last room f l a c =
-    let front : List Line = line_if (outside_first answer) (Outside dir b) in
-    let whole : two ≡ added report (front ++ unit_lines dir b waiting) = c ∙ (ap (λ t. added t (unit_lines dir b waiting)) (a ∙ ap (λ x. added report (line_if x (Outside dir b))) f) ∙ added-added report front (unit_lines dir b waiting)) in
-    subst (λ x. HasRoomFor two (line_if x (Outside dir b))) (sym l)
-    (subst (λ t. HasRoomFor t (line_if (outside_last answer) (Outside dir b))) (sym whole) (room_next report (front ++ unit_lines dir b waiting) (line_if (outside_last answer) (Outside dir b)) room))

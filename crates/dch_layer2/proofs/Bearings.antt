@@ -6,7 +6,8 @@ use Rattle.dch_bits.specs.declared.offer.Offer.{Offer}
 use Rattle.dch_bits.specs.declared.offer.Offer.TheVariants.{Accepted, Full, WrongSize}
 use Rattle.dch_types.specs.declared.channel.Dir.{Dir}
 use Rattle.dch_types.specs.declared.config.Config.{Config}
-use Rattle.dch_script.specs.Held.{Held}
+use Rattle.dch_indication.specs.Lines.{Line}
+use Rattle.dch_indication.specs.Told.{Told}
 use Rattle.dch_rlcpdu.specs.Am.{am_reading}
 use Rattle.dch_rlcpdu.specs.Um.{um_reading}
 use Rattle.dch_rlcpdu.specs.declared.handed.PduError.{PduError}
@@ -26,8 +27,7 @@ use Rattle.dch_layer2.specs.Bearings.{Bearing, Transparent, Unacknowledged, Ackn
 use Rattle.dch_layer2.specs.Hearing.{hears, hears_um, receiver_of, sender_of}
 use Rattle.dch_layer2.specs.Octets.{AreOctets, block_of, field_for, octets_of}
 use Rattle.dch_layer2.proofs.Counting.{offers_kept}
-use Rattle.dch_layer2.specs.Acknowledged.{AmRunning, BuildsAtTurn, HasRoomToHear, HasSides, HasTurn, IsSameBearer, entity_of, lines_on}
-use Rattle.dch_layer2.specs.Reports.{HasRoomFor, added}
+use Rattle.dch_layer2.specs.Acknowledged.{AmRunning, BuildsAtTurn, HasSides, HasTurn, IsSameBearer, entity_of, lines_on}
 use Rattle.dch_layer2.specs.BearerStanding.{Built, HaveSame, HoldsReceiving, HoldsSending, HoldsUnits, Represents, StandsAm, StandsTm, StandsUm}
 use Rattle.dch_layer2.specs.BearerValues.{TmRunning, UmRunning, answer_at, count_of, due_in, heard_by, lines_in, lines_of, next_in, tm_after, tm_answer, tm_built, um_built, um_due, um_head, um_heard, um_lines, um_pdu, units_in, with_first}
 use Rattle.dch_layer2.specs.declared.bearer.Bearer.TheVariants.{Tm, Um, Am}
@@ -105,25 +105,13 @@ am_builds config out into b (Acknowledged s r) v now block is built same =
       stands = am_stands config out into b s (sender_after (turn rules s r) rules (pdu_octets config out b) s) r (receiver_after (turn rules s r) rules r) v now is same (subst (λ n. HasSides rules (sender_after (turn rules s r) rules n s) (receiver_after (turn rules s r) rules r) now) size turned.sides);
     }
 
-pub am_room : (config : Config) (out into : Dir) (b : ℕ) (old : Bearing) (v : AmRunning) (bits : List Bit) (report : Held) → Represents config out into b old (Am v) → HasRoomFor report (hears config into b bits old).lines →
-    HasRoomToHear v.entity v.into v.number (am_reading (octets_of bits)) report
-am_room config out into b (Transparent w us) v bits report is room = absurd is
-am_room config out into b (Unacknowledged s r) v bits report is room = absurd is
-am_room config out into b (Acknowledged s r) v bits report is room = record {
-  rules = rules_in config b;
-  sender = s;
-  receiver = r;
-  entity = is.sides.entity;
-  room = subst (λ d. HasRoomFor report (lines_on (rules_in config b) d v.number (am_reading (octets_of bits)) s r)) (sym is.comes_in)
-      (subst (λ n. HasRoomFor report (lines_on (rules_in config b) into n (am_reading (octets_of bits)) s r)) (sym is.number) room);
-}
-
-pub am_lines : (config : Config) (out into : Dir) (b : ℕ) (old : Bearing) (v : AmRunning) (bits : List Bit) (report now : Held) → Represents config out into b old (Am v) →
-    ((rules : Rules) (s : Sender) (r : Receiver) → HasSides rules s r v → now ≡ added report (lines_on rules v.into v.number (am_reading (octets_of bits)) s r)) → now ≡ added report (hears config into b bits old).lines
-am_lines config out into b (Transparent w us) v bits report now is lines = absurd is
-am_lines config out into b (Unacknowledged s r) v bits report now is lines = absurd is
-am_lines config out into b (Acknowledged s r) v bits report now is lines =
-    lines (rules_in config b) s r is.sides ∙ ap₂ (λ d n. added report (lines_on (rules_in config b) d n (am_reading (octets_of bits)) s r)) is.comes_in is.number
+pub am_told : {S : Type 0} (shows : S → Line → S → Type 0) (config : Config) (out into : Dir) (b : ℕ) (old : Bearing) (v : AmRunning) (bits : List Bit) (before now : S) → Represents config out into b old (Am v) →
+    ((rules : Rules) (s : Sender) (r : Receiver) → HasSides rules s r v → Told shows before (lines_on rules v.into v.number (am_reading (octets_of bits)) s r) now) → Told shows before (hears config into b bits old).lines now
+am_told shows config out into b (Transparent w us) v bits before now is told = absurd is
+am_told shows config out into b (Unacknowledged s r) v bits before now is told = absurd is
+am_told shows config out into b (Acknowledged s r) v bits before now is told =
+    subst (λ n. Told shows before (lines_on (rules_in config b) into n (am_reading (octets_of bits)) s r) now) is.number
+    (subst (λ d. Told shows before (lines_on (rules_in config b) d v.number (am_reading (octets_of bits)) s r) now) is.comes_in (told (rules_in config b) s r is.sides))
 
 pub am_hears : (config : Config) (out into : Dir) (b : ℕ) (old : Bearing) (v now : AmRunning) (bits : List Bit) → Represents config out into b old (Am v) →
     ((rules : Rules) (s : Sender) (r : Receiver) → HasSides rules s r v → HasSides rules (sender_of rules (am_reading (octets_of bits)) s) (receiver_of rules (am_reading (octets_of bits)) r) now) → IsSameBearer v now →

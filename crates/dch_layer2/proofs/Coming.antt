@@ -8,19 +8,17 @@ use Rattle.dch_types.specs.declared.config.Config.{Config}
 use Rattle.dch_types.specs.Parts.{channel_at, format_at, side_of}
 use Rattle.dch_config.specs.Good.{IsGood}
 use Rattle.dch_mac.specs.declared.answer.Demux.{Demux}
-use Rattle.dch_mac.specs.declared.answer.Demux.TheVariants.{To}
 use Rattle.dch_mac.specs.Field.{field_bits}
 use Rattle.dch_mac.specs.Receivers.{receiver}
-use Rattle.dch_script.specs.Held.{Held as Text}
 use Rattle.dch_layer2.specs.Bearings.{Bearing, Transparent, Unacknowledged, Acknowledged, block_bits, pdu_octets}
-use Rattle.dch_layer2.specs.Layers.{Layer, Outcome, goes, takes_good}
+use Rattle.dch_layer2.specs.Layers.{Layer, goes, takes_good}
 use Rattle.dch_layer2.proofs.Good.{AreFilled, am_fits, no_field, um_fits}
-use Rattle.dch_layer2.specs.Reports.{HasRoomFor}
 use Rattle.dch_layer2.specs.BearerStanding.{CanTake, MayCome, Represents as StandsFor}
 use Rattle.dch_layer2.specs.declared.bearer.Bearer.{Bearer}
 use Rattle.dch_layer2.specs.declared.bearer.Bearer.TheVariants.{Tm, Um, Am}
 use Rattle.dch_layer2.proofs.BoundBlocks.{IsReached, one_long, sent_size}
-use Rattle.dch_layer2.specs.Coming.{HasRoomForBlock, HasRoomToPass, IsBlockSize}
+use Rattle.dch_layer2.specs.Coming.{IsBlockSize}
+use Rattle.dch_layer2.specs.Standing.{IsLayerOf}
 use Rattle.dch_layer2.specs.Values.{LayerRunning, entity_at}
 
 -- the octets of the PDU in a block
@@ -57,21 +55,20 @@ skip_inside config out into channel b skip bits (Acknowledged s r) (Um v) good r
 skip_inside config out into channel b skip bits (Acknowledged s r) (Am v) good reach size some is = (octets_come config into channel b skip 6 126 bits reach size some (am_fits config into b channel good reach.on is.mode)).2
 
 -- its bearer may take it
-pub passes : (config : Config) (channel b skip : ℕ) (bits : List Bit) (v : LayerRunning) (report : Text) → IsGood config → IsReached config v.into channel b skip → IsBlockSize config v.into channel (length bits) → 0 < length bits → HasRoomToPass config channel bits (To b skip) v report →
-    (skip ≤ length bits) × CanTake (entity_at v.bearers b) (drop skip bits) report
-passes config channel b skip bits v report good reach size some room =
-    let stands : StandsFor config v.out v.into b (room.layer.bearings b) (entity_at v.bearers b) = room.stands.bearers b reach.there in (
-      skip_inside config v.out v.into channel b skip bits (room.layer.bearings b) (entity_at v.bearers b) good reach size some stands,
+pub passes : (config : Config) (channel b skip : ℕ) (bits : List Bit) (v : LayerRunning) → IsGood config → IsReached config v.into channel b skip → IsBlockSize config v.into channel (length bits) → 0 < length bits → IsLayerOf config v →
+    (skip ≤ length bits) × CanTake (entity_at v.bearers b) (length (drop skip bits))
+passes config channel b skip bits v good reach size some is =
+    let stands : StandsFor config v.out v.into b (is.layer.bearings b) (entity_at v.bearers b) = is.stands.bearers b reach.there in (
+      skip_inside config v.out v.into channel b skip bits (is.layer.bearings b) (entity_at v.bearers b) good reach size some stands,
       record {
         config = config;
         out = v.out;
         into = v.into;
         b = b;
-        bearing = room.layer.bearings b;
+        bearing = is.layer.bearings b;
         stands = stands;
         receives = subst (λ (o : Option ℕ). IsSome o) (sym reach.on) refl;
-        comes = may_come config v.out v.into channel b skip bits (room.layer.bearings b) (entity_at v.bearers b) good reach size some stands;
-        room = room.room;
+        comes = may_come config v.out v.into channel b skip bits (is.layer.bearings b) (entity_at v.bearers b) good reach size some stands;
       },
     )
 
@@ -86,10 +83,3 @@ some_bits (suc n) e = omega arith
 
 pub takes_goes : (config : Config) (into : Dir) (channel : ℕ) (bits : List Bit) (to : Demux) (layer : Layer) → 0 < length bits → to ≡ receiver config into channel bits → takes_good config into channel bits layer ≡ goes config into channel bits to layer
 takes_goes config into channel bits to layer some is = takes_some config into channel bits layer some ∙ ap (λ (d : Demux). goes config into channel bits d layer) (sym is)
-
-pub pass_room : (config : Config) (channel : ℕ) (bits : List Bit) (to : Demux) (v : LayerRunning) (report : Text) → HasRoomForBlock config channel bits v report → 0 < length bits → to ≡ receiver config v.into channel bits → HasRoomToPass config channel bits to v report
-pass_room config channel bits to v report room some is = record {
-  layer = room.layer;
-  stands = room.stands;
-  room = subst (λ (o : Outcome). HasRoomFor report o.lines) (takes_goes config v.into channel bits to room.layer some is) room.room;
-}

@@ -1,5 +1,5 @@
 -- Layer 2 takes what a node reads, channel by channel, and its lines fit in the report of a step.
-use Rattle.std.proofs.Common.{◌≡◌, ◌≢◌, ◌<◌, ◌≤◌, ◌+◌, ◌-◌, ◌*◌, ◌∙◌, ◌++◌, ℕ, zero, suc, List, [], ◌∷◌, length, drop, get_or, arith, refl, ap, ap₂, sym, subst, inl, inr, add-one, append-nil, length-append, length-drop}
+use Rattle.std.proofs.Common.{◌≡◌, ◌≢◌, ◌<◌, ◌≤◌, ◌+◌, ◌-◌, ◌*◌, ◌∙◌, ◌++◌, ℕ, zero, suc, [], ◌∷◌, length, drop, get_or, arith, refl, ap, ap₂, sym, subst, inl, inr, add-one, length-append, length-drop}
 use Rattle.std.proofs.Math.Nat.{mul-le-mul_right}
 use Rattle.std.proofs.lemmas.Bool.Decides.{eqb_tells}
 use Rattle.std.proofs.lemmas.List.{get_or_append_left, get_or_push, length-take-le}
@@ -11,18 +11,17 @@ use Rattle.dch_config.specs.Good.{IsGood}
 use Rattle.dch_accept.specs.Blocks.{Held, block_at}
 use Rattle.dch_accept.specs.HeldSets.{HasFormat}
 use Rattle.dch_accept.specs.Reports.{step_bytes}
-use Rattle.dch_script.specs.Held.{Held as Text}
-use Rattle.dch_node.specs.Lines.{BadTti, Line, text_of}
+use Rattle.dch_indication.specs.Lines.{BadTti, Line}
+use Rattle.dch_indication.specs.Told.{Told}
+use Rattle.dch_indication.proofs.Telling.{told-append}
+use Rattle.dch_script.specs.LineText.{text_of}
 use Rattle.dch_layer2.specs.Layers.{Came, Layer, Outcome, takes}
-use Rattle.dch_layer2.specs.Reports.{added}
-use Rattle.dch_layer2.proofs.Lines.{added-added}
 use Rattle.dch_layer2.specs.BoundedBytes.{AreBounded}
 use Rattle.dch_layer2.specs.ComingBytes.{AreBlocks, IsBlock}
 use Rattle.dch_layer2.proofs.BoundBlocks.{side_good}
 use Rattle.dch_layer2.proofs.Layers.{IsTaken, all_taken, layer_few, none_told, of_both, of_more, short_told}
-use Rattle.dch_layer2.proofs.Texts.{text_long}
 use Rattle.dch_layer2.specs.Bounded.{HasLayer, HasRead, IsTti}
-use Rattle.dch_layer2.specs.Coming.{HasRoomForTti, came_at, came_below, came_of}
+use Rattle.dch_layer2.specs.Coming.{came_at, came_below, came_of}
 use Rattle.dch_layer2.specs.Reading.{Bad, Nothing, Read, Reading, reads, reads_below}
 use Rattle.dch_layer2.specs.Standing.{IsSameEnd, Represents}
 use Rattle.dch_layer2.specs.Values.{LayerRunning}
@@ -97,12 +96,8 @@ pub readings_bounded : (config : Config) (into : Dir) (readings : ℕ → Readin
 readings_bounded config into readings n layer good few are bounded = (reads_paid config into readings n layer good few are bounded).bounded
 
 -- nothing was read yet
-pub none_read : (config : Config) (into : Dir) (readings : ℕ → Reading) (v : LayerRunning) (report : Text) → HasRead config into readings 0 v v report report
-none_read config into readings v report = record {
-  ends = record { sends = refl; receives = refl };
-  stands = λ layer is. is;
-  reported = λ layer is. ap (λ (t : List ℕ). record report { text = t }) (sym (append-nil report.text));
-}
+pub none_read : {S : Type 0} (shows : S → Line → S → Type 0) (config : Config) (into : Dir) (readings : ℕ → Reading) (v : LayerRunning) (user : S) → HasRead shows config into readings 0 v v user user
+none_read shows config into readings v user = record { ends = record { sends = refl; receives = refl }; stands = λ layer is. is; told = λ layer is. refl }
 
 -- one more channel
 reads_next : (config : Config) (into : Dir) (readings : ℕ → Reading) (i : ℕ) (reading : Reading) (layer : Layer) → readings i ≡ reading →
@@ -117,93 +112,50 @@ reads_next config into readings i reading layer is =
     }) is)
 
 -- of which nothing is read
-pub skipped : (config : Config) (into : Dir) (readings : ℕ → Reading) (i : ℕ) (old now : LayerRunning) (before after : Text) → HasRead config into readings i old now before after → readings i ≡ Nothing
-    → HasRead config into readings (i + 1) old now before after
-skipped config into readings i old now before after has none = record {
+pub skipped : {S : Type 0} (shows : S → Line → S → Type 0) (config : Config) (into : Dir) (readings : ℕ → Reading) (i : ℕ) (old now : LayerRunning) (before after : S) → HasRead shows config into readings i old now before after → readings i ≡ Nothing
+    → HasRead shows config into readings (i + 1) old now before after
+skipped shows config into readings i old now before after has none = record {
   ends = has.ends;
   stands = λ layer is. subst (λ (o : Outcome). Represents config o.layer now) (sym (reads_next config into readings i Nothing layer none)) (has.stands layer is);
-  reported = λ layer is.
-      has.reported layer is
-      ∙ ap (λ (ls : List Line). added before ls) (sym (append-nil (reads_below config into readings i layer).lines))
-      ∙ ap (λ (o : Outcome). added before o.lines) (sym (reads_next config into readings i Nothing layer none));
+  told = λ layer is.
+      subst (λ (o : Outcome). Told shows before o.lines after) (sym (reads_next config into readings i Nothing layer none))
+      (told-append shows before after after (reads_below config into readings i layer).lines [] (has.told layer is) refl);
 }
 
 -- whose blocks layer 2 took
-pub taken_on : (config : Config) (into : Dir) (readings : ℕ → Reading) (i : ℕ) (held : Held) (old now next : LayerRunning) (before after later : Text) → HasRead config into readings i old now before after → readings i ≡ Read held → now.into ≡ into
+pub taken_on : {S : Type 0} (shows : S → Line → S → Type 0) (config : Config) (into : Dir) (readings : ℕ → Reading) (i : ℕ) (held : Held) (old now next : LayerRunning) (before after later : S) → HasRead shows config into readings i old now before after → readings i ≡ Read held → now.into ≡ into
     → IsSameEnd now next
-    → ((layer : Layer) → Represents config layer now → later ≡ added after (takes config now.into i 0 (came_of held) layer).lines)
+    → ((layer : Layer) → Represents config layer now → Told shows after (takes config now.into i 0 (came_of held) layer).lines later)
     → ((layer : Layer) → Represents config layer now → Represents config (takes config now.into i 0 (came_of held) layer).layer next)
-    → HasRead config into readings (i + 1) old next before later
-taken_on config into readings i held old now next before after later has reading receives same reported stands = record {
+    → HasRead shows config into readings (i + 1) old next before later
+taken_on shows config into readings i held old now next before after later has reading receives same told stands = record {
   ends = record { sends = same.sends ∙ has.ends.sends; receives = same.receives ∙ has.ends.receives };
   stands = λ layer is.
       subst (λ (o : Outcome). Represents config o.layer next) (sym (reads_next config into readings i (Read held) layer reading))
       (subst (λ (d : Dir). Represents config (takes config d i 0 (came_of held) (reads_below config into readings i layer).layer).layer next) receives (stands (reads_below config into readings i layer).layer (has.stands layer is)));
-  reported = λ layer is.
-      reported (reads_below config into readings i layer).layer (has.stands layer is)
-      ∙ ap (λ (d : Dir). added after (takes config d i 0 (came_of held) (reads_below config into readings i layer).layer).lines) receives
-      ∙ ap (λ (t : Text). added t (takes config into i 0 (came_of held) (reads_below config into readings i layer).layer).lines) (has.reported layer is)
-      ∙ added-added before (reads_below config into readings i layer).lines (takes config into i 0 (came_of held) (reads_below config into readings i layer).layer).lines
-      ∙ ap (λ (o : Outcome). added before o.lines) (sym (reads_next config into readings i (Read held) layer reading));
+  told = λ layer is.
+      let first : Outcome = reads_below config into readings i layer in
+      subst (λ (o : Outcome). Told shows before o.lines later) (sym (reads_next config into readings i (Read held) layer reading))
+      (told-append shows before after later first.lines (takes config into i 0 (came_of held) first.layer).lines (has.told layer is)
+      (subst (λ (d : Dir). Told shows after (takes config d i 0 (came_of held) first.layer).lines later) receives (told first.layer (has.stands layer is))));
 }
 
--- one of whose radio frames is bad, which was reported
-pub bad_on : (config : Config) (into : Dir) (readings : ℕ → Reading) (i frame : ℕ) (old now : LayerRunning) (before after later : Text) → HasRead config into readings i old now before after → readings i ≡ Bad frame
-    → later ≡ added after (BadTti into i frame ∷ []) → HasRead config into readings (i + 1) old now before later
-bad_on config into readings i frame old now before after later has bad reported = record {
+-- one of whose radio frames is bad, which was told
+pub bad_on : {S : Type 0} (shows : S → Line → S → Type 0) (config : Config) (into : Dir) (readings : ℕ → Reading) (i frame : ℕ) (old now : LayerRunning) (before after later : S) → HasRead shows config into readings i old now before after → readings i ≡ Bad frame
+    → Told shows after (BadTti into i frame ∷ []) later → HasRead shows config into readings (i + 1) old now before later
+bad_on shows config into readings i frame old now before after later has bad told = record {
   ends = has.ends;
   stands = λ layer is. subst (λ (o : Outcome). Represents config o.layer now) (sym (reads_next config into readings i (Bad frame) layer bad)) (has.stands layer is);
-  reported = λ layer is.
-      reported
-      ∙ ap (λ (t : Text). added t (BadTti into i frame ∷ [])) (has.reported layer is)
-      ∙ added-added before (reads_below config into readings i layer).lines (BadTti into i frame ∷ [])
-      ∙ ap (λ (o : Outcome). added before o.lines) (sym (reads_next config into readings i (Bad frame) layer bad));
+  told = λ layer is.
+      subst (λ (o : Outcome). Told shows before o.lines later) (sym (reads_next config into readings i (Bad frame) layer bad))
+      (told-append shows before after later (reads_below config into readings i layer).lines (BadTti into i frame ∷ []) (has.told layer is) told);
 }
 
--- there is room for the blocks of the next channel, in a step that wrote no more than 1,300,000 bytes before
-pub next_room : (config : Config) (into : Dir) (readings : ℕ → Reading) (i : ℕ) (held : Held) (old now : LayerRunning) (before after : Text) → IsGood config → i < length (side_of config into).channels → readings i ≡ Read held
-    → ((k : ℕ) → k < suc i → IsTti config into k (readings k)) → HasRead config into readings i old now before after → HasLayer config old → now.into ≡ into → length before.text + step_bytes config ≤ before.most + 1300000
-    → HasRoomForTti config i held now after
-next_room config into readings i held old now before after good inside is are read has receives room =
-    let first : Outcome = reads_below config into readings i has.layer in
-    let next : Outcome = reads config into i (readings i) first.layer in
-    let all : length (text_of (first.lines ++ next.lines)) + 1300000 ≤ step_bytes config = readings_room config into readings (suc i) has.layer good (omega (arith, inside)) are has.bounded in
-    let long : length (text_of (first.lines ++ next.lines)) ≡ length (text_of first.lines) + length (text_of next.lines) = text_long first.lines next.lines in
-    let said : length after.text ≡ length before.text + length (text_of first.lines) = ap (λ (t : Text). length t.text) (read.reported has.layer has.stands) ∙ length-append before.text (text_of first.lines) in
-    let most : after.most ≡ before.most = ap (λ (t : Text). t.most) (read.reported has.layer has.stands) in
-    let fits : length after.text + length (text_of (takes config into i 0 (came_of held) first.layer).lines) ≤ after.most =
-    subst (λ (r : Reading). length after.text + length (text_of (reads config into i r first.layer).lines) ≤ after.most) is (omega (arith, all, long, said, most, room)) in
-    record {
-      layer = first.layer;
-      stands = read.stands has.layer has.stands;
-      room = subst (λ (d : Dir). length after.text + length (text_of (takes config d i 0 (came_of held) first.layer).lines) ≤ after.most) (sym receives) fits;
-    }
-
--- and for 332,800 bytes, as for the line on a bad radio frame
-pub next_bytes : (config : Config) (into : Dir) (readings : ℕ → Reading) (i : ℕ) (old now : LayerRunning) (before after : Text) → IsGood config → i < length (side_of config into).channels → ((k : ℕ) → k < i → IsTti config into k (readings k))
-    → HasRead config into readings i old now before after → HasLayer config old → length before.text + step_bytes config ≤ before.most + 1300000 → length after.text + 332800 ≤ after.most
-next_bytes config into readings i old now before after good inside are read has room =
-    let lines : List Line = (reads_below config into readings i has.layer).lines in
-    let paid : IsTaken config has.layer (reads_below config into readings i has.layer) (i * 332800) = reads_paid config into readings i has.layer good (omega (arith, inside)) are has.bounded in
-    let said : length after.text ≡ length before.text + length (text_of lines) = ap (λ (t : Text). length t.text) (read.reported has.layer has.stands) ∙ length-append before.text (text_of lines) in
-    let most : after.most ≡ before.most = ap (λ (t : Text). t.most) (read.reported has.layer has.stands) in
-    omega (arith, paid.paid, layer_few config has.layer good has.bounded, inside, (side_good config into good).few, said, most, room)
-
--- layer 2 stays limited, and no more is reported than a step may, less 1,300,000 bytes
-pub read_layer : (config : Config) (into : Dir) (readings : ℕ → Reading) (n : ℕ) (old new : LayerRunning) (before after : Text) → IsGood config → n ≤ length (side_of config into).channels
-    → ((i : ℕ) → i < n → IsTti config into i (readings i)) → HasLayer config old → HasRead config into readings n old new before after → HasLayer config new
-read_layer config into readings n old new before after good few are has read = record {
+-- layer 2 stays limited
+pub read_layer : {S : Type 0} (shows : S → Line → S → Type 0) (config : Config) (into : Dir) (readings : ℕ → Reading) (n : ℕ) (old new : LayerRunning) (before after : S) → IsGood config → n ≤ length (side_of config into).channels
+    → ((i : ℕ) → i < n → IsTti config into i (readings i)) → HasLayer config old → HasRead shows config into readings n old new before after → HasLayer config new
+read_layer shows config into readings n old new before after good few are has read = record {
   layer = (reads_below config into readings n has.layer).layer;
   stands = read.stands has.layer has.stands;
   bounded = readings_bounded config into readings n has.layer good few are has.bounded;
 }
-
-pub read_few : (config : Config) (into : Dir) (readings : ℕ → Reading) (n : ℕ) (old new : LayerRunning) (before after : Text) → IsGood config → n ≤ length (side_of config into).channels
-    → ((i : ℕ) → i < n → IsTti config into i (readings i)) → HasLayer config old → HasRead config into readings n old new before after → length after.text + 1300000 ≤ length before.text + step_bytes config
-read_few config into readings n old new before after good few are has read =
-    let lines : List Line = (reads_below config into readings n has.layer).lines in
-    let said : length after.text ≡ length before.text + length (text_of lines) = ap (λ (t : Text). length t.text) (read.reported has.layer has.stands) ∙ length-append before.text (text_of lines) in
-    omega (arith, said, readings_room config into readings n has.layer good few are has.bounded)
-
-pub read_most : (config : Config) (into : Dir) (readings : ℕ → Reading) (n : ℕ) (old new : LayerRunning) (before after : Text) → HasLayer config old → HasRead config into readings n old new before after → after.most ≡ before.most
-read_most config into readings n old new before after has read = ap (λ (t : Text). t.most) (read.reported has.layer has.stands)

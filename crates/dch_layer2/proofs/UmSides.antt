@@ -1,8 +1,10 @@
 -- What an unacknowledged bearer makes of the bits of a PDU.
-use Rattle.std.proofs.Common.{◌≡◌, ◌∙◌, ℕ, List, true, false, Option, Some, None, sym, ap, subst}
+use Rattle.std.proofs.Common.{◌≡◌, ◌∙◌, ℕ, List, [], true, false, Option, Some, None, Result, Ok, Err, sym, ap, subst}
 use Rattle.std.specs.Prelude.{IsSome, option_map}
 use Rattle.dch_bits.specs.declared.bit.Bit.{Bit}
 use Rattle.dch_rlcpdu.specs.Um.{um_reading}
+use Rattle.dch_rlcpdu.specs.declared.handed.PduError.{PduError}
+use Rattle.dch_rlcpdu.specs.declared.um.UmView.{UmView}
 use Rattle.dch_rlcum.specs.Receiving.{Receiving}
 use Rattle.dch_layer2.specs.Octets.{AreOctets, bits_of, octets_of}
 use Rattle.dch_layer2.specs.BearerValues.{UmRunning, heard_by, lines_in, lines_of, um_heard, um_lines}
@@ -25,3 +27,8 @@ pub has_receiver : (v now : UmRunning) → v ≡ now → v.receiver ≡ None →
 has_receiver v now same none some =
     let h : false ≡ true = subst (λ (o : Option Receiving). IsSome o) (sym (ap (λ (x : UmRunning). x.receiver) same) ∙ none) some in
     absurd (cc)
+
+-- no unit waits in it
+pub heard_settled : (reading : Result UmView PduError) (r now : Receiving) → r.waiting ≡ [] → now ≡ heard_by reading r → now.waiting ≡ []
+heard_settled (Ok view) r now settled is = ap (λ (x : Receiving). x.waiting) is
+heard_settled (Err e) r now settled is = ap (λ (x : Receiving). x.waiting) is ∙ settled

@@ -2,7 +2,6 @@
 use Rattle.std.specs.Prelude.{◌≡◌, ◌++◌, ◌||◌, ℕ, List, Bool, true, false, length, Option, Some, None, Result}
 use Rattle.dch_bits.specs.declared.bit.Bit.{Bit}
 use Rattle.dch_types.specs.declared.channel.Dir.{Dir}
-use Rattle.dch_script.specs.Held.{Held}
 use Rattle.dch_rlcpdu.specs.declared.am.AmView.{AmView}
 use Rattle.dch_am.specs.Entities.{Entity, IsWritten, receiver_after, sender_after, turn, writes}
 use Rattle.dch_am.specs.Receiver.{Receiver}
@@ -14,12 +13,11 @@ use Rattle.dch_pair.specs.Answers.{IsToldAt, is_outside, is_unknown}
 use Rattle.dch_pair.specs.EntityStanding.{Represents, Running, is_settled, size_in, size_of}
 use Rattle.dch_pair.specs.declared.answers.Received.{Received}
 use Rattle.dch_pair.specs.declared.answers.Received.TheVariants.{Data, Control, Reset, ResetAck}
-use Rattle.dch_node.specs.Lines.{Line, Outside}
+use Rattle.dch_indication.specs.Lines.{Line, Outside}
 use Rattle.dch_rlcpdu.specs.declared.handed.PduError.{PduError}
 use Rattle.dch_layer2.specs.Hearing.{hears_am}
 use Rattle.dch_layer2.specs.Octets.{AreOctets, block_of}
 use Rattle.dch_layer2.specs.UnitLines.{line_if, unit_lines}
-use Rattle.dch_layer2.specs.Reports.{HasRoomFor}
 use Rattle.dch_layer2.specs.Shapes.{IsWhole}
 use Rattle.dch_layer2.specs.declared.shape.Shape.{Shape}
 
@@ -73,14 +71,6 @@ pub record BuildsAtTurn (rules : Rules) (s : Sender) (r : Receiver) (old new : A
 -- the lines on octets that came
 abbrev pub lines_on : Rules → Dir → ℕ → Result AmView PduError → Sender → Receiver → List Line
 lines_on rules dir b reading s r = (hears_am rules dir b reading s r).lines
-
--- there is room for all of them
-pub record HasRoomToHear (v : Running) (dir : Dir) (b : ℕ) (reading : Result AmView PduError) (report : Held) : Type 0 where
-  pub rules : Rules
-  pub sender : Sender
-  pub receiver : Receiver
-  pub entity : Represents rules v (entity_of sender receiver)
-  pub room : HasRoomFor report (lines_on rules dir b reading sender receiver)
 
 -- what is reported before the units and behind them: a PDU, or a status, is outside; a status that rides on a PDU is
 abbrev pub outside_first : Received → Bool

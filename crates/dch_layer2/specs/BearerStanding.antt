@@ -5,7 +5,6 @@ use Rattle.dch_types.specs.declared.channel.Dir.{Dir}
 use Rattle.dch_types.specs.declared.bearer.Mode.TheVariants.{Tm as TmMode, Um as UmMode, Am as AmMode}
 use Rattle.dch_types.specs.declared.config.Config.{Config}
 use Rattle.dch_config.specs.Changes.{KeepsBearer}
-use Rattle.dch_script.specs.Held.{Held}
 use Rattle.dch_rlctm.specs.Waiting.{Waiting, is_size}
 use Rattle.dch_rlcum.specs.Receiving.{Receiving}
 use Rattle.dch_rlcum.specs.Sending.{Sending, no_units}
@@ -14,9 +13,7 @@ use Rattle.dch_am.specs.Sender.{Sender}
 use Rattle.dch_pair.specs.EntityStanding.{size_in}
 use Rattle.dch_layer2.specs.Bearings.{Bearing, Transparent, Unacknowledged, Acknowledged, Sends, bearer_in, channel_of, ct_of, head_of, marks_start, pdu_octets, rules_in, sizes_on}
 use Rattle.dch_layer2.specs.Building.{Builds}
-use Rattle.dch_layer2.specs.Hearing.{hears}
 use Rattle.dch_layer2.specs.Acknowledged.{AmRunning, HasSides}
-use Rattle.dch_layer2.specs.Reports.{HasRoomFor}
 use Rattle.dch_layer2.specs.Shapes.{shape_of}
 use Rattle.dch_layer2.specs.BearerValues.{TmRunning, UmRunning}
 use Rattle.dch_layer2.specs.declared.bearer.Bearer.{Bearer}
@@ -119,8 +116,8 @@ MayCome config into b (Transparent w us) bits = Unit {0}
 MayCome config into b (Unacknowledged s r) bits = (bits ≡ 8 * pdu_octets config into b) × (pdu_octets config into b ≤ 125)
 MayCome config into b (Acknowledged s r) bits = (bits ≡ 8 * pdu_octets config into b) × (pdu_octets config into b ≤ 126)
 
--- it receives, and there is room for all lines on these bits
-pub record CanTake (bearer : Bearer) (bits : List Bit) (report : Held) : Type 0 where
+-- it receives, and so many bits may come to it
+pub record CanTake (bearer : Bearer) (bits : ℕ) : Type 0 where
   pub config : Config
   pub out : Dir
   pub into : Dir
@@ -128,8 +125,7 @@ pub record CanTake (bearer : Bearer) (bits : List Bit) (report : Held) : Type 0 
   pub bearing : Bearing
   pub stands : Represents config out into b bearing bearer
   pub receives : IsSome (channel_of config into b)
-  pub comes : MayCome config into b bearing (length bits)
-  pub room : HasRoomFor report (hears config into b bits bearing).lines
+  pub comes : MayCome config into b bearing bits
 
 -- a bearer whose PDUs have as many octets in a configuration, where it has a channel to send on if it sends
 pub record FitsUm (config : Config) (out : Dir) (v : UmRunning) : Type 0 where

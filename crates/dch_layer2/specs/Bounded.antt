@@ -1,12 +1,12 @@
 -- Layer 2 that holds no more than may be reported in a step, and what it does with what a node reads.
-use Rattle.std.specs.Prelude.{◌≡◌, ◌<◌, ℕ}
+use Rattle.std.specs.Prelude.{◌<◌, ℕ}
 use Rattle.dch_types.specs.declared.channel.Dir.{Dir}
 use Rattle.dch_types.specs.declared.config.Config.{Config}
 use Rattle.dch_types.specs.Parts.{channel_at, side_of}
 use Rattle.dch_accept.specs.HeldSets.{HasFormat}
-use Rattle.dch_script.specs.Held.{Held as Text}
+use Rattle.dch_indication.specs.Lines.{Line}
+use Rattle.dch_indication.specs.Told.{Told}
 use Rattle.dch_layer2.specs.Layers.{Layer}
-use Rattle.dch_layer2.specs.Reports.{added}
 use Rattle.dch_layer2.specs.BoundedBytes.{AreBounded}
 use Rattle.dch_layer2.specs.Reading.{Bad, Nothing, Read, Reading, reads_below}
 use Rattle.dch_layer2.specs.Standing.{IsSameEnd, Represents}
@@ -19,10 +19,10 @@ pub record HasLayer (config : Config) (v : LayerRunning) : Type 0 where
   pub bounded : AreBounded config layer
 
 -- layer 2 took the readings of the first channels
-pub record HasRead (config : Config) (into : Dir) (readings : ℕ → Reading) (count : ℕ) (old new : LayerRunning) (before after : Text) : Type 0 where
+pub record HasRead {S : Type 0} (shows : S → Line → S → Type 0) (config : Config) (into : Dir) (readings : ℕ → Reading) (count : ℕ) (old new : LayerRunning) (before after : S) : Type 0 where
   pub ends : IsSameEnd old new
   pub stands : (layer : Layer) → Represents config layer old → Represents config (reads_below config into readings count layer).layer new
-  pub reported : (layer : Layer) → Represents config layer old → after ≡ added before (reads_below config into readings count layer).lines
+  pub told : (layer : Layer) → Represents config layer old → Told shows before (reads_below config into readings count layer).lines after
 
 -- what was read of a channel is a TTI of it, one of whose up to 8 radio frames is bad, or nothing
 abbrev pub IsTti : Config → Dir → ℕ → Reading → Type 0

@@ -1,14 +1,12 @@
 -- Blocks that come to layer 2 of an end.
 use Rattle.std.specs.Prelude.{◌≡◌, ◌<◌, ◌≤◌, ◌++◌, ℕ, zero, suc, List, [], ◌∷◌, false, length, slice_index_or}
-use Rattle.dch_bits.specs.declared.bit.Bit.{Bit}
 use Rattle.dch_types.specs.declared.channel.Dir.{Dir}
 use Rattle.dch_types.specs.declared.config.Config.{Config}
 use Rattle.dch_types.specs.Parts.{channel_at, format_at, side_of}
 use Rattle.dch_accept.specs.Blocks.{Held, block_at}
-use Rattle.dch_mac.specs.declared.answer.Demux.{Demux}
-use Rattle.dch_script.specs.Held.{Held as Text}
-use Rattle.dch_layer2.specs.Layers.{Came, Layer, goes, takes, takes_good, takes_one}
-use Rattle.dch_layer2.specs.Reports.{HasRoomFor, added}
+use Rattle.dch_indication.specs.Lines.{Line}
+use Rattle.dch_indication.specs.Told.{Told}
+use Rattle.dch_layer2.specs.Layers.{Came, Layer, takes}
 use Rattle.dch_layer2.specs.Standing.{IsSameEnd, Represents}
 use Rattle.dch_layer2.specs.Values.{LayerRunning}
 
@@ -18,18 +16,6 @@ pub record IsBlockSize (config : Config) (into : Dir) (channel bits : ℕ) : Typ
   pub there : format < length (channel_at (side_of config into) channel).formats
   pub some : 1 ≤ (format_at (channel_at (side_of config into) channel) format).number
   pub size : bits ≡ (format_at (channel_at (side_of config into) channel) format).size
-
--- there is room for all lines on a good block
-pub record HasRoomForBlock (config : Config) (channel : ℕ) (bits : List Bit) (v : LayerRunning) (report : Text) : Type 0 where
-  pub layer : Layer
-  pub stands : Represents config layer v
-  pub room : HasRoomFor report (takes_good config v.into channel bits layer).lines
-
--- and on one that goes there
-pub record HasRoomToPass (config : Config) (channel : ℕ) (bits : List Bit) (to : Demux) (v : LayerRunning) (report : Text) : Type 0 where
-  pub layer : Layer
-  pub stands : Represents config layer v
-  pub room : HasRoomFor report (goes config v.into channel bits to layer).lines
 
 -- block k of a TTI as it came, and the first blocks
 abbrev pub came_at : Held → ℕ → Came
@@ -43,19 +29,8 @@ came_below held (suc k) = came_below held k ++ came_at held k ∷ []
 abbrev pub came_of : Held → List Came
 came_of held = came_below held (length held.good)
 
--- there is room for all lines on block k, and on the first blocks
-pub record HasRoomForOne (config : Config) (channel k : ℕ) (held : Held) (v : LayerRunning) (report : Text) : Type 0 where
-  pub layer : Layer
-  pub stands : Represents config layer v
-  pub room : HasRoomFor report (takes_one config v.into channel k (block_at held k) (slice_index_or held.good k false) layer).lines
-
-pub record HasRoomForTti (config : Config) (channel : ℕ) (held : Held) (v : LayerRunning) (report : Text) : Type 0 where
-  pub layer : Layer
-  pub stands : Represents config layer v
-  pub room : HasRoomFor report (takes config v.into channel 0 (came_of held) layer).lines
-
 -- the first blocks were taken
-pub record AreTaken (config : Config) (channel k : ℕ) (held : Held) (old now : LayerRunning) (before after : Text) : Type 0 where
+pub record AreTaken {S : Type 0} (shows : S → Line → S → Type 0) (config : Config) (channel k : ℕ) (held : Held) (old now : LayerRunning) (before after : S) : Type 0 where
   pub ends : IsSameEnd old now
   pub stands : (layer : Layer) → Represents config layer old → Represents config (takes config old.into channel 0 (came_below held k) layer).layer now
-  pub reported : (layer : Layer) → Represents config layer old → after ≡ added before (takes config old.into channel 0 (came_below held k) layer).lines
+  pub told : (layer : Layer) → Represents config layer old → Told shows before (takes config old.into channel 0 (came_below held k) layer).lines after

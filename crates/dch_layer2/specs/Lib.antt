@@ -16,7 +16,7 @@ pub mod Hearing
 pub mod Layers
 pub mod Starting
 pub mod Shapes
-pub mod Reports
+pub mod Handing
 pub mod BearerValues
 pub mod Acknowledged
 pub mod BearerStanding

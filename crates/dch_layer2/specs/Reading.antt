@@ -3,7 +3,7 @@ use Rattle.std.specs.Prelude.{◌++◌, ℕ, zero, suc, [], ◌∷◌}
 use Rattle.dch_types.specs.declared.channel.Dir.{Dir}
 use Rattle.dch_types.specs.declared.config.Config.{Config}
 use Rattle.dch_accept.specs.Blocks.{Held}
-use Rattle.dch_node.specs.Lines.{BadTti}
+use Rattle.dch_indication.specs.Lines.{BadTti}
 use Rattle.dch_layer2.specs.Layers.{Layer, Outcome, takes}
 use Rattle.dch_layer2.specs.Coming.{came_of}
 

@@ -10,25 +10,25 @@ ghost use Rattle.dch_amlaw.specs.Pair.{all_handed, is_beyond};
 ghost use Rattle.dch_pair.specs.Answers.{is_outside, is_unknown};
 ghost use Rattle.dch_pair.specs.EntityStanding.{AreSizes, Represents, is_settled, size_in, waiting_in};
 ghost use Rattle.dch_types.specs.declared.bearer.Mode.TheVariants.{Am};
+ghost use Rattle.dch_indication.specs.Told.{Told};
 ghost use Rattle.dch_layer2.specs.Bearings.{bearer_in, rules_in};
 ghost use Rattle.dch_layer2.specs.Hearing.{receiver_of, sender_of};
 ghost use Rattle.dch_layer2.specs.Octets.{octets_of};
 ghost use Rattle.dch_layer2.specs.UnitLines.{unit_lines};
 ghost use Rattle.dch_layer2.specs.BearerStanding.{FitsAm, StandsAm};
-ghost use Rattle.dch_layer2.specs.Acknowledged.{BuildsAtTurn, HasRoomToHear, HasSides, HasTurn, IsAmShape, IsSameBearer, entity_of, lines_on, outside_first, outside_last};
-ghost use Rattle.dch_layer2.specs.Reports.{HasRoomFor, added};
+ghost use Rattle.dch_layer2.specs.Acknowledged.{BuildsAtTurn, HasSides, HasTurn, IsAmShape, IsSameBearer, entity_of, lines_on, outside_first, outside_last};
 ghost use Rattle.dch_layer2.specs.Shapes.{shape_of};
 
-use crate::bearer_report::{put_bad, put_handed, put_outside_if};
 use crate::block::{read_octets, write_block};
 use crate::channel::{bearer_of, shape_on};
 use crate::shape::Shape;
+use crate::telling::{tell_bad, tell_handed, tell_outside_if};
 use dch_accept::Accepted;
 use dch_am::{MrwTaken, StatusTaken, Taken};
 use dch_bits::{Bit, NoMemory, Offer};
+use dch_indication::Indications;
 use dch_pair::{AmEntity, Received};
 use dch_rlcpdu::{AmView, read_am};
-use dch_script::Report;
 use dch_select::Head;
 use dch_types::Dir;
 use std::alloc::Global;
@@ -153,14 +153,13 @@ impl AmBearer {
 
     /// Takes the bits of a PDU that came, and hands up the units that end in it or are in order now, each by way of `unit`, which has 1,500
     /// octets.
-    pub fn take(&mut self, bits: &[Bit], unit: &mut [u8], report: &mut Report)
+    pub fn take<U: Indications>(&mut self, bits: &[Bit], unit: &mut [u8], user: &mut U)
         requires few { length bits.now ≤ 1008 }
         requires whole { length bits.now ≡ 8 * (length bits.now / 8) }
         requires comes { length bits.now / 8 ≤ size_in self.old.entity }
         requires unit { length unit.old ≡ 1500 }
-        requires room { HasRoomToHear self.old.entity self.old.into self.old.number (am_reading (octets_of bits.now)) report.old }
-        ensures reported { (rules : Rules) (s : Sender) (r : Receiver) → HasSides rules s r self.old →
-            report.new ≡ added report.old (lines_on rules self.old.into self.old.number (am_reading (octets_of bits.now)) s r) }
+        ensures told { (rules : Rules) (s : Sender) (r : Receiver) → HasSides rules s r self.old →
+            Told U.shows user.old (lines_on rules self.old.into self.old.number (am_reading (octets_of bits.now)) s r) user.new }
         ensures sides { (rules : Rules) (s : Sender) (r : Receiver) → HasSides rules s r self.old →
             HasSides rules (sender_of rules (am_reading (octets_of bits.now)) s) (receiver_of rules (am_reading (octets_of bits.now)) r) self.new }
         ensures same { IsSameBearer self.old self.new }
@@ -168,73 +167,76 @@ impl AmBearer {
         let mut octets = [0; 126];
         let pdu = &mut octets[..bits.len() / 8];
         read_octets(bits, pdu);
-        hear(&mut self.entity, pdu, self.into, self.number, unit, report);
+        hear(&mut self.entity, pdu, self.into, self.number, unit, user);
     }
 }
 
 /// An entity takes the octets of a PDU, and hands up the units that are in order now.
-fn hear(
+fn hear<U: Indications>(
     entity: &mut AmEntity,
     pdu: &[u8],
     dir: Dir,
     bearer: u8,
     unit: &mut [u8],
-    report: &mut Report,
+    user: &mut U,
 )
     requires settled { is_settled entity.old ≡ true }
     requires few { length pdu.now ≤ size_in entity.old }
     requires unit { length unit.old ≡ 1500 }
-    requires room { HasRoomToHear entity.old dir bearer (am_reading pdu.now) report.old }
-    ensures reported { (rules : Rules) (s : Sender) (r : Receiver) → Represents rules entity.old (entity_of s r) →
-        report.new ≡ added report.old (lines_on rules dir bearer (am_reading pdu.now) s r) }
+    ensures told { (rules : Rules) (s : Sender) (r : Receiver) → Represents rules entity.old (entity_of s r) →
+        Told U.shows user.old (lines_on rules dir bearer (am_reading pdu.now) s r) user.new }
     ensures sides { (rules : Rules) (s : Sender) (r : Receiver) → Represents rules entity.old (entity_of s r) →
         Represents rules entity.new (entity_of (sender_of rules (am_reading pdu.now) s) (receiver_of rules (am_reading pdu.now) r)) }
     ensures settled { is_settled entity.new ≡ true }
     ensures sizes { AreSizes entity.old entity.new }
 {
     match read_am(pdu) {
-        Ok(view) => receive(entity, &view, dir, bearer, unit, report),
-        Err(error) => put_bad(report, dir, bearer, error),
+        Ok(view) => receive(entity, &view, dir, bearer, unit, user),
+        Err(error) => tell_bad(user, dir, bearer, error),
     }
 }
 
 /// An entity takes a PDU that was read, and hands up the units that are in order now.
-fn receive(
+fn receive<U: Indications>(
     entity: &mut AmEntity,
     view: &AmView<'_>,
     dir: Dir,
     bearer: u8,
     unit: &mut [u8],
-    report: &mut Report,
+    user: &mut U,
 )
     requires settled { is_settled entity.old ≡ true }
     requires small { IsSmall (size_in entity.old) view.now }
     requires unit { length unit.old ≡ 1500 }
-    requires room { HasRoomToHear entity.old dir bearer (Ok view.now) report.old }
-    ensures reported { (rules : Rules) (s : Sender) (r : Receiver) → Represents rules entity.old (entity_of s r) →
-        report.new ≡ added report.old (lines_on rules dir bearer (Ok view.now) s r) }
+    ensures told { (rules : Rules) (s : Sender) (r : Receiver) → Represents rules entity.old (entity_of s r) →
+        Told U.shows user.old (lines_on rules dir bearer (Ok view.now) s r) user.new }
     ensures sides { (rules : Rules) (s : Sender) (r : Receiver) → Represents rules entity.old (entity_of s r) →
         Represents rules entity.new (entity_of (sender_by rules (pdu_of view.now) s) (receiver_by rules (pdu_of view.now) r)) }
     ensures settled { is_settled entity.new ≡ true }
     ensures sizes { AreSizes entity.old entity.new }
 {
     let received = entity.receive(view);
-    put_outside_if(report, outside_first(&received), dir, bearer);
-    hand_up(entity, dir, bearer, unit, report);
-    put_outside_if(report, outside_last(&received), dir, bearer);
+    tell_outside_if(user, outside_first(&received), dir, bearer);
+    hand_up(entity, dir, bearer, unit, user);
+    tell_outside_if(user, outside_last(&received), dir, bearer);
 }
 
 /// An entity hands up all units that wait.
-fn hand_up(entity: &mut AmEntity, dir: Dir, bearer: u8, unit: &mut [u8], report: &mut Report)
-    requires unit { length unit.old ≡ 1500 }
-    requires room { HasRoomFor report.old (unit_lines dir bearer (waiting_in entity.old)) }
-    ensures reported { report.new ≡ added report.old (unit_lines dir bearer (waiting_in entity.old)) }
+fn hand_up<U: Indications>(
+    entity: &mut AmEntity,
+    dir: Dir,
+    bearer: u8,
+    unit: &mut [u8],
+    user: &mut U,
+)
+    requires { length unit.old ≡ 1500 }
+    ensures told { Told U.shows user.old (unit_lines dir bearer (waiting_in entity.old)) user.new }
     ensures settled { is_settled entity.new ≡ true }
     ensures sizes { AreSizes entity.old entity.new }
     ensures history { (rules : Rules) (e : Entity) → Represents rules entity.old e → Represents rules entity.new (all_handed e) }
 {
     while let Some(handed) = entity.next_unit(unit) {
-        put_handed(report, dir, bearer, handed, unit);
+        tell_handed(user, dir, bearer, handed, unit);
     }
 }
 

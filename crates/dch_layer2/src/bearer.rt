@@ -2,9 +2,9 @@ ghost use Rattle.std.specs.Prelude.{◌≡◌, ◌<◌, ℕ, IfOk, length};
 ghost use Rattle.dch_types.specs.declared.channel.Dir.{Dir};
 ghost use Rattle.dch_types.specs.declared.config.Config.{Config};
 ghost use Rattle.dch_config.specs.Changes.{KeepsBearer};
+ghost use Rattle.dch_indication.specs.Told.{Told};
 ghost use Rattle.dch_layer2.specs.Bearings.{Bearing, after_answer, answers, head_of, opened_bearing, ticked};
 ghost use Rattle.dch_layer2.specs.Hearing.{hears};
-ghost use Rattle.dch_layer2.specs.Reports.{added};
 ghost use Rattle.dch_layer2.specs.BearerStanding.{Built, CanBuild, CanGoOn, CanSend, CanTake, Represents};
 
 use crate::am::AmBearer;
@@ -13,7 +13,7 @@ use crate::tm::TmBearer;
 use crate::um::UmBearer;
 use dch_accept::Accepted;
 use dch_bits::{Bit, NoMemory, Offer};
-use dch_script::Report;
+use dch_indication::Indications;
 use dch_select::Head;
 use dch_types::{Dir, Mode};
 use std::alloc::Global;
@@ -106,18 +106,18 @@ impl Bearer {
 
     /// Takes the bits of a PDU that came, behind its C/T field, and hands up what is whole now, each unit by way of `unit`, which has 1,500
     /// octets. It has a channel to receive from.
-    pub fn take(&mut self, bits: &[Bit], unit: &mut [u8], report: &mut Report)
+    pub fn take<U: Indications>(&mut self, bits: &[Bit], unit: &mut [u8], user: &mut U)
         requires unit { length unit.old ≡ 1500 }
-        requires comes { CanTake self.old bits.now report.old }
-        ensures reported { (config : Config) (out into : Dir) (b : ℕ) (old : Bearing) → Represents config out into b old self.old →
-            report.new ≡ added report.old (hears config into b bits.now old).lines }
+        requires comes { CanTake self.old (length bits.now) }
+        ensures told { (config : Config) (out into : Dir) (b : ℕ) (old : Bearing) → Represents config out into b old self.old →
+            Told U.shows user.old (hears config into b bits.now old).lines user.new }
         ensures stands { (config : Config) (out into : Dir) (b : ℕ) (old : Bearing) → Represents config out into b old self.old →
             Represents config out into b (hears config into b bits.now old).bearing self.new }
     {
         match self {
-            Bearer::Tm(bearer) => bearer.take(bits, report),
-            Bearer::Um(bearer) => bearer.take(bits, unit, report),
-            Bearer::Am(bearer) => bearer.take(bits, unit, report),
+            Bearer::Tm(bearer) => bearer.take(bits, user),
+            Bearer::Um(bearer) => bearer.take(bits, unit, user),
+            Bearer::Am(bearer) => bearer.take(bits, unit, user),
         }
     }
 

@@ -4,7 +4,6 @@
 
 mod am;
 mod bearer;
-mod bearer_report;
 mod block;
 mod bound_laws;
 mod changing;
@@ -13,10 +12,10 @@ mod choosing;
 mod laws;
 mod layer;
 mod opening;
-mod report;
 mod shape;
 mod starting;
 mod taking;
+mod telling;
 mod tm;
 mod um;
 

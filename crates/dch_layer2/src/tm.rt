@@ -1,17 +1,16 @@
-ghost use Rattle.std.specs.Prelude.{◌≡◌, ◌≤◌, ◌<◌, ◌∷◌, [], IfOk, IsSome, IsSomeAnd, length, slice_get};
+ghost use Rattle.std.specs.Prelude.{◌≡◌, ◌≤◌, ◌<◌, [], IfOk, IsSome, IsSomeAnd, length, slice_get};
 ghost use Rattle.dch_types.specs.declared.bearer.Mode.TheVariants.{Tm};
-ghost use Rattle.dch_node.specs.Lines.{GotBits};
+ghost use Rattle.dch_indication.specs.Lines.{GotBits};
 ghost use Rattle.dch_layer2.specs.Bearings.{bearer_in};
 ghost use Rattle.dch_layer2.specs.BearerStanding.{StandsTm};
-ghost use Rattle.dch_layer2.specs.Reports.{HasRoomFor, added};
 ghost use Rattle.dch_layer2.specs.BearerValues.{AreSizes, tm_answer, tm_after, tm_head, tm_built, units_in};
 
-use crate::bearer_report::put_bits;
 use crate::channel::{bearer_of, channel_of, greatest, sizes_of};
+use crate::telling::tell_bits;
 use dch_accept::Accepted;
 use dch_bits::{Bit, NoMemory, Offer};
+use dch_indication::Indications;
 use dch_rlctm::TmSend;
-use dch_script::Report;
 use dch_select::Head;
 use dch_types::{Dir, Sequence};
 use std::alloc::Global;
@@ -121,10 +120,9 @@ impl TmBearer {
     }
 
     /// Hands up a block that came.
-    pub fn take(&self, bits: &[Bit], report: &mut Report)
-        requires { HasRoomFor report.old (GotBits self.now.into self.now.number bits.now ∷ []) }
-        ensures { report.new ≡ added report.old (GotBits self.now.into self.now.number bits.now ∷ []) }
+    pub fn take<U: Indications>(&self, bits: &[Bit], user: &mut U)
+        ensures { U.shows user.old (GotBits self.now.into self.now.number bits.now) user.new }
     {
-        put_bits(report, self.into, self.number, bits);
+        tell_bits(user, self.into, self.number, bits);
     }
 }

@@ -3,23 +3,23 @@ ghost use Rattle.dch_rlcpdu.specs.Um.{um_reading};
 ghost use Rattle.dch_rlcum.specs.Handing.{all_handed};
 ghost use Rattle.dch_rlcum.specs.Receiving.{opened};
 ghost use Rattle.dch_types.specs.declared.bearer.Mode.TheVariants.{Um};
+ghost use Rattle.dch_indication.specs.Told.{Told};
 ghost use Rattle.dch_layer2.specs.Shapes.{shape_of};
 ghost use Rattle.dch_layer2.specs.Bearings.{bearer_in, channel_of, marks_start};
 ghost use Rattle.dch_layer2.specs.BearerStanding.{FitsUm, HoldsReceiving, HoldsSending, StandsUm, opened_sends};
 ghost use Rattle.dch_layer2.specs.Octets.{AreOctets, block_of, octets_of};
 ghost use Rattle.dch_layer2.specs.UnitLines.{unit_lines};
-ghost use Rattle.dch_layer2.specs.Reports.{HasRoomFor, added};
 ghost use Rattle.dch_layer2.specs.BearerValues.{FillsBlocks, IsSettled, heard_by, lines_of, um_after, um_answer, um_built, um_due, um_head, um_heard, um_lines, um_pdu};
 
-use crate::bearer_report::{put_bad, put_handed};
 use crate::block::{read_octets, write_block};
 use crate::channel::{bearer_of, channel_of, shape_on};
 use crate::shape::Shape;
+use crate::telling::{tell_bad, tell_handed};
 use dch_accept::Accepted;
 use dch_bits::{Bit, NoMemory, Offer};
+use dch_indication::Indications;
 use dch_rlcpdu::read_um;
 use dch_rlcum::{UmRecv, UmSend};
-use dch_script::Report;
 use dch_select::Head;
 use dch_types::Dir;
 use std::alloc::Global;
@@ -151,20 +151,19 @@ impl UmBearer {
 
     /// Takes the bits of a PDU of at most 125 octets that came, and hands up the units that end in it, each by way of `unit`, which has
     /// 1,500 octets.
-    pub fn take(&mut self, bits: &[Bit], unit: &mut [u8], report: &mut Report)
+    pub fn take<U: Indications>(&mut self, bits: &[Bit], unit: &mut [u8], user: &mut U)
         requires receives { IsSome self.old.receiver }
         requires few { length bits.now ≤ 1000 }
         requires whole { length bits.now ≡ 8 * (length bits.now / 8) }
         requires unit { length unit.old ≡ 1500 }
-        requires room { HasRoomFor report.old (um_lines (octets_of bits.now) self.old) }
-        ensures reported { report.new ≡ added report.old (um_lines (octets_of bits.now) self.old) }
+        ensures told { Told U.shows user.old (um_lines (octets_of bits.now) self.old) user.new }
         ensures after { self.new ≡ um_heard (octets_of bits.now) self.old }
     {
         let mut octets = [0; 125];
         let pdu = &mut octets[..bits.len() / 8];
         read_octets(bits, pdu);
         if let Some(receiver) = &mut self.receiver {
-            hear(receiver, pdu, self.into, self.number, unit, report);
+            hear(receiver, pdu, self.into, self.number, unit, user);
         }
     }
 }
@@ -221,38 +220,42 @@ fn receiver_of(
 }
 
 /// A receiver takes a PDU, and hands up the units that end in it.
-fn hear(
+fn hear<U: Indications>(
     receiver: &mut UmRecv,
     pdu: &[u8],
     dir: Dir,
     bearer: u8,
     unit: &mut [u8],
-    report: &mut Report,
+    user: &mut U,
 )
     requires settled { receiver.old.waiting ≡ [] }
     requires few { length pdu.now ≤ 125 }
     requires unit { length unit.old ≡ 1500 }
-    requires room { HasRoomFor report.old (lines_of dir bearer (um_reading pdu.now) receiver.old) }
-    ensures reported { report.new ≡ added report.old (lines_of dir bearer (um_reading pdu.now) receiver.old) }
+    ensures told { Told U.shows user.old (lines_of dir bearer (um_reading pdu.now) receiver.old) user.new }
     ensures after { receiver.new ≡ heard_by (um_reading pdu.now) receiver.old }
 {
     match read_um(pdu) {
         Ok(view) => {
             receiver.pdu(&view);
-            hand_up(receiver, dir, bearer, unit, report);
+            hand_up(receiver, dir, bearer, unit, user);
         }
-        Err(error) => put_bad(report, dir, bearer, error),
+        Err(error) => tell_bad(user, dir, bearer, error),
     }
 }
 
 /// A receiver hands up all units that wait.
-fn hand_up(receiver: &mut UmRecv, dir: Dir, bearer: u8, unit: &mut [u8], report: &mut Report)
-    requires unit { length unit.old ≡ 1500 }
-    requires room { HasRoomFor report.old (unit_lines dir bearer receiver.old.waiting) }
-    ensures reported { report.new ≡ added report.old (unit_lines dir bearer receiver.old.waiting) }
+fn hand_up<U: Indications>(
+    receiver: &mut UmRecv,
+    dir: Dir,
+    bearer: u8,
+    unit: &mut [u8],
+    user: &mut U,
+)
+    requires { length unit.old ≡ 1500 }
+    ensures told { Told U.shows user.old (unit_lines dir bearer receiver.old.waiting) user.new }
     ensures after { receiver.new ≡ all_handed receiver.old }
 {
     while let Some(handed) = receiver.next_unit(unit) {
-        put_handed(report, dir, bearer, handed, unit);
+        tell_handed(user, dir, bearer, handed, unit);
     }
 }

@@ -22,6 +22,7 @@ use Rattle.dch_iub.specs.Longest.{IsLongest}
 use Rattle.dch_rnc.specs.Standing.{Stepped as RncStepped}
 use Rattle.dch_rnc.specs.State.{IubFrame}
 use Rattle.dch_rnc.specs.Values.{Node as Rnc}
+use Rattle.dch_script.specs.Adding.{Adds}
 use Rattle.dch_link.proofs.Reporting.{added-added, added-none}
 use Rattle.dch_link.specs.Errors.{error_number}
 use Rattle.dch_link.specs.Soft.{SoftState, given, with_frame}
@@ -127,7 +128,7 @@ gave_none planned first soft parts set combiner room was had none others =
 -- the frames of a set are combined to one, which is reported, and which the network controller takes
 pub gives_frame : (planned : Planned) (first : ℕ) (soft : SoftState) (parts : Parts) (cfn set : ℕ) (octets : List ℕ) (combiner : Combiner) (room : ℕ) (rnc : Rnc) (before mid after : Text) → Represents planned first soft parts
     → IsCombinedFrame planned.config set (frames_of parts.combiner set) cfn octets → ((k : ℕ) → frames_of combiner set k ≡ None) → ((s k : ℕ) → s ≢ set → frames_of combiner s k ≡ frames_of parts.combiner s k)
-    → mid ≡ added before (Iub Up set octets ∷ []) → RncStepped planned soft.rnc.state (IubFrame set octets) rnc mid.text after.text → after.most ≡ mid.most
+    → mid ≡ added before (Iub Up set octets ∷ []) → RncStepped planned soft.rnc.state (IubFrame set octets) rnc (Adds mid.text after.text) → after.most ≡ mid.most
     → LeadsTo planned first (GivesFrame cfn set soft) (record parts { rnc = rnc; combiner = combiner; room = room }) before after
 gives_frame planned first soft parts cfn set octets combiner room rnc before mid after was combined none others put step most =
     let stood : Represents planned first (given soft set) (record parts { combiner = combiner; room = room }) = gave_frames planned first soft parts set combiner room was none others in

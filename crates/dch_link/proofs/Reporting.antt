@@ -1,8 +1,10 @@
 -- A report that goes on, and channels that are compared one after another.
-use Rattle.std.proofs.Common.{◌≡◌, ◌<◌, ◌+◌, ◌∙◌, ◌++◌, ℕ, zero, suc, List, [], arith, refl, ap, sym, subst, append-nil, append_assoc}
+use Rattle.std.proofs.Common.{◌≡◌, ◌<◌, ◌≤◌, ◌+◌, ◌∙◌, ◌++◌, ℕ, zero, suc, List, [], ◌∷◌, length, arith, refl, ap, sym, subst, append-nil, append_assoc}
 use Rattle.dch_bits.specs.declared.bit.Bit.{Bit}
 use Rattle.dch_types.specs.declared.channel.Dir.{Dir}
+use Rattle.dch_script.specs.Adding.{ShowsLine}
 use Rattle.dch_script.specs.Held.{Held as Text}
+use Rattle.dch_script.proofs.Putting.{put_all}
 use Rattle.dch_node.specs.Lines.{Line, text_of}
 use Rattle.dch_node.proofs.Texts.{text_of-append}
 use Rattle.dch_txframes.specs.Reports.{added}
@@ -12,6 +14,10 @@ use Rattle.dch_link.specs.Comparing.{Compares, ComparesAll}
 pub went_on : (before after : Text) (lines : List Line) → after.text ≡ before.text ++ text_of lines → after.most ≡ before.most → after ≡ added before lines
 went_on before after lines text most =
     ap (λ (t : List ℕ). record { text = t; most = after.most }) text ∙ ap (λ n. record { text = before.text ++ text_of lines; most = n }) most
+
+-- a line that a report was told of, where there was room for it
+pub put_line : (before after : Text) (line : Line) (count : ℕ) → ShowsLine before line after → length (text_of (line ∷ [])) ≤ count → length before.text + count ≤ before.most → after ≡ added before (line ∷ [])
+put_line before after line count shown few room = put_all shown (omega (arith, few, room))
 
 pub added-none : (report : Text) → report ≡ added report []
 added-none report = ap (λ (t : List ℕ). record { text = t; most = report.most }) (sym (append-nil report.text))

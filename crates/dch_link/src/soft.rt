@@ -17,7 +17,7 @@ ghost use Rattle.dch_link.specs.declared.soft_stage.Stage.TheVariants.{Combine, 
 
 use crate::hearing::{clear_damage, hit_radios, lowest_radio, open_legs};
 use crate::leg::Leg;
-use crate::report::put_error;
+use crate::report::{put_combined, put_error};
 use crate::soft_event::SoftEvent;
 use crate::soft_stage::Stage;
 use dch_accept::Accepted;
@@ -26,7 +26,6 @@ use dch_combine::Combiner;
 use dch_iub::longest;
 use dch_rnc::{Rnc, RncEvent};
 use dch_script::Report;
-use dch_txframes::put_iub;
 use dch_types::{Dir, ends, started};
 use dch_ue::{Ue, UeEvent};
 use std::alloc::Global;
@@ -385,7 +384,7 @@ impl Soft {
             // The blocks of a format are limited in a good configuration.
             let _side = accepted.side(Dir::Up);
             let frame = &self.out[..len];
-            put_iub(report, Dir::Up, set, frame);
+            put_combined(report, set, frame);
             self.rnc
                 .step(accepted, RncEvent::Iub { set, frame }, report);
         }

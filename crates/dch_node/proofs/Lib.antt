@@ -1,4 +1,5 @@
 pub mod IubFrames
+pub mod Reporting
 pub mod RxFrames
 pub mod Texts
 pub mod Traces

@@ -1,5 +1,5 @@
 -- A history with one more step.
-use Rattle.std.proofs.Common.{◌∙◌, ◌++◌, ℕ, List, [], ◌∷◌, refl, ap, sym, subst, append_assoc, append-nil}
+use Rattle.std.proofs.Common.{◌∙◌, ◌++◌, List, [], ◌∷◌, refl, ap, sym, subst, append_assoc, append-nil}
 use Rattle.dch_node.specs.Lines.{Line}
 use Rattle.dch_node.specs.Standing.{HasHistory, HasLongerHistory, TakesStep}
 use Rattle.dch_node.specs.Traces.{Trace}
@@ -26,11 +26,11 @@ trace_next {S} {E} Steps old mid next before last output (first ∷ later) event
 }
 
 -- a value that takes a step from each state that it stands for stands for one event more
-pub history_next : {S E V : Type 0} (Steps : S → E → S → Output → Type 0) (Represents : S → V → Type 0) (Shows : Output → V → Type 0) (opened : S) (old new : V) (event : E) (before after : List ℕ) (events : List E) (lines : List Line)
-    → HasHistory Steps Represents Shows opened events lines old → ((state : S) → Represents state old → TakesStep Steps Represents Shows state event new before after)
-    → HasLongerHistory Steps Represents Shows opened events lines event new before after
-history_next {S} {E} {V} Steps Represents Shows opened old new event before after events lines was steps =
-    let stepped : TakesStep Steps Represents Shows was.state event new before after = steps was.state was.stands in
+pub history_next : {S E V : Type 0} (Steps : S → E → S → Output → Type 0) (Represents : S → V → Type 0) (Shows : Output → V → Type 0) (opened : S) (old new : V) (event : E) (Says : List Line → Type 0) (events : List E) (lines : List Line)
+    → HasHistory Steps Represents Shows opened events lines old → ((state : S) → Represents state old → TakesStep Steps Represents Shows state event new Says)
+    → HasLongerHistory Steps Represents Shows opened events lines event new Says
+history_next {S} {E} {V} Steps Represents Shows opened old new event Says events lines was steps =
+    let stepped : TakesStep Steps Represents Shows was.state event new Says = steps was.state was.stands in
     record {
       own = stepped.output.lines;
       stands = record {
@@ -40,5 +40,5 @@ history_next {S} {E} {V} Steps Represents Shows opened old new event before afte
         stands = stepped.stands;
         shows = stepped.shows;
       };
-      reported = stepped.reported;
+      tells = stepped.tells;
     }

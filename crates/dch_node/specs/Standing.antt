@@ -1,17 +1,9 @@
 -- A value V of code and what it stands for: a state S of a node's definition, and the list of what happened at the node.
-use Rattle.std.specs.Prelude.{◌≡◌, ◌++◌, ℕ, List, [], ◌∷◌}
+use Rattle.std.specs.Prelude.{◌≡◌, ◌<◌, ◌++◌, ℕ, List, [], ◌∷◌, length}
+use Rattle.dch_indication.specs.Told.{Told}
 use Rattle.dch_node.specs.Lines.{Line, text_of}
 use Rattle.dch_node.specs.Traces.{Reaches}
 use Rattle.dch_node.specs.Values.{Output}
-
--- a step was taken from a state, the value shows what it sends, and the report went on by the text of its lines
-pub record TakesStep {S E V : Type 0} (Steps : S → E → S → Output → Type 0) (Represents : S → V → Type 0) (Shows : Output → V → Type 0) (old : S) (event : E) (value : V) (before after : List ℕ) : Type 0 where
-  pub next : S
-  pub output : Output
-  pub step : Steps old event next output
-  pub stands : Represents next value
-  pub shows : Shows output value
-  pub reported : after ≡ before ++ text_of output.lines
 
 -- the value stands for what happened since opening, with the lines of all reports
 pub record HasHistory {S E V : Type 0} (Steps : S → E → S → Output → Type 0) (Represents : S → V → Type 0) (Shows : Output → V → Type 0) (opened : S) (events : List E) (lines : List Line) (value : V) : Type 0 where
@@ -21,8 +13,31 @@ pub record HasHistory {S E V : Type 0} (Steps : S → E → S → Output → Typ
   pub stands : Represents state value
   pub shows : Shows last value
 
--- and for one more event, with the lines by whose text the report went on
-pub record HasLongerHistory {S E V : Type 0} (Steps : S → E → S → Output → Type 0) (Represents : S → V → Type 0) (Shows : Output → V → Type 0) (opened : S) (events : List E) (lines : List Line) (event : E) (value : V) (before after : List ℕ) : Type 0 where
+-- a user is told of lines
+abbrev pub Tells : {U : Type 0} → (U → Line → U → Type 0) → U → U → List Line → Type 0
+Tells shows before after lines = Told shows before lines after
+
+-- a user is told of lines whose text has less than so many bytes
+pub record TellsFew {U : Type 0} (shows : U → Line → U → Type 0) (bytes : ℕ) (before after : U) : Type 0 where
+  pub lines : List Line
+  pub told : Tells shows before after lines
+  pub few : length (text_of lines) < bytes
+
+-- there is no line
+abbrev pub AreNone : List Line → Type 0
+AreNone lines = lines ≡ []
+
+-- a step was taken from a state, the value shows what it sends, and whoever is told is told of its lines
+pub record TakesStep {S E V : Type 0} (Steps : S → E → S → Output → Type 0) (Represents : S → V → Type 0) (Shows : Output → V → Type 0) (old : S) (event : E) (value : V) (Says : List Line → Type 0) : Type 0 where
+  pub next : S
+  pub output : Output
+  pub step : Steps old event next output
+  pub stands : Represents next value
+  pub shows : Shows output value
+  pub tells : Says output.lines
+
+-- and the value stands for one more event, with the lines of which whoever is told is told
+pub record HasLongerHistory {S E V : Type 0} (Steps : S → E → S → Output → Type 0) (Represents : S → V → Type 0) (Shows : Output → V → Type 0) (opened : S) (events : List E) (lines : List Line) (event : E) (value : V) (Says : List Line → Type 0) : Type 0 where
   pub own : List Line
   pub stands : HasHistory Steps Represents Shows opened (events ++ event ∷ []) (lines ++ own) value
-  pub reported : after ≡ before ++ text_of own
+  pub tells : Says own

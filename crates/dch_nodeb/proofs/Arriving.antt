@@ -1,12 +1,13 @@
 -- An Iub frame that arrives, as a step of the definition.
-use Rattle.std.proofs.Common.{◌≡◌, ◌≢◌, ◌∙◌, ◌++◌, ℕ, List, refl, ap, sym, subst, inl, inr, Some, eq-eqb}
+use Rattle.std.proofs.Common.{◌≡◌, ◌≢◌, ℕ, List, refl, ap, sym, subst, inl, inr, Some, eq-eqb}
 use Rattle.std.proofs.lemmas.Bool.Decides.{eqb_tells}
 use Rattle.dch_types.specs.declared.channel.Side.{Side}
 use Rattle.dch_accept.specs.Plans.{Planned}
-use Rattle.dch_script.specs.Held.{Held as Text}
+use Rattle.dch_indication.specs.Told.{Told}
 use Rattle.dch_nodeb.specs.Moves.{IsRefused, IsTaken, Keeps}
 use Rattle.dch_nodeb.specs.Standing.{NothingSent, KeepsFrame, Represents, Stepped}
-use Rattle.dch_node.specs.Lines.{Line, text_of}
+use Rattle.dch_node.specs.Lines.{Line}
+use Rattle.dch_node.specs.Standing.{Tells}
 use Rattle.dch_node.specs.Values.{no_output, says}
 use Rattle.dch_nodeb.specs.State.{IubFrame, DownlinkIubFrame, State, keeping}
 use Rattle.dch_nodeb.specs.Steps.{IsArrival}
@@ -24,10 +25,10 @@ keeps-other side state set s frame old new other same keeps = elim (eqb_tells s 
 keeps-own : (side : Side) (state : State) (set s : ℕ) (frame : DownlinkIubFrame) (new : IubRxBuffer) → s ≡ set → KeepsFrame side s (Some frame) new → KeepsFrame side s ((keeping state set frame).kept s) new
 keeps-own side state set s frame new same keeps = rw (eq-eqb s set same) keeps
 
-taken_step : (planned : Planned) (state : State) (node : Node) (new : List IubRxBuffer) (set : ℕ) (octets : List ℕ) (lines : List Line) (before after : Text) → Represents planned state node → NothingSent node
-    → ((s : ℕ) → s ≢ set → rx_buffer_at new s ≡ rx_buffer_at node.rx_buffers s) → IsTaken planned set octets (rx_buffer_at new set) lines → after ≡ record before { text = before.text ++ text_of lines }
-    → Stepped planned state (IubFrame set octets) (record node { rx_buffers = new }) before.text after.text
-taken_step planned state node new set octets lines before after stands quiet others taken reported =
+taken_step : {S : Type 0} (shows : S → Line → S → Type 0) (planned : Planned) (state : State) (node : Node) (new : List IubRxBuffer) (set : ℕ) (octets : List ℕ) (lines : List Line) (before after : S) → Represents planned state node → NothingSent node
+    → ((s : ℕ) → s ≢ set → rx_buffer_at new s ≡ rx_buffer_at node.rx_buffers s) → IsTaken planned set octets (rx_buffer_at new set) lines → Told shows before lines after
+    → Stepped planned state (IubFrame set octets) (record node { rx_buffers = new }) (Tells shows before after)
+taken_step shows planned state node new set octets lines before after stands quiet others taken told =
     let filled = taken.filled in
     let frame : DownlinkIubFrame = record { cfn = filled.cfn; blocks = blocks_at (rx_buffer_at new set).held } in
     record {
@@ -47,13 +48,13 @@ taken_step planned state node new set octets lines before after stands quiet oth
         frames = stands.frames;
       };
       shows = record { radio = rw quiet.radio refl; iub = quiet.iub };
-      reported = ap (λ (t : Text). t.text) reported ∙ ap (λ (l : List Line). before.text ++ text_of l) taken.quiet;
+      tells = subst (λ (ls : List Line). Told shows before ls after) taken.quiet told;
     }
 
-refused_step : (planned : Planned) (state : State) (node : Node) (new : List IubRxBuffer) (set : ℕ) (octets : List ℕ) (lines : List Line) (before after : Text) → Represents planned state node → NothingSent node
-    → ((s : ℕ) → s ≢ set → rx_buffer_at new s ≡ rx_buffer_at node.rx_buffers s) → IsRefused planned set octets (rx_buffer_at node.rx_buffers set) (rx_buffer_at new set) lines → after ≡ record before { text = before.text ++ text_of lines }
-    → Stepped planned state (IubFrame set octets) (record node { rx_buffers = new }) before.text after.text
-refused_step planned state node new set octets lines before after stands quiet others refused reported =
+refused_step : {S : Type 0} (shows : S → Line → S → Type 0) (planned : Planned) (state : State) (node : Node) (new : List IubRxBuffer) (set : ℕ) (octets : List ℕ) (lines : List Line) (before after : S) → Represents planned state node → NothingSent node
+    → ((s : ℕ) → s ≢ set → rx_buffer_at new s ≡ rx_buffer_at node.rx_buffers s) → IsRefused planned set octets (rx_buffer_at node.rx_buffers set) (rx_buffer_at new set) lines → Told shows before lines after
+    → Stepped planned state (IubFrame set octets) (record node { rx_buffers = new }) (Tells shows before after)
+refused_step shows planned state node new set octets lines before after stands quiet others refused told =
     let same : (s : ℕ) → rx_buffer_at new s ≡ rx_buffer_at node.rx_buffers s = (λ s. elim (eqb_tells s set) [
       | inl is ↦ subst (λ k. rx_buffer_at new k ≡ rx_buffer_at node.rx_buffers k) (sym is.1) refused.same
       | inr other ↦ others s other.1
@@ -71,13 +72,13 @@ refused_step planned state node new set octets lines before after stands quiet o
         frames = stands.frames;
       };
       shows = record { radio = rw quiet.radio refl; iub = quiet.iub };
-      reported = ap (λ (t : Text). t.text) reported;
+      tells = told;
     }
 
 -- the step of a frame that arrives
-pub arrived : (planned : Planned) (state : State) (node : Node) (new : List IubRxBuffer) (set : ℕ) (octets : List ℕ) (before after : Text) → NothingSent node → Keeps planned set octets node.rx_buffers new before after
-    → Represents planned state node → Stepped planned state (IubFrame set octets) (record node { rx_buffers = new }) before.text after.text
-arrived planned state node new set octets before after quiet keeps stands = elim keeps.took [
-  | inl taken ↦ taken_step planned state node new set octets keeps.lines before after stands quiet keeps.others taken keeps.reported
-  | inr refused ↦ refused_step planned state node new set octets keeps.lines before after stands quiet keeps.others refused keeps.reported
+pub arrived : {S : Type 0} (shows : S → Line → S → Type 0) (planned : Planned) (state : State) (node : Node) (new : List IubRxBuffer) (set : ℕ) (octets : List ℕ) (before after : S) → NothingSent node → Keeps shows planned set octets node.rx_buffers new before after
+    → Represents planned state node → Stepped planned state (IubFrame set octets) (record node { rx_buffers = new }) (Tells shows before after)
+arrived shows planned state node new set octets before after quiet keeps stands = elim keeps.took [
+  | inl taken ↦ taken_step shows planned state node new set octets keeps.lines before after stands quiet keeps.others taken keeps.told
+  | inr refused ↦ refused_step shows planned state node new set octets keeps.lines before after stands quiet keeps.others refused keeps.told
 ]

@@ -1,7 +1,8 @@
 -- A second configuration that becomes active.
-use Rattle.std.proofs.Common.{◌≡◌, ◌∙◌, ℕ, List, refl, ap, sym, subst, append-nil, Option, Some, None}
+use Rattle.std.proofs.Common.{◌≡◌, ◌∙◌, refl, ap, sym, subst, Option, Some, None}
 use Rattle.std.specs.Prelude.{option_map}
 use Rattle.dch_accept.specs.Plans.{Planned}
+use Rattle.dch_node.specs.Standing.{AreNone}
 use Rattle.dch_node.specs.Values.{no_output}
 use Rattle.dch_nodeb.specs.Opened.{AreNew, CanChange, HasNext, Holds, IsNodeOf}
 use Rattle.dch_nodeb.specs.Standing.{Represents, Stepped}
@@ -31,13 +32,13 @@ some_held first second node next held has view was is =
     held_as first second node None has (ap (λ (o : Option PartsHeld). option_map parts_of o) (sym is ∙ was) ∙ sym view)
 
 -- the step of a change
-pub changes : (planned before : Planned) (state : State) (node : Node) (parts : Parts) (text : List ℕ) → AreNew planned parts → Represents before state node
-    → Stepped planned state (Change planned) (node_of node.cfn parts None) text text
-changes planned before state node parts text new stands = record {
+pub changes : (planned before : Planned) (state : State) (node : Node) (parts : Parts) → AreNew planned parts → Represents before state node
+    → Stepped planned state (Change planned) (node_of node.cfn parts None) AreNone
+changes planned before state node parts new stands = record {
   next = changed planned state;
   output = no_output;
   step = record { state = refl; quiet = refl };
   stands = subst (λ cfn. Represents planned (opened_state planned cfn) (node_of node.cfn parts None)) stands.cfn (new_stands planned node.cfn parts None new);
   shows = new_shows planned node.cfn parts None new;
-  reported = sym (append-nil text);
+  tells = refl;
 }

@@ -14,18 +14,32 @@ use Rattle.dch_accept.specs.HeldSets.{HeldSet, IsIdleSet, IsSetOf, idle_at}
 use Rattle.dch_accept.specs.Plans.{Planned}
 use Rattle.dch_tti.specs.Loaded.{Loaded, loaded_at}
 use Rattle.dch_dlphy.specs.Loaded.{IsLoaded}
-use Rattle.dch_script.specs.Held.{Held as Text}
+use Rattle.dch_indication.specs.Lines.{Line, PhyNone}
+use Rattle.dch_indication.proofs.Telling.{told_one}
 use Rattle.dch_types.specs.Timing.{set_frames, starts}
+use Rattle.dch_node.specs.Standing.{Tells}
 use Rattle.dch_node.specs.Values.{Blocks, Output, Radio, idle_blocks}
 use Rattle.dch_node.specs.IubFrames.{blocks_at}
 use Rattle.dch_txframes.specs.Values.{radio_sent}
-use Rattle.dch_nodeb.specs.Moves.{AreGiven, AreReady, Transmits, IsReady, RunsIn, Writes}
-use Rattle.dch_nodeb.specs.Opened.{AreNoted, AreRxBuffersOf}
+use Rattle.dch_nodeb.specs.Moves.{AreGiven, AreReady, Transmits, IsReady, RunsIn, Sends, Writes}
+use Rattle.dch_nodeb.specs.Opened.{AreNoted, AreRxBuffersOf, IsTransmitterOf}
 use Rattle.dch_nodeb.specs.Standing.{NothingSent, KeepsFrame, Represents, Stepped}
 use Rattle.dch_nodeb.specs.State.{DownlinkIubFrame, DownlinkDue, State, given_now, kept_still, leaving, taken}
 use Rattle.dch_nodeb.specs.Steps.{AreAllLoaded, AreRunning, IsDeparture, IsRadio, radio_line}
 use Rattle.dch_nodeb.specs.Values.{Node, IubRxBuffer, DownlinkTransmitter, rx_buffer_at}
 use Rattle.dch_nodeb.proofs.Steady.{set_frames-member, tells}
+
+-- no combination has the noted formats, and no radio frame was sent
+pub none_sent : {S : Type 0} (shows : S → Line → S → Type 0) (planned : Planned) (cfn : ℕ) (old : DownlinkTransmitter) (before after : S) → IsTransmitterOf planned old → Writes planned cfn old None → shows before PhyNone after
+    → Sends shows planned cfn old (record old { radio = record old.radio { sent = false } }) before after
+none_sent shows planned cfn old before after opened none shown = record {
+  opened = record { running = opened.running; radio = opened.radio; eight = opened.eight };
+  running = refl;
+  formats = refl;
+  writes = none;
+  few = omega arith;
+  shown = shown;
+}
 
 none_of : (count : ℕ) → count ≡ 0 → replicate count Zero ≡ []
 none_of count none = rw none refl
@@ -133,10 +147,10 @@ still_kept side state s old new on off keeps = elim (tells (starts (set_frames s
   | inr is ↦ rw is.0 (subst (λ (p : IubRxBuffer). KeepsFrame side s (state.kept s) p) (sym (off is.0)) keeps)
 ]
 
-departed_at : (planned : Planned) (state : State) (node : Node) (new : List IubRxBuffer) (sent : DownlinkTransmitter) (before after : Text) → IsSide planned.config.downlink.side → AreRxBuffersOf planned node.rx_buffers
-    → AreNoted planned node.transmitter.formats node.transmitter.running → NothingSent node → Transmits planned state.cfn node.rx_buffers new node.transmitter sent before after → Represents planned state node
-    → Stepped planned state DownlinkDue (record node { rx_buffers = new; transmitter = sent }) before.text after.text
-departed_at planned state node new sent before after good opened noted quiet departs stands =
+departed_at : {S : Type 0} (shows : S → Line → S → Type 0) (planned : Planned) (state : State) (node : Node) (new : List IubRxBuffer) (sent : DownlinkTransmitter) (before after : S) → IsSide planned.config.downlink.side → AreRxBuffersOf planned node.rx_buffers
+    → AreNoted planned node.transmitter.formats node.transmitter.running → NothingSent node → Transmits shows planned state.cfn node.rx_buffers new node.transmitter sent before after → Represents planned state node
+    → Stepped planned state DownlinkDue (record node { rx_buffers = new; transmitter = sent }) (Tells shows before after)
+departed_at shows planned state node new sent before after good opened noted quiet departs stands =
     let side = planned.config.downlink.side in
     let loaded : DownlinkTransmitter = departs.loaded in
     let next : State = leaving side state in
@@ -160,13 +174,13 @@ departed_at planned state node new sent before after good opened noted quiet dep
         frames = stands.frames;
       };
       shows = record { radio = refl; iub = quiet.iub };
-      reported = ap (λ (t : Text). t.text) departs.sends.reported;
+      tells = told_one shows before after _ departs.sends.shown;
     }
 
 -- the step of a radio frame that is due
-pub departed : (planned : Planned) (state : State) (node : Node) (new : List IubRxBuffer) (sent : DownlinkTransmitter) (before after : Text) → IsSide planned.config.downlink.side → AreRxBuffersOf planned node.rx_buffers
-    → AreNoted planned node.transmitter.formats node.transmitter.running → NothingSent node → Transmits planned node.cfn node.rx_buffers new node.transmitter sent before after → Represents planned state node
-    → Stepped planned state DownlinkDue (record node { rx_buffers = new; transmitter = sent }) before.text after.text
-departed planned state node new sent before after good opened noted quiet departs stands =
-    departed_at planned state node new sent before after good opened noted quiet
-    (subst (λ cfn. Transmits planned cfn node.rx_buffers new node.transmitter sent before after) stands.cfn departs) stands
+pub departed : {S : Type 0} (shows : S → Line → S → Type 0) (planned : Planned) (state : State) (node : Node) (new : List IubRxBuffer) (sent : DownlinkTransmitter) (before after : S) → IsSide planned.config.downlink.side → AreRxBuffersOf planned node.rx_buffers
+    → AreNoted planned node.transmitter.formats node.transmitter.running → NothingSent node → Transmits shows planned node.cfn node.rx_buffers new node.transmitter sent before after → Represents planned state node
+    → Stepped planned state DownlinkDue (record node { rx_buffers = new; transmitter = sent }) (Tells shows before after)
+departed shows planned state node new sent before after good opened noted quiet departs stands =
+    departed_at shows planned state node new sent before after good opened noted quiet
+    (subst (λ cfn. Transmits shows planned cfn node.rx_buffers new node.transmitter sent before after) stands.cfn departs) stands

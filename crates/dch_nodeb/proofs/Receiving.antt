@@ -5,7 +5,8 @@ use Rattle.std.proofs.lemmas.Bool.Decides.{eqb_tells}
 use Rattle.dch_types.specs.declared.channel.Dir.TheVariants.{Up}
 use Rattle.dch_accept.specs.Plans.{Planned}
 use Rattle.dch_tti.specs.RxFrames.{RxFrame, RxFrames, rx_frame_at}
-use Rattle.dch_script.specs.Held.{Held as Text}
+use Rattle.dch_indication.specs.Lines.{Line}
+use Rattle.dch_node.specs.Standing.{Tells}
 use Rattle.dch_node.specs.Values.{Output, Radio}
 use Rattle.dch_node.specs.RxFrames.{KeepsRadio}
 use Rattle.dch_node.specs.Lines.{joined}
@@ -24,10 +25,10 @@ frames_kept planned state radio old new hears before k few = elim (eqb_tells k (
   | inr other ↦ rw other.0 (subst (λ (kept : RxFrame). KeepsRadio planned Up (state.frames k) kept) (sym (hears.others k other.1)) (before k few))
 ]
 
-received_at : (planned : Planned) (state : State) (node : Node) (radio : Option Radio) (tx_buffers : List IubTxBuffer) (receiver : UplinkReceiver) (before after : Text) → NothingSent node
-    → Receives planned state.cfn radio node.receiver.rx_frames tx_buffers receiver before after → Represents planned state node
-    → Stepped planned state (UplinkFrame radio) (record node { cfn = (node.cfn + 1) % 256; receiver = receiver; tx_buffers = tx_buffers }) before.text after.text
-received_at planned state node radio tx_buffers receiver before after quiet receives stands =
+received_at : {S : Type 0} (shows : S → Line → S → Type 0) (planned : Planned) (state : State) (node : Node) (radio : Option Radio) (tx_buffers : List IubTxBuffer) (receiver : UplinkReceiver) (before after : S) → NothingSent node
+    → Receives shows planned state.cfn radio node.receiver.rx_frames tx_buffers receiver before after → Represents planned state node
+    → Stepped planned state (UplinkFrame radio) (record node { cfn = (node.cfn + 1) % 256; receiver = receiver; tx_buffers = tx_buffers }) (Tells shows before after)
+received_at shows planned state node radio tx_buffers receiver before after quiet receives stands =
     let next : State = coming state radio in
     let served = receives.served in
     let frames : (k : ℕ) → k < 8 → KeepsRadio planned Up (next.frames k) (rx_frame_at receiver.rx_frames.frames k) =
@@ -47,13 +48,13 @@ received_at planned state node radio tx_buffers receiver before after quiet rece
       });
       stands = record { active = stands.active; cfn = ap (λ n. (n + 1) % 256) stands.cfn; kept = stands.kept; given = stands.given; frames = frames };
       shows = record { radio = rw quiet.radio refl; iub = λ s few. refl };
-      reported = ap (λ (t : Text). t.text) served.reported;
+      tells = served.told;
     }
 
 -- the step of a radio frame that comes, or is missing
-pub received : (planned : Planned) (state : State) (node : Node) (radio : Option Radio) (tx_buffers : List IubTxBuffer) (receiver : UplinkReceiver) (before after : Text) → NothingSent node
-    → Receives planned node.cfn radio node.receiver.rx_frames tx_buffers receiver before after → Represents planned state node
-    → Stepped planned state (UplinkFrame radio) (record node { cfn = (node.cfn + 1) % 256; receiver = receiver; tx_buffers = tx_buffers }) before.text after.text
-received planned state node radio tx_buffers receiver before after quiet receives stands =
-    received_at planned state node radio tx_buffers receiver before after quiet
-    (subst (λ cfn. Receives planned cfn radio node.receiver.rx_frames tx_buffers receiver before after) stands.cfn receives) stands
+pub received : {S : Type 0} (shows : S → Line → S → Type 0) (planned : Planned) (state : State) (node : Node) (radio : Option Radio) (tx_buffers : List IubTxBuffer) (receiver : UplinkReceiver) (before after : S) → NothingSent node
+    → Receives shows planned node.cfn radio node.receiver.rx_frames tx_buffers receiver before after → Represents planned state node
+    → Stepped planned state (UplinkFrame radio) (record node { cfn = (node.cfn + 1) % 256; receiver = receiver; tx_buffers = tx_buffers }) (Tells shows before after)
+received shows planned state node radio tx_buffers receiver before after quiet receives stands =
+    received_at shows planned state node radio tx_buffers receiver before after quiet
+    (subst (λ cfn. Receives shows planned cfn radio node.receiver.rx_frames tx_buffers receiver before after) stands.cfn receives) stands

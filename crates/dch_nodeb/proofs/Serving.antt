@@ -1,5 +1,5 @@
 -- The sets that are served one after another.
-use Rattle.std.proofs.Common.{◌≡◌, ◌≢◌, ◌+◌, ◌<◌, ◌≤◌, ◌∙◌, ◌++◌, ℕ, zero, suc, List, [], length, arith, refl, ap, ap₂, sym, subst, inl, inr, true, eq-eqb, add-one, append_assoc, length-append, get_or-set_same, get_or-set_other, None, ◌∷◌, append-nil}
+use Rattle.std.proofs.Common.{◌≡◌, ◌≢◌, ◌+◌, ◌<◌, ◌≤◌, ◌∙◌, ◌++◌, ℕ, zero, suc, List, [], length, arith, refl, ap, ap₂, sym, subst, inl, inr, true, eq-eqb, add-one, length-append, get_or-set_same, get_or-set_other, None, ◌∷◌}
 use Rattle.std.proofs.lemmas.List.{length-set}
 use Rattle.dch_types.specs.declared.channel.Dir.TheVariants.{Up}
 use Rattle.dch_accept.specs.HeldSets.{HeldSet}
@@ -10,9 +10,9 @@ use Rattle.std.specs.Prelude.{◌==◌, if◌then◌else◌, slice_set}
 use Rattle.std.proofs.lemmas.Bool.Decides.{eqb_tells}
 use Rattle.dch_accept.specs.Plans.{Planned}
 use Rattle.dch_tti.specs.RxFrames.{RxFrames}
-use Rattle.dch_script.specs.Held.{Held as Text}
+use Rattle.dch_indication.specs.Told.{Told}
+use Rattle.dch_indication.proofs.Telling.{told_one, told-append}
 use Rattle.dch_txframes.specs.Opened.{AreTxBuffersOf, IsTxBufferOf}
-use Rattle.dch_txframes.specs.Reports.{added}
 use Rattle.dch_txframes.specs.Sending.{SendsFrame}
 use Rattle.dch_txframes.specs.Values.{IubTxBuffer, tx_buffer_at}
 use Rattle.dch_node.specs.Lines.{BadTti, Iub, Line, joined, text_of}
@@ -48,10 +48,10 @@ joined-next all set lines =
     (with_lines-here all set lines))
 
 -- one more set was served
-pub served_next : (planned : Planned) (rx_frames : RxFrames) (set : ℕ) (tx_buffers : List IubTxBuffer) (tx_buffer : IubTxBuffer) (receiver next : UplinkReceiver) (before now after : Text)
-    → AreDelivered planned rx_frames set tx_buffers receiver before now → set < 8 → Delivered planned rx_frames set tx_buffer next now after
-    → AreDelivered planned rx_frames (set + 1) (slice_set tx_buffers set tx_buffer) next before after
-served_next planned rx_frames set tx_buffers tx_buffer receiver next before now after are inside served =
+pub served_next : {S : Type 0} (shows : S → Line → S → Type 0) (planned : Planned) (rx_frames : RxFrames) (set : ℕ) (tx_buffers : List IubTxBuffer) (tx_buffer : IubTxBuffer) (receiver next : UplinkReceiver) (before now after : S)
+    → AreDelivered shows planned rx_frames set tx_buffers receiver before now → set < 8 → Delivered shows planned rx_frames set tx_buffer next now after
+    → AreDelivered shows planned rx_frames (set + 1) (slice_set tx_buffers set tx_buffer) next before after
+served_next shows planned rx_frames set tx_buffers tx_buffer receiver next before now after are inside served =
     let new : List IubTxBuffer = slice_set tx_buffers set tx_buffer in
     let room : set < length tx_buffers = subst (λ n. set < n) (sym are.tx_buffers_opened.all) inside in
     let all : ℕ → List Line = with_lines are.lines set served.lines in
@@ -76,7 +76,7 @@ served_next planned rx_frames set tx_buffers tx_buffer receiver next before now 
       ];
       later = λ s late few. ap (λ (l : IubTxBuffer). l.sent) (others s (omega arith)) ∙ are.later s (omega arith) few;
       few = rw long (rw length-append (omega (arith, are.few, served.few)));
-      reported = served.reported ∙ ap (λ (t : Text). record t { text = t.text ++ text_of served.lines }) are.reported ∙ ap (λ (t : List ℕ). record before { text = t }) (append_assoc before.text (text_of (joined are.lines set)) (text_of served.lines) ∙ ap (λ (t : List ℕ). before.text ++ t) (sym long));
+      told = subst (λ (ls : List Line). Told shows before ls after) (sym next_lines) (told-append shows before now after (joined are.lines set) served.lines are.told served.told);
       tx_buffers_opened = record {
         all = length-set tx_buffers set tx_buffer ∙ are.tx_buffers_opened.all;
         each = λ s few. elim (eqb_tells s set) [
@@ -89,10 +89,10 @@ served_next planned rx_frames set tx_buffers tx_buffer receiver next before now 
     }
 
 -- the frame of a set was sent
-pub sent_up : (planned : Planned) (rx_frames : RxFrames) (set start : ℕ) (old new : IubTxBuffer) (receiver : UplinkReceiver) (before after : Text) → SendsFrame planned Up set start old new before after → AreRead planned rx_frames set old.held
+pub sent_up : {S : Type 0} (shows : S → Line → S → Type 0) (planned : Planned) (rx_frames : RxFrames) (set start : ℕ) (old new : IubTxBuffer) (receiver : UplinkReceiver) (before after : S) → SendsFrame shows planned Up set start old new before after → AreRead planned rx_frames set old.held
     → ends (set_frames planned.config.uplink.side set) rx_frames.cfn ≡ true → start ≡ started (set_frames planned.config.uplink.side set) rx_frames.cfn → IsReceiverOf planned receiver → receiver.rx_frames ≡ rx_frames
-    → Delivered planned rx_frames set new receiver before after
-sent_up planned rx_frames set start old new receiver before after sends read over begun opened same = record {
+    → Delivered shows planned rx_frames set new receiver before after
+sent_up shows planned rx_frames set start old new receiver before after sends read over begun opened same = record {
   lines = Iub Up set sends.octets ∷ [];
   few = sends.few;
   serves = inr (inr (record {
@@ -105,35 +105,35 @@ sent_up planned rx_frames set start old new receiver before after sends read ove
     reported = refl;
     sent = sends.sent;
   }));
-  reported = sends.reported;
+  told = told_one shows before after _ sends.shown;
   tx_buffer_opened = sends.opened;
   receiver_opened = opened;
   same = same;
 }
 
 -- the TTI of a set could not be read
-pub lost_set : (planned : Planned) (rx_frames : RxFrames) (set channel frame : ℕ) (tx_buffer : IubTxBuffer) (receiver : UplinkReceiver) (before after : Text) → IsBadTti planned.config.uplink.side rx_frames set channel frame
+pub lost_set : {S : Type 0} (shows : S → Line → S → Type 0) (planned : Planned) (rx_frames : RxFrames) (set channel frame : ℕ) (tx_buffer : IubTxBuffer) (receiver : UplinkReceiver) (before after : S) → IsBadTti planned.config.uplink.side rx_frames set channel frame
     → ends (set_frames planned.config.uplink.side set) rx_frames.cfn ≡ true → tx_buffer.sent ≡ None → IsTxBufferOf planned Up set tx_buffer → IsReceiverOf planned receiver → receiver.rx_frames ≡ rx_frames
-    → length (text_of (BadTti Up channel frame ∷ [])) ≤ 300 → after ≡ added before (BadTti Up channel frame ∷ []) → Delivered planned rx_frames set tx_buffer receiver before after
-lost_set planned rx_frames set channel frame tx_buffer receiver before after is over none kept opened same few reported = record {
+    → length (text_of (BadTti Up channel frame ∷ [])) ≤ 300 → shows before (BadTti Up channel frame) after → Delivered shows planned rx_frames set tx_buffer receiver before after
+lost_set shows planned rx_frames set channel frame tx_buffer receiver before after is over none kept opened same few shown = record {
   lines = BadTti Up channel frame ∷ [];
   few = omega (arith, few);
   serves = inr (inl (record { over = over; channel = channel; frame = frame; is = is; reported = refl; none = none }));
-  reported = reported;
+  told = told_one shows before after _ shown;
   tx_buffer_opened = kept;
   receiver_opened = opened;
   same = same;
 }
 
 -- no set was served yet
-pub none_served : (planned : Planned) (tx_buffers : List IubTxBuffer) (receiver : UplinkReceiver) (before : Text) → AreTxBuffersOf planned Up tx_buffers → IsReceiverOf planned receiver
-    → ((s : ℕ) → s < 8 → (tx_buffer_at tx_buffers s).sent ≡ None) → AreDelivered planned receiver.rx_frames 0 tx_buffers receiver before before
-none_served planned tx_buffers receiver before are opened quiet = record {
+pub none_served : {S : Type 0} (shows : S → Line → S → Type 0) (planned : Planned) (tx_buffers : List IubTxBuffer) (receiver : UplinkReceiver) (before : S) → AreTxBuffersOf planned Up tx_buffers → IsReceiverOf planned receiver
+    → ((s : ℕ) → s < 8 → (tx_buffer_at tx_buffers s).sent ≡ None) → AreDelivered shows planned receiver.rx_frames 0 tx_buffers receiver before before
+none_served shows planned tx_buffers receiver before are opened quiet = record {
   lines = λ s. [];
   sets = λ s early. absurd (omega arith);
   later = λ s late few. quiet s few;
   few = omega arith;
-  reported = ap (λ (t : List ℕ). record before { text = t }) (sym (append-nil before.text));
+  told = refl;
   tx_buffers_opened = are;
   receiver_opened = opened;
   same = refl;

@@ -15,14 +15,14 @@ use Rattle.dch_dlphy.specs.Loaded.{IsLoaded}
 use Rattle.dch_iub.specs.Answers.{IsCause}
 use Rattle.dch_iub.specs.Forms.{IsReadForm}
 use Rattle.dch_iub.specs.declared.error.IubError.{IubError}
-use Rattle.dch_script.specs.Held.{Held as Text}
+use Rattle.dch_indication.specs.Lines.{IubBad, Line, joined}
+use Rattle.dch_indication.specs.Told.{Told}
+use Rattle.dch_script.specs.LineText.{text_of}
 use Rattle.dch_txframes.specs.Opened.{AreTxBuffersOf, IsTxBufferOf}
-use Rattle.dch_txframes.specs.Reports.{added}
 use Rattle.dch_txframes.specs.Values.{IubTxBuffer, radio_sent, tx_buffer_at}
 use Rattle.dch_types.specs.Timing.{set_frames, starts}
 use Rattle.dch_node.specs.Values.{Radio}
 use Rattle.dch_node.specs.RxFrames.{KeepsRadio}
-use Rattle.dch_node.specs.Lines.{IubBad, Line, joined, text_of}
 use Rattle.dch_node.specs.IubFrames.{refusal_number}
 use Rattle.dch_nodeb.specs.Opened.{AreRxBuffersOf, IsReceiverOf, IsTransmitterOf}
 use Rattle.dch_nodeb.specs.Steps.{DeliversSet, radio_line}
@@ -39,7 +39,7 @@ pub record IsTaken (planned : Planned) (set : ℕ) (octets : List ℕ) (new : Iu
   pub filled : IsFilled planned set octets new
   pub quiet : lines ≡ []
 
--- or refused, which is reported
+-- or refused, which is told
 pub record IsRefused (planned : Planned) (set : ℕ) (octets : List ℕ) (old new : IubRxBuffer) (lines : List Line) : Type 0 where
   pub error : IubError
   pub cause : IsCause planned.config Down set octets error
@@ -47,13 +47,13 @@ pub record IsRefused (planned : Planned) (set : ℕ) (octets : List ℕ) (old ne
   pub reported : lines ≡ IubBad Down set (refusal_number error) ∷ []
 
 -- an Iub frame came for a set
-pub record Keeps (planned : Planned) (set : ℕ) (octets : List ℕ) (old new : List IubRxBuffer) (before after : Text) : Type 0 where
+pub record Keeps {S : Type 0} (shows : S → Line → S → Type 0) (planned : Planned) (set : ℕ) (octets : List ℕ) (old new : List IubRxBuffer) (before after : S) : Type 0 where
   pub opened : AreRxBuffersOf planned new
   pub others : (s : ℕ) → s ≢ set → rx_buffer_at new s ≡ rx_buffer_at old s
   pub lines : List Line
   pub few : length (text_of lines) ≤ 300
   pub took : IsTaken planned set octets (rx_buffer_at new set) lines ⊎ IsRefused planned set octets (rx_buffer_at old set) (rx_buffer_at new set) lines
-  pub reported : after ≡ added before lines
+  pub told : Told shows before lines after
 
 -- a receive buffer is ready for a TTI that starts at a CFN: it has the blocks of its frame where that is the one of this CFN, and else of the
 -- idle formats; and it is empty
@@ -127,20 +127,20 @@ Writes planned cfn transmitter None = RunsInNone planned.config.downlink.side (l
 Writes planned cfn transmitter (Some radio) = IsWritten planned cfn transmitter radio
 
 -- a radio frame was sent, or none
-pub record Sends (planned : Planned) (cfn : ℕ) (old new : DownlinkTransmitter) (before after : Text) : Type 0 where
+pub record Sends {S : Type 0} (shows : S → Line → S → Type 0) (planned : Planned) (cfn : ℕ) (old new : DownlinkTransmitter) (before after : S) : Type 0 where
   pub opened : IsTransmitterOf planned new
   pub running : new.running ≡ old.running
   pub formats : new.formats ≡ old.formats
   pub writes : Writes planned cfn old (radio_sent new.radio)
   pub few : length (text_of (radio_line (radio_sent new.radio) ∷ [])) ≤ 60000
-  pub reported : after ≡ added before (radio_line (radio_sent new.radio) ∷ [])
+  pub shown : shows before (radio_line (radio_sent new.radio)) after
 
 -- the radio frame of the CFN is due: receive buffers are made ready, the channels that start are loaded, and the frame is sent
-pub record Transmits (planned : Planned) (cfn : ℕ) (old new : List IubRxBuffer) (transmitter sent : DownlinkTransmitter) (before after : Text) : Type 0 where
+pub record Transmits {S : Type 0} (shows : S → Line → S → Type 0) (planned : Planned) (cfn : ℕ) (old new : List IubRxBuffer) (transmitter sent : DownlinkTransmitter) (before after : S) : Type 0 where
   pub ready : AreReady planned cfn 8 old new
   pub loaded : DownlinkTransmitter
   pub given : AreGiven planned cfn (length planned.config.downlink.side.channels) new transmitter loaded
-  pub sends : Sends planned cfn loaded sent before after
+  pub sends : Sends shows planned cfn loaded sent before after
 
 -- a radio frame is kept for a CFN, or that it is missing
 pub record Hears (planned : Planned) (cfn : ℕ) (radio : Option Radio) (old new : RxFrames) : Type 0 where
@@ -149,27 +149,27 @@ pub record Hears (planned : Planned) (cfn : ℕ) (radio : Option Radio) (old new
   pub others : (k : ℕ) → k ≢ cfn % 8 → rx_frame_at new.frames k ≡ rx_frame_at old.frames k
 
 -- a set was served
-pub record Delivered (planned : Planned) (rx_frames : RxFrames) (set : ℕ) (tx_buffer : IubTxBuffer) (receiver : UplinkReceiver) (before after : Text) : Type 0 where
+pub record Delivered {S : Type 0} (shows : S → Line → S → Type 0) (planned : Planned) (rx_frames : RxFrames) (set : ℕ) (tx_buffer : IubTxBuffer) (receiver : UplinkReceiver) (before after : S) : Type 0 where
   pub lines : List Line
   pub few : length (text_of lines) ≤ 300000
   pub serves : DeliversSet planned rx_frames set lines tx_buffer.sent
-  pub reported : after ≡ added before lines
+  pub told : Told shows before lines after
   pub tx_buffer_opened : IsTxBufferOf planned Up set tx_buffer
   pub receiver_opened : IsReceiverOf planned receiver
   pub same : receiver.rx_frames ≡ rx_frames
 
 -- the first sets were served, and the others send nothing
-pub record AreDelivered (planned : Planned) (rx_frames : RxFrames) (count : ℕ) (tx_buffers : List IubTxBuffer) (receiver : UplinkReceiver) (before after : Text) : Type 0 where
+pub record AreDelivered {S : Type 0} (shows : S → Line → S → Type 0) (planned : Planned) (rx_frames : RxFrames) (count : ℕ) (tx_buffers : List IubTxBuffer) (receiver : UplinkReceiver) (before after : S) : Type 0 where
   pub lines : ℕ → List Line
   pub sets : (s : ℕ) → s < count → DeliversSet planned rx_frames s (lines s) (tx_buffer_at tx_buffers s).sent
   pub later : (s : ℕ) → count ≤ s → s < 8 → (tx_buffer_at tx_buffers s).sent ≡ None
   pub few : length (text_of (joined lines count)) ≤ count * 300000
-  pub reported : after ≡ added before (joined lines count)
+  pub told : Told shows before (joined lines count) after
   pub tx_buffers_opened : AreTxBuffersOf planned Up tx_buffers
   pub receiver_opened : IsReceiverOf planned receiver
   pub same : receiver.rx_frames ≡ rx_frames
 
 -- an uplink radio frame came, or is missing, and all sets were served
-pub record Receives (planned : Planned) (cfn : ℕ) (radio : Option Radio) (old : RxFrames) (tx_buffers : List IubTxBuffer) (receiver : UplinkReceiver) (before after : Text) : Type 0 where
+pub record Receives {S : Type 0} (shows : S → Line → S → Type 0) (planned : Planned) (cfn : ℕ) (radio : Option Radio) (old : RxFrames) (tx_buffers : List IubTxBuffer) (receiver : UplinkReceiver) (before after : S) : Type 0 where
   pub hears : Hears planned cfn radio old receiver.rx_frames
-  pub served : AreDelivered planned receiver.rx_frames 8 tx_buffers receiver before after
+  pub served : AreDelivered shows planned receiver.rx_frames 8 tx_buffers receiver before after

@@ -77,15 +77,15 @@ pub record NothingSent (node : Node) : Type 0 where
   pub radio : node.transmitter.radio.sent ≡ false
   pub iub : (s : ℕ) → s < 8 → iub_shown node s ≡ None
 
--- a step was taken from a state, and the report went on by the text of its lines
-abbrev pub Stepped : Planned → State → Event → Node → List ℕ → List ℕ → Type 0
-Stepped planned old event node before after = TakesStep Steps (Represents planned) Shows old event node before after
+-- a step was taken from a state, and whoever is told is told of its lines
+abbrev pub Stepped : Planned → State → Event → Node → (List Line → Type 0) → Type 0
+Stepped planned old event node Says = TakesStep Steps (Represents planned) Shows old event node Says
 
--- a Node B stands for what happened since it was opened for a configuration, with the lines of all reports; this one is active now
+-- a Node B stands for what happened since it was opened for a configuration, with the lines of all of them; this one is active now
 abbrev pub RepresentsHistory : Planned → Planned → ℕ → List Event → List Line → Node → Type 0
 RepresentsHistory began planned first events lines node = HasHistory Steps (Represents planned) Shows (opened_state began first) events lines node
 
--- one more event, with the lines by whose text the report went on
-abbrev pub ExtendsHistory : Planned → Planned → ℕ → List Event → List Line → Event → Node → List ℕ → List ℕ → Type 0
-ExtendsHistory began planned first events lines event node before after =
-    HasLongerHistory Steps (Represents planned) Shows (opened_state began first) events lines event node before after
+-- one more event, with the lines of which whoever is told is told
+abbrev pub ExtendsHistory : Planned → Planned → ℕ → List Event → List Line → Event → Node → (List Line → Type 0) → Type 0
+ExtendsHistory began planned first events lines event node Says =
+    HasLongerHistory Steps (Represents planned) Shows (opened_state began first) events lines event node Says

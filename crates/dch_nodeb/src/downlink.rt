@@ -1,12 +1,11 @@
 ghost use Rattle.std.specs.Prelude.{length};
 ghost use Rattle.dch_nodeb.specs.Moves.{AreGiven, Transmits};
 ghost use Rattle.dch_nodeb.specs.Opened.{AreNoted, AreRxBuffersOf, IsTransmitterOf};
-ghost use Rattle.dch_txframes.specs.Rooms.{HasRoomFor};
 
 use crate::iub_rx_buffer::{IubRxBuffer, blocks_of, ready};
 use crate::transmitter::DownlinkTransmitter;
 use dch_accept::Accepted;
-use dch_script::Report;
+use dch_indication::Indications;
 use dch_types::{Dir, starts};
 
 /// Loads the blocks that the receive buffers have for the channels whose TTI starts at a CFN.
@@ -35,20 +34,19 @@ pub fn load(
 
 /// Sends the downlink radio frame of a CFN: each channel whose TTI starts takes the blocks of the Iub frame that is kept for
 /// that CFN, or those of its idle format.
-pub fn transmit(
+pub fn transmit<U: Indications>(
     accepted: &Accepted,
     cfn: u8,
     rx_buffers: &mut [IubRxBuffer],
     transmitter: &mut DownlinkTransmitter,
-    report: &mut Report,
+    user: &mut U,
 )
     requires rx_buffers { AreRxBuffersOf accepted.now rx_buffers.old }
     requires transmitter { IsTransmitterOf accepted.now transmitter.old }
     requires noted { AreNoted accepted.now transmitter.old.formats transmitter.old.running }
-    requires room { HasRoomFor report.old 60000 }
-    ensures { Transmits accepted.now cfn rx_buffers.old rx_buffers.new transmitter.old transmitter.new report.old report.new }
+    ensures { Transmits U.shows accepted.now cfn rx_buffers.old rx_buffers.new transmitter.old transmitter.new user.old user.new }
 {
     ready(accepted, cfn, rx_buffers);
     load(accepted, cfn, rx_buffers, transmitter);
-    transmitter.send(accepted, cfn, report);
+    transmitter.send(accepted, cfn, user);
 }

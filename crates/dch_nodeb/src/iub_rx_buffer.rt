@@ -5,15 +5,14 @@ ghost use Rattle.dch_accept.specs.HeldSets.{IsIdleSet, IsSetOf, held_at};
 ghost use Rattle.dch_iub.specs.Answers.{IsCause};
 ghost use Rattle.dch_nodeb.specs.Moves.{AreReady, IsFilled, IsReady, Keeps};
 ghost use Rattle.dch_nodeb.specs.Opened.{AreNewRxBuffers, AreRxBuffersOf};
-ghost use Rattle.dch_txframes.specs.Rooms.{HasRoomFor};
 ghost use Rattle.dch_nodeb.specs.Values.{rx_buffer_at};
 
 use crate::sets::rx_buffer_of;
 use dch_accept::{Accepted, SetBlocks, TtiBlocks};
 use dch_bits::NoMemory;
+use dch_indication::Indications;
 use dch_iub::{IubError, read_dl};
-use dch_script::Report;
-use dch_txframes::{SETS, put_refusal};
+use dch_txframes::{SETS, tell_refusal};
 use dch_types::{Dir, starts};
 use std::alloc::Global;
 use std::marker::Model;
@@ -98,22 +97,21 @@ pub fn blocks_of(rx_buffers: &[IubRxBuffer], set: u8, channel: u8) -> &TtiBlocks
     rx_buffers[set as usize].blocks().channel(channel)
 }
 
-/// Keeps the Iub frame of a set, or reports why it is refused.
-pub fn keep(
+/// Keeps the Iub frame of a set, or tells why it is refused.
+pub fn keep<U: Indications>(
     accepted: &Accepted,
     set: u8,
     frame: &[u8],
     rx_buffers: &mut [IubRxBuffer],
-    report: &mut Report,
+    user: &mut U,
 )
     requires rx_buffers { AreRxBuffersOf accepted.now rx_buffers.old }
     requires set { has_set accepted.now.config.downlink.side set ≡ true }
-    requires room { HasRoomFor report.old 300 }
-    ensures { Keeps accepted.now set frame.now rx_buffers.old rx_buffers.new report.old report.new }
+    ensures { Keeps U.shows accepted.now set frame.now rx_buffers.old rx_buffers.new user.old user.new }
 {
     match rx_buffers[rx_buffer_of(accepted, set)].keep(accepted, set, frame) {
         Ok(()) => {}
-        Err(error) => put_refusal(report, Dir::Down, set, error),
+        Err(error) => tell_refusal(user, Dir::Down, set, error),
     }
 }
 

@@ -4,8 +4,10 @@ ghost use Rattle.dch_types.specs.Timing.{has_set};
 ghost use Rattle.dch_config.specs.Changes.{KeepsBearer};
 ghost use Rattle.dch_accept.specs.Plans.{Planned};
 ghost use Rattle.dch_accept.specs.Reports.{step_bytes};
+ghost use Rattle.dch_script.specs.Adding.{Adds};
 ghost use Rattle.dch_tti.specs.RxFrames.{HasTfci};
 ghost use Rattle.dch_node.specs.Lines.{Line};
+ghost use Rattle.dch_node.specs.Standing.{AreNone, Tells, TellsFew};
 ghost use Rattle.dch_txframes.specs.Rooms.{HasRoomFor};
 ghost use Rattle.dch_txframes.specs.Lending.{octets_of, radio_of};
 ghost use Rattle.dch_nodeb.specs.Opened.{CanChange, HasNext, IsNodeOf};
@@ -20,6 +22,7 @@ use crate::parts::Parts;
 use crate::uplink::receive;
 use dch_accept::{Accepted, FrameView};
 use dch_bits::NoMemory;
+use dch_indication::Indications;
 use dch_script::Report;
 use dch_txframes::clear_sent;
 use dch_types::Dir;
@@ -92,6 +95,26 @@ impl NodeB {
         })
     }
 
+    /// Takes one event, and tells what it does, in the configuration that is active; for a change that is the second one.
+    pub fn step_with<U: Indications>(
+        &mut self,
+        accepted: &Accepted,
+        event: NodeBEvent<'_>,
+        user: &mut U,
+    )
+        requires opened { IsReadyFor accepted.now event self.old }
+        requires event { MayCome accepted.now event }
+        ensures opened { IsNodeOf accepted.now self.new }
+        ensures step { (before : Planned) (state : State) → IsActiveBefore accepted.now event.entry before self.old → Represents before state self.old →
+            Stepped accepted.now state (event_of accepted.now event.entry) self.new (Tells U.shows user.old user.new) }
+        ensures history { (began before : Planned) (first : ℕ) (events : List Event) (lines : List Line) → IsActiveBefore accepted.now event.entry before self.old →
+            RepresentsHistory began before first events lines self.old → ExtendsHistory began accepted.now first events lines (event_of accepted.now event.entry) self.new (Tells U.shows user.old user.new) }
+        ensures next { KeepsNext accepted.now event.entry self.old self.new }
+        ensures few { TellsFew U.shows 4000000 user.old user.new }
+    {
+        self.happen(accepted, event, user);
+    }
+
     /// Takes one event, and reports what it does, in the configuration that is active; for a change that is the second one. The
     /// report has room for what one step may write.
     pub fn step(&mut self, accepted: &Accepted, event: NodeBEvent<'_>, report: &mut Report)
@@ -100,14 +123,14 @@ impl NodeB {
         requires room { HasRoomFor report.old (step_bytes accepted.now.config) }
         ensures opened { IsNodeOf accepted.now self.new }
         ensures step { (before : Planned) (state : State) → IsActiveBefore accepted.now event.entry before self.old → Represents before state self.old →
-            Stepped accepted.now state (event_of accepted.now event.entry) self.new report.old.text report.new.text }
+            Stepped accepted.now state (event_of accepted.now event.entry) self.new (Adds report.old.text report.new.text) }
         ensures history { (began before : Planned) (first : ℕ) (events : List Event) (lines : List Line) → IsActiveBefore accepted.now event.entry before self.old →
-            RepresentsHistory began before first events lines self.old → ExtendsHistory began accepted.now first events lines (event_of accepted.now event.entry) self.new report.old.text report.new.text }
+            RepresentsHistory began before first events lines self.old → ExtendsHistory began accepted.now first events lines (event_of accepted.now event.entry) self.new (Adds report.old.text report.new.text) }
         ensures next { KeepsNext accepted.now event.entry self.old self.new }
         ensures few { length report.new.text ≤ length report.old.text + 4000000 }
         ensures most { report.new.most ≡ report.old.most }
     {
-        self.happen(accepted, event, report);
+        self.step_with(accepted, event, report);
     }
 
     /// Gives all memory back.
@@ -129,22 +152,20 @@ impl NodeB {
     }
 
     /// Hides what the last step sent, and takes one event.
-    fn happen(&mut self, accepted: &Accepted, event: NodeBEvent<'_>, report: &mut Report)
+    fn happen<U: Indications>(&mut self, accepted: &Accepted, event: NodeBEvent<'_>, user: &mut U)
         requires opened { IsReadyFor accepted.now event self.old }
         requires event { MayCome accepted.now event }
-        requires room { HasRoomFor report.old 4000000 }
         ensures opened { IsNodeOf accepted.now self.new }
         ensures step { (before : Planned) (state : State) → IsActiveBefore accepted.now event.entry before self.old → Represents before state self.old →
-            Stepped accepted.now state (event_of accepted.now event.entry) self.new report.old.text report.new.text }
+            Stepped accepted.now state (event_of accepted.now event.entry) self.new (Tells U.shows user.old user.new) }
         ensures next { KeepsNext accepted.now event.entry self.old self.new }
-        ensures few { length report.new.text ≤ length report.old.text + 4000000 }
-        ensures most { report.new.most ≡ report.old.most }
+        ensures few { TellsFew U.shows 4000000 user.old user.new }
     {
         self.clear_sent();
         match event {
-            NodeBEvent::Iub { set, frame } => self.receive_iub(accepted, set, frame, report),
-            NodeBEvent::Down => self.transmit_radio(accepted, report),
-            NodeBEvent::Phy { frame } => self.receive_radio(accepted, frame, report),
+            NodeBEvent::Iub { set, frame } => self.receive_iub(accepted, set, frame, user),
+            NodeBEvent::Down => self.transmit_radio(accepted, user),
+            NodeBEvent::Phy { frame } => self.receive_radio(accepted, frame, user),
             NodeBEvent::Change => self.change(accepted),
         }
     }
@@ -164,8 +185,8 @@ impl NodeB {
     fn change(&mut self, accepted: &Accepted)
         requires { CanChange accepted.now self.old }
         ensures opened { IsNodeOf accepted.now self.new }
-        ensures step { (before : Planned) (state : State) (text : List ℕ) → HasNext before accepted.now self.old → Represents before state self.old →
-            Stepped accepted.now state (Change accepted.now) self.new text text }
+        ensures step { (before : Planned) (state : State) → HasNext before accepted.now self.old → Represents before state self.old →
+            Stepped accepted.now state (Change accepted.now) self.new AreNone }
         ensures next { self.new.next ≡ None }
     {
         if let Some(parts) = self.next.take() {
@@ -174,30 +195,32 @@ impl NodeB {
     }
 
     /// An Iub frame arrives for a set.
-    fn receive_iub(&mut self, accepted: &Accepted, set: u8, frame: &[u8], report: &mut Report)
+    fn receive_iub<U: Indications>(
+        &mut self,
+        accepted: &Accepted,
+        set: u8,
+        frame: &[u8],
+        user: &mut U,
+    )
         requires opened { IsNodeOf accepted.now self.old }
         requires quiet { NothingSent self.old }
         requires set { has_set accepted.now.config.downlink.side set ≡ true }
-        requires room { HasRoomFor report.old 4000000 }
         ensures opened { IsNodeOf accepted.now self.new }
-        ensures step { (state : State) → Represents accepted.now state self.old → Stepped accepted.now state (IubFrame set frame.now) self.new report.old.text report.new.text }
+        ensures step { (state : State) → Represents accepted.now state self.old → Stepped accepted.now state (IubFrame set frame.now) self.new (Tells U.shows user.old user.new) }
         ensures next { self.new.next ≡ self.old.next }
-        ensures few { length report.new.text ≤ length report.old.text + 4000000 }
-        ensures most { report.new.most ≡ report.old.most }
+        ensures few { TellsFew U.shows 4000000 user.old user.new }
     {
-        keep(accepted, set, frame, &mut self.parts.rx_buffers, report);
+        keep(accepted, set, frame, &mut self.parts.rx_buffers, user);
     }
 
     /// The downlink radio frame is due.
-    fn transmit_radio(&mut self, accepted: &Accepted, report: &mut Report)
+    fn transmit_radio<U: Indications>(&mut self, accepted: &Accepted, user: &mut U)
         requires opened { IsNodeOf accepted.now self.old }
         requires quiet { NothingSent self.old }
-        requires room { HasRoomFor report.old 4000000 }
         ensures opened { IsNodeOf accepted.now self.new }
-        ensures step { (state : State) → Represents accepted.now state self.old → Stepped accepted.now state DownlinkDue self.new report.old.text report.new.text }
+        ensures step { (state : State) → Represents accepted.now state self.old → Stepped accepted.now state DownlinkDue self.new (Tells U.shows user.old user.new) }
         ensures next { self.new.next ≡ self.old.next }
-        ensures few { length report.new.text ≤ length report.old.text + 4000000 }
-        ensures most { report.new.most ≡ report.old.most }
+        ensures few { TellsFew U.shows 4000000 user.old user.new }
     {
         // The channels of a set have TTIs of one length in a good configuration.
         let _side = accepted.side(Dir::Down);
@@ -206,26 +229,24 @@ impl NodeB {
             self.cfn,
             &mut self.parts.rx_buffers,
             &mut self.parts.transmitter,
-            report,
+            user,
         );
     }
 
     /// The uplink radio frame came, or is missing. The CFN goes on.
-    fn receive_radio(
+    fn receive_radio<U: Indications>(
         &mut self,
         accepted: &Accepted,
         frame: Option<FrameView<'_>>,
-        report: &mut Report,
+        user: &mut U,
     )
         requires opened { IsNodeOf accepted.now self.old }
         requires quiet { NothingSent self.old }
         requires tfci { HasTfci accepted.now Up frame }
-        requires room { HasRoomFor report.old 4000000 }
         ensures opened { IsNodeOf accepted.now self.new }
-        ensures step { (state : State) → Represents accepted.now state self.old → Stepped accepted.now state (UplinkFrame (radio_of frame.entry)) self.new report.old.text report.new.text }
+        ensures step { (state : State) → Represents accepted.now state self.old → Stepped accepted.now state (UplinkFrame (radio_of frame.entry)) self.new (Tells U.shows user.old user.new) }
         ensures next { self.new.next ≡ self.old.next }
-        ensures few { length report.new.text ≤ length report.old.text + 4000000 }
-        ensures most { report.new.most ≡ report.old.most }
+        ensures few { TellsFew U.shows 4000000 user.old user.new }
     {
         receive(
             accepted,
@@ -233,7 +254,7 @@ impl NodeB {
             frame,
             &mut self.parts.receiver,
             &mut self.parts.tx_buffers,
-            report,
+            user,
         );
         self.cfn = self.cfn.wrapping_add(1);
     }

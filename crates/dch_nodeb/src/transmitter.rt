@@ -4,15 +4,14 @@ ghost use Rattle.dch_types.specs.Parts.{channel_at};
 ghost use Rattle.dch_accept.specs.HeldSets.{HasFormat};
 ghost use Rattle.dch_nodeb.specs.Moves.{FindsFirst, IsFirst, Loads, RunsIn, Sends};
 ghost use Rattle.dch_nodeb.specs.Opened.{AreNoted, IsTransmitterOf};
-ghost use Rattle.dch_txframes.specs.Rooms.{HasRoomFor};
 ghost use Rattle.dch_txframes.specs.Lending.{radio_of};
 ghost use Rattle.dch_txframes.specs.Values.{radio_sent};
 
 use dch_accept::{Accepted, FrameView, TtiBlocks};
 use dch_bits::NoMemory;
 use dch_dlphy::{DlTti, write};
-use dch_script::Report;
-use dch_txframes::{RadioTxBuffer, put_no_radio, put_radio};
+use dch_indication::Indications;
+use dch_txframes::{RadioTxBuffer, tell_no_radio, tell_radio};
 use dch_types::{Dir, Side};
 use std::alloc::Global;
 use std::marker::Model;
@@ -74,36 +73,40 @@ impl DownlinkTransmitter {
         self.formats[channel as usize] = blocks.format();
     }
 
-    /// Sends the radio frame of a CFN in the combination of the formats that run, and reports it; where none has them, no frame
+    /// Sends the radio frame of a CFN in the combination of the formats that run, and tells of it; where none has them, no frame
     /// is sent (TS 25.212 4.3).
-    pub fn send(&mut self, accepted: &Accepted, cfn: u8, report: &mut Report)
+    pub fn send<U: Indications>(&mut self, accepted: &Accepted, cfn: u8, user: &mut U)
         requires opened { IsTransmitterOf accepted.now self.old }
         requires noted { AreNoted accepted.now self.old.formats self.old.running }
-        requires room { HasRoomFor report.old 60000 }
-        ensures { Sends accepted.now cfn self.old self.new report.old report.new }
+        ensures { Sends U.shows accepted.now cfn self.old self.new user.old user.new }
     {
         match first_combination(accepted.side(Dir::Down), &self.formats) {
-            Some(combination) => self.write(accepted, cfn, combination, report),
+            Some(combination) => self.write(accepted, cfn, combination, user),
             None => {
                 self.radio.clear_sent();
-                put_no_radio(report);
+                tell_no_radio(user);
             }
         }
     }
 
-    /// Writes the radio frame of a CFN in a combination, and reports it.
-    fn write(&mut self, accepted: &Accepted, cfn: u8, combination: u16, report: &mut Report)
+    /// Writes the radio frame of a CFN in a combination, and tells of it.
+    fn write<U: Indications>(
+        &mut self,
+        accepted: &Accepted,
+        cfn: u8,
+        combination: u16,
+        user: &mut U,
+    )
         requires opened { IsTransmitterOf accepted.now self.old }
         requires noted { AreNoted accepted.now self.old.formats self.old.running }
         requires first { IsFirst accepted.now.config.downlink.side self.old.formats combination }
-        requires room { HasRoomFor report.old 60000 }
-        ensures { Sends accepted.now cfn self.old self.new report.old report.new }
+        ensures { Sends U.shows accepted.now cfn self.old self.new user.old user.new }
     {
         // A frame has at most 57,240 cells in a good configuration.
         let _config = accepted.config();
         write(accepted, &self.tti, cfn, combination, &mut self.radio.frame);
         self.radio.sent = true;
-        put_radio(report, Dir::Down, self.radio.frame.view());
+        tell_radio(user, Dir::Down, self.radio.frame.view());
     }
 }
 

@@ -74,7 +74,7 @@ changed_on {S} {E} {V} rules Represents HasNext Shows lasting old new run later 
     let none : stepped.output.lines ≡ [] = lasting.silent run.node stepped.next later.accepted stepped.output stepped.step in
     let more : List ℕ = shown run.quiet (text_of stepped.output.lines) in
     let nothing : text_of stepped.output.lines ≡ more = ap text_of none ∙ shown_nothing run.quiet ∙ ap (λ (l : List Line). shown run.quiet (text_of l)) (sym none) in
-    let text : after.text ≡ before.text ++ more = stepped.reported ∙ ap (λ (t : List ℕ). before.text ++ t) nothing in
+    let text : after.text ≡ before.text ++ more = stepped.tells ∙ ap (λ (t : List ℕ). before.text ++ t) nothing in
     let counted : frames_in rules (run.events ++ event ∷ []) ≡ frames_in rules run.events = (let one = frames_next rules run.events event in let zero = lasting.uncounted later.accepted in omega (arith, one, zero)) in (
       next,
       record {

@@ -1,5 +1,5 @@
 -- A second configuration that becomes active.
-use Rattle.std.proofs.Common.{◌≡◌, ◌∙◌, ℕ, List, refl, ap, sym, subst, append-nil, Option, Some, None}
+use Rattle.std.proofs.Common.{◌≡◌, ◌∙◌, ℕ, refl, ap, sym, subst, Option, Some, None}
 use Rattle.std.specs.Prelude.{option_map}
 use Rattle.dch_types.specs.declared.channel.Dir.{Dir}
 use Rattle.dch_types.specs.declared.channel.Dir.TheVariants.{Down}
@@ -11,6 +11,7 @@ use Rattle.dch_layer2.specs.Layers.{Layer, changed_layer}
 use Rattle.dch_layer2.specs.Standing.{IsSameEnd, Represents as StandsFor}
 use Rattle.dch_layer2.specs.Values.{LayerRunning}
 use Rattle.dch_layer2.proofs.Layers.{changed_are}
+use Rattle.dch_node.specs.Standing.{AreNone}
 use Rattle.dch_rnc.specs.Opened.{AreNew, CanChange, HasNext, Holds, IsNext, IsNodeOf}
 use Rattle.dch_rnc.specs.Standing.{IsAt, NothingShown, Stepped}
 use Rattle.dch_rnc.specs.State.{Change, State, changed}
@@ -61,9 +62,9 @@ changed_is first planned node layer parts opened kept same goes new =
     }
 
 -- the step of a change
-pub changes : (before planned : Planned) (state : State) (node : Node) (layer : LayerRunning) (parts : Parts) (text : List ℕ) → NothingShown node → IsAt before state node → node.layer.out ≡ Down
-    → ((b : ℕ) → KeepsBearer before.config planned.config b) → GoesOn planned node.layer layer → AreNew planned parts → Stepped planned state (Change planned) (node_of node.cfn layer node.read parts None) text text
-changes before planned state node layer parts text quiet at down kept goes new = record {
+pub changes : (before planned : Planned) (state : State) (node : Node) (layer : LayerRunning) (parts : Parts) → NothingShown node → IsAt before state node → node.layer.out ≡ Down
+    → ((b : ℕ) → KeepsBearer before.config planned.config b) → GoesOn planned node.layer layer → AreNew planned parts → Stepped planned state (Change planned) (node_of node.cfn layer node.read parts None) AreNone
+changes before planned state node layer parts quiet at down kept goes new = record {
   next = changed planned state;
   output = no_output;
   step = record { state = refl; quiet = refl };
@@ -76,5 +77,5 @@ changes before planned state node layer parts text quiet at down kept goes new =
     readings = λ i inside. rw quiet.read refl;
   };
   shows = record { iub = λ s few. new.tx_buffers.quiet s few };
-  reported = sym (append-nil text);
+  tells = refl;
 }

@@ -10,11 +10,11 @@ use Rattle.dch_rnc.specs.Steps.{Steps}
 use Rattle.dch_rnc.specs.Values.{Node}
 
 -- a network controller that takes a step from each state that it stands for stands for one event more, in the configuration that is active then
-pub went_on : (began before planned : Planned) (old new : Node) (event : Event) (from to : List ℕ) (first : ℕ) (events : List Event) (lines : List Line)
-    → RepresentsHistory began before first events lines old → ((state : State) → Represents before state old → Stepped planned state event new from to)
-    → ExtendsHistory began planned first events lines event new from to
-went_on began before planned old new event from to first events lines was steps =
-    let stepped : Stepped planned was.state event new from to = steps was.state was.stands in
+pub went_on : (began before planned : Planned) (old new : Node) (event : Event) (Says : List Line → Type 0) (first : ℕ) (events : List Event) (lines : List Line)
+    → RepresentsHistory began before first events lines old → ((state : State) → Represents before state old → Stepped planned state event new Says)
+    → ExtendsHistory began planned first events lines event new Says
+went_on began before planned old new event Says first events lines was steps =
+    let stepped : Stepped planned was.state event new Says = steps was.state was.stands in
     record {
       own = stepped.output.lines;
       stands = record {
@@ -24,5 +24,5 @@ went_on began before planned old new event from to first events lines was steps 
         stands = stepped.stands;
         shows = stepped.shows;
       };
-      reported = stepped.reported;
+      tells = stepped.tells;
     }

@@ -1,4 +1,5 @@
 pub mod Changing
+pub mod Few
 pub mod Filling
 pub mod Frames
 pub mod Given

@@ -1,5 +1,5 @@
 -- What the parts of a network controller do, as a step of the definition.
-use Rattle.std.proofs.Common.{◌≡◌, ◌<◌, ◌+◌, ◌∙◌, ℕ, List, [], ◌∷◌, length, refl, ap, sym, subst, inl, inr, Bool, Option, Some, None, append-nil, cond}
+use Rattle.std.proofs.Common.{◌≡◌, ◌<◌, ◌+◌, ◌∙◌, ℕ, List, [], ◌∷◌, length, refl, ap, sym, subst, inl, inr, Bool, Option, Some, None, cond}
 use Rattle.std.specs.Prelude.{◌%◌, ◌==◌, IsSome}
 use Rattle.std.proofs.lemmas.Bool.Decides.{eqb_tells}
 use Rattle.dch_bits.specs.declared.bit.Bit.{Bit}
@@ -11,11 +11,11 @@ use Rattle.dch_types.specs.Parts.{channel_at, side_of}
 use Rattle.dch_accept.specs.Blocks.{Held}
 use Rattle.dch_accept.specs.HeldSets.{HeldSet, held_at}
 use Rattle.dch_accept.specs.Plans.{Planned}
-use Rattle.dch_script.specs.Held.{Held as Text}
+use Rattle.dch_indication.proofs.Telling.{told_one}
 use Rattle.dch_node.specs.IubFrames.{refusal_number}
 use Rattle.dch_node.specs.Lines.{IubBad, Line}
+use Rattle.dch_node.specs.Standing.{AreNone, Tells}
 use Rattle.dch_node.specs.Values.{Output, says}
-use Rattle.dch_layer2.specs.Reports.{added}
 use Rattle.dch_layer2.specs.Bearings.{answers, channel_of, line_of_answer}
 use Rattle.dch_layer2.specs.Layers.{Layer, Outcome, blocks, offers, ticks}
 use Rattle.dch_layer2.specs.Starting.{IsStart}
@@ -27,7 +27,7 @@ use Rattle.dch_txframes.specs.Values.{IubTxBuffer}
 use Rattle.dch_rnc.specs.Moves.{AreServed, IsRefused, IsTaken}
 use Rattle.dch_rnc.specs.Opened.{AreChannelSets, IsNodeOf}
 use Rattle.dch_rnc.specs.Standing.{IsAt, NothingShown, SendsDown, Stepped, blocks_read}
-use Rattle.dch_rnc.specs.State.{BlockedCombination, IubFrame, OfferedUnit, State, Tick, no_readings, set_readings, ticking, with_layer}
+use Rattle.dch_rnc.specs.State.{BlockedCombination, Event, IubFrame, OfferedUnit, State, Tick, no_readings, set_readings, ticking, with_layer}
 use Rattle.dch_rnc.specs.Steps.{IsArrival, IsOffer, IsSent, IsTick, sent_lines}
 use Rattle.dch_rnc.specs.Values.{Node, blocks_if_read, rx_set_at, taken_shown}
 use Rattle.dch_rnc.proofs.Given.{gives_sent}
@@ -38,10 +38,10 @@ none_taken : (node : Node) (i : ℕ) → node.read ≡ None → taken_shown node
 none_taken node i none = ap (λ (r : Option ℕ). blocks_if_read r node.channel_sets node.rx_sets i) none
 
 -- a unit was offered
-pub offered : (planned : Planned) (state : State) (node : Node) (new : LayerRunning) (b : ℕ) (octets : List ℕ) (bits : List Bit) (answer : Offer) (before after : Text) → NothingShown node → IsAt planned state node → node.layer.out ≡ Down
+pub offered : {S : Type 0} (shows : S → Line → S → Type 0) (planned : Planned) (state : State) (node : Node) (new : LayerRunning) (b : ℕ) (octets : List ℕ) (bits : List Bit) (answer : Offer) (before after : S) → NothingShown node → IsAt planned state node → node.layer.out ≡ Down
     → answer ≡ answers planned.config node.layer.out b octets bits (state.layer.bearings b) → StandsFor planned.config (offers planned.config node.layer.out b octets bits state.layer).layer new
-    → after ≡ added before (line_of_answer Down b answer ∷ []) → Stepped planned state (OfferedUnit b octets bits) (record node { layer = new }) before.text after.text
-offered planned state node new b octets bits answer before after quiet at down answered stands reported = record {
+    → shows before (line_of_answer Down b answer) after → Stepped planned state (OfferedUnit b octets bits) (record node { layer = new }) (Tells shows before after)
+offered shows planned state node new b octets bits answer before after quiet at down answered stands shown = record {
   next = with_layer state (offers planned.config Down b octets bits state.layer).layer;
   output = says (offers planned.config Down b octets bits state.layer).lines;
   step = subst (λ (p : Planned). IsOffer p state b octets bits (with_layer state (offers planned.config Down b octets bits state.layer).layer) (says (offers planned.config Down b octets bits state.layer).lines)) (sym at.active)
@@ -51,15 +51,14 @@ offered planned state node new b octets bits answer before after quiet at down a
     readings = λ i inside. none_taken node i quiet.read;
   };
   shows = record { iub = quiet.iub };
-  reported =
-      ap (λ (t : Text). t.text) reported
-      ∙ ap (λ (o : Offer). (added before (line_of_answer Down b o ∷ [])).text) (answered ∙ ap (λ (d : Dir). answers planned.config d b octets bits (state.layer.bearings b)) down);
+  tells = subst (λ (o : Offer). Tells shows before after (line_of_answer Down b o ∷ [])) (answered ∙ ap (λ (d : Dir). answers planned.config d b octets bits (state.layer.bearings b)) down)
+      (told_one shows before after _ shown);
 }
 
 -- a combination was blocked, or is free
-pub blocked_now : (planned : Planned) (state : State) (node : Node) (new : LayerRunning) (c : ℕ) (on : Bool) (before : List ℕ) → NothingShown node → IsAt planned state node
-    → StandsFor planned.config (blocks c on state.layer) new → Stepped planned state (BlockedCombination c on) (record node { layer = new }) before before
-blocked_now planned state node new c on before quiet at stands = record {
+pub blocked_now : (planned : Planned) (state : State) (node : Node) (new : LayerRunning) (c : ℕ) (on : Bool) → NothingShown node → IsAt planned state node
+    → StandsFor planned.config (blocks c on state.layer) new → Stepped planned state (BlockedCombination c on) (record node { layer = new }) AreNone
+blocked_now planned state node new c on quiet at stands = record {
   next = with_layer state (blocks c on state.layer);
   output = says [];
   step = (refl, refl);
@@ -68,7 +67,18 @@ blocked_now planned state node new c on before quiet at stands = record {
     readings = λ i inside. none_taken node i quiet.read;
   };
   shows = record { iub = quiet.iub };
-  reported = sym (append-nil before);
+  tells = refl;
+}
+
+-- where there is no line, nobody is told
+pub untold : {S : Type 0} (shows : S → Line → S → Type 0) (planned : Planned) (state : State) (event : Event) (node : Node) (user : S) → Stepped planned state event node AreNone → Stepped planned state event node (Tells shows user user)
+untold shows planned state event node user is = record {
+  next = is.next;
+  output = is.output;
+  step = is.step;
+  stands = is.stands;
+  shows = is.shows;
+  tells = subst (λ (ls : List Line). Tells shows user user ls) (sym is.tells) refl;
 }
 
 -- what is shown of a set that was read
@@ -83,14 +93,14 @@ read_shown side set i channel_sets rx_sets are inside =
     ]
 
 -- what layer 2 does with the blocks of a set
-abbrev reads_up : Planned → ℕ → HeldSet → Layer → Outcome
+abbrev pub reads_up : Planned → ℕ → HeldSet → Layer → Outcome
 reads_up planned set held layer = reads_below planned.config Up (set_readings planned.config.uplink.side set held) (length planned.config.uplink.side.channels) layer
 
 -- an Iub frame was read
-pub taken : (planned : Planned) (state : State) (node : Node) (new : LayerRunning) (rx_sets : List HeldSet) (set : ℕ) (octets : List ℕ) (before after : Text) → NothingShown node → IsAt planned state node
-    → AreChannelSets planned.config.uplink.side node.channel_sets → IsTaken planned set octets (rx_set_at rx_sets set) node.layer new before after
-    → Stepped planned state (IubFrame set octets) (record node { layer = new; rx_sets = rx_sets; read = Some set }) before.text after.text
-taken planned state node new rx_sets set octets before after quiet at sets is =
+pub taken : {S : Type 0} (shows : S → Line → S → Type 0) (planned : Planned) (state : State) (node : Node) (new : LayerRunning) (rx_sets : List HeldSet) (set : ℕ) (octets : List ℕ) (before after : S) → NothingShown node → IsAt planned state node
+    → AreChannelSets planned.config.uplink.side node.channel_sets → IsTaken shows planned set octets (rx_set_at rx_sets set) node.layer new before after
+    → Stepped planned state (IubFrame set octets) (record node { layer = new; rx_sets = rx_sets; read = Some set }) (Tells shows before after)
+taken shows planned state node new rx_sets set octets before after quiet at sets is =
     let held : HeldSet = rx_set_at rx_sets set in
     let next : State = record state {
       layer = (reads_up planned set held state.layer).layer;
@@ -106,13 +116,13 @@ taken planned state node new rx_sets set octets before after quiet at sets is =
         readings = λ i inside. read_shown planned.config.uplink.side set i node.channel_sets rx_sets sets inside;
       };
       shows = record { iub = quiet.iub };
-      reported = ap (λ (t : Text). t.text) (is.takes.reported state.layer at.layer);
+      tells = is.takes.told state.layer at.layer;
     }
 
 -- or refused
-pub refused : (planned : Planned) (state : State) (node : Node) (new : LayerRunning) (rx_sets : List HeldSet) (set : ℕ) (octets : List ℕ) (before after : Text) → NothingShown node → IsAt planned state node
-    → IsRefused planned set octets node.layer new before after → Stepped planned state (IubFrame set octets) (record node { layer = new; rx_sets = rx_sets }) before.text after.text
-refused planned state node new rx_sets set octets before after quiet at is =
+pub refused : {S : Type 0} (shows : S → Line → S → Type 0) (planned : Planned) (state : State) (node : Node) (new : LayerRunning) (rx_sets : List HeldSet) (set : ℕ) (octets : List ℕ) (before after : S) → NothingShown node → IsAt planned state node
+    → IsRefused shows planned set octets node.layer new before after → Stepped planned state (IubFrame set octets) (record node { layer = new; rx_sets = rx_sets }) (Tells shows before after)
+refused shows planned state node new rx_sets set octets before after quiet at is =
     let line : List Line = IubBad Up set (refusal_number is.error) ∷ [] in
     record {
       next = record state { readings = no_readings };
@@ -124,14 +134,14 @@ refused planned state node new rx_sets set octets before after quiet at is =
         readings = λ i inside. none_taken (record node { layer = new; rx_sets = rx_sets }) i quiet.read;
       };
       shows = record { iub = quiet.iub };
-      reported = ap (λ (t : Text). t.text) is.reported;
+      tells = told_one shows before after _ is.shown;
     }
 
 -- 10 ms have passed
-pub ticked : (planned : Planned) (state : State) (node : Node) (new : LayerRunning) (tx_buffers : List IubTxBuffer) (before after : Text) → NothingShown node → IsAt planned state node → new.out ≡ Down
-    → HasStarted planned.config node.cfn (ticks planned.config state.layer) new → AreServed planned node.cfn new 8 tx_buffers before after
-    → Stepped planned state Tick (record node { cfn = (node.cfn + 1) % 256; layer = new; tx_buffers = tx_buffers }) before.text after.text
-ticked planned state node new tx_buffers before after quiet at down started served =
+pub ticked : {S : Type 0} (shows : S → Line → S → Type 0) (planned : Planned) (state : State) (node : Node) (new : LayerRunning) (tx_buffers : List IubTxBuffer) (before after : S) → NothingShown node → IsAt planned state node → new.out ≡ Down
+    → HasStarted planned.config node.cfn (ticks planned.config state.layer) new → AreServed shows planned node.cfn new 8 tx_buffers before after
+    → Stepped planned state Tick (record node { cfn = (node.cfn + 1) % 256; layer = new; tx_buffers = tx_buffers }) (Tells shows before after)
+ticked shows planned state node new tx_buffers before after quiet at down started served =
     let next : State = ticking state started.next in
     let output : Output = record { lines = sent_lines (sent_of tx_buffers) 8; sent = None; iub = sent_of tx_buffers } in
     record {
@@ -151,7 +161,7 @@ ticked planned state node new tx_buffers before after quiet at down started serv
         readings = λ i inside. none_taken node i quiet.read;
       };
       shows = record { iub = λ s few. refl };
-      reported = ap (λ (t : Text). t.text) served.reported;
+      tells = served.told;
     }
 
 -- layer 2 takes a unit, and blocks a combination of the downlink

@@ -1,5 +1,5 @@
 -- The sets whose Iub frames are sent one after another.
-use Rattle.std.proofs.Common.{◌≡◌, ◌≢◌, ◌+◌, ◌<◌, ◌≤◌, ◌∙◌, ◌++◌, ℕ, zero, suc, List, length, arith, refl, ap, ap₂, sym, subst, inl, inr, true, false, Option, None, add-one, append-nil, length-append, get_or-set_same, get_or-set_other}
+use Rattle.std.proofs.Common.{◌≡◌, ◌≢◌, ◌+◌, ◌<◌, ◌≤◌, ◌∙◌, ◌++◌, ℕ, zero, suc, List, length, arith, refl, ap, ap₂, sym, subst, inl, inr, true, false, Option, None, add-one, length-append, get_or-set_same, get_or-set_other}
 use Rattle.std.specs.Prelude.{slice_set}
 use Rattle.std.proofs.lemmas.Bool.Decides.{eqb_tells}
 use Rattle.std.proofs.lemmas.List.{length-set}
@@ -7,37 +7,37 @@ use Rattle.dch_types.specs.declared.channel.Dir.TheVariants.{Down}
 use Rattle.dch_types.specs.Timing.{set_frames, starts}
 use Rattle.dch_accept.specs.HeldSets.{HeldSet}
 use Rattle.dch_accept.specs.Plans.{Planned}
-use Rattle.dch_script.specs.Held.{Held as Text}
-use Rattle.dch_node.specs.Lines.{Line, text_of}
+use Rattle.dch_indication.specs.Lines.{Line}
+use Rattle.dch_indication.specs.Told.{Told}
+use Rattle.dch_indication.proofs.Telling.{told_one, told-append}
+use Rattle.dch_script.specs.LineText.{text_of}
 use Rattle.dch_node.proofs.Texts.{text_of-append}
-use Rattle.dch_layer2.specs.Reports.{added}
-use Rattle.dch_layer2.proofs.Lines.{added-added}
 use Rattle.dch_layer2.specs.Values.{LayerRunning}
+use Rattle.dch_rnc.specs.Moves.{AreFilled, AreServed, Gives, Serves}
+use Rattle.dch_rnc.specs.Steps.{sent_line, sent_lines}
 use Rattle.dch_txframes.specs.Opened.{AreTxBuffersOf, IsTxBufferOf}
 use Rattle.dch_txframes.specs.Sending.{SendsFrame, sent_of}
 use Rattle.dch_txframes.specs.Values.{IubTxBuffer, tx_buffer_at}
-use Rattle.dch_rnc.specs.Moves.{AreFilled, AreServed, Gives, Serves}
-use Rattle.dch_rnc.specs.Steps.{sent_line, sent_lines}
 
 -- the frame of a set was sent
-pub set_sent : (planned : Planned) (cfn : ℕ) (v : LayerRunning) (set : ℕ) (old new : IubTxBuffer) (before after : Text) → SendsFrame planned Down set cfn old new before after → AreFilled planned.config set v old.held
-    → starts (set_frames planned.config.downlink.side set) cfn ≡ true → Serves planned cfn v set new before after
-set_sent planned cfn v set old new before after sends filled on = record {
+pub set_sent : {S : Type 0} (shows : S → Line → S → Type 0) (planned : Planned) (cfn : ℕ) (v : LayerRunning) (set : ℕ) (old new : IubTxBuffer) (before after : S) → SendsFrame shows planned Down set cfn old new before after → AreFilled planned.config set v old.held
+    → starts (set_frames planned.config.downlink.side set) cfn ≡ true → Serves shows planned cfn v set new before after
+set_sent shows planned cfn v set old new before after sends filled on = record {
   opened = sends.opened;
   gives = subst (λ (o : Option (List ℕ)). Gives planned.config cfn v set o) (sym sends.sent)
       (on, record { held = new.held; filled = subst (λ (h : HeldSet). AreFilled planned.config set v h) (sym sends.held) filled; whole = sends.whole; written = sends.written });
   few = subst (λ (o : Option (List ℕ)). length (text_of (sent_line set o)) ≤ 300000) (sym sends.sent) sends.few;
-  reported = sends.reported ∙ ap (λ (o : Option (List ℕ)). added before (sent_line set o)) (sym sends.sent);
+  told = subst (λ (o : Option (List ℕ)). Told shows before (sent_line set o) after) (sym sends.sent) (told_one shows before after _ sends.shown);
 }
 
 -- or its TTI is on
-pub set_waits : (planned : Planned) (cfn : ℕ) (v : LayerRunning) (set : ℕ) (tx_buffer : IubTxBuffer) (before : Text) → IsTxBufferOf planned Down set tx_buffer → tx_buffer.sent ≡ None
-    → starts (set_frames planned.config.downlink.side set) cfn ≡ false → Serves planned cfn v set tx_buffer before before
-set_waits planned cfn v set tx_buffer before opened none off = record {
+pub set_waits : {S : Type 0} (shows : S → Line → S → Type 0) (planned : Planned) (cfn : ℕ) (v : LayerRunning) (set : ℕ) (tx_buffer : IubTxBuffer) (before : S) → IsTxBufferOf planned Down set tx_buffer → tx_buffer.sent ≡ None
+    → starts (set_frames planned.config.downlink.side set) cfn ≡ false → Serves shows planned cfn v set tx_buffer before before
+set_waits shows planned cfn v set tx_buffer before opened none off = record {
   opened = opened;
   gives = subst (λ (o : Option (List ℕ)). Gives planned.config cfn v set o) (sym none) off;
   few = subst (λ (o : Option (List ℕ)). length (text_of (sent_line set o)) ≤ 300000) (sym none) (omega arith);
-  reported = ap (λ (t : List ℕ). record before { text = t }) (sym (append-nil before.text)) ∙ ap (λ (o : Option (List ℕ)). added before (sent_line set o)) (sym none);
+  told = subst (λ (o : Option (List ℕ)). Told shows before (sent_line set o) before) (sym none) refl;
 }
 
 -- lines on the same frames
@@ -47,9 +47,9 @@ sent_lines-same f g (suc n) same =
     ap₂ (λ (a b : List Line). a ++ b) (sent_lines-same f g n (λ s early. same s (omega arith))) (ap (λ (o : Option (List ℕ)). sent_line n o) (same n (omega arith)))
 
 -- one more set was served
-pub served_next : (planned : Planned) (cfn : ℕ) (v : LayerRunning) (set : ℕ) (tx_buffers : List IubTxBuffer) (tx_buffer : IubTxBuffer) (before now after : Text) → AreServed planned cfn v set tx_buffers before now → set < 8
-    → Serves planned cfn v set tx_buffer now after → AreServed planned cfn v (set + 1) (slice_set tx_buffers set tx_buffer) before after
-served_next planned cfn v set tx_buffers tx_buffer before now after are inside served =
+pub served_next : {S : Type 0} (shows : S → Line → S → Type 0) (planned : Planned) (cfn : ℕ) (v : LayerRunning) (set : ℕ) (tx_buffers : List IubTxBuffer) (tx_buffer : IubTxBuffer) (before now after : S) → AreServed shows planned cfn v set tx_buffers before now → set < 8
+    → Serves shows planned cfn v set tx_buffer now after → AreServed shows planned cfn v (set + 1) (slice_set tx_buffers set tx_buffer) before after
+served_next shows planned cfn v set tx_buffers tx_buffer before now after are inside served =
     let new : List IubTxBuffer = slice_set tx_buffers set tx_buffer in
     let room : set < length tx_buffers = subst (λ n. set < n) (sym are.opened.all) inside in
     let own : tx_buffer_at new set ≡ tx_buffer = get_or-set_same tx_buffers set tx_buffer _ room in
@@ -74,17 +74,16 @@ served_next planned cfn v set tx_buffers tx_buffer before now after are inside s
       ];
       later = λ s late few. ap (λ (l : IubTxBuffer). l.sent) (others s (omega arith)) ∙ are.later s (omega arith) few;
       few = rw long (rw length-append (omega (arith, are.few, served.few)));
-      reported = served.reported ∙ ap (λ (t : Text). added t (sent_line set tx_buffer.sent)) are.reported
-          ∙ added-added before (sent_lines (sent_of tx_buffers) set) (sent_line set tx_buffer.sent) ∙ ap (λ (ls : List Line). added before ls) (sym lines);
+      told = subst (λ (ls : List Line). Told shows before ls after) (sym lines) (told-append shows before now after (sent_lines (sent_of tx_buffers) set) (sent_line set tx_buffer.sent) are.told served.told);
     }
 
 -- no set was served yet
-pub none_served : (planned : Planned) (cfn : ℕ) (v : LayerRunning) (tx_buffers : List IubTxBuffer) (before : Text) → AreTxBuffersOf planned Down tx_buffers → ((s : ℕ) → s < 8 → sent_of tx_buffers s ≡ None)
-    → AreServed planned cfn v 0 tx_buffers before before
-none_served planned cfn v tx_buffers before are quiet = record {
+pub none_served : {S : Type 0} (shows : S → Line → S → Type 0) (planned : Planned) (cfn : ℕ) (v : LayerRunning) (tx_buffers : List IubTxBuffer) (before : S) → AreTxBuffersOf planned Down tx_buffers → ((s : ℕ) → s < 8 → sent_of tx_buffers s ≡ None)
+    → AreServed shows planned cfn v 0 tx_buffers before before
+none_served shows planned cfn v tx_buffers before are quiet = record {
   opened = are;
   sets = λ s early. absurd (omega arith);
   later = λ s late few. quiet s few;
   few = omega arith;
-  reported = ap (λ (t : List ℕ). record before { text = t }) (sym (append-nil before.text));
+  told = refl;
 }

@@ -1,5 +1,5 @@
 -- A network controller still fits its configuration after a step, and its layer 2 stays limited.
-use Rattle.std.proofs.Common.{◌≡◌, ◌≤◌, ◌+◌, ◌∙◌, ℕ, List, length, arith, Bool, Option}
+use Rattle.std.proofs.Common.{◌≤◌, ◌∙◌, ℕ, List, length, arith, Bool, Option}
 use Rattle.dch_bits.specs.declared.bit.Bit.{Bit}
 use Rattle.dch_types.specs.declared.channel.Dir.TheVariants.{Up, Down}
 use Rattle.dch_types.specs.declared.config.Config.{Config}
@@ -7,15 +7,18 @@ use Rattle.dch_config.specs.Good.{IsGood}
 use Rattle.dch_accept.specs.HeldSets.{HeldSet, IsSetOf}
 use Rattle.dch_accept.specs.Plans.{Planned}
 use Rattle.dch_accept.specs.Reports.{step_bytes}
-use Rattle.dch_script.specs.Held.{Held as Text}
+use Rattle.dch_indication.specs.Lines.{Line}
+use Rattle.dch_script.specs.LineText.{text_of}
+use Rattle.dch_layer2.specs.BoundedBytes.{AreBounded}
 use Rattle.dch_layer2.specs.Layers.{Layer, blocks, offers, ticks}
 use Rattle.dch_layer2.proofs.Layers.{blocks_hold, offers_hold, start_holds, ticks_hold}
 use Rattle.dch_layer2.specs.Bounded.{HasLayer}
 use Rattle.dch_layer2.specs.Standing.{HasStarted, IsLayerOf, IsSameEnd, Represents as StandsFor}
 use Rattle.dch_layer2.specs.Values.{LayerRunning}
-use Rattle.dch_layer2.proofs.Paying.{read_few, read_layer, read_most}
+use Rattle.dch_layer2.proofs.Paying.{read_layer, readings_room}
 use Rattle.dch_txframes.specs.Opened.{AreTxBuffersOf}
 use Rattle.dch_txframes.specs.Values.{IubTxBuffer}
+use Rattle.dch_rnc.proofs.Moving.{reads_up}
 use Rattle.dch_rnc.specs.Moves.{TakesSet}
 use Rattle.dch_rnc.specs.Opened.{AreRxSetsOf, IsNodeOf}
 use Rattle.dch_rnc.specs.State.{set_readings}
@@ -61,23 +64,15 @@ ticked_layer planned node mid new cfn opened stands starts =
       bounded = (start_holds planned.config new.out cfn (ticks planned.config old) started.next started.start).bounded ((ticks_hold planned.config old).bounded opened.layer.bounded);
     }
 
-pub taken_layer : (planned : Planned) (set : ℕ) (held : HeldSet) (old new : LayerRunning) (before after : Text) → IsGood planned.config → IsSetOf planned.config Up set held → HasLayer planned.config old → TakesSet planned set held old new before after
+pub taken_layer : {S : Type 0} (shows : S → Line → S → Type 0) (planned : Planned) (set : ℕ) (held : HeldSet) (old new : LayerRunning) (before after : S) → IsGood planned.config → IsSetOf planned.config Up set held → HasLayer planned.config old → TakesSet shows planned set held old new before after
     → HasLayer planned.config new
-taken_layer planned set held old new before after good is has takes =
-    read_layer planned.config Up (set_readings planned.config.uplink.side set held) (length planned.config.uplink.side.channels) old new before after good (omega arith) (λ i inside. tti_in planned.config set held i is inside) has takes
+taken_layer shows planned set held old new before after good is has takes =
+    read_layer shows planned.config Up (set_readings planned.config.uplink.side set held) (length planned.config.uplink.side.channels) old new before after good (omega arith) (λ i inside. tti_in planned.config set held i is inside) has takes
 
 -- the lines on an Iub frame are no more than a step may write
-pub taken_few : (planned : Planned) (set : ℕ) (held : HeldSet) (old new : LayerRunning) (before after : Text) → IsGood planned.config → IsSetOf planned.config Up set held → HasLayer planned.config old → TakesSet planned set held old new before after
-    → length after.text ≤ length before.text + step_bytes planned.config
-taken_few planned set held old new before after good is has takes =
-    omega (
-      arith,
-      read_few planned.config Up (set_readings planned.config.uplink.side set held) (length planned.config.uplink.side.channels) old new before after good (omega arith) (λ i inside. tti_in planned.config set held i is inside) has takes,
-    )
-
-pub taken_most : (planned : Planned) (set : ℕ) (held : HeldSet) (old new : LayerRunning) (before after : Text) → HasLayer planned.config old → TakesSet planned set held old new before after → after.most ≡ before.most
-taken_most planned set held old new before after has takes =
-    read_most planned.config Up (set_readings planned.config.uplink.side set held) (length planned.config.uplink.side.channels) old new before after has takes
+pub taken_few : (planned : Planned) (set : ℕ) (held : HeldSet) (layer : Layer) → IsGood planned.config → IsSetOf planned.config Up set held → AreBounded planned.config layer → length (text_of (reads_up planned set held layer).lines) ≤ step_bytes planned.config
+taken_few planned set held layer good is bounded =
+    omega (arith, readings_room planned.config Up (set_readings planned.config.uplink.side set held) (length planned.config.uplink.side.channels) layer good (omega arith) (λ i inside. tti_in planned.config set held i is inside) bounded)
 
 -- an Iub frame was read or refused
 pub still_received : (planned : Planned) (node : Node) (new : LayerRunning) (rx_sets : List HeldSet) (read : Option ℕ) → IsNodeOf planned node → IsSameEnd node.layer new → HasLayer planned.config new → AreRxSetsOf planned rx_sets

@@ -8,26 +8,23 @@ use Rattle.dch_types.specs.declared.channel.Dir.TheVariants.{Up}
 use Rattle.dch_types.specs.declared.channel.Side.{Side}
 use Rattle.dch_types.specs.declared.config.Config.{Config}
 use Rattle.dch_types.specs.Parts.{channel_at}
-use Rattle.dch_config.specs.Good.{IsGood}
 use Rattle.dch_accept.specs.HeldSets.{HeldSet, IsSetOf, held_at}
 use Rattle.dch_accept.specs.Blocks.{Held}
 use Rattle.dch_accept.specs.Plans.{Planned}
-use Rattle.dch_accept.specs.Reports.{step_bytes}
-use Rattle.dch_script.specs.Held.{Held as Text}
+use Rattle.dch_indication.specs.Lines.{IubBad, Line}
+use Rattle.dch_indication.specs.Told.{Told}
+use Rattle.dch_script.specs.LineText.{text_of}
 use Rattle.dch_iub.specs.Answers.{IsCause}
 use Rattle.dch_iub.specs.Forms.{IsReadForm}
 use Rattle.dch_iub.specs.declared.error.IubError.{IubError}
 use Rattle.dch_node.specs.IubFrames.{refusal_number}
-use Rattle.dch_node.specs.Lines.{IubBad, text_of}
-use Rattle.dch_layer2.specs.Reports.{added}
 use Rattle.dch_layer2.specs.Layers.{Layer, takes}
-use Rattle.dch_layer2.specs.Bounded.{HasLayer, HasRead, IsTti}
-use Rattle.dch_layer2.specs.Coming.{HasRoomForTti, came_of}
+use Rattle.dch_layer2.specs.Bounded.{HasRead, IsTti}
+use Rattle.dch_layer2.specs.Coming.{came_of}
 use Rattle.dch_layer2.specs.Reading.{Nothing, Read, Reading}
 use Rattle.dch_layer2.specs.Standing.{IsSameEnd, Represents as StandsFor}
 use Rattle.dch_layer2.specs.Values.{LayerRunning}
-use Rattle.dch_layer2.proofs.Paying.{next_room, taken_on}
-use Rattle.dch_txframes.specs.Rooms.{HasRoomFor}
+use Rattle.dch_layer2.proofs.Paying.{taken_on}
 use Rattle.dch_rnc.specs.Moves.{IsTaken, Receives, TakesSet}
 use Rattle.dch_rnc.specs.Opened.{AreNewRxSets, AreRxSetsOf}
 use Rattle.dch_rnc.specs.State.{set_readings}
@@ -90,33 +87,33 @@ still_rx_sets planned rx_sets at set new are place few is = record {
 }
 
 -- a frame was read into the blocks of its set, and layer 2 took them
-pub got_taken : (planned : Planned) (set at : ℕ) (octets : List ℕ) (rx_sets : List HeldSet) (new : HeldSet) (cfn qe : ℕ) (old now : LayerRunning) (before after : Text) → AreRxSetsOf planned rx_sets → at ≡ set → set < 8
-    → IsSetOf planned.config Up set new → IsReadForm planned.config Up set octets cfn qe new → TakesSet planned set new old now before after → Receives planned set octets true (slice_set rx_sets at new) old now before after
-got_taken planned set at octets rx_sets new cfn qe old now before after are place few is read takes = record {
+pub got_taken : {S : Type 0} (shows : S → Line → S → Type 0) (planned : Planned) (set at : ℕ) (octets : List ℕ) (rx_sets : List HeldSet) (new : HeldSet) (cfn qe : ℕ) (old now : LayerRunning) (before after : S) → AreRxSetsOf planned rx_sets → at ≡ set → set < 8
+    → IsSetOf planned.config Up set new → IsReadForm planned.config Up set octets cfn qe new → TakesSet shows planned set new old now before after → Receives shows planned set octets true (slice_set rx_sets at new) old now before after
+got_taken shows planned set at octets rx_sets new cfn qe old now before after are place few is read takes = record {
   few = few;
   opened = still_rx_sets planned rx_sets at set new are place few is;
-  answers = subst (λ (h : HeldSet). IsTaken planned set octets h old now before after) (sym (own_rx_set planned rx_sets at set new are place few)) (record { filled = record { cfn = cfn; qe = qe; read = read }; takes = takes });
+  answers = subst (λ (h : HeldSet). IsTaken shows planned set octets h old now before after) (sym (own_rx_set planned rx_sets at set new are place few)) (record { filled = record { cfn = cfn; qe = qe; read = read }; takes = takes });
 }
 
 -- it was refused, and the blocks of its set are as they were
-pub got_refusal : (planned : Planned) (set at : ℕ) (octets : List ℕ) (rx_sets : List HeldSet) (last new : HeldSet) (error : IubError) (v : LayerRunning) (before after : Text) → AreRxSetsOf planned rx_sets → at ≡ set → set < 8
+pub got_refusal : {S : Type 0} (shows : S → Line → S → Type 0) (planned : Planned) (set at : ℕ) (octets : List ℕ) (rx_sets : List HeldSet) (last new : HeldSet) (error : IubError) (v : LayerRunning) (before after : S) → AreRxSetsOf planned rx_sets → at ≡ set → set < 8
     → last ≡ rx_set_at rx_sets set → new ≡ last → IsCause planned.config Up set octets error → length (text_of (IubBad Up set (refusal_number error) ∷ [])) ≤ 300
-    → after ≡ added before (IubBad Up set (refusal_number error) ∷ []) → Receives planned set octets false (slice_set rx_sets at new) v v before after
-got_refusal planned set at octets rx_sets last new error v before after are place few own same cause short reported = record {
+    → shows before (IubBad Up set (refusal_number error)) after → Receives shows planned set octets false (slice_set rx_sets at new) v v before after
+got_refusal shows planned set at octets rx_sets last new error v before after are place few own same cause short shown = record {
   few = few;
   opened = still_rx_sets planned rx_sets at set new are place few (subst (λ (h : HeldSet). IsSetOf planned.config Up set h) (sym (same ∙ own)) (are.each set few));
-  answers = record { error = error; cause = cause; same = refl; few = short; reported = reported };
+  answers = record { error = error; cause = cause; same = refl; few = short; shown = shown };
 }
 
 -- the blocks of one more channel of a set were taken
-pub taken_next : (planned : Planned) (set i : ℕ) (blocks : HeldSet) (held : Held) (old now next : LayerRunning) (before after later : Text) → HasRead planned.config Up (set_readings planned.config.uplink.side set blocks) i old now before after
+pub taken_next : {S : Type 0} (shows : S → Line → S → Type 0) (planned : Planned) (set i : ℕ) (blocks : HeldSet) (held : Held) (old now next : LayerRunning) (before after later : S) → HasRead shows planned.config Up (set_readings planned.config.uplink.side set blocks) i old now before after
     → now.into ≡ Up → held ≡ held_at blocks.blocks i → i < length planned.config.uplink.side.channels → (channel_at planned.config.uplink.side i).set ≡ set → IsSameEnd now next
-    → ((layer : Layer) → StandsFor planned.config layer now → later ≡ added after (takes planned.config now.into i 0 (came_of held) layer).lines)
+    → ((layer : Layer) → StandsFor planned.config layer now → Told shows after (takes planned.config now.into i 0 (came_of held) layer).lines later)
     → ((layer : Layer) → StandsFor planned.config layer now → StandsFor planned.config (takes planned.config now.into i 0 (came_of held) layer).layer next)
-    → HasRead planned.config Up (set_readings planned.config.uplink.side set blocks) (i + 1) old next before later
-taken_next planned set i blocks held old now next before after later has up own inside member same reported stands =
-    taken_on planned.config Up (set_readings planned.config.uplink.side set blocks) i held old now next before after later has
-    (reading_on planned.config.uplink.side set blocks i inside member ∙ ap Read (sym own)) up same reported stands
+    → HasRead shows planned.config Up (set_readings planned.config.uplink.side set blocks) (i + 1) old next before later
+taken_next shows planned set i blocks held old now next before after later has up own inside member same told stands =
+    taken_on shows planned.config Up (set_readings planned.config.uplink.side set blocks) i held old now next before after later has
+    (reading_on planned.config.uplink.side set blocks i inside member ∙ ap Read (sym own)) up same told stands
 
 -- what was read of a channel is a TTI of it, or nothing
 pub tti_in : (config : Config) (set : ℕ) (held : HeldSet) (i : ℕ) → IsSetOf config Up set held → i < length config.uplink.side.channels → IsTti config Up i (set_readings config.uplink.side set held i)
@@ -124,10 +121,3 @@ tti_in config set held i is inside = elim (eqb_tells (channel_at config.uplink.s
   | inl same ↦ subst (λ (r : Reading). IsTti config Up i r) (sym (reading_on config.uplink.side set held i inside same.1)) (is.formats i inside same.1)
   | inr other ↦ subst (λ (r : Reading). IsTti config Up i r) (sym (reading_off config.uplink.side set held i other.1)) tt
 ]
-
--- there is room for the blocks of the next channel of the set
-pub set_room : (config : Config) (set : ℕ) (blocks : HeldSet) (i : ℕ) (old now : LayerRunning) (before after : Text) → IsGood config → IsSetOf config Up set blocks → i < length config.uplink.side.channels → (channel_at config.uplink.side i).set ≡ set
-    → HasRead config Up (set_readings config.uplink.side set blocks) i old now before after → HasLayer config old → now.into ≡ Up → HasRoomFor before (step_bytes config) → HasRoomForTti config i (held_at blocks.blocks i) now after
-set_room config set blocks i old now before after good is inside member read has up room =
-    next_room config Up (set_readings config.uplink.side set blocks) i (held_at blocks.blocks i) old now before after good inside (reading_on config.uplink.side set blocks i inside member)
-    (λ k early. tti_in config set blocks k is (omega (arith, early, inside))) read has up (omega (arith, room))

@@ -10,10 +10,10 @@ use Rattle.dch_accept.specs.Plans.{Planned}
 use Rattle.dch_iub.specs.Answers.{IsCause}
 use Rattle.dch_iub.specs.Forms.{IsReadForm, IsWrittenForm}
 use Rattle.dch_iub.specs.declared.error.IubError.{IubError}
-use Rattle.dch_script.specs.Held.{Held as Text}
+use Rattle.dch_indication.specs.Lines.{IubBad, Line}
+use Rattle.dch_indication.specs.Told.{Told}
+use Rattle.dch_script.specs.LineText.{text_of}
 use Rattle.dch_node.specs.IubFrames.{refusal_number}
-use Rattle.dch_node.specs.Lines.{IubBad, text_of}
-use Rattle.dch_layer2.specs.Reports.{added}
 use Rattle.dch_txframes.specs.Octets.{AreOctets}
 use Rattle.dch_txframes.specs.Opened.{AreTxBuffersOf, IsTxBufferOf}
 use Rattle.dch_txframes.specs.Sending.{sent_of}
@@ -26,9 +26,9 @@ use Rattle.dch_rnc.specs.Steps.{sent_line, sent_lines}
 use Rattle.dch_rnc.specs.Values.{rx_set_at}
 
 -- layer 2 took the readings of all channels of a set
-abbrev pub TakesSet : Planned → ℕ → HeldSet → LayerRunning → LayerRunning → Text → Text → Type 0
-TakesSet planned set held old new before after =
-    HasRead planned.config Up (set_readings planned.config.uplink.side set held) (length planned.config.uplink.side.channels) old new before after
+abbrev pub TakesSet : {S : Type 0} → (S → Line → S → Type 0) → Planned → ℕ → HeldSet → LayerRunning → LayerRunning → S → S → Type 0
+TakesSet shows planned set held old new before after =
+    HasRead shows planned.config Up (set_readings planned.config.uplink.side set held) (length planned.config.uplink.side.channels) old new before after
 
 -- blocks that were read of a frame
 pub record IsFilled (planned : Planned) (set : ℕ) (octets : List ℕ) (held : HeldSet) : Type 0 where
@@ -37,27 +37,27 @@ pub record IsFilled (planned : Planned) (set : ℕ) (octets : List ℕ) (held : 
   pub read : IsReadForm planned.config Up set octets cfn qe held
 
 -- a frame was read, and layer 2 took its blocks
-pub record IsTaken (planned : Planned) (set : ℕ) (octets : List ℕ) (held : HeldSet) (old new : LayerRunning) (before after : Text) : Type 0 where
+pub record IsTaken {S : Type 0} (shows : S → Line → S → Type 0) (planned : Planned) (set : ℕ) (octets : List ℕ) (held : HeldSet) (old new : LayerRunning) (before after : S) : Type 0 where
   pub filled : IsFilled planned set octets held
-  pub takes : TakesSet planned set held old new before after
+  pub takes : TakesSet shows planned set held old new before after
 
--- or refused, which is reported
-pub record IsRefused (planned : Planned) (set : ℕ) (octets : List ℕ) (old new : LayerRunning) (before after : Text) : Type 0 where
+-- or refused, which is told
+pub record IsRefused {S : Type 0} (shows : S → Line → S → Type 0) (planned : Planned) (set : ℕ) (octets : List ℕ) (old new : LayerRunning) (before after : S) : Type 0 where
   pub error : IubError
   pub cause : IsCause planned.config Up set octets error
   pub same : new ≡ old
   pub few : length (text_of (IubBad Up set (refusal_number error) ∷ [])) ≤ 300
-  pub reported : after ≡ added before (IubBad Up set (refusal_number error) ∷ [])
+  pub shown : shows before (IubBad Up set (refusal_number error)) after
 
-abbrev pub Answers : Planned → ℕ → List ℕ → Bool → HeldSet → LayerRunning → LayerRunning → Text → Text → Type 0
-Answers planned set octets true held old new before after = IsTaken planned set octets held old new before after
-Answers planned set octets false held old new before after = IsRefused planned set octets old new before after
+abbrev pub Answers : {S : Type 0} → (S → Line → S → Type 0) → Planned → ℕ → List ℕ → Bool → HeldSet → LayerRunning → LayerRunning → S → S → Type 0
+Answers shows planned set octets true held old new before after = IsTaken shows planned set octets held old new before after
+Answers shows planned set octets false held old new before after = IsRefused shows planned set octets old new before after
 
 -- an Iub frame came for a set, which was read or not
-pub record Receives (planned : Planned) (set : ℕ) (octets : List ℕ) (read : Bool) (rx_sets : List HeldSet) (old new : LayerRunning) (before after : Text) : Type 0 where
+pub record Receives {S : Type 0} (shows : S → Line → S → Type 0) (planned : Planned) (set : ℕ) (octets : List ℕ) (read : Bool) (rx_sets : List HeldSet) (old new : LayerRunning) (before after : S) : Type 0 where
   pub few : set < 8
   pub opened : AreRxSetsOf planned rx_sets
-  pub answers : Answers planned set octets read (rx_set_at rx_sets set) old new before after
+  pub answers : Answers shows planned set octets read (rx_set_at rx_sets set) old new before after
 
 -- the same format and bits
 pub record IsSameBlocks (given held : Held) : Type 0 where
@@ -86,16 +86,16 @@ Gives config cfn v set None = starts (set_frames config.downlink.side set) cfn �
 Gives config cfn v set (Some octets) = (starts (set_frames config.downlink.side set) cfn ≡ true) × IsFrameOf config cfn v set octets
 
 -- a set was served
-pub record Serves (planned : Planned) (cfn : ℕ) (v : LayerRunning) (set : ℕ) (tx_buffer : IubTxBuffer) (before after : Text) : Type 0 where
+pub record Serves {S : Type 0} (shows : S → Line → S → Type 0) (planned : Planned) (cfn : ℕ) (v : LayerRunning) (set : ℕ) (tx_buffer : IubTxBuffer) (before after : S) : Type 0 where
   pub opened : IsTxBufferOf planned Down set tx_buffer
   pub gives : Gives planned.config cfn v set tx_buffer.sent
   pub few : length (text_of (sent_line set tx_buffer.sent)) ≤ 300000
-  pub reported : after ≡ added before (sent_line set tx_buffer.sent)
+  pub told : Told shows before (sent_line set tx_buffer.sent) after
 
 -- the first sets were served, and the others send nothing
-pub record AreServed (planned : Planned) (cfn : ℕ) (v : LayerRunning) (count : ℕ) (tx_buffers : List IubTxBuffer) (before after : Text) : Type 0 where
+pub record AreServed {S : Type 0} (shows : S → Line → S → Type 0) (planned : Planned) (cfn : ℕ) (v : LayerRunning) (count : ℕ) (tx_buffers : List IubTxBuffer) (before after : S) : Type 0 where
   pub opened : AreTxBuffersOf planned Down tx_buffers
   pub sets : (s : ℕ) → s < count → Gives planned.config cfn v s (sent_of tx_buffers s)
   pub later : (s : ℕ) → count ≤ s → s < 8 → sent_of tx_buffers s ≡ None
   pub few : length (text_of (sent_lines (sent_of tx_buffers) count)) ≤ count * 300000
-  pub reported : after ≡ added before (sent_lines (sent_of tx_buffers) count)
+  pub told : Told shows before (sent_lines (sent_of tx_buffers) count) after

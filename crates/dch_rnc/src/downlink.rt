@@ -4,12 +4,11 @@ ghost use Rattle.dch_accept.specs.HeldSets.{IsSetOf};
 ghost use Rattle.dch_layer2.specs.Standing.{IsLayerOf};
 ghost use Rattle.dch_rnc.specs.Moves.{AreFilled, AreServed, Serves};
 ghost use Rattle.dch_txframes.specs.Opened.{AreTxBuffersOf, IsTxBufferOf};
-ghost use Rattle.dch_txframes.specs.Rooms.{HasRoomFor};
 ghost use Rattle.dch_txframes.specs.Sending.{sent_of};
 
 use dch_accept::{Accepted, SetBlocks};
+use dch_indication::Indications;
 use dch_layer2::Layer2;
-use dch_script::Report;
 use dch_txframes::{IubTxBuffer, SETS};
 use dch_types::{Dir, starts};
 
@@ -30,42 +29,40 @@ fn fill(accepted: &Accepted, set: u8, layer: &Layer2, blocks: &mut SetBlocks)
 }
 
 /// Serves a set: where its TTI starts at the CFN, what layer 2 gave to its channels is sent in an Iub frame (TS 25.427 6.2).
-fn send_set(
+fn send_set<U: Indications>(
     accepted: &Accepted,
     set: u8,
     cfn: u8,
     layer: &Layer2,
     tx_buffer: &mut IubTxBuffer,
-    report: &mut Report,
+    user: &mut U,
 )
     requires tx_buffer { IsTxBufferOf accepted.now Down set tx_buffer.old }
     requires quiet { tx_buffer.old.sent ≡ None }
     requires layer { IsLayerOf accepted.now.config layer.now }
     requires sends { layer.now.out ≡ Down }
-    requires room { HasRoomFor report.old 300000 }
-    ensures { Serves accepted.now cfn layer.now set tx_buffer.new report.old report.new }
+    ensures { Serves U.shows accepted.now cfn layer.now set tx_buffer.new user.old user.new }
 {
     let frames = accepted.side(Dir::Down).set_frames(set);
     if starts(frames, cfn) {
         fill(accepted, set, layer, tx_buffer.blocks_mut());
-        tx_buffer.send(accepted, Dir::Down, set, cfn, report);
+        tx_buffer.send(accepted, Dir::Down, set, cfn, user);
     }
 }
 
 /// Sends the Iub frames of the sets whose TTI starts at a CFN.
-pub fn send_sets(
+pub fn send_sets<U: Indications>(
     accepted: &Accepted,
     cfn: u8,
     layer: &Layer2,
     tx_buffers: &mut [IubTxBuffer],
-    report: &mut Report,
+    user: &mut U,
 )
     requires tx_buffers { AreTxBuffersOf accepted.now Down tx_buffers.old }
     requires quiet { (s : ℕ) → s < 8 → sent_of tx_buffers.old s ≡ None }
     requires layer { IsLayerOf accepted.now.config layer.now }
     requires sends { layer.now.out ≡ Down }
-    requires room { HasRoomFor report.old 2400000 }
-    ensures { AreServed accepted.now cfn layer.now 8 tx_buffers.new report.old report.new }
+    ensures { AreServed U.shows accepted.now cfn layer.now 8 tx_buffers.new user.old user.new }
 {
     for set in 0..SETS {
         send_set(
@@ -74,7 +71,7 @@ pub fn send_sets(
             cfn,
             layer,
             &mut tx_buffers[set as usize],
-            report,
+            user,
         );
     }
 }

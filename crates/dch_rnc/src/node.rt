@@ -6,11 +6,13 @@ ghost use Rattle.dch_accept.specs.HeldSets.{held_at};
 ghost use Rattle.dch_accept.specs.Plans.{Planned};
 ghost use Rattle.dch_accept.specs.Reports.{step_bytes};
 ghost use Rattle.dch_node.specs.Lines.{Line};
+ghost use Rattle.dch_node.specs.Standing.{AreNone, Tells, TellsFew};
 ghost use Rattle.dch_rnc.specs.Lending.{held_of};
 ghost use Rattle.dch_rnc.specs.Opened.{CanChange, HasChannel, HasNext, IsNodeOf};
 ghost use Rattle.dch_rnc.specs.Standing.{ExtendsHistory, IsActiveBefore, IsAt, IsReadyFor, KeepsNext, MayCome, NothingShown, Represents, RepresentsHistory, SendsDown, Stepped, event_of};
 ghost use Rattle.dch_rnc.specs.State.{BlockedCombination, Change, Event, IubFrame, OfferedUnit, State, Tick};
 ghost use Rattle.dch_rnc.specs.Values.{iub_shown, taken_shown};
+ghost use Rattle.dch_script.specs.Adding.{Adds};
 ghost use Rattle.dch_txframes.specs.Lending.{octets_of};
 ghost use Rattle.dch_txframes.specs.Rooms.{HasRoomFor};
 
@@ -20,9 +22,10 @@ use crate::parts::{Next, Parts};
 use crate::uplink::receive;
 use dch_accept::{Accepted, TtiBlocks};
 use dch_bits::{Bit, NoMemory};
+use dch_indication::Indications;
 use dch_layer2::Layer2;
 use dch_script::Report;
-use dch_txframes::{clear_sent, put_answer};
+use dch_txframes::{clear_sent, tell_answer};
 use dch_types::Dir;
 use std::alloc::Global;
 use std::marker::Model;
@@ -102,6 +105,28 @@ impl Rnc {
         })
     }
 
+    /// Takes one event, and tells what it does, in the configuration that is active; for a change that is the second one.
+    pub fn step_with<U: Indications>(
+        &mut self,
+        accepted: &Accepted,
+        event: RncEvent<'_>,
+        user: &mut U,
+    )
+        requires opened { IsReadyFor accepted.now event self.old }
+        requires event { MayCome accepted.now event }
+        ensures opened { IsNodeOf accepted.now self.new }
+        ensures step { (before : Planned) (state : State) → IsActiveBefore accepted.now event.entry before self.old → Represents before state self.old →
+            Stepped accepted.now state (event_of accepted.now event.entry) self.new (Tells U.shows user.old user.new) }
+        ensures history { (began before : Planned) (first : ℕ) (events : List Event) (lines : List Line) → IsActiveBefore accepted.now event.entry before self.old →
+            RepresentsHistory began before first events lines self.old → ExtendsHistory began accepted.now first events lines (event_of accepted.now event.entry) self.new (Tells U.shows user.old user.new) }
+        ensures next { KeepsNext accepted.now event.entry self.old self.new }
+        ensures few { TellsFew U.shows (step_bytes accepted.now.config) user.old user.new }
+    {
+        // What is told of an event is limited in a good configuration.
+        let _config = accepted.config();
+        self.happen(accepted, event, user);
+    }
+
     /// Takes one event, and reports what it does, in the configuration that is active; for a change that is the second one. The
     /// report has room for what one step may write.
     pub fn step(&mut self, accepted: &Accepted, event: RncEvent<'_>, report: &mut Report)
@@ -110,14 +135,14 @@ impl Rnc {
         requires room { HasRoomFor report.old (step_bytes accepted.now.config) }
         ensures opened { IsNodeOf accepted.now self.new }
         ensures step { (before : Planned) (state : State) → IsActiveBefore accepted.now event.entry before self.old → Represents before state self.old →
-            Stepped accepted.now state (event_of accepted.now event.entry) self.new report.old.text report.new.text }
+            Stepped accepted.now state (event_of accepted.now event.entry) self.new (Adds report.old.text report.new.text) }
         ensures history { (began before : Planned) (first : ℕ) (events : List Event) (lines : List Line) → IsActiveBefore accepted.now event.entry before self.old →
-            RepresentsHistory began before first events lines self.old → ExtendsHistory began accepted.now first events lines (event_of accepted.now event.entry) self.new report.old.text report.new.text }
+            RepresentsHistory began before first events lines self.old → ExtendsHistory began accepted.now first events lines (event_of accepted.now event.entry) self.new (Adds report.old.text report.new.text) }
         ensures next { KeepsNext accepted.now event.entry self.old self.new }
         ensures few { length report.new.text ≤ length report.old.text + step_bytes accepted.now.config }
         ensures most { report.new.most ≡ report.old.most }
     {
-        self.happen(accepted, event, report);
+        self.step_with(accepted, event, report);
     }
 
     /// Gives all memory back.
@@ -153,16 +178,13 @@ impl Rnc {
     }
 
     /// Hides what the last step sent and read, and takes one event.
-    fn happen(&mut self, accepted: &Accepted, event: RncEvent<'_>, report: &mut Report)
+    fn happen<U: Indications>(&mut self, accepted: &Accepted, event: RncEvent<'_>, user: &mut U)
         requires opened { IsReadyFor accepted.now event self.old }
         requires event { MayCome accepted.now event }
-        requires room { HasRoomFor report.old (step_bytes accepted.now.config) }
         ensures opened { IsNodeOf accepted.now self.new }
         ensures step { (before : Planned) (state : State) → IsActiveBefore accepted.now event.entry before self.old → Represents before state self.old →
-            Stepped accepted.now state (event_of accepted.now event.entry) self.new report.old.text report.new.text }
+            Stepped accepted.now state (event_of accepted.now event.entry) self.new (Tells U.shows user.old user.new) }
         ensures next { KeepsNext accepted.now event.entry self.old self.new }
-        ensures few { length report.new.text ≤ length report.old.text + step_bytes accepted.now.config }
-        ensures most { report.new.most ≡ report.old.most }
     {
         self.clear_shown();
         match event {
@@ -170,10 +192,10 @@ impl Rnc {
                 bearer,
                 octets,
                 bits,
-            } => self.offer(accepted, bearer, octets, bits, report),
+            } => self.offer(accepted, bearer, octets, bits, user),
             RncEvent::Block { combination, on } => self.block(accepted, combination, on),
-            RncEvent::Iub { set, frame } => self.receive_iub(accepted, set, frame, report),
-            RncEvent::Tick => self.tick(accepted, report),
+            RncEvent::Iub { set, frame } => self.receive_iub(accepted, set, frame, user),
+            RncEvent::Tick => self.tick(accepted, user),
             RncEvent::Change => self.change(accepted),
         }
     }
@@ -194,8 +216,8 @@ impl Rnc {
         requires opened { CanChange accepted.now self.old }
         requires quiet { NothingShown self.old }
         ensures opened { IsNodeOf accepted.now self.new }
-        ensures step { (before : Planned) (state : State) (text : List ℕ) → HasNext before accepted.now self.old → IsAt before state self.old →
-            Stepped accepted.now state (Change accepted.now) self.new text text }
+        ensures step { (before : Planned) (state : State) → HasNext before accepted.now self.old → IsAt before state self.old →
+            Stepped accepted.now state (Change accepted.now) self.new AreNone }
         ensures next { self.new.next ≡ None }
     {
         if let Some(mut next) = self.next.take() {
@@ -205,26 +227,23 @@ impl Rnc {
     }
 
     /// A unit is offered to a bearer.
-    fn offer(
+    fn offer<U: Indications>(
         &mut self,
         accepted: &Accepted,
         bearer: u8,
         octets: &[u8],
         bits: &[Bit],
-        report: &mut Report,
+        user: &mut U,
     )
         requires opened { IsNodeOf accepted.now self.old }
         requires quiet { NothingShown self.old }
         requires bearer { SendsDown accepted.now.config bearer }
-        requires room { HasRoomFor report.old (step_bytes accepted.now.config) }
         ensures opened { IsNodeOf accepted.now self.new }
-        ensures step { (state : State) → IsAt accepted.now state self.old → Stepped accepted.now state (OfferedUnit bearer octets.now bits.now) self.new report.old.text report.new.text }
+        ensures step { (state : State) → IsAt accepted.now state self.old → Stepped accepted.now state (OfferedUnit bearer octets.now bits.now) self.new (Tells U.shows user.old user.new) }
         ensures next { self.new.next ≡ self.old.next }
-        ensures few { length report.new.text ≤ length report.old.text + step_bytes accepted.now.config }
-        ensures most { report.new.most ≡ report.old.most }
     {
         let answer = self.layer.offer(bearer, octets, bits);
-        put_answer(report, Dir::Down, bearer, answer);
+        tell_answer(user, Dir::Down, bearer, answer);
     }
 
     /// A combination is blocked, or free again.
@@ -233,23 +252,26 @@ impl Rnc {
         requires quiet { NothingShown self.old }
         requires combination { combination < length accepted.now.config.downlink.side.combinations }
         ensures opened { IsNodeOf accepted.now self.new }
-        ensures step { (state : State) (text : List ℕ) → IsAt accepted.now state self.old → Stepped accepted.now state (BlockedCombination combination on) self.new text text }
+        ensures step { (state : State) → IsAt accepted.now state self.old → Stepped accepted.now state (BlockedCombination combination on) self.new AreNone }
         ensures next { self.new.next ≡ self.old.next }
     {
         self.layer.block(combination, on);
     }
 
     /// An Iub frame arrives for a set.
-    fn receive_iub(&mut self, accepted: &Accepted, set: u8, frame: &[u8], report: &mut Report)
+    fn receive_iub<U: Indications>(
+        &mut self,
+        accepted: &Accepted,
+        set: u8,
+        frame: &[u8],
+        user: &mut U,
+    )
         requires opened { IsNodeOf accepted.now self.old }
         requires quiet { NothingShown self.old }
         requires set { has_set accepted.now.config.uplink.side set ≡ true }
-        requires room { HasRoomFor report.old (step_bytes accepted.now.config) }
         ensures opened { IsNodeOf accepted.now self.new }
-        ensures step { (state : State) → IsAt accepted.now state self.old → Stepped accepted.now state (IubFrame set frame.now) self.new report.old.text report.new.text }
+        ensures step { (state : State) → IsAt accepted.now state self.old → Stepped accepted.now state (IubFrame set frame.now) self.new (Tells U.shows user.old user.new) }
         ensures next { self.new.next ≡ self.old.next }
-        ensures few { length report.new.text ≤ length report.old.text + step_bytes accepted.now.config }
-        ensures most { report.new.most ≡ report.old.most }
     {
         // What is reported of an Iub frame is limited in a good configuration.
         let _config = accepted.config();
@@ -259,22 +281,19 @@ impl Rnc {
             frame,
             &mut self.parts.rx_sets,
             &mut self.layer,
-            report,
+            user,
         ) {
             self.read = Some(set);
         }
     }
 
     /// 10 ms have passed: the timers tick, TTIs start, and the Iub frames of the sets that start are sent. The CFN goes on.
-    fn tick(&mut self, accepted: &Accepted, report: &mut Report)
+    fn tick<U: Indications>(&mut self, accepted: &Accepted, user: &mut U)
         requires opened { IsNodeOf accepted.now self.old }
         requires quiet { NothingShown self.old }
-        requires room { HasRoomFor report.old (step_bytes accepted.now.config) }
         ensures opened { IsNodeOf accepted.now self.new }
-        ensures step { (state : State) → IsAt accepted.now state self.old → Stepped accepted.now state Tick self.new report.old.text report.new.text }
+        ensures step { (state : State) → IsAt accepted.now state self.old → Stepped accepted.now state Tick self.new (Tells U.shows user.old user.new) }
         ensures next { self.new.next ≡ self.old.next }
-        ensures few { length report.new.text ≤ length report.old.text + step_bytes accepted.now.config }
-        ensures most { report.new.most ≡ report.old.most }
     {
         self.layer.tick();
         self.layer.start(accepted, self.cfn);
@@ -283,7 +302,7 @@ impl Rnc {
             self.cfn,
             &self.layer,
             &mut self.parts.tx_buffers,
-            report,
+            user,
         );
         self.cfn = self.cfn.wrapping_add(1);
     }

@@ -11,3 +11,5 @@ pub mod Shown
 pub mod SoftKept
 pub mod Values
 pub mod Within
+pub mod Putting
+pub mod Adding

@@ -15,3 +15,6 @@ pub mod Soft
 pub mod Texts
 pub mod Units
 pub mod LineWords
+pub mod LineText
+pub mod Putting
+pub mod Adding

@@ -4,6 +4,7 @@
 mod code;
 mod content;
 mod event;
+mod indicated;
 mod judge;
 mod link;
 mod nodes;

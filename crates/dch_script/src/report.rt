@@ -1,6 +1,7 @@
-ghost use Rattle.std.specs.Prelude.{◌≡◌, ◌+◌, ◌*◌, ◌≤◌, ◌++◌, [], length, map, codes, decimal, IfOk};
+ghost use Rattle.std.specs.Prelude.{◌≡◌, ◌+◌, ◌*◌, ◌≤◌, ◌<◌, ◌++◌, [], ◌∷◌, length, map, codes, decimal, IfOk};
 ghost use Rattle.dch_bits.specs.Text.{letter_of, cell_letter};
 ghost use Rattle.hex.specs.Hex.{encode_lower};
+ghost use Rattle.dch_script.specs.Putting.{Puts};
 ghost use Rattle.dch_script.specs.Report.{bits_shown, cells_shown, dir_word, iub_text, line_text, octets_shown, pair_text, phy_text, place_text, unit_text, words_text};
 
 use dch_bits::{Bit, NoMemory, Trit, bits_text, trits_text};
@@ -141,6 +142,7 @@ impl Model for Report {
     ghost invariant = { λ r. r.used ≤ length r.room.items };
 }
 
+#[tactic(auto, using(crate::proofs::Putting::puts_next))]
 impl Report {
     /// An empty report with room for `most` bytes.
     pub fn open(alloc: Global, most: usize) -> Result<Report, NoMemory>
@@ -174,13 +176,13 @@ impl Report {
     }
 
     /// Appends a line, with its line feed.
+    #[tactic(auto, using(crate::proofs::Putting::put_all))]
     pub fn put(&mut self, line: &Line<'_>)
         requires { length self.old.text + length (line_text line.now) ≤ self.old.most }
         ensures text { self.new ≡ record self.old { text = self.old.text ++ line_text line.now } }
         ensures len { length self.new.text ≡ length self.old.text + length (line_text line.now) }
     {
-        self.put_words(line);
-        self.put_text(b"\n");
+        self.add_line(line);
     }
 
     /// Appends text as it stands.
@@ -203,165 +205,192 @@ impl Report {
         self.put_text(Buffer::new().format(number).as_bytes());
     }
 
+    /// Appends octets in lower-case hexadecimal, `.` for none.
+    #[tactic(auto, using(crate::proofs::Putting::put_all))]
+    pub fn put_octets(&mut self, octets: &[u8])
+        requires { length self.old.text + length (octets_shown octets.now) ≤ self.old.most }
+        ensures text { self.new ≡ record self.old { text = self.old.text ++ octets_shown octets.now } }
+        ensures len { length self.new.text ≡ length self.old.text + length (octets_shown octets.now) }
+    {
+        self.add_octets(octets);
+    }
+
+    /// Appends a line, with its line feed, as far as there is room.
+    pub(crate) fn add_line(&mut self, line: &Line<'_>)
+        ensures { Puts self.old (line_text line.now) self.new }
+    {
+        self.add_words(line);
+        self.add(b"\n");
+    }
+
+    /// Appends as much of a text as there is room for.
+    #[tactic(auto, using(crate::proofs::Putting::puts_front))]
+    fn add(&mut self, text: &[u8])
+        ensures { Puts self.old text.now self.new }
+    {
+        let count = self.fitting(text.len());
+        self.put_text(&text[..count]);
+    }
+
+    /// How many of so many letters there is room for.
+    fn fitting(&self, count: usize) -> usize
+        ensures few { result ≤ count }
+        ensures room { length self.now.text + result ≤ self.now.most }
+        ensures full { result < count → length self.now.text + result ≡ self.now.most }
+    {
+        count.min(self.spare())
+    }
+
     /// Appends a line without its line feed.
-    fn put_words(&mut self, line: &Line<'_>)
-        requires { length self.old.text + length (words_text line.now) ≤ self.old.most }
-        ensures text { self.new ≡ record self.old { text = self.old.text ++ words_text line.now } }
-        ensures len { length self.new.text ≡ length self.old.text + length (words_text line.now) }
+    fn add_words(&mut self, line: &Line<'_>)
+        ensures { Puts self.old (words_text line.now) self.new }
     {
         match *line {
-            Line::Open => self.put_text(b"open"),
-            Line::Took { dir, bearer } => self.put_place(b"took ", dir, bearer),
-            Line::Full { dir, bearer } => self.put_place(b"full ", dir, bearer),
-            Line::Wrong { dir, bearer } => self.put_place(b"wrong ", dir, bearer),
-            Line::Iub { dir, set, frame } => self.put_iub(dir, set, frame),
-            Line::Phy { dir, tfci, cells } => self.put_phy(dir, tfci, cells),
-            Line::PhyNone => self.put_text(b"phydown none"),
+            Line::Open => self.add(b"open"),
+            Line::Took { dir, bearer } => self.add_place(b"took ", dir, bearer),
+            Line::Full { dir, bearer } => self.add_place(b"full ", dir, bearer),
+            Line::Wrong { dir, bearer } => self.add_place(b"wrong ", dir, bearer),
+            Line::Iub { dir, set, frame } => self.add_iub(dir, set, frame),
+            Line::Phy { dir, tfci, cells } => self.add_phy(dir, tfci, cells),
+            Line::PhyNone => self.add(b"phydown none"),
             Line::BadTti {
                 dir,
                 channel,
                 frame,
-            } => self.put_pair(b"badtti ", dir, channel, frame),
+            } => self.add_pair(b"badtti ", dir, channel, frame),
             Line::Bad {
                 dir,
                 channel,
                 block,
-            } => self.put_pair(b"bad ", dir, channel, block),
-            Line::IubBad { dir, set, number } => self.put_pair(b"iubbad ", dir, set, number),
-            Line::Reserved { dir, channel } => self.put_place(b"reserved ", dir, channel),
-            Line::NoBearer { dir, channel, ct } => self.put_pair(b"nobearer ", dir, channel, ct),
-            Line::Nobody { dir, channel } => self.put_place(b"nobody ", dir, channel),
+            } => self.add_pair(b"bad ", dir, channel, block),
+            Line::IubBad { dir, set, number } => self.add_pair(b"iubbad ", dir, set, number),
+            Line::Reserved { dir, channel } => self.add_place(b"reserved ", dir, channel),
+            Line::NoBearer { dir, channel, ct } => self.add_pair(b"nobearer ", dir, channel, ct),
+            Line::Nobody { dir, channel } => self.add_place(b"nobody ", dir, channel),
             Line::PduBad {
                 dir,
                 bearer,
                 number,
-            } => self.put_pair(b"pdubad ", dir, bearer, number),
-            Line::Outside { dir, bearer } => self.put_place(b"outside ", dir, bearer),
-            Line::Overlong { dir, bearer } => self.put_place(b"overlong ", dir, bearer),
-            Line::GotBits { dir, bearer, bits } => self.put_unit_bits(dir, bearer, bits),
+            } => self.add_pair(b"pdubad ", dir, bearer, number),
+            Line::Outside { dir, bearer } => self.add_place(b"outside ", dir, bearer),
+            Line::Overlong { dir, bearer } => self.add_place(b"overlong ", dir, bearer),
+            Line::GotBits { dir, bearer, bits } => self.add_unit_bits(dir, bearer, bits),
             Line::GotOctets {
                 dir,
                 bearer,
                 octets,
-            } => self.put_unit_octets(dir, bearer, octets),
-            Line::Differs { dir, channel } => self.put_place(b"false ", dir, channel),
-            Line::Coded { bits } => self.put_coded(bits),
-            Line::EndFrames(count) => self.put_count(b"end frames=", u128::from(count)),
-            Line::EndLines(count) => self.put_count(b"end lines=", u128::from(count)),
-            Line::Accepted(count) => self.put_count(b"accepted count=", count),
+            } => self.add_unit_octets(dir, bearer, octets),
+            Line::Differs { dir, channel } => self.add_place(b"false ", dir, channel),
+            Line::Coded { bits } => self.add_coded(bits),
+            Line::EndFrames(count) => self.add_count(b"end frames=", u128::from(count)),
+            Line::EndLines(count) => self.add_count(b"end lines=", u128::from(count)),
+            Line::Accepted(count) => self.add_count(b"accepted count=", count),
         }
     }
 
-    fn put_count(&mut self, word: &[u8], count: u128)
-        requires { length self.old.text + length (word.now ++ decimal count) ≤ self.old.most }
-        ensures text { self.new ≡ record self.old { text = self.old.text ++ (word.now ++ decimal count) } }
-        ensures len { length self.new.text ≡ length self.old.text + length (word.now ++ decimal count) }
+    fn add_count(&mut self, word: &[u8], count: u128)
+        ensures { Puts self.old (word.now ++ decimal count) self.new }
     {
-        self.put_text(word);
-        self.put_text(Buffer::new().format(count).as_bytes());
+        self.add(word);
+        self.add(Buffer::new().format(count).as_bytes());
     }
 
     /// A word, a direction and a number.
     #[tactic(auto, unfolding(crate::specs::Report::place_text))]
-    fn put_place(&mut self, word: &[u8], dir: Dir, number: u8)
-        requires { length self.old.text + length (place_text word.now dir number) ≤ self.old.most }
-        ensures text { self.new ≡ record self.old { text = self.old.text ++ place_text word.now dir number } }
-        ensures len { length self.new.text ≡ length self.old.text + length (place_text word.now dir number) }
+    fn add_place(&mut self, word: &[u8], dir: Dir, number: u8)
+        ensures { Puts self.old (place_text word.now dir number) self.new }
     {
-        self.put_text(word);
-        self.put_dir(dir);
-        self.put_text(b" ");
-        self.put_number(u64::from(number));
+        self.add(word);
+        self.add_dir(dir);
+        self.add(b" ");
+        self.add_number(number);
     }
 
     /// The same, with one more number.
     #[tactic(auto, unfolding(crate::specs::Report::pair_text))]
-    fn put_pair(&mut self, word: &[u8], dir: Dir, number: u8, more: u8)
-        requires { length self.old.text + length (pair_text word.now dir number more) ≤ self.old.most }
-        ensures text { self.new ≡ record self.old { text = self.old.text ++ pair_text word.now dir number more } }
-        ensures len { length self.new.text ≡ length self.old.text + length (pair_text word.now dir number more) }
+    fn add_pair(&mut self, word: &[u8], dir: Dir, number: u8, more: u8)
+        ensures { Puts self.old (pair_text word.now dir number more) self.new }
     {
-        self.put_place(word, dir, number);
-        self.put_text(b" ");
-        self.put_number(u64::from(more));
+        self.add_place(word, dir, number);
+        self.add(b" ");
+        self.add_number(more);
     }
 
-    fn put_dir(&mut self, dir: Dir)
-        requires { length self.old.text + length (dir_word dir) ≤ self.old.most }
-        ensures text { self.new ≡ record self.old { text = self.old.text ++ dir_word dir } }
-        ensures len { length self.new.text ≡ length self.old.text + length (dir_word dir) }
+    fn add_number(&mut self, number: u8)
+        ensures { Puts self.old (decimal number) self.new }
     {
-        self.put_text(dir_word(dir).as_bytes());
+        self.add(Buffer::new().format(number).as_bytes());
+    }
+
+    fn add_dir(&mut self, dir: Dir)
+        ensures { Puts self.old (dir_word dir) self.new }
+    {
+        self.add(dir_word(dir).as_bytes());
     }
 
     #[tactic(auto, unfolding(crate::specs::Report::iub_text))]
-    fn put_iub(&mut self, dir: Dir, set: u8, frame: &[u8])
-        requires { length self.old.text + length (iub_text dir set frame.now) ≤ self.old.most }
-        ensures text { self.new ≡ record self.old { text = self.old.text ++ iub_text dir set frame.now } }
-        ensures len { length self.new.text ≡ length self.old.text + length (iub_text dir set frame.now) }
+    fn add_iub(&mut self, dir: Dir, set: u8, frame: &[u8])
+        ensures { Puts self.old (iub_text dir set frame.now) self.new }
     {
-        self.put_text(b"iub");
-        self.put_dir(dir);
-        self.put_text(b" ");
-        self.put_number(u64::from(set));
-        self.put_text(b" ");
-        self.put_octets(frame);
+        self.add(b"iub");
+        self.add_dir(dir);
+        self.add(b" ");
+        self.add_number(set);
+        self.add(b" ");
+        self.add_octets(frame);
     }
 
     #[tactic(auto, unfolding(crate::specs::Report::phy_text))]
-    fn put_phy(&mut self, dir: Dir, tfci: &[Bit], cells: &[Trit])
-        requires { length self.old.text + length (phy_text dir tfci.now cells.now) ≤ self.old.most }
-        ensures text { self.new ≡ record self.old { text = self.old.text ++ phy_text dir tfci.now cells.now } }
-        ensures len { length self.new.text ≡ length self.old.text + length (phy_text dir tfci.now cells.now) }
+    fn add_phy(&mut self, dir: Dir, tfci: &[Bit], cells: &[Trit])
+        ensures { Puts self.old (phy_text dir tfci.now cells.now) self.new }
     {
-        self.put_text(b"phy");
-        self.put_dir(dir);
-        self.put_text(b" ");
-        self.put_bits(tfci);
-        self.put_text(b" ");
-        self.put_cells(cells);
+        self.add(b"phy");
+        self.add_dir(dir);
+        self.add(b" ");
+        self.add_bits(tfci);
+        self.add(b" ");
+        self.add_cells(cells);
     }
 
     #[tactic(auto, unfolding(crate::specs::Report::unit_text))]
-    fn put_unit_bits(&mut self, dir: Dir, bearer: u8, bits: &[Bit])
-        requires { length self.old.text + length (unit_text dir bearer (bits_shown bits.now)) ≤ self.old.most }
-        ensures text { self.new ≡ record self.old { text = self.old.text ++ unit_text dir bearer (bits_shown bits.now) } }
-        ensures len { length self.new.text ≡ length self.old.text + length (unit_text dir bearer (bits_shown bits.now)) }
+    fn add_unit_bits(&mut self, dir: Dir, bearer: u8, bits: &[Bit])
+        ensures { Puts self.old (unit_text dir bearer (bits_shown bits.now)) self.new }
     {
-        self.put_place(b"got ", dir, bearer);
-        self.put_text(b" ");
-        self.put_bits(bits);
+        self.add_place(b"got ", dir, bearer);
+        self.add(b" ");
+        self.add_bits(bits);
     }
 
     #[tactic(auto, unfolding(crate::specs::Report::unit_text))]
-    fn put_unit_octets(&mut self, dir: Dir, bearer: u8, octets: &[u8])
-        requires { length self.old.text + length (unit_text dir bearer (octets_shown octets.now)) ≤ self.old.most }
-        ensures text { self.new ≡ record self.old { text = self.old.text ++ unit_text dir bearer (octets_shown octets.now) } }
-        ensures len { length self.new.text ≡ length self.old.text + length (unit_text dir bearer (octets_shown octets.now)) }
+    fn add_unit_octets(&mut self, dir: Dir, bearer: u8, octets: &[u8])
+        ensures { Puts self.old (unit_text dir bearer (octets_shown octets.now)) self.new }
     {
-        self.put_place(b"got ", dir, bearer);
-        self.put_text(b" ");
-        self.put_octets(octets);
+        self.add_place(b"got ", dir, bearer);
+        self.add(b" ");
+        self.add_octets(octets);
     }
 
-    fn put_coded(&mut self, bits: &[Bit])
-        requires { length self.old.text + length (codes "coded " ++ bits_shown bits.now) ≤ self.old.most }
-        ensures text { self.new ≡ record self.old { text = self.old.text ++ (codes "coded " ++ bits_shown bits.now) } }
-        ensures len { length self.new.text ≡ length self.old.text + length (codes "coded " ++ bits_shown bits.now) }
+    fn add_coded(&mut self, bits: &[Bit])
+        ensures { Puts self.old (codes "coded " ++ bits_shown bits.now) self.new }
     {
-        self.put_text(b"coded ");
-        self.put_bits(bits);
+        self.add(b"coded ");
+        self.add_bits(bits);
     }
 
-    fn put_bits(&mut self, bits: &[Bit])
-        requires { length self.old.text + length (bits_shown bits.now) ≤ self.old.most }
-        ensures text { self.new ≡ record self.old { text = self.old.text ++ bits_shown bits.now } }
-        ensures len { length self.new.text ≡ length self.old.text + length (bits_shown bits.now) }
+    fn add_bits(&mut self, bits: &[Bit])
+        ensures { Puts self.old (bits_shown bits.now) self.new }
     {
         match bits {
-            [] => self.put_text(b"."),
-            [_, ..] => self.put_letters(bits),
+            [] => self.add(b"."),
+            [_, ..] => self.add_letters(bits),
         }
+    }
+
+    fn add_letters(&mut self, bits: &[Bit])
+        ensures { Puts self.old (map letter_of bits.now) self.new }
+    {
+        let count = self.fitting(bits.len());
+        self.put_letters(&bits[..count]);
     }
 
     fn put_letters(&mut self, bits: &[Bit])
@@ -373,15 +402,20 @@ impl Report {
         self.used = end;
     }
 
-    fn put_cells(&mut self, cells: &[Trit])
-        requires { length self.old.text + length (cells_shown cells.now) ≤ self.old.most }
-        ensures text { self.new ≡ record self.old { text = self.old.text ++ cells_shown cells.now } }
-        ensures len { length self.new.text ≡ length self.old.text + length (cells_shown cells.now) }
+    fn add_cells(&mut self, cells: &[Trit])
+        ensures { Puts self.old (cells_shown cells.now) self.new }
     {
         match cells {
-            [] => self.put_text(b"."),
-            [_, ..] => self.put_cell_letters(cells),
+            [] => self.add(b"."),
+            [_, ..] => self.add_cell_letters(cells),
         }
+    }
+
+    fn add_cell_letters(&mut self, cells: &[Trit])
+        ensures { Puts self.old (map cell_letter cells.now) self.new }
+    {
+        let count = self.fitting(cells.len());
+        self.put_cell_letters(&cells[..count]);
     }
 
     fn put_cell_letters(&mut self, cells: &[Trit])
@@ -393,26 +427,43 @@ impl Report {
         self.used = end;
     }
 
-    /// Appends octets in lower-case hexadecimal, `.` for none.
-    pub fn put_octets(&mut self, octets: &[u8])
-        requires { length self.old.text + length (octets_shown octets.now) ≤ self.old.most }
-        ensures text { self.new ≡ record self.old { text = self.old.text ++ octets_shown octets.now } }
-        ensures len { length self.new.text ≡ length self.old.text + length (octets_shown octets.now) }
+    fn add_octets(&mut self, octets: &[u8])
+        ensures { Puts self.old (octets_shown octets.now) self.new }
     {
         match octets {
-            [] => self.put_text(b"."),
-            [_, ..] => self.put_hex(octets),
+            [] => self.add(b"."),
+            [_, ..] => self.add_hex(octets),
+        }
+    }
+
+    /// The last octet that there is no room for can leave one digit.
+    fn add_hex(&mut self, octets: &[u8])
+        ensures { Puts self.old (encode_lower octets.now) self.new }
+    {
+        let count = octets.len().min(self.spare() / 2);
+        self.put_hex(&octets[..count]);
+        if count < octets.len() {
+            self.add_digits(octets[count]);
         }
     }
 
     #[tactic(auto, using(crate::proofs::Shown::encode_lower_len))]
     fn put_hex(&mut self, octets: &[u8])
-        requires { length self.old.text + length (encode_lower octets.now) ≤ self.old.most }
+        requires { length self.old.text + 2 * length octets.now ≤ self.old.most }
         ensures { self.new ≡ record self.old { text = self.old.text ++ encode_lower octets.now } }
     {
         let end = self.used + 2 * octets.len();
         hex_text(octets, &mut self.room[self.used..end]);
         self.used = end;
+    }
+
+    /// The digits of one octet.
+    fn add_digits(&mut self, octet: u8)
+        ensures { Puts self.old (encode_lower (octet ∷ [])) self.new }
+    {
+        let mut digits = [0; 2];
+        hex_text(&[octet], &mut digits);
+        self.add(&digits);
     }
 }
 

@@ -5,11 +5,10 @@ use Rattle.dch_types.specs.declared.channel.Dir.TheVariants.{Up, Down}
 use Rattle.dch_types.specs.declared.config.Config.{Config}
 use Rattle.dch_accept.specs.Plans.{Planned}
 use Rattle.dch_iub.specs.Forms.{IsWrittenForm}
-use Rattle.dch_script.specs.Held.{Held as Text}
-use Rattle.dch_node.specs.Lines.{Iub, text_of}
+use Rattle.dch_indication.specs.Lines.{Iub, Line}
+use Rattle.dch_script.specs.LineText.{text_of}
 use Rattle.dch_txframes.specs.Octets.{AreOctets}
 use Rattle.dch_txframes.specs.Opened.{IsTxBufferOf}
-use Rattle.dch_txframes.specs.Reports.{added}
 use Rattle.dch_txframes.specs.Values.{IubTxBuffer, tx_buffer_at}
 
 -- what each set sends
@@ -36,8 +35,8 @@ abbrev pub qe_sent : Config → Dir → ℕ
 qe_sent config Up = config.qe
 qe_sent config Down = 0
 
--- the frame of a set's blocks is written and reported
-pub record SendsFrame (planned : Planned) (dir : Dir) (set cfn : ℕ) (old new : IubTxBuffer) (before after : Text) : Type 0 where
+-- the frame of a set's blocks is written and told
+pub record SendsFrame {S : Type 0} (shows : S → Line → S → Type 0) (planned : Planned) (dir : Dir) (set cfn : ℕ) (old new : IubTxBuffer) (before after : S) : Type 0 where
   pub opened : IsTxBufferOf planned dir set new
   pub held : new.held ≡ old.held
   pub octets : List ℕ
@@ -45,4 +44,4 @@ pub record SendsFrame (planned : Planned) (dir : Dir) (set cfn : ℕ) (old new :
   pub whole : AreOctets octets
   pub written : IsWrittenForm planned.config dir set octets cfn (qe_sent planned.config dir) new.held
   pub few : length (text_of (Iub dir set octets ∷ [])) ≤ 300000
-  pub reported : after ≡ added before (Iub dir set octets ∷ [])
+  pub shown : shows before (Iub dir set octets) after

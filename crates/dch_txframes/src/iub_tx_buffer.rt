@@ -8,15 +8,14 @@ ghost use Rattle.dch_txframes.specs.BlockLending.{LendsBlocks};
 ghost use Rattle.dch_txframes.specs.Lending.{octets_of};
 ghost use Rattle.dch_txframes.specs.Octets.{AreOctets};
 ghost use Rattle.dch_txframes.specs.Opened.{IsTxBufferOf};
-ghost use Rattle.dch_txframes.specs.Rooms.{HasRoomFor};
 ghost use Rattle.dch_txframes.specs.Sending.{AreCleared, AreNewTxBuffers, SendsFrame, qe_sent};
 
-use crate::report::put_iub;
 use crate::sets::SETS;
+use crate::telling::tell_iub;
 use dch_accept::{Accepted, SetBlocks};
 use dch_bits::NoMemory;
+use dch_indication::Indications;
 use dch_iub::{frame_len, longest, write_dl, write_ul};
-use dch_script::Report;
 use dch_types::Dir;
 use std::alloc::Global;
 use std::marker::Model;
@@ -86,16 +85,22 @@ impl IubTxBuffer {
         self.sent = false;
     }
 
-    /// Sends the blocks in an Iub frame with the CFN at which their TTI starts (TS 25.427 6.2), and reports it.
-    pub fn send(&mut self, accepted: &Accepted, dir: Dir, set: u8, cfn: u8, report: &mut Report)
-        requires opened { IsTxBufferOf accepted.now dir set self.old }
-        requires room { HasRoomFor report.old 300000 }
-        ensures { SendsFrame accepted.now dir set cfn self.old self.new report.old report.new }
+    /// Sends the blocks in an Iub frame with the CFN at which their TTI starts (TS 25.427 6.2), and tells of it.
+    pub fn send<U: Indications>(
+        &mut self,
+        accepted: &Accepted,
+        dir: Dir,
+        set: u8,
+        cfn: u8,
+        user: &mut U,
+    )
+        requires { IsTxBufferOf accepted.now dir set self.old }
+        ensures { SendsFrame U.shows accepted.now dir set cfn self.old self.new user.old user.new }
     {
         let len = write_frame(accepted, dir, set, cfn, &self.blocks, &mut self.octets);
         self.len = len;
         self.sent = true;
-        put_iub(report, dir, set, &self.octets[..len]);
+        tell_iub(user, dir, set, &self.octets[..len]);
     }
 }
 

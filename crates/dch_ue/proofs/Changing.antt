@@ -1,11 +1,12 @@
 -- A terminal in which another configuration becomes active.
-use Rattle.std.proofs.Common.{◌≡◌, ◌∙◌, ℕ, List, Option, None, Some, refl, ap, sym, subst, true, append-nil}
+use Rattle.std.proofs.Common.{◌≡◌, ◌∙◌, ℕ, Option, None, Some, refl, ap, sym, subst, true}
 use Rattle.std.specs.Prelude.{◌%◌}
 use Rattle.dch_types.specs.declared.channel.Dir.{Dir}
 use Rattle.dch_types.specs.declared.config.Config.{Config}
 use Rattle.dch_types.specs.Limits.{IsSide}
 use Rattle.dch_config.specs.Changes.{KeepsBearer}
 use Rattle.dch_accept.specs.Plans.{Planned}
+use Rattle.dch_node.specs.Standing.{AreNone}
 use Rattle.dch_node.specs.Values.{no_output}
 use Rattle.dch_layer2.specs.Layers.{Layer, changed_layer}
 use Rattle.dch_layer2.proofs.Layers.{changed_are}
@@ -86,9 +87,9 @@ changed_is planned node layer parts good can is stands same =
       last = λ (pushed : parts.receiver.pushed ≡ true). absurd (cc (sym held.none ∙ pushed));
     }
 
-pub changed_now : (planned before : Planned) (state : State) (node : Node) (layer : LayerRunning) (parts : NextParts) (text : List ℕ) → IsSide planned.config.uplink.side → CanChange planned node → node.next ≡ Some parts → LayerGoesOn planned.config node.layer layer
-    → HasNext before planned node → IsAt before state node → Stepped planned state (Change planned) (changed_node node layer parts) text text
-changed_now planned before state node layer parts text good can is stands has at =
+pub changed_now : (planned before : Planned) (state : State) (node : Node) (layer : LayerRunning) (parts : NextParts) → IsSide planned.config.uplink.side → CanChange planned node → node.next ≡ Some parts → LayerGoesOn planned.config node.layer layer
+    → HasNext before planned node → IsAt before state node → Stepped planned state (Change planned) (changed_node node layer parts) AreNone
+changed_now planned before state node layer parts good can is stands has at =
     let held : IsNextOf planned parts = held_parts planned node parts can is in
     record {
       next = changed planned state;
@@ -110,5 +111,5 @@ changed_now planned before state node layer parts text good can is stands has at
         readings = λ i inside. none_taken parts.receiver.ttis i (held.ttis.each i inside);
       };
       shows = record { radio = none_shown (changed_node node layer parts) held.quiet };
-      reported = sym (append-nil text);
+      tells = refl;
     }

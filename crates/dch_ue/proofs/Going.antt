@@ -10,11 +10,11 @@ use Rattle.dch_ue.specs.Steps.{Steps}
 use Rattle.dch_ue.specs.Values.{Node}
 
 -- a terminal that takes a step from each state that it stands for, in the configuration that was active, stands for one event more
-pub went_on : (began was planned : Planned) (old new : Node) (event : Event) (before after : List ℕ) (first : ℕ) (events : List Event) (lines : List Line)
-    → RepresentsHistory began was first events lines old → ((state : State) → Represents was state old → Stepped planned state event new before after)
-    → ExtendsHistory began planned first events lines event new before after
-went_on began was planned old new event before after first events lines history steps =
-    let stepped : Stepped planned history.state event new before after = steps history.state history.stands in
+pub went_on : (began was planned : Planned) (old new : Node) (event : Event) (Says : List Line → Type 0) (first : ℕ) (events : List Event) (lines : List Line)
+    → RepresentsHistory began was first events lines old → ((state : State) → Represents was state old → Stepped planned state event new Says)
+    → ExtendsHistory began planned first events lines event new Says
+went_on began was planned old new event Says first events lines history steps =
+    let stepped : Stepped planned history.state event new Says = steps history.state history.stands in
     record {
       own = stepped.output.lines;
       stands = record {
@@ -24,5 +24,5 @@ went_on began was planned old new event before after first events lines history 
         stands = stepped.stands;
         shows = stepped.shows;
       };
-      reported = stepped.reported;
+      tells = stepped.tells;
     }

@@ -1,11 +1,11 @@
 pub mod Receiving
 pub mod ReceivingBlocks
-pub mod ReceivingFrames
 pub mod OneReading
 pub mod Loading
 pub mod Lasting
 pub mod Starting
 pub mod Staying
+pub mod Stepping
 pub mod Going
 pub mod Hiding
 pub mod Moving

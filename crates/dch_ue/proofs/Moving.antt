@@ -1,5 +1,5 @@
 -- What the parts of a terminal do with an event, as a step of the definition.
-use Rattle.std.proofs.Common.{◌≡◌, ◌<◌, ◌∙◌, ℕ, List, [], ◌∷◌, length, refl, ap, sym, subst, Bool, Option, None, false, append-nil}
+use Rattle.std.proofs.Common.{◌≡◌, ◌<◌, ◌∙◌, ℕ, List, [], ◌∷◌, length, refl, ap, sym, subst, Bool, Option, None, false}
 use Rattle.std.specs.Prelude.{IsSome}
 use Rattle.dch_bits.specs.declared.bit.Bit.{Bit}
 use Rattle.dch_bits.specs.declared.offer.Offer.{Offer}
@@ -9,19 +9,20 @@ use Rattle.dch_types.specs.Parts.{side_of}
 use Rattle.dch_accept.specs.Plans.{Planned}
 use Rattle.dch_tti.specs.declared.outcome.TtiOutcome.{TtiOutcome}
 use Rattle.dch_tti.specs.RxFrames.{RxFrame}
-use Rattle.dch_script.specs.Held.{Held as Text}
+use Rattle.dch_indication.proofs.Telling.{told_one}
+use Rattle.dch_node.specs.Lines.{Line}
 use Rattle.dch_node.specs.RxFrames.{KeepsRadio}
+use Rattle.dch_node.specs.Standing.{AreNone, Tells}
 use Rattle.dch_node.specs.Values.{Radio, says}
 use Rattle.dch_layer2.specs.Bearings.{answers, channel_of, line_of_answer}
 use Rattle.dch_layer2.specs.Layers.{blocks, offers}
 use Rattle.dch_layer2.specs.Standing.{CanOffer, Represents as StandsFor}
 use Rattle.dch_layer2.specs.Values.{LayerRunning}
-use Rattle.dch_txframes.specs.Reports.{added}
 use Rattle.dch_txframes.specs.Values.{radio_if}
 use Rattle.dch_ue.specs.Moves.{Comes}
 use Rattle.dch_ue.specs.Opened.{IsNodeOf}
 use Rattle.dch_ue.specs.Standing.{HasFrames, IsAt, NothingShown, SendsUp, Stepped}
-use Rattle.dch_ue.specs.State.{BlockedCombination, DownlinkFrame, OfferedUnit, State, coming, with_layer}
+use Rattle.dch_ue.specs.State.{BlockedCombination, DownlinkFrame, Event, OfferedUnit, State, coming, with_layer}
 use Rattle.dch_ue.specs.Steps.{IsOffer}
 use Rattle.dch_ue.specs.Values.{DownlinkReceiver, Node, RxTti, blocks_read, radio_shown, reading_if, readings_of, tti_at}
 
@@ -34,10 +35,10 @@ pub none_shown : (node : Node) → node.transmitter.radio.sent ≡ false → rad
 none_shown node quiet = ap (λ b. radio_if b node.transmitter.radio.frame) quiet
 
 -- a unit was offered
-pub offered : (planned : Planned) (state : State) (node : Node) (new : LayerRunning) (b : ℕ) (octets : List ℕ) (bits : List Bit) (answer : Offer) (before after : Text) → NothingShown node → IsAt planned state node → node.layer.out ≡ Up
+pub offered : {S : Type 0} (shows : S → Line → S → Type 0) (planned : Planned) (state : State) (node : Node) (new : LayerRunning) (b : ℕ) (octets : List ℕ) (bits : List Bit) (answer : Offer) (before after : S) → NothingShown node → IsAt planned state node → node.layer.out ≡ Up
     → answer ≡ answers planned.config node.layer.out b octets bits (state.layer.bearings b) → StandsFor planned.config (offers planned.config node.layer.out b octets bits state.layer).layer new
-    → after ≡ added before (line_of_answer Up b answer ∷ []) → Stepped planned state (OfferedUnit b octets bits) (record node { layer = new }) before.text after.text
-offered planned state node new b octets bits answer before after quiet at up answered stands reported = record {
+    → shows before (line_of_answer Up b answer) after → Stepped planned state (OfferedUnit b octets bits) (record node { layer = new }) (Tells shows before after)
+offered shows planned state node new b octets bits answer before after quiet at up answered stands shown = record {
   next = with_layer state (offers planned.config Up b octets bits state.layer).layer;
   output = says (offers planned.config Up b octets bits state.layer).lines;
   step = subst (λ (p : Planned). IsOffer p state b octets bits (with_layer state (offers planned.config Up b octets bits state.layer).layer) (says (offers planned.config Up b octets bits state.layer).lines)) (sym at.active)
@@ -53,15 +54,14 @@ offered planned state node new b octets bits answer before after quiet at up ans
     readings = λ i inside. none_taken node.receiver.ttis i (quiet.read i);
   };
   shows = record { radio = none_shown node quiet.radio };
-  reported =
-      ap (λ (t : Text). t.text) reported
-      ∙ ap (λ (o : Offer). (added before (line_of_answer Up b o ∷ [])).text) (answered ∙ ap (λ (d : Dir). answers planned.config d b octets bits (state.layer.bearings b)) up);
+  tells = subst (λ (o : Offer). Tells shows before after (line_of_answer Up b o ∷ [])) (answered ∙ ap (λ (d : Dir). answers planned.config d b octets bits (state.layer.bearings b)) up)
+      (told_one shows before after _ shown);
 }
 
 -- a combination was blocked, or is free
-pub blocked_now : (planned : Planned) (state : State) (node : Node) (new : LayerRunning) (c : ℕ) (on : Bool) (before : List ℕ) → NothingShown node → IsAt planned state node
-    → StandsFor planned.config (blocks c on state.layer) new → Stepped planned state (BlockedCombination c on) (record node { layer = new }) before before
-blocked_now planned state node new c on before quiet at stands = record {
+pub blocked_now : (planned : Planned) (state : State) (node : Node) (new : LayerRunning) (c : ℕ) (on : Bool) → NothingShown node → IsAt planned state node
+    → StandsFor planned.config (blocks c on state.layer) new → Stepped planned state (BlockedCombination c on) (record node { layer = new }) AreNone
+blocked_now planned state node new c on quiet at stands = record {
   next = with_layer state (blocks c on state.layer);
   output = says [];
   step = (refl, refl);
@@ -76,7 +76,7 @@ blocked_now planned state node new c on before quiet at stands = record {
     readings = λ i inside. none_taken node.receiver.ttis i (quiet.read i);
   };
   shows = record { radio = none_shown node quiet.radio };
-  reported = sym (append-nil before);
+  tells = refl;
 }
 
 -- the radio frame of the CFN came
@@ -88,9 +88,9 @@ came_frames planned state radio old new has comes = record {
   none = λ (missing : new.pushed ≡ false). absurd (cc (sym comes.pushed ∙ missing));
 }
 
-pub came : (planned : Planned) (state : State) (node : Node) (new : DownlinkReceiver) (radio : Option Radio) (before : List ℕ) → NothingShown node → IsAt planned state node → Comes planned node.cfn radio node.receiver new
-    → Stepped planned state (DownlinkFrame radio) (record node { receiver = new }) before before
-came planned state node new radio before quiet at comes = record {
+pub came : (planned : Planned) (state : State) (node : Node) (new : DownlinkReceiver) (radio : Option Radio) → NothingShown node → IsAt planned state node → Comes planned node.cfn radio node.receiver new
+    → Stepped planned state (DownlinkFrame radio) (record node { receiver = new }) AreNone
+came planned state node new radio quiet at comes = record {
   next = coming state radio;
   output = says [];
   step = (refl, refl);
@@ -105,7 +105,18 @@ came planned state node new radio before quiet at comes = record {
     readings = λ i inside. none_taken new.ttis i (ap (λ (ttis : List RxTti). (tti_at ttis i).outcome) comes.ttis ∙ quiet.read i);
   };
   shows = record { radio = none_shown node quiet.radio };
-  reported = sym (append-nil before);
+  tells = refl;
+}
+
+-- where there is no line, nobody is told
+pub untold : {S : Type 0} (shows : S → Line → S → Type 0) (planned : Planned) (state : State) (event : Event) (node : Node) (user : S) → Stepped planned state event node AreNone → Stepped planned state event node (Tells shows user user)
+untold shows planned state event node user is = record {
+  next = is.next;
+  output = is.output;
+  step = is.step;
+  stands = is.stands;
+  shows = is.shows;
+  tells = subst (λ (ls : List Line). Tells shows user user ls) (sym is.tells) refl;
 }
 
 -- layer 2 takes a unit, and blocks a combination of the uplink

@@ -1,21 +1,19 @@
 -- A terminal still fits its configuration after a step, and its layer 2 stays limited.
-use Rattle.std.proofs.Common.{◌≡◌, ◌<◌, ◌≤◌, ◌+◌, ◌∙◌, ℕ, List, [], ◌∷◌, length, arith, ap, sym, subst, Bool, true, false, length-append}
+use Rattle.std.proofs.Common.{◌≡◌, ◌<◌, ◌∙◌, ℕ, List, length, arith, sym, subst, Bool, true, false}
 use Rattle.dch_bits.specs.declared.bit.Bit.{Bit}
 use Rattle.dch_types.specs.declared.channel.Dir.TheVariants.{Up, Down}
 use Rattle.dch_types.specs.declared.config.Config.{Config}
 use Rattle.dch_config.specs.Good.{IsGood}
 use Rattle.dch_accept.specs.Plans.{Planned}
-use Rattle.dch_accept.specs.Reports.{step_bytes}
 use Rattle.dch_tti.specs.Loaded.{AreFormats, Loaded}
-use Rattle.dch_script.specs.Held.{Held as Text}
-use Rattle.dch_node.specs.Lines.{Line, Phy, text_of}
+use Rattle.dch_indication.specs.Lines.{Line}
 use Rattle.dch_layer2.specs.Layers.{Layer, blocks, offers, ticks}
 use Rattle.dch_layer2.proofs.Layers.{blocks_hold, offers_hold, start_holds, ticks_hold}
 use Rattle.dch_layer2.specs.Bounded.{HasLayer, IsTti}
 use Rattle.dch_layer2.specs.Reading.{Reading}
 use Rattle.dch_layer2.specs.Standing.{HasStarted, IsLayerOf, IsSameEnd, Represents as StandsFor}
 use Rattle.dch_layer2.specs.Values.{LayerRunning}
-use Rattle.dch_layer2.proofs.Paying.{read_few, read_layer, read_most}
+use Rattle.dch_layer2.proofs.Paying.{read_layer}
 use Rattle.dch_ue.specs.Moves.{Receives, Transmits}
 use Rattle.dch_ue.specs.Opened.{AreGivenAs, AreNoted, IsNodeOf, IsReceiverOf}
 use Rattle.dch_ue.specs.Steps.{has_read}
@@ -75,10 +73,10 @@ still_came planned node new opened is last = record {
 }
 
 -- 10 ms have passed
-pub still_ticked : (planned : Planned) (node : Node) (cfn : ℕ) (new : LayerRunning) (receiver : DownlinkReceiver) (transmitter : UplinkTransmitter) (between after : Text) → IsNodeOf planned node → IsSameEnd node.layer new → HasLayer planned.config new
-    → IsReceiverOf planned receiver → receiver.pushed ≡ false → AreGivenAs planned node.cfn new → AreNoted planned node.cfn new.running node.transmitter.running → Transmits planned node.cfn new node.transmitter transmitter between after
+pub still_ticked : {S : Type 0} (shows : S → Line → S → Type 0) (planned : Planned) (node : Node) (cfn : ℕ) (new : LayerRunning) (receiver : DownlinkReceiver) (transmitter : UplinkTransmitter) (between after : S) → IsNodeOf planned node → IsSameEnd node.layer new → HasLayer planned.config new
+    → IsReceiverOf planned receiver → receiver.pushed ≡ false → AreGivenAs planned node.cfn new → AreNoted planned node.cfn new.running node.transmitter.running → Transmits shows planned node.cfn new node.transmitter transmitter between after
     → IsNodeOf planned (record node { cfn = cfn; layer = new; receiver = receiver; transmitter = transmitter })
-still_ticked planned node cfn new receiver transmitter between after opened same has receives missing given noted transmits =
+still_ticked shows planned node cfn new receiver transmitter between after opened same has receives missing given noted transmits =
     let formats : AreFormats planned.config.uplink.side new.running transmitter.running =
     subst (λ (tti : List Loaded). AreFormats planned.config.uplink.side new.running tti) (sym transmits.sends.running)
     (formats_all planned node.cfn new node.transmitter.running transmits.loaded.running transmits.loads given noted) in
@@ -92,17 +90,6 @@ still_ticked planned node cfn new receiver transmitter between after opened same
       last = λ (pushed : receiver.pushed ≡ true). absurd (cc (sym missing ∙ pushed));
     }
 
--- how much was reported
-pub sent_few : (planned : Planned) (cfn : ℕ) (layer : LayerRunning) (old new : UplinkTransmitter) (before between after : Text) → length between.text + 1300000 ≤ length before.text + step_bytes planned.config → Transmits planned cfn layer old new between after
-    → length after.text ≤ length before.text + step_bytes planned.config
-sent_few planned cfn layer old new before between after room transmits =
-    let lines : List Line = Phy Up new.radio.frame.tfci new.radio.frame.cells ∷ [] in
-    let said : length after.text ≡ length between.text + length (text_of lines) = ap (λ (t : Text). length t.text) transmits.sends.reported ∙ length-append between.text (text_of lines) in
-    omega (arith, said, room, transmits.sends.few)
-
-pub sent_most : (planned : Planned) (cfn : ℕ) (layer : LayerRunning) (old new : UplinkTransmitter) (between after : Text) → Transmits planned cfn layer old new between after → after.most ≡ between.most
-sent_most planned cfn layer old new between after transmits = ap (λ (t : Text). t.most) transmits.sends.reported
-
 pub ends_through : (old mid new : LayerRunning) → IsSameEnd old mid → IsSameEnd mid new → IsSameEnd old new
 ends_through old mid new first second = record { sends = second.sends ∙ first.sends; receives = second.receives ∙ first.receives }
 
@@ -110,9 +97,9 @@ pub layer_of : (config : Config) (v : LayerRunning) → HasLayer config v → Is
 layer_of config v has = record { layer = has.layer; stands = has.stands }
 
 -- what was read of the channels has their formats
-ttis_read : (planned : Planned) (cfn : ℕ) (old receiver : DownlinkReceiver) (mid read : LayerRunning) (before between : Text) → IsGood planned.config → Receives planned cfn old receiver mid read before between
+pub ttis_read : {S : Type 0} (shows : S → Line → S → Type 0) (planned : Planned) (cfn : ℕ) (old receiver : DownlinkReceiver) (mid read : LayerRunning) (before between : S) → IsGood planned.config → Receives shows planned cfn old receiver mid read before between
     → (i : ℕ) → i < length planned.config.downlink.side.channels → IsTti planned.config Down i (readings_of receiver.ttis i)
-ttis_read planned cfn old receiver mid read before between good receives i inside = tti_read planned receiver.rx_frames i (readings_of receiver.ttis i) good.downlink.side inside (receives.reads.readings i inside)
+ttis_read shows planned cfn old receiver mid read before between good receives i inside = tti_read planned receiver.rx_frames i (readings_of receiver.ttis i) good.downlink.side inside (receives.reads.readings i inside)
 
 -- layer 2 after each part of a tick
 pub ticked_layer : (planned : Planned) (node : Node) (mid : LayerRunning) → IsNodeOf planned node → ((config : Config) (layer : Layer) → StandsFor config layer node.layer → StandsFor config (ticks config layer) mid) → HasLayer planned.config mid
@@ -122,10 +109,10 @@ ticked_layer planned node mid opened stands = record {
   bounded = (ticks_hold planned.config opened.layer.layer).bounded opened.layer.bounded;
 }
 
-pub read_has : (planned : Planned) (cfn : ℕ) (old receiver : DownlinkReceiver) (mid read : LayerRunning) (before between : Text) → IsGood planned.config → HasLayer planned.config mid → Receives planned cfn old receiver mid read before between
+pub read_has : {S : Type 0} (shows : S → Line → S → Type 0) (planned : Planned) (cfn : ℕ) (old receiver : DownlinkReceiver) (mid read : LayerRunning) (before between : S) → IsGood planned.config → HasLayer planned.config mid → Receives shows planned cfn old receiver mid read before between
     → HasLayer planned.config read
-read_has planned cfn old receiver mid read before between good has receives =
-    read_layer planned.config Down (readings_of receiver.ttis) (length planned.config.downlink.side.channels) mid read before between good (omega arith) (ttis_read planned cfn old receiver mid read before between good receives) has receives.reads.read
+read_has shows planned cfn old receiver mid read before between good has receives =
+    read_layer shows planned.config Down (readings_of receiver.ttis) (length planned.config.downlink.side.channels) mid read before between good (omega arith) (ttis_read shows planned cfn old receiver mid read before between good receives) has receives.reads.read
 
 pub started_layer : (planned : Planned) (cfn : ℕ) (old new : LayerRunning) → HasLayer planned.config old → ((layer : Layer) → StandsFor planned.config layer old → HasStarted planned.config cfn layer new) → HasLayer planned.config new
 started_layer planned cfn old new has starts =
@@ -136,24 +123,14 @@ started_layer planned cfn old new has starts =
       bounded = (start_holds planned.config new.out cfn has.layer started.next started.start).bounded has.bounded;
     }
 
--- the lines on what was read leave room for the one on the radio frame
-pub read_room : (planned : Planned) (cfn : ℕ) (old receiver : DownlinkReceiver) (mid read : LayerRunning) (before between : Text) → IsGood planned.config → HasLayer planned.config mid → Receives planned cfn old receiver mid read before between
-    → length between.text + 1300000 ≤ length before.text + step_bytes planned.config
-read_room planned cfn old receiver mid read before between good has receives =
-    read_few planned.config Down (readings_of receiver.ttis) (length planned.config.downlink.side.channels) mid read before between good (omega arith) (ttis_read planned cfn old receiver mid read before between good receives) has receives.reads.read
-
-pub still_most : (planned : Planned) (cfn : ℕ) (old receiver : DownlinkReceiver) (mid read : LayerRunning) (before between : Text) → HasLayer planned.config mid → Receives planned cfn old receiver mid read before between → between.most ≡ before.most
-still_most planned cfn old receiver mid read before between has receives =
-    read_most planned.config Down (readings_of receiver.ttis) (length planned.config.downlink.side.channels) mid read before between has receives.reads.read
-
 -- the formats of the channels fit the combination that runs then
 pub given_start : (planned : Planned) (cfn : ℕ) (old new : LayerRunning) → HasLayer planned.config old → new.out ≡ Up → ((layer : Layer) → StandsFor planned.config layer old → HasStarted planned.config cfn layer new) → AreGivenAs planned cfn new
 given_start planned cfn old new has up starts = given_as planned cfn has.layer new up (starts has.layer has.stands)
 
-pub noted_start : (planned : Planned) (node : Node) (mid read new : LayerRunning) (receiver : DownlinkReceiver) (before between : Text) → IsNodeOf planned node → new.out ≡ Up
-    → ((config : Config) (layer : Layer) → StandsFor config layer node.layer → StandsFor config (ticks config layer) mid) → Receives planned node.cfn node.receiver receiver mid read before between
+pub noted_start : {S : Type 0} (shows : S → Line → S → Type 0) (planned : Planned) (node : Node) (mid read new : LayerRunning) (receiver : DownlinkReceiver) (before between : S) → IsNodeOf planned node → new.out ≡ Up
+    → ((config : Config) (layer : Layer) → StandsFor config layer node.layer → StandsFor config (ticks config layer) mid) → Receives shows planned node.cfn node.receiver receiver mid read before between
     → ((layer : Layer) → StandsFor planned.config layer read → HasStarted planned.config node.cfn layer new) → AreNoted planned node.cfn new.running node.transmitter.running
-noted_start planned node mid read new receiver before between opened up stands receives starts =
+noted_start shows planned node mid read new receiver before between opened up stands receives starts =
     let old : Layer = opened.layer.layer in
     let readings : ℕ → Reading = readings_of receiver.ttis in
     let taken : Layer = (has_read planned readings old).layer in

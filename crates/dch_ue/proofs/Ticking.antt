@@ -1,5 +1,5 @@
 -- 10 ms that have passed, as a step of the definition.
-use Rattle.std.proofs.Common.{◌≡◌, ◌<◌, ◌+◌, ◌∙◌, ◌++◌, ℕ, List, [], ◌∷◌, length, refl, ap, sym, subst, inl, inr, Option, Some, None, true, false, append_assoc}
+use Rattle.std.proofs.Common.{◌≡◌, ◌<◌, ◌+◌, ◌∙◌, ◌++◌, ℕ, List, [], ◌∷◌, length, refl, ap, sym, subst, inl, inr, Option, Some, None, true, false}
 use Rattle.std.specs.Prelude.{◌≢◌, ◌%◌, ◌==◌}
 use Rattle.std.proofs.lemmas.Bool.Decides.{eqb_tells}
 use Rattle.dch_types.specs.declared.channel.Dir.{Dir}
@@ -9,17 +9,16 @@ use Rattle.dch_tti.specs.Loaded.{Loaded}
 use Rattle.dch_ulphy.specs.Frames.{IsFrame}
 use Rattle.dch_tti.specs.declared.outcome.TtiOutcome.{TtiOutcome}
 use Rattle.dch_tti.specs.RxFrames.{RxFrame, RxFrames, rx_frame_at}
-use Rattle.dch_script.specs.Held.{Held as Text}
-use Rattle.dch_node.specs.Lines.{Line, Phy, text_of}
+use Rattle.dch_indication.proofs.Telling.{told-append, told_one}
+use Rattle.dch_node.specs.Lines.{Line, Phy}
 use Rattle.dch_node.specs.RxFrames.{AreHeard, KeepsRadio}
+use Rattle.dch_node.specs.Standing.{Tells}
 use Rattle.dch_node.specs.Values.{Output, Radio}
-use Rattle.dch_node.proofs.Texts.{text_of-append}
 use Rattle.dch_layer2.specs.Layers.{Layer, ticks}
 use Rattle.dch_layer2.specs.Starting.{IsStart}
 use Rattle.dch_layer2.specs.Reading.{Nothing, Reading}
 use Rattle.dch_layer2.specs.Standing.{HasStarted, Represents as StandsFor}
 use Rattle.dch_layer2.specs.Values.{LayerRunning}
-use Rattle.dch_txframes.specs.Reports.{added}
 use Rattle.dch_txframes.specs.Values.{radio_if}
 use Rattle.dch_ue.specs.Moves.{Completes, Hears, Receives, Transmits}
 use Rattle.dch_ue.specs.Standing.{HasFrames, IsAt, Stepped}
@@ -76,20 +75,12 @@ next_frames planned state next receiver missing empty kept = record {
 not_read : (ttis : List RxTti) (i : ℕ) → (tti_at ttis i).outcome ≡ None → readings_of ttis i ≡ Nothing
 not_read ttis i none = ap (λ (o : Option TtiOutcome). reading_if o (tti_at ttis i).held) none
 
--- the text of two reports after another
-both_added : (before between after : Text) (first second : List Line) → between ≡ added before first → after ≡ added between second → after.text ≡ before.text ++ text_of (first ++ second)
-both_added before between after first second one two =
-    ap (λ (t : Text). t.text) two
-    ∙ ap (λ (t : Text). t.text ++ text_of second) one
-    ∙ append_assoc before.text (text_of first) (text_of second)
-    ∙ ap (λ (text : List ℕ). before.text ++ text) (sym (text_of-append first second))
-
 -- 10 ms have passed, at the CFN of the state
-ticked_at : (planned : Planned) (state : State) (node : Node) (mid read new : LayerRunning) (receiver : DownlinkReceiver) (transmitter : UplinkTransmitter) (before between after : Text) → IsAt planned state node → new.out ≡ Up
-    → StandsFor planned.config (ticks planned.config state.layer) mid → Receives planned state.cfn node.receiver receiver mid read before between
-    → HasStarted planned.config state.cfn (has_read planned (readings_of receiver.ttis) state.layer).layer new → Transmits planned state.cfn new node.transmitter transmitter between after
-    → Stepped planned state Tick (record node { cfn = (node.cfn + 1) % 256; layer = new; receiver = receiver; transmitter = transmitter }) before.text after.text
-ticked_at planned state node mid read new receiver transmitter before between after at up stands receives started transmits =
+ticked_at : {S : Type 0} (shows : S → Line → S → Type 0) (planned : Planned) (state : State) (node : Node) (mid read new : LayerRunning) (receiver : DownlinkReceiver) (transmitter : UplinkTransmitter) (before between after : S) → IsAt planned state node → new.out ≡ Up
+    → StandsFor planned.config (ticks planned.config state.layer) mid → Receives shows planned state.cfn node.receiver receiver mid read before between
+    → HasStarted planned.config state.cfn (has_read planned (readings_of receiver.ttis) state.layer).layer new → Transmits shows planned state.cfn new node.transmitter transmitter between after
+    → Stepped planned state Tick (record node { cfn = (node.cfn + 1) % 256; layer = new; receiver = receiver; transmitter = transmitter }) (Tells shows before after)
+ticked_at shows planned state node mid read new receiver transmitter before between after at up stands receives started transmits =
     let readings : ℕ → Reading = readings_of receiver.ttis in
     let taken : Layer = (has_read planned readings state.layer).layer in
     let next : State = ticking state readings started.next in
@@ -136,16 +127,17 @@ ticked_at planned state node mid read new receiver transmitter before between af
         readings = λ i inside. refl;
       };
       shows = record { radio = ap (λ b. radio_if b transmitter.radio.frame) transmits.sends.sent };
-      reported = both_added before between after (has_read planned readings state.layer).lines (Phy Up radio.tfci radio.cells ∷ []) (receives.reads.read.reported (ticks planned.config state.layer) stands) transmits.sends.reported;
+      tells = told-append shows before between after (has_read planned readings state.layer).lines (Phy Up radio.tfci radio.cells ∷ []) (receives.reads.read.told (ticks planned.config state.layer) stands)
+          (told_one shows between after _ transmits.sends.shown);
     }
 
 -- at the CFN of the terminal
-pub ticked : (planned : Planned) (state : State) (node : Node) (mid read new : LayerRunning) (receiver : DownlinkReceiver) (transmitter : UplinkTransmitter) (before between after : Text) → IsAt planned state node → new.out ≡ Up
-    → StandsFor planned.config (ticks planned.config state.layer) mid → Receives planned node.cfn node.receiver receiver mid read before between
-    → HasStarted planned.config node.cfn (has_read planned (readings_of receiver.ttis) state.layer).layer new → Transmits planned node.cfn new node.transmitter transmitter between after
-    → Stepped planned state Tick (record node { cfn = (node.cfn + 1) % 256; layer = new; receiver = receiver; transmitter = transmitter }) before.text after.text
-ticked planned state node mid read new receiver transmitter before between after at up stands receives started transmits =
-    ticked_at planned state node mid read new receiver transmitter before between after at up stands
-    (subst (λ cfn. Receives planned cfn node.receiver receiver mid read before between) at.cfn receives)
+pub ticked : {S : Type 0} (shows : S → Line → S → Type 0) (planned : Planned) (state : State) (node : Node) (mid read new : LayerRunning) (receiver : DownlinkReceiver) (transmitter : UplinkTransmitter) (before between after : S) → IsAt planned state node → new.out ≡ Up
+    → StandsFor planned.config (ticks planned.config state.layer) mid → Receives shows planned node.cfn node.receiver receiver mid read before between
+    → HasStarted planned.config node.cfn (has_read planned (readings_of receiver.ttis) state.layer).layer new → Transmits shows planned node.cfn new node.transmitter transmitter between after
+    → Stepped planned state Tick (record node { cfn = (node.cfn + 1) % 256; layer = new; receiver = receiver; transmitter = transmitter }) (Tells shows before after)
+ticked shows planned state node mid read new receiver transmitter before between after at up stands receives started transmits =
+    ticked_at shows planned state node mid read new receiver transmitter before between after at up stands
+    (subst (λ cfn. Receives shows planned cfn node.receiver receiver mid read before between) at.cfn receives)
     (subst (λ cfn. HasStarted planned.config cfn (has_read planned (readings_of receiver.ttis) state.layer).layer new) at.cfn started)
-    (subst (λ cfn. Transmits planned cfn new node.transmitter transmitter between after) at.cfn transmits)
+    (subst (λ cfn. Transmits shows planned cfn new node.transmitter transmitter between after) at.cfn transmits)

@@ -1,27 +1,24 @@
 -- What the parts of a terminal do in a step, each by itself.
-use Rattle.std.specs.Prelude.{◌≡◌, ◌≢◌, ◌<◌, ◌≤◌, ◌%◌, ℕ, List, ◌∷◌, [], Option, None, true, false, length}
+use Rattle.std.specs.Prelude.{◌≡◌, ◌≢◌, ◌<◌, ◌≤◌, ◌%◌, ℕ, List, Option, None, true, false, length}
 use Rattle.dch_types.specs.declared.channel.Dir.TheVariants.{Up, Down}
 use Rattle.dch_types.specs.declared.config.Config.{Config}
 use Rattle.dch_types.specs.Parts.{channel_at}
 use Rattle.dch_types.specs.Timing.{starts}
 use Rattle.dch_accept.specs.HeldSets.{held_at}
 use Rattle.dch_accept.specs.Plans.{Planned}
-use Rattle.dch_script.specs.Held.{Held as Text}
+use Rattle.dch_indication.specs.Told.{Told}
 use Rattle.dch_tti.specs.Loaded.{Loaded, loaded_at}
 use Rattle.dch_tti.specs.RxFrames.{RxFrames, rx_frame_at}
 use Rattle.dch_ulphy.specs.Frames.{IsFrame}
 use Rattle.dch_ulphy.specs.Loaded.{IsLoaded, IsTtiOf}
-use Rattle.dch_node.specs.Lines.{Phy, text_of}
+use Rattle.dch_node.specs.Lines.{Line, Phy}
 use Rattle.dch_node.specs.RxFrames.{KeepsRadio}
 use Rattle.dch_node.specs.Values.{Radio}
 use Rattle.dch_layer2.specs.Layers.{Layer}
 use Rattle.dch_layer2.specs.Bounded.{HasRead}
-use Rattle.dch_layer2.specs.Coming.{HasRoomForTti}
-use Rattle.dch_layer2.specs.Reading.{Bad, Nothing, Read, Reading, reads}
+use Rattle.dch_layer2.specs.Reading.{Reading, reads}
 use Rattle.dch_layer2.specs.Standing.{IsSameEnd, Represents as StandsFor}
 use Rattle.dch_layer2.specs.Values.{LayerRunning}
-use Rattle.dch_txframes.specs.Reports.{added}
-use Rattle.dch_txframes.specs.Rooms.{HasRoomFor}
 use Rattle.dch_ue.specs.Opened.{AreTtisOf, IsReceiverOf, IsTransmitterOf}
 use Rattle.dch_ue.specs.Steps.{IsReading}
 use Rattle.dch_ue.specs.Values.{DownlinkReceiver, RxTti, UplinkTransmitter, reading_of, readings_of, tti_at}
@@ -59,33 +56,27 @@ pub record AreReadTo (planned : Planned) (rx_frames : RxFrames) (count : ℕ) (t
   pub readings : (i : ℕ) → i < count → IsReading planned rx_frames i (reading_of (tti_at ttis i))
   pub later : (i : ℕ) → count ≤ i → (tti_at ttis i).outcome ≡ None
 
--- there is room for all lines on what was read of a channel
-abbrev pub HasRoomToGive : Config → ℕ → Reading → LayerRunning → Text → Type 0
-HasRoomToGive config i Nothing v report = Unit {0}
-HasRoomToGive config i (Read held) v report = HasRoomForTti config i held v report
-HasRoomToGive config i (Bad frame) v report = HasRoomFor report 300
-
 -- layer 2 took what was read of a channel
-pub record Gives (config : Config) (i : ℕ) (reading : Reading) (old new : LayerRunning) (before after : Text) : Type 0 where
+pub record Gives {S : Type 0} (shows : S → Line → S → Type 0) (config : Config) (i : ℕ) (reading : Reading) (old new : LayerRunning) (before after : S) : Type 0 where
   pub ends : IsSameEnd old new
   pub stands : (layer : Layer) → StandsFor config layer old → StandsFor config (reads config Down i reading layer).layer new
-  pub reported : (layer : Layer) → StandsFor config layer old → after ≡ added before (reads config Down i reading layer).lines
+  pub told : (layer : Layer) → StandsFor config layer old → Told shows before (reads config Down i reading layer).lines after
 
 -- the first channels were read, and layer 2 took what was read
-pub record AreRead (planned : Planned) (rx_frames : RxFrames) (count : ℕ) (ttis : List RxTti) (old new : LayerRunning) (before after : Text) : Type 0 where
+pub record AreRead {S : Type 0} (shows : S → Line → S → Type 0) (planned : Planned) (rx_frames : RxFrames) (count : ℕ) (ttis : List RxTti) (old new : LayerRunning) (before after : S) : Type 0 where
   pub opened : AreTtisOf planned ttis
   pub readings : (i : ℕ) → i < count → IsReading planned rx_frames i (reading_of (tti_at ttis i))
   pub later : (i : ℕ) → count ≤ i → (tti_at ttis i).outcome ≡ None
-  pub read : HasRead planned.config Down (readings_of ttis) count old new before after
+  pub read : HasRead shows planned.config Down (readings_of ttis) count old new before after
 
 -- the downlink radio frame of a CFN is taken, and the channels whose TTI ends with it are read
-pub record Receives (planned : Planned) (cfn : ℕ) (old new : DownlinkReceiver) (layer new_layer : LayerRunning) (before after : Text) : Type 0 where
+pub record Receives {S : Type 0} (shows : S → Line → S → Type 0) (planned : Planned) (cfn : ℕ) (old new : DownlinkReceiver) (layer new_layer : LayerRunning) (before after : S) : Type 0 where
   pub heard : DownlinkReceiver
   pub completes : Completes planned cfn old heard
   pub rx_frames : new.rx_frames ≡ heard.rx_frames
   pub pushed : new.pushed ≡ heard.pushed
   pub opened : IsReceiverOf planned new
-  pub reads : AreRead planned new.rx_frames (length planned.config.downlink.side.channels) new.ttis layer new_layer before after
+  pub reads : AreRead shows planned new.rx_frames (length planned.config.downlink.side.channels) new.ttis layer new_layer before after
 
 -- the first channels whose TTI starts at a CFN are loaded with what layer 2 gave to them, and no other ones
 pub record AreLoadedTo (planned : Planned) (cfn count : ℕ) (layer : LayerRunning) (old new : List Loaded) : Type 0 where
@@ -95,17 +86,17 @@ pub record AreLoadedTo (planned : Planned) (cfn count : ℕ) (layer : LayerRunni
   pub off : (i : ℕ) → i < count → starts (channel_at planned.config.uplink.side i).frames cfn ≡ false → loaded_at new i ≡ loaded_at old i
   pub later : (i : ℕ) → count ≤ i → loaded_at new i ≡ loaded_at old i
 
--- the radio frame of a CFN was written in a combination of what is loaded, and is sent and reported
-pub record Sends (planned : Planned) (cfn combination : ℕ) (old new : UplinkTransmitter) (before after : Text) : Type 0 where
+-- the radio frame of a CFN was written in a combination of what is loaded, and is sent and told
+pub record Sends {S : Type 0} (shows : S → Line → S → Type 0) (planned : Planned) (cfn combination : ℕ) (old new : UplinkTransmitter) (before after : S) : Type 0 where
   pub opened : IsTransmitterOf planned new
   pub running : new.running ≡ old.running
   pub sent : new.radio.sent ≡ true
   pub written : IsFrame planned new.running cfn combination new.radio.frame
-  pub few : length (text_of (Phy Up new.radio.frame.tfci new.radio.frame.cells ∷ [])) ≤ 60000
-  pub reported : after ≡ added before (Phy Up new.radio.frame.tfci new.radio.frame.cells ∷ [])
+  pub few : length new.radio.frame.cells ≤ 57600
+  pub shown : shows before (Phy Up new.radio.frame.tfci new.radio.frame.cells) after
 
 -- the TTIs that start are loaded, and the radio frame of the CFN is sent in the combination that runs
-pub record Transmits (planned : Planned) (cfn : ℕ) (layer : LayerRunning) (old new : UplinkTransmitter) (before after : Text) : Type 0 where
+pub record Transmits {S : Type 0} (shows : S → Line → S → Type 0) (planned : Planned) (cfn : ℕ) (layer : LayerRunning) (old new : UplinkTransmitter) (before after : S) : Type 0 where
   pub loaded : UplinkTransmitter
   pub loads : AreLoadedTo planned cfn (length planned.config.uplink.side.channels) layer old.running loaded.running
-  pub sends : Sends planned cfn layer.running loaded new before after
+  pub sends : Sends shows planned cfn layer.running loaded new before after

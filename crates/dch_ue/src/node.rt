@@ -5,7 +5,9 @@ ghost use Rattle.dch_accept.specs.HeldSets.{held_at};
 ghost use Rattle.dch_accept.specs.Plans.{Planned};
 ghost use Rattle.dch_accept.specs.Reports.{step_bytes};
 ghost use Rattle.dch_tti.specs.RxFrames.{HasTfci};
+ghost use Rattle.dch_script.specs.Adding.{Adds};
 ghost use Rattle.dch_node.specs.Lines.{Line};
+ghost use Rattle.dch_node.specs.Standing.{AreNone, Tells, TellsFew};
 ghost use Rattle.dch_txframes.specs.Lending.{radio_of};
 ghost use Rattle.dch_txframes.specs.Rooms.{HasRoomFor};
 ghost use Rattle.dch_ue.specs.Lending.{held_of};
@@ -20,9 +22,10 @@ use crate::receiver::DownlinkReceiver;
 use crate::transmitter::UplinkTransmitter;
 use dch_accept::{Accepted, FrameView, TtiBlocks};
 use dch_bits::{Bit, NoMemory};
+use dch_indication::Indications;
 use dch_layer2::Layer2;
 use dch_script::Report;
-use dch_txframes::put_answer;
+use dch_txframes::tell_answer;
 use dch_types::Dir;
 use std::alloc::Global;
 use std::marker::Model;
@@ -96,6 +99,26 @@ impl Ue {
         Ok(ue)
     }
 
+    /// Takes one event, and tells what it does. The configuration is the active one; in a change it is the second one, which becomes active.
+    pub fn step_with<U: Indications>(
+        &mut self,
+        accepted: &Accepted,
+        event: UeEvent<'_>,
+        user: &mut U,
+    )
+        requires opened { IsReadyFor accepted.now event self.old }
+        requires event { MayCome accepted.now event }
+        ensures opened { IsNodeOf accepted.now self.new }
+        ensures step { (before : Planned) (state : State) → IsActiveBefore accepted.now event.entry before self.old → Represents before state self.old →
+            Stepped accepted.now state (event_of accepted.now event.entry) self.new (Tells U.shows user.old user.new) }
+        ensures history { (began before : Planned) (first : ℕ) (events : List Event) (lines : List Line) → IsActiveBefore accepted.now event.entry before self.old → RepresentsHistory began before first events lines self.old →
+            ExtendsHistory began accepted.now first events lines (event_of accepted.now event.entry) self.new (Tells U.shows user.old user.new) }
+        ensures next { KeepsNext accepted.now event.entry self.old self.new }
+        ensures few { TellsFew U.shows (step_bytes accepted.now.config) user.old user.new }
+    {
+        self.happen(accepted, event, user);
+    }
+
     /// Takes one event, and reports what it does. The report has room for what one step may write. The configuration is the active one; in a
     /// change it is the second one, which becomes active.
     pub fn step(&mut self, accepted: &Accepted, event: UeEvent<'_>, report: &mut Report)
@@ -104,14 +127,14 @@ impl Ue {
         requires room { HasRoomFor report.old (step_bytes accepted.now.config) }
         ensures opened { IsNodeOf accepted.now self.new }
         ensures step { (before : Planned) (state : State) → IsActiveBefore accepted.now event.entry before self.old → Represents before state self.old →
-            Stepped accepted.now state (event_of accepted.now event.entry) self.new report.old.text report.new.text }
+            Stepped accepted.now state (event_of accepted.now event.entry) self.new (Adds report.old.text report.new.text) }
         ensures history { (began before : Planned) (first : ℕ) (events : List Event) (lines : List Line) → IsActiveBefore accepted.now event.entry before self.old → RepresentsHistory began before first events lines self.old →
-            ExtendsHistory began accepted.now first events lines (event_of accepted.now event.entry) self.new report.old.text report.new.text }
+            ExtendsHistory began accepted.now first events lines (event_of accepted.now event.entry) self.new (Adds report.old.text report.new.text) }
         ensures next { KeepsNext accepted.now event.entry self.old self.new }
         ensures few { length report.new.text ≤ length report.old.text + step_bytes accepted.now.config }
         ensures most { report.new.most ≡ report.old.most }
     {
-        self.happen(accepted, event, report);
+        self.step_with(accepted, event, report);
     }
 
     /// Gives all memory back.
@@ -141,16 +164,14 @@ impl Ue {
     }
 
     /// Hides what the last step sent and read, and takes one event.
-    fn happen(&mut self, accepted: &Accepted, event: UeEvent<'_>, report: &mut Report)
+    fn happen<U: Indications>(&mut self, accepted: &Accepted, event: UeEvent<'_>, user: &mut U)
         requires opened { IsReadyFor accepted.now event self.old }
         requires event { MayCome accepted.now event }
-        requires room { HasRoomFor report.old (step_bytes accepted.now.config) }
         ensures opened { IsNodeOf accepted.now self.new }
         ensures step { (before : Planned) (state : State) → IsActiveBefore accepted.now event.entry before self.old → Represents before state self.old →
-            Stepped accepted.now state (event_of accepted.now event.entry) self.new report.old.text report.new.text }
+            Stepped accepted.now state (event_of accepted.now event.entry) self.new (Tells U.shows user.old user.new) }
         ensures next { KeepsNext accepted.now event.entry self.old self.new }
-        ensures few { length report.new.text ≤ length report.old.text + step_bytes accepted.now.config }
-        ensures most { report.new.most ≡ report.old.most }
+        ensures few { TellsFew U.shows (step_bytes accepted.now.config) user.old user.new }
     {
         self.clear_shown();
         match event {
@@ -158,10 +179,10 @@ impl Ue {
                 bearer,
                 octets,
                 bits,
-            } => self.offer(accepted, bearer, octets, bits, report),
+            } => self.offer(accepted, bearer, octets, bits, user),
             UeEvent::Block { combination, on } => self.block(accepted, combination, on),
             UeEvent::Phy { frame } => self.receive_radio(accepted, frame),
-            UeEvent::Tick => self.tick(accepted, report),
+            UeEvent::Tick => self.tick(accepted, user),
             UeEvent::Change => self.change(accepted),
         }
     }
@@ -182,8 +203,8 @@ impl Ue {
     fn change(&mut self, accepted: &Accepted)
         requires { CanChange accepted.now self.old }
         ensures opened { IsNodeOf accepted.now self.new }
-        ensures step { (before : Planned) (state : State) (text : List ℕ) → HasNext before accepted.now self.old → IsAt before state self.old →
-            Stepped accepted.now state (Change accepted.now) self.new text text }
+        ensures step { (before : Planned) (state : State) → HasNext before accepted.now self.old → IsAt before state self.old →
+            Stepped accepted.now state (Change accepted.now) self.new AreNone }
         ensures next { self.new.next ≡ None }
     {
         // The TTIs of a good configuration have 1, 2, 4 or 8 radio frames.
@@ -196,26 +217,24 @@ impl Ue {
     }
 
     /// A unit is offered to a bearer.
-    fn offer(
+    fn offer<U: Indications>(
         &mut self,
         accepted: &Accepted,
         bearer: u8,
         octets: &[u8],
         bits: &[Bit],
-        report: &mut Report,
+        user: &mut U,
     )
         requires opened { IsNodeOf accepted.now self.old }
         requires quiet { NothingShown self.old }
         requires bearer { SendsUp accepted.now.config bearer }
-        requires room { HasRoomFor report.old (step_bytes accepted.now.config) }
         ensures opened { IsNodeOf accepted.now self.new }
         ensures next { self.new.next ≡ self.old.next }
-        ensures step { (state : State) → IsAt accepted.now state self.old → Stepped accepted.now state (OfferedUnit bearer octets.now bits.now) self.new report.old.text report.new.text }
-        ensures few { length report.new.text ≤ length report.old.text + step_bytes accepted.now.config }
-        ensures most { report.new.most ≡ report.old.most }
+        ensures step { (state : State) → IsAt accepted.now state self.old → Stepped accepted.now state (OfferedUnit bearer octets.now bits.now) self.new (Tells U.shows user.old user.new) }
+        ensures few { TellsFew U.shows (step_bytes accepted.now.config) user.old user.new }
     {
         let answer = self.layer.offer(bearer, octets, bits);
-        put_answer(report, Dir::Up, bearer, answer);
+        tell_answer(user, Dir::Up, bearer, answer);
     }
 
     /// A combination is blocked, or free again.
@@ -225,7 +244,7 @@ impl Ue {
         requires combination { combination < length accepted.now.config.uplink.side.combinations }
         ensures opened { IsNodeOf accepted.now self.new }
         ensures next { self.new.next ≡ self.old.next }
-        ensures step { (state : State) (text : List ℕ) → IsAt accepted.now state self.old → Stepped accepted.now state (BlockedCombination combination on) self.new text text }
+        ensures step { (state : State) → IsAt accepted.now state self.old → Stepped accepted.now state (BlockedCombination combination on) self.new AreNone }
     {
         self.layer.block(combination, on);
     }
@@ -237,31 +256,29 @@ impl Ue {
         requires frame { HasTfci accepted.now Down frame }
         ensures opened { IsNodeOf accepted.now self.new }
         ensures next { self.new.next ≡ self.old.next }
-        ensures step { (state : State) (text : List ℕ) → IsAt accepted.now state self.old → Stepped accepted.now state (DownlinkFrame (radio_of frame.entry)) self.new text text }
+        ensures step { (state : State) → IsAt accepted.now state self.old → Stepped accepted.now state (DownlinkFrame (radio_of frame.entry)) self.new AreNone }
     {
         self.receiver.push(accepted, self.cfn, frame);
     }
 
     /// 10 ms have passed: the timers tick, the downlink radio frame is taken and the channels whose TTI ends are read, TTIs start, and
     /// the uplink radio frame is sent. The CFN goes on.
-    fn tick(&mut self, accepted: &Accepted, report: &mut Report)
+    fn tick<U: Indications>(&mut self, accepted: &Accepted, user: &mut U)
         requires opened { IsNodeOf accepted.now self.old }
         requires quiet { NothingShown self.old }
-        requires room { HasRoomFor report.old (step_bytes accepted.now.config) }
         ensures opened { IsNodeOf accepted.now self.new }
         ensures next { self.new.next ≡ self.old.next }
-        ensures step { (state : State) → IsAt accepted.now state self.old → Stepped accepted.now state Tick self.new report.old.text report.new.text }
-        ensures few { length report.new.text ≤ length report.old.text + step_bytes accepted.now.config }
-        ensures most { report.new.most ≡ report.old.most }
+        ensures step { (state : State) → IsAt accepted.now state self.old → Stepped accepted.now state Tick self.new (Tells U.shows user.old user.new) }
+        ensures few { TellsFew U.shows (step_bytes accepted.now.config) user.old user.new }
     {
-        // What a step reports is limited in a good configuration.
+        // What layer 2 holds stays limited in a good configuration.
         let _config = accepted.config();
         self.layer.tick();
         self.receiver
-            .receive(accepted, self.cfn, &mut self.layer, report);
+            .receive(accepted, self.cfn, &mut self.layer, user);
         self.layer.start(accepted, self.cfn);
         self.transmitter
-            .transmit(accepted, self.cfn, &self.layer, report);
+            .transmit(accepted, self.cfn, &self.layer, user);
         self.cfn = self.cfn.wrapping_add(1);
     }
 }

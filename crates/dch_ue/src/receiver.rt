@@ -4,13 +4,12 @@ ghost use Rattle.dch_types.specs.Parts.{channel_at};
 ghost use Rattle.dch_types.specs.Timing.{ends};
 ghost use Rattle.dch_accept.specs.Blocks.{HoldsTtis};
 ghost use Rattle.dch_accept.specs.Frames.{most_cells};
-ghost use Rattle.dch_accept.specs.Reports.{step_bytes};
 ghost use Rattle.dch_tti.specs.RxFrames.{AreMissing, HasTfci, IsReaderOf};
-ghost use Rattle.dch_layer2.specs.Bounded.{HasLayer, HasRead, IsTti};
+ghost use Rattle.dch_layer2.specs.Bounded.{HasRead, IsTti};
+ghost use Rattle.dch_layer2.specs.Standing.{IsLayerOf};
 ghost use Rattle.dch_txframes.specs.Lending.{radio_of};
-ghost use Rattle.dch_txframes.specs.Rooms.{HasRoomFor};
 ghost use Rattle.dch_ue.specs.Lending.{held_of};
-ghost use Rattle.dch_ue.specs.Moves.{AreClearedTo, AreReadTo, Comes, Completes, HasRoomToGive, Gives, Receives};
+ghost use Rattle.dch_ue.specs.Moves.{AreClearedTo, AreReadTo, Comes, Completes, Gives, Receives};
 ghost use Rattle.dch_ue.specs.Opened.{AreNewTtis, AreTtisOf, IsReceiverOf};
 ghost use Rattle.dch_ue.specs.Steps.{IsReading};
 ghost use Rattle.dch_ue.specs.Values.{blocks_read, reading_of, readings_of, tti_at};
@@ -18,9 +17,9 @@ ghost use Rattle.dch_ue.specs.Values.{blocks_read, reading_of, readings_of, tti_
 use dch_accept::{Accepted, FrameView, TtiBlocks};
 use dch_bits::NoMemory;
 use dch_dlphy::{DlReader, TtiOutcome};
+use dch_indication::Indications;
 use dch_layer2::Layer2;
-use dch_script::Report;
-use dch_txframes::put_bad_tti;
+use dch_txframes::tell_bad_tti;
 use dch_types::{Dir, ends};
 use std::alloc::Global;
 use std::marker::Model;
@@ -62,18 +61,24 @@ impl RxTti {
         self.outcome = Some(outcome);
     }
 
-    /// Gives what was read of a channel to layer 2, and reports it where the TTI can't be read.
-    fn give(&self, accepted: &Accepted, channel: u8, layer: &mut Layer2, report: &mut Report)
+    /// Gives what was read of a channel to layer 2, and tells it where the TTI can't be read.
+    fn give<U: Indications>(
+        &self,
+        accepted: &Accepted,
+        channel: u8,
+        layer: &mut Layer2,
+        user: &mut U,
+    )
         requires channel { channel < length accepted.now.config.downlink.side.channels }
         requires tti { IsTti accepted.now.config Down channel (reading_of self.now) }
+        requires layer { IsLayerOf accepted.now.config layer.old }
         requires receives { layer.old.into ≡ Down }
-        requires room { HasRoomToGive accepted.now.config channel (reading_of self.now) layer.old report.old }
-        ensures { Gives accepted.now.config channel (reading_of self.now) layer.old layer.new report.old report.new }
+        ensures { Gives U.shows accepted.now.config channel (reading_of self.now) layer.old layer.new user.old user.new }
     {
         match self.outcome {
             None => {}
-            Some(TtiOutcome::Blocks) => layer.take(accepted, channel, &self.blocks, report),
-            Some(TtiOutcome::BadFrame(frame)) => put_bad_tti(report, Dir::Down, channel, frame),
+            Some(TtiOutcome::Blocks) => layer.take(accepted, channel, &self.blocks, user),
+            Some(TtiOutcome::BadFrame(frame)) => tell_bad_tti(user, Dir::Down, channel, frame),
         }
     }
 }
@@ -141,21 +146,26 @@ impl DownlinkReceiver {
     }
 
     /// Takes the radio frame of a CFN, and reads the channels whose TTI ends with it: good blocks go up to layer 2, and what can't
-    /// be read is reported.
-    pub fn receive(&mut self, accepted: &Accepted, cfn: u8, layer: &mut Layer2, report: &mut Report)
+    /// be read is told.
+    pub fn receive<U: Indications>(
+        &mut self,
+        accepted: &Accepted,
+        cfn: u8,
+        layer: &mut Layer2,
+        user: &mut U,
+    )
         requires opened { IsReceiverOf accepted.now self.old }
         requires quiet { (i : ℕ) → (tti_at self.old.ttis i).outcome ≡ None }
         requires last { self.old.pushed ≡ true → self.old.rx_frames.cfn ≡ cfn }
-        requires layer { HasLayer accepted.now.config layer.old }
+        requires layer { IsLayerOf accepted.now.config layer.old }
         requires receives { layer.old.into ≡ Down }
-        requires room { HasRoomFor report.old (step_bytes accepted.now.config) }
-        ensures { Receives accepted.now cfn self.old self.new layer.old layer.new report.old report.new }
+        ensures { Receives U.shows accepted.now cfn self.old self.new layer.old layer.new user.old user.new }
     {
         // A TTI has at most 8 radio frames in a good configuration.
         let _side = accepted.side(Dir::Down);
         self.complete(accepted, cfn);
         read_ttis(accepted, cfn, &mut self.reader, &mut self.ttis);
-        give_ttis(accepted, &self.ttis, layer, report);
+        give_ttis(accepted, &self.ttis, layer, user);
     }
 
     /// Where no radio frame came for a CFN, it is missing. For the next CFN none came yet.
@@ -213,18 +223,15 @@ fn read_ttis(accepted: &Accepted, cfn: u8, reader: &mut DlReader, ttis: &mut [Rx
 }
 
 /// Gives what was read of the channels to layer 2, in rising order of channels.
-fn give_ttis(accepted: &Accepted, ttis: &[RxTti], layer: &mut Layer2, report: &mut Report)
+fn give_ttis<U: Indications>(accepted: &Accepted, ttis: &[RxTti], layer: &mut Layer2, user: &mut U)
     requires ttis { AreTtisOf accepted.now ttis.now }
     requires read { (i : ℕ) → i < length accepted.now.config.downlink.side.channels → IsTti accepted.now.config Down i (readings_of ttis.now i) }
-    requires layer { HasLayer accepted.now.config layer.old }
+    requires layer { IsLayerOf accepted.now.config layer.old }
     requires receives { layer.old.into ≡ Down }
-    requires room { HasRoomFor report.old (step_bytes accepted.now.config) }
-    ensures { HasRead accepted.now.config Down (readings_of ttis.now) (length accepted.now.config.downlink.side.channels) layer.old layer.new report.old report.new }
+    ensures { HasRead U.shows accepted.now.config Down (readings_of ttis.now) (length accepted.now.config.downlink.side.channels) layer.old layer.new user.old user.new }
 {
-    // The blocks of a TTI, and what is reported of them, are limited in a good configuration.
-    let _config = accepted.config();
     let side = accepted.side(Dir::Down);
     for i in 0..side.channels.len() {
-        ttis[i].give(accepted, i as u8, layer, report);
+        ttis[i].give(accepted, i as u8, layer, user);
     }
 }

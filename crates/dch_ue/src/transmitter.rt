@@ -4,16 +4,15 @@ ghost use Rattle.dch_tti.specs.Loaded.{AreFormats};
 ghost use Rattle.dch_ulphy.specs.Loaded.{IsTtiOf};
 ghost use Rattle.dch_layer2.specs.Standing.{IsLayerOf};
 ghost use Rattle.dch_txframes.specs.Lending.{radio_of};
-ghost use Rattle.dch_txframes.specs.Rooms.{HasRoomFor};
 ghost use Rattle.dch_txframes.specs.Values.{radio_sent};
 ghost use Rattle.dch_ue.specs.Moves.{AreLoadedTo, Sends, Transmits};
 ghost use Rattle.dch_ue.specs.Opened.{AreGivenAs, AreNoted, IsTransmitterOf};
 
 use dch_accept::{Accepted, FrameView};
 use dch_bits::NoMemory;
+use dch_indication::Indications;
 use dch_layer2::Layer2;
-use dch_script::Report;
-use dch_txframes::{RadioTxBuffer, put_radio};
+use dch_txframes::{RadioTxBuffer, tell_radio};
 use dch_types::{Dir, starts};
 use dch_ulphy::{UlTti, write};
 use std::alloc::Global;
@@ -62,33 +61,37 @@ impl UplinkTransmitter {
 
     /// Loads what layer 2 gave to the channels whose TTI starts at a CFN, and sends the radio frame of that CFN in the combination
     /// that runs.
-    pub fn transmit(&mut self, accepted: &Accepted, cfn: u8, layer: &Layer2, report: &mut Report)
+    pub fn transmit<U: Indications>(
+        &mut self,
+        accepted: &Accepted,
+        cfn: u8,
+        layer: &Layer2,
+        user: &mut U,
+    )
         requires opened { IsTransmitterOf accepted.now self.old }
         requires layer { IsLayerOf accepted.now.config layer.now }
         requires sends { layer.now.out ≡ Up }
         requires given { AreGivenAs accepted.now cfn layer.now }
         requires noted { AreNoted accepted.now cfn layer.now.running self.old.running }
-        requires room { HasRoomFor report.old 60000 }
-        ensures { Transmits accepted.now cfn layer.now self.old self.new report.old report.new }
+        ensures { Transmits U.shows accepted.now cfn layer.now self.old self.new user.old user.new }
     {
         load(accepted, cfn, layer, &mut self.tti);
-        self.send(accepted, cfn, layer.running(), report);
+        self.send(accepted, cfn, layer.running(), user);
     }
 
-    /// Sends the radio frame of a CFN in a combination, and reports it.
-    fn send(&mut self, accepted: &Accepted, cfn: u8, combination: u16, report: &mut Report)
+    /// Sends the radio frame of a CFN in a combination, and tells it.
+    fn send<U: Indications>(&mut self, accepted: &Accepted, cfn: u8, combination: u16, user: &mut U)
         requires opened { IsTransmitterOf accepted.now self.old }
         requires combination { combination < length accepted.now.config.uplink.side.combinations }
         requires formats { AreFormats accepted.now.config.uplink.side combination self.old.running }
-        requires room { HasRoomFor report.old 60000 }
-        ensures { Sends accepted.now cfn combination self.old self.new report.old report.new }
+        ensures { Sends U.shows accepted.now cfn combination self.old self.new user.old user.new }
     {
         // A frame has at most 57,600 cells in a good configuration.
         let _config = accepted.config();
         let _plan = accepted.uplink_plan(combination);
         write(accepted, &self.tti, cfn, combination, &mut self.radio.frame);
         self.radio.sent = true;
-        put_radio(report, Dir::Up, self.radio.frame.view());
+        tell_radio(user, Dir::Up, self.radio.frame.view());
     }
 }
 

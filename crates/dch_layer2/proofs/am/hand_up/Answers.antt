@@ -3,22 +3,18 @@ use Rattle.dch_pair.specs.EntityStanding.{size_of, waiting_in}
 use Rattle.dch_pair.proofs.Peers.{none_waits, one_handed}
 use Rattle.dch_sar.specs.Taking.{handed_of}
 use Rattle.dch_layer2.proofs.AmSides.{last_handed, sizes_on, some_waits}
-use Rattle.dch_layer2.proofs.Lines.{going_room, going_step}
+use Rattle.dch_layer2.proofs.Lines.{going_step}
 use Rattle.dch_layer2.proofs.am.hand_up.Goals as goal
 
-pub put_handed-requires-clause-room : goal.put_handed-requires-clause-room
-put_handed-requires-clause-room c =
-    rw c.in-Some.ensures.written (going_room c.args.dir c.args.bearer (waiting_in c.args.entity.now) (waiting_in c.loop-handed.entity) c.args.report.now c.loop-handed.report c.in-Some.handed c.loop-handed.unit c.loop-handed.invariant.going c.in-Some.ensures.first c.requires.room)
-
 pub loop-handed-preserved : goal.loop-handed-preserved
-loop-handed-preserved c = record {
-  going = going_step c.args.dir c.args.bearer (waiting_in c.args.entity.now) (waiting_in c.loop-handed.entity) (waiting_in c.next_unit.new.self) c.args.report.now c.loop-handed.report c.put_handed.new.report c.in-Some.handed c.loop-handed.unit c.next_unit.new.out
-      c.loop-handed.invariant.going c.in-Some.ensures.first c.in-Some.ensures.written c.in-Some.ensures.rest c.put_handed.ensures;
+loop-handed-preserved g c = record {
+  going = going_step g.U.Indications.shows c.args.dir c.args.bearer (waiting_in c.args.entity.now) (waiting_in c.loop-handed.entity) (waiting_in c.next_unit.new.self) c.args.user.now c.loop-handed.user c.tell_handed.new.user c.in-Some.handed c.loop-handed.unit c.next_unit.new.out
+      c.loop-handed.invariant.going c.in-Some.ensures.first c.in-Some.ensures.written c.in-Some.ensures.rest c.tell_handed.ensures;
   sizes = sizes_on c.args.entity.now c.loop-handed.entity c.next_unit.new.self c.loop-handed.invariant.sizes c.in-Some.ensures.sizes;
   history = λ rules e is. one_handed rules c.loop-handed.entity c.next_unit.new.self e (some_waits (waiting_in c.loop-handed.entity) c.in-Some.handed c.in-Some.ensures.first) c.in-Some.ensures.rest (c.loop-handed.invariant.history rules e is) (c.in-Some.ensures.stands rules);
 }
 
 pub returns-clause-history : goal.returns-clause-history
-returns-clause-history c rules e is =
+returns-clause-history g c rules e is =
     let none : handed_of (waiting_in c.loop-handed.entity) ≡ None = sym c.next_unit.ensures.first ∙ c.in_default.is in
     last_handed rules (size_of c.loop-handed.entity) c.loop-handed.entity c.next_unit.new.self e none (λ settled. none_waits rules c.loop-handed.entity e settled (c.loop-handed.invariant.history rules e is)) (c.next_unit.ensures.stands rules)

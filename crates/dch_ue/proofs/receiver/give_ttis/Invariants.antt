@@ -4,4 +4,4 @@ use Rattle.dch_ue.specs.Values.{readings_of}
 use Rattle.dch_ue.proofs.receiver.give_ttis.Given as goal
 
 abbrev pub invariant-loop-i : goal.invariant-loop-i
-invariant-loop-i l = HasRead l.accepted.config Down (readings_of l.ttis) l.i l.fn.layer l.layer l.fn.report l.report
+invariant-loop-i g l = HasRead g.U.Indications.shows l.accepted.config Down (readings_of l.ttis) l.i l.fn.layer l.layer l.fn.user l.user

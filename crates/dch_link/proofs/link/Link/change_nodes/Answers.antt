@@ -1,4 +1,4 @@
-use Rattle.std.proofs.Common.{◌≡◌, ◌∙◌, sym, subst}
+use Rattle.std.proofs.Common.{◌∙◌, sym, subst}
 use Rattle.dch_accept.specs.Reports.{step_bytes}
 use Rattle.dch_script.specs.Held.{Held as Text}
 use Rattle.dch_txframes.specs.Rooms.{HasRoomFor}

@@ -55,7 +55,7 @@ returns-clause-same c =
     let nodes : Nodes = the_view c.self.inside in
     let opened : IsLinkOf planned nodes = subst (λ (n : Nodes). IsLinkOf planned n) (sym c.self.view_is) c.requires.opened in
     let stepped = c.step.ensures.step planned opened.link.ue.state refl opened.stands.ue.stands in
-    went_on c.args.report.now c.step.new.report [] (subst (λ (o : Output). c.step.new.report.text ≡ c.args.report.now.text ++ text_of o.lines) stepped.step.1 stepped.reported) c.step.ensures.most ∙ sym (added-none c.args.report.now)
+    went_on c.args.report.now c.step.new.report [] (subst (λ (o : Output). c.step.new.report.text ≡ c.args.report.now.text ++ text_of o.lines) stepped.step.1 stepped.tells) c.step.ensures.most ∙ sym (added-none c.args.report.now)
 
 pub returns-clause-next : goal.returns-clause-next
 returns-clause-next c = λ second was.

@@ -19,8 +19,8 @@ give-requires-clause-room c =
     let opened : IsSoftOf planned parts = subst (λ (p : Parts). IsSoftOf planned p) (sym c.self.view_is) c.requires.opened in
     subst (λ (l : List ℕ). HoldsLongest planned.config c.args.set (length l)) (sym c.deref_mut.ensures.value) (opened.opened.room c.args.set c.requires.set)
 
-pub put_iub-requires-clause-few : goal.put_iub-requires-clause-few
-put_iub-requires-clause-few c =
+pub put_combined-requires-clause-few : goal.put_combined-requires-clause-few
+put_combined-requires-clause-few c =
     let config = c.args.accepted.now.config in
     let len = c.in-Some.len in
     let good : IsSide config.uplink.side = subst (λ (s : Side). IsSide s) c.side-side.ensures.value c.side-side.ensures.good in
@@ -51,8 +51,8 @@ returns-in-Some-clause-gives c = λ first soft was.
     let lent : c.deref.result.now ≡ c.give.new.out = c.deref.ensures.value ∙ front in
     let combined : IsCombinedFrame planned.config set (frames_of parts.combiner set) cfn frame =
     subst (λ (l : List ℕ). IsCombinedFrame planned.config set (frames_of parts.combiner set) cfn (take len l)) (sym lent) c.in-Some.ensures.gives.frame in
-    gives_frame planned first soft parts cfn set frame c.give.new.self (length (with_items c.self.inside.out c.give.new.out).items) c.step.new.self c.args.report.now c.put_iub.new.report c.step.new.report is combined c.give.ensures.empty
-    c.give.ensures.others c.put_iub.ensures.reported (c.step.ensures.step planned soft.rnc.state refl is.rnc.stands) c.step.ensures.most
+    gives_frame planned first soft parts cfn set frame c.give.new.self (length (with_items c.self.inside.out c.give.new.out).items) c.step.new.self c.args.report.now c.put_combined.new.report c.step.new.report is combined c.give.ensures.empty
+    c.give.ensures.others c.put_combined.ensures.reported (c.step.ensures.step planned soft.rnc.state refl is.rnc.stands) c.step.ensures.most
 
 pub returns-in_default-clause-opened : goal.returns-in_default-clause-opened
 returns-in_default-clause-opened c =

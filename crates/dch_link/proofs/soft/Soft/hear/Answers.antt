@@ -83,4 +83,4 @@ returns-clause-same c =
     let parts : Parts = the_view c.self.inside in
     let opened : IsSoftOf planned parts = subst (λ (p : Parts). IsSoftOf planned p) (sym c.self.view_is) c.requires.opened in
     let stepped = c.step.ensures.step planned opened.soft.ue.state refl opened.stands.ue.stands in
-    went_on c.args.report.now c.step.new.report [] (subst (λ (o : Output). c.step.new.report.text ≡ c.args.report.now.text ++ text_of o.lines) stepped.step.1 stepped.reported) c.step.ensures.most ∙ sym (added-none c.args.report.now)
+    went_on c.args.report.now c.step.new.report [] (subst (λ (o : Output). c.step.new.report.text ≡ c.args.report.now.text ++ text_of o.lines) stepped.step.1 stepped.tells) c.step.ensures.most ∙ sym (added-none c.args.report.now)

@@ -1,5 +1,6 @@
 use Rattle.std.proofs.Common.{refl, sym, subst, Option, None}
 use Rattle.std.specs.Prelude.{option_map}
+use Rattle.dch_node.specs.Standing.{AreNone}
 use Rattle.dch_nodeb.specs.Opened.{AreNew, CanChange, HasNext, IsNodeOf}
 use Rattle.dch_nodeb.specs.Standing.{Represents, Stepped}
 use Rattle.dch_nodeb.specs.State.{Change}
@@ -20,13 +21,13 @@ returns-in-Some-clause-opened c =
     (new_node c.args.accepted.now c.self.inside.cfn (parts_of c.in-Some.parts) None new)
 
 pub returns-in-Some-clause-step : goal.returns-in-Some-clause-step
-returns-in-Some-clause-step c = λ before state text next was.
+returns-in-Some-clause-step c = λ before state next was.
     let planned = c.args.accepted.now in
     let node : Node = the_view c.self.inside in
     let new : AreNew planned (parts_of c.in-Some.parts) =
     held_new before planned node c.self.inside.next c.take.result c.in-Some.parts (subst (λ (n : Node). HasNext before planned n) (sym c.self.view_is) next) refl c.take.ensures.value c.in-Some.is in
-    subst (λ (o : Option PartsHeld). Stepped planned state (Change planned) (node_of c.self.inside.cfn (parts_of c.in-Some.parts) (option_map parts_of o)) text text) (sym c.take.ensures.after)
-    (changes planned before state node (parts_of c.in-Some.parts) text new (subst (λ (n : Node). Represents before state n) (sym c.self.view_is) was))
+    subst (λ (o : Option PartsHeld). Stepped planned state (Change planned) (node_of c.self.inside.cfn (parts_of c.in-Some.parts) (option_map parts_of o)) AreNone) (sym c.take.ensures.after)
+    (changes planned before state node (parts_of c.in-Some.parts) new (subst (λ (n : Node). Represents before state n) (sym c.self.view_is) was))
 
 pub returns-in_default-clause-opened : goal.returns-in_default-clause-opened
 returns-in_default-clause-opened c =

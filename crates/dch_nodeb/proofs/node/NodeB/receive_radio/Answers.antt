@@ -1,6 +1,8 @@
-use Rattle.std.proofs.Common.{◌+◌, ◌∙◌, List, sym, subst}
+use Rattle.std.proofs.Common.{◌+◌, ◌∙◌, List, sym, subst, arith}
 use Rattle.std.specs.Prelude.{◌%◌}
 use Rattle.std.proofs.lemmas.List.{with_items_is}
+use Rattle.dch_node.specs.Lines.{joined}
+use Rattle.dch_node.specs.Standing.{Tells}
 use Rattle.dch_nodeb.specs.Standing.{NothingSent, Represents, Stepped}
 use Rattle.dch_txframes.specs.Lending.{radio_of}
 use Rattle.dch_nodeb.specs.State.{UplinkFrame}
@@ -11,10 +13,13 @@ use Rattle.dch_nodeb.proofs.Receiving.{received}
 use Rattle.dch_nodeb.proofs.node.NodeB.receive_radio.Goals as goal
 
 pub returns-clause-step : goal.returns-clause-step
-returns-clause-step c = λ state stands.
+returns-clause-step g c = λ state stands.
     subst (λ (tx_buffers : List IubTxBuffer). Stepped c.args.accepted.now state (UplinkFrame (radio_of c.args.frame))
-    (record (the_view c.self.inside) { cfn = (c.self.inside.cfn + 1) % 256; receiver = c.receive.new.receiver; tx_buffers = tx_buffers }) c.args.report.now.text c.receive.new.report.text)
+    (record (the_view c.self.inside) { cfn = (c.self.inside.cfn + 1) % 256; receiver = c.receive.new.receiver; tx_buffers = tx_buffers }) (Tells g.U.Indications.shows c.args.user.now c.receive.new.user))
     (sym (with_items_is c.self.inside.parts.tx_buffers c.receive.new.tx_buffers (c.receive.auto.tx_buffers ∙ c.deref_mut.ensures.len)))
-    (received c.args.accepted.now state (the_view c.self.inside) (radio_of c.args.frame) c.receive.new.tx_buffers c.receive.new.receiver c.args.report.now c.receive.new.report
+    (received g.U.Indications.shows c.args.accepted.now state (the_view c.self.inside) (radio_of c.args.frame) c.receive.new.tx_buffers c.receive.new.receiver c.args.user.now c.receive.new.user
     (subst (λ (n : Node). NothingSent n) (sym c.self.view_is) c.requires.quiet) c.receive.ensures
     (subst (λ (n : Node). Represents c.args.accepted.now state n) (sym c.self.view_is) stands))
+
+pub returns-clause-few : goal.returns-clause-few
+returns-clause-few g c = record { lines = joined c.receive.ensures.served.lines 8; told = c.receive.ensures.served.told; few = omega (arith, c.receive.ensures.served.few) }

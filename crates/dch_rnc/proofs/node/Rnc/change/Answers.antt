@@ -1,6 +1,7 @@
 use Rattle.std.proofs.Common.{refl, sym, subst, Option}
 use Rattle.std.specs.Prelude.{option_map}
 use Rattle.dch_layer2.specs.Changing.{IsNextLayer}
+use Rattle.dch_node.specs.Standing.{AreNone}
 use Rattle.dch_rnc.specs.Opened.{CanChange, HasNext, IsNext, IsNodeOf}
 use Rattle.dch_rnc.specs.Standing.{IsAt, NothingShown, Stepped}
 use Rattle.dch_rnc.specs.State.{Change}
@@ -35,15 +36,15 @@ returns-in-Some-clause-opened c =
     (changed_is can.first planned (the_view c.self.inside) c.change.new.self (parts_of c.in-Some.next.parts) can.opened can.next.kept c.change.ensures.ends c.change.ensures.stands next.parts))
 
 pub returns-in-Some-clause-step : goal.returns-in-Some-clause-step
-returns-in-Some-clause-step c = λ before state text was at.
+returns-in-Some-clause-step c = λ before state was at.
     let planned = c.args.accepted.now in
     let node : Node = the_view c.self.inside in
     let can : CanChange planned node = subst (λ (n : Node). CanChange planned n) (sym c.self.view_is) c.requires.opened in
     let has : HasNext before planned node = subst (λ (n : Node). HasNext before planned n) (sym c.self.view_is) was in
     let next : IsNext planned (next_of c.in-Some.next) = held_new before planned node c.self.inside.next c.take.result c.in-Some.next has refl c.take.ensures.value c.in-Some.is in
-    subst (λ (p : PartsHeld). Stepped planned state (Change planned) (node_of c.self.inside.cfn c.change.new.self c.self.inside.read (parts_of p) (option_map next_of c.take.new.self)) text text) (sym c.swap.ensures.x_after)
-    (subst (λ (o : Option NextHeld). Stepped planned state (Change planned) (node_of c.self.inside.cfn c.change.new.self c.self.inside.read (parts_of c.in-Some.next.parts) (option_map next_of o)) text text) (sym c.take.ensures.after)
-    (changes before planned state node c.change.new.self (parts_of c.in-Some.next.parts) text (subst (λ (n : Node). NothingShown n) (sym c.self.view_is) c.requires.quiet)
+    subst (λ (p : PartsHeld). Stepped planned state (Change planned) (node_of c.self.inside.cfn c.change.new.self c.self.inside.read (parts_of p) (option_map next_of c.take.new.self)) AreNone) (sym c.swap.ensures.x_after)
+    (subst (λ (o : Option NextHeld). Stepped planned state (Change planned) (node_of c.self.inside.cfn c.change.new.self c.self.inside.read (parts_of c.in-Some.next.parts) (option_map next_of o)) AreNone) (sym c.take.ensures.after)
+    (changes before planned state node c.change.new.self (parts_of c.in-Some.next.parts) (subst (λ (n : Node). NothingShown n) (sym c.self.view_is) c.requires.quiet)
     (subst (λ (n : Node). IsAt before state n) (sym c.self.view_is) at) can.opened.sends has.kept c.change.ensures.stands next.parts))
 
 pub returns-in_default-clause-opened : goal.returns-in_default-clause-opened

@@ -8,22 +8,22 @@ use Rattle.dch_rnc.proofs.Staying.{offered_layer, still_layer}
 use Rattle.dch_rnc.proofs.node.Rnc.offer.Goals as goal
 
 pub offer-answer-requires : goal.offer-answer-requires
-offer-answer-requires c =
+offer-answer-requires g c =
     let opened : IsNodeOf c.args.accepted.now (the_view c.self.inside) = subst (λ (n : Node). IsNodeOf c.args.accepted.now n) (sym c.self.view_is) c.requires.opened in
     can_offer c.args.accepted.now (the_view c.self.inside) c.args.bearer opened c.requires.bearer
 
 pub returns-clause-step : goal.returns-clause-step
-returns-clause-step c = λ state stands.
+returns-clause-step g c = λ state stands.
     let planned = c.args.accepted.now in
     let node : Node = the_view c.self.inside in
     let opened : IsNodeOf planned node = subst (λ (n : Node). IsNodeOf planned n) (sym c.self.view_is) c.requires.opened in
     let at : IsAt planned state node = subst (λ (n : Node). IsAt planned state n) (sym c.self.view_is) stands in
-    offered planned state node c.offer-answer.new.self c.args.bearer c.args.octets.now c.args.bits.now c.offer-answer.result c.args.report.now c.put_answer.new.report
+    offered g.U.Indications.shows planned state node c.offer-answer.new.self c.args.bearer c.args.octets.now c.args.bits.now c.offer-answer.result c.args.user.now c.tell_answer.new.user
     (subst (λ (n : Node). NothingShown n) (sym c.self.view_is) c.requires.quiet) at opened.sends
-    (c.offer-answer.ensures.answer planned.config state.layer at.layer c.requires.bearer.there) (c.offer-answer.ensures.stands planned.config state.layer at.layer) c.put_answer.ensures.reported
+    (c.offer-answer.ensures.answer planned.config state.layer at.layer c.requires.bearer.there) (c.offer-answer.ensures.stands planned.config state.layer at.layer) c.tell_answer.ensures.shown
 
 pub returns-clause-opened : goal.returns-clause-opened
-returns-clause-opened c =
+returns-clause-opened g c =
     let planned = c.args.accepted.now in
     let node : Node = the_view c.self.inside in
     let opened : IsNodeOf planned node = subst (λ (n : Node). IsNodeOf planned n) (sym c.self.view_is) c.requires.opened in

@@ -12,11 +12,11 @@ block-requires c =
     listed c.args.accepted.now (the_view c.self.inside) c.args.combination (subst (λ (n : Node). IsNodeOf c.args.accepted.now n) (sym c.self.view_is) c.requires.opened) c.requires.combination
 
 pub returns-clause-step : goal.returns-clause-step
-returns-clause-step c = λ state text stands.
+returns-clause-step c = λ state stands.
     let planned = c.args.accepted.now in
     let node : Node = the_view c.self.inside in
     let at : IsAt planned state node = subst (λ (n : Node). IsAt planned state n) (sym c.self.view_is) stands in
-    blocked_now planned state node c.block.new.self c.args.combination c.args.on text (subst (λ (n : Node). NothingShown n) (sym c.self.view_is) c.requires.quiet) at
+    blocked_now planned state node c.block.new.self c.args.combination c.args.on (subst (λ (n : Node). NothingShown n) (sym c.self.view_is) c.requires.quiet) at
     (c.block.ensures.stands planned.config state.layer at.layer)
 
 pub returns-clause-opened : goal.returns-clause-opened

@@ -1,6 +1,7 @@
 use Rattle.std.proofs.Common.{◌∙◌, Some, ap, sym, subst}
 use Rattle.dch_types.specs.declared.channel.Side.{Side}
 use Rattle.dch_types.specs.Limits.{IsSide}
+use Rattle.dch_node.specs.Standing.{AreNone}
 use Rattle.dch_ue.specs.Opened.{CanChange, HasNext, IsNodeOf}
 use Rattle.dch_ue.specs.Standing.{IsAt, Stepped}
 use Rattle.dch_ue.specs.State.{Change}
@@ -28,12 +29,12 @@ returns-in-Some-clause-opened c =
     (sym c.take.ensures.value ∙ (c.in-Some.is ∙ ap (λ (x : NextParts). Some x) (sym c.next.view_is))) c.change.ensures.stands c.change.ensures.ends)
 
 pub returns-in-Some-clause-step : goal.returns-in-Some-clause-step
-returns-in-Some-clause-step c = λ before state text has at.
+returns-in-Some-clause-step c = λ before state has at.
     let planned = c.args.accepted.now in
     let node : Node = the_view c.self.inside in
     let parts : NextParts = next_view c.next.inside in
-    changed_as (λ (n : Node). Stepped planned state (Change planned) n text text) node c.change.new.self parts c.swap-in-Some.new.x c.swap.new.x c.take.new.self c.swap-in-Some.ensures.x_after c.swap.ensures.x_after c.take.ensures.after
-    (changed_now planned before state node c.change.new.self parts text (subst (λ (side : Side). IsSide side) c.side-side.ensures.value c.side-side.ensures.good) (subst (λ (n : Node). CanChange planned n) (sym c.self.view_is) c.requires)
+    changed_as (λ (n : Node). Stepped planned state (Change planned) n AreNone) node c.change.new.self parts c.swap-in-Some.new.x c.swap.new.x c.take.new.self c.swap-in-Some.ensures.x_after c.swap.ensures.x_after c.take.ensures.after
+    (changed_now planned before state node c.change.new.self parts (subst (λ (side : Side). IsSide side) c.side-side.ensures.value c.side-side.ensures.good) (subst (λ (n : Node). CanChange planned n) (sym c.self.view_is) c.requires)
     (sym c.take.ensures.value ∙ (c.in-Some.is ∙ ap (λ (x : NextParts). Some x) (sym c.next.view_is))) c.change.ensures.stands (subst (λ (n : Node). HasNext before planned n) (sym c.self.view_is) has) (subst (λ (n : Node). IsAt before state n) (sym c.self.view_is) at))
 
 pub returns-in_default : goal.returns-in_default

@@ -19,7 +19,7 @@ returns-clause-opened c =
     still_came planned node c.push.new.self opened c.push.ensures.opened c.push.ensures.hears.last
 
 pub returns-clause-step : goal.returns-clause-step
-returns-clause-step c = λ state text stands.
+returns-clause-step c = λ state stands.
     let planned = c.args.accepted.now in
     let node : Node = the_view c.self.inside in
-    came planned state node c.push.new.self (radio_of c.args.frame) text (subst (λ (n : Node). NothingShown n) (sym c.self.view_is) c.requires.quiet) (subst (λ (n : Node). IsAt planned state n) (sym c.self.view_is) stands) c.push.ensures
+    came planned state node c.push.new.self (radio_of c.args.frame) (subst (λ (n : Node). NothingShown n) (sym c.self.view_is) c.requires.quiet) (subst (λ (n : Node). IsAt planned state n) (sym c.self.view_is) stands) c.push.ensures

@@ -1,0 +1,7 @@
+use Rattle.dch_script.specs.Report.{phy_text}
+use Rattle.dch_script.proofs.Putting.{puts_next}
+use Rattle.dch_script.proofs.report.Report.add_phy.Goals as goal
+
+pub returns : goal.returns
+unfolding phy_text
+returns c = puts_next (puts_next (puts_next (puts_next (puts_next c.add.ensures c.add_dir.ensures) c.add-2.ensures) c.add_bits.ensures) c.add-3.ensures) c.add_cells.ensures

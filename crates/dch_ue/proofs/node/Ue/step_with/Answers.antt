@@ -1,0 +1,9 @@
+use Rattle.dch_node.specs.Standing.{Tells}
+use Rattle.dch_ue.specs.Standing.{event_of}
+use Rattle.dch_ue.proofs.Going.{went_on}
+use Rattle.dch_ue.proofs.node.Ue.step_with.Goals as goal
+
+pub returns-clause-history : goal.returns-clause-history
+returns-clause-history g c = λ began before first events lines active was.
+    went_on began before c.args.accepted.now c.args.self.now c.happen.new.self (event_of c.args.accepted.now c.args.event) (Tells g.U.Indications.shows c.args.user.now c.happen.new.user) first events lines was
+    (λ state stands. c.happen.ensures.step before state active stands)
