@@ -1,5 +1,6 @@
-//! What holds of two ends of a bearer in acknowledged mode (TS 25.322 11.3), whatever is offered, built, lost and delivered, and where no block is lost,
-//! and how many bytes of report a receiver leads to at most. Definitions and laws, no code.
+//! Laws on two ends of an acknowledged-mode bearer (TS 25.322 11.3): whatever is offered, built, lost and delivered;
+//! where no block is lost; and how many bytes of report can come of what a receiver holds. Definitions and laws, no
+//! code.
 #![tactic(auto)]
 
 mod bound_laws;

@@ -1,4 +1,5 @@
-//! Tests of the bits, codes and rate matching, and of inputs, outputs and lines: their public calls over values from outside. A crate with tests is proved twice, so they stand here together.
+//! Tests of bits, codes and rate matching, and of inputs, outputs and lines: their public calls over values from
+//! outside. A crate with tests is proved twice, so they stand here together.
 #![tactic(auto)]
 
 #[cfg(test)]

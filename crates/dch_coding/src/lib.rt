@@ -7,7 +7,7 @@ mod memory;
 mod room;
 mod tti;
 
-pub use block::{BlockCoder, CODED};
+pub use block::BlockCoder;
 pub use chain::code;
 pub use room::CodingRoom;
 pub use tti::TtiCoder;

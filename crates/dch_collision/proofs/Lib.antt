@@ -15,10 +15,10 @@ pub mod Under
 pub mod Flags
 pub mod Punctured
 pub mod Removed
-pub mod SentSizes
+pub mod FrameSizes
 pub mod Chains
 pub mod Filling
 pub mod Following
-pub mod SequenceOrder
-pub mod SequenceVisits
+pub mod NextSequences
+pub mod EachSequence
 pub mod Ways

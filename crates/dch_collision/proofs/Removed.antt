@@ -29,7 +29,7 @@ use Rattle.dch_collision.specs.Copies.{frame_size, bits_in, padded_in, frame_cop
 use Rattle.dch_collision.specs.Counted.{removes, removes_below, punctures_below, uplink_punctures, downlink_punctures}
 use Rattle.dch_collision.specs.Removed.{IsPunctured}
 use Rattle.dch_collision.proofs.Punctured.{fewer-punctures}
-use Rattle.dch_collision.proofs.SentSizes.{some_frames}
+use Rattle.dch_collision.proofs.FrameSizes.{some_frames}
 
 -- a bit that has no copy among the first n
 record Removal (kind : Kind) (n : ℕ) : Type 0 where

@@ -19,7 +19,7 @@ use Rattle.dch_coding.proofs.Rooms.{searched_is}
 use Rattle.dch_coding.specs.Rooms.{Holds, format_room}
 use Rattle.dch_coding.specs.declared.room.CodingRoom.{CodingRoom}
 use Rattle.dch_collision.specs.Copies.{bits_in, padded_in}
-use Rattle.dch_collision.proofs.SentSizes.{some_frames}
+use Rattle.dch_collision.proofs.FrameSizes.{some_frames}
 use Rattle.dch_collision.specs.declared.shape.Shape.{Shape}
 use Rattle.dch_collision.specs.Clear.{joined_in}
 use Rattle.dch_collision.specs.Shapes.{Fits, IsShape}

@@ -9,7 +9,7 @@ use Rattle.dch_types.specs.Limits.{IsDownlink, IsSide, IsUplink}
 use Rattle.dch_types.specs.Parts.{channel_at}
 use Rattle.dch_types.specs.Sums.{total}
 use Rattle.dch_types.proofs.Sums.{part_le}
-use Rattle.dch_collision.specs.LegalCounted.{how_many, is_legal, legal_count}
+use Rattle.dch_collision.specs.SequenceCounts.{how_many, is_legal, legal_count}
 use Rattle.dch_collision.specs.Sequences.{IsLegal}
 use Rattle.dch_collision.proofs.Ways.{tells_legal}
 use Rattle.dch_collision.specs.Copies.{downlink_copies, uplink_copies}

@@ -26,7 +26,7 @@ use Rattle.dch_match.specs.Downlinks.{pattern_of, stands_below}
 use Rattle.dch_collision.specs.Sequences.{IsLegal}
 use Rattle.dch_collision.specs.Copies.{frame_size, bits_in, padded_in, frame_copies, uplink_copies, downlink_copies}
 use Rattle.dch_collision.specs.Counted.{removes, removes_below, uplink_punctures, punctures_below, downlink_punctures}
-use Rattle.dch_collision.proofs.SentSizes.{some_frames}
+use Rattle.dch_collision.proofs.FrameSizes.{some_frames}
 use Rattle.dch_collision.specs.Clear.{block_copies, joined_in, IsClearFormat}
 use Rattle.dch_collision.proofs.Whole.{whole_none}
 

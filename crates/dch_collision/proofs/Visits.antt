@@ -3,7 +3,7 @@ use Rattle.std.proofs.Common.{◌<◌, ◌-◌, ℕ, List, arith, sym, subst, �
 use Rattle.dch_types.specs.declared.channel.Side.{Side}
 use Rattle.dch_types.specs.Limits.{IsSide}
 use Rattle.dch_collision.specs.Sequences.{IsLegal, IsBefore, IsFirst, IsNext}
-use Rattle.dch_collision.proofs.SequenceVisits.{compared}
+use Rattle.dch_collision.proofs.EachSequence.{compared}
 use Rattle.dch_collision.specs.Clear.{Copies, IsClearUnder, IsClearFormat}
 use Rattle.dch_collision.proofs.Order.{power, value, rest_falls}
 

@@ -9,7 +9,7 @@ use Rattle.dch_types.specs.Sums.{total}
 use Rattle.dch_types.proofs.Sums.{total_none, total_small, total_same}
 use Rattle.dch_collision.specs.Sequences.{frames_of}
 use Rattle.dch_collision.specs.Steps.{fits, previous_of}
-use Rattle.dch_collision.specs.LegalCounted.{how_many, goes_on, TellsLegal, ways_on, ways_with, legal_count}
+use Rattle.dch_collision.specs.SequenceCounts.{how_many, goes_on, TellsLegal, ways_on, ways_with, legal_count}
 use Rattle.dch_collision.proofs.Chains.{chain_legal, legal_chain, few_frames}
 
 -- no list passes a test that none passes

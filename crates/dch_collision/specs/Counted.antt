@@ -10,7 +10,7 @@ use Rattle.dch_match.specs.Patterns.{copies}
 use Rattle.dch_match.specs.Uplinks.{before_of, sent_of}
 use Rattle.dch_match.specs.Downlinks.{pattern_of, stands_below}
 use Rattle.dch_types.specs.Sums.{total}
-use Rattle.dch_collision.specs.LegalCounted.{legal_count}
+use Rattle.dch_collision.specs.SequenceCounts.{legal_count}
 use Rattle.dch_collision.specs.Copies.{frame_size, bits_in}
 
 -- the code blocks of channel i in format f

@@ -8,6 +8,6 @@ pub mod Copies
 pub mod Counted
 pub mod Plans
 pub mod Removed
-pub mod LegalCounted
+pub mod SequenceCounts
 pub mod Sequences
 pub mod Steps

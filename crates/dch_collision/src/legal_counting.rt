@@ -1,7 +1,7 @@
 ghost use Rattle.std.specs.Prelude.{◌≡◌, ◌<◌, ◌≤◌, ◌+◌, ◌^◌, ℕ, length, slice_index};
 ghost use Rattle.dch_types.specs.Limits.{IsSide};
 ghost use Rattle.dch_collision.specs.Sequences.{frames_of};
-ghost use Rattle.dch_collision.specs.LegalCounted.{legal_count, TellsLegal, AreWays, ways_on};
+ghost use Rattle.dch_collision.specs.SequenceCounts.{legal_count, TellsLegal, AreWays, ways_on};
 
 use crate::fitting::{fits, frames};
 use dch_types::Side;

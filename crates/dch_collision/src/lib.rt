@@ -25,8 +25,6 @@ mod votes;
 pub use collider::Collider;
 pub use counting::count;
 pub use direction::Direction;
-pub use flagging::{downlink_sent_flags, uplink_sent_flags};
 pub use found::Found;
 pub use laws::counted_formats;
-pub use puncturing::{downlink_punctures, uplink_punctures};
 pub use search::Search;

@@ -11,7 +11,7 @@ pub mod Places
 pub mod FewPunctured
 pub mod Clear
 pub mod Never
-pub mod GenSends
+pub mod SendingBearers
 pub mod Runs
 pub mod Counted
 pub mod Sizes

@@ -1,5 +1,5 @@
-//! The command gen: a configuration of its own, which is accepted; three nodes that run together through a script of the program's own, in which
-//! units are offered to six bearers in both directions; and a summary of what they report.
+//! The command `gen`: a configuration of the program's own, three nodes that run while units are offered to six bearers
+//! in both directions, and a summary of what they report.
 #![tactic(auto)]
 
 mod accepting;

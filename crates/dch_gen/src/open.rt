@@ -8,7 +8,7 @@ use dch_bits::NoMemory;
 use std::alloc::Global;
 
 /// Opens three nodes for the configuration of `gen`. The first radio frame has this CFN.
-#[tactic(auto, using(crate::proofs::GenSends::gen_sends))]
+#[tactic(auto, using(crate::proofs::SendingBearers::gen_sends))]
 pub fn open_gen(alloc: Global, first_cfn: u8) -> Result<Generator, NoMemory>
     requires cfn { first_cfn % 8 ≡ 0 }
     ensures ready { IfOk result IsReady }

@@ -25,7 +25,7 @@ use Rattle.dch_layer2.specs.Bearings.{Acknowledged, Bearing, Transparent, Unackn
 use Rattle.dch_layer2.specs.Building.{Gives}
 use Rattle.dch_layer2.specs.Starting.{blocks_for, in_turn, is_on, joined}
 use Rattle.dch_layer2.proofs.Good.{am_fits, um_fits}
-use Rattle.dch_layer2.proofs.BoundBlocks.{side_good}
+use Rattle.dch_layer2.proofs.PduSizes.{side_good}
 use Rattle.dch_layer2.specs.BearerStanding.{Represents as StandsFor}
 use Rattle.dch_layer2.specs.declared.bearer.Bearer.{Bearer}
 use Rattle.dch_layer2.specs.declared.bearer.Bearer.TheVariants.{Tm, Um, Am}

@@ -16,7 +16,7 @@ use Rattle.dch_layer2.proofs.Good.{AreFilled, am_fits, no_field, um_fits}
 use Rattle.dch_layer2.specs.BearerStanding.{CanTake, MayCome, Represents as StandsFor}
 use Rattle.dch_layer2.specs.declared.bearer.Bearer.{Bearer}
 use Rattle.dch_layer2.specs.declared.bearer.Bearer.TheVariants.{Tm, Um, Am}
-use Rattle.dch_layer2.proofs.BoundBlocks.{IsReached, one_long, sent_size}
+use Rattle.dch_layer2.proofs.PduSizes.{IsReached, one_long, sent_size}
 use Rattle.dch_layer2.specs.Coming.{IsBlockSize}
 use Rattle.dch_layer2.specs.Standing.{IsLayerOf}
 use Rattle.dch_layer2.specs.Values.{LayerRunning, entity_at}

@@ -23,13 +23,13 @@ use Rattle.dch_layer2.specs.Bearings.{Acknowledged, Bearing, Transparent, Unackn
 use Rattle.dch_layer2.specs.Hearing.{hears}
 use Rattle.dch_layer2.specs.Layers.{Came, Layer, Outcome, blocks, changed_layer, goes, offers, opened_layer, takes, takes_good, takes_one, ticks, with_bearing}
 use Rattle.dch_layer2.specs.Starting.{IsStart, asked_in, count_on}
-use Rattle.dch_layer2.proofs.StateChanging.{kept_rules}
-use Rattle.dch_layer2.specs.BoundedBytes.{AreBounded, IsBounded}
+use Rattle.dch_layer2.proofs.KeptBearings.{kept_rules}
+use Rattle.dch_layer2.specs.BoundedBearers.{AreBounded, IsBounded}
 use Rattle.dch_layer2.specs.Bytes.{bearing_bytes, layer_bytes}
-use Rattle.dch_layer2.specs.ComingBytes.{AreBlocks, IsBlock}
+use Rattle.dch_layer2.specs.FormatBlocks.{AreBlocks, IsBlock}
 use Rattle.dch_layer2.specs.Few.{IsShort}
-use Rattle.dch_layer2.proofs.BoundBearings.{HoldsAsMuch, IsPaid, answer_holds, bearing_few, bits_paid, give_holds, opened_bounded, opened_bytes, tick_holds}
-use Rattle.dch_layer2.proofs.BoundBlocks.{IsReached, channel_small, logical_small, may_come, reached}
+use Rattle.dch_layer2.proofs.BearingBytes.{HoldsAsMuch, IsPaid, answer_holds, bearing_few, bits_paid, give_holds, opened_bounded, opened_bytes, tick_holds}
+use Rattle.dch_layer2.proofs.PduSizes.{IsReached, channel_small, logical_small, may_come, reached}
 use Rattle.dch_layer2.proofs.Texts.{short_line, text_long}
 
 -- the layer holds as much as before, and stays limited

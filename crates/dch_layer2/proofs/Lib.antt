@@ -18,7 +18,7 @@ pub mod GoingOn
 pub mod Octets
 pub mod Counting
 pub mod Good
-pub mod StateChanging
+pub mod KeptBearings
 pub mod Blocks
 pub mod Lines
 pub mod Small
@@ -27,9 +27,9 @@ pub mod AmSides
 pub mod Bearings
 pub mod Formats
 pub mod Fitting
-pub mod BearerChanging
+pub mod KeptBearers
 pub mod Texts
 pub mod UmReceivers
-pub mod BoundBearings
-pub mod BoundBlocks
+pub mod BearingBytes
+pub mod PduSizes
 pub mod Layers

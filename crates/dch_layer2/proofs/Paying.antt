@@ -16,9 +16,9 @@ use Rattle.dch_indication.specs.Told.{Told}
 use Rattle.dch_indication.proofs.Telling.{told-append}
 use Rattle.dch_script.specs.LineText.{text_of}
 use Rattle.dch_layer2.specs.Layers.{Came, Layer, Outcome, takes}
-use Rattle.dch_layer2.specs.BoundedBytes.{AreBounded}
-use Rattle.dch_layer2.specs.ComingBytes.{AreBlocks, IsBlock}
-use Rattle.dch_layer2.proofs.BoundBlocks.{side_good}
+use Rattle.dch_layer2.specs.BoundedBearers.{AreBounded}
+use Rattle.dch_layer2.specs.FormatBlocks.{AreBlocks, IsBlock}
+use Rattle.dch_layer2.proofs.PduSizes.{side_good}
 use Rattle.dch_layer2.proofs.Layers.{IsTaken, all_taken, layer_few, none_told, of_both, of_more, short_told}
 use Rattle.dch_layer2.specs.Bounded.{HasLayer, HasRead, IsTti}
 use Rattle.dch_layer2.specs.Coming.{came_at, came_below, came_of}

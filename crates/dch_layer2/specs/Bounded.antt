@@ -7,7 +7,7 @@ use Rattle.dch_accept.specs.HeldSets.{HasFormat}
 use Rattle.dch_indication.specs.Lines.{Line}
 use Rattle.dch_indication.specs.Told.{Told}
 use Rattle.dch_layer2.specs.Layers.{Layer}
-use Rattle.dch_layer2.specs.BoundedBytes.{AreBounded}
+use Rattle.dch_layer2.specs.BoundedBearers.{AreBounded}
 use Rattle.dch_layer2.specs.Reading.{Bad, Nothing, Read, Reading, reads_below}
 use Rattle.dch_layer2.specs.Standing.{IsSameEnd, Represents}
 use Rattle.dch_layer2.specs.Values.{LayerRunning}

@@ -21,6 +21,6 @@ pub mod BearerValues
 pub mod Acknowledged
 pub mod BearerStanding
 pub mod Bytes
-pub mod ComingBytes
-pub mod BoundedBytes
+pub mod FormatBlocks
+pub mod BoundedBearers
 pub mod Few

@@ -1,5 +1,6 @@
-//! Layer 2 of an end of a dedicated channel: all bearers' RLC and MAC-d above the transport blocks (TS 25.322, TS 25.321). What it keeps and does, as
-//! definitions; one bearer in its mode, between units and transport blocks; all bearers, and the choice of a combination; and how much it reports.
+//! Layer 2 of an end of a dedicated channel, RLC and MAC-d above the transport blocks (TS 25.322, TS 25.321): a bearer
+//! in its mode, between SDUs and blocks; all bearers, with the choice of a combination where TTIs start; and how much
+//! is told of it at most.
 #![tactic(auto)]
 
 mod am;
@@ -19,12 +20,7 @@ mod telling;
 mod tm;
 mod um;
 
-pub use am::AmBearer;
-pub use bearer::Bearer;
 pub use bound_laws::{bounded_law, few_law, report_law, still_law};
 pub use changing::NextLayer;
 pub use laws::{block_law, count_law};
 pub use layer::Layer2;
-pub use shape::Shape;
-pub use tm::TmBearer;
-pub use um::UmBearer;

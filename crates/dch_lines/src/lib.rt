@@ -1,4 +1,5 @@
-//! The lines of an input, followed one after another by the handler of a command, and the texts of a line, read as octets, bits and cells.
+//! The lines of an input, handed one by one to the handler of a command, which answers in a report; and the octets,
+//! bits and cells that a line shows.
 #![tactic(auto)]
 
 mod handler;
@@ -12,8 +13,6 @@ mod stop;
 
 pub use handler::LineHandler;
 pub use input::follow_input;
-pub use line_texts::{
-    CELLS, OCTETS, UNIT_BITS, read_bits, read_cells, read_octets, read_tfci, read_unit,
-};
+pub use line_texts::{CELLS, OCTETS, UNIT_BITS, read_cells, read_octets, read_tfci, read_unit};
 pub use processor::LineProcessor;
 pub use stop::{LineFault, Outcome};

@@ -1,5 +1,5 @@
-//! Nodes together, one radio frame of 10 ms after another through all of them, with damage between them: the terminal, the Node B and the network
-//! controller; and in soft handover the terminal, one to six Node Bs, each the end of a leg, and the network controller.
+//! Nodes together, one radio frame of 10 ms after another, with damage to the frames between them: the terminal, the
+//! Node B and the network controller; and in soft handover one to six Node Bs in place of the one.
 #![tactic(auto)]
 
 mod check;

@@ -1,5 +1,5 @@
-//! The commands link and soft: what their lines say to three nodes that run together and to the nodes of a soft handover, and their radio frames stage
-//! by stage.
+//! The commands `link` and `soft`: what their lines say to nodes that run together, and their radio frames stage by
+//! stage.
 #![tactic(auto)]
 
 mod filter;

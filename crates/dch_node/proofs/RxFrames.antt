@@ -4,7 +4,7 @@ use Rattle.dch_types.specs.declared.channel.Dir.{Dir}
 use Rattle.dch_accept.specs.Plans.{Planned}
 use Rattle.dch_tti.specs.RxFrames.{RxFrame, RxFrames, rx_frame_at}
 use Rattle.dch_tti.proofs.Alike.{KeepTheSame}
-use Rattle.dch_tti.proofs.OneKept.{kept_one}
+use Rattle.dch_tti.proofs.OneReading.{kept_one}
 use Rattle.dch_node.specs.RxFrames.{AreHeard, KeepsRadio}
 use Rattle.dch_node.specs.Values.{Radio}
 

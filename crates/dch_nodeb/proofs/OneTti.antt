@@ -11,7 +11,7 @@ use Rattle.dch_accept.specs.Plans.{Planned}
 use Rattle.dch_tti.specs.Formats.{IsBadFrame}
 use Rattle.dch_tti.specs.RxFrames.{RxFrames}
 use Rattle.dch_tti.proofs.Alike.{KeepTheSame, bad_alike, format_alike}
-use Rattle.dch_tti.proofs.OneKept.{format_one}
+use Rattle.dch_tti.proofs.OneReading.{format_one}
 use Rattle.dch_tti.proofs.Sent.{none_bad}
 use Rattle.dch_ulphy.proofs.Alike.{read_alike}
 use Rattle.dch_ulphy.proofs.One.{read_one}

@@ -1,5 +1,5 @@
-//! The commands with one node, `nodeb`, `rnc` and `ue`: what they share, as each line is one event of the node, with what is shown of its text, and what
-//! each of their lines says to the Node B, to the network controller and to the terminal.
+//! The commands with one node, `nodeb`, `rnc` and `ue`. They share a handler, for which each line is one event of the
+//! node; a module for each node says what its lines mean.
 #![tactic(auto)]
 
 mod handler;
@@ -20,7 +20,7 @@ mod ue_reading;
 pub use dch_nodeb::NodeB;
 pub use dch_rnc;
 pub use dch_ue;
-pub use handler::{MOST_TEXT, NodeHandler};
+pub use handler::NodeHandler;
 pub use later::Later;
 pub use laws::no_trace_law;
 pub use node::CommandNode;

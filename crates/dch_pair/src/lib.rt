@@ -1,5 +1,5 @@
-//! An entity of RLC acknowledged mode (TS 25.322 4.2.1.3), which is its sending side and its receiving side with the PDUs that go and come, and two
-//! of them that run, with the blocks in flight between them (TS 25.322 11.3).
+//! An entity of the acknowledged mode (TS 25.322 4.2.1.3), made of its sending and its receiving side, and two entities
+//! with the blocks in flight between them (TS 25.322 11.3).
 #![tactic(auto)]
 
 mod answers;

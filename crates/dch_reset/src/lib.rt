@@ -1,6 +1,6 @@
-//! Bearers in acknowledged mode that can be reset (TS 25.322 11.4): one end, which is an entity with the RESETs that it sends and those that it
-//! answers; two ends that run, with the blocks in flight between them; and what holds of two ends whatever is offered, built, lost and delivered,
-//! and however often they are reset.
+//! The acknowledged mode with RLC reset (TS 25.322 11.4): an end, which sends RESETs and answers them; two ends with
+//! the blocks in flight between them; and a law on every history of two ends, whatever is offered, built, lost and
+//! delivered, and however often they are reset.
 #![tactic(auto)]
 
 mod answers;

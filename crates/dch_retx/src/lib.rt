@@ -11,5 +11,5 @@ mod request_set;
 mod sent_pdu;
 mod tell;
 
-pub use buffer::{Pick, RetxBuffer, Running};
+pub use buffer::{Pick, RetxBuffer};
 pub use sent_pdu::{Extent, SentPdu};

@@ -24,8 +24,8 @@ use Rattle.dch_node.proofs.Reporting.{few_of}
 use Rattle.dch_txframes.proofs.Lengths.{frame_octets-le}
 use Rattle.dch_txframes.proofs.Texts.{iub_line, pair_line}
 use Rattle.dch_layer2.specs.Layers.{Layer}
-use Rattle.dch_layer2.specs.BoundedBytes.{AreBounded}
-use Rattle.dch_layer2.proofs.BoundBlocks.{side_good}
+use Rattle.dch_layer2.specs.BoundedBearers.{AreBounded}
+use Rattle.dch_layer2.proofs.PduSizes.{side_good}
 use Rattle.dch_layer2.proofs.Layers.{offer_line}
 use Rattle.dch_layer2.specs.Bounded.{IsTti}
 use Rattle.dch_layer2.specs.Reading.{Nothing, Read, Reading}

@@ -9,7 +9,7 @@ use Rattle.dch_accept.specs.Plans.{Planned}
 use Rattle.dch_accept.specs.Reports.{step_bytes}
 use Rattle.dch_indication.specs.Lines.{Line}
 use Rattle.dch_script.specs.LineText.{text_of}
-use Rattle.dch_layer2.specs.BoundedBytes.{AreBounded}
+use Rattle.dch_layer2.specs.BoundedBearers.{AreBounded}
 use Rattle.dch_layer2.specs.Layers.{Layer, blocks, offers, ticks}
 use Rattle.dch_layer2.proofs.Layers.{blocks_hold, offers_hold, start_holds, ticks_hold}
 use Rattle.dch_layer2.specs.Bounded.{HasLayer}

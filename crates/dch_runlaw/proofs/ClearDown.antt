@@ -23,8 +23,6 @@ use Rattle.dch_iub.proofs.Refused.{no_form}
 use Rattle.dch_node.specs.Lines.{Line}
 use Rattle.dch_node.specs.RxFrames.{AreHeard}
 use Rattle.dch_node.specs.Values.{Blocks, Output, Radio}
-use Rattle.dch_phylaw.specs.SentRead.{IsReadAsSent}
-use Rattle.dch_phylaw.proofs.DownlinkSent.{downlink_sent}
 use Rattle.dch_layer2.specs.Layers.{Given, Layer}
 use Rattle.dch_layer2.specs.Joined.{joined_bits}
 use Rattle.dch_layer2.specs.Reading.{Bad, Nothing, Read, Reading}
@@ -33,6 +31,8 @@ use Rattle.dch_linkcmd.specs.NodebSteps.{IsArrival, IsKeptFrame}
 use Rattle.dch_linkcmd.specs.RncSteps.{IsDownlinkFrame, IsSent}
 use Rattle.dch_linkcmd.specs.UeSteps.{IsReading}
 use Rattle.dch_linkcmd.specs.Checks.{good_in}
+use Rattle.dch_runlaw.specs.SentRead.{IsReadAsSent}
+use Rattle.dch_runlaw.proofs.DownlinkSent.{downlink_sent}
 use Rattle.dch_runlaw.specs.Frames.{MayArrive}
 use Rattle.dch_runlaw.specs.Sized.{AreSized}
 use Rattle.dch_runlaw.proofs.ClearBlocks.{arrive_good}

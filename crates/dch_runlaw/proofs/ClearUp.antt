@@ -22,12 +22,12 @@ use Rattle.dch_ulphy.specs.Sent.{WasSent}
 use Rattle.dch_iub.specs.Back.{IsSameTti}
 use Rattle.dch_node.specs.RxFrames.{AreHeard}
 use Rattle.dch_node.specs.Values.{Radio}
-use Rattle.dch_phylaw.specs.SentRead.{IsReadAsSent}
-use Rattle.dch_phylaw.proofs.UplinkSent.{uplink_sent}
 use Rattle.dch_layer2.specs.Layers.{Given}
 use Rattle.dch_layer2.specs.Joined.{joined_bits}
 use Rattle.dch_layer2.specs.Reading.{Read}
 use Rattle.dch_linkcmd.specs.Checks.{good_in}
+use Rattle.dch_runlaw.specs.SentRead.{IsReadAsSent}
+use Rattle.dch_runlaw.proofs.UplinkSent.{uplink_sent}
 use Rattle.dch_runlaw.specs.Sized.{AreSized}
 use Rattle.dch_runlaw.proofs.ClearBlocks.{arrive_good}
 use Rattle.dch_runlaw.proofs.ClearSame.{same_bits}

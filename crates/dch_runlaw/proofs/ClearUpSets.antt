@@ -19,7 +19,6 @@ use Rattle.dch_iub.proofs.Refused.{no_form}
 use Rattle.dch_node.specs.Lines.{Line}
 use Rattle.dch_node.specs.RxFrames.{AreHeard}
 use Rattle.dch_node.specs.Values.{Output, Radio}
-use Rattle.dch_phylaw.proofs.UplinkSent.{uplink_sent}
 use Rattle.dch_layer2.specs.Layers.{Layer}
 use Rattle.dch_layer2.specs.Joined.{joined_bits}
 use Rattle.dch_layer2.specs.Reading.{Nothing, Read, Reading}
@@ -28,6 +27,7 @@ use Rattle.dch_linkcmd.proofs.Steady.{set_frames-member, tells}
 use Rattle.dch_linkcmd.specs.RncState.{State as RncState, set_readings}
 use Rattle.dch_linkcmd.specs.RncSteps.{IsArrival, IsReadFrame}
 use Rattle.dch_linkcmd.specs.Checks.{IsSublist, good_in}
+use Rattle.dch_runlaw.proofs.UplinkSent.{uplink_sent}
 use Rattle.dch_runlaw.specs.Frames.{IsTaken, MayBeTaken, Taken}
 use Rattle.dch_runlaw.specs.Sized.{AreAllSized}
 use Rattle.dch_runlaw.specs.ClearSound.{AreSound}

@@ -23,7 +23,6 @@ use Rattle.dch_combine.specs.Taken.{IsRefusal}
 use Rattle.dch_node.specs.Lines.{Line}
 use Rattle.dch_node.specs.RxFrames.{AreHeard}
 use Rattle.dch_node.specs.Values.{Radio}
-use Rattle.dch_phylaw.proofs.UplinkSent.{uplink_sent}
 use Rattle.dch_layer2.specs.Layers.{Layer}
 use Rattle.dch_layer2.specs.Joined.{CarriesGiven, joined_bits}
 use Rattle.dch_linkcmd.specs.NodebSteps.{DeliversSet}
@@ -37,6 +36,7 @@ use Rattle.dch_linkcmd.specs.LinkSoft.{SoftState, active, framed, over, uplink_o
 use Rattle.dch_linkcmd.specs.SoftStages.{AtLeg, AtStage, MayTake, TakesFrame, WhereOver}
 use Rattle.dch_linkcmd.specs.soft_stage.Stage.{Stage}
 use Rattle.dch_linkcmd.specs.soft_stage.Stage.TheVariants.{RncTick, IubDown, RadioDown, UeTick, RadioUp, IubUp, Combine}
+use Rattle.dch_runlaw.proofs.UplinkSent.{uplink_sent}
 use Rattle.dch_runlaw.specs.Intervals.{AreGood}
 use Rattle.dch_runlaw.proofs.ClearSame.{same_bits}
 use Rattle.dch_runlaw.proofs.ClearSent.{heard_as}

@@ -7,9 +7,6 @@ use Rattle.dch_linkcmd.specs.UeState.{BlockedCombination as UeBlocked, DownlinkF
 use Rattle.dch_linkcmd.specs.UeSteps.{Steps as UeSteps}
 use Rattle.dch_linkcmd.specs.RncState.{BlockedCombination as RncBlocked, Event as RncEvent, IubFrame as IubFrameUp, OfferedUnit as RncOffered, State as RncState, Tick as RncTicks}
 use Rattle.dch_linkcmd.specs.RncSteps.{Steps as RncSteps}
-use Rattle.dch_layerlaw.specs.History.{IsAmBearer}
-use Rattle.dch_layerlaw.specs.Lines.{lines_of}
-use Rattle.dch_layerlaw.proofs.Bearers.{is_am_bearer}
 use Rattle.dch_linkcmd.specs.Courses.{Course}
 use Rattle.dch_linkcmd.specs.Within.{RncWithin, UeWithin}
 use Rattle.dch_linkcmd.specs.SoftEvents.{BlockedCombination, Damages, Event, Happens, OfferedUnit}
@@ -18,6 +15,9 @@ use Rattle.dch_linkcmd.specs.LinkSoft.{SoftState, given, over, uplink_of}
 use Rattle.dch_linkcmd.specs.SoftStages.{AtStage, GivesFrame, RncGoes, UeGoes, WhereOver}
 use Rattle.dch_linkcmd.specs.soft_stage.Stage.{Stage}
 use Rattle.dch_linkcmd.specs.soft_stage.Stage.TheVariants.{RncTick, IubDown, RadioDown, UeTick, RadioUp, IubUp, Combine}
+use Rattle.dch_runlaw.specs.History.{IsAmBearer}
+use Rattle.dch_runlaw.specs.Lines.{lines_of}
+use Rattle.dch_runlaw.proofs.Bearers.{is_am_bearer}
 use Rattle.dch_runlaw.specs.HonestBearers.{IsAcknowledged}
 use Rattle.dch_runlaw.specs.Nodes.{Any, AreFaithful, AtRnc, AtUe, Happens as NodesHappen, IsAmHistory, Nodes, Runs as NodesRun, opened_nodes}
 use Rattle.dch_runlaw.proofs.NodesEvents.{nodes_history}

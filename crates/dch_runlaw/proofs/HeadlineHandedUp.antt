@@ -9,13 +9,13 @@ use Rattle.dch_amlaw.specs.Pair.{At, Pair}
 use Rattle.dch_amlaw.proofs.Short.{AreShort, BothRead, always_short}
 use Rattle.dch_layer2.specs.Bearings.{pdu_octets, rules_in}
 use Rattle.dch_layer2.specs.UnitLines.{unit_lines}
-use Rattle.dch_layerlaw.specs.History.{IsAmBearer, events_over, pair_after}
-use Rattle.dch_layerlaw.specs.Lines.{lines_of}
-use Rattle.dch_layerlaw.specs.Rows.{gots, rows_of}
-use Rattle.dch_layerlaw.specs.UmHistory.{got_lines}
-use Rattle.dch_layerlaw.proofs.Bearers.{is_am_bearer}
-use Rattle.dch_layerlaw.proofs.Small.{gots_bits, gots_units}
 use Rattle.dch_linkcmd.specs.LinkLink.{LinkState}
+use Rattle.dch_runlaw.specs.History.{IsAmBearer, events_over, pair_after}
+use Rattle.dch_runlaw.specs.Lines.{lines_of}
+use Rattle.dch_runlaw.specs.Rows.{gots, rows_of}
+use Rattle.dch_runlaw.specs.UmHistory.{got_lines}
+use Rattle.dch_runlaw.proofs.Bearers.{is_am_bearer}
+use Rattle.dch_runlaw.proofs.Small.{gots_bits, gots_units}
 use Rattle.dch_runlaw.specs.Nodes.{Event}
 use Rattle.dch_runlaw.specs.HonestBearers.{HasHistory, HasHistoryOver, HasKnownDown, HasKnownDownOver, HasKnownUp, HasKnownUpOver, HasTmSomeDown, HasTmSomeUp, IsAcknowledged, IsTransparent, IsUnacknowledged}
 use Rattle.dch_runlaw.specs.TextTold.{IsRead}

@@ -5,8 +5,8 @@ use Rattle.dch_types.specs.declared.channel.Side.{Side}
 use Rattle.dch_types.specs.Limits.{IsFrames, IsSide}
 use Rattle.dch_types.specs.Parts.{channel_at}
 use Rattle.dch_types.specs.Timing.{frames_among}
-use Rattle.dch_layerlaw.proofs.Names.{number_same, same_number}
-use Rattle.dch_layerlaw.proofs.Sublists.{either}
+use Rattle.dch_runlaw.proofs.Names.{number_same, same_number}
+use Rattle.dch_runlaw.proofs.Sublists.{either}
 use Rattle.dch_runlaw.specs.HonestFits.{IsChannel}
 
 among : (side : Side) (set frames n i : ℕ) → ((j : ℕ) → j < n → (channel_at side j).set ≡ set → (channel_at side j).frames ≡ frames) → i < n → (channel_at side i).set ≡ set → frames_among side set n ≡ frames

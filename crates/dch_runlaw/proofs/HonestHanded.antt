@@ -10,10 +10,10 @@ use Rattle.dch_node.specs.Lines.{Differs, Line}
 use Rattle.dch_layer2.specs.Bearings.{channel_of}
 use Rattle.dch_linkcmd.specs.Checks.{IsSublist as IsFound}
 use Rattle.dch_linkcmd.specs.LinkLink.{LinkState, opened_link}
-use Rattle.dch_layerlaw.specs.Worlds.{IsFront, IsSublist, turned}
-use Rattle.dch_layerlaw.proofs.Bearers.{is_am_bearer, is_tm_bearer, is_um_bearer}
-use Rattle.dch_layerlaw.proofs.Tm.{tm_carried}
-use Rattle.dch_layerlaw.proofs.UmWhole.{um_carried}
+use Rattle.dch_runlaw.specs.Worlds.{IsFront, IsSublist, turned}
+use Rattle.dch_runlaw.proofs.Bearers.{is_am_bearer, is_tm_bearer, is_um_bearer}
+use Rattle.dch_runlaw.proofs.Tm.{tm_carried}
+use Rattle.dch_runlaw.proofs.UmWhole.{um_carried}
 use Rattle.dch_runlaw.specs.Runs.{Event, Runs}
 use Rattle.dch_runlaw.specs.EndEvents.{end_events}
 use Rattle.dch_runlaw.specs.Nodes.{Any, AreFaithful, AreWhole, opened_nodes, world_of}

@@ -9,7 +9,7 @@ use Rattle.dch_config.specs.Good.{IsGood}
 use Rattle.dch_accept.specs.Plans.{Planned}
 use Rattle.dch_node.specs.Lines.{Line, Took, Full, Wrong, Bad, Reserved, NoBearer, Nobody, PduBad, Outside, Overlong, Got, GotBits, Iub, IubBad, Phy, PhyNone, BadTti, Differs}
 use Rattle.dch_layer2.specs.Bearings.{bearer_in, channel_of}
-use Rattle.dch_layer2.proofs.StateChanging.{kept_channel}
+use Rattle.dch_layer2.proofs.KeptBearings.{kept_channel}
 use Rattle.dch_layer2.proofs.Good.{there}
 use Rattle.dch_runlaw.specs.HonestBearers.{IsAcknowledged, IsTransparent, IsUnacknowledged}
 use Rattle.dch_runlaw.proofs.PlainKnown.{AreKnown, HasChannel, IsKnown}

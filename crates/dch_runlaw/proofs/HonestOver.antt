@@ -14,8 +14,8 @@ use Rattle.dch_linkcmd.proofs.Steady.{starts-eighth}
 use Rattle.dch_linkcmd.specs.RncState.{State as RncState}
 use Rattle.dch_linkcmd.specs.Checks.{IsSublist as IsFound}
 use Rattle.dch_linkcmd.specs.LinkLink.{LinkState, opened_link}
-use Rattle.dch_layerlaw.specs.Worlds.{IsFront, IsSublist}
-use Rattle.dch_layerlaw.proofs.Bearers.{is_am_bearer, is_tm_bearer, is_um_bearer}
+use Rattle.dch_runlaw.specs.Worlds.{IsFront, IsSublist}
+use Rattle.dch_runlaw.proofs.Bearers.{is_am_bearer, is_tm_bearer, is_um_bearer}
 use Rattle.dch_runlaw.specs.Runs.{Event, Runs}
 use Rattle.dch_runlaw.specs.Parts.{GoesOver}
 use Rattle.dch_runlaw.specs.EndEvents.{end_events}

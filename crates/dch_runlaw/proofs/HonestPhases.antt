@@ -5,8 +5,8 @@ use Rattle.std.proofs.lemmas.List.{append-nil}
 use Rattle.dch_bits.specs.declared.bit.Bit.{Bit}
 use Rattle.dch_types.specs.Timing.{ends, starts}
 use Rattle.dch_linkcmd.specs.Checks.{IsSublist as IsFound}
-use Rattle.dch_layerlaw.specs.Worlds.{IsFront, IsSublist, Log}
-use Rattle.dch_layerlaw.proofs.Sublists.{either, sub_more}
+use Rattle.dch_runlaw.specs.Worlds.{IsFront, IsSublist, Log}
+use Rattle.dch_runlaw.proofs.Sublists.{either, sub_more}
 
 -- what fits goes on to fit, and is as is wanted of a channel
 pub record Joins (P Q : List (List Bit) → List (List Bit) → Type 0) : Type 0 where

@@ -16,7 +16,7 @@ use Rattle.dch_linkcmd.specs.LinkStages.{RncGoes, UeGoes}
 use Rattle.dch_linkcmd.specs.Within.{RncWithin, UeWithin}
 use Rattle.dch_runlaw.specs.Runs.{Between, Event, Frame, Runs, Steps}
 use Rattle.dch_runlaw.proofs.Keeping.{but_rnc, but_ue, rnc_lines, rnc_step, ue_lines, ue_step}
-use Rattle.dch_layerlaw.specs.Worlds.{no_log}
+use Rattle.dch_runlaw.specs.Worlds.{no_log}
 use Rattle.dch_runlaw.specs.Nodes.{AtRnc, AtUe, given_by_rnc, given_by_ue}
 use Rattle.dch_runlaw.specs.EndEvents.{between, end_events, in_step}
 use Rattle.dch_runlaw.specs.HonestFits.{EventFits, RunFits}

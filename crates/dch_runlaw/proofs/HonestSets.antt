@@ -14,8 +14,8 @@ use Rattle.dch_linkcmd.specs.RncState.{IubFrame, State as RncState}
 use Rattle.dch_linkcmd.specs.Checks.{good_in}
 use Rattle.dch_linkcmd.specs.LinkLink.{LinkState}
 use Rattle.dch_runlaw.specs.Frames.{IsFrame, MayBeTaken, Taken, lines_below}
-use Rattle.dch_layerlaw.specs.Worlds.{Log}
-use Rattle.dch_layerlaw.proofs.Names.{other_number}
+use Rattle.dch_runlaw.specs.Worlds.{Log}
+use Rattle.dch_runlaw.proofs.Names.{other_number}
 use Rattle.dch_runlaw.specs.Nodes.{AtRnc, Event, Nodes, Runs}
 use Rattle.dch_runlaw.specs.EndEvents.{arrived, iub_arriving, until_set}
 use Rattle.dch_runlaw.specs.HonestFits.{FrameFits, IsChannel}

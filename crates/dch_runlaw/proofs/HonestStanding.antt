@@ -7,7 +7,7 @@ use Rattle.dch_node.specs.Lines.{Line}
 use Rattle.dch_linkcmd.specs.UeState.{State as UeState}
 use Rattle.dch_linkcmd.specs.RncState.{State as RncState}
 use Rattle.dch_linkcmd.specs.LinkLink.{LinkState}
-use Rattle.dch_layerlaw.specs.Worlds.{Log}
+use Rattle.dch_runlaw.specs.Worlds.{Log}
 use Rattle.dch_runlaw.specs.Nodes.{Any, Event, Nodes, Runs}
 use Rattle.dch_runlaw.specs.HonestFits.{IsChannel}
 use Rattle.dch_runlaw.proofs.HonestPhases.{Joins, Phase}

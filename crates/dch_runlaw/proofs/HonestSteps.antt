@@ -25,7 +25,7 @@ use Rattle.dch_linkcmd.specs.NodebSteps.{DeliversSet, IsLost, IsSentUp, IsWaitin
 use Rattle.dch_linkcmd.specs.RncState.{IubFrame, State as RncState, set_readings}
 use Rattle.dch_linkcmd.specs.RncSteps.{IsReadFrame, IsRefusedFrame, Steps as RncSteps}
 use Rattle.dch_linkcmd.specs.Checks.{good_in}
-use Rattle.dch_layerlaw.proofs.Sublists.{either}
+use Rattle.dch_runlaw.proofs.Sublists.{either}
 
 -- taking blocks leaves what channels were given
 goes_given : (config : Config) (into : Dir) (i : ℕ) (bits : List Bit) (to : Demux) (layer : Layer) (j : ℕ) → (goes config into i bits to layer).layer.given j ≡ layer.given j

@@ -20,8 +20,6 @@ use Rattle.dch_damage.specs.Damage.{radio_after}
 use Rattle.dch_node.specs.Lines.{Line}
 use Rattle.dch_node.specs.RxFrames.{AreHeard}
 use Rattle.dch_node.specs.Values.{Blocks, Radio}
-use Rattle.dch_phylaw.specs.SentRead.{IsReadAsSent}
-use Rattle.dch_phylaw.proofs.DownlinkSent.{downlink_sent}
 use Rattle.dch_layer2.specs.Reading.{Bad, Nothing, Read, Reading}
 use Rattle.dch_linkcmd.specs.NodebState.{State as NodeBState}
 use Rattle.dch_linkcmd.specs.NodebSteps.{IsRadio, IsRadioFrame}
@@ -29,6 +27,8 @@ use Rattle.dch_linkcmd.proofs.Steady.{tells}
 use Rattle.dch_linkcmd.specs.UeState.{State as UeState, frames_now}
 use Rattle.dch_linkcmd.specs.UeSteps.{IsReading}
 use Rattle.dch_linkcmd.specs.LinkLink.{LinkState}
+use Rattle.dch_runlaw.specs.SentRead.{IsReadAsSent}
+use Rattle.dch_runlaw.proofs.DownlinkSent.{downlink_sent}
 use Rattle.dch_runlaw.specs.Frames.{IsFrame}
 use Rattle.dch_runlaw.specs.Runs.{Between, Event, Frame, Runs}
 use Rattle.dch_runlaw.specs.Parts.{Begins}

@@ -15,12 +15,12 @@ use Rattle.dch_iub.specs.Shape.{ForSet}
 use Rattle.dch_node.specs.Lines.{Line}
 use Rattle.dch_node.specs.RxFrames.{AreHeard}
 use Rattle.dch_node.specs.Values.{Radio}
-use Rattle.dch_phylaw.proofs.UplinkSent.{uplink_sent}
 use Rattle.dch_layer2.specs.Layers.{Given, Layer}
 use Rattle.dch_layer2.specs.Joined.{CarriesGiven, joined_bits}
 use Rattle.dch_linkcmd.specs.NodebSteps.{DeliversSet}
 use Rattle.dch_linkcmd.proofs.Steady.{set_frames-member, starts-eighth, tells}
 use Rattle.dch_linkcmd.specs.LinkLink.{LinkState}
+use Rattle.dch_runlaw.proofs.UplinkSent.{uplink_sent}
 use Rattle.dch_runlaw.specs.Frames.{IsFrame}
 use Rattle.dch_runlaw.specs.Runs.{Event, Frame, Runs, Steps}
 use Rattle.dch_runlaw.specs.SizedLinks.{IsSized}

@@ -10,15 +10,15 @@ use Rattle.dch_linkcmd.specs.UeSteps.{Steps as UeSteps}
 use Rattle.dch_linkcmd.specs.RncState.{Event as RncEvent, OfferedUnit as RncOffered, BlockedCombination as RncBlocked, Change as RncChange, IubFrame, Tick as RncTicks, State as RncState}
 use Rattle.dch_linkcmd.specs.RncSteps.{IsReadFrame, IsRefusedFrame, Steps as RncSteps}
 use Rattle.dch_linkcmd.specs.Within.{RncWithin, UeWithin}
-use Rattle.dch_layerlaw.specs.History.{IsAmBearer, IsHistory, IsWholeHistory}
-use Rattle.dch_layerlaw.specs.TmHistory.{IsTmBearer, IsTmHistory, IsTmSome}
-use Rattle.dch_layerlaw.specs.UmHistory.{Any as AnyWorld, IsKnownHistory, IsUmBearer, IsUmHistory}
-use Rattle.dch_layerlaw.specs.Worlds.{AreFaithful as AreWorldFaithful, AreWholeSoFar, At, Far, Happens as WorldHappens, IsFaithful, Near, Runs as WorldRuns, World, turned}
-use Rattle.dch_layerlaw.proofs.Histories.{am_history, whole_history}
-use Rattle.dch_layerlaw.proofs.Tm.{tm_some}
-use Rattle.dch_layerlaw.proofs.TmRuns.{tm_history}
-use Rattle.dch_layerlaw.proofs.UmKnown.{known_history}
-use Rattle.dch_layerlaw.proofs.UmRuns.{um_history}
+use Rattle.dch_runlaw.specs.History.{IsAmBearer, IsHistory, IsWholeHistory}
+use Rattle.dch_runlaw.specs.TmHistory.{IsTmBearer, IsTmHistory, IsTmSome}
+use Rattle.dch_runlaw.specs.UmHistory.{Any as AnyWorld, IsKnownHistory, IsUmBearer, IsUmHistory}
+use Rattle.dch_runlaw.specs.Worlds.{AreFaithful as AreWorldFaithful, AreWholeSoFar, At, Far, Happens as WorldHappens, IsFaithful, Near, Runs as WorldRuns, World, turned}
+use Rattle.dch_runlaw.proofs.Histories.{am_history, whole_history}
+use Rattle.dch_runlaw.proofs.Tm.{tm_some}
+use Rattle.dch_runlaw.proofs.TmRuns.{tm_history}
+use Rattle.dch_runlaw.proofs.UmKnown.{known_history}
+use Rattle.dch_runlaw.proofs.UmRuns.{um_history}
 use Rattle.dch_runlaw.specs.Nodes.{Any, AreFaithful, AreWhole, AtRnc, AtUe, Event, Happens, Nodes, Runs, opened_nodes, world_of}
 use Rattle.dch_runlaw.proofs.NodesSteps.{rnc_lifts, ue_lifts}
 

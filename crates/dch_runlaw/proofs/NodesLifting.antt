@@ -6,14 +6,14 @@ use Rattle.std.proofs.lemmas.List.{append-nil}
 use Rattle.dch_bits.specs.declared.bit.Bit.{Bit}
 use Rattle.dch_types.specs.declared.channel.Dir.{Dir}
 use Rattle.dch_types.specs.declared.config.Config.{Config}
-use Rattle.dch_layerlaw.specs.Doings.{Does, Doing, Says, Takes, given_by, taken_by}
 use Rattle.dch_layer2.specs.Layers.{Layer}
 use Rattle.dch_node.specs.Lines.{BadTti, Line}
-use Rattle.dch_layerlaw.specs.Worlds.{DoesAll, World}
-use Rattle.dch_layerlaw.proofs.Names.{number_same, other_number, same_number}
-use Rattle.dch_layerlaw.proofs.Sublists.{either}
 use Rattle.dch_layer2.specs.Coming.{came_of}
 use Rattle.dch_layer2.specs.Reading.{Bad, Nothing, Read, Reading, reads, reads_below}
+use Rattle.dch_runlaw.specs.Doings.{Does, Doing, Says, Takes, given_by, taken_by}
+use Rattle.dch_runlaw.specs.Worlds.{DoesAll, World}
+use Rattle.dch_runlaw.proofs.Names.{number_same, other_number, same_number}
+use Rattle.dch_runlaw.proofs.Sublists.{either}
 use Rattle.dch_runlaw.proofs.NodesTaken.{good_taken}
 
 -- one list of doings after another

@@ -9,16 +9,16 @@ use Rattle.dch_node.specs.Lines.{Line}
 use Rattle.dch_node.specs.Values.{Output}
 use Rattle.dch_linkcmd.specs.UeState.{State as UeState}
 use Rattle.dch_linkcmd.specs.RncState.{State as RncState}
-use Rattle.dch_layerlaw.specs.History.{IsAmBearer}
-use Rattle.dch_layerlaw.specs.TmHistory.{IsTmBearer, IsTmCarried, IsTmSome, units_in}
-use Rattle.dch_layerlaw.specs.UmHistory.{Any as AnyWorld, IsUmBearer, IsUmCarried, pdus_in}
-use Rattle.dch_layerlaw.specs.Worlds.{AreFaithful as AreWorldFaithful, AreWholeSoFar, HasChanged, IsFaithful, RunsInTwo as WorldsInTwo, World, turned}
-use Rattle.dch_layerlaw.proofs.Parts.{over_parts, whole_parts}
-use Rattle.dch_layerlaw.proofs.Tm.{sub_units, tm_all_came, tm_some}
-use Rattle.dch_layerlaw.proofs.TmRuns.{tm_over}
-use Rattle.dch_layerlaw.proofs.UmKnown.{known_over}
-use Rattle.dch_layerlaw.proofs.UmRuns.{um_over}
-use Rattle.dch_layerlaw.proofs.UmWhole.{um_all_came}
+use Rattle.dch_runlaw.specs.History.{IsAmBearer}
+use Rattle.dch_runlaw.specs.TmHistory.{IsTmBearer, IsTmCarried, IsTmSome, units_in}
+use Rattle.dch_runlaw.specs.UmHistory.{Any as AnyWorld, IsUmBearer, IsUmCarried, pdus_in}
+use Rattle.dch_runlaw.specs.Worlds.{AreFaithful as AreWorldFaithful, AreWholeSoFar, HasChanged, IsFaithful, RunsInTwo as WorldsInTwo, World, turned}
+use Rattle.dch_runlaw.proofs.Parts.{over_parts, whole_parts}
+use Rattle.dch_runlaw.proofs.Tm.{sub_units, tm_all_came, tm_some}
+use Rattle.dch_runlaw.proofs.TmRuns.{tm_over}
+use Rattle.dch_runlaw.proofs.UmKnown.{known_over}
+use Rattle.dch_runlaw.proofs.UmRuns.{um_over}
+use Rattle.dch_runlaw.proofs.UmWhole.{um_all_came}
 use Rattle.dch_runlaw.specs.Nodes.{Any, AreAllTaken, AreFaithful, AreWhole, Changes, Event, IsAmHistoryOver, IsDownKnownOver, IsUpKnownOver, IsWholeAmHistory, Nodes, RunsInTwo, opened_nodes, world_of}
 use Rattle.dch_runlaw.proofs.NodesEvents.{Have, RunsOn, flipped, run_turned, runs_on}
 

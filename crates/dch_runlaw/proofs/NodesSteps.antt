@@ -24,11 +24,11 @@ use Rattle.dch_linkcmd.specs.UeState.{Event as UeEvent, OfferedUnit as UeOffered
 use Rattle.dch_linkcmd.specs.UeSteps.{IsReading, IsTick as IsUeTick}
 use Rattle.dch_linkcmd.specs.RncState.{Event as RncEvent, OfferedUnit as RncOffered, BlockedCombination as RncBlocked, Change as RncChange, IubFrame, Tick as RncTicks, State as RncState, set_readings}
 use Rattle.dch_linkcmd.specs.RncSteps.{IsReadFrame, IsRefusedFrame, IsTick as IsRncTick, sent_line, sent_lines}
-use Rattle.dch_layerlaw.specs.Doings.{Blocks, Doing, Offers, Says, Starts, Ticks}
-use Rattle.dch_layerlaw.specs.Lines.{lines_of}
-use Rattle.dch_layerlaw.specs.Worlds.{DoesAll, DoesNear, World, turned}
-use Rattle.dch_layerlaw.proofs.Sublists.{either}
-use Rattle.dch_layerlaw.proofs.Taking.{lines-append}
+use Rattle.dch_runlaw.specs.Doings.{Blocks, Doing, Offers, Says, Starts, Ticks}
+use Rattle.dch_runlaw.specs.Lines.{lines_of}
+use Rattle.dch_runlaw.specs.Worlds.{DoesAll, DoesNear, World, turned}
+use Rattle.dch_runlaw.proofs.Sublists.{either}
+use Rattle.dch_runlaw.proofs.BlocksTaken.{lines-append}
 use Rattle.dch_runlaw.specs.Nodes.{Nodes, StepsRnc, StepsUe, given_at, world_of}
 use Rattle.dch_runlaw.proofs.NodesLifting.{does-append, doings_below, quietly, reads_all, took_is, with_near, world_below}
 use Rattle.dch_runlaw.proofs.NodesTaken.{IsWholeReading, taken-same}

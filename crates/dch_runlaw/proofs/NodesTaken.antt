@@ -10,8 +10,8 @@ use Rattle.dch_layer2.specs.Layers.{Came}
 use Rattle.dch_layer2.specs.Coming.{came_at, came_below, came_of}
 use Rattle.dch_layer2.specs.Reading.{Bad, Nothing, Read, Reading}
 use Rattle.dch_linkcmd.specs.Checks.{good_blocks as good_of, good_from, good_in}
-use Rattle.dch_layerlaw.specs.Doings.{block_if, good_blocks, has_bits}
-use Rattle.dch_layerlaw.proofs.Sublists.{either}
+use Rattle.dch_runlaw.specs.Doings.{block_if, good_blocks, has_bits}
+use Rattle.dch_runlaw.proofs.Sublists.{either}
 
 -- so many blocks have their bits
 abbrev pub IsWhole : Held → Type 0

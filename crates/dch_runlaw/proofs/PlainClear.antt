@@ -9,8 +9,8 @@ use Rattle.dch_node.specs.Lines.{Line, Took, Full, Wrong, Bad, Reserved, NoBeare
 use Rattle.dch_layer2.specs.Bearings.{bearer_in, channel_of}
 use Rattle.dch_layer2.proofs.Good.{there}
 use Rattle.dch_linkcmd.specs.LinkLink.{LinkState, opened_link}
-use Rattle.dch_layerlaw.specs.Lines.{lines_of}
-use Rattle.dch_layerlaw.proofs.Bearers.{is_am_bearer}
+use Rattle.dch_runlaw.specs.Lines.{lines_of}
+use Rattle.dch_runlaw.proofs.Bearers.{is_am_bearer}
 use Rattle.dch_runlaw.specs.Runs.{Between, Event, Frame, Runs}
 use Rattle.dch_runlaw.specs.Nodes.{world_of}
 use Rattle.dch_runlaw.specs.HonestBearers.{down_way, up_way}

@@ -31,7 +31,7 @@ use Rattle.dch_layer2.specs.Hearing.{hears, hears_um, lines_by, new_units, recei
 use Rattle.dch_layer2.specs.Layers.{Came, Layer, goes, takes, takes_good, takes_one}
 use Rattle.dch_layer2.specs.Octets.{octets_of}
 use Rattle.dch_layer2.specs.UnitLines.{line_if, unit_line, unit_lines}
-use Rattle.dch_layerlaw.proofs.Names.{receiver_has}
+use Rattle.dch_runlaw.proofs.Names.{receiver_has}
 use Rattle.dch_runlaw.proofs.PlainReaching.{Reaches}
 
 -- a bearer has a channel in a direction

@@ -21,8 +21,8 @@ use Rattle.dch_linkcmd.specs.RncSteps.{IsReadFrame, IsRefusedFrame, IsTick as Is
 use Rattle.dch_linkcmd.specs.Checks.{good_in}
 use Rattle.dch_linkcmd.specs.LinkChanging.{Changes}
 use Rattle.dch_linkcmd.specs.LinkLink.{LinkState, opened_link}
-use Rattle.dch_layerlaw.proofs.Names.{number_same}
-use Rattle.dch_layerlaw.proofs.Sublists.{either}
+use Rattle.dch_runlaw.proofs.Names.{number_same}
+use Rattle.dch_runlaw.proofs.Sublists.{either}
 use Rattle.dch_runlaw.specs.Parts.{KeepsAll}
 use Rattle.dch_runlaw.proofs.Begun.{Fresh, changed_fresh, opened_fresh}
 use Rattle.dch_runlaw.proofs.Changing.{IsChanged, changed_is}

@@ -12,13 +12,13 @@ use Rattle.dch_node.specs.Lines.{Line, Took, Full, Wrong, Bad, Reserved, NoBeare
 use Rattle.dch_layer2.specs.Bearings.{pdu_octets, rules_in}
 use Rattle.dch_layer2.specs.Layers.{Layer}
 use Rattle.dch_layer2.specs.UnitLines.{unit_line, unit_lines}
-use Rattle.dch_layerlaw.specs.History.{IsAmBearer, IsWholeHistory, pair_after}
-use Rattle.dch_layerlaw.specs.Lines.{is_of, lines_of}
-use Rattle.dch_layerlaw.specs.TmHistory.{IsTmCarried, bits_lines}
-use Rattle.dch_layerlaw.specs.UmHistory.{IsUmCarried, got_lines}
-use Rattle.dch_layerlaw.specs.Worlds.{World}
-use Rattle.dch_layerlaw.proofs.Names.{same_number}
-use Rattle.dch_layerlaw.proofs.Sublists.{either}
+use Rattle.dch_runlaw.specs.History.{IsAmBearer, IsWholeHistory, pair_after}
+use Rattle.dch_runlaw.specs.Lines.{is_of, lines_of}
+use Rattle.dch_runlaw.specs.TmHistory.{IsTmCarried, bits_lines}
+use Rattle.dch_runlaw.specs.UmHistory.{IsUmCarried, got_lines}
+use Rattle.dch_runlaw.specs.Worlds.{World}
+use Rattle.dch_runlaw.proofs.Names.{same_number}
+use Rattle.dch_runlaw.proofs.Sublists.{either}
 use Rattle.dch_runlaw.proofs.PlainKnown.{AreKnown, HasChannel, IsKnown}
 
 -- each block has a bearer, each PDU can be read and lies inside its window, and no unit is too long

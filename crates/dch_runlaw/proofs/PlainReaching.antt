@@ -14,11 +14,11 @@ use Rattle.dch_layer2.specs.Bearings.{Bearing, channel_of, ct_of}
 use Rattle.dch_layer2.specs.Building.{Gives}
 use Rattle.dch_layer2.specs.Layers.{Given, Layer}
 use Rattle.dch_layer2.specs.Starting.{IsStart, asked_in, count_on, in_turn, is_on, joined, of_priority}
-use Rattle.dch_layerlaw.specs.History.{AreApart}
-use Rattle.dch_layerlaw.proofs.Bearers.{is_apart}
-use Rattle.dch_layerlaw.proofs.Giving.{HasField, has_field, joined-append}
-use Rattle.dch_layerlaw.proofs.Names.{both_true, comes_to, named_is}
-use Rattle.dch_layerlaw.proofs.Sublists.{either}
+use Rattle.dch_runlaw.specs.History.{AreApart}
+use Rattle.dch_runlaw.proofs.Bearers.{is_apart}
+use Rattle.dch_runlaw.proofs.Giving.{HasField, has_field, joined-append}
+use Rattle.dch_runlaw.proofs.Names.{both_true, comes_to, named_is}
+use Rattle.dch_runlaw.proofs.Sublists.{either}
 
 -- a block of a channel is for a bearer
 pub record Reaches (config : Config) (dir : Dir) (i : ℕ) (block : List Bit) : Type 0 where

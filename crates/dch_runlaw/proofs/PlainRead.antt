@@ -9,7 +9,7 @@ use Rattle.dch_layer2.specs.Layers.{Came, Layer}
 use Rattle.dch_layer2.specs.Coming.{came_at, came_below, came_of}
 use Rattle.dch_layer2.specs.Reading.{Bad, Nothing, Read, Reading, reads, reads_below}
 use Rattle.dch_linkcmd.specs.Checks.{good_blocks, good_from, good_in}
-use Rattle.dch_layerlaw.proofs.Sublists.{either}
+use Rattle.dch_runlaw.proofs.Sublists.{either}
 use Rattle.dch_runlaw.proofs.PlainKnown.{AllMayReach, AreKnown, MayReach, known-append, takes_known}
 use Rattle.dch_runlaw.proofs.PlainReaching.{AllReach, Reaches}
 

@@ -32,7 +32,7 @@ use Rattle.dch_layer2.specs.Bearings.{Bearing, Sends, Transparent, Unacknowledge
 use Rattle.dch_layer2.specs.Building.{Builds, Gives}
 use Rattle.dch_layer2.specs.Hearing.{hears, hears_um}
 use Rattle.dch_layer2.specs.Octets.{bits_of, block_of, field_for, octets_of}
-use Rattle.dch_layer2.proofs.StateChanging.{kept_octets}
+use Rattle.dch_layer2.proofs.KeptBearings.{kept_octets}
 use Rattle.dch_layer2.proofs.Good.{am_fits, no_field, um_fits}
 use Rattle.dch_layer2.specs.Sharing.{HasBits, HaveBits}
 use Rattle.dch_layer2.proofs.Bits.{given_bits, heard_bits, offered_bits, opened_bits, ticked_bits}

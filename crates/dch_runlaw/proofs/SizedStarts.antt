@@ -24,7 +24,7 @@ use Rattle.dch_layer2.specs.Building.{Gives}
 use Rattle.dch_layer2.specs.Layers.{Given, Layer, changed_layer, opened_layer}
 use Rattle.dch_layer2.specs.Starting.{IsStart, asked_in, blocks_for, count_on, in_turn, is_on, joined, of_priority}
 use Rattle.dch_layer2.proofs.Good.{there}
-use Rattle.dch_layer2.proofs.BoundBlocks.{side_good}
+use Rattle.dch_layer2.proofs.PduSizes.{side_good}
 use Rattle.dch_layer2.specs.Joined.{joined_bits}
 use Rattle.dch_layer2.proofs.Openings.{idle_is_idle}
 use Rattle.dch_layer2.proofs.Sums.{both_true, either, number_same}

@@ -4,10 +4,6 @@ use Rattle.dch_types.specs.declared.channel.Dir.{Dir}
 use Rattle.dch_types.specs.declared.channel.Dir.TheVariants.{Up, Down}
 use Rattle.dch_node.specs.Lines.{Line}
 use Rattle.dch_node.specs.Values.{Output}
-use Rattle.dch_layerlaw.specs.Directions.{lines_on}
-use Rattle.dch_layerlaw.specs.Lines.{lines_of}
-use Rattle.dch_layerlaw.proofs.Directions.{off_is, on-append, on_is}
-use Rattle.dch_layerlaw.proofs.Taking.{lines-append}
 use Rattle.dch_damage.specs.Damage.{iub_after, radio_after}
 use Rattle.dch_linkcmd.specs.NodebState.{DownlinkDue, Event as NodeBEvent, IubFrame as IubFrameDown, UplinkFrame}
 use Rattle.dch_linkcmd.specs.UeState.{BlockedCombination as UeBlocked, DownlinkFrame, Event as UeEvent, OfferedUnit as UeOffered, State as UeState, Tick as UeTicks}
@@ -20,6 +16,10 @@ use Rattle.dch_linkcmd.specs.LinkSoft.{SoftState, given, over, uplink_of}
 use Rattle.dch_linkcmd.specs.SoftStages.{AtStage, GivesFrame, MayTake, RncGoes, TakesFrame, UeGoes, WhereOver}
 use Rattle.dch_linkcmd.specs.soft_stage.Stage.{Stage}
 use Rattle.dch_linkcmd.specs.soft_stage.Stage.TheVariants.{RncTick, IubDown, RadioDown, UeTick, RadioUp, IubUp, Combine}
+use Rattle.dch_runlaw.specs.Directions.{lines_on}
+use Rattle.dch_runlaw.specs.Lines.{lines_of}
+use Rattle.dch_runlaw.proofs.Directions.{off_is, on-append, on_is}
+use Rattle.dch_runlaw.proofs.BlocksTaken.{lines-append}
 use Rattle.dch_runlaw.proofs.TextEnds.{rnc_own, ue_own}
 use Rattle.dch_runlaw.proofs.TextRadio.{AreRadio, node_b_radio, radio_off}
 use Rattle.dch_runlaw.specs.SoftRuns.{Between, Move, Next, Point, Runs, Steps, behind}

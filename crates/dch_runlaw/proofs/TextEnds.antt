@@ -17,10 +17,10 @@ use Rattle.dch_linkcmd.specs.RncState.{BlockedCombination as RncBlocked, Change 
 use Rattle.dch_linkcmd.specs.RncSteps.{IsArrival, Steps as RncSteps, sent_line, sent_lines}
 use Rattle.dch_linkcmd.specs.Checks.{AreChecked, IsChecked}
 use Rattle.dch_linkcmd.specs.Within.{RncWithin, UeWithin}
-use Rattle.dch_layerlaw.specs.Directions.{lines_on}
-use Rattle.dch_layerlaw.specs.Rows.{AreSmall}
-use Rattle.dch_layerlaw.proofs.Directions.{AllIn, answer_goes, in_append, on-append, takes_go}
-use Rattle.dch_layerlaw.proofs.Small.{answer_small, small_append, takes_small}
+use Rattle.dch_runlaw.specs.Directions.{lines_on}
+use Rattle.dch_runlaw.specs.Rows.{AreSmall}
+use Rattle.dch_runlaw.proofs.Directions.{AllIn, answer_goes, in_append, on-append, takes_go}
+use Rattle.dch_runlaw.proofs.Small.{answer_small, small_append, takes_small}
 use Rattle.dch_runlaw.specs.TextDiffering.{AreLow}
 use Rattle.dch_runlaw.proofs.TextLow.{answer_low, low_append, takes_low}
 

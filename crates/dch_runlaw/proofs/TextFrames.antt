@@ -13,12 +13,12 @@ use Rattle.dch_damage.specs.Damage.{iub_after, radio_after}
 use Rattle.dch_linkcmd.specs.UeState.{DownlinkFrame, Tick as UeTicks}
 use Rattle.dch_linkcmd.specs.NodebState.{DownlinkDue, UplinkFrame}
 use Rattle.dch_linkcmd.specs.RncState.{IubFrame, State as RncState, Tick as RncTicks}
-use Rattle.dch_layerlaw.specs.Directions.{lines_on}
-use Rattle.dch_layerlaw.specs.Lines.{lines_of}
-use Rattle.dch_layerlaw.specs.Rows.{AreSmall}
-use Rattle.dch_layerlaw.proofs.Taking.{lines-append}
-use Rattle.dch_layerlaw.proofs.Directions.{off_is, on-append, on_is}
-use Rattle.dch_layerlaw.proofs.Small.{small_append}
+use Rattle.dch_runlaw.specs.Directions.{lines_on}
+use Rattle.dch_runlaw.specs.Lines.{lines_of}
+use Rattle.dch_runlaw.specs.Rows.{AreSmall}
+use Rattle.dch_runlaw.proofs.BlocksTaken.{lines-append}
+use Rattle.dch_runlaw.proofs.Directions.{off_is, on-append, on_is}
+use Rattle.dch_runlaw.proofs.Small.{small_append}
 use Rattle.dch_runlaw.specs.Frames.{IsFrame, MayBeTaken, Taken, lines_below}
 use Rattle.dch_runlaw.specs.TextDiffering.{AreLow}
 use Rattle.dch_runlaw.specs.TextTold.{AreFewBearers, AreFewChannels}

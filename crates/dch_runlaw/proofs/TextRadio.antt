@@ -7,8 +7,8 @@ use Rattle.dch_node.specs.Lines.{Line, Took, Full, Wrong, Bad, Reserved, NoBeare
 use Rattle.dch_node.specs.Values.{Output, Radio}
 use Rattle.dch_linkcmd.specs.NodebState.{Change, DownlinkDue, Event as NodeBEvent, IubFrame, State as NodeBState, UplinkFrame}
 use Rattle.dch_linkcmd.specs.NodebSteps.{DeliversSet, IsArrival, Steps as NodeBSteps, radio_line}
-use Rattle.dch_layerlaw.specs.Directions.{is_on, lines_on}
-use Rattle.dch_layerlaw.specs.Rows.{AreSmall, IsSmall}
+use Rattle.dch_runlaw.specs.Directions.{is_on, lines_on}
+use Rattle.dch_runlaw.specs.Rows.{AreSmall, IsSmall}
 use Rattle.dch_runlaw.specs.Frames.{MayArrive}
 use Rattle.dch_runlaw.specs.TextDiffering.{AreLow, IsLow}
 

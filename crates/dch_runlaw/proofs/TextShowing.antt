@@ -11,9 +11,9 @@ use Rattle.dch_script.specs.Report.{bits_shown, iub_text, octets_shown, pair_tex
 use Rattle.dch_node.specs.Lines.{Line, Took, Full, Wrong, Bad, Reserved, NoBearer, Nobody, PduBad, Outside, Overlong, Got, GotBits, Iub, IubBad, Phy, PhyNone, BadTti, Differs, text_of, words_of}
 use Rattle.dch_linkcmd.specs.Shown.{first_of, is_frame_line, is_frame_word, other_lines, shown}
 use Rattle.dch_runlaw.specs.TextDiffering.{false_rows, false_words}
-use Rattle.dch_layerlaw.specs.Rows.{got_rows, got_words, row_of, rows_of, starts_with}
-use Rattle.dch_layerlaw.proofs.Rows.{text_rows}
-use Rattle.dch_layerlaw.proofs.Sublists.{either}
+use Rattle.dch_runlaw.specs.Rows.{got_rows, got_words, row_of, rows_of, starts_with}
+use Rattle.dch_runlaw.proofs.Rows.{text_rows}
+use Rattle.dch_runlaw.proofs.Sublists.{either}
 
 -- the line feed is cut off, and the front stays
 record Begins (front text : List ℕ) : Type 0 where

@@ -28,7 +28,7 @@ use Rattle.dch_layer2.specs.Hearing.{error_number, hears, hears_um, lines_by, ne
 use Rattle.dch_layer2.specs.Layers.{Came, Layer, goes, takes, takes_good, takes_one}
 use Rattle.dch_layer2.specs.Octets.{octets_of}
 use Rattle.dch_layer2.specs.UnitLines.{line_if, unit_lines}
-use Rattle.dch_layer2.proofs.BoundBlocks.{reached}
+use Rattle.dch_layer2.proofs.PduSizes.{reached}
 
 abbrev pub Every : (Line → Type 0) → List Line → Type 0
 Every P [] = Unit {0}

@@ -21,19 +21,19 @@ use Rattle.dch_runlaw.specs.Parts.{GoesOver}
 use Rattle.dch_runlaw.proofs.Changing.{IsChanged, changed_is}
 use Rattle.dch_runlaw.proofs.Keeping.{but_rnc, but_ue, rnc_lines, rnc_step, ue_lines, ue_step}
 use Rattle.dch_runlaw.specs.TextDiffering.{false_rows, falses}
-use Rattle.dch_layerlaw.specs.Directions.{lines_on}
-use Rattle.dch_layerlaw.specs.Lines.{lines_of}
-use Rattle.dch_layerlaw.specs.Rows.{AreSmall, got_rows, gots, rows_of}
+use Rattle.dch_runlaw.specs.Directions.{lines_on}
+use Rattle.dch_runlaw.specs.Lines.{lines_of}
+use Rattle.dch_runlaw.specs.Rows.{AreSmall, got_rows, gots, rows_of}
 use Rattle.dch_runlaw.specs.TextTold.{AreFewBearers, AreFewChannels, IsRead, IsTold, ShowsUnits, TellsFalse}
 use Rattle.dch_runlaw.proofs.TextDiffering.{rows_false}
-use Rattle.dch_layerlaw.proofs.Taking.{lines-append}
-use Rattle.dch_layerlaw.proofs.Directions.{off_is, on-append, on_is}
+use Rattle.dch_runlaw.proofs.BlocksTaken.{lines-append}
+use Rattle.dch_runlaw.proofs.Directions.{off_is, on-append, on_is}
 use Rattle.dch_runlaw.proofs.TextListed.{listed}
 use Rattle.dch_runlaw.proofs.TextEnds.{IsOwn, rnc_own, rnc_stays, ue_own, ue_stays}
 use Rattle.dch_runlaw.proofs.TextFrames.{frame_told}
-use Rattle.dch_layerlaw.proofs.Rows.{rows_got, text_rows}
+use Rattle.dch_runlaw.proofs.Rows.{rows_got, text_rows}
 use Rattle.dch_runlaw.proofs.TextShowing.{seen_false, seen_got, shown_rows}
-use Rattle.dch_layerlaw.proofs.Small.{gots_on, small_append}
+use Rattle.dch_runlaw.proofs.Small.{gots_on, small_append}
 use Rattle.dch_runlaw.proofs.TextLow.{low_append}
 
 -- what an end has reported stays, or goes on

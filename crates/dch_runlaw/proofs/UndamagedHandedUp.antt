@@ -8,14 +8,14 @@ use Rattle.dch_amlaw.specs.Pair.{Pair}
 use Rattle.dch_amlaw.proofs.Short.{AreShort, BothRead, always_short}
 use Rattle.dch_layer2.specs.Bearings.{pdu_octets, rules_in}
 use Rattle.dch_layer2.specs.UnitLines.{unit_lines}
-use Rattle.dch_layerlaw.specs.Ended.{marked_units}
-use Rattle.dch_layerlaw.specs.History.{IsAmBearer, pair_after}
-use Rattle.dch_layerlaw.specs.Lines.{lines_of}
-use Rattle.dch_layerlaw.specs.Rows.{gots, rows_of}
-use Rattle.dch_layerlaw.specs.UmHistory.{got_lines, pdus_of}
-use Rattle.dch_layerlaw.proofs.Bearers.{is_am_bearer}
-use Rattle.dch_layerlaw.proofs.Small.{gots_bits, gots_units}
 use Rattle.dch_linkcmd.specs.LinkLink.{LinkState}
+use Rattle.dch_runlaw.specs.Ended.{marked_units}
+use Rattle.dch_runlaw.specs.History.{IsAmBearer, pair_after}
+use Rattle.dch_runlaw.specs.Lines.{lines_of}
+use Rattle.dch_runlaw.specs.Rows.{gots, rows_of}
+use Rattle.dch_runlaw.specs.UmHistory.{got_lines, pdus_of}
+use Rattle.dch_runlaw.proofs.Bearers.{is_am_bearer}
+use Rattle.dch_runlaw.proofs.Small.{gots_bits, gots_units}
 use Rattle.dch_runlaw.specs.HonestBearers.{HasTmDown, HasTmUp, HasUmDown, HasUmUp, HasWholeHistory, IsAcknowledged, IsTransparent, IsUnacknowledged, down_way, up_way}
 use Rattle.dch_runlaw.specs.TextTold.{IsRead}
 use Rattle.dch_runlaw.proofs.HeadlineHandedUp.{got_short, low}

@@ -9,10 +9,10 @@ use Rattle.dch_layer2.specs.Layers.{Layer}
 use Rattle.dch_layer2.specs.UnitLines.{unit_lines}
 use Rattle.dch_linkcmd.specs.LinkLink.{LinkState}
 use Rattle.dch_rlcum.specs.Handing.{AreFewLost, known_units}
-use Rattle.dch_layerlaw.specs.History.{events_over, pair_after}
-use Rattle.dch_layerlaw.specs.Rows.{got_rows, gots, rows_of}
-use Rattle.dch_layerlaw.specs.TmHistory.{IsTmSome, bits_lines}
-use Rattle.dch_layerlaw.specs.UmHistory.{ArriveAs, got_lines, sent_by}
+use Rattle.dch_runlaw.specs.History.{events_over, pair_after}
+use Rattle.dch_runlaw.specs.Rows.{got_rows, gots, rows_of}
+use Rattle.dch_runlaw.specs.TmHistory.{IsTmSome, bits_lines}
+use Rattle.dch_runlaw.specs.UmHistory.{ArriveAs, got_lines, sent_by}
 use Rattle.dch_runlaw.specs.Nodes.{Event}
 use Rattle.dch_runlaw.specs.HonestBearers.{HasHistory, HasHistoryOver, HasKnownDown, HasKnownDownOver, HasKnownUp, HasKnownUpOver}
 

@@ -12,8 +12,8 @@ use Rattle.dch_accept.specs.Plans.{Planned}
 use Rattle.dch_layer2.specs.Bearings.{bearer_in, channel_of}
 use Rattle.dch_layer2.specs.Layers.{Layer}
 use Rattle.dch_linkcmd.specs.LinkLink.{LinkState}
-use Rattle.dch_layerlaw.specs.TmHistory.{IsTmCarried, IsTmSome}
-use Rattle.dch_layerlaw.specs.UmHistory.{IsUmCarried}
+use Rattle.dch_runlaw.specs.TmHistory.{IsTmCarried, IsTmSome}
+use Rattle.dch_runlaw.specs.UmHistory.{IsUmCarried}
 use Rattle.dch_runlaw.specs.Nodes.{Any, Event, IsAmHistory, IsAmHistoryOver, IsDownKnown, IsDownKnownOver, IsUpKnown, IsUpKnownOver, IsWholeAmHistory, Nodes, Runs, RunsInTwo, opened_nodes}
 
 -- an acknowledged bearer of a good configuration, with its two channels

@@ -36,3 +36,14 @@ pub use Rattle.dch_linkcmd.specs.SoftOverlong
 pub use Rattle.dch_linkcmd.specs.SoftRules
 pub use Rattle.dch_linkcmd.specs.SoftRun
 pub use Rattle.dch_linkcmd.specs.Standing as LinkcmdStanding
+pub mod Lines
+pub mod Doings
+pub mod Worlds
+pub mod History
+pub mod Ended
+pub mod UmHistory
+pub mod TmHistory
+pub mod Directions
+pub mod Rows
+pub mod Damaged
+pub mod SentRead

@@ -16,10 +16,10 @@ use Rattle.dch_linkcmd.specs.RncState.{Event as RncEvent, OfferedUnit as RncOffe
 use Rattle.dch_linkcmd.specs.RncSteps.{Steps as RncSteps}
 use Rattle.dch_linkcmd.specs.Checks.{good_in}
 use Rattle.dch_linkcmd.specs.Within.{RncWithin, UeWithin}
-use Rattle.dch_layerlaw.specs.Worlds.{IsFaithful, IsFront, Log, World, no_log, turned}
-use Rattle.dch_layerlaw.specs.History.{IsHistory, IsHistoryOver, IsWholeHistory}
-use Rattle.dch_layerlaw.specs.UmHistory.{IsKnownHistory, pdus_in}
-use Rattle.dch_layerlaw.specs.TmHistory.{IsTmSome}
+use Rattle.dch_runlaw.specs.Worlds.{IsFaithful, IsFront, Log, World, no_log, turned}
+use Rattle.dch_runlaw.specs.History.{IsHistory, IsHistoryOver, IsWholeHistory}
+use Rattle.dch_runlaw.specs.UmHistory.{IsKnownHistory, pdus_in}
+use Rattle.dch_runlaw.specs.TmHistory.{IsTmSome}
 
 -- the two nodes, all lines that each has reported, and for each channel the blocks that were given to it and those that were taken of it
 pub record Nodes : Type 0 where

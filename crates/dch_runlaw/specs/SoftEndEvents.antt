@@ -5,8 +5,6 @@ use Rattle.dch_types.specs.declared.channel.Dir.TheVariants.{Up, Down}
 use Rattle.dch_accept.specs.Plans.{Planned}
 use Rattle.dch_node.specs.Lines.{Line}
 use Rattle.dch_layer2.specs.UnitLines.{unit_lines}
-use Rattle.dch_layerlaw.specs.Directions.{lines_on}
-use Rattle.dch_layerlaw.specs.History.{pair_after}
 use Rattle.dch_linkcmd.specs.UeState.{BlockedCombination as UeBlocked, DownlinkFrame, Event as UeEvent, OfferedUnit as UeOffered, State as UeState, Tick as UeTicks}
 use Rattle.dch_linkcmd.specs.RncState.{BlockedCombination as RncBlocked, Event as RncEvent, IubFrame as IubFrameUp, OfferedUnit as RncOffered, State as RncState, Tick as RncTicks}
 use Rattle.dch_linkcmd.specs.Checks.{good_in}
@@ -16,6 +14,8 @@ use Rattle.dch_linkcmd.specs.LinkSoft.{SoftState, over, uplink_of}
 use Rattle.dch_linkcmd.specs.SoftStages.{AtStage, GivesFrame, WhereOver}
 use Rattle.dch_linkcmd.specs.soft_stage.Stage.{Stage}
 use Rattle.dch_linkcmd.specs.soft_stage.Stage.TheVariants.{RncTick, IubDown, RadioDown, UeTick, RadioUp, IubUp, Combine}
+use Rattle.dch_runlaw.specs.Directions.{lines_on}
+use Rattle.dch_runlaw.specs.History.{pair_after}
 use Rattle.dch_runlaw.specs.Nodes.{Any, AtRnc, AtUe, Event as NodesEvent, IsAmHistory, Nodes, Runs as NodesRun, given_by_rnc, given_by_ue, opened_nodes}
 use Rattle.dch_runlaw.specs.SoftRuns.{Between, Move, Next, Point, Runs, Steps}
 

@@ -7,9 +7,9 @@ use Rattle.dch_node.specs.Lines.{Differs, Line, text_of}
 use Rattle.dch_linkcmd.specs.Shown.{shown}
 use Rattle.dch_linkcmd.specs.LinkLink.{LinkState}
 use Rattle.dch_runlaw.specs.TextDiffering.{AreLow, false_rows, false_words, falses}
-use Rattle.dch_layerlaw.specs.Directions.{lines_on}
-use Rattle.dch_layerlaw.specs.Lines.{lines_of}
-use Rattle.dch_layerlaw.specs.Rows.{AreSmall, got_rows, gots, rows_of}
+use Rattle.dch_runlaw.specs.Directions.{lines_on}
+use Rattle.dch_runlaw.specs.Lines.{lines_of}
+use Rattle.dch_runlaw.specs.Rows.{AreSmall, got_rows, gots, rows_of}
 
 -- the terminal and the network controller have no more bearers than a good configuration has
 pub record AreFewBearers (link : LinkState) : Type 0 where

@@ -2,9 +2,9 @@
 use Rattle.std.specs.Prelude.{◌≡◌, ◌++◌, ℕ, List}
 use Rattle.dch_types.specs.declared.channel.Dir.TheVariants.{Up, Down}
 use Rattle.dch_node.specs.Lines.{Line}
-use Rattle.dch_layerlaw.specs.Directions.{lines_on}
-use Rattle.dch_layerlaw.specs.Lines.{lines_of}
 use Rattle.dch_linkcmd.specs.LinkSoft.{SoftState}
+use Rattle.dch_runlaw.specs.Directions.{lines_on}
+use Rattle.dch_runlaw.specs.Lines.{lines_of}
 
 -- of the lines of a run, those on units and PDUs of a bearer that went up are just what the network controller has reported on it, and
 -- those on what went down are the terminal's

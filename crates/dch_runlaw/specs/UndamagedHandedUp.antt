@@ -10,12 +10,12 @@ use Rattle.dch_node.specs.Lines.{Line}
 use Rattle.dch_am.specs.Bodies.{ends}
 use Rattle.dch_amlaw.specs.Pair.{End, gap_free}
 use Rattle.dch_layer2.specs.Layers.{Layer}
-use Rattle.dch_layerlaw.specs.Ended.{marked_units}
-use Rattle.dch_layerlaw.specs.History.{pair_after}
-use Rattle.dch_layerlaw.specs.Rows.{got_rows, rows_of}
-use Rattle.dch_layerlaw.specs.TmHistory.{IsTmCarried, bits_lines}
-use Rattle.dch_layerlaw.specs.UmHistory.{IsUmCarried, got_lines, pdus_of}
 use Rattle.dch_linkcmd.specs.LinkLink.{LinkState}
+use Rattle.dch_runlaw.specs.Ended.{marked_units}
+use Rattle.dch_runlaw.specs.History.{pair_after}
+use Rattle.dch_runlaw.specs.Rows.{got_rows, rows_of}
+use Rattle.dch_runlaw.specs.TmHistory.{IsTmCarried, bits_lines}
+use Rattle.dch_runlaw.specs.UmHistory.{IsUmCarried, got_lines, pdus_of}
 use Rattle.dch_runlaw.specs.HonestBearers.{HasWholeHistory}
 
 -- the accepted units of one end of an acknowledged bearer, in order, whose length indicator lies in the PDUs that arrived at the other end

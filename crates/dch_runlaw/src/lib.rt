@@ -1,7 +1,8 @@
-//! Laws of whole runs of `link`, radio frames, what is read of TTIs, the bearers at both ends, and the rows of the text, and of runs in soft handover.
-//! Definitions and laws, no code.
+//! Laws on whole runs of `link` and `soft`: radio frames, TTIs that arrive as they were sent or with few cells changed,
+//! the bearers of two layers 2 with the blocks between them, and the rows of the text. Definitions and laws, no code.
 #![tactic(auto)]
 
+mod bearer_laws;
 mod clear_laws;
 mod frame_laws;
 mod headline_laws;
@@ -15,8 +16,10 @@ mod script_laws;
 mod sized_laws;
 mod soft_nodes_laws;
 mod text_laws;
+mod tti_laws;
 mod undamaged_laws;
 
+pub use bearer_laws::{am_history_law, tm_law, um_law, um_whole_law, whole_law};
 pub use clear_laws::{clear_law, harmless_law};
 pub use dch_linkcmd::{LinkHandler, SoftHandler};
 pub use frame_laws::{frame_law, run_law};
@@ -34,4 +37,7 @@ pub use script_laws::soft_script_law;
 pub use sized_laws::{end_law, sized_law};
 pub use soft_nodes_laws::{soft_events_law, soft_nodes_law, soft_told_law};
 pub use text_laws::{false_law, read_law, shown_read_law, told_law};
+pub use tti_laws::{
+    damaged_frame_law, damaged_tti_law, little_changed_law, sent_tti_law, told_apart_law,
+};
 pub use undamaged_laws::{harmless_run_law, undamaged_over_law, undamaged_run_law};

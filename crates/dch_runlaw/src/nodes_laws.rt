@@ -2,10 +2,10 @@ ghost use Rattle.std.specs.Prelude.{ℕ, List};
 ghost use Rattle.dch_types.specs.declared.channel.Dir.TheVariants.{Down, Up};
 ghost use Rattle.dch_config.specs.Changes.{KeepsBearer};
 ghost use Rattle.dch_accept.specs.Plans.{Planned};
-ghost use Rattle.dch_layerlaw.specs.History.{IsAmBearer};
-ghost use Rattle.dch_layerlaw.specs.TmHistory.{IsTmBearer};
-ghost use Rattle.dch_layerlaw.specs.UmHistory.{IsUmBearer};
-ghost use Rattle.dch_layerlaw.specs.Worlds.{IsFaithful};
+ghost use Rattle.dch_runlaw.specs.History.{IsAmBearer};
+ghost use Rattle.dch_runlaw.specs.TmHistory.{IsTmBearer};
+ghost use Rattle.dch_runlaw.specs.UmHistory.{IsUmBearer};
+ghost use Rattle.dch_runlaw.specs.Worlds.{IsFaithful};
 ghost use Rattle.dch_runlaw.specs.Nodes.{Any, AreAllTaken, AreFaithful, AreWhole, Event, IsAmHistory, IsAmHistoryOver, IsDownKnown, IsDownKnownOver, IsDownSome, IsUpKnown, IsUpKnownOver, IsUpSome, IsWholeAmHistory, Nodes, Runs, RunsInTwo, opened_nodes};
 
 /// A law: any events happen at a terminal and a network controller, in any order and with any frames. After each event the good blocks

@@ -6,8 +6,8 @@ use Rattle.std.proofs.lemmas.Bool.Decides.{leb_tells}
 use Rattle.std.proofs.lemmas.List.{get_or_past}
 use Rattle.dch_bits.specs.declared.bit.Bit.{Bit}
 use Rattle.dch_bits.specs.declared.bit.Bit.TheVariants.{Zero}
-use Rattle.dch_bits.specs.Bits.{bit_of_number, number_of, plus}
-use Rattle.dch_tfci.specs.Tfci.{word_bit, period, sent, distance, IsSize, IsNearest}
+use Rattle.dch_bits.specs.Bits.{bit_of_number, number_of, plus, distance}
+use Rattle.dch_tfci.specs.Tfci.{word_bit, period, sent, IsSize, IsNearest}
 use Rattle.dch_tfci.specs.Transform.{place, differs, place_cost, cost, place_copies, cell, shown, run, IsStage, IsRoomy, IsPicked}
 use Rattle.dch_tfci.proofs.Sums.{run-suc, run-same, run-split, run-shift}
 use Rattle.dch_tfci.proofs.Words.{every, every_at, word_bit-lt, word_bit-xor}

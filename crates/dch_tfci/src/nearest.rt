@@ -1,6 +1,7 @@
 ghost use Rattle.std.specs.Prelude.{◌≡◌, ◌==◌, ℕ, List, ◌+◌, ◌-◌, ◌*◌, ◌/◌, ◌%◌, ◌<◌, ◌≤◌, if◌then◌else◌, length, min, slice_index, slice_index_or};
 ghost use Rattle.dch_bits.specs.declared.bit.Bit.{Bit};
-ghost use Rattle.dch_tfci.specs.Tfci.{word_bit, sent, distance, IsSize, IsNearest};
+ghost use Rattle.dch_bits.specs.Bits.{distance};
+ghost use Rattle.dch_tfci.specs.Tfci.{word_bit, sent, IsSize, IsNearest};
 ghost use Rattle.dch_tfci.specs.Transform.{place, differs, place_cost, cell, shown, IsStage, IsRoomy, IsNext, IsNextCopies, IsLeastKey, IsPicked};
 
 use dch_bits::{Bit, number};

@@ -1,5 +1,6 @@
-//! The top call of the program `dch`: words and bytes in, bytes and a status out. The words of the command line, `COMMAND [COUNT] [--start N] [--quiet]`,
-//! and a run of each command, from the first byte to the status, with the nodes that it leaves on the bench.
+//! The top call of the program: words and bytes in, bytes and a status out. It reads the words `COMMAND [COUNT]
+//! [--start N] [--quiet]`, runs the command from its first byte to its status, and leaves the nodes of the run on a
+//! bench.
 #![tactic(auto)]
 
 mod arguments;

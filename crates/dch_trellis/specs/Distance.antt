@@ -3,17 +3,11 @@ use Rattle.std.specs.Prelude.{◌≡◌, ◌≢◌, ◌+◌, ◌-◌, ◌*◌, �
 use Rattle.dch_bits.specs.declared.bit.Bit.{Bit}
 use Rattle.dch_bits.specs.declared.bit.Bit.TheVariants.{Zero, One}
 use Rattle.dch_bits.specs.declared.bit.Vote.{Vote}
-use Rattle.dch_bits.specs.Bits.{number_of, plus}
+use Rattle.dch_bits.specs.Bits.{number_of, plus, distance}
 use Rattle.dch_conv.specs.declared.rate.Rate.{Rate}
 use Rattle.dch_conv.specs.declared.rate.Rate.TheVariants.{Half, Third}
 use Rattle.dch_conv.specs.Conv.{encoded}
 use Rattle.dch_trellis.specs.Nearest.{copies, IsBlock}
-
--- the number of places where two lists differ
-abbrev pub distance : List Bit → List Bit → ℕ
-distance [] others = 0
-distance (bit ∷ bits) [] = 0
-distance (bit ∷ bits) (other ∷ others) = number_of (plus bit other) + distance bits others
 
 -- the free distance of the code of each rate: in how many places the coded bits of two blocks differ at least
 abbrev pub free_distance : Rate → ℕ

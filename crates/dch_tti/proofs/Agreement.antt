@@ -7,7 +7,7 @@ use Rattle.dch_bits.specs.declared.bit.Bit.TheVariants.{Zero, One}
 use Rattle.dch_bits.specs.declared.bit.Vote.{Vote}
 use Rattle.dch_trellis.specs.Nearest.{differing, disagreement}
 use Rattle.dch_frame.specs.Votes.{copies_as_votes}
-use Rattle.dch_tti.specs.BitsRead.{majority}
+use Rattle.dch_tti.specs.JoinedBits.{majority}
 use Rattle.dch_tti.specs.Copies.{AreCopies}
 
 differing_none : (bit : Bit) (n : ℕ) → differing (copies_as_votes bit n) bit ≡ 0

@@ -16,14 +16,14 @@ use Rattle.dch_accept.specs.Blocks.{Held, bits_of, block_at}
 use Rattle.dch_accept.specs.BlockLending.{with_bits}
 use Rattle.dch_accept.specs.Frames.{overwritten}
 use Rattle.dch_collision.specs.Clear.{HasNoCollision}
-use Rattle.dch_tti.specs.BitsRead.{AreRead}
+use Rattle.dch_tti.specs.JoinedBits.{AreRead}
 use Rattle.dch_tti.specs.Copies.{AreCopies}
 use Rattle.dch_tti.specs.Corrected.{ReadsCorrectable}
 use Rattle.dch_tti.specs.Received.{IsReceived, ArrivesAs}
 use Rattle.dch_tti.proofs.Lengths.{joined_le}
 use Rattle.dch_tti.proofs.Parts.{length-part, get_or-part}
 use Rattle.dch_tti.proofs.Corrected.{joined_corrected}
-use Rattle.dch_tti.proofs.BitsSent.{joined_found}
+use Rattle.dch_tti.proofs.UndamagedBits.{joined_found}
 
 -- a list that is written over whole
 overwritten_all : (xs ws : List Bit) → length ws ≡ length xs → overwritten xs ws ≡ ws

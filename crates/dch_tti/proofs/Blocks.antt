@@ -23,7 +23,7 @@ use Rattle.dch_coding.specs.Cuts.{HoldsBlocks}
 use Rattle.dch_coding.proofs.Blocks.{block_held}
 use Rattle.dch_trellis.specs.Nearest.{IsBlock}
 use Rattle.dch_coding.specs.Ttis.{part}
-use Rattle.dch_tti.specs.BitsRead.{IsRead}
+use Rattle.dch_tti.specs.JoinedBits.{IsRead}
 use Rattle.dch_tti.proofs.Lengths.{blocks_le}
 use Rattle.dch_tti.proofs.Parts.{part_fits, get_or-part, part-put_here, part-put_earlier}
 

@@ -1,4 +1,4 @@
-pub mod BitsRead
+pub mod JoinedBits
 pub mod Copies
 pub mod Received
 pub mod Corrected

@@ -11,7 +11,7 @@ use Rattle.dch_accept.specs.Blocks.{Held, bits_of, block_at}
 use Rattle.dch_coding.specs.Ttis.{IsCodedTti, part}
 use Rattle.dch_collision.specs.Clear.{HasNoCollision}
 use Rattle.dch_tti.specs.Copies.{AreCopies}
-use Rattle.dch_tti.specs.BitsRead.{AreRead}
+use Rattle.dch_tti.specs.JoinedBits.{AreRead}
 
 -- a block is the front of some bits, and good exactly where they end with its parity
 pub record IsFront (crc : Crc) (size : ℕ) (attached block : List Bit) (good : Bool) : Type 0 where

@@ -2,7 +2,7 @@ ghost use Rattle.std.specs.Prelude.{◌≡◌, ◌≢◌, ◌+◌, ◌^◌, ◌<
 ghost use Rattle.dch_bits.specs.declared.bit.Vote.{Vote};
 ghost use Rattle.dch_types.specs.declared.channel.Coding.TheVariants.{Uncoded};
 ghost use Rattle.dch_types.specs.Lengths.{coded_block};
-ghost use Rattle.dch_tti.specs.BitsRead.{majority, IsRead};
+ghost use Rattle.dch_tti.specs.JoinedBits.{majority, IsRead};
 
 use dch_bits::{Bit, Vote};
 use dch_conv::Rate;

@@ -10,7 +10,7 @@ ghost use Rattle.dch_trellis.specs.Nearest.{disagreement};
 ghost use Rattle.dch_coding.specs.Ttis.{part};
 ghost use Rattle.dch_trellis.specs.Distance.{HaveCopies};
 ghost use Rattle.dch_collision.specs.Clear.{HasNoCollision};
-ghost use Rattle.dch_tti.specs.BitsRead.{IsRead, AreRead};
+ghost use Rattle.dch_tti.specs.JoinedBits.{IsRead, AreRead};
 ghost use Rattle.dch_tti.specs.Copies.{AreCopies};
 ghost use Rattle.dch_tti.specs.Corrected.{AreCorrectable, AreFewWrong};
 

@@ -15,6 +15,12 @@ ghost use Rattle.dch_tti.specs.Pushed.{AreSentAndPushed};
 ghost use Rattle.dch_tti.specs.RxFrames.{AreBack, IsKept, RxFrame, RxFrames};
 ghost use Rattle.dch_tti.specs.Sent.{AreSentFrames};
 
+/// A law: two radio frames of a combination that show the same multiplexed cells have the same TFCI bits and cells.
+pub fn one_radio_frame_law()
+    ensures { (planned : Planned) (dir : Dir) (multiplexed : ℕ → Trit) (c : ℕ) (one other : Frame) →
+        IsFrameOf planned dir multiplexed c one → IsFrameOf planned dir multiplexed c other → (one.tfci ≡ other.tfci) × (one.cells ≡ other.cells) }
+{}
+
 /// A law: a frame that is kept as it was written is kept in the combination in which it was written, with its cells in
 /// multiplexed order.
 pub fn written_frame_law()

@@ -14,8 +14,6 @@ mod write;
 pub use dch_sar::LONGEST_SDU;
 pub use laws::payload_law;
 pub use next::{MOST_PDUS, next_start};
-pub use octets::{blocks_for, copy_octets, push_octets};
-pub use row::{BLOCK, BlockRow};
 pub use store::SduBuffer;
 pub use taken::{Cut, Start, next_cut};
 pub use write::{Header, write_taken, write_um_taken};

@@ -15,7 +15,7 @@ use Rattle.dch_accept.specs.Plans.{IsPlanned, Planned}
 use Rattle.dch_tti.specs.Formats.{IsBadFrame}
 use Rattle.dch_tti.specs.RxFrames.{RxFrames, frame_at}
 use Rattle.dch_tti.proofs.Alike.{KeepTheSame, bad_alike, reading_alike, same_cells, same_combination}
-use Rattle.dch_tti.proofs.OneKept.{format_one}
+use Rattle.dch_tti.proofs.OneReading.{format_one}
 use Rattle.dch_tti.proofs.Sent.{none_bad}
 use Rattle.dch_dlphy.specs.Loaded.{tti_cells}
 use Rattle.dch_dlphy.specs.Read.{AreVotes, IsTtiRead, received_cell, tti_cell}

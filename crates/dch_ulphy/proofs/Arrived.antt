@@ -17,7 +17,7 @@ use Rattle.dch_inter.specs.Places.{first_of, first_back_of, frame_of, place_of}
 use Rattle.dch_inter.proofs.FirstColumns.{first_of-back, frame_place}
 use Rattle.dch_match.specs.Uplinks.{IsPlan, before_of, uplink_pattern}
 use Rattle.dch_collision.specs.Copies.{frame_copies}
-use Rattle.dch_collision.proofs.SentSizes.{frame_size-plan}
+use Rattle.dch_collision.proofs.FrameSizes.{frame_size-plan}
 use Rattle.dch_match.specs.Patterns.{copies, copies_below}
 use Rattle.dch_frame.specs.Votes.{copies_as_votes}
 use Rattle.dch_match.specs.Matched.{frame_pattern}

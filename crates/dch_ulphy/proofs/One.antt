@@ -16,7 +16,7 @@ use Rattle.dch_accept.specs.Blocks.{Held}
 use Rattle.dch_accept.specs.Plans.{Planned}
 use Rattle.dch_tti.proofs.Coded.{coded_one}
 use Rattle.dch_tti.specs.RxFrames.{RxFrames}
-use Rattle.dch_tti.proofs.OneKept.{reading_one}
+use Rattle.dch_tti.proofs.OneReading.{reading_one}
 use Rattle.dch_tti.specs.Loaded.{Loaded}
 use Rattle.dch_ulphy.specs.Loaded.{IsLoaded}
 use Rattle.dch_ulphy.specs.Read.{AreVotes, IsTtiRead}

@@ -8,7 +8,7 @@ use Rattle.dch_frame.proofs.Carried.{place_inside, rows_of, whole_rows}
 use Rattle.dch_inter.proofs.FirstColumns.{frame_of-below}
 use Rattle.dch_collision.specs.Copies.{bits_in}
 use Rattle.dch_collision.proofs.Flags.{carried_more}
-use Rattle.dch_collision.proofs.SentSizes.{some_frames}
+use Rattle.dch_collision.proofs.FrameSizes.{some_frames}
 use Rattle.dch_collision.proofs.flagging.uplink_sent_flags.Goals as goal
 
 pub loop-n-preserved : goal.loop-n-preserved

@@ -1,6 +1,6 @@
 use Rattle.std.proofs.Common.{◌≡◌, sym, ap, ◌∙◌, arith}
 use Rattle.dch_collision.specs.Sequences.{frames_of}
-use Rattle.dch_collision.specs.LegalCounted.{ways_on, legal_count}
+use Rattle.dch_collision.specs.SequenceCounts.{ways_on, legal_count}
 use Rattle.dch_collision.proofs.Ways.{ways_end, ways_all, tells_legal, count_few}
 use Rattle.dch_collision.proofs.legal_counting.count.Goals as goal
 

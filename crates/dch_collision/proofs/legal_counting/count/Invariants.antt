@@ -1,6 +1,6 @@
 use Rattle.std.proofs.Common.{◌≤◌}
 use Rattle.dch_collision.specs.Sequences.{frames_of}
-use Rattle.dch_collision.specs.LegalCounted.{AreWays}
+use Rattle.dch_collision.specs.SequenceCounts.{AreWays}
 use Rattle.dch_collision.proofs.legal_counting.count.Given as goal
 
 abbrev pub invariant-loop-frame : goal.invariant-loop-frame

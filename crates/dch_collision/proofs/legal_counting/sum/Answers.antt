@@ -1,7 +1,7 @@
 use Rattle.std.proofs.Common.{◌≡◌, ◌+◌, ℕ, length, sym, ap, ◌∙◌, arith}
 use Rattle.dch_types.specs.Sums.{total}
 use Rattle.dch_types.proofs.Sums.{total-zero, total-more}
-use Rattle.dch_collision.specs.LegalCounted.{ways_with}
+use Rattle.dch_collision.specs.SequenceCounts.{ways_with}
 use Rattle.dch_collision.proofs.Ways.{ways_more, ways_few, with_fit, with_none}
 use Rattle.dch_collision.proofs.legal_counting.sum.Goals as goal
 use Rattle.dch_collision.proofs.legal_counting.sum.Goals.{then-fits, else-fits}

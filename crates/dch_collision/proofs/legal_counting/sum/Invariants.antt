@@ -1,6 +1,6 @@
 use Rattle.std.proofs.Common.{◌≡◌, ◌≤◌, ◌*◌}
 use Rattle.dch_types.specs.Sums.{total}
-use Rattle.dch_collision.specs.LegalCounted.{ways_with}
+use Rattle.dch_collision.specs.SequenceCounts.{ways_with}
 use Rattle.dch_collision.proofs.legal_counting.sum.Given as goal
 
 abbrev pub invariant-loop-combination : goal.invariant-loop-combination

@@ -1,5 +1,5 @@
 use Rattle.std.proofs.Common.{◌≡◌, ◌<◌, ℕ, length, get_or}
-use Rattle.dch_collision.specs.LegalCounted.{ways_on}
+use Rattle.dch_collision.specs.SequenceCounts.{ways_on}
 use Rattle.dch_collision.proofs.legal_counting.ways_before.Given as goal
 
 abbrev pub invariant-loop-previous : goal.invariant-loop-previous

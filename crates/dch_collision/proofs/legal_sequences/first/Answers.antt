@@ -3,7 +3,7 @@ use Rattle.dch_types.specs.Parts.{format_number}
 use Rattle.dch_collision.proofs.Following.{fits_format}
 use Rattle.dch_collision.proofs.Chains.{some_frames}
 use Rattle.dch_collision.proofs.Filling.{all_filled}
-use Rattle.dch_collision.proofs.SequenceOrder.{first_is, none_is}
+use Rattle.dch_collision.proofs.NextSequences.{first_is, none_is}
 use Rattle.dch_collision.proofs.legal_sequences.first.Goals as goal
 
 pub fill-requires-clause-format : goal.fill-requires-clause-format

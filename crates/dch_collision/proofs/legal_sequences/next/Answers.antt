@@ -3,7 +3,7 @@ use Rattle.dch_types.specs.Parts.{format_number}
 use Rattle.dch_collision.specs.Steps.{previous_of}
 use Rattle.dch_collision.proofs.Following.{fits_format}
 use Rattle.dch_collision.proofs.Filling.{other_place}
-use Rattle.dch_collision.proofs.SequenceOrder.{next_is, last_is}
+use Rattle.dch_collision.proofs.NextSequences.{next_is, last_is}
 use Rattle.dch_collision.proofs.legal_sequences.next.Goals as goal
 
 pub fill-requires-clause-format : goal.fill-requires-clause-format

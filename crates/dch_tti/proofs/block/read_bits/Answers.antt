@@ -2,7 +2,7 @@ use Rattle.std.proofs.Common.{◌∙◌, sym, arith, map}
 use Rattle.std.proofs.lemmas.List.{ext_get_or, get_or-map, length-map}
 use Rattle.dch_bits.specs.declared.bit.Bit.TheVariants.{Zero}
 use Rattle.dch_bits.specs.declared.bit.Vote.{Vote}
-use Rattle.dch_tti.specs.BitsRead.{majority}
+use Rattle.dch_tti.specs.JoinedBits.{majority}
 use Rattle.dch_tti.proofs.block.read_bits.Goals as goal
 
 pub returns : goal.returns

@@ -1,7 +1,7 @@
 use Rattle.std.proofs.Common.{◌≡◌, ◌<◌, ℕ, get_or}
 use Rattle.dch_bits.specs.declared.bit.Bit.TheVariants.{Zero}
 use Rattle.dch_bits.specs.declared.bit.Vote.{Vote}
-use Rattle.dch_tti.specs.BitsRead.{majority}
+use Rattle.dch_tti.specs.JoinedBits.{majority}
 use Rattle.dch_tti.proofs.block.read_bits.Given as goal
 
 abbrev pub invariant-loop-j : goal.invariant-loop-j

@@ -4,7 +4,7 @@ use Rattle.dch_bits.specs.declared.bit.Bit.{Bit}
 use Rattle.dch_types.specs.declared.channel.Coding.{Coding}
 use Rattle.dch_types.specs.Lengths.{coded_bits}
 use Rattle.dch_coding.specs.Rooms.{searched_bits}
-use Rattle.dch_tti.specs.BitsRead.{AreRead}
+use Rattle.dch_tti.specs.JoinedBits.{AreRead}
 use Rattle.dch_tti.proofs.Lengths.{joined_le}
 use Rattle.dch_tti.proofs.decoder.decode_front.Goals as goal
 

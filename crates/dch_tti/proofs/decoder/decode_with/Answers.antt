@@ -8,7 +8,7 @@ use Rattle.dch_segment.specs.Segments.{plan_of, filler_of}
 use Rattle.dch_segment.specs.declared.cut.Plan.{Plan}
 use Rattle.dch_coding.specs.Chain.{code_block}
 use Rattle.dch_coding.specs.Ttis.{part}
-use Rattle.dch_tti.specs.BitsRead.{IsRead}
+use Rattle.dch_tti.specs.JoinedBits.{IsRead}
 use Rattle.dch_tti.proofs.Blocks.{all_read, plan_short, plan_uncoded, plan_room}
 use Rattle.dch_tti.proofs.decoder.decode_with.Goals as goal
 

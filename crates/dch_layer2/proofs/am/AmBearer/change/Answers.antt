@@ -4,7 +4,7 @@ use Rattle.dch_layer2.specs.Acknowledged.{AmRunning, IsAmShape}
 use Rattle.dch_layer2.specs.BearerStanding.{FitsAm}
 use Rattle.dch_layer2.specs.contracts.am.AmBearer.{the_view}
 use Rattle.dch_layer2.specs.declared.shape.Shape.{Shape}
-use Rattle.dch_layer2.proofs.BearerChanging.{am_shape}
+use Rattle.dch_layer2.proofs.KeptBearers.{am_shape}
 use Rattle.dch_layer2.proofs.am.AmBearer.change.Goals as goal
 
 pub invariant_of-self : goal.invariant_of-self

@@ -1,7 +1,7 @@
 use Rattle.std.proofs.Common.{subst, sym}
 use Rattle.dch_config.specs.Good.{IsGood}
 use Rattle.dch_layer2.specs.BearerStanding.{Represents}
-use Rattle.dch_layer2.proofs.BearerChanging.{am_fits_on, am_goes_on, tm_goes_on, um_fits_on, um_goes_on}
+use Rattle.dch_layer2.proofs.KeptBearers.{am_fits_on, am_goes_on, tm_goes_on, um_fits_on, um_goes_on}
 use Rattle.dch_layer2.proofs.bearer.Bearer.change.Goals as goal
 
 pub change-requires : goal.change-requires

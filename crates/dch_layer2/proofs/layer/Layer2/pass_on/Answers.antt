@@ -3,7 +3,7 @@ use Rattle.dch_config.specs.Good.{IsGood}
 use Rattle.dch_mac.specs.declared.answer.Demux.{Demux}
 use Rattle.dch_layer2.specs.Layers.{goes}
 use Rattle.dch_layer2.specs.Standing.{Represents}
-use Rattle.dch_layer2.proofs.BoundBlocks.{reached}
+use Rattle.dch_layer2.proofs.PduSizes.{reached}
 use Rattle.dch_layer2.proofs.Coming.{passes}
 use Rattle.dch_layer2.proofs.layer.Layer2.pass_on.Goals as goal
 

@@ -4,7 +4,7 @@ use Rattle.dch_layer2.specs.BearerStanding.{FitsUm}
 use Rattle.dch_layer2.specs.BearerValues.{FillsBlocks, UmRunning}
 use Rattle.dch_layer2.specs.contracts.um.UmBearer.{the_view}
 use Rattle.dch_layer2.specs.declared.shape.Shape.{Shape}
-use Rattle.dch_layer2.proofs.BearerChanging.{um_fills}
+use Rattle.dch_layer2.proofs.KeptBearers.{um_fills}
 use Rattle.dch_layer2.proofs.um.UmBearer.change.Goals as goal
 
 pub invariant_of-self : goal.invariant_of-self

@@ -7,7 +7,7 @@ use Rattle.dch_trellis.proofs.Damage.{received}
 use Rattle.dch_tti.proofs.Agreement.{disagreement-copies}
 use Rattle.dch_tti.proofs.Corrected.{few_correctable, joined_corrected}
 use Rattle.dch_tti.proofs.Lengths.{joined_le}
-use Rattle.dch_tti.proofs.BitsSent.{joined_found}
+use Rattle.dch_tti.proofs.UndamagedBits.{joined_found}
 use Rattle.dch_tti.proofs.decoder.Decoder.decode.Goals as goal
 
 pub returns-clause-undamaged : goal.returns-clause-undamaged

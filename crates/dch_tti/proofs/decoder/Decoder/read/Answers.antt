@@ -2,7 +2,7 @@ use Rattle.std.proofs.Common.{◌≡◌, ◌∙◌, ℕ, List, length, take, ari
 use Rattle.std.proofs.lemmas.List.{length-take-le, take_at}
 use Rattle.dch_bits.specs.declared.bit.Bit.{Bit}
 use Rattle.dch_types.specs.Lengths.{coded_bits, joined_bits, tti_bits}
-use Rattle.dch_tti.specs.BitsRead.{AreRead}
+use Rattle.dch_tti.specs.JoinedBits.{AreRead}
 use Rattle.dch_tti.proofs.Arrived.{received_are, arrived, arrived_correctable}
 use Rattle.dch_tti.proofs.decoder.Decoder.read.Goals as goal
 

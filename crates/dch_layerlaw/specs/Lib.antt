@@ -1,9 +1,0 @@
-pub mod Lines
-pub mod Doings
-pub mod Worlds
-pub mod History
-pub mod Ended
-pub mod UmHistory
-pub mod TmHistory
-pub mod Directions
-pub mod Rows

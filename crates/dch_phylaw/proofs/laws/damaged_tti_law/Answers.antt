@@ -1,9 +1,0 @@
-use Rattle.dch_phylaw.proofs.DownlinkDamaged.{downlink_damaged}
-use Rattle.dch_phylaw.proofs.UplinkDamaged.{uplink_damaged}
-use Rattle.dch_phylaw.proofs.laws.damaged_tti_law.Goals as goal
-
-pub returns-clause-uplink : goal.returns-clause-uplink
-returns-clause-uplink c = uplink_damaged
-
-pub returns-clause-downlink : goal.returns-clause-downlink
-returns-clause-downlink c = downlink_damaged

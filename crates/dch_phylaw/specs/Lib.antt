@@ -1,2 +1,0 @@
-pub mod Damaged
-pub mod SentRead

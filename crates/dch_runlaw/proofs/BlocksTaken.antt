@@ -1,0 +1,219 @@
+-- What the blocks of a channel do to an acknowledged bearer, as a history of its pair.
+use Rattle.std.proofs.Common.{◌≡◌, ◌+◌, ◌-◌, ℕ, List, [], ◌∷◌, ◌++◌, Bool, true, false, cond, Result, Ok, Err, length, drop, refl, sym, ap, ◌∙◌, subst, append_assoc}
+use Rattle.std.specs.Prelude.{◌==◌, ◌||◌, filter, nat_lt}
+use Rattle.std.proofs.lemmas.Bool.{cond_both}
+use Rattle.std.proofs.lemmas.List.{append-nil}
+use Rattle.std.proofs.lemmas.List.Elements.{filter-append}
+use Rattle.dch_bits.specs.declared.bit.Bit.{Bit}
+use Rattle.dch_types.specs.declared.channel.Dir.{Dir}
+use Rattle.dch_types.specs.declared.config.Config.{Config}
+use Rattle.dch_rlcpdu.specs.declared.am.AmView.{AmView}
+use Rattle.dch_rlcpdu.specs.declared.am.AmView.TheVariants.{Payload as Data, Status, Reset, ResetAck}
+use Rattle.dch_rlcpdu.specs.declared.um.UmView.{UmView}
+use Rattle.dch_rlcpdu.specs.declared.handed.PduError.{PduError}
+use Rattle.dch_rlcpdu.specs.Am.{am_reading}
+use Rattle.dch_rlcpdu.specs.Um.{um_reading}
+use Rattle.dch_mac.specs.declared.answer.Demux.{Demux}
+use Rattle.dch_mac.specs.declared.answer.Demux.TheVariants.{To, Reserved, NoBearer, Nobody}
+use Rattle.dch_mac.specs.Field.{field_bits}
+use Rattle.dch_mac.specs.Receivers.{receiver}
+use Rattle.dch_am.specs.Receiver.{Receiver, taken}
+use Rattle.dch_am.specs.Moves.{control_answer}
+use Rattle.dch_am.specs.Acknowledging.{status_answer}
+use Rattle.dch_am.specs.Rules.{Rules}
+use Rattle.dch_am.specs.Sender.{Sender}
+use Rattle.dch_rlcum.specs.Receiving.{Receiving, after_pdu as after_um}
+use Rattle.dch_layer2.specs.Hearing.{receiver_of, hears, hears_am, hears_um, new_units, rides_outside}
+use Rattle.dch_pair.specs.Answers.{is_unknown}
+use Rattle.dch_amlaw.specs.Pair.{At, Block, End, IsSafe, Pair, after, happens, is_beyond, is_outside_answer}
+use Rattle.dch_amlaw.specs.Lossless.{NoneLost}
+use Rattle.dch_layer2.specs.Bearings.{Acknowledged, Bearing, Sends, Transparent, Unacknowledged, ct_of, pdu_octets, rules_in}
+use Rattle.dch_layer2.specs.Layers.{Came, Layer, Outcome, goes, takes, takes_one}
+use Rattle.dch_node.specs.Lines.{Line, Outside}
+use Rattle.dch_layer2.specs.UnitLines.{line_if, unit_line, unit_lines}
+use Rattle.dch_layer2.specs.Octets.{octets_of}
+use Rattle.dch_am.specs.Entities.{pdu_of}
+use Rattle.dch_pair.proofs.Units.{Grown, grown_by_pdu}
+use Rattle.dch_runlaw.specs.Doings.{block_if, good_blocks, has_bits}
+use Rattle.dch_runlaw.specs.History.{is_mine, is_to}
+use Rattle.dch_runlaw.specs.Lines.{is_of, lines_of}
+use Rattle.dch_runlaw.specs.Worlds.{IsFront, IsSublist}
+use Rattle.dch_runlaw.proofs.Catching.{AlwaysSafe, Caught, Wires, catches, pair_of}
+use Rattle.dch_runlaw.proofs.Names.{number_same, other_number, receiver_has, receiver_skips, same_number}
+use Rattle.dch_runlaw.proofs.Sublists.{behind, behind-append, either, front_behind, front_first, past, sub_behind, sub_front}
+
+-- the lines of a bearer among more
+pub lines-append : (b : ℕ) (xs ys : List Line) → lines_of b (xs ++ ys) ≡ lines_of b xs ++ lines_of b ys
+lines-append b [] ys = refl
+lines-append b (x ∷ xs) ys = either (is_of b x)
+    (λ e. rw e (ap (λ l. x ∷ l) (lines-append b xs ys)))
+    (λ e. rw e (lines-append b xs ys))
+
+pub units-append : (dir : Dir) (b : ℕ) (us vs : List (List ℕ)) → unit_lines dir b (us ++ vs) ≡ unit_lines dir b us ++ unit_lines dir b vs
+units-append dir b [] vs = refl
+units-append dir b (u ∷ us) vs = ap (λ l. unit_line dir b u ∷ l) (units-append dir b us vs)
+
+-- lines on units are lines of their bearer
+unit_of : (b c : ℕ) (dir : Dir) (u : List ℕ) → is_of b (unit_line dir c u) ≡ (c == b)
+unit_of b c dir u = cond_both (nat_lt 1500 (length u)) _ _ (λ l. is_of b l ≡ (c == b)) (λ _. refl) (λ _. refl)
+
+pub own_lines : (b : ℕ) (dir : Dir) (us : List (List ℕ)) → lines_of b (unit_lines dir b us) ≡ unit_lines dir b us
+own_lines b dir [] = refl
+own_lines b dir (u ∷ us) = rw (unit_of b b dir u, same_number b b refl) (ap (λ l. unit_line dir b u ∷ l) (own_lines b dir us))
+
+other_lines : (b c : ℕ) (dir : Dir) (us : List (List ℕ)) → (c == b) ≡ false → lines_of b (unit_lines dir c us) ≡ []
+other_lines b c dir [] e = refl
+other_lines b c dir (u ∷ us) e = rw (unit_of b c dir u, e) (other_lines b c dir us e)
+
+other_outside : (b c : ℕ) (dir : Dir) (o : Bool) → (c == b) ≡ false → lines_of b (line_if o (Outside dir c)) ≡ []
+other_outside b c dir true e = rw e refl
+other_outside b c dir false e = refl
+
+none_on : (b : ℕ) (xs ys : List Line) → lines_of b xs ≡ [] → lines_of b ys ≡ [] → lines_of b (xs ++ ys) ≡ []
+none_on b xs ys e f = lines-append b xs ys ∙ rw (e, f) refl
+
+-- what comes for another bearer has no line of this one
+around : (b c : ℕ) (dir : Dir) (o q : Bool) (us : List (List ℕ)) → (c == b) ≡ false → lines_of b (line_if o (Outside dir c) ++ unit_lines dir c us ++ line_if q (Outside dir c)) ≡ []
+around b c dir o q us e = none_on b (line_if o (Outside dir c) ++ unit_lines dir c us) (line_if q (Outside dir c)) (none_on b (line_if o (Outside dir c)) (unit_lines dir c us) (other_outside b c dir o e) (other_lines b c dir us e)) (other_outside b c dir q e)
+
+before : (b c : ℕ) (dir : Dir) (o : Bool) (us : List (List ℕ)) → (c == b) ≡ false → lines_of b (line_if o (Outside dir c) ++ unit_lines dir c us) ≡ []
+before b c dir o us e = none_on b (line_if o (Outside dir c)) (unit_lines dir c us) (other_outside b c dir o e) (other_lines b c dir us e)
+
+other_am : (rules : Rules) (dir : Dir) (b c : ℕ) (view : Result AmView PduError) (s : Sender) (r : Receiver) → (c == b) ≡ false → lines_of b (hears_am rules dir c view s r).lines ≡ []
+other_am rules dir b c (Ok (Data sn poll x p)) s r e = around b c dir (is_outside_answer (taken rules r sn)) (rides_outside rules p s) (new_units r (receiver_of rules (Ok (Data sn poll x p)) r)) e
+other_am rules dir b c (Ok (Status fields)) s r e = before b c dir (is_unknown (status_answer rules s fields) || is_beyond (control_answer rules r fields)) (new_units r (receiver_of rules (Ok (Status fields)) r)) e
+other_am rules dir b c (Ok (Reset rsn hfni)) s r e = refl
+other_am rules dir b c (Ok (ResetAck rsn hfni)) s r e = refl
+other_am rules dir b c (Err x) s r e = rw e refl
+
+other_um : (dir : Dir) (b c : ℕ) (view : Result UmView PduError) (s : Sends) (r : Receiving) → (c == b) ≡ false → lines_of b (hears_um dir c view s r).lines ≡ []
+other_um dir b c (Ok view) s r e = other_lines b c dir (after_um view r).waiting e
+other_um dir b c (Err x) s r e = rw e refl
+
+pub other_hears : (config : Config) (dir : Dir) (b c : ℕ) (bits : List Bit) (bearing : Bearing) → (c == b) ≡ false → lines_of b (hears config dir c bits bearing).lines ≡ []
+other_hears config dir b c bits (Transparent w us) e = rw e refl
+other_hears config dir b c bits (Unacknowledged s r) e = other_um dir b c (um_reading (octets_of bits)) s r e
+other_hears config dir b c bits (Acknowledged s r) e = other_am (rules_in config c) dir b c (am_reading (octets_of bits)) s r e
+
+-- a PDU takes no unit back, and the new units are those behind the old ones
+view_grown : (rules : Rules) (view : Result AmView PduError) (r : Receiver) → Grown r.reading.units (receiver_of rules view r).reading.units
+view_grown rules (Ok view) r = grown_by_pdu rules (pdu_of view) r
+view_grown rules (Err e) r = record { more = []; is = sym (append-nil r.reading.units) }
+
+drop-front : (xs ys : List (List ℕ)) → drop (length xs) (xs ++ ys) ≡ ys
+drop-front [] ys = refl
+drop-front (x ∷ xs) ys = drop-front xs ys
+
+grown_is : (xs ys : List (List ℕ)) → Grown xs ys → ys ≡ xs ++ drop (length xs) ys
+grown_is xs ys g = g.is ∙ ap (λ l. xs ++ l) (sym (drop-front xs g.more) ∙ ap (drop (length xs)) (sym g.is))
+
+pub after-append : (rules : Rules) (p : Pair) (xs ys : List At) → after rules p (xs ++ ys) ≡ after rules (after rules p xs) ys
+after-append rules p [] ys = refl
+after-append rules p (x ∷ xs) ys = after-append rules (happens rules p x) xs ys
+
+pub none_lost-append : (xs ys : List At) → NoneLost xs → NoneLost ys → NoneLost (xs ++ ys)
+none_lost-append [] ys h k = k
+none_lost-append (x ∷ xs) ys h k = (h.0, none_lost-append xs ys h.1 k)
+
+pub safe_after : (rules : Rules) (p q : Pair) (events : List At) → after rules p events ≡ q → AlwaysSafe rules p → AlwaysSafe rules q
+safe_after rules p q events e safe = λ more. subst (IsSafe rules) (after-append rules p events more ∙ ap (λ x. after rules x more) e) (safe (events ++ more))
+
+-- the bearer after blocks came: events of the history, its end and what is left of its line, and the units that were handed up
+pub record Took (rules : Rules) (into : Dir) (b : ℕ) (near far : End) (out line : List Block) (skip d : ℕ) (rest : List (List Bit)) (new : Outcome) (Fits : Type 0) : Type 0 where
+  pub events : List At
+  pub end : End
+  pub later : List Block
+  pub is : after rules (pair_of near far out line) events ≡ pair_of end far out later
+  pub octets : end.octets ≡ near.octets
+  pub bearing : new.layer.bearings b ≡ Acknowledged end.entity.sender end.entity.receiver
+  pub units : List (List ℕ)
+  pub grown : end.entity.receiver.reading.units ≡ near.entity.receiver.reading.units ++ units
+  pub lines : lines_of b new.lines ≡ unit_lines into b units
+  pub wires : Wires skip d later rest
+  pub kept : Fits → NoneLost events
+
+-- nothing came for it
+nothing : (rules : Rules) (into : Dir) (b : ℕ) (near far : End) (out line : List Block) (skip d : ℕ) (rest : List (List Bit)) (new : Outcome) → new.layer.bearings b ≡ Acknowledged near.entity.sender near.entity.receiver → lines_of b new.lines ≡ [] → Wires skip d line rest → (Fits : Type 0) → Took rules into b near far out line skip d rest new Fits
+nothing rules into b near far out line skip d rest new e f wires Fits = record {
+  events = [];
+  end = near;
+  later = line;
+  is = refl;
+  octets = refl;
+  bearing = e;
+  units = [];
+  grown = sym (append-nil near.entity.receiver.reading.units);
+  lines = f;
+  wires = wires;
+  kept = λ _. tt;
+}
+
+-- a block came for it
+came_for : (config : Config) (into : Dir) (b i : ℕ) (near far : End) (out line : List Block) (skip d : ℕ) (block : List Bit) (rest : List (List Bit)) (layer : Layer) (Fits : Type 0) → layer.bearings b ≡ Acknowledged near.entity.sender near.entity.receiver → Caught (rules_in config b) near far out line skip d block rest Fits → Took (rules_in config b) into b near far out line skip d rest (goes config into i block (To b skip) layer) Fits
+came_for config into b i near far out line skip d block rest layer Fits e c = record {
+  events = c.events;
+  end = c.end;
+  later = c.later;
+  is = c.is;
+  octets = c.octets;
+  bearing = rw (same_number b b refl) (ap (λ x. (hears config into b (drop skip block) x).bearing) e ∙ ap (λ s. Acknowledged s (receiver_of (rules_in config b) (am_reading (octets_of (drop skip block))) near.entity.receiver)) c.sender ∙ ap (λ r. Acknowledged c.end.entity.sender r) c.receiver);
+  units = new_units near.entity.receiver (receiver_of (rules_in config b) (am_reading (octets_of (drop skip block))) near.entity.receiver);
+  grown = ap (λ (r : Receiver). r.reading.units) (sym c.receiver) ∙ grown_is near.entity.receiver.reading.units _ (view_grown (rules_in config b) (am_reading (octets_of (drop skip block))) near.entity.receiver);
+  lines = ap (λ x. lines_of b (hears config into b (drop skip block) x).lines) e ∙ ap (lines_of b) (c.lines into b _) ∙ own_lines b into _;
+  wires = c.wires;
+  kept = c.kept;
+}
+
+-- one block that came on the channel
+one : (config : Config) (into : Dir) (b i : ℕ) (near far : End) (out line : List Block) (bit : Bit) (bits : List Bit) (ys : List (List Bit)) (layer : Layer) (to : Demux) → layer.bearings b ≡ Acknowledged near.entity.sender near.entity.receiver → receiver config into i (bit ∷ bits) ≡ to → AlwaysSafe (rules_in config b) (pair_of near far out line) → Wires (field_bits (ct_of config into b)) (pdu_octets config into b - 2) line ys → IsSublist (cond (is_to b to) ((bit ∷ bits) ∷ []) []) ys → Took (rules_in config b) into b near far out line (field_bits (ct_of config into b)) (pdu_octets config into b - 2) (behind (cond (is_to b to) ((bit ∷ bits) ∷ []) []) ys) (goes config into i (bit ∷ bits) to layer) (IsFront (cond (is_to b to) ((bit ∷ bits) ∷ []) []) ys)
+one config into b i near far out line bit bits ys layer (To c skip) e to safe wires sub = either (b == c)
+    (λ q. let same : b ≡ c = number_same b c q in
+    let goes_to : receiver config into i (bit ∷ bits) ≡ To b skip = to ∙ ap (λ x. To x skip) (sym same) in
+    let skips : skip ≡ field_bits (ct_of config into b) = receiver_skips config into i b skip (bit ∷ bits) (receiver_has config into i b skip (bit ∷ bits) goes_to) goes_to in
+    let sub_is : IsSublist ((bit ∷ bits) ∷ []) ys = subst (λ x. IsSublist (cond x ((bit ∷ bits) ∷ []) []) ys) q sub in
+    subst (λ x. Took (rules_in config b) into b near far out line (field_bits (ct_of config into b)) (pdu_octets config into b - 2) (behind (cond x ((bit ∷ bits) ∷ []) []) ys) (goes config into i (bit ∷ bits) (To c skip) layer) (IsFront (cond x ((bit ∷ bits) ∷ []) []) ys)) (sym q)
+    (subst (λ x. Took (rules_in config b) into b near far out line (field_bits (ct_of config into b)) (pdu_octets config into b - 2) (past (bit ∷ bits) ys) (goes config into i (bit ∷ bits) (To x skip) layer) (IsFront ((bit ∷ bits) ∷ []) ys)) same
+    (subst (λ x. Took (rules_in config b) into b near far out line (field_bits (ct_of config into b)) (pdu_octets config into b - 2) (past (bit ∷ bits) ys) (goes config into i (bit ∷ bits) (To b x) layer) (IsFront ((bit ∷ bits) ∷ []) ys)) (sym skips)
+    (came_for config into b i near far out line (field_bits (ct_of config into b)) (pdu_octets config into b - 2) (bit ∷ bits) (past (bit ∷ bits) ys) layer (IsFront ((bit ∷ bits) ∷ []) ys) e
+    (catches (rules_in config b) near far out line (field_bits (ct_of config into b)) (pdu_octets config into b - 2) (bit ∷ bits) ys safe wires sub_is)))))
+    (λ q. let other : (c == b) ≡ false = other_number c b (λ f. let t : (b == c) ≡ true = same_number b c (sym f) in absurd (cc)) in
+    subst (λ x. Took (rules_in config b) into b near far out line (field_bits (ct_of config into b)) (pdu_octets config into b - 2) (behind (cond x ((bit ∷ bits) ∷ []) []) ys) (goes config into i (bit ∷ bits) (To c skip) layer) (IsFront (cond x ((bit ∷ bits) ∷ []) []) ys)) (sym q)
+    (nothing (rules_in config b) into b near far out line (field_bits (ct_of config into b)) (pdu_octets config into b - 2) ys (goes config into i (bit ∷ bits) (To c skip) layer) (rw q e) (other_hears config into b c (drop skip (bit ∷ bits)) (layer.bearings c) other) wires (IsFront [] ys)))
+one config into b i near far out line bit bits ys layer Reserved e to safe wires sub = nothing (rules_in config b) into b near far out line (field_bits (ct_of config into b)) (pdu_octets config into b - 2) ys (goes config into i (bit ∷ bits) Reserved layer) e refl wires (IsFront [] ys)
+one config into b i near far out line bit bits ys layer (NoBearer ct) e to safe wires sub = nothing (rules_in config b) into b near far out line (field_bits (ct_of config into b)) (pdu_octets config into b - 2) ys (goes config into i (bit ∷ bits) (NoBearer ct) layer) e refl wires (IsFront [] ys)
+one config into b i near far out line bit bits ys layer Nobody e to safe wires sub = nothing (rules_in config b) into b near far out line (field_bits (ct_of config into b)) (pdu_octets config into b - 2) ys (goes config into i (bit ∷ bits) Nobody layer) e refl wires (IsFront [] ys)
+
+-- a good block, a bad one, and one without bits
+block : (config : Config) (into : Dir) (b i k : ℕ) (near far : End) (out line : List Block) (bits : List Bit) (good : Bool) (ys : List (List Bit)) (layer : Layer) → layer.bearings b ≡ Acknowledged near.entity.sender near.entity.receiver → AlwaysSafe (rules_in config b) (pair_of near far out line) → Wires (field_bits (ct_of config into b)) (pdu_octets config into b - 2) line ys → IsSublist (filter (is_mine config into b i) (block_if good (has_bits bits) bits)) ys → Took (rules_in config b) into b near far out line (field_bits (ct_of config into b)) (pdu_octets config into b - 2) (behind (filter (is_mine config into b i) (block_if good (has_bits bits) bits)) ys) (takes_one config into i k bits good layer) (IsFront (filter (is_mine config into b i) (block_if good (has_bits bits) bits)) ys)
+block config into b i k near far out line [] true ys layer e safe wires sub = nothing (rules_in config b) into b near far out line (field_bits (ct_of config into b)) (pdu_octets config into b - 2) ys (takes_one config into i k [] true layer) e refl wires (IsFront [] ys)
+block config into b i k near far out line (bit ∷ bits) true ys layer e safe wires sub = one config into b i near far out line bit bits ys layer (receiver config into i (bit ∷ bits)) e refl safe wires sub
+block config into b i k near far out line bits false ys layer e safe wires sub = nothing (rules_in config b) into b near far out line (field_bits (ct_of config into b)) (pdu_octets config into b - 2) ys (takes_one config into i k bits false layer) e refl wires (IsFront [] ys)
+
+-- one after another
+took_on : (rules : Rules) (into : Dir) (b : ℕ) (near far : End) (out line : List Block) (skip d : ℕ) (rest last : List (List Bit)) (mid : Outcome) (new : Layer) (lines : List Line) (One Two Fits : Type 0) (first : Fits → One) (second : Fits → Two) (t : Took rules into b near far out line skip d rest mid One) → Took rules into b t.end far out t.later skip d last (record { layer = new; lines = lines }) Two → Took rules into b near far out line skip d last (record { layer = new; lines = mid.lines ++ lines }) Fits
+took_on rules into b near far out line skip d rest last mid new lines One Two Fits first second t u = record {
+  events = t.events ++ u.events;
+  end = u.end;
+  later = u.later;
+  is = after-append rules (pair_of near far out line) t.events u.events ∙ ap (λ x. after rules x u.events) t.is ∙ u.is;
+  octets = u.octets ∙ t.octets;
+  bearing = u.bearing;
+  units = t.units ++ u.units;
+  grown = u.grown ∙ ap (λ l. l ++ u.units) t.grown ∙ append_assoc near.entity.receiver.reading.units t.units u.units;
+  lines = lines-append b mid.lines lines ∙ ap (λ l. l ++ lines_of b lines) t.lines ∙ ap (λ l. unit_lines into b t.units ++ l) u.lines ∙ sym (units-append into b t.units u.units);
+  wires = u.wires;
+  kept = λ f. none_lost-append t.events u.events (t.kept (first f)) (u.kept (second f));
+}
+
+pub all_taken : (config : Config) (into : Dir) (b i k : ℕ) (near far : End) (out line : List Block) (came : List Came) (ys : List (List Bit)) (layer : Layer) → layer.bearings b ≡ Acknowledged near.entity.sender near.entity.receiver → AlwaysSafe (rules_in config b) (pair_of near far out line) → Wires (field_bits (ct_of config into b)) (pdu_octets config into b - 2) line ys → IsSublist (filter (is_mine config into b i) (good_blocks came)) ys → Took (rules_in config b) into b near far out line (field_bits (ct_of config into b)) (pdu_octets config into b - 2) (behind (filter (is_mine config into b i) (good_blocks came)) ys) (takes config into i k came layer) (IsFront (filter (is_mine config into b i) (good_blocks came)) ys)
+all_taken config into b i k near far out line [] ys layer e safe wires sub = nothing (rules_in config b) into b near far out line (field_bits (ct_of config into b)) (pdu_octets config into b - 2) ys (takes config into i k [] layer) e refl wires (IsFront [] ys)
+all_taken config into b i k near far out line (c ∷ came) ys layer e safe wires sub =
+    let p = is_mine config into b i in
+    let first : List (List Bit) = filter p (block_if c.good (has_bits c.bits) c.bits) in
+    let split : filter p (good_blocks (c ∷ came)) ≡ first ++ filter p (good_blocks came) = filter-append p (block_if c.good (has_bits c.bits) c.bits) (good_blocks came) in
+    let both : IsSublist (first ++ filter p (good_blocks came)) ys = subst (λ l. IsSublist l ys) split sub in
+    let t = block config into b i k near far out line c.bits c.good ys layer e safe wires (sub_front first (filter p (good_blocks came)) ys both) in
+    let u = all_taken config into b i (k + 1) t.end far out t.later came (behind first ys) (takes_one config into i k c.bits c.good layer).layer t.bearing (safe_after (rules_in config b) (pair_of near far out line) (pair_of t.end far out t.later) t.events t.is safe) t.wires (sub_behind first (filter p (good_blocks came)) ys both) in
+    subst (λ l. Took (rules_in config b) into b near far out line (field_bits (ct_of config into b)) (pdu_octets config into b - 2) l (takes config into i k (c ∷ came) layer) (IsFront (filter p (good_blocks (c ∷ came))) ys)) (sym (ap (λ l. behind l ys) split ∙ behind-append first (filter p (good_blocks came)) ys))
+    (took_on (rules_in config b) into b near far out line (field_bits (ct_of config into b)) (pdu_octets config into b - 2) (behind first ys) (behind (filter p (good_blocks came)) (behind first ys)) (takes_one config into i k c.bits c.good layer) (takes config into i (k + 1) came (takes_one config into i k c.bits c.good layer).layer).layer (takes config into i (k + 1) came (takes_one config into i k c.bits c.good layer).layer).lines (IsFront first ys) (IsFront (filter p (good_blocks came)) (behind first ys)) (IsFront (filter p (good_blocks (c ∷ came))) ys)
+    (λ f. front_first first (filter p (good_blocks came)) ys (subst (λ l. IsFront l ys) split f)) (λ f. front_behind first (filter p (good_blocks came)) ys (subst (λ l. IsFront l ys) split f)) t u)

@@ -1,0 +1,65 @@
+ghost use Rattle.std.specs.Prelude.{◌≡◌, ◌<◌, ◌≤◌, ℕ, List, Option, length};
+ghost use Rattle.dch_bits.specs.declared.bit.Bit.{Bit};
+ghost use Rattle.dch_bits.specs.declared.bit.Trit.{Trit};
+ghost use Rattle.dch_types.specs.declared.channel.Coding.{Coding};
+ghost use Rattle.dch_types.specs.declared.channel.Dir.{Dir};
+ghost use Rattle.dch_types.specs.declared.channel.Dir.TheVariants.{Up, Down};
+ghost use Rattle.dch_types.specs.declared.channel.Side.{Side};
+ghost use Rattle.dch_types.specs.Parts.{side_of};
+ghost use Rattle.dch_tti.specs.Read.{coded_in};
+ghost use Rattle.dch_coding.specs.Chain.{coded_as};
+ghost use Rattle.dch_trellis.specs.Distance.{AreToldApart};
+ghost use Rattle.dch_collision.specs.Collisions.{NoneCollide};
+ghost use Rattle.dch_accept.specs.Frames.{Frame};
+ghost use Rattle.dch_tti.specs.Frames.{IsFrameOf};
+ghost use Rattle.dch_accept.specs.Plans.{IsPlanned, Planned};
+ghost use Rattle.dch_dlphy.specs.Read.{IsTtiRead as IsDownlinkRead};
+ghost use Rattle.dch_dlphy.specs.Sent.{WasSent as WasSentDown};
+ghost use Rattle.dch_node.specs.RxFrames.{AreHeard};
+ghost use Rattle.dch_node.specs.Values.{Radio};
+ghost use Rattle.dch_tti.specs.RxFrames.{IsKept, RxFrame, RxFrames};
+ghost use Rattle.dch_ulphy.specs.Read.{IsTtiRead as IsUplinkRead};
+ghost use Rattle.dch_ulphy.specs.Sent.{WasSent as WasSentUp};
+ghost use Rattle.dch_runlaw.specs.Damaged.{AreFewChanged, AreLittleChanged, IsLittleDamaged, WasDamagedDown, WasDamagedUp};
+ghost use Rattle.dch_runlaw.specs.SentRead.{IsReadAsSent};
+
+/// A law: of a TTI whose radio frames are kept just as they were sent no frame is bad, its format is the one in which its blocks were sent,
+/// and just these blocks are read, all good. In the uplink its radio frames were sent in a legal sequence of combinations.
+pub fn sent_tti_law()
+    ensures downlink { (planned : Planned) (cfn : ℕ) (frames : ℕ → Option Radio) (reader : RxFrames) (i f : ℕ) (blocks : List Bit) →
+        IsPlanned planned → AreHeard planned Down cfn frames reader → i < length planned.config.downlink.side.channels →
+        WasSentDown planned reader i f blocks → IsReadAsSent planned Down (IsDownlinkRead planned) reader i f blocks }
+    ensures uplink { (planned : Planned) (cfn : ℕ) (frames : ℕ → Option Radio) (reader : RxFrames) (i f : ℕ) (blocks : List Bit) →
+        IsPlanned planned → AreHeard planned Up cfn frames reader → i < length planned.config.uplink.side.channels →
+        WasSentUp planned reader i f blocks → IsReadAsSent planned Up (IsUplinkRead planned) reader i f blocks }
+{}
+
+/// A law: a TTI whose radio frames are kept in the combinations in which they were sent is read as it was sent, where in each code
+/// block less than half of the copies that tell it from others have changed, to the other bit or to none.
+pub fn damaged_tti_law()
+    ensures uplink { (planned : Planned) (reader : RxFrames) (i f : ℕ) (blocks : List Bit) →
+        IsPlanned planned → i < length planned.config.uplink.side.channels →
+        WasDamagedUp planned reader i f blocks → IsReadAsSent planned Up (IsUplinkRead planned) reader i f blocks }
+    ensures downlink { (planned : Planned) (reader : RxFrames) (i f : ℕ) (blocks : List Bit) →
+        IsPlanned planned → i < length planned.config.downlink.side.channels →
+        WasDamagedDown planned reader i f blocks → IsReadAsSent planned Down (IsDownlinkRead planned) reader i f blocks }
+{}
+
+/// A law: where each coded bit of a TTI is sent so many times at least, that many times the least distance of two coded blocks is
+/// what tells code blocks apart. With one copy of each bit five cells of a code block may change at rate 1/2, and eight at rate 1/3.
+pub fn little_changed_law()
+    ensures { (side : Side) (i f least : ℕ) (copies changes : ℕ → ℕ) → ((j : ℕ) → j < coded_in side i f → least ≤ copies j) →
+        AreLittleChanged side i f least changes → AreFewChanged side i f copies changes }
+{}
+
+/// A law: code blocks that are not sent alike, as those of an accepted configuration, are told apart by a copy at least.
+pub fn told_apart_law()
+    ensures { (coding : Coding) (size filler : ℕ) (sent : ℕ → ℕ) → NoneCollide coding size filler sent → AreToldApart (coded_as coding) size filler sent 1 }
+{}
+
+/// A law: a radio frame of which at most four of the 30 TFCI bits are wrong is kept in the combination in which it was written.
+pub fn damaged_frame_law()
+    ensures { (planned : Planned) (dir : Dir) (multiplexed : ℕ → Trit) (c : ℕ) (frame : Frame) (tfci : List Bit) (cells : List Trit) (kept : RxFrame) →
+        c < length (side_of planned.config dir).combinations → length (side_of planned.config dir).combinations ≤ 128 →
+        IsFrameOf planned dir multiplexed c frame → IsLittleDamaged frame tfci cells → IsKept planned dir tfci cells kept → kept.combination ≡ Some c }
+{}

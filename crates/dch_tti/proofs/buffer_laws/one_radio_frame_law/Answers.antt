@@ -1,5 +1,0 @@
-use Rattle.dch_tti.proofs.OneWritten.{frame_one}
-use Rattle.dch_tti.proofs.buffer_laws.one_radio_frame_law.Goals as goal
-
-pub returns : goal.returns
-returns c = frame_one
