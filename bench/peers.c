@@ -210,14 +210,14 @@ static uint8_t found[BLOCKS][SIZE], blocks[CODED_BLOCKS][SIZE], coded[CODED_BLOC
 static uint32_t differing[BLOCKS], index_of[WORDS], distance_of[WORDS];
 static int rate, kind;
 
-static void open_nearest(int copies)
+static void open_nearest(int copies, int damaged)
 {
     for (int b = 0; b < BLOCKS; b++) {
         state = b;
         fill(found[b], SIZE);
         encode(rate, found[b], coded[0]);
         for (int k = 0; k < rate * STEPS; k++) {
-            uint32_t n = number(), wrong = n < 4096 ? (uint32_t)copies : n % (copies / 2 + 1);
+            uint32_t n = number(), wrong = !damaged ? 0 : n < 4096 ? (uint32_t)copies : n % (copies / 2 + 1);
             votes[b][k] = coded[0][k] ? (struct vote){ wrong, copies - wrong } : (struct vote){ copies - wrong, wrong };
         }
     }
@@ -282,16 +282,17 @@ int main(int count, char **args)
     make_outputs();
     make_words();
     make_tables();
-    for (rate = 2; rate <= 3; rate++)
-        for (int copies = 1; copies <= 40; copies += 39) {
-            uint32_t sum = 0x811c9dc5;
-            open_nearest(copies);
-            run_nearest();
-            for (int b = 0; b < BLOCKS; b++)
-                sum = add_number(add(sum, found[b], SIZE), differing[b]);
-            snprintf(name, sizeof name, "nearest %s votes=%d", rate == 2 ? "half" : "third", copies);
-            report(measured, name, "blocks", BLOCKS, run_nearest, sum);
-        }
+    for (int damaged = 1; damaged >= 0; damaged--)
+        for (rate = 2; rate <= 3; rate++)
+            for (int copies = 1; copies <= 40; copies += 39) {
+                uint32_t sum = 0x811c9dc5;
+                open_nearest(copies, damaged);
+                run_nearest();
+                for (int b = 0; b < BLOCKS; b++)
+                    sum = add_number(add(sum, found[b], SIZE), differing[b]);
+                snprintf(name, sizeof name, "nearest %s votes=%d%s", rate == 2 ? "half" : "third", copies, damaged ? "" : " undamaged");
+                report(measured, name, "blocks", BLOCKS, run_nearest, sum);
+            }
     uint32_t sum = 0x811c9dc5;
     state = 30;
     fill(words[0], 30 * WORDS);

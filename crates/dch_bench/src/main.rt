@@ -1,5 +1,6 @@
-//! How fast the parts of `dch` are. By itself the program does each piece of work once, and prints checksums over what came out, which are the same on every
-//! machine. With the word `measure` it repeats each piece, and prints how much of it is done in a second.
+//! How fast the parts of `dch` are. By itself the program does each piece of work once, and prints checksums over what
+//! came out, which are the same on every machine. With the word `measure` it repeats each piece, and prints how much of
+//! it is done in a second.
 #![tactic(auto)]
 
 mod carry;
@@ -25,7 +26,7 @@ use crate::coder::CodedBlocks;
 use crate::fault::Fault;
 use crate::frames::run_frames;
 use crate::generator::run_generator;
-use crate::nearest::NearestBlocks;
+use crate::nearest::{Arrival, NearestBlocks};
 use crate::parity::ParityBlock;
 use crate::rlc::Entities;
 use crate::tfci::TfciWords;
@@ -77,13 +78,42 @@ fn run<R: Print + Clock>(rt: &R, alloc: Global, mode: Mode) -> Result<(), Fault>
 }
 
 fn run_nearest<R: Print + Clock>(rt: &R, alloc: Global, mode: Mode) -> Result<(), Fault> {
-    for (name, rate, votes) in [
-        ("nearest half votes=1", Rate::Half, 1),
-        ("nearest half votes=40", Rate::Half, 40),
-        ("nearest third votes=1", Rate::Third, 1),
-        ("nearest third votes=40", Rate::Third, 40),
+    for (name, rate, votes, arrival) in [
+        ("nearest half votes=1", Rate::Half, 1, Arrival::Damaged),
+        ("nearest half votes=40", Rate::Half, 40, Arrival::Damaged),
+        ("nearest third votes=1", Rate::Third, 1, Arrival::Damaged),
+        ("nearest third votes=40", Rate::Third, 40, Arrival::Damaged),
+        (
+            "nearest half votes=1 undamaged",
+            Rate::Half,
+            1,
+            Arrival::Undamaged,
+        ),
+        (
+            "nearest half votes=40 undamaged",
+            Rate::Half,
+            40,
+            Arrival::Undamaged,
+        ),
+        (
+            "nearest third votes=1 undamaged",
+            Rate::Third,
+            1,
+            Arrival::Undamaged,
+        ),
+        (
+            "nearest third votes=40 undamaged",
+            Rate::Third,
+            40,
+            Arrival::Undamaged,
+        ),
     ] {
-        report(rt, mode, name, NearestBlocks::open(alloc, rate, votes))?;
+        report(
+            rt,
+            mode,
+            name,
+            NearestBlocks::open(alloc, rate, votes, arrival),
+        )?;
     }
     Ok(())
 }

@@ -16,6 +16,15 @@ const SIZE: usize = 504;
 /// How many code blocks are read at once.
 const BLOCKS: u32 = 4;
 
+/// How the copies of coded bits arrive.
+#[derive(Clone, Copy)]
+pub enum Arrival {
+    /// Of one bit in 16 all copies are wrong, and of the others less than half.
+    Damaged,
+    /// As they were sent.
+    Undamaged,
+}
+
 /// The nearest blocks to received ones.
 #[derive(Drop)]
 pub struct NearestBlocks {
@@ -25,13 +34,18 @@ pub struct NearestBlocks {
 }
 
 impl NearestBlocks {
-    /// Blocks of a rate, of which so many copies of each coded bit were received, at most 40.
-    pub fn open(alloc: Global, rate: Rate, copies: u32) -> Result<NearestBlocks, NoMemory>
+    /// Blocks of a rate, of which so many copies of each coded bit arrive, at most 40.
+    pub fn open(
+        alloc: Global,
+        rate: Rate,
+        copies: u32,
+        arrival: Arrival,
+    ) -> Result<NearestBlocks, NoMemory>
         requires { copies ≤ 40 }
     {
         let mut blocks = Vec::new(alloc);
         for start in 0..BLOCKS {
-            let block = ReceivedBlock::make(alloc, rate, copies, start)?;
+            let block = ReceivedBlock::make(alloc, rate, copies, arrival, start)?;
             blocks.push(block)?;
         }
         Ok(NearestBlocks {
@@ -86,8 +100,14 @@ struct ReceivedBlock {
 }
 
 impl ReceivedBlock {
-    /// Codes a block, and damages the copies of its coded bits.
-    fn make(alloc: Global, rate: Rate, copies: u32, start: u32) -> Result<ReceivedBlock, NoMemory>
+    /// Codes a block, of whose coded bits so many copies arrive.
+    fn make(
+        alloc: Global,
+        rate: Rate,
+        copies: u32,
+        arrival: Arrival,
+        start: u32,
+    ) -> Result<ReceivedBlock, NoMemory>
         requires { copies ≤ 40 }
     {
         let mut chance = Chance::new(start);
@@ -97,7 +117,7 @@ impl ReceivedBlock {
         encode(rate, &block, &mut coded);
         Ok(ReceivedBlock {
             rate,
-            votes: received(alloc, &coded, copies, &mut chance)?,
+            votes: received(alloc, &coded, copies, arrival, &mut chance)?,
             found: block,
             differing: 0,
         })
@@ -111,11 +131,12 @@ impl ReceivedBlock {
     }
 }
 
-/// So many copies of each coded bit. Of one bit in 16 all are wrong, and of the others less than half.
+/// So many copies of each coded bit.
 fn received(
     alloc: Global,
     coded: &[Bit],
     copies: u32,
+    arrival: Arrival,
     chance: &mut Chance,
 ) -> Result<Vec<Vote>, NoMemory>
     requires { copies ≤ 40 }
@@ -124,21 +145,30 @@ fn received(
 {
     let mut votes = Vec::new(alloc);
     for bit in coded {
-        votes.push(copies_of(*bit, copies, chance.number()))?;
+        let wrong = wrong_copies(copies, arrival, chance.number());
+        votes.push(copies_of(*bit, copies, wrong))?;
     }
     Ok(votes)
 }
 
-/// The copies of a bit, of which a number tells how many are wrong.
-fn copies_of(bit: Bit, copies: u32, number: u32) -> Vote
+/// How many of the copies of a bit are wrong, by a number below 65,536.
+fn wrong_copies(copies: u32, arrival: Arrival, number: u32) -> u32
     requires { copies ≤ 40 }
+    ensures { result ≤ copies }
+{
+    match arrival {
+        Arrival::Undamaged => 0,
+        Arrival::Damaged if number < 4096 => copies,
+        Arrival::Damaged => number % (copies / 2 + 1),
+    }
+}
+
+/// The copies of a bit, so many of which are wrong.
+fn copies_of(bit: Bit, copies: u32, wrong: u32) -> Vote
+    requires all { copies ≤ 40 }
+    requires wrong { wrong ≤ copies }
     ensures { result.zeros + result.ones ≤ 40 }
 {
-    let wrong = if number < 4096 {
-        copies
-    } else {
-        number % (copies / 2 + 1)
-    };
     let right = copies - wrong;
     match bit {
         Bit::Zero => Vote {
