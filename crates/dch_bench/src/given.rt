@@ -3,7 +3,7 @@ ghost use Rattle.dch_types.specs.Limits.{IsSide};
 ghost use Rattle.dch_types.specs.Parts.{channel_at, format_at, format_number, side_of};
 ghost use Rattle.dch_accept.specs.Blocks.{HoldsTtis, bits_of};
 
-use crate::trip_chance::fill;
+use crate::chance::Chance;
 use dch_accept::{Accepted, TtiBlocks};
 use dch_bits::Bit;
 use dch_types::{Dir, Side};
@@ -56,7 +56,7 @@ pub fn give(
     ensures long { length given.new.good * given.new.size ≡ bits_of (format_at (channel_at (side_of accepted.now.config dir) channel) format) }
 {
     given.shape(accepted, dir, channel, format);
-    fill(given.bits_mut(), u32::from(start) * 8 + u32::from(channel));
+    Chance::new(u32::from(start) * 8 + u32::from(channel)).fill(given.bits_mut());
 }
 
 /// Whether blocks are those that were given in a format, and all good.

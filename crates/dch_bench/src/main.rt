@@ -18,7 +18,6 @@ mod rlc;
 mod round_trip;
 mod sum;
 mod tfci;
-mod trip_chance;
 mod uplink;
 mod work;
 

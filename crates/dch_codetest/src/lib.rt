@@ -1,5 +1,5 @@
-//! Tests of bits, codes and rate matching, and of inputs, outputs and lines: their public calls over values from
-//! outside. A crate with tests is proved twice, so they stand here together.
+//! Tests of bits, codes and rate matching, and of inputs, outputs, lines and reports: their public calls over values
+//! from outside. A crate with tests is proved twice, so they stand here together.
 #![tactic(auto)]
 
 #[cfg(test)]
@@ -14,6 +14,8 @@ mod io;
 mod lines;
 #[cfg(test)]
 mod matching;
+#[cfg(test)]
+mod report;
 #[cfg(test)]
 mod segment;
 #[cfg(test)]

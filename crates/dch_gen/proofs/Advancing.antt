@@ -6,8 +6,9 @@ use Rattle.std.specs.Prelude.{codes}
 use Rattle.dch_accept.specs.Plans.{Planned}
 use Rattle.dch_script.specs.Lines.{lines_after, lines_of, rest_after, rest_of}
 use Rattle.dch_script.proofs.Lines.{lines_after-append, rest_after-append}
-use Rattle.dch_node.specs.Lines.{Line, text_of, words_of}
-use Rattle.dch_node.proofs.Texts.{text_of-append}
+use Rattle.dch_node.specs.Lines.{Line}
+use Rattle.dch_script.specs.LineText.{text_of, words_of}
+use Rattle.dch_script.proofs.Adding.{text_of-append}
 use Rattle.dch_link.specs.Events.{Event, Happens}
 use Rattle.dch_link.specs.Link.{LinkState, opened_link}
 use Rattle.dch_link.specs.Passing.{IsStage, next_stage, stages_left}

@@ -3,7 +3,8 @@ use Rattle.std.proofs.Common.{◌≡◌, ◌≤◌, ◌+◌, ◌*◌, ◌++◌, 
 use Rattle.dch_accept.specs.Plans.{Planned}
 use Rattle.dch_script.specs.Held.{Held}
 use Rattle.dch_script.specs.Lines.{lines_of}
-use Rattle.dch_node.specs.Lines.{Line, text_of}
+use Rattle.dch_node.specs.Lines.{Line}
+use Rattle.dch_script.specs.LineText.{text_of}
 use Rattle.dch_link.specs.Link.{LinkState}
 use Rattle.dch_link.specs.Standing.{IsLinkOf, LeadsTo, Represents}
 use Rattle.dch_gen.specs.Counting.{AreCountsOf, HasRoom}

@@ -5,7 +5,8 @@ use Rattle.dch_io.specs.Ends.{End, Breaks}
 use Rattle.dch_accept.specs.Answers.{IsAccepted}
 use Rattle.dch_accept.specs.Plans.{IsPlanned, Planned}
 use Rattle.dch_script.specs.Lines.{lines_of}
-use Rattle.dch_node.specs.Lines.{Line, text_of}
+use Rattle.dch_node.specs.Lines.{Line}
+use Rattle.dch_script.specs.LineText.{text_of}
 use Rattle.dch_link.specs.NodebValues.{Node as NodeB}
 use Rattle.dch_link.specs.RncValues.{Node as Rnc}
 use Rattle.dch_link.specs.UeValues.{Node as Ue}

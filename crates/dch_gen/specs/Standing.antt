@@ -6,7 +6,8 @@ use Rattle.dch_accept.specs.Plans.{Planned}
 use Rattle.dch_accept.specs.Reports.{step_bytes}
 use Rattle.dch_script.specs.Held.{Held}
 use Rattle.dch_script.specs.Lines.{lines_of}
-use Rattle.dch_node.specs.Lines.{Line, text_of}
+use Rattle.dch_node.specs.Lines.{Line}
+use Rattle.dch_script.specs.LineText.{text_of}
 use Rattle.dch_link.specs.Link.{LinkState, opened_link}
 use Rattle.dch_link.specs.Standing.{IsLinkOf, Represents, SendsTo}
 use Rattle.dch_link.specs.Values.{Nodes}

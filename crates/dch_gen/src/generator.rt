@@ -1,7 +1,8 @@
 ghost use Rattle.std.specs.Prelude.{◌≡◌, ◌<◌, ◌≤◌, ◌+◌, ◌%◌, ◌++◌, ℕ, List, Some, length, IfOk};
 ghost use Rattle.dch_accept.specs.Plans.{IsPlanned};
 ghost use Rattle.dch_script.specs.Lines.{lines_of};
-ghost use Rattle.dch_node.specs.Lines.{Line, text_of};
+ghost use Rattle.dch_node.specs.Lines.{Line};
+ghost use Rattle.dch_script.specs.LineText.{text_of};
 ghost use Rattle.dch_link.specs.Events.{Happens};
 ghost use Rattle.dch_link.specs.Link.{LinkState, opened_link};
 ghost use Rattle.dch_link.specs.Passing.{IsStage};

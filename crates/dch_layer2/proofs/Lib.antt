@@ -13,7 +13,7 @@ pub mod Starts
 pub mod Frames
 pub mod Filling
 pub mod Joined
-pub mod Paying
+pub mod Readings
 pub mod GoingOn
 pub mod Octets
 pub mod Counting
@@ -28,8 +28,6 @@ pub mod Bearings
 pub mod Formats
 pub mod Fitting
 pub mod KeptBearers
-pub mod Texts
-pub mod UmReceivers
-pub mod BearingBytes
+pub mod BoundedBearings
 pub mod PduSizes
-pub mod Layers
+pub mod BoundedLayers

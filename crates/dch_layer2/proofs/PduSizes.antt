@@ -24,7 +24,7 @@ use Rattle.dch_layer2.specs.Bearings.{Bearing, Transparent, Unacknowledged, Ackn
 use Rattle.dch_layer2.proofs.Good.{AreFilled, am_fits, um_fits}
 use Rattle.dch_layer2.specs.BoundedBearers.{IsBounded}
 use Rattle.dch_layer2.specs.FormatBlocks.{IsBlock}
-use Rattle.dch_layer2.proofs.BearingBytes.{MayCome}
+use Rattle.dch_layer2.proofs.BoundedBearings.{MayCome}
 
 -- bearer b has the channel, and its PDU begins behind so many bits
 pub record IsReached (config : Config) (into : Dir) (channel b skip : ℕ) : Type 0 where

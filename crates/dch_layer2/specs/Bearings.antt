@@ -28,7 +28,7 @@ use Rattle.dch_am.specs.Receiver.{Receiver, opened_receiver}
 use Rattle.dch_am.specs.Rules.{Rules, rules_of}
 use Rattle.dch_am.specs.Sender.{Sender, opened_sender, offered, after_offer}
 use Rattle.dch_am.specs.Telling.{is_due, tick_receiver}
-use Rattle.dch_node.specs.Lines.{Line, Took, Full as NoRoom, Wrong}
+use Rattle.dch_indication.specs.Lines.{Line, Took, Full as NoRoom, Wrong}
 
 -- the sending side of the unacknowledged mode. No call sees the units that were accepted, nor how many they were at each build
 pub record Sends : Type 0 where

@@ -1,4 +1,4 @@
--- Layer 2 that holds no more than may be reported in a step, and what it does with what a node reads.
+-- Layer 2 whose bearers are limited, and what it does with what a node reads.
 use Rattle.std.specs.Prelude.{◌<◌, ℕ}
 use Rattle.dch_types.specs.declared.channel.Dir.{Dir}
 use Rattle.dch_types.specs.declared.config.Config.{Config}
@@ -12,7 +12,7 @@ use Rattle.dch_layer2.specs.Reading.{Bad, Nothing, Read, Reading, reads_below}
 use Rattle.dch_layer2.specs.Standing.{IsSameEnd, Represents}
 use Rattle.dch_layer2.specs.Values.{LayerRunning}
 
--- layer 2 stands for one whose bearers hold no more than may be reported in a step
+-- layer 2 stands for one whose bearers are limited
 pub record HasLayer (config : Config) (v : LayerRunning) : Type 0 where
   pub layer : Layer
   pub stands : Represents config layer v

@@ -21,7 +21,7 @@ use Rattle.dch_am.specs.Sender.{Sender}
 use Rattle.dch_am.specs.Entities.{pdu_of, receiver_by, sender_by}
 use Rattle.dch_amlaw.specs.Pair.{is_beyond, is_outside_answer}
 use Rattle.dch_pair.specs.Answers.{is_unknown}
-use Rattle.dch_node.specs.Lines.{Line, GotBits, Outside, PduBad}
+use Rattle.dch_indication.specs.Lines.{Line, GotBits, Outside, PduBad}
 use Rattle.dch_layer2.specs.UnitLines.{line_if, unit_lines}
 use Rattle.dch_layer2.specs.Octets.{octets_of}
 use Rattle.dch_layer2.specs.Bearings.{Bearing, Transparent, Unacknowledged, Acknowledged, Sends, rules_in}

@@ -9,7 +9,7 @@ use Rattle.dch_types.specs.Parts.{channel_at, side_of}
 use Rattle.dch_mac.specs.declared.answer.Demux.{Demux}
 use Rattle.dch_mac.specs.declared.answer.Demux.TheVariants.{To, Reserved as ReservedField, NoBearer as Unknown, Nobody as NoOne}
 use Rattle.dch_mac.specs.Receivers.{receiver}
-use Rattle.dch_node.specs.Lines.{Line, Bad, NoBearer, Nobody, Reserved}
+use Rattle.dch_indication.specs.Lines.{Line, Bad, NoBearer, Nobody, Reserved}
 use Rattle.dch_layer2.specs.Bearings.{Bearing, after_answer, answers, line_of_answer, opened_bearing, ticked}
 use Rattle.dch_layer2.specs.Hearing.{hears}
 

@@ -20,7 +20,5 @@ pub mod Handing
 pub mod BearerValues
 pub mod Acknowledged
 pub mod BearerStanding
-pub mod Bytes
 pub mod FormatBlocks
 pub mod BoundedBearers
-pub mod Few

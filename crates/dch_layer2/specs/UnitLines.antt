@@ -1,7 +1,7 @@
 -- The lines on units that ended.
 use Rattle.std.specs.Prelude.{ℕ, List, [], ◌∷◌, Bool, true, false, if◌then◌else◌, length, nat_lt}
 use Rattle.dch_types.specs.declared.channel.Dir.{Dir}
-use Rattle.dch_node.specs.Lines.{Line, Got, Overlong}
+use Rattle.dch_indication.specs.Lines.{Line, Got, Overlong}
 
 -- a unit that ended is handed up, or is too long
 abbrev pub unit_line : Dir → ℕ → List ℕ → Line

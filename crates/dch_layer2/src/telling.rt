@@ -1,11 +1,12 @@
 ghost use Rattle.std.specs.Prelude.{◌≡◌, ◌≤◌, length};
 ghost use Rattle.dch_indication.specs.Lines.{GotBits, Outside, PduBad};
 ghost use Rattle.dch_indication.specs.Told.{Told};
+ghost use Rattle.dch_layer2.specs.Bearings.{line_of_answer};
 ghost use Rattle.dch_layer2.specs.Hearing.{error_number};
 ghost use Rattle.dch_layer2.specs.UnitLines.{line_if};
 ghost use Rattle.dch_layer2.specs.Handing.{IsWithin, handed_line};
 
-use dch_bits::Bit;
+use dch_bits::{Bit, Offer};
 use dch_indication::{Indication, Indications};
 use dch_rlcpdu::{Handed, PduError};
 use dch_types::Dir;
@@ -49,6 +50,17 @@ pub fn tell_outside_if<U: Indications>(user: &mut U, outside: bool, dir: Dir, be
 {
     if outside {
         user.indicate(Indication::Outside { dir, bearer });
+    }
+}
+
+/// Tells what a bearer answers to a unit that travels in a direction.
+pub fn tell_answer<U: Indications>(user: &mut U, dir: Dir, bearer: u8, answer: Offer)
+    ensures shown { U.shows user.old (line_of_answer dir bearer answer) user.new }
+{
+    match answer {
+        Offer::Accepted => user.indicate(Indication::Took { dir, bearer }),
+        Offer::Full => user.indicate(Indication::Full { dir, bearer }),
+        Offer::WrongSize => user.indicate(Indication::Wrong { dir, bearer }),
     }
 }
 

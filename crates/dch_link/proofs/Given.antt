@@ -5,12 +5,11 @@ use Rattle.std.proofs.Math.Path.{fun_ext}
 use Rattle.dch_types.specs.declared.channel.Dir.TheVariants.{Up}
 use Rattle.dch_types.specs.declared.config.Config.{Config}
 use Rattle.dch_types.specs.Limits.{IsSide}
-use Rattle.dch_types.specs.Parts.{channel_at}
 use Rattle.dch_accept.specs.Plans.{Planned}
 use Rattle.dch_script.specs.Held.{Held as Text}
 use Rattle.dch_node.specs.Lines.{Iub, IubBad, Line}
-use Rattle.dch_txframes.specs.Reports.{added}
-use Rattle.dch_txframes.proofs.Lengths.{frame_octets-le}
+use Rattle.dch_steptext.specs.Reports.{added}
+use Rattle.dch_txframes.proofs.Lengths.{read_octets-le}
 use Rattle.dch_combine.specs.declared.error.CombineError.{CombineError}
 use Rattle.dch_combine.specs.Combined.{IsCombinedFrame}
 use Rattle.dch_combine.specs.Legs.{LegFrame}
@@ -22,7 +21,7 @@ use Rattle.dch_iub.specs.Longest.{IsLongest}
 use Rattle.dch_rnc.specs.Standing.{Stepped as RncStepped}
 use Rattle.dch_rnc.specs.State.{IubFrame}
 use Rattle.dch_rnc.specs.Values.{Node as Rnc}
-use Rattle.dch_script.specs.Adding.{Adds}
+use Rattle.dch_script.specs.Adding.{AddsLines}
 use Rattle.dch_link.proofs.Reporting.{added-added, added-none}
 use Rattle.dch_link.specs.Errors.{error_number}
 use Rattle.dch_link.specs.Soft.{SoftState, given, with_frame}
@@ -128,7 +127,7 @@ gave_none planned first soft parts set combiner room was had none others =
 -- the frames of a set are combined to one, which is reported, and which the network controller takes
 pub gives_frame : (planned : Planned) (first : ℕ) (soft : SoftState) (parts : Parts) (cfn set : ℕ) (octets : List ℕ) (combiner : Combiner) (room : ℕ) (rnc : Rnc) (before mid after : Text) → Represents planned first soft parts
     → IsCombinedFrame planned.config set (frames_of parts.combiner set) cfn octets → ((k : ℕ) → frames_of combiner set k ≡ None) → ((s k : ℕ) → s ≢ set → frames_of combiner s k ≡ frames_of parts.combiner s k)
-    → mid ≡ added before (Iub Up set octets ∷ []) → RncStepped planned soft.rnc.state (IubFrame set octets) rnc (Adds mid.text after.text) → after.most ≡ mid.most
+    → mid ≡ added before (Iub Up set octets ∷ []) → RncStepped planned soft.rnc.state (IubFrame set octets) rnc (AddsLines mid.text after.text) → after.most ≡ mid.most
     → LeadsTo planned first (GivesFrame cfn set soft) (record parts { rnc = rnc; combiner = combiner; room = room }) before after
 gives_frame planned first soft parts cfn set octets combiner room rnc before mid after was combined none others put step most =
     let stood : Represents planned first (given soft set) (record parts { combiner = combiner; room = room }) = gave_frames planned first soft parts set combiner room was none others in
@@ -161,8 +160,7 @@ gives_none planned first soft parts cfn set combiner room report was had none ot
 -- a combined frame is no longer than one that is reported
 pub combined_few : (config : Config) (set cfn : ℕ) (legs : ℕ → Option LegFrame) (octets : List ℕ) → IsSide config.uplink.side → IsCombinedFrame config set legs cfn octets → length octets ≤ 140000
 combined_few config set cfn legs octets good is =
-    let read = is.written.read in
-    subst (λ n. n ≤ 140000) (sym read.long) (frame_octets-le config Up set read.numbers good (λ i inside member. subst (λ n. n < length (channel_at config.uplink.side i).formats) (read.numbered i inside member) (read.formats i inside member).there))
+    read_octets-le config Up set octets cfn _ is.held good is.written.read
 
 -- more octets are room too
 holds_more : (config : Config) (set octets more : ℕ) → HoldsLongest config set octets → octets ≤ more → HoldsLongest config set more

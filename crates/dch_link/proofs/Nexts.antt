@@ -21,7 +21,7 @@ use Rattle.dch_rnc.specs.Standing.{Represents as RncStands, Shows as RncShows, S
 use Rattle.dch_rnc.specs.State.{Event as RncEvent, opened_state as opened_rnc}
 use Rattle.dch_rnc.specs.Steps.{Steps as RncSteps}
 use Rattle.dch_rnc.specs.Values.{Node as Rnc}
-use Rattle.dch_script.specs.Adding.{Adds}
+use Rattle.dch_script.specs.Adding.{AddsLines}
 use Rattle.dch_link.specs.Courses.{course_after}
 use Rattle.dch_link.specs.Events.{Damages, Happens}
 use Rattle.dch_link.specs.Link.{LinkState}
@@ -38,13 +38,13 @@ ue_running planned state ue opened is =
     subst (λ n. n < length planned.config.uplink.side.combinations) is.at.layer.running (subst (λ (d : Dir). ue.layer.running < length (side_of planned.config d).combinations) opened.sends is.at.layer.runs)
 
 pub ue_next : (began planned : Planned) (first : ℕ) (link : LinkState) (nodes : Nodes) (event : UeEvent) (ue : Ue) (before after : Text) → Represents began planned first link nodes → IsUeOf planned ue
-    → UeStepped planned link.ue.state event ue (Adds before.text after.text) → after.most ≡ before.most → LeadsTo began planned first (UeReports link event) (record nodes { ue = ue }) before after
+    → UeStepped planned link.ue.state event ue (AddsLines before.text after.text) → after.most ≡ before.most → LeadsTo began planned first (UeReports link event) (record nodes { ue = ue }) before after
 ue_next began planned first link nodes event ue before after was opened step most = record {
   next = record link { ue = course_after link.ue event step.next step.output };
   lines = step.output.lines;
   does = (record { ue = course_after link.ue event step.next step.output; goes = record { state = step.next; output = step.output; step = step.step; is = refl }; is = refl }, refl);
   stands = record {
-    ue = course_is UeSteps (UeStands planned) UeShows (opened_ue began first) link.ue event nodes.ue ue (Adds before.text after.text) was.ue step;
+    ue = course_is UeSteps (UeStands planned) UeShows (opened_ue began first) link.ue event nodes.ue ue (AddsLines before.text after.text) was.ue step;
     node_b = was.node_b;
     rnc = was.rnc;
     ue_sends = ue_fits planned link.ue.state step.next event step.output step.step was.ue.stands.at.active (ue_running planned step.next ue opened step.stands);
@@ -56,14 +56,14 @@ ue_next began planned first link nodes event ue before after was opened step mos
 }
 
 pub node_b_next : (began planned : Planned) (first : ℕ) (link : LinkState) (nodes : Nodes) (event : NodeBEvent) (node_b : NodeB) (before after : Text) → Represents began planned first link nodes
-    → NodeBStepped planned link.node_b.state event node_b (Adds before.text after.text) → after.most ≡ before.most → LeadsTo began planned first (NodeBReports link event) (record nodes { node_b = node_b }) before after
+    → NodeBStepped planned link.node_b.state event node_b (AddsLines before.text after.text) → after.most ≡ before.most → LeadsTo began planned first (NodeBReports link event) (record nodes { node_b = node_b }) before after
 node_b_next began planned first link nodes event node_b before after was step most = record {
   next = record link { node_b = course_after link.node_b event step.next step.output };
   lines = step.output.lines;
   does = (record { node_b = course_after link.node_b event step.next step.output; goes = record { state = step.next; output = step.output; step = step.step; is = refl }; is = refl }, refl);
   stands = record {
     ue = was.ue;
-    node_b = course_is NodeBSteps (NodeBStands planned) NodeBShows (opened_node_b began first) link.node_b event nodes.node_b node_b (Adds before.text after.text) was.node_b step;
+    node_b = course_is NodeBSteps (NodeBStands planned) NodeBShows (opened_node_b began first) link.node_b event nodes.node_b node_b (AddsLines before.text after.text) was.node_b step;
     rnc = was.rnc;
     ue_sends = was.ue_sends;
     node_b_sends = node_b_fits planned link.node_b.state step.next event step.output step.step was.node_b.stands.active;
@@ -74,7 +74,7 @@ node_b_next began planned first link nodes event node_b before after was step mo
 }
 
 pub rnc_next : (began planned : Planned) (first : ℕ) (link : LinkState) (nodes : Nodes) (event : RncEvent) (rnc : Rnc) (before after : Text) → Represents began planned first link nodes
-    → RncStepped planned link.rnc.state event rnc (Adds before.text after.text) → after.most ≡ before.most → LeadsTo began planned first (RncReports link event) (record nodes { rnc = rnc }) before after
+    → RncStepped planned link.rnc.state event rnc (AddsLines before.text after.text) → after.most ≡ before.most → LeadsTo began planned first (RncReports link event) (record nodes { rnc = rnc }) before after
 rnc_next began planned first link nodes event rnc before after was step most = record {
   next = record link { rnc = course_after link.rnc event step.next step.output };
   lines = step.output.lines;
@@ -82,7 +82,7 @@ rnc_next began planned first link nodes event rnc before after was step most = r
   stands = record {
     ue = was.ue;
     node_b = was.node_b;
-    rnc = course_is RncSteps (RncStands planned) RncShows (opened_rnc began first) link.rnc event nodes.rnc rnc (Adds before.text after.text) was.rnc step;
+    rnc = course_is RncSteps (RncStands planned) RncShows (opened_rnc began first) link.rnc event nodes.rnc rnc (AddsLines before.text after.text) was.rnc step;
     ue_sends = was.ue_sends;
     node_b_sends = was.node_b_sends;
     rnc_sends = rnc_fits planned link.rnc.state step.next event step.output step.step was.rnc.stands.at.active;

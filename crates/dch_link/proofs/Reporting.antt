@@ -5,9 +5,10 @@ use Rattle.dch_types.specs.declared.channel.Dir.{Dir}
 use Rattle.dch_script.specs.Adding.{ShowsLine}
 use Rattle.dch_script.specs.Held.{Held as Text}
 use Rattle.dch_script.proofs.Putting.{put_all}
-use Rattle.dch_node.specs.Lines.{Line, text_of}
-use Rattle.dch_node.proofs.Texts.{text_of-append}
-use Rattle.dch_txframes.specs.Reports.{added}
+use Rattle.dch_node.specs.Lines.{Line}
+use Rattle.dch_script.specs.LineText.{text_of}
+use Rattle.dch_script.proofs.Adding.{text_of-append}
+use Rattle.dch_steptext.specs.Reports.{added}
 use Rattle.dch_link.specs.Checks.{AreChecked}
 use Rattle.dch_link.specs.Comparing.{Compares, ComparesAll}
 

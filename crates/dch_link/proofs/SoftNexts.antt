@@ -23,7 +23,7 @@ use Rattle.dch_rnc.specs.Standing.{Represents as RncStands, Shows as RncShows, S
 use Rattle.dch_rnc.specs.State.{Event as RncEvent, opened_state as opened_rnc}
 use Rattle.dch_rnc.specs.Steps.{Steps as RncSteps}
 use Rattle.dch_rnc.specs.Values.{Node as Rnc}
-use Rattle.dch_script.specs.Adding.{Adds}
+use Rattle.dch_script.specs.Adding.{AddsLines}
 use Rattle.dch_link.specs.Courses.{course_after}
 use Rattle.dch_link.proofs.Coursing.{course_is}
 use Rattle.dch_link.proofs.Fits.{node_b_fits, rnc_fits, ue_fits}
@@ -42,13 +42,13 @@ ue_running planned state ue opened is =
     subst (λ n. n < length planned.config.uplink.side.combinations) is.at.layer.running (subst (λ (d : Dir). ue.layer.running < length (side_of planned.config d).combinations) opened.sends is.at.layer.runs)
 
 pub ue_next : (planned : Planned) (first : ℕ) (soft : SoftState) (parts : Parts) (event : UeEvent) (ue : Ue) (before after : Text) → Represents planned first soft parts → IsUeOf planned ue
-    → UeStepped planned soft.ue.state event ue (Adds before.text after.text) → after.most ≡ before.most → LeadsTo planned first (UeReports soft event) (record parts { ue = ue }) before after
+    → UeStepped planned soft.ue.state event ue (AddsLines before.text after.text) → after.most ≡ before.most → LeadsTo planned first (UeReports soft event) (record parts { ue = ue }) before after
 ue_next planned first soft parts event ue before after was opened step most = record {
   next = record soft { ue = course_after soft.ue event step.next step.output };
   lines = step.output.lines;
   does = (record { ue = course_after soft.ue event step.next step.output; goes = record { state = step.next; output = step.output; step = step.step; is = refl }; is = refl }, refl);
   stands = record {
-    ue = course_is UeSteps (UeStands planned) UeShows (opened_ue planned first) soft.ue event parts.ue ue (Adds before.text after.text) was.ue step;
+    ue = course_is UeSteps (UeStands planned) UeShows (opened_ue planned first) soft.ue event parts.ue ue (AddsLines before.text after.text) was.ue step;
     rnc = was.rnc;
     ue_sends = ue_fits planned soft.ue.state step.next event step.output step.step was.ue.stands.at.active (ue_running planned step.next ue opened step.stands);
     rnc_sends = was.rnc_sends;
@@ -61,14 +61,14 @@ ue_next planned first soft parts event ue before after was opened step most = re
 }
 
 pub rnc_next : (planned : Planned) (first : ℕ) (soft : SoftState) (parts : Parts) (event : RncEvent) (rnc : Rnc) (before after : Text) → Represents planned first soft parts
-    → RncStepped planned soft.rnc.state event rnc (Adds before.text after.text) → after.most ≡ before.most → LeadsTo planned first (RncReports soft event) (record parts { rnc = rnc }) before after
+    → RncStepped planned soft.rnc.state event rnc (AddsLines before.text after.text) → after.most ≡ before.most → LeadsTo planned first (RncReports soft event) (record parts { rnc = rnc }) before after
 rnc_next planned first soft parts event rnc before after was step most = record {
   next = record soft { rnc = course_after soft.rnc event step.next step.output };
   lines = step.output.lines;
   does = (record { rnc = course_after soft.rnc event step.next step.output; goes = record { state = step.next; output = step.output; step = step.step; is = refl }; is = refl }, refl);
   stands = record {
     ue = was.ue;
-    rnc = course_is RncSteps (RncStands planned) RncShows (opened_rnc planned first) soft.rnc event parts.rnc rnc (Adds before.text after.text) was.rnc step;
+    rnc = course_is RncSteps (RncStands planned) RncShows (opened_rnc planned first) soft.rnc event parts.rnc rnc (AddsLines before.text after.text) was.rnc step;
     ue_sends = was.ue_sends;
     rnc_sends = rnc_fits planned soft.rnc.state step.next event step.output step.step was.rnc.stands.at.active;
     count = was.count;
@@ -81,13 +81,13 @@ rnc_next planned first soft parts event rnc before after was step most = record 
 
 -- a step of the Node B of a leg
 pub leg_goes : (planned : Planned) (first : ℕ) (leg : LegState) (it : LegParts) (event : NodeBEvent) (node_b : NodeB) (before after : Text) → RepresentsLeg planned first leg it
-    → NodeBStepped planned leg.node_b.state event node_b (Adds before.text after.text) → after.most ≡ before.most → LegLeadsTo planned first (LegGoes leg event) (record it { node_b = node_b }) before after
+    → NodeBStepped planned leg.node_b.state event node_b (AddsLines before.text after.text) → after.most ≡ before.most → LegLeadsTo planned first (LegGoes leg event) (record it { node_b = node_b }) before after
 leg_goes planned first leg it event node_b before after was step most = record {
   next = record leg { node_b = course_after leg.node_b event step.next step.output };
   lines = step.output.lines;
   does = record { node_b = course_after leg.node_b event step.next step.output; goes = record { state = step.next; output = step.output; step = step.step; is = refl }; is = refl; reported = refl };
   stands = record {
-    node_b = course_is NodeBSteps (NodeBStands planned) NodeBShows (opened_node_b planned first) leg.node_b event it.node_b node_b (Adds before.text after.text) was.node_b step;
+    node_b = course_is NodeBSteps (NodeBStands planned) NodeBShows (opened_node_b planned first) leg.node_b event it.node_b node_b (AddsLines before.text after.text) was.node_b step;
     sends = node_b_fits planned leg.node_b.state step.next event step.output step.step was.node_b.stands.active;
     damage = was.damage;
   };

@@ -6,7 +6,7 @@ use Rattle.dch_types.specs.declared.channel.Dir.{Dir}
 use Rattle.dch_accept.specs.Blocks.{Held, block_at}
 use Rattle.dch_script.specs.Held.{Held as Text}
 use Rattle.dch_node.specs.Lines.{Line}
-use Rattle.dch_txframes.specs.Reports.{added}
+use Rattle.dch_steptext.specs.Reports.{added}
 use Rattle.dch_link.specs.Checks.{AreChecked, IsChecked, good_blocks}
 
 -- the good blocks of a channel that may have been read

@@ -7,7 +7,7 @@ use Rattle.dch_types.specs.Timing.{has_set}
 use Rattle.dch_accept.specs.Plans.{Planned}
 use Rattle.dch_script.specs.Held.{Held as Text}
 use Rattle.dch_node.specs.Lines.{Line}
-use Rattle.dch_txframes.specs.Reports.{added}
+use Rattle.dch_steptext.specs.Reports.{added}
 use Rattle.dch_damage.specs.Damage.{Flip, Lose, LoseIub, Spoil}
 use Rattle.dch_damage.specs.Opened.{IsDamageOf}
 use Rattle.dch_damage.specs.Waiting.{Waits}

@@ -1,8 +1,8 @@
 ghost use Rattle.std.specs.Prelude.{◌≡◌, ◌<◌, ◌≤◌, ◌+◌, ◌*◌, ◌↔◌, IsTrue, [], ◌∷◌, length};
-ghost use Rattle.dch_node.specs.Lines.{Differs, text_of};
+ghost use Rattle.dch_node.specs.Lines.{Differs};
+ghost use Rattle.dch_script.specs.LineText.{text_of};
 ghost use Rattle.dch_layer2.specs.Opening.{blocks_in};
-ghost use Rattle.dch_txframes.specs.Reports.{added};
-ghost use Rattle.dch_txframes.specs.Rooms.{HasRoomFor};
+ghost use Rattle.dch_steptext.specs.Reports.{HasRoomFor, added};
 ghost use Rattle.dch_link.specs.Checks.{IsSublist, good_blocks, good_from};
 ghost use Rattle.dch_link.specs.Comparing.{Compares, FindsNext, IsNextGood, blocks_from, good_of};
 ghost use Rattle.dch_ue.specs.Lending.{held_of};

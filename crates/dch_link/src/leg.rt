@@ -6,7 +6,7 @@ ghost use Rattle.dch_damage.specs.Opened.{HasIubRoom, HasRadioRoom};
 ghost use Rattle.dch_damage.specs.Tables.{iub_arrived, radio_arrived};
 ghost use Rattle.dch_nodeb.specs.Values.{iub_shown, radio_shown};
 ghost use Rattle.dch_txframes.specs.Lending.{octets_of, radio_of};
-ghost use Rattle.dch_txframes.specs.Rooms.{HasRoomFor};
+ghost use Rattle.dch_steptext.specs.Reports.{HasRoomFor};
 ghost use Rattle.dch_link.specs.Fitting.{MayFitIub, MayFitRadio};
 ghost use Rattle.dch_link.specs.SoftEvents.{damaged};
 ghost use Rattle.dch_link.specs.Legs.{LegState, ReceivesIub, ReceivesRadio, Transmits, iub_from, opened_leg, radio_from, undamaged};

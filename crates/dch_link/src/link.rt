@@ -5,7 +5,7 @@ ghost use Rattle.dch_accept.specs.HeldSets.{held_at};
 ghost use Rattle.dch_accept.specs.Plans.{Planned};
 ghost use Rattle.dch_accept.specs.Reports.{step_bytes};
 ghost use Rattle.dch_layer2.specs.Opening.{blocks_in};
-ghost use Rattle.dch_txframes.specs.Rooms.{HasRoomFor};
+ghost use Rattle.dch_steptext.specs.Reports.{HasRoomFor};
 ghost use Rattle.dch_damage.specs.Damage.{radio_after};
 ghost use Rattle.dch_ue.specs.State.{DownlinkFrame};
 ghost use Rattle.dch_ue.specs.Values.{taken_shown as ue_taken};

@@ -1,9 +1,9 @@
 ghost use Rattle.std.specs.Prelude.{◌≡◌, ◌≤◌, ◌+◌, [], ◌∷◌, length};
 ghost use Rattle.dch_types.specs.declared.channel.Dir.TheVariants.{Up};
 ghost use Rattle.dch_node.specs.IubFrames.{refusal_number};
-ghost use Rattle.dch_node.specs.Lines.{Iub, IubBad, text_of};
-ghost use Rattle.dch_txframes.specs.Reports.{added};
-ghost use Rattle.dch_txframes.specs.Rooms.{HasRoomFor};
+ghost use Rattle.dch_node.specs.Lines.{Iub, IubBad};
+ghost use Rattle.dch_script.specs.LineText.{text_of};
+ghost use Rattle.dch_steptext.specs.Reports.{HasRoomFor, added};
 ghost use Rattle.dch_link.specs.Errors.{error_number};
 
 use dch_combine::CombineError;

@@ -4,7 +4,7 @@ ghost use Rattle.dch_accept.specs.Plans.{Planned};
 ghost use Rattle.dch_accept.specs.Reports.{step_bytes};
 ghost use Rattle.dch_combine.specs.Opened.{HoldsLongest, IsCombinerOf};
 ghost use Rattle.dch_combine.specs.Values.{frames_of};
-ghost use Rattle.dch_txframes.specs.Rooms.{HasRoomFor};
+ghost use Rattle.dch_steptext.specs.Reports.{HasRoomFor};
 ghost use Rattle.dch_link.specs.SoftEvents.{Happens};
 ghost use Rattle.dch_link.specs.Hearing.{IsHeard};
 ghost use Rattle.dch_link.specs.Legs.{radio_from};

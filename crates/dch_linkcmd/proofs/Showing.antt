@@ -2,7 +2,8 @@
 use Rattle.std.proofs.Common.{◌≡◌, ◌∙◌, ◌++◌, ℕ, List, [], Bool, true, false, ap, sym}
 use Rattle.dch_accept.specs.Plans.{Planned}
 use Rattle.dch_script.specs.Held.{Held}
-use Rattle.dch_node.specs.Lines.{Line, text_of}
+use Rattle.dch_node.specs.Lines.{Line}
+use Rattle.dch_script.specs.LineText.{text_of}
 use Rattle.dch_nodecmd.specs.Shown.{shown}
 use Rattle.dch_link.specs.Link.{LinkState}
 use Rattle.dch_link.specs.Standing.{LeadsTo}

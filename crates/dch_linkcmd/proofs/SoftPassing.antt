@@ -3,7 +3,7 @@ use Rattle.std.proofs.Common.{◌≡◌, ◌∙◌, ◌+◌, ◌-◌, ◌++◌, 
 use Rattle.dch_accept.specs.Plans.{Planned}
 use Rattle.dch_script.specs.Held.{Held}
 use Rattle.dch_lines.specs.Semantics.{Adds}
-use Rattle.dch_node.specs.Lines.{text_of}
+use Rattle.dch_script.specs.LineText.{text_of}
 use Rattle.dch_nodecmd.specs.Shown.{shown}
 use Rattle.dch_link.specs.Soft.{SoftState, framed}
 use Rattle.dch_link.specs.SoftPassing.{leg_of, next_stage}

@@ -3,7 +3,7 @@ use Rattle.std.proofs.Common.{◌≡◌, ◌∙◌, ◌++◌, ℕ, List, refl, a
 use Rattle.dch_accept.specs.Plans.{Planned}
 use Rattle.dch_script.specs.Held.{Held}
 use Rattle.dch_lines.specs.Semantics.{Adds}
-use Rattle.dch_node.specs.Lines.{text_of}
+use Rattle.dch_script.specs.LineText.{text_of}
 use Rattle.dch_nodecmd.specs.Shown.{shown}
 use Rattle.dch_link.specs.Standing.{Represents}
 use Rattle.dch_linkcmd.specs.LineEvents.{Frames, OneEvent, Said, Says}

@@ -5,7 +5,8 @@ use Rattle.dch_script.specs.Meaning.{meaning_in}
 use Rattle.dch_script.specs.declared.event.Command.TheVariants.{Link as LinkLines}
 use Rattle.dch_script.specs.declared.event.LineError.{LineError}
 use Rattle.dch_lines.specs.Semantics.{Semantics}
-use Rattle.dch_node.specs.Lines.{Line, text_of}
+use Rattle.dch_node.specs.Lines.{Line}
+use Rattle.dch_script.specs.LineText.{text_of}
 use Rattle.dch_link.specs.Changing.{Changes}
 use Rattle.dch_link.specs.Events.{Event, Happens}
 use Rattle.dch_link.specs.Link.{LinkState}

@@ -3,7 +3,8 @@ use Rattle.std.specs.Prelude.{◌≡◌, ℕ, List, Err}
 use Rattle.dch_script.specs.Soft.{soft_meaning}
 use Rattle.dch_script.specs.declared.event.LineError.{LineError}
 use Rattle.dch_lines.specs.Semantics.{Semantics}
-use Rattle.dch_node.specs.Lines.{Line, text_of}
+use Rattle.dch_node.specs.Lines.{Line}
+use Rattle.dch_script.specs.LineText.{text_of}
 use Rattle.dch_link.specs.SoftEvents.{Event, Happens}
 use Rattle.dch_link.specs.SoftPassing.{leg_of}
 use Rattle.dch_link.specs.Soft.{SoftState}

@@ -5,7 +5,8 @@ use Rattle.dch_accept.specs.Plans.{Planned}
 use Rattle.dch_accept.specs.Reports.{step_bytes}
 use Rattle.dch_io.specs.declared.feed.TheConstants.{LIMIT}
 use Rattle.dch_script.specs.Held.{Held}
-use Rattle.dch_node.specs.Lines.{Line, text_of}
+use Rattle.dch_node.specs.Lines.{Line}
+use Rattle.dch_script.specs.LineText.{text_of}
 use Rattle.dch_link.specs.Link.{LinkState}
 use Rattle.dch_link.specs.Passing.{IsStage}
 use Rattle.dch_link.specs.Standing.{HasNext, IsLinkOf, Represents}

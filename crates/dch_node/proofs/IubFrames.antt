@@ -91,6 +91,15 @@ one_number dir side on set frame PayloadCheck (Format f) a b = absurd (unknown_r
 one_number dir side on set frame PayloadCheck Length a b = absurd (length_payload dir side on set frame b a)
 one_number dir side on set frame PayloadCheck PayloadCheck a b = refl
 
+-- by a small number
+pub refusal_small : (error : IubError) → refusal_number error < 1000
+refusal_small Short = omega arith
+refusal_small HeaderCheck = omega arith
+refusal_small Control = omega arith
+refusal_small (Format f) = omega arith
+refusal_small Length = omega arith
+refusal_small PayloadCheck = omega arith
+
 part_at : (xs : List Bit) (size r t : ℕ) (d : Bit) → t < size → get_or (take size (drop (r * size) xs)) t d ≡ get_or xs (r * size + t) d
 part_at xs size r t d inside = get_or-take size (drop (r * size) xs) t d inside ∙ get_or-drop (r * size) xs t d
 

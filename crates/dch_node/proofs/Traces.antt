@@ -42,3 +42,13 @@ history_next {S} {E} {V} Steps Represents Shows opened old new event Says events
       };
       tells = stepped.tells;
     }
+
+-- what holds of the lines of a step holds of them in other words
+pub says_step : {S E V : Type 0} (Steps : S → E → S → Output → Type 0) (Represents : S → V → Type 0) (Shows : Output → V → Type 0) (old : S) (event : E) (value : V) (Says Such : List Line → Type 0)
+    → ((lines : List Line) → Says lines → Such lines) → TakesStep Steps Represents Shows old event value Says → TakesStep Steps Represents Shows old event value Such
+says_step Steps Represents Shows old event value Says Such turn step =
+    record { next = step.next; output = step.output; step = step.step; stands = step.stands; shows = step.shows; tells = turn step.output.lines step.tells }
+
+pub says_history : {S E V : Type 0} (Steps : S → E → S → Output → Type 0) (Represents : S → V → Type 0) (Shows : Output → V → Type 0) (opened : S) (events : List E) (lines : List Line) (event : E) (value : V) (Says Such : List Line → Type 0)
+    → ((own : List Line) → Says own → Such own) → HasLongerHistory Steps Represents Shows opened events lines event value Says → HasLongerHistory Steps Represents Shows opened events lines event value Such
+says_history Steps Represents Shows opened events lines event value Says Such turn longer = record { own = longer.own; stands = longer.stands; tells = turn longer.own longer.tells }

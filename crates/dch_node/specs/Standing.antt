@@ -1,7 +1,7 @@
 -- A value V of code and what it stands for: a state S of a node's definition, and the list of what happened at the node.
-use Rattle.std.specs.Prelude.{◌≡◌, ◌<◌, ◌++◌, ℕ, List, [], ◌∷◌, length}
+use Rattle.std.specs.Prelude.{◌≡◌, ◌++◌, List, [], ◌∷◌}
 use Rattle.dch_indication.specs.Told.{Told}
-use Rattle.dch_node.specs.Lines.{Line, text_of}
+use Rattle.dch_node.specs.Lines.{Line}
 use Rattle.dch_node.specs.Traces.{Reaches}
 use Rattle.dch_node.specs.Values.{Output}
 
@@ -17,11 +17,11 @@ pub record HasHistory {S E V : Type 0} (Steps : S → E → S → Output → Typ
 abbrev pub Tells : {U : Type 0} → (U → Line → U → Type 0) → U → U → List Line → Type 0
 Tells shows before after lines = Told shows before lines after
 
--- a user is told of lines whose text has less than so many bytes
-pub record TellsFew {U : Type 0} (shows : U → Line → U → Type 0) (bytes : ℕ) (before after : U) : Type 0 where
+-- a user is told of lines of which something holds
+pub record TellsSuch {U : Type 0} (shows : U → Line → U → Type 0) (Such : List Line → Type 0) (before after : U) : Type 0 where
   pub lines : List Line
   pub told : Tells shows before after lines
-  pub few : length (text_of lines) < bytes
+  pub such : Such lines
 
 -- there is no line
 abbrev pub AreNone : List Line → Type 0

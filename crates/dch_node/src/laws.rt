@@ -1,4 +1,4 @@
-ghost use Rattle.std.specs.Prelude.{◌≡◌, ◌++◌, ℕ, List, [], ◌∷◌, codes};
+ghost use Rattle.std.specs.Prelude.{◌≡◌, ℕ, List};
 ghost use Rattle.dch_types.specs.declared.channel.Dir.{Dir};
 ghost use Rattle.dch_types.specs.declared.config.Config.{Config};
 ghost use Rattle.dch_types.specs.Parts.{side_of};
@@ -7,13 +7,6 @@ ghost use Rattle.dch_iub.specs.Answers.{IsCause};
 ghost use Rattle.dch_iub.specs.Forms.{IsReadForm};
 ghost use Rattle.dch_iub.specs.declared.error.IubError.{IubError};
 ghost use Rattle.dch_node.specs.IubFrames.{IsSameReading, refusal_number};
-ghost use Rattle.dch_node.specs.Lines.{Line, text_of, words_of};
-
-/// A law: the text of lines is their texts, one after another.
-pub fn text_law()
-    ensures one { (line : Line) → text_of (line ∷ []) ≡ words_of line ++ codes "\n" }
-    ensures append { (lines more : List Line) → text_of (lines ++ more) ≡ text_of lines ++ text_of more }
-{}
 
 /// A law: an Iub frame is taken in one way. It is refused by one number, or read as one CFN and the same blocks, and never both.
 pub fn one_answer_law()

@@ -1,6 +1,6 @@
-//! What all nodes share: the lines that they report, the frames that they send, and a history as one step for each event.
+//! What all nodes share: the lines that they tell, the frames that they send, and a history as one step for each event.
 #![tactic(auto)]
 
 mod laws;
 
-pub use laws::{one_answer_law, text_law};
+pub use laws::one_answer_law;

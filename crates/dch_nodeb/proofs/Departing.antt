@@ -37,7 +37,6 @@ none_sent shows planned cfn old before after opened none shown = record {
   running = refl;
   formats = refl;
   writes = none;
-  few = omega arith;
   shown = shown;
 }
 

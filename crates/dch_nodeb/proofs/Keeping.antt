@@ -1,5 +1,5 @@
 -- The receive buffers of the sets, one of which is written.
-use Rattle.std.proofs.Common.{◌≡◌, ◌≢◌, ◌+◌, ◌<◌, ◌≤◌, ◌∙◌, ◌++◌, ℕ, List, [], length, arith, refl, ap, sym, subst, inl, inr, true, false, Option, Some, None, get_or, ◌∷◌, length-append, get_or-set_same, get_or-set_other}
+use Rattle.std.proofs.Common.{◌≡◌, ◌≢◌, ◌+◌, ◌<◌, ◌∙◌, ◌++◌, ℕ, List, [], length, arith, refl, ap, sym, subst, inl, inr, true, false, Option, Some, None, get_or, ◌∷◌, length-append, get_or-set_same, get_or-set_other}
 use Rattle.std.specs.Prelude.{slice_set}
 use Rattle.std.proofs.lemmas.Bool.Decides.{eqb_tells}
 use Rattle.std.proofs.lemmas.List.{get_or_append_left, get_or_default, get_or_push, length-set}
@@ -11,7 +11,6 @@ use Rattle.dch_iub.specs.Answers.{IsCause}
 use Rattle.dch_iub.specs.declared.error.IubError.{IubError}
 use Rattle.dch_indication.specs.Lines.{IubBad, Line}
 use Rattle.dch_indication.proofs.Telling.{told_one}
-use Rattle.dch_script.specs.LineText.{text_of}
 use Rattle.dch_node.specs.IubFrames.{refusal_number}
 use Rattle.dch_nodeb.specs.Moves.{AreReady, IsFilled, IsReady, Keeps}
 use Rattle.dch_nodeb.specs.Opened.{AreNewRxBuffers, AreRxBuffersOf}
@@ -44,7 +43,6 @@ taken_keeps shows planned set at octets rx_buffers new before same few are is fi
       opened = still_places planned rx_buffers set new are few is;
       others = λ s other. other_place rx_buffers set s new other;
       lines = [];
-      few = omega arith;
       took = inl (record { filled = subst (λ (p : IubRxBuffer). IsFilled planned set octets p) (sym (own_place planned rx_buffers set new are few)) filled; quiet = refl });
       told = refl;
     } in
@@ -52,15 +50,14 @@ taken_keeps shows planned set at octets rx_buffers new before same few are is fi
 
 -- a frame was refused, and the receive buffer of its set is as it was
 pub refused_keeps : {S : Type 0} (shows : S → Line → S → Type 0) (planned : Planned) (set at : ℕ) (octets : List ℕ) (rx_buffers : List IubRxBuffer) (error : IubError) (old new : IubRxBuffer) (before after : S) → at ≡ set → set < 8 → AreRxBuffersOf planned rx_buffers
-    → old ≡ rx_buffer_at rx_buffers set → new ≡ old → IsCause planned.config Down set octets error → length (text_of (IubBad Down set (refusal_number error) ∷ [])) ≤ 300
+    → old ≡ rx_buffer_at rx_buffers set → new ≡ old → IsCause planned.config Down set octets error
     → shows before (IubBad Down set (refusal_number error)) after → Keeps shows planned set octets rx_buffers (slice_set rx_buffers at new) before after
-refused_keeps shows planned set at octets rx_buffers error old new before after place few are own same cause short shown =
+refused_keeps shows planned set at octets rx_buffers error old new before after place few are own same cause shown =
     let still : new ≡ rx_buffer_at rx_buffers set = same ∙ own in
     let held : Keeps shows planned set octets rx_buffers (slice_set rx_buffers set new) before after = record {
       opened = still_places planned rx_buffers set new are few (subst (λ (p : IubRxBuffer). IsSetOf planned.config Down set p.held) (sym still) (are.each set few));
       others = λ s other. other_place rx_buffers set s new other;
       lines = IubBad Down set (refusal_number error) ∷ [];
-      few = short;
       took = inr (record { error = error; cause = cause; same = own_place planned rx_buffers set new are few ∙ still; reported = refl });
       told = told_one shows before after _ shown;
     } in

@@ -4,6 +4,7 @@ pub mod Departing
 pub mod Giving
 pub mod Going
 pub mod Keeping
+pub mod Limited
 pub mod OneOutput
 pub mod OneRadio
 pub mod OneTti

@@ -1,10 +1,9 @@
 -- The sets that are served one after another.
-use Rattle.std.proofs.Common.{◌≡◌, ◌≢◌, ◌+◌, ◌<◌, ◌≤◌, ◌∙◌, ◌++◌, ℕ, zero, suc, List, [], length, arith, refl, ap, ap₂, sym, subst, inl, inr, true, eq-eqb, add-one, length-append, get_or-set_same, get_or-set_other, None, ◌∷◌}
+use Rattle.std.proofs.Common.{◌≡◌, ◌≢◌, ◌+◌, ◌<◌, ◌∙◌, ◌++◌, ℕ, zero, suc, List, [], length, arith, refl, ap, ap₂, sym, subst, inl, inr, true, eq-eqb, add-one, get_or-set_same, get_or-set_other, None, ◌∷◌}
 use Rattle.std.proofs.lemmas.List.{length-set}
 use Rattle.dch_types.specs.declared.channel.Dir.TheVariants.{Up}
 use Rattle.dch_accept.specs.HeldSets.{HeldSet}
 use Rattle.dch_iub.specs.Forms.{IsWrittenForm}
-use Rattle.dch_node.proofs.Texts.{text_of-append}
 use Rattle.dch_types.specs.Timing.{ends, set_frames, started}
 use Rattle.std.specs.Prelude.{◌==◌, if◌then◌else◌, slice_set}
 use Rattle.std.proofs.lemmas.Bool.Decides.{eqb_tells}
@@ -15,7 +14,7 @@ use Rattle.dch_indication.proofs.Telling.{told_one, told-append}
 use Rattle.dch_txframes.specs.Opened.{AreTxBuffersOf, IsTxBufferOf}
 use Rattle.dch_txframes.specs.Sending.{SendsFrame}
 use Rattle.dch_txframes.specs.Values.{IubTxBuffer, tx_buffer_at}
-use Rattle.dch_node.specs.Lines.{BadTti, Iub, Line, joined, text_of}
+use Rattle.dch_node.specs.Lines.{BadTti, Iub, Line, joined}
 use Rattle.dch_nodeb.specs.Moves.{AreDelivered, Delivered}
 use Rattle.dch_nodeb.specs.Opened.{IsReceiverOf}
 use Rattle.dch_nodeb.specs.Steps.{AreRead, DeliversSet, IsBadTti}
@@ -66,8 +65,6 @@ served_next shows planned rx_frames set tx_buffers tx_buffer receiver next befor
     subst (λ (t : List Line). DeliversSet planned rx_frames s t (tx_buffer_at new s).sent) (sym (with_lines-other are.lines set served.lines s apart))
     (subst (λ (l : IubTxBuffer). DeliversSet planned rx_frames s (are.lines s) l.sent) (sym (others s apart)) (are.sets s early))) in
     let next_lines : joined all (set + 1) ≡ joined are.lines set ++ served.lines = joined-next are.lines set served.lines in
-    let long : text_of (joined all (set + 1)) ≡ text_of (joined are.lines set) ++ text_of served.lines =
-    ap (λ (l : List Line). text_of l) next_lines ∙ text_of-append (joined are.lines set) served.lines in
     record {
       lines = all;
       sets = λ s early. elim (eqb_tells s set) [
@@ -75,7 +72,6 @@ served_next shows planned rx_frames set tx_buffers tx_buffer receiver next befor
         | inr other ↦ there s (let apart : s ≢ set = other.1 in omega arith)
       ];
       later = λ s late few. ap (λ (l : IubTxBuffer). l.sent) (others s (omega arith)) ∙ are.later s (omega arith) few;
-      few = rw long (rw length-append (omega (arith, are.few, served.few)));
       told = subst (λ (ls : List Line). Told shows before ls after) (sym next_lines) (told-append shows before now after (joined are.lines set) served.lines are.told served.told);
       tx_buffers_opened = record {
         all = length-set tx_buffers set tx_buffer ∙ are.tx_buffers_opened.all;
@@ -94,7 +90,6 @@ pub sent_up : {S : Type 0} (shows : S → Line → S → Type 0) (planned : Plan
     → Delivered shows planned rx_frames set new receiver before after
 sent_up shows planned rx_frames set start old new receiver before after sends read over begun opened same = record {
   lines = Iub Up set sends.octets ∷ [];
-  few = sends.few;
   serves = inr (inr (record {
     over = over;
     held = new.held;
@@ -114,10 +109,9 @@ sent_up shows planned rx_frames set start old new receiver before after sends re
 -- the TTI of a set could not be read
 pub lost_set : {S : Type 0} (shows : S → Line → S → Type 0) (planned : Planned) (rx_frames : RxFrames) (set channel frame : ℕ) (tx_buffer : IubTxBuffer) (receiver : UplinkReceiver) (before after : S) → IsBadTti planned.config.uplink.side rx_frames set channel frame
     → ends (set_frames planned.config.uplink.side set) rx_frames.cfn ≡ true → tx_buffer.sent ≡ None → IsTxBufferOf planned Up set tx_buffer → IsReceiverOf planned receiver → receiver.rx_frames ≡ rx_frames
-    → length (text_of (BadTti Up channel frame ∷ [])) ≤ 300 → shows before (BadTti Up channel frame) after → Delivered shows planned rx_frames set tx_buffer receiver before after
-lost_set shows planned rx_frames set channel frame tx_buffer receiver before after is over none kept opened same few shown = record {
+    → shows before (BadTti Up channel frame) after → Delivered shows planned rx_frames set tx_buffer receiver before after
+lost_set shows planned rx_frames set channel frame tx_buffer receiver before after is over none kept opened same shown = record {
   lines = BadTti Up channel frame ∷ [];
-  few = omega (arith, few);
   serves = inr (inl (record { over = over; channel = channel; frame = frame; is = is; reported = refl; none = none }));
   told = told_one shows before after _ shown;
   tx_buffer_opened = kept;
@@ -132,7 +126,6 @@ none_served shows planned tx_buffers receiver before are opened quiet = record {
   lines = λ s. [];
   sets = λ s early. absurd (omega arith);
   later = λ s late few. quiet s few;
-  few = omega arith;
   told = refl;
   tx_buffers_opened = are;
   receiver_opened = opened;

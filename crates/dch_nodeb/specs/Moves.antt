@@ -1,5 +1,5 @@
 -- What the parts of a Node B do in a step, each by itself.
-use Rattle.std.specs.Prelude.{◌≡◌, ◌≢◌, ◌<◌, ◌≤◌, ◌*◌, ◌%◌, ◌⊎◌, ℕ, List, [], ◌∷◌, Option, Some, None, true, false, length, slice_index}
+use Rattle.std.specs.Prelude.{◌≡◌, ◌≢◌, ◌<◌, ◌≤◌, ◌%◌, ◌⊎◌, ℕ, List, [], ◌∷◌, Option, Some, None, true, false, length, slice_index}
 use Rattle.dch_types.specs.declared.channel.Dir.TheVariants.{Down, Up}
 use Rattle.dch_types.specs.declared.channel.Side.{Side}
 use Rattle.dch_types.specs.declared.config.Config.{Config}
@@ -17,7 +17,6 @@ use Rattle.dch_iub.specs.Forms.{IsReadForm}
 use Rattle.dch_iub.specs.declared.error.IubError.{IubError}
 use Rattle.dch_indication.specs.Lines.{IubBad, Line, joined}
 use Rattle.dch_indication.specs.Told.{Told}
-use Rattle.dch_script.specs.LineText.{text_of}
 use Rattle.dch_txframes.specs.Opened.{AreTxBuffersOf, IsTxBufferOf}
 use Rattle.dch_txframes.specs.Values.{IubTxBuffer, radio_sent, tx_buffer_at}
 use Rattle.dch_types.specs.Timing.{set_frames, starts}
@@ -51,7 +50,6 @@ pub record Keeps {S : Type 0} (shows : S → Line → S → Type 0) (planned : P
   pub opened : AreRxBuffersOf planned new
   pub others : (s : ℕ) → s ≢ set → rx_buffer_at new s ≡ rx_buffer_at old s
   pub lines : List Line
-  pub few : length (text_of lines) ≤ 300
   pub took : IsTaken planned set octets (rx_buffer_at new set) lines ⊎ IsRefused planned set octets (rx_buffer_at old set) (rx_buffer_at new set) lines
   pub told : Told shows before lines after
 
@@ -132,7 +130,6 @@ pub record Sends {S : Type 0} (shows : S → Line → S → Type 0) (planned : P
   pub running : new.running ≡ old.running
   pub formats : new.formats ≡ old.formats
   pub writes : Writes planned cfn old (radio_sent new.radio)
-  pub few : length (text_of (radio_line (radio_sent new.radio) ∷ [])) ≤ 60000
   pub shown : shows before (radio_line (radio_sent new.radio)) after
 
 -- the radio frame of the CFN is due: receive buffers are made ready, the channels that start are loaded, and the frame is sent
@@ -151,7 +148,6 @@ pub record Hears (planned : Planned) (cfn : ℕ) (radio : Option Radio) (old new
 -- a set was served
 pub record Delivered {S : Type 0} (shows : S → Line → S → Type 0) (planned : Planned) (rx_frames : RxFrames) (set : ℕ) (tx_buffer : IubTxBuffer) (receiver : UplinkReceiver) (before after : S) : Type 0 where
   pub lines : List Line
-  pub few : length (text_of lines) ≤ 300000
   pub serves : DeliversSet planned rx_frames set lines tx_buffer.sent
   pub told : Told shows before lines after
   pub tx_buffer_opened : IsTxBufferOf planned Up set tx_buffer
@@ -163,7 +159,6 @@ pub record AreDelivered {S : Type 0} (shows : S → Line → S → Type 0) (plan
   pub lines : ℕ → List Line
   pub sets : (s : ℕ) → s < count → DeliversSet planned rx_frames s (lines s) (tx_buffer_at tx_buffers s).sent
   pub later : (s : ℕ) → count ≤ s → s < 8 → (tx_buffer_at tx_buffers s).sent ≡ None
-  pub few : length (text_of (joined lines count)) ≤ count * 300000
   pub told : Told shows before (joined lines count) after
   pub tx_buffers_opened : AreTxBuffersOf planned Up tx_buffers
   pub receiver_opened : IsReceiverOf planned receiver

@@ -4,11 +4,12 @@ ghost use Rattle.dch_types.specs.Timing.{has_set};
 ghost use Rattle.dch_config.specs.Changes.{KeepsBearer};
 ghost use Rattle.dch_accept.specs.Plans.{Planned};
 ghost use Rattle.dch_accept.specs.Reports.{step_bytes};
-ghost use Rattle.dch_script.specs.Adding.{Adds};
+ghost use Rattle.dch_script.specs.Adding.{AddsLines};
 ghost use Rattle.dch_tti.specs.RxFrames.{HasTfci};
 ghost use Rattle.dch_node.specs.Lines.{Line};
-ghost use Rattle.dch_node.specs.Standing.{AreNone, Tells, TellsFew};
-ghost use Rattle.dch_txframes.specs.Rooms.{HasRoomFor};
+ghost use Rattle.dch_node.specs.Standing.{AreNone, Tells, TellsSuch};
+ghost use Rattle.dch_steptext.specs.Limits.{AreLimited};
+ghost use Rattle.dch_steptext.specs.Reports.{HasRoomFor};
 ghost use Rattle.dch_txframes.specs.Lending.{octets_of, radio_of};
 ghost use Rattle.dch_nodeb.specs.Opened.{CanChange, HasNext, IsNodeOf};
 ghost use Rattle.dch_nodeb.specs.Standing.{ExtendsHistory, IsActiveBefore, IsReadyFor, KeepsNext, MayCome, NothingSent, Represents, RepresentsHistory, Stepped, event_of};
@@ -110,7 +111,6 @@ impl NodeB {
         ensures history { (began before : Planned) (first : ℕ) (events : List Event) (lines : List Line) → IsActiveBefore accepted.now event.entry before self.old →
             RepresentsHistory began before first events lines self.old → ExtendsHistory began accepted.now first events lines (event_of accepted.now event.entry) self.new (Tells U.shows user.old user.new) }
         ensures next { KeepsNext accepted.now event.entry self.old self.new }
-        ensures few { TellsFew U.shows 4000000 user.old user.new }
     {
         self.happen(accepted, event, user);
     }
@@ -123,14 +123,14 @@ impl NodeB {
         requires room { HasRoomFor report.old (step_bytes accepted.now.config) }
         ensures opened { IsNodeOf accepted.now self.new }
         ensures step { (before : Planned) (state : State) → IsActiveBefore accepted.now event.entry before self.old → Represents before state self.old →
-            Stepped accepted.now state (event_of accepted.now event.entry) self.new (Adds report.old.text report.new.text) }
+            Stepped accepted.now state (event_of accepted.now event.entry) self.new (AddsLines report.old.text report.new.text) }
         ensures history { (began before : Planned) (first : ℕ) (events : List Event) (lines : List Line) → IsActiveBefore accepted.now event.entry before self.old →
-            RepresentsHistory began before first events lines self.old → ExtendsHistory began accepted.now first events lines (event_of accepted.now event.entry) self.new (Adds report.old.text report.new.text) }
+            RepresentsHistory began before first events lines self.old → ExtendsHistory began accepted.now first events lines (event_of accepted.now event.entry) self.new (AddsLines report.old.text report.new.text) }
         ensures next { KeepsNext accepted.now event.entry self.old self.new }
         ensures few { length report.new.text ≤ length report.old.text + 4000000 }
         ensures most { report.new.most ≡ report.old.most }
     {
-        self.step_with(accepted, event, report);
+        self.happen(accepted, event, report);
     }
 
     /// Gives all memory back.
@@ -159,7 +159,7 @@ impl NodeB {
         ensures step { (before : Planned) (state : State) → IsActiveBefore accepted.now event.entry before self.old → Represents before state self.old →
             Stepped accepted.now state (event_of accepted.now event.entry) self.new (Tells U.shows user.old user.new) }
         ensures next { KeepsNext accepted.now event.entry self.old self.new }
-        ensures few { TellsFew U.shows 4000000 user.old user.new }
+        ensures limited { TellsSuch U.shows (AreLimited 8) user.old user.new }
     {
         self.clear_sent();
         match event {
@@ -208,7 +208,7 @@ impl NodeB {
         ensures opened { IsNodeOf accepted.now self.new }
         ensures step { (state : State) → Represents accepted.now state self.old → Stepped accepted.now state (IubFrame set frame.now) self.new (Tells U.shows user.old user.new) }
         ensures next { self.new.next ≡ self.old.next }
-        ensures few { TellsFew U.shows 4000000 user.old user.new }
+        ensures limited { TellsSuch U.shows (AreLimited 8) user.old user.new }
     {
         keep(accepted, set, frame, &mut self.parts.rx_buffers, user);
     }
@@ -220,10 +220,11 @@ impl NodeB {
         ensures opened { IsNodeOf accepted.now self.new }
         ensures step { (state : State) → Represents accepted.now state self.old → Stepped accepted.now state DownlinkDue self.new (Tells U.shows user.old user.new) }
         ensures next { self.new.next ≡ self.old.next }
-        ensures few { TellsFew U.shows 4000000 user.old user.new }
+        ensures limited { TellsSuch U.shows (AreLimited 8) user.old user.new }
     {
-        // The channels of a set have TTIs of one length in a good configuration.
+        // In a good configuration the channels of a set have TTIs of one length, and a radio frame has at most 57,240 cells.
         let _side = accepted.side(Dir::Down);
+        let _config = accepted.config();
         transmit(
             accepted,
             self.cfn,
@@ -246,8 +247,10 @@ impl NodeB {
         ensures opened { IsNodeOf accepted.now self.new }
         ensures step { (state : State) → Represents accepted.now state self.old → Stepped accepted.now state (UplinkFrame (radio_of frame.entry)) self.new (Tells U.shows user.old user.new) }
         ensures next { self.new.next ≡ self.old.next }
-        ensures few { TellsFew U.shows 4000000 user.old user.new }
+        ensures limited { TellsSuch U.shows (AreLimited 8) user.old user.new }
     {
+        // The blocks of a format are limited in a good configuration.
+        let _side = accepted.side(Dir::Up);
         receive(
             accepted,
             self.cfn,

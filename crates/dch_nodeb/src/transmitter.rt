@@ -102,8 +102,6 @@ impl DownlinkTransmitter {
         requires first { IsFirst accepted.now.config.downlink.side self.old.formats combination }
         ensures { Sends U.shows accepted.now cfn self.old self.new user.old user.new }
     {
-        // A frame has at most 57,240 cells in a good configuration.
-        let _config = accepted.config();
         write(accepted, &self.tti, cfn, combination, &mut self.radio.frame);
         self.radio.sent = true;
         tell_radio(user, Dir::Down, self.radio.frame.view());

@@ -4,7 +4,8 @@ use Rattle.std.specs.Prelude.{None}
 use Rattle.dch_accept.specs.Plans.{Planned}
 use Rattle.dch_lines.specs.LineTexts.{HandlesLine, HandlesLines, is_empty}
 use Rattle.dch_lines.specs.Semantics.{LineSteps}
-use Rattle.dch_node.specs.Lines.{Line, text_of}
+use Rattle.dch_node.specs.Lines.{Line}
+use Rattle.dch_script.specs.LineText.{text_of}
 use Rattle.dch_nodecmd.specs.NoTrace.{ChangesNothing, ChangesNothingAfter, IsSameRun, LeavesNoTrace}
 use Rattle.dch_nodecmd.specs.NodeRules.{AreLasting, AsksChange, NodeRules, SaysEvent}
 use Rattle.dch_nodecmd.specs.Rules.{MakesChange, TakesEvent, TakesLine, TakesSaid, node_lines}

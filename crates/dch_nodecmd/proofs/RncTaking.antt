@@ -7,7 +7,7 @@ use Rattle.dch_rnc.specs.State.{State}
 use Rattle.dch_rnc.specs.Values.{Node}
 use Rattle.dch_rnc.specs.declared.event.RncEvent.{RncEvent}
 use Rattle.dch_rnc.specs.declared.event.RncEvent.TheVariants as happens
-use Rattle.dch_script.specs.Adding.{Adds}
+use Rattle.dch_script.specs.Adding.{AddsLines}
 use Rattle.dch_nodecmd.specs.RncReading.{IsCounted, IsReadAs}
 use Rattle.dch_nodecmd.specs.RncRules.{rnc_rules}
 use Rattle.dch_nodecmd.specs.Standing.{StepsBy}
@@ -22,7 +22,7 @@ next_kept planned second happens.Change count old new counted keeps next = absur
 
 -- it took the line as this event
 pub steps_by : (planned : Planned) (line : List ℕ) (event : RncEvent) (count : ℕ) (old new : Node) (before after : List ℕ) → IsCounted event count → IsReadAs planned line event
-    → ((active : Planned) (state : State) → IsActiveBefore planned event active old → Represents active state old → Stepped planned state (happening planned event) new (Adds before after))
+    → ((active : Planned) (state : State) → IsActiveBefore planned event active old → Represents active state old → Stepped planned state (happening planned event) new (AddsLines before after))
     → StepsBy rnc_rules Represents Shows planned line count old new before after
 steps_by planned line (happens.Unit bearer octets bits) count old new before after counted says steps = record { event = happening planned (happens.Unit bearer octets bits); says = says; counted = counted; steps = λ state stands. steps planned state refl stands }
 steps_by planned line (happens.Block combination on) count old new before after counted says steps = record { event = happening planned (happens.Block combination on); says = says; counted = counted; steps = λ state stands. steps planned state refl stands }

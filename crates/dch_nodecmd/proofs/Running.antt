@@ -5,7 +5,8 @@ use Rattle.std.proofs.lemmas.List.Sums.{sum_by-append}
 use Rattle.dch_accept.specs.Plans.{Planned}
 use Rattle.dch_script.specs.Held.{Held}
 use Rattle.dch_lines.specs.Semantics.{Adds}
-use Rattle.dch_node.specs.Lines.{Line, text_of}
+use Rattle.dch_node.specs.Lines.{Line}
+use Rattle.dch_script.specs.LineText.{text_of}
 use Rattle.dch_node.specs.Values.{Output, no_output}
 use Rattle.dch_node.proofs.Traces.{trace_next}
 use Rattle.dch_nodecmd.specs.NodeRules.{AreLasting, NodeRules, SaysEvent}

@@ -7,7 +7,7 @@ use Rattle.dch_ue.specs.State.{State}
 use Rattle.dch_ue.specs.Values.{Node}
 use Rattle.dch_ue.specs.declared.event.UeEvent.{UeEvent}
 use Rattle.dch_ue.specs.declared.event.UeEvent.TheVariants as happens
-use Rattle.dch_script.specs.Adding.{Adds}
+use Rattle.dch_script.specs.Adding.{AddsLines}
 use Rattle.dch_nodecmd.specs.UeReading.{IsCounted, IsReadAs}
 use Rattle.dch_nodecmd.specs.UeRules.{ue_rules}
 use Rattle.dch_nodecmd.specs.Standing.{StepsBy}
@@ -22,7 +22,7 @@ next_kept planned second happens.Change count old new counted keeps next = absur
 
 -- it took the line as this event
 pub steps_by : (planned : Planned) (line : List ℕ) (event : UeEvent) (count : ℕ) (old new : Node) (before after : List ℕ) → IsCounted event count → IsReadAs planned line event
-    → ((active : Planned) (state : State) → IsActiveBefore planned event active old → Represents active state old → Stepped planned state (happening planned event) new (Adds before after))
+    → ((active : Planned) (state : State) → IsActiveBefore planned event active old → Represents active state old → Stepped planned state (happening planned event) new (AddsLines before after))
     → StepsBy ue_rules Represents Shows planned line count old new before after
 steps_by planned line (happens.Unit bearer octets bits) count old new before after counted says steps = record { event = happening planned (happens.Unit bearer octets bits); says = says; counted = counted; steps = λ state stands. steps planned state refl stands }
 steps_by planned line (happens.Block combination on) count old new before after counted says steps = record { event = happening planned (happens.Block combination on); says = says; counted = counted; steps = λ state stands. steps planned state refl stands }

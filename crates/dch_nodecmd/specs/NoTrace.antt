@@ -2,7 +2,8 @@
 use Rattle.std.specs.Prelude.{◌≡◌, ◌++◌, ℕ, List, false}
 use Rattle.dch_accept.specs.Plans.{Planned}
 use Rattle.dch_lines.specs.LineTexts.{HandlesLines, is_empty}
-use Rattle.dch_node.specs.Lines.{Line, text_of}
+use Rattle.dch_node.specs.Lines.{Line}
+use Rattle.dch_script.specs.LineText.{text_of}
 use Rattle.dch_node.specs.Values.{Output}
 use Rattle.dch_nodecmd.specs.NodeRules.{NodeRules, SaysEvent}
 use Rattle.dch_nodecmd.specs.Rules.{node_lines}

@@ -4,7 +4,7 @@ use Rattle.dch_types.specs.declared.config.Config.{Config}
 use Rattle.dch_script.specs.declared.event.LineError.{LineError}
 use Rattle.dch_script.specs.declared.event.LineError.TheVariants.{When}
 use Rattle.dch_lines.specs.Semantics.{Semantics, one_step}
-use Rattle.dch_node.specs.Lines.{text_of}
+use Rattle.dch_script.specs.LineText.{text_of}
 use Rattle.dch_node.specs.Values.{Output}
 use Rattle.dch_nodecmd.specs.NodeRules.{AsksChange, IsMalformed, NodeRules, SaysEvent}
 use Rattle.dch_nodecmd.specs.Run.{IsDue, Run, frames_in}

@@ -5,8 +5,9 @@ use Rattle.dch_accept.specs.Plans.{Planned}
 use Rattle.dch_accept.specs.Reports.{step_bytes}
 use Rattle.dch_io.specs.declared.feed.TheConstants.{LIMIT}
 use Rattle.dch_script.specs.Held.{Held}
-use Rattle.dch_script.specs.Adding.{Adds}
-use Rattle.dch_node.specs.Lines.{Line, text_of}
+use Rattle.dch_script.specs.Adding.{AddsLines}
+use Rattle.dch_node.specs.Lines.{Line}
+use Rattle.dch_script.specs.LineText.{text_of}
 use Rattle.dch_node.specs.Standing.{HasHistory, TakesStep}
 use Rattle.dch_node.specs.Traces.{Reaches}
 use Rattle.dch_node.specs.Values.{Output}
@@ -92,14 +93,14 @@ pub record CanChange {S E V : Type 0} (rules : NodeRules S E) (IsNodeOf : Planne
 
 -- from each state that a node stands for it took the step of a change to a second configuration, and its report went on by the text of the step
 abbrev pub Changes : {S E V : Type 0} → NodeRules S E → (Planned → S → V → Type 0) → (Planned → Planned → V → Type 0) → (Output → V → Type 0) → Planned → V → V → List ℕ → List ℕ → Type 0
-Changes {S} rules Represents HasNext Shows second old new before after = (first : Planned) (state : S) → Represents first state old → HasNext first second old → TakesStep rules.steps (Represents second) Shows state (rules.change second) new (Adds before after)
+Changes {S} rules Represents HasNext Shows second old new before after = (first : Planned) (state : S) → Represents first state old → HasNext first second old → TakesStep rules.steps (Represents second) Shows state (rules.change second) new (AddsLines before after)
 
 -- a node took a line as an event that stands for so many radio frames, and its report went on by the text of the step
 pub record StepsBy {S E V : Type 0} (rules : NodeRules S E) (Represents : Planned → S → V → Type 0) (Shows : Output → V → Type 0) (planned : Planned) (line : List ℕ) (count : ℕ) (old new : V) (before after : List ℕ) : Type 0 where
   pub event : E
   pub says : SaysEvent rules planned.config line event
   pub counted : count ≡ rules.frames event
-  pub steps : (state : S) → Represents planned state old → TakesStep rules.steps (Represents planned) Shows state event new (Adds before after)
+  pub steps : (state : S) → Represents planned state old → TakesStep rules.steps (Represents planned) Shows state event new (AddsLines before after)
 
 -- what a node made of a good line
 abbrev pub TakesAs : {S E V : Type 0} → NodeRules S E → (Planned → S → V → Type 0) → (Output → V → Type 0) → Planned → List ℕ → V → V → Held → Held → Taken → Type 0

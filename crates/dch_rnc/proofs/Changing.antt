@@ -10,7 +10,7 @@ use Rattle.dch_node.specs.Values.{no_output}
 use Rattle.dch_layer2.specs.Layers.{Layer, changed_layer}
 use Rattle.dch_layer2.specs.Standing.{IsSameEnd, Represents as StandsFor}
 use Rattle.dch_layer2.specs.Values.{LayerRunning}
-use Rattle.dch_layer2.proofs.Layers.{changed_are}
+use Rattle.dch_layer2.proofs.BoundedLayers.{changed_are}
 use Rattle.dch_node.specs.Standing.{AreNone}
 use Rattle.dch_rnc.specs.Opened.{AreNew, CanChange, HasNext, Holds, IsNext, IsNodeOf}
 use Rattle.dch_rnc.specs.Standing.{IsAt, NothingShown, Stepped}

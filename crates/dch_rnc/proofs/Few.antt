@@ -1,5 +1,5 @@
 -- How much text a step makes: less than a report has room for, whatever the state, as long as the bearers hold no more than may be told of in a step.
-use Rattle.std.proofs.Common.{◌≡◌, ◌<◌, ◌≤◌, ◌*◌, ℕ, zero, suc, List, Option, Some, None, codes, length, refl, sym, ap, subst, inl, inr, arith, length-append}
+use Rattle.std.proofs.Common.{◌≡◌, ◌<◌, ◌≤◌, ◌*◌, ℕ, zero, suc, List, Option, Some, None, length, refl, sym, ap, subst, inl, inr, arith, length-append}
 use Rattle.std.proofs.lemmas.Bool.Decides.{eqb_tells}
 use Rattle.dch_bits.specs.declared.bit.Bit.{Bit}
 use Rattle.dch_types.specs.declared.channel.Dir.TheVariants.{Up, Down}
@@ -12,30 +12,31 @@ use Rattle.dch_accept.specs.HeldSets.{HeldSet}
 use Rattle.dch_accept.specs.Plans.{Planned}
 use Rattle.dch_accept.specs.Reports.{step_bytes}
 use Rattle.dch_iub.specs.Forms.{IsReadForm}
-use Rattle.dch_iub.specs.Shape.{AreFormats}
-use Rattle.dch_iub.specs.declared.error.IubError.{IubError}
-use Rattle.dch_iub.specs.declared.error.IubError.TheVariants.{Short, HeaderCheck, Control, Format, Length, PayloadCheck}
+use Rattle.dch_script.specs.Adding.{ShowsLine}
+use Rattle.dch_script.specs.Held.{Held as Text}
 use Rattle.dch_script.proofs.Adding.{text_of-append}
 use Rattle.dch_node.specs.IubFrames.{refusal_number}
-use Rattle.dch_node.specs.Lines.{Line, text_of}
-use Rattle.dch_node.specs.Standing.{Tells, TellsFew}
+use Rattle.dch_node.specs.Lines.{IubBad, Line}
+use Rattle.dch_script.specs.LineText.{text_of}
+use Rattle.dch_node.specs.Standing.{Tells}
 use Rattle.dch_node.specs.Values.{Output}
-use Rattle.dch_node.proofs.Reporting.{few_of}
-use Rattle.dch_txframes.proofs.Lengths.{frame_octets-le}
-use Rattle.dch_txframes.proofs.Texts.{iub_line, pair_line}
+use Rattle.dch_node.proofs.IubFrames.{refusal_small}
+use Rattle.dch_txframes.proofs.Lengths.{read_octets-le}
+use Rattle.dch_steptext.specs.Reports.{IsToldFew}
+use Rattle.dch_steptext.proofs.LayerBytes.{offer_line}
+use Rattle.dch_steptext.proofs.ReadingBytes.{readings_room}
+use Rattle.dch_steptext.proofs.Texts.{iub_line, short_line}
 use Rattle.dch_layer2.specs.Layers.{Layer}
 use Rattle.dch_layer2.specs.BoundedBearers.{AreBounded}
 use Rattle.dch_layer2.proofs.PduSizes.{side_good}
-use Rattle.dch_layer2.proofs.Layers.{offer_line}
 use Rattle.dch_layer2.specs.Bounded.{IsTti}
 use Rattle.dch_layer2.specs.Reading.{Nothing, Read, Reading}
-use Rattle.dch_layer2.proofs.Paying.{readings_room}
 use Rattle.dch_rnc.specs.declared.event.RncEvent.{RncEvent}
 use Rattle.dch_rnc.specs.declared.event.RncEvent.TheVariants.{Unit as Offered, Block, Iub, Tick as Ticks, Change as Changes}
 use Rattle.dch_rnc.specs.Opened.{IsNodeOf}
-use Rattle.dch_rnc.specs.Standing.{IsActiveBefore, IsReadyFor, MayCome, Represents, Shows, Stepped, blocks_read, event_of}
-use Rattle.dch_rnc.specs.State.{State, OfferedUnit, BlockedCombination, IubFrame, Tick, Change, set_readings}
-use Rattle.dch_rnc.specs.Steps.{IsArrival, IsOffer, IsSent, IsTick, Steps, sent_line, sent_lines}
+use Rattle.dch_rnc.specs.Standing.{IsActiveBefore, IsReadyFor, MayCome, Represents, Stepped, blocks_read, event_of}
+use Rattle.dch_rnc.specs.State.{State, set_readings}
+use Rattle.dch_rnc.specs.Steps.{IsArrival, IsOffer, IsSent, IsTick, sent_line, sent_lines}
 use Rattle.dch_rnc.specs.Values.{Node, taken_shown}
 use Rattle.dch_rnc.proofs.Taking.{reading_off, reading_on}
 
@@ -46,22 +47,11 @@ tti_read config set frame cfn qe held i is inside = elim (eqb_tells (channel_at 
   | inr other ↦ subst (λ (r : Reading). IsTti config Up i r) (sym (reading_off config.uplink.side set held i other.1)) tt
 ]
 
-refusal_small : (error : IubError) → refusal_number error < 256
-refusal_small Short = omega arith
-refusal_small HeaderCheck = omega arith
-refusal_small Control = omega arith
-refusal_small (Format f) = omega arith
-refusal_small Length = omega arith
-refusal_small PayloadCheck = omega arith
-
 -- the lines on the frames of the first sets
 sent_short : (config : Config) (cfn : ℕ) (layer : Layer) (set : ℕ) (sent : Option (List ℕ)) → IsGood config → set < 8 → IsSent config cfn layer set sent → length (text_of (sent_line set sent)) ≤ 300000
 sent_short config cfn layer set None good few is = omega arith
 sent_short config cfn layer set (Some octets) good few is =
-    let read : IsReadForm config Down set octets cfn 0 is.1.held = is.1.written.read in
-    let are : AreFormats config.downlink.side set read.numbers = λ i inside member. subst (λ n. n < length (channel_at config.downlink.side i).formats) (read.numbered i inside member) (read.formats i inside member).there in
-    let long : length octets ≤ 140000 = subst (λ n. n ≤ 140000) (sym read.long) (frame_octets-le config Down set read.numbers (side_good config Down good) are) in
-    iub_line Down set octets (omega (arith, few)) long
+    iub_line Down set octets (omega (arith, few)) (read_octets-le config Down set octets cfn 0 is.1.held (side_good config Down good) is.1.written.read)
 
 all_short : (config : Config) (cfn : ℕ) (layer : Layer) (iub : ℕ → Option (List ℕ)) (n : ℕ) → IsGood config → n ≤ 8 → ((s : ℕ) → s < 8 → IsSent config cfn layer s (iub s)) → length (text_of (sent_lines iub n)) ≤ n * 300000
 all_short config cfn layer iub zero good few are = omega arith
@@ -87,7 +77,7 @@ arrival_few planned old new set octets output good bounded small (inl read) =
     (omega (arith, readings_room config Up (set_readings config.uplink.side set read.held) (length config.uplink.side.channels) old.layer good (omega arith) (λ i inside. tti_read config set octets read.cfn read.qe read.held i read.read inside) bounded))
 arrival_few planned old new set octets output good bounded small (inr refused) =
     subst (λ (o : Output). length (text_of o.lines) < step_bytes planned.config) (sym refused.reported)
-    (omega (arith, pair_line (codes "iubbad ") Up set (refusal_number refused.error) (omega arith) small (refusal_small refused.error)))
+    (omega (arith, short_line (IubBad Up set (refusal_number refused.error)) (omega (arith, small), refusal_small refused.error)))
 
 tick_few : (planned : Planned) (old new : State) (output : Output) → IsGood planned.config → IsTick planned old new output → length (text_of output.lines) < step_bytes planned.config
 tick_few planned old new output good step =
@@ -112,33 +102,30 @@ bounded_stands planned node opened = record {
   readings = λ i inside. shown_again (taken_shown node i);
 }
 
--- so whoever is told is told of lines with less text than a report has room for
-abbrev StepsFrom : Planned → RncEvent → Node → Node → (List Line → Type 0) → Type 0
-StepsFrom planned event old new Says =
-    (was : Planned) (state : State) → IsActiveBefore planned event was old → Represents was state old → Stepped planned state (event_of planned event) new Says
+-- so a report is told of lines with less text than it has room for
+abbrev StepsFrom : Planned → RncEvent → Node → Node → Text → Text → Type 0
+StepsFrom planned event old new before after =
+    (was : Planned) (state : State) → IsActiveBefore planned event was old → Represents was state old → Stepped planned state (event_of planned event) new (Tells ShowsLine before after)
 
-pub told_few : {S : Type 0} (shows : S → Line → S → Type 0) (planned : Planned) (event : RncEvent) (old new : Node) (before after : S) → IsGood planned.config → IsReadyFor planned event old → MayCome planned event → StepsFrom planned event old new (Tells shows before after) → TellsFew shows (step_bytes planned.config) before after
-told_few shows planned (Offered b octets bits) old new before after good opened may steps =
+pub told_few : (planned : Planned) (event : RncEvent) (old new : Node) (before after : Text) → IsGood planned.config → IsReadyFor planned event old → MayCome planned event → StepsFrom planned event old new before after → IsToldFew (step_bytes planned.config) before after
+told_few planned (Offered b octets bits) old new before after good opened may steps =
     let state : State = bounded_state planned old opened in
     let is = steps planned state refl (bounded_stands planned old opened) in
-    few_of Steps (Represents planned) Shows shows state (OfferedUnit b octets.now bits.now) new (step_bytes planned.config) before after is
-    (offer_few planned state is.next b octets.now bits.now is.output (omega (arith, may.there, good.few)) is.step)
-told_few shows planned (Block c on) old new before after good opened may steps =
+    record { lines = is.output.lines; told = is.tells; few = offer_few planned state is.next b octets.now bits.now is.output (omega (arith, may.there, good.few)) is.step }
+told_few planned (Block c on) old new before after good opened may steps =
     let state : State = bounded_state planned old opened in
     let is = steps planned state refl (bounded_stands planned old opened) in
-    few_of Steps (Represents planned) Shows shows state (BlockedCombination c on) new (step_bytes planned.config) before after is
-    (subst (λ (o : Output). length (text_of o.lines) < step_bytes planned.config) (sym is.step.1) (omega arith))
-told_few shows planned (Iub set frame) old new before after good opened may steps =
+    record { lines = is.output.lines; told = is.tells; few = subst (λ (o : Output). length (text_of o.lines) < step_bytes planned.config) (sym is.step.1) (omega arith) }
+told_few planned (Iub set frame) old new before after good opened may steps =
     let state : State = bounded_state planned old opened in
     let is = steps planned state refl (bounded_stands planned old opened) in
-    few_of Steps (Represents planned) Shows shows state (IubFrame set frame.now) new (step_bytes planned.config) before after is
-    (arrival_few planned state is.next set frame.now is.output good opened.layer.bounded (omega (arith, set_small planned.config.uplink.side set (side_good planned.config Up good) may)) is.step)
-told_few shows planned Ticks old new before after good opened may steps =
+    let small : set < 256 = omega (arith, set_small planned.config.uplink.side set (side_good planned.config Up good) may) in
+    record { lines = is.output.lines; told = is.tells; few = arrival_few planned state is.next set frame.now is.output good opened.layer.bounded small is.step }
+told_few planned Ticks old new before after good opened may steps =
     let state : State = bounded_state planned old opened in
     let is = steps planned state refl (bounded_stands planned old opened) in
-    few_of Steps (Represents planned) Shows shows state Tick new (step_bytes planned.config) before after is (tick_few planned state is.next is.output good is.step)
-told_few shows planned Changes old new before after good ready may steps =
+    record { lines = is.output.lines; told = is.tells; few = tick_few planned state is.next is.output good is.step }
+told_few planned Changes old new before after good ready may steps =
     let state : State = bounded_state ready.first old ready.opened in
     let is = steps ready.first state ready.next (bounded_stands ready.first old ready.opened) in
-    few_of Steps (Represents planned) Shows shows state (Change planned) new (step_bytes planned.config) before after is
-    (subst (λ (o : Output). length (text_of o.lines) < step_bytes planned.config) (sym is.step.quiet) (omega arith))
+    record { lines = is.output.lines; told = is.tells; few = subst (λ (o : Output). length (text_of o.lines) < step_bytes planned.config) (sym is.step.quiet) (omega arith) }

@@ -6,7 +6,7 @@ use Rattle.dch_node.specs.Values.{no_output}
 use Rattle.dch_layer2.specs.Layers.{opened_layer}
 use Rattle.dch_layer2.specs.Standing.{IsOpened}
 use Rattle.dch_layer2.specs.Values.{LayerRunning}
-use Rattle.dch_layer2.proofs.Layers.{opened_are}
+use Rattle.dch_layer2.proofs.BoundedLayers.{opened_are}
 use Rattle.dch_rnc.specs.Opened.{AreNew, IsNodeOf}
 use Rattle.dch_rnc.specs.Standing.{RepresentsHistory}
 use Rattle.dch_rnc.specs.State.{opened_state}

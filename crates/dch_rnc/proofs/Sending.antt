@@ -1,5 +1,5 @@
 -- The sets whose Iub frames are sent one after another.
-use Rattle.std.proofs.Common.{◌≡◌, ◌≢◌, ◌+◌, ◌<◌, ◌≤◌, ◌∙◌, ◌++◌, ℕ, zero, suc, List, length, arith, refl, ap, ap₂, sym, subst, inl, inr, true, false, Option, None, add-one, length-append, get_or-set_same, get_or-set_other}
+use Rattle.std.proofs.Common.{◌≡◌, ◌≢◌, ◌+◌, ◌<◌, ◌∙◌, ◌++◌, ℕ, zero, suc, List, length, arith, refl, ap, ap₂, sym, subst, inl, inr, true, false, Option, None, add-one, get_or-set_same, get_or-set_other}
 use Rattle.std.specs.Prelude.{slice_set}
 use Rattle.std.proofs.lemmas.Bool.Decides.{eqb_tells}
 use Rattle.std.proofs.lemmas.List.{length-set}
@@ -10,8 +10,6 @@ use Rattle.dch_accept.specs.Plans.{Planned}
 use Rattle.dch_indication.specs.Lines.{Line}
 use Rattle.dch_indication.specs.Told.{Told}
 use Rattle.dch_indication.proofs.Telling.{told_one, told-append}
-use Rattle.dch_script.specs.LineText.{text_of}
-use Rattle.dch_node.proofs.Texts.{text_of-append}
 use Rattle.dch_layer2.specs.Values.{LayerRunning}
 use Rattle.dch_rnc.specs.Moves.{AreFilled, AreServed, Gives, Serves}
 use Rattle.dch_rnc.specs.Steps.{sent_line, sent_lines}
@@ -26,7 +24,6 @@ set_sent shows planned cfn v set old new before after sends filled on = record {
   opened = sends.opened;
   gives = subst (λ (o : Option (List ℕ)). Gives planned.config cfn v set o) (sym sends.sent)
       (on, record { held = new.held; filled = subst (λ (h : HeldSet). AreFilled planned.config set v h) (sym sends.held) filled; whole = sends.whole; written = sends.written });
-  few = subst (λ (o : Option (List ℕ)). length (text_of (sent_line set o)) ≤ 300000) (sym sends.sent) sends.few;
   told = subst (λ (o : Option (List ℕ)). Told shows before (sent_line set o) after) (sym sends.sent) (told_one shows before after _ sends.shown);
 }
 
@@ -36,7 +33,6 @@ pub set_waits : {S : Type 0} (shows : S → Line → S → Type 0) (planned : Pl
 set_waits shows planned cfn v set tx_buffer before opened none off = record {
   opened = opened;
   gives = subst (λ (o : Option (List ℕ)). Gives planned.config cfn v set o) (sym none) off;
-  few = subst (λ (o : Option (List ℕ)). length (text_of (sent_line set o)) ≤ 300000) (sym none) (omega arith);
   told = subst (λ (o : Option (List ℕ)). Told shows before (sent_line set o) before) (sym none) refl;
 }
 
@@ -58,8 +54,6 @@ served_next shows planned cfn v set tx_buffers tx_buffer before now after are in
     sent_lines-same (sent_of new) (sent_of tx_buffers) set (λ s early. ap (λ (l : IubTxBuffer). l.sent) (others s (omega arith))) in
     let lines : sent_lines (sent_of new) (set + 1) ≡ sent_lines (sent_of tx_buffers) set ++ sent_line set tx_buffer.sent =
     rw add-one (ap₂ (λ (a b : List Line). a ++ b) before_lines (ap (λ (l : IubTxBuffer). sent_line set l.sent) own)) in
-    let long : text_of (sent_lines (sent_of new) (set + 1)) ≡ text_of (sent_lines (sent_of tx_buffers) set) ++ text_of (sent_line set tx_buffer.sent) =
-    ap text_of lines ∙ text_of-append (sent_lines (sent_of tx_buffers) set) (sent_line set tx_buffer.sent) in
     record {
       opened = record {
         all = length-set tx_buffers set tx_buffer ∙ are.opened.all;
@@ -73,7 +67,6 @@ served_next shows planned cfn v set tx_buffers tx_buffer before now after are in
         | inr other ↦ (let apart : s ≢ set = other.1 in subst (λ (l : IubTxBuffer). Gives planned.config cfn v s l.sent) (sym (others s apart)) (are.sets s (omega arith)))
       ];
       later = λ s late few. ap (λ (l : IubTxBuffer). l.sent) (others s (omega arith)) ∙ are.later s (omega arith) few;
-      few = rw long (rw length-append (omega (arith, are.few, served.few)));
       told = subst (λ (ls : List Line). Told shows before ls after) (sym lines) (told-append shows before now after (sent_lines (sent_of tx_buffers) set) (sent_line set tx_buffer.sent) are.told served.told);
     }
 
@@ -84,6 +77,5 @@ none_served shows planned cfn v tx_buffers before are quiet = record {
   opened = are;
   sets = λ s early. absurd (omega arith);
   later = λ s late few. quiet s few;
-  few = omega arith;
   told = refl;
 }

@@ -1,24 +1,20 @@
 -- A network controller still fits its configuration after a step, and its layer 2 stays limited.
-use Rattle.std.proofs.Common.{◌≤◌, ◌∙◌, ℕ, List, length, arith, Bool, Option}
+use Rattle.std.proofs.Common.{◌∙◌, ℕ, List, length, arith, Bool, Option}
 use Rattle.dch_bits.specs.declared.bit.Bit.{Bit}
 use Rattle.dch_types.specs.declared.channel.Dir.TheVariants.{Up, Down}
 use Rattle.dch_types.specs.declared.config.Config.{Config}
 use Rattle.dch_config.specs.Good.{IsGood}
 use Rattle.dch_accept.specs.HeldSets.{HeldSet, IsSetOf}
 use Rattle.dch_accept.specs.Plans.{Planned}
-use Rattle.dch_accept.specs.Reports.{step_bytes}
 use Rattle.dch_indication.specs.Lines.{Line}
-use Rattle.dch_script.specs.LineText.{text_of}
-use Rattle.dch_layer2.specs.BoundedBearers.{AreBounded}
 use Rattle.dch_layer2.specs.Layers.{Layer, blocks, offers, ticks}
-use Rattle.dch_layer2.proofs.Layers.{blocks_hold, offers_hold, start_holds, ticks_hold}
+use Rattle.dch_layer2.proofs.BoundedLayers.{blocks_bounded, offers_bounded, start_bounded, ticks_bounded}
 use Rattle.dch_layer2.specs.Bounded.{HasLayer}
 use Rattle.dch_layer2.specs.Standing.{HasStarted, IsLayerOf, IsSameEnd, Represents as StandsFor}
 use Rattle.dch_layer2.specs.Values.{LayerRunning}
-use Rattle.dch_layer2.proofs.Paying.{read_layer, readings_room}
+use Rattle.dch_layer2.proofs.Readings.{read_layer}
 use Rattle.dch_txframes.specs.Opened.{AreTxBuffersOf}
 use Rattle.dch_txframes.specs.Values.{IubTxBuffer}
-use Rattle.dch_rnc.proofs.Moving.{reads_up}
 use Rattle.dch_rnc.specs.Moves.{TakesSet}
 use Rattle.dch_rnc.specs.Opened.{AreRxSetsOf, IsNodeOf}
 use Rattle.dch_rnc.specs.State.{set_readings}
@@ -42,7 +38,7 @@ pub offered_layer : (planned : Planned) (node : Node) (new : LayerRunning) (b : 
 offered_layer planned node new b octets bits opened stands = record {
   layer = (offers planned.config node.layer.out b octets bits opened.layer.layer).layer;
   stands = stands planned.config opened.layer.layer opened.layer.stands;
-  bounded = (offers_hold planned.config node.layer.out b octets bits opened.layer.layer).bounded opened.layer.bounded;
+  bounded = offers_bounded planned.config node.layer.out b octets bits opened.layer.layer opened.layer.bounded;
 }
 
 pub blocked_layer : (planned : Planned) (node : Node) (new : LayerRunning) (c : ℕ) (on : Bool) → IsNodeOf planned node
@@ -50,7 +46,7 @@ pub blocked_layer : (planned : Planned) (node : Node) (new : LayerRunning) (c : 
 blocked_layer planned node new c on opened stands = record {
   layer = blocks c on opened.layer.layer;
   stands = stands planned.config opened.layer.layer opened.layer.stands;
-  bounded = (blocks_hold planned.config c on opened.layer.layer).bounded opened.layer.bounded;
+  bounded = blocks_bounded planned.config c on opened.layer.layer opened.layer.bounded;
 }
 
 pub ticked_layer : (planned : Planned) (node : Node) (mid new : LayerRunning) (cfn : ℕ) → IsNodeOf planned node → ((config : Config) (layer : Layer) → StandsFor config layer node.layer → StandsFor config (ticks config layer) mid)
@@ -61,18 +57,13 @@ ticked_layer planned node mid new cfn opened stands starts =
     record {
       layer = started.next;
       stands = started.stands;
-      bounded = (start_holds planned.config new.out cfn (ticks planned.config old) started.next started.start).bounded ((ticks_hold planned.config old).bounded opened.layer.bounded);
+      bounded = start_bounded planned.config new.out cfn (ticks planned.config old) started.next started.start (ticks_bounded planned.config old opened.layer.bounded);
     }
 
 pub taken_layer : {S : Type 0} (shows : S → Line → S → Type 0) (planned : Planned) (set : ℕ) (held : HeldSet) (old new : LayerRunning) (before after : S) → IsGood planned.config → IsSetOf planned.config Up set held → HasLayer planned.config old → TakesSet shows planned set held old new before after
     → HasLayer planned.config new
 taken_layer shows planned set held old new before after good is has takes =
     read_layer shows planned.config Up (set_readings planned.config.uplink.side set held) (length planned.config.uplink.side.channels) old new before after good (omega arith) (λ i inside. tti_in planned.config set held i is inside) has takes
-
--- the lines on an Iub frame are no more than a step may write
-pub taken_few : (planned : Planned) (set : ℕ) (held : HeldSet) (layer : Layer) → IsGood planned.config → IsSetOf planned.config Up set held → AreBounded planned.config layer → length (text_of (reads_up planned set held layer).lines) ≤ step_bytes planned.config
-taken_few planned set held layer good is bounded =
-    omega (arith, readings_room planned.config Up (set_readings planned.config.uplink.side set held) (length planned.config.uplink.side.channels) layer good (omega arith) (λ i inside. tti_in planned.config set held i is inside) bounded)
 
 -- an Iub frame was read or refused
 pub still_received : (planned : Planned) (node : Node) (new : LayerRunning) (rx_sets : List HeldSet) (read : Option ℕ) → IsNodeOf planned node → IsSameEnd node.layer new → HasLayer planned.config new → AreRxSetsOf planned rx_sets

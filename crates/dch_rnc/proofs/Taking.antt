@@ -1,5 +1,5 @@
 -- The blocks of an Iub frame that layer 2 takes, channel by channel.
-use Rattle.std.proofs.Common.{◌≡◌, ◌≢◌, ◌<◌, ◌≤◌, ◌+◌, ◌∙◌, ◌++◌, ◌&&◌, ℕ, List, [], length, get_or, arith, refl, ap, sym, subst, inl, inr, true, false, cond, Bool, get_or-set_same, get_or-set_other, ◌∷◌, length-append, eq-eqb}
+use Rattle.std.proofs.Common.{◌≡◌, ◌≢◌, ◌<◌, ◌+◌, ◌∙◌, ◌++◌, ◌&&◌, ℕ, List, [], length, get_or, arith, refl, ap, sym, subst, inl, inr, true, false, cond, Bool, get_or-set_same, get_or-set_other, ◌∷◌, length-append, eq-eqb}
 use Rattle.std.specs.Prelude.{◌==◌, nat_lt, slice_set}
 use Rattle.std.proofs.lemmas.Bool.{lt-ltb}
 use Rattle.std.proofs.lemmas.Bool.Decides.{eqb_tells}
@@ -13,7 +13,6 @@ use Rattle.dch_accept.specs.Blocks.{Held}
 use Rattle.dch_accept.specs.Plans.{Planned}
 use Rattle.dch_indication.specs.Lines.{IubBad, Line}
 use Rattle.dch_indication.specs.Told.{Told}
-use Rattle.dch_script.specs.LineText.{text_of}
 use Rattle.dch_iub.specs.Answers.{IsCause}
 use Rattle.dch_iub.specs.Forms.{IsReadForm}
 use Rattle.dch_iub.specs.declared.error.IubError.{IubError}
@@ -24,7 +23,7 @@ use Rattle.dch_layer2.specs.Coming.{came_of}
 use Rattle.dch_layer2.specs.Reading.{Nothing, Read, Reading}
 use Rattle.dch_layer2.specs.Standing.{IsSameEnd, Represents as StandsFor}
 use Rattle.dch_layer2.specs.Values.{LayerRunning}
-use Rattle.dch_layer2.proofs.Paying.{taken_on}
+use Rattle.dch_layer2.proofs.Readings.{taken_on}
 use Rattle.dch_rnc.specs.Moves.{IsTaken, Receives, TakesSet}
 use Rattle.dch_rnc.specs.Opened.{AreNewRxSets, AreRxSetsOf}
 use Rattle.dch_rnc.specs.State.{set_readings}
@@ -97,12 +96,11 @@ got_taken shows planned set at octets rx_sets new cfn qe old now before after ar
 
 -- it was refused, and the blocks of its set are as they were
 pub got_refusal : {S : Type 0} (shows : S → Line → S → Type 0) (planned : Planned) (set at : ℕ) (octets : List ℕ) (rx_sets : List HeldSet) (last new : HeldSet) (error : IubError) (v : LayerRunning) (before after : S) → AreRxSetsOf planned rx_sets → at ≡ set → set < 8
-    → last ≡ rx_set_at rx_sets set → new ≡ last → IsCause planned.config Up set octets error → length (text_of (IubBad Up set (refusal_number error) ∷ [])) ≤ 300
-    → shows before (IubBad Up set (refusal_number error)) after → Receives shows planned set octets false (slice_set rx_sets at new) v v before after
-got_refusal shows planned set at octets rx_sets last new error v before after are place few own same cause short shown = record {
+    → last ≡ rx_set_at rx_sets set → new ≡ last → IsCause planned.config Up set octets error → shows before (IubBad Up set (refusal_number error)) after → Receives shows planned set octets false (slice_set rx_sets at new) v v before after
+got_refusal shows planned set at octets rx_sets last new error v before after are place few own same cause shown = record {
   few = few;
   opened = still_rx_sets planned rx_sets at set new are place few (subst (λ (h : HeldSet). IsSetOf planned.config Up set h) (sym (same ∙ own)) (are.each set few));
-  answers = record { error = error; cause = cause; same = refl; few = short; shown = shown };
+  answers = record { error = error; cause = cause; same = refl; shown = shown };
 }
 
 -- the blocks of one more channel of a set were taken

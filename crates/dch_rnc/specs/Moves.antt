@@ -1,5 +1,5 @@
 -- What the parts of a network controller do in a step, each by itself.
-use Rattle.std.specs.Prelude.{◌≡◌, ◌<◌, ◌≤◌, ◌*◌, ℕ, List, [], ◌∷◌, Bool, true, false, Option, Some, None, length}
+use Rattle.std.specs.Prelude.{◌≡◌, ◌<◌, ◌≤◌, ℕ, List, Bool, true, false, Option, Some, None, length}
 use Rattle.dch_types.specs.declared.channel.Dir.TheVariants.{Up, Down}
 use Rattle.dch_types.specs.declared.config.Config.{Config}
 use Rattle.dch_types.specs.Parts.{channel_at}
@@ -12,7 +12,6 @@ use Rattle.dch_iub.specs.Forms.{IsReadForm, IsWrittenForm}
 use Rattle.dch_iub.specs.declared.error.IubError.{IubError}
 use Rattle.dch_indication.specs.Lines.{IubBad, Line}
 use Rattle.dch_indication.specs.Told.{Told}
-use Rattle.dch_script.specs.LineText.{text_of}
 use Rattle.dch_node.specs.IubFrames.{refusal_number}
 use Rattle.dch_txframes.specs.Octets.{AreOctets}
 use Rattle.dch_txframes.specs.Opened.{AreTxBuffersOf, IsTxBufferOf}
@@ -46,7 +45,6 @@ pub record IsRefused {S : Type 0} (shows : S → Line → S → Type 0) (planned
   pub error : IubError
   pub cause : IsCause planned.config Up set octets error
   pub same : new ≡ old
-  pub few : length (text_of (IubBad Up set (refusal_number error) ∷ [])) ≤ 300
   pub shown : shows before (IubBad Up set (refusal_number error)) after
 
 abbrev pub Answers : {S : Type 0} → (S → Line → S → Type 0) → Planned → ℕ → List ℕ → Bool → HeldSet → LayerRunning → LayerRunning → S → S → Type 0
@@ -89,7 +87,6 @@ Gives config cfn v set (Some octets) = (starts (set_frames config.downlink.side 
 pub record Serves {S : Type 0} (shows : S → Line → S → Type 0) (planned : Planned) (cfn : ℕ) (v : LayerRunning) (set : ℕ) (tx_buffer : IubTxBuffer) (before after : S) : Type 0 where
   pub opened : IsTxBufferOf planned Down set tx_buffer
   pub gives : Gives planned.config cfn v set tx_buffer.sent
-  pub few : length (text_of (sent_line set tx_buffer.sent)) ≤ 300000
   pub told : Told shows before (sent_line set tx_buffer.sent) after
 
 -- the first sets were served, and the others send nothing
@@ -97,5 +94,4 @@ pub record AreServed {S : Type 0} (shows : S → Line → S → Type 0) (planned
   pub opened : AreTxBuffersOf planned Down tx_buffers
   pub sets : (s : ℕ) → s < count → Gives planned.config cfn v s (sent_of tx_buffers s)
   pub later : (s : ℕ) → count ≤ s → s < 8 → sent_of tx_buffers s ≡ None
-  pub few : length (text_of (sent_lines (sent_of tx_buffers) count)) ≤ count * 300000
   pub told : Told shows before (sent_lines (sent_of tx_buffers) count) after

@@ -6,15 +6,15 @@ ghost use Rattle.dch_accept.specs.HeldSets.{held_at};
 ghost use Rattle.dch_accept.specs.Plans.{Planned};
 ghost use Rattle.dch_accept.specs.Reports.{step_bytes};
 ghost use Rattle.dch_node.specs.Lines.{Line};
-ghost use Rattle.dch_node.specs.Standing.{AreNone, Tells, TellsFew};
+ghost use Rattle.dch_node.specs.Standing.{AreNone, Tells};
 ghost use Rattle.dch_rnc.specs.Lending.{held_of};
 ghost use Rattle.dch_rnc.specs.Opened.{CanChange, HasChannel, HasNext, IsNodeOf};
 ghost use Rattle.dch_rnc.specs.Standing.{ExtendsHistory, IsActiveBefore, IsAt, IsReadyFor, KeepsNext, MayCome, NothingShown, Represents, RepresentsHistory, SendsDown, Stepped, event_of};
 ghost use Rattle.dch_rnc.specs.State.{BlockedCombination, Change, Event, IubFrame, OfferedUnit, State, Tick};
 ghost use Rattle.dch_rnc.specs.Values.{iub_shown, taken_shown};
-ghost use Rattle.dch_script.specs.Adding.{Adds};
+ghost use Rattle.dch_script.specs.Adding.{AddsLines};
 ghost use Rattle.dch_txframes.specs.Lending.{octets_of};
-ghost use Rattle.dch_txframes.specs.Rooms.{HasRoomFor};
+ghost use Rattle.dch_steptext.specs.Reports.{HasRoomFor};
 
 use crate::downlink::send_sets;
 use crate::event::RncEvent;
@@ -23,9 +23,9 @@ use crate::uplink::receive;
 use dch_accept::{Accepted, TtiBlocks};
 use dch_bits::{Bit, NoMemory};
 use dch_indication::Indications;
-use dch_layer2::Layer2;
+use dch_layer2::{Layer2, tell_answer};
 use dch_script::Report;
-use dch_txframes::{clear_sent, tell_answer};
+use dch_txframes::clear_sent;
 use dch_types::Dir;
 use std::alloc::Global;
 use std::marker::Model;
@@ -120,10 +120,7 @@ impl Rnc {
         ensures history { (began before : Planned) (first : ℕ) (events : List Event) (lines : List Line) → IsActiveBefore accepted.now event.entry before self.old →
             RepresentsHistory began before first events lines self.old → ExtendsHistory began accepted.now first events lines (event_of accepted.now event.entry) self.new (Tells U.shows user.old user.new) }
         ensures next { KeepsNext accepted.now event.entry self.old self.new }
-        ensures few { TellsFew U.shows (step_bytes accepted.now.config) user.old user.new }
     {
-        // What is told of an event is limited in a good configuration.
-        let _config = accepted.config();
         self.happen(accepted, event, user);
     }
 
@@ -135,13 +132,15 @@ impl Rnc {
         requires room { HasRoomFor report.old (step_bytes accepted.now.config) }
         ensures opened { IsNodeOf accepted.now self.new }
         ensures step { (before : Planned) (state : State) → IsActiveBefore accepted.now event.entry before self.old → Represents before state self.old →
-            Stepped accepted.now state (event_of accepted.now event.entry) self.new (Adds report.old.text report.new.text) }
+            Stepped accepted.now state (event_of accepted.now event.entry) self.new (AddsLines report.old.text report.new.text) }
         ensures history { (began before : Planned) (first : ℕ) (events : List Event) (lines : List Line) → IsActiveBefore accepted.now event.entry before self.old →
-            RepresentsHistory began before first events lines self.old → ExtendsHistory began accepted.now first events lines (event_of accepted.now event.entry) self.new (Adds report.old.text report.new.text) }
+            RepresentsHistory began before first events lines self.old → ExtendsHistory began accepted.now first events lines (event_of accepted.now event.entry) self.new (AddsLines report.old.text report.new.text) }
         ensures next { KeepsNext accepted.now event.entry self.old self.new }
         ensures few { length report.new.text ≤ length report.old.text + step_bytes accepted.now.config }
         ensures most { report.new.most ≡ report.old.most }
     {
+        // What is told of an event is limited in a good configuration.
+        let _config = accepted.config();
         self.step_with(accepted, event, report);
     }
 

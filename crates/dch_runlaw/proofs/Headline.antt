@@ -5,7 +5,8 @@ use Rattle.dch_types.specs.declared.channel.Dir.TheVariants.{Up, Down}
 use Rattle.dch_config.specs.Good.{IsGood}
 use Rattle.dch_accept.specs.Plans.{IsPlanned, Planned}
 use Rattle.dch_lines.specs.LineTexts.{HandlesLines}
-use Rattle.dch_node.specs.Lines.{Differs, Line, text_of}
+use Rattle.dch_node.specs.Lines.{Differs, Line}
+use Rattle.dch_script.specs.LineText.{text_of}
 use Rattle.dch_linkcmd.specs.Shown.{shown}
 use Rattle.dch_linkcmd.specs.later.Later.{Later}
 use Rattle.dch_linkcmd.specs.RncState.{State as RncState}

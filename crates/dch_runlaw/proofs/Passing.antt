@@ -3,7 +3,8 @@ use Rattle.std.proofs.Common.{◌≡◌, ◌<◌, ◌≤◌, ◌+◌, ◌-◌, �
 use Rattle.std.specs.Prelude.{◌==◌, if◌then◌else◌, nat_le}
 use Rattle.std.proofs.lemmas.Bool.Decides.{eqb_tells, leb_tells}
 use Rattle.dch_lines.specs.Semantics.{Resumes}
-use Rattle.dch_node.specs.Lines.{Line, joined, text_of}
+use Rattle.dch_node.specs.Lines.{Line, joined}
+use Rattle.dch_script.specs.LineText.{text_of}
 use Rattle.dch_linkcmd.specs.Shown.{shown}
 use Rattle.dch_linkcmd.specs.LinkLink.{LinkState}
 use Rattle.dch_linkcmd.specs.Passing.{is_first, next_stage}

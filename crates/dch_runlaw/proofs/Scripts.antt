@@ -4,7 +4,8 @@ use Rattle.std.proofs.lemmas.Bool.Decides.{eqb_tells, leb_tells}
 use Rattle.dch_types.specs.declared.config.Config.{Config}
 use Rattle.dch_lines.specs.LineTexts.{HandlesLine, HandlesLines, is_empty}
 use Rattle.dch_lines.specs.Semantics.{LineSteps, Resumes}
-use Rattle.dch_node.specs.Lines.{Line, joined, text_of}
+use Rattle.dch_node.specs.Lines.{Line, joined}
+use Rattle.dch_script.specs.LineText.{text_of}
 use Rattle.dch_linkcmd.specs.NodecmdRunLines.{coming}
 use Rattle.dch_linkcmd.specs.Shown.{shown}
 use Rattle.dch_linkcmd.specs.later.Later.{Later}

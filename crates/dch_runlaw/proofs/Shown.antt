@@ -3,8 +3,9 @@ use Rattle.std.proofs.Common.{◌≡◌, ◌∙◌, ◌++◌, ℕ, List, [], ◌
 use Rattle.std.specs.Prelude.{codes, if◌then◌else◌}
 use Rattle.dch_script.specs.Lines.{lines_after, lines_of, rest_after, rest_of}
 use Rattle.dch_script.proofs.Lines.{lines_after-append, rest_after-append}
-use Rattle.dch_node.specs.Lines.{Line, text_of, words_of}
-use Rattle.dch_node.proofs.Texts.{text_of-append}
+use Rattle.dch_node.specs.Lines.{Line}
+use Rattle.dch_script.specs.LineText.{text_of, words_of}
+use Rattle.dch_script.proofs.Adding.{text_of-append}
 use Rattle.dch_linkcmd.specs.Shown.{is_frame_line, other_lines, shown}
 
 -- the text of lines ends with a line feed

@@ -8,7 +8,8 @@ use Rattle.dch_script.specs.Code.{content, is_ended}
 use Rattle.dch_script.specs.Lines.{lines_of as rows, rest_of}
 use Rattle.dch_script.specs.LineWords.{words_of as words_in}
 use Rattle.dch_script.specs.Report.{bits_shown, iub_text, octets_shown, pair_text, phy_text, place_text, unit_text}
-use Rattle.dch_node.specs.Lines.{Line, Took, Full, Wrong, Bad, Reserved, NoBearer, Nobody, PduBad, Outside, Overlong, Got, GotBits, Iub, IubBad, Phy, PhyNone, BadTti, Differs, text_of, words_of}
+use Rattle.dch_node.specs.Lines.{Line, Took, Full, Wrong, Bad, Reserved, NoBearer, Nobody, PduBad, Outside, Overlong, Got, GotBits, Iub, IubBad, Phy, PhyNone, BadTti, Differs}
+use Rattle.dch_script.specs.LineText.{text_of, words_of}
 use Rattle.dch_linkcmd.specs.Shown.{first_of, is_frame_line, is_frame_word, other_lines, shown}
 use Rattle.dch_runlaw.specs.TextDiffering.{false_rows, false_words}
 use Rattle.dch_runlaw.specs.Rows.{got_rows, got_words, row_of, rows_of, starts_with}

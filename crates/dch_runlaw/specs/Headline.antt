@@ -4,7 +4,8 @@ use Rattle.dch_types.specs.declared.channel.Dir.{Dir}
 use Rattle.dch_types.specs.declared.channel.Dir.TheVariants.{Up, Down}
 use Rattle.dch_accept.specs.Plans.{IsPlanned, Planned}
 use Rattle.dch_script.specs.Lines.{lines_of as rows}
-use Rattle.dch_node.specs.Lines.{Line, text_of}
+use Rattle.dch_node.specs.Lines.{Line}
+use Rattle.dch_script.specs.LineText.{text_of}
 use Rattle.dch_linkcmd.specs.NodecmdRunLines.{coming}
 use Rattle.dch_linkcmd.specs.Shown.{shown}
 use Rattle.dch_linkcmd.specs.NodecmdStanding.{CanFollow}

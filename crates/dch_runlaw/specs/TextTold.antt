@@ -3,7 +3,8 @@ use Rattle.std.specs.Prelude.{◌≡◌, ◌<◌, ◌≤◌, ◌^◌, ◌++◌, 
 use Rattle.dch_types.specs.declared.channel.Dir.{Dir}
 use Rattle.dch_types.specs.declared.channel.Dir.TheVariants.{Up, Down}
 use Rattle.dch_script.specs.Lines.{lines_of as rows, rest_of}
-use Rattle.dch_node.specs.Lines.{Differs, Line, text_of}
+use Rattle.dch_node.specs.Lines.{Differs, Line}
+use Rattle.dch_script.specs.LineText.{text_of}
 use Rattle.dch_linkcmd.specs.Shown.{shown}
 use Rattle.dch_linkcmd.specs.LinkLink.{LinkState}
 use Rattle.dch_runlaw.specs.TextDiffering.{AreLow, false_rows, false_words, falses}

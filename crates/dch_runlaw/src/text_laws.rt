@@ -4,7 +4,8 @@ ghost use Rattle.dch_config.specs.Good.{IsGood};
 ghost use Rattle.dch_linkcmd.specs.LinkLink.{LinkState, opened_link};
 ghost use Rattle.dch_runlaw.specs.Parts.{Begins, GoesOver};
 ghost use Rattle.dch_runlaw.specs.Runs.{Event, Runs};
-ghost use Rattle.dch_node.specs.Lines.{Line, text_of};
+ghost use Rattle.dch_node.specs.Lines.{Line};
+ghost use Rattle.dch_script.specs.LineText.{text_of};
 ghost use Rattle.dch_linkcmd.specs.Shown.{shown};
 ghost use Rattle.dch_runlaw.specs.TextTold.{IsRead, IsTold, ShowsUnits, TellsFalse};
 

@@ -4,7 +4,7 @@ use Rattle.std.specs.Prelude.{codes}
 use Rattle.std.proofs.lemmas.List.{take_all}
 use Rattle.dch_indication.specs.Lines.{Line}
 use Rattle.dch_indication.specs.Told.{Told}
-use Rattle.dch_script.specs.Adding.{Adds, ShowsLine}
+use Rattle.dch_script.specs.Adding.{AddsLines, ShowsLine}
 use Rattle.dch_script.specs.Held.{Held}
 use Rattle.dch_script.specs.LineText.{text_of, words_of}
 use Rattle.dch_script.specs.Putting.{Puts}
@@ -32,11 +32,11 @@ told_puts old new (line ∷ lines) fits told =
     subst (λ t. Puts old t new) (sym (text_of-cons line lines)) all
 
 -- all of it, where there is room
-pub told_adds : (old new : Held) (lines : List Line) → Told ShowsLine old lines new → length old.text + length (text_of lines) ≤ old.most → Adds old.text new.text lines
+pub told_adds : (old new : Held) (lines : List Line) → Told ShowsLine old lines new → length old.text + length (text_of lines) ≤ old.most → AddsLines old.text new.text lines
 told_adds old new lines told room = ap (λ (h : Held). h.text) (put_all (told_puts old new lines (omega (arith, room)) told) room)
 
 -- lines that leave room fix the text of all lines that a report can have been told of
-pub told_fixed : (old new : Held) (few lines : List Line) → Told ShowsLine old few new → length old.text + length (text_of few) < old.most → Told ShowsLine old lines new → Adds old.text new.text lines
+pub told_fixed : (old new : Held) (few lines : List Line) → Told ShowsLine old few new → length old.text + length (text_of few) < old.most → Told ShowsLine old lines new → AddsLines old.text new.text lines
 told_fixed old new few lines told room other =
     let own : new.text ≡ old.text ++ text_of few = told_adds old new few told (omega (arith, room)) in
     let short : length new.text < old.most = omega (arith, room, ap length own, length-append old.text (text_of few)) in

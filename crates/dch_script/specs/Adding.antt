@@ -10,5 +10,5 @@ abbrev pub ShowsLine : Held → Line → Held → Type 0
 ShowsLine old line new = Puts old (text_of (line ∷ [])) new
 
 -- a text goes on by that of lines
-abbrev pub Adds : List ℕ → List ℕ → List Line → Type 0
-Adds before after lines = after ≡ before ++ text_of lines
+abbrev pub AddsLines : List ℕ → List ℕ → List Line → Type 0
+AddsLines before after lines = after ≡ before ++ text_of lines

@@ -6,7 +6,8 @@ use Rattle.dch_check.specs.declared.both.Configurations.{Configurations}
 use Rattle.dch_script.specs.Lines.{lines_of, rest_of}
 use Rattle.dch_lines.specs.LineTexts.{HandlesLines}
 use Rattle.dch_lines.specs.declared.stop.Outcome.TheVariants.{Ok as Done}
-use Rattle.dch_node.specs.Lines.{Line, text_of}
+use Rattle.dch_node.specs.Lines.{Line}
+use Rattle.dch_script.specs.LineText.{text_of}
 use Rattle.dch_nodecmd.specs.NodeRules.{NodeRules}
 use Rattle.dch_nodecmd.specs.NoTrace.{LeavesNoTrace as LinesLeaveNone}
 use Rattle.dch_nodecmd.specs.Rules.{closing, node_lines}

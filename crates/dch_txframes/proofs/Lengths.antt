@@ -19,6 +19,7 @@ use Rattle.dch_types.specs.Parts.{channel_at, side_of}
 use Rattle.dch_coding.proofs.Lengths.{joined_short}
 use Rattle.dch_accept.specs.HeldSets.{HeldSet, IsSetOf}
 use Rattle.dch_accept.specs.Padded.{format_octets}
+use Rattle.dch_iub.specs.Forms.{IsReadForm}
 use Rattle.dch_iub.specs.Longest.{IsLongest}
 use Rattle.dch_iub.specs.Shape.{AreFormats, check_octets, format_in, formats_of, frame_octets, mark_count, octets_before, sum_before, tail_octets}
 use Rattle.dch_iub.proofs.Sums.{formats_of-at}
@@ -56,7 +57,7 @@ tail_octets-le Up marks = omega (arith, div_ceil-le marks)
 tail_octets-le Down marks = omega arith
 
 -- the octets of a frame of a set
-pub frame_octets-le : (config : Config) (dir : Dir) (set : ℕ) (numbers : List ℕ) → IsSide (side_of config dir) → AreFormats (side_of config dir) set numbers → frame_octets config dir set numbers ≤ 140000
+frame_octets-le : (config : Config) (dir : Dir) (set : ℕ) (numbers : List ℕ) → IsSide (side_of config dir) → AreFormats (side_of config dir) set numbers → frame_octets config dir set numbers ≤ 140000
 frame_octets-le config dir set numbers good are =
     let side = side_of config dir in
     let n : ℕ = length side.channels in
@@ -68,6 +69,13 @@ frame_octets-le config dir set numbers good are =
     let marks : mark_count side set numbers ≤ n * 64 =
     sum_before-le side set (λ j. (format_in side numbers j).number) 64 n (λ j early member. (is j early member).number) in
     omega (arith, header, octets, marks, tail_octets-le dir (mark_count side set numbers), check_octets-le config.payload_check, good.few)
+
+-- and of a frame that can be read
+pub read_octets-le : (config : Config) (dir : Dir) (set : ℕ) (octets : List ℕ) (cfn qe : ℕ) (held : HeldSet) → IsSide (side_of config dir) → IsReadForm config dir set octets cfn qe held → length octets ≤ 140000
+read_octets-le config dir set octets cfn qe held good read =
+    let are : AreFormats (side_of config dir) set read.numbers =
+    (λ i inside member. subst (λ n. n < length (channel_at (side_of config dir) i).formats) (read.numbered i inside member) (read.formats i inside member).there) in
+    subst (λ n. n ≤ 140000) (sym read.long) (frame_octets-le config dir set read.numbers good are)
 
 -- the formats of a set's blocks are formats of its channels
 pub formats-are : (config : Config) (dir : Dir) (set : ℕ) (held : HeldSet) → IsSetOf config dir set held → AreFormats (side_of config dir) set (formats_of held)

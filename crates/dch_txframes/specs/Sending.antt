@@ -1,12 +1,11 @@
 -- Iub frames as they are sent and shown.
-use Rattle.std.specs.Prelude.{◌≡◌, ◌<◌, ◌≤◌, ℕ, List, [], ◌∷◌, Option, Some, None, length}
+use Rattle.std.specs.Prelude.{◌≡◌, ◌<◌, ◌≤◌, ℕ, List, Option, Some, None, length}
 use Rattle.dch_types.specs.declared.channel.Dir.{Dir}
 use Rattle.dch_types.specs.declared.channel.Dir.TheVariants.{Up, Down}
 use Rattle.dch_types.specs.declared.config.Config.{Config}
 use Rattle.dch_accept.specs.Plans.{Planned}
 use Rattle.dch_iub.specs.Forms.{IsWrittenForm}
 use Rattle.dch_indication.specs.Lines.{Iub, Line}
-use Rattle.dch_script.specs.LineText.{text_of}
 use Rattle.dch_txframes.specs.Octets.{AreOctets}
 use Rattle.dch_txframes.specs.Opened.{IsTxBufferOf}
 use Rattle.dch_txframes.specs.Values.{IubTxBuffer, tx_buffer_at}
@@ -43,5 +42,4 @@ pub record SendsFrame {S : Type 0} (shows : S → Line → S → Type 0) (planne
   pub sent : new.sent ≡ Some octets
   pub whole : AreOctets octets
   pub written : IsWrittenForm planned.config dir set octets cfn (qe_sent planned.config dir) new.held
-  pub few : length (text_of (Iub dir set octets ∷ [])) ≤ 300000
   pub shown : shows before (Iub dir set octets) after

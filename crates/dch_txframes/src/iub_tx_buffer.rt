@@ -118,10 +118,7 @@ fn write_frame(
     ensures written { IsWrittenForm accepted.now.config dir set (take result out.new) cfn (qe_sent accepted.now.config dir) blocks.now }
     ensures octets { AreOctets (take result out.new) }
     ensures fits { result ≤ length out.old }
-    ensures few { result ≤ 140000 }
 {
-    // The blocks of a format are limited in a good configuration.
-    let _side = accepted.side(dir);
     let len = frame_len(accepted, dir, blocks);
     write(accepted, dir, set, cfn, blocks, &mut out[..len]);
     len

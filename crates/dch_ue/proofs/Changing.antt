@@ -9,7 +9,7 @@ use Rattle.dch_accept.specs.Plans.{Planned}
 use Rattle.dch_node.specs.Standing.{AreNone}
 use Rattle.dch_node.specs.Values.{no_output}
 use Rattle.dch_layer2.specs.Layers.{Layer, changed_layer}
-use Rattle.dch_layer2.proofs.Layers.{changed_are}
+use Rattle.dch_layer2.proofs.BoundedLayers.{changed_are}
 use Rattle.dch_layer2.specs.Changing.{CanGoOn, IsNextLayer}
 use Rattle.dch_layer2.specs.Standing.{IsSameEnd, Represents as StandsFor}
 use Rattle.dch_layer2.specs.Values.{LayerRunning}

@@ -12,7 +12,7 @@ use Rattle.dch_tti.specs.RxFrames.{AreMissing}
 use Rattle.dch_node.specs.Lines.{Line}
 use Rattle.dch_node.specs.Values.{no_output}
 use Rattle.dch_layer2.specs.Layers.{opened_layer}
-use Rattle.dch_layer2.proofs.Layers.{opened_are}
+use Rattle.dch_layer2.proofs.BoundedLayers.{opened_are}
 use Rattle.dch_layer2.specs.Standing.{IsOpened}
 use Rattle.dch_layer2.specs.Values.{LayerRunning}
 use Rattle.dch_ue.specs.Opened.{AreNewTtis, IsNodeOf, IsReceiverOf, IsTransmitterOf}

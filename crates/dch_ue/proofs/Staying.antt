@@ -8,12 +8,12 @@ use Rattle.dch_accept.specs.Plans.{Planned}
 use Rattle.dch_tti.specs.Loaded.{AreFormats, Loaded}
 use Rattle.dch_indication.specs.Lines.{Line}
 use Rattle.dch_layer2.specs.Layers.{Layer, blocks, offers, ticks}
-use Rattle.dch_layer2.proofs.Layers.{blocks_hold, offers_hold, start_holds, ticks_hold}
+use Rattle.dch_layer2.proofs.BoundedLayers.{blocks_bounded, offers_bounded, start_bounded, ticks_bounded}
 use Rattle.dch_layer2.specs.Bounded.{HasLayer, IsTti}
 use Rattle.dch_layer2.specs.Reading.{Reading}
 use Rattle.dch_layer2.specs.Standing.{HasStarted, IsLayerOf, IsSameEnd, Represents as StandsFor}
 use Rattle.dch_layer2.specs.Values.{LayerRunning}
-use Rattle.dch_layer2.proofs.Paying.{read_layer}
+use Rattle.dch_layer2.proofs.Readings.{read_layer}
 use Rattle.dch_ue.specs.Moves.{Receives, Transmits}
 use Rattle.dch_ue.specs.Opened.{AreGivenAs, AreNoted, IsNodeOf, IsReceiverOf}
 use Rattle.dch_ue.specs.Steps.{has_read}
@@ -41,7 +41,7 @@ pub offered_layer : (planned : Planned) (node : Node) (new : LayerRunning) (b : 
 offered_layer planned node new b octets bits opened stands = record {
   layer = (offers planned.config node.layer.out b octets bits opened.layer.layer).layer;
   stands = stands planned.config opened.layer.layer opened.layer.stands;
-  bounded = (offers_hold planned.config node.layer.out b octets bits opened.layer.layer).bounded opened.layer.bounded;
+  bounded = offers_bounded planned.config node.layer.out b octets bits opened.layer.layer opened.layer.bounded;
 }
 
 pub offered_runs : (planned : Planned) (node : Node) (new : LayerRunning) (b : ℕ) (octets : List ℕ) (bits : List Bit) → IsNodeOf planned node
@@ -53,7 +53,7 @@ pub blocked_layer : (planned : Planned) (node : Node) (new : LayerRunning) (c : 
 blocked_layer planned node new c on opened stands = record {
   layer = blocks c on opened.layer.layer;
   stands = stands planned.config opened.layer.layer opened.layer.stands;
-  bounded = (blocks_hold planned.config c on opened.layer.layer).bounded opened.layer.bounded;
+  bounded = blocks_bounded planned.config c on opened.layer.layer opened.layer.bounded;
 }
 
 pub blocked_runs : (planned : Planned) (node : Node) (new : LayerRunning) (c : ℕ) (on : Bool) → IsNodeOf planned node
@@ -106,7 +106,7 @@ pub ticked_layer : (planned : Planned) (node : Node) (mid : LayerRunning) → Is
 ticked_layer planned node mid opened stands = record {
   layer = ticks planned.config opened.layer.layer;
   stands = stands planned.config opened.layer.layer opened.layer.stands;
-  bounded = (ticks_hold planned.config opened.layer.layer).bounded opened.layer.bounded;
+  bounded = ticks_bounded planned.config opened.layer.layer opened.layer.bounded;
 }
 
 pub read_has : {S : Type 0} (shows : S → Line → S → Type 0) (planned : Planned) (cfn : ℕ) (old receiver : DownlinkReceiver) (mid read : LayerRunning) (before between : S) → IsGood planned.config → HasLayer planned.config mid → Receives shows planned cfn old receiver mid read before between
@@ -120,7 +120,7 @@ started_layer planned cfn old new has starts =
     record {
       layer = started.next;
       stands = started.stands;
-      bounded = (start_holds planned.config new.out cfn has.layer started.next started.start).bounded has.bounded;
+      bounded = start_bounded planned.config new.out cfn has.layer started.next started.start has.bounded;
     }
 
 -- the formats of the channels fit the combination that runs then

@@ -1,5 +1,5 @@
 -- What the parts of a terminal do in a step, each by itself.
-use Rattle.std.specs.Prelude.{◌≡◌, ◌≢◌, ◌<◌, ◌≤◌, ◌%◌, ℕ, List, Option, None, true, false, length}
+use Rattle.std.specs.Prelude.{◌≡◌, ◌≢◌, ◌<◌, ◌≤◌, ◌%◌, ◌++◌, ℕ, List, Option, None, true, false, length}
 use Rattle.dch_types.specs.declared.channel.Dir.TheVariants.{Up, Down}
 use Rattle.dch_types.specs.declared.config.Config.{Config}
 use Rattle.dch_types.specs.Parts.{channel_at}
@@ -15,10 +15,12 @@ use Rattle.dch_node.specs.Lines.{Line, Phy}
 use Rattle.dch_node.specs.RxFrames.{KeepsRadio}
 use Rattle.dch_node.specs.Values.{Radio}
 use Rattle.dch_layer2.specs.Layers.{Layer}
-use Rattle.dch_layer2.specs.Bounded.{HasRead}
-use Rattle.dch_layer2.specs.Reading.{Reading, reads}
+use Rattle.dch_layer2.specs.Bounded.{HasRead, IsTti}
+use Rattle.dch_layer2.specs.BoundedBearers.{AreBounded}
+use Rattle.dch_layer2.specs.Reading.{Reading, reads, reads_below}
 use Rattle.dch_layer2.specs.Standing.{IsSameEnd, Represents as StandsFor}
 use Rattle.dch_layer2.specs.Values.{LayerRunning}
+use Rattle.dch_steptext.specs.Limits.{AreLimited}
 use Rattle.dch_ue.specs.Opened.{AreTtisOf, IsReceiverOf, IsTransmitterOf}
 use Rattle.dch_ue.specs.Steps.{IsReading}
 use Rattle.dch_ue.specs.Values.{DownlinkReceiver, RxTti, UplinkTransmitter, reading_of, readings_of, tti_at}
@@ -100,3 +102,16 @@ pub record Transmits {S : Type 0} (shows : S → Line → S → Type 0) (planned
   pub loaded : UplinkTransmitter
   pub loads : AreLoadedTo planned cfn (length planned.config.uplink.side.channels) layer old.running loaded.running
   pub sends : Sends shows planned cfn layer.running loaded new before after
+
+-- what is told in a step: what layer 2, whose bearers are limited, tells of TTIs of the first channels, and no more than one line that is
+-- short or on a radio frame
+pub record AreLimitedLines (config : Config) (lines : List Line) : Type 0 where
+  pub layer : Layer
+  pub bounded : AreBounded config layer
+  pub readings : ℕ → Reading
+  pub count : ℕ
+  pub some : count ≤ length config.downlink.side.channels
+  pub ttis : (i : ℕ) → i < count → IsTti config Down i (readings i)
+  pub last : List Line
+  pub limited : AreLimited 1 last
+  pub are : lines ≡ (reads_below config Down readings count layer).lines ++ last

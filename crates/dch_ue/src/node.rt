@@ -5,12 +5,13 @@ ghost use Rattle.dch_accept.specs.HeldSets.{held_at};
 ghost use Rattle.dch_accept.specs.Plans.{Planned};
 ghost use Rattle.dch_accept.specs.Reports.{step_bytes};
 ghost use Rattle.dch_tti.specs.RxFrames.{HasTfci};
-ghost use Rattle.dch_script.specs.Adding.{Adds};
+ghost use Rattle.dch_script.specs.Adding.{AddsLines};
 ghost use Rattle.dch_node.specs.Lines.{Line};
-ghost use Rattle.dch_node.specs.Standing.{AreNone, Tells, TellsFew};
+ghost use Rattle.dch_node.specs.Standing.{AreNone, Tells, TellsSuch};
 ghost use Rattle.dch_txframes.specs.Lending.{radio_of};
-ghost use Rattle.dch_txframes.specs.Rooms.{HasRoomFor};
+ghost use Rattle.dch_steptext.specs.Reports.{HasRoomFor};
 ghost use Rattle.dch_ue.specs.Lending.{held_of};
+ghost use Rattle.dch_ue.specs.Moves.{AreLimitedLines};
 ghost use Rattle.dch_ue.specs.Opened.{CanChange, HasChannel, HasNext, IsNodeOf};
 ghost use Rattle.dch_ue.specs.Standing.{ExtendsHistory, IsActiveBefore, IsAt, IsReadyFor, KeepsNext, MayCome, NothingShown, Represents, RepresentsHistory, SendsUp, Stepped, event_of};
 ghost use Rattle.dch_ue.specs.State.{BlockedCombination, Change, DownlinkFrame, Event, OfferedUnit, State, Tick};
@@ -23,9 +24,8 @@ use crate::transmitter::UplinkTransmitter;
 use dch_accept::{Accepted, FrameView, TtiBlocks};
 use dch_bits::{Bit, NoMemory};
 use dch_indication::Indications;
-use dch_layer2::Layer2;
+use dch_layer2::{Layer2, tell_answer};
 use dch_script::Report;
-use dch_txframes::tell_answer;
 use dch_types::Dir;
 use std::alloc::Global;
 use std::marker::Model;
@@ -114,7 +114,6 @@ impl Ue {
         ensures history { (began before : Planned) (first : ℕ) (events : List Event) (lines : List Line) → IsActiveBefore accepted.now event.entry before self.old → RepresentsHistory began before first events lines self.old →
             ExtendsHistory began accepted.now first events lines (event_of accepted.now event.entry) self.new (Tells U.shows user.old user.new) }
         ensures next { KeepsNext accepted.now event.entry self.old self.new }
-        ensures few { TellsFew U.shows (step_bytes accepted.now.config) user.old user.new }
     {
         self.happen(accepted, event, user);
     }
@@ -127,14 +126,16 @@ impl Ue {
         requires room { HasRoomFor report.old (step_bytes accepted.now.config) }
         ensures opened { IsNodeOf accepted.now self.new }
         ensures step { (before : Planned) (state : State) → IsActiveBefore accepted.now event.entry before self.old → Represents before state self.old →
-            Stepped accepted.now state (event_of accepted.now event.entry) self.new (Adds report.old.text report.new.text) }
+            Stepped accepted.now state (event_of accepted.now event.entry) self.new (AddsLines report.old.text report.new.text) }
         ensures history { (began before : Planned) (first : ℕ) (events : List Event) (lines : List Line) → IsActiveBefore accepted.now event.entry before self.old → RepresentsHistory began before first events lines self.old →
-            ExtendsHistory began accepted.now first events lines (event_of accepted.now event.entry) self.new (Adds report.old.text report.new.text) }
+            ExtendsHistory began accepted.now first events lines (event_of accepted.now event.entry) self.new (AddsLines report.old.text report.new.text) }
         ensures next { KeepsNext accepted.now event.entry self.old self.new }
         ensures few { length report.new.text ≤ length report.old.text + step_bytes accepted.now.config }
         ensures most { report.new.most ≡ report.old.most }
     {
-        self.step_with(accepted, event, report);
+        // What layer 2 holds stays limited in a good configuration.
+        let _config = accepted.config();
+        self.happen(accepted, event, report);
     }
 
     /// Gives all memory back.
@@ -171,7 +172,7 @@ impl Ue {
         ensures step { (before : Planned) (state : State) → IsActiveBefore accepted.now event.entry before self.old → Represents before state self.old →
             Stepped accepted.now state (event_of accepted.now event.entry) self.new (Tells U.shows user.old user.new) }
         ensures next { KeepsNext accepted.now event.entry self.old self.new }
-        ensures few { TellsFew U.shows (step_bytes accepted.now.config) user.old user.new }
+        ensures limited { TellsSuch U.shows (AreLimitedLines accepted.now.config) user.old user.new }
     {
         self.clear_shown();
         match event {
@@ -231,7 +232,7 @@ impl Ue {
         ensures opened { IsNodeOf accepted.now self.new }
         ensures next { self.new.next ≡ self.old.next }
         ensures step { (state : State) → IsAt accepted.now state self.old → Stepped accepted.now state (OfferedUnit bearer octets.now bits.now) self.new (Tells U.shows user.old user.new) }
-        ensures few { TellsFew U.shows (step_bytes accepted.now.config) user.old user.new }
+        ensures limited { TellsSuch U.shows (AreLimitedLines accepted.now.config) user.old user.new }
     {
         let answer = self.layer.offer(bearer, octets, bits);
         tell_answer(user, Dir::Up, bearer, answer);
@@ -269,7 +270,7 @@ impl Ue {
         ensures opened { IsNodeOf accepted.now self.new }
         ensures next { self.new.next ≡ self.old.next }
         ensures step { (state : State) → IsAt accepted.now state self.old → Stepped accepted.now state Tick self.new (Tells U.shows user.old user.new) }
-        ensures few { TellsFew U.shows (step_bytes accepted.now.config) user.old user.new }
+        ensures limited { TellsSuch U.shows (AreLimitedLines accepted.now.config) user.old user.new }
     {
         // What layer 2 holds stays limited in a good configuration.
         let _config = accepted.config();

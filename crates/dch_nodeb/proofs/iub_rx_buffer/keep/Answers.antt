@@ -25,4 +25,4 @@ returns-in-Err g c =
     refused_keeps g.U.Indications.shows c.args.accepted.now c.args.set c.rx_buffer_of.result c.args.frame.now c.args.rx_buffers.now c.in-Err.error old c.keep.new.self c.args.user.now c.tell_refusal.new.user
     c.rx_buffer_of.ensures.value small c.requires.rx_buffers
     (place_in c.args.accepted.now c.args.rx_buffers.now c.rx_buffer_of.result c.args.set c.index-rx_buffers-rx_buffer_of.result c.requires.rx_buffers c.rx_buffer_of.ensures.value small)
-    c.in-Err.ensures.same c.in-Err.ensures.err c.tell_refusal.ensures.few c.tell_refusal.ensures.shown
+    c.in-Err.ensures.same c.in-Err.ensures.err c.tell_refusal.ensures.shown

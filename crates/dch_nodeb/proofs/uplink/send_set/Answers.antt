@@ -9,4 +9,4 @@ returns-in-Ok g c =
 pub returns-in-Err : goal.returns-in-Err
 returns-in-Err g c =
     lost_set g.U.Indications.shows c.args.accepted.now c.args.receiver.now.rx_frames c.args.set c.in-Err.bad.channel c.in-Err.bad.frame (record c.args.tx_buffer.now { held = c.read_set.new.blocks }) c.read_set.new.self c.args.user.now c.tell_bad_tti.new.user
-    c.in-Err.ensures.bad c.requires.over c.requires.quiet (record { held = c.in-Err.ensures.blocks; room = c.requires.tx_buffer.room }) c.in-Err.ensures.opened c.in-Err.ensures.same c.tell_bad_tti.ensures.few c.tell_bad_tti.ensures.shown
+    c.in-Err.ensures.bad c.requires.over c.requires.quiet (record { held = c.in-Err.ensures.blocks; room = c.requires.tx_buffer.room }) c.in-Err.ensures.opened c.in-Err.ensures.same c.tell_bad_tti.ensures.shown

@@ -23,4 +23,4 @@ returns-in-Err g c =
     let last : HeldSet = get_or c.args.rx_sets.now c.place_of.result c.index-rx_sets-place_of.result in
     got_refusal g.U.Indications.shows c.args.accepted.now c.args.set c.place_of.result c.args.frame.now c.args.rx_sets.now last c.read_ul.new.out c.in-Err.error c.args.layer.now c.args.user.now c.tell_refusal.new.user c.requires.rx_sets c.place_of.ensures.value small
     (rx_set_in c.args.accepted.now c.args.rx_sets.now c.place_of.result c.args.set c.index-rx_sets-place_of.result c.requires.rx_sets c.place_of.ensures.value small)
-    c.in-Err.ensures.same c.in-Err.ensures.refused c.tell_refusal.ensures.few c.tell_refusal.ensures.shown
+    c.in-Err.ensures.same c.in-Err.ensures.refused c.tell_refusal.ensures.shown

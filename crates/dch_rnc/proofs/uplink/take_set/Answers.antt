@@ -7,7 +7,7 @@ use Rattle.dch_types.specs.Parts.{channel_at}
 use Rattle.dch_layer2.specs.Bounded.{HasRead}
 use Rattle.dch_layer2.specs.Reading.{Reading}
 use Rattle.dch_layer2.specs.Values.{LayerRunning}
-use Rattle.dch_layer2.proofs.Paying.{skipped}
+use Rattle.dch_layer2.proofs.Readings.{skipped}
 use Rattle.dch_rnc.specs.State.{set_readings}
 use Rattle.dch_rnc.proofs.Taking.{reading_off, taken_next}
 use Rattle.dch_rnc.proofs.uplink.take_set.Goals as goal

@@ -1,12 +1,9 @@
 use Rattle.std.proofs.Common.{◌≡◌, ◌≤◌, ◌∙◌, ℕ, List, length, ap, sym, subst}
 use Rattle.std.proofs.lemmas.List.{length-take-le}
-use Rattle.dch_types.specs.declared.channel.Side.{Side}
-use Rattle.dch_types.specs.Limits.{IsSide}
-use Rattle.dch_types.specs.Parts.{side_of}
 use Rattle.dch_iub.specs.Forms.{IsWrittenForm}
 use Rattle.dch_iub.specs.Shape.{formats_of, frame_octets}
 use Rattle.dch_txframes.specs.Sending.{qe_sent}
-use Rattle.dch_txframes.proofs.Lengths.{formats-are, frame-fits, frame_octets-le, front_is}
+use Rattle.dch_txframes.proofs.Lengths.{frame-fits, front_is}
 use Rattle.dch_txframes.proofs.iub_tx_buffer.write_frame.Goals as goal
 
 pub returns-clause-fits : goal.returns-clause-fits
@@ -15,14 +12,6 @@ returns-clause-fits c =
     let len : c.frame_len-len.result ≡ frame_octets config c.args.dir c.args.set (formats_of c.args.blocks.now) =
     c.frame_len-len.ensures ∙ ap (λ s. frame_octets config c.args.dir s (formats_of c.args.blocks.now)) c.requires.blocks.numbered in
     subst (λ n. n ≤ length c.args.out.now) (sym len) (frame-fits config c.args.dir c.args.set (length c.args.out.now) c.args.blocks.now c.requires.blocks c.requires.room)
-
-pub returns-clause-few : goal.returns-clause-few
-returns-clause-few c =
-    let config = c.args.accepted.now.config in
-    let len : c.frame_len-len.result ≡ frame_octets config c.args.dir c.args.set (formats_of c.args.blocks.now) =
-    c.frame_len-len.ensures ∙ ap (λ s. frame_octets config c.args.dir s (formats_of c.args.blocks.now)) c.requires.blocks.numbered in
-    let good : IsSide (side_of config c.args.dir) = subst (λ (s : Side). IsSide s) c.side-side.ensures.value c.side-side.ensures.good in
-    subst (λ n. n ≤ 140000) (sym len) (frame_octets-le config c.args.dir c.args.set (formats_of c.args.blocks.now) good (formats-are config c.args.dir c.args.set c.args.blocks.now c.requires.blocks))
 
 pub returns-clause-written : goal.returns-clause-written
 returns-clause-written c =

@@ -1,7 +1,7 @@
 use Rattle.std.proofs.Common.{◌∙◌, sym, subst}
 use Rattle.dch_accept.specs.Reports.{step_bytes}
 use Rattle.dch_script.specs.Held.{Held as Text}
-use Rattle.dch_txframes.specs.Rooms.{HasRoomFor}
+use Rattle.dch_steptext.specs.Reports.{HasRoomFor}
 use Rattle.dch_link.specs.Standing.{CanChange, HasNext, Represents}
 use Rattle.dch_link.specs.Values.{Nodes}
 use Rattle.dch_link.specs.contracts.link.Link.{the_view}

@@ -3,7 +3,7 @@ use Rattle.dch_types.specs.declared.channel.Dir.TheVariants.{Up}
 use Rattle.dch_accept.specs.Plans.{Planned}
 use Rattle.dch_script.specs.Held.{Held as Text}
 use Rattle.dch_node.specs.Lines.{Line}
-use Rattle.dch_txframes.specs.Reports.{added}
+use Rattle.dch_steptext.specs.Reports.{added}
 use Rattle.dch_link.specs.Checks.{AreChecked, good_in}
 use Rattle.dch_link.specs.Standing.{AreNodesOf, HasNext, IsLinkOf, LeadsTo, Represents}
 use Rattle.dch_link.specs.Values.{Nodes}

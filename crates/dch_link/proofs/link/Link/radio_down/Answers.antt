@@ -5,7 +5,7 @@ use Rattle.dch_link.specs.Values.{Nodes}
 use Rattle.dch_link.specs.contracts.link.Link.{the_view}
 use Rattle.std.proofs.Common.{◌++◌}
 use Rattle.dch_ue.specs.State.{DownlinkFrame}
-use Rattle.dch_node.specs.Lines.{text_of}
+use Rattle.dch_script.specs.LineText.{text_of}
 use Rattle.dch_node.specs.Values.{Output, Radio}
 use Rattle.dch_txframes.specs.Lending.{radio_of}
 use Rattle.dch_damage.specs.Damage.{radio_after}

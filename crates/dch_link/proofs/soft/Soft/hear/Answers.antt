@@ -1,7 +1,7 @@
 use Rattle.std.proofs.Common.{◌≡◌, ◌∙◌, ◌++◌, List, [], length, refl, ap, sym, subst}
 use Rattle.std.specs.Vec.{with_items}
 use Rattle.std.proofs.lemmas.List.{with_items_is}
-use Rattle.dch_node.specs.Lines.{text_of}
+use Rattle.dch_script.specs.LineText.{text_of}
 use Rattle.dch_node.specs.Values.{Output}
 use Rattle.dch_txframes.specs.Lending.{radio_of}
 use Rattle.dch_ue.specs.State.{DownlinkFrame}

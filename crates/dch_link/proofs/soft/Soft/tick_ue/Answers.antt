@@ -1,6 +1,6 @@
 use Rattle.std.proofs.Common.{◌∙◌, refl, ap, sym, subst}
 use Rattle.dch_script.specs.Held.{Held as Text}
-use Rattle.dch_txframes.specs.Reports.{added}
+use Rattle.dch_steptext.specs.Reports.{added}
 use Rattle.dch_ue.specs.State.{Tick}
 use Rattle.dch_link.specs.SoftStanding.{ArePartsOf, Represents}
 use Rattle.dch_link.specs.SoftValues.{Parts}

@@ -1,10 +1,11 @@
-use Rattle.std.proofs.Common.{◌≡◌, ◌∙◌, [], refl, sym, subst, arith}
+use Rattle.std.proofs.Common.{◌≡◌, ◌∙◌, sym, subst}
 use Rattle.dch_accept.specs.Plans.{Planned}
 use Rattle.dch_nodeb.specs.declared.event.NodeBEvent.{NodeBEvent}
 use Rattle.dch_node.specs.Standing.{Tells}
 use Rattle.dch_nodeb.specs.Standing.{IsActiveBefore, IsReadyFor, KeepsNext, Represents, Stepped, event_of}
 use Rattle.dch_nodeb.proofs.Changing.{can_kept, next_kept}
 use Rattle.dch_nodeb.proofs.Going.{untold}
+use Rattle.dch_nodeb.proofs.Limited.{untold_limited}
 use Rattle.dch_nodeb.proofs.node.NodeB.happen.Goals as goal
 
 pub receive_iub-requires-clause-opened : goal.receive_iub-requires-clause-opened
@@ -75,5 +76,5 @@ pub returns-in-Change-clause-next : goal.returns-in-Change-clause-next
 returns-in-Change-clause-next g c =
     subst (λ (e : NodeBEvent). KeepsNext c.args.accepted.now e c.args.self.now c.change.new.self) (sym c.in-Change.is) c.change.ensures.next
 
-pub returns-in-Change-clause-few : goal.returns-in-Change-clause-few
-returns-in-Change-clause-few g c = record { lines = []; told = refl; few = omega arith }
+pub returns-in-Change-clause-limited : goal.returns-in-Change-clause-limited
+returns-in-Change-clause-limited g c = untold_limited g.U.Indications.shows c.args.user.now

@@ -7,6 +7,7 @@ use Rattle.dch_nodeb.specs.State.{IubFrame}
 use Rattle.dch_nodeb.specs.Values.{Node, IubRxBuffer}
 use Rattle.dch_nodeb.specs.contracts.node.NodeB.{the_view}
 use Rattle.dch_nodeb.proofs.Arriving.{arrived}
+use Rattle.dch_nodeb.proofs.Limited.{kept_limited}
 use Rattle.dch_nodeb.proofs.node.NodeB.receive_iub.Goals as goal
 
 pub returns-clause-step : goal.returns-clause-step
@@ -18,5 +19,6 @@ returns-clause-step g c = λ state stands.
     (subst (λ (rx_buffers : List IubRxBuffer). Keeps g.U.Indications.shows c.args.accepted.now c.args.set c.args.frame.now rx_buffers c.keep.new.rx_buffers c.args.user.now c.keep.new.user) c.deref_mut.ensures.value c.keep.ensures)
     (subst (λ (n : Node). Represents c.args.accepted.now state n) (sym c.self.view_is) stands))
 
-pub returns-clause-few : goal.returns-clause-few
-returns-clause-few g c = record { lines = c.keep.ensures.lines; told = c.keep.ensures.told; few = omega (arith, c.keep.ensures.few) }
+pub returns-clause-limited : goal.returns-clause-limited
+returns-clause-limited g c =
+    kept_limited g.U.Indications.shows c.args.accepted.now c.args.set c.args.frame.now _ c.keep.new.rx_buffers c.args.user.now c.keep.new.user (omega (arith, c.ranges.set.fits)) c.keep.ensures

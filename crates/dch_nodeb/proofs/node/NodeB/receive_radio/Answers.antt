@@ -1,7 +1,8 @@
-use Rattle.std.proofs.Common.{◌+◌, ◌∙◌, List, sym, subst, arith}
+use Rattle.std.proofs.Common.{◌+◌, ◌∙◌, List, sym, subst}
 use Rattle.std.specs.Prelude.{◌%◌}
 use Rattle.std.proofs.lemmas.List.{with_items_is}
-use Rattle.dch_node.specs.Lines.{joined}
+use Rattle.dch_types.specs.declared.channel.Side.{Side}
+use Rattle.dch_types.specs.Limits.{IsSide}
 use Rattle.dch_node.specs.Standing.{Tells}
 use Rattle.dch_nodeb.specs.Standing.{NothingSent, Represents, Stepped}
 use Rattle.dch_txframes.specs.Lending.{radio_of}
@@ -9,6 +10,7 @@ use Rattle.dch_nodeb.specs.State.{UplinkFrame}
 use Rattle.dch_nodeb.specs.Values.{Node}
 use Rattle.dch_txframes.specs.Values.{IubTxBuffer}
 use Rattle.dch_nodeb.specs.contracts.node.NodeB.{the_view}
+use Rattle.dch_nodeb.proofs.Limited.{received_limited}
 use Rattle.dch_nodeb.proofs.Receiving.{received}
 use Rattle.dch_nodeb.proofs.node.NodeB.receive_radio.Goals as goal
 
@@ -21,5 +23,7 @@ returns-clause-step g c = λ state stands.
     (subst (λ (n : Node). NothingSent n) (sym c.self.view_is) c.requires.quiet) c.receive.ensures
     (subst (λ (n : Node). Represents c.args.accepted.now state n) (sym c.self.view_is) stands))
 
-pub returns-clause-few : goal.returns-clause-few
-returns-clause-few g c = record { lines = joined c.receive.ensures.served.lines 8; told = c.receive.ensures.served.told; few = omega (arith, c.receive.ensures.served.few) }
+pub returns-clause-limited : goal.returns-clause-limited
+returns-clause-limited g c =
+    received_limited g.U.Indications.shows c.args.accepted.now _ _ _ c.receive.new.tx_buffers c.receive.new.receiver c.args.user.now c.receive.new.user
+    (subst (λ (side : Side). IsSide side) c.side-side.ensures.value c.side-side.ensures.good) c.receive.ensures

@@ -1,18 +1,17 @@
-use Rattle.std.proofs.Common.{◌∙◌, List, [], ◌∷◌, sym, subst, arith}
+use Rattle.std.proofs.Common.{◌∙◌, List, sym, subst}
 use Rattle.std.proofs.lemmas.List.{with_items_is}
 use Rattle.dch_types.specs.declared.channel.Side.{Side}
 use Rattle.dch_types.specs.Limits.{IsSide}
-use Rattle.dch_indication.proofs.Telling.{told_one}
+use Rattle.dch_config.specs.Good.{IsGood}
 use Rattle.dch_node.specs.Standing.{Tells}
 use Rattle.dch_nodeb.specs.Moves.{Transmits}
 use Rattle.dch_nodeb.specs.Opened.{IsNodeOf}
 use Rattle.dch_nodeb.specs.Standing.{NothingSent, Represents, Stepped}
 use Rattle.dch_nodeb.specs.State.{DownlinkDue}
-use Rattle.dch_nodeb.specs.Steps.{radio_line}
 use Rattle.dch_nodeb.specs.Values.{Node, IubRxBuffer}
-use Rattle.dch_txframes.specs.Values.{radio_sent}
 use Rattle.dch_nodeb.specs.contracts.node.NodeB.{the_view}
 use Rattle.dch_nodeb.proofs.Departing.{departed}
+use Rattle.dch_nodeb.proofs.Limited.{sent_limited}
 use Rattle.dch_nodeb.proofs.node.NodeB.transmit_radio.Goals as goal
 
 pub returns-clause-step : goal.returns-clause-step
@@ -26,9 +25,7 @@ returns-clause-step g c = λ state stands.
     (subst (λ (rx_buffers : List IubRxBuffer). Transmits g.U.Indications.shows c.args.accepted.now c.self.inside.cfn rx_buffers c.transmit.new.rx_buffers c.self.inside.parts.transmitter c.transmit.new.transmitter c.args.user.now c.transmit.new.user) c.deref_mut.ensures.value c.transmit.ensures)
     (subst (λ (n : Node). Represents c.args.accepted.now state n) (sym c.self.view_is) stands))
 
-pub returns-clause-few : goal.returns-clause-few
-returns-clause-few g c = record {
-  lines = radio_line (radio_sent c.transmit.new.transmitter.radio) ∷ [];
-  told = told_one g.U.Indications.shows c.args.user.now c.transmit.new.user _ c.transmit.ensures.sends.shown;
-  few = omega (arith, c.transmit.ensures.sends.few);
-}
+pub returns-clause-limited : goal.returns-clause-limited
+returns-clause-limited g c =
+    sent_limited g.U.Indications.shows c.args.accepted.now _ c.transmit.ensures.loaded c.transmit.new.transmitter c.args.user.now c.transmit.new.user
+    (subst IsGood c.config-config.ensures.value c.config-config.ensures.good).downlink c.transmit.ensures.sends

@@ -5,7 +5,7 @@ use Rattle.dch_ue.specs.declared.event.UeEvent.{UeEvent}
 use Rattle.dch_ue.specs.Standing.{IsActiveBefore, IsReadyFor, KeepsNext, Represents, Stepped, event_of}
 use Rattle.dch_ue.proofs.Changing.{can_still, next_kept}
 use Rattle.dch_ue.proofs.Moving.{untold}
-use Rattle.dch_ue.proofs.Stepping.{none_few}
+use Rattle.dch_ue.proofs.Stepping.{untold_limited}
 use Rattle.dch_ue.proofs.node.Ue.happen.Goals as goal
 
 pub offer-requires-clause-opened : goal.offer-requires-clause-opened
@@ -31,8 +31,8 @@ returns-in-Block-clause-step g c = λ before state active stands.
     subst (λ (e : UeEvent). Stepped c.args.accepted.now state (event_of c.args.accepted.now e) c.block.new.self (Tells g.U.Indications.shows c.args.user.now c.args.user.now)) (sym c.in-Block.is)
     (untold g.U.Indications.shows c.args.accepted.now state _ c.block.new.self c.args.user.now (c.block.ensures.step state (c.clear_shown.ensures.stands c.args.accepted.now state (subst (λ (p : Planned). Represents p state c.args.self.now) same stands))))
 
-pub returns-in-Block-clause-few : goal.returns-in-Block-clause-few
-returns-in-Block-clause-few g c = none_few g.U.Indications.shows c.args.accepted.now.config c.args.user.now
+pub returns-in-Block-clause-limited : goal.returns-in-Block-clause-limited
+returns-in-Block-clause-limited g c = untold_limited g.U.Indications.shows c.args.accepted.now.config c.args.user.now
 
 pub returns-in-Block-clause-next : goal.returns-in-Block-clause-next
 returns-in-Block-clause-next g c =
@@ -48,8 +48,8 @@ returns-in-Phy-clause-step g c = λ before state active stands.
     subst (λ (e : UeEvent). Stepped c.args.accepted.now state (event_of c.args.accepted.now e) c.receive_radio.new.self (Tells g.U.Indications.shows c.args.user.now c.args.user.now)) (sym c.in-Phy.is)
     (untold g.U.Indications.shows c.args.accepted.now state _ c.receive_radio.new.self c.args.user.now (c.receive_radio.ensures.step state (c.clear_shown.ensures.stands c.args.accepted.now state (subst (λ (p : Planned). Represents p state c.args.self.now) same stands))))
 
-pub returns-in-Phy-clause-few : goal.returns-in-Phy-clause-few
-returns-in-Phy-clause-few g c = none_few g.U.Indications.shows c.args.accepted.now.config c.args.user.now
+pub returns-in-Phy-clause-limited : goal.returns-in-Phy-clause-limited
+returns-in-Phy-clause-limited g c = untold_limited g.U.Indications.shows c.args.accepted.now.config c.args.user.now
 
 pub returns-in-Phy-clause-next : goal.returns-in-Phy-clause-next
 returns-in-Phy-clause-next g c =
@@ -82,8 +82,8 @@ returns-in-Change-clause-step g c = λ before state active stands.
     (untold g.U.Indications.shows c.args.accepted.now state _ c.change.new.self c.args.user.now
     (c.change.ensures.step before state (next_kept before c.args.accepted.now c.args.self.now c.clear_shown.new.self c.clear_shown.ensures.next has) (c.clear_shown.ensures.stands before state stands)))
 
-pub returns-in-Change-clause-few : goal.returns-in-Change-clause-few
-returns-in-Change-clause-few g c = none_few g.U.Indications.shows c.args.accepted.now.config c.args.user.now
+pub returns-in-Change-clause-limited : goal.returns-in-Change-clause-limited
+returns-in-Change-clause-limited g c = untold_limited g.U.Indications.shows c.args.accepted.now.config c.args.user.now
 
 pub returns-in-Change-clause-next : goal.returns-in-Change-clause-next
 returns-in-Change-clause-next g c = subst (λ (e : UeEvent). KeepsNext c.args.accepted.now e c.args.self.now c.change.new.self) (sym c.in-Change.is) c.change.ensures.next

@@ -5,7 +5,7 @@ use Rattle.dch_ue.specs.Values.{Node}
 use Rattle.dch_ue.specs.contracts.node.Ue.{the_view}
 use Rattle.dch_ue.proofs.Moving.{can_offer, offered}
 use Rattle.dch_ue.proofs.Staying.{offered_layer, offered_runs, still_layer}
-use Rattle.dch_ue.proofs.Stepping.{offered_few}
+use Rattle.dch_ue.proofs.Stepping.{offered_limited}
 use Rattle.dch_ue.proofs.node.Ue.offer.Goals as goal
 
 pub offer-answer-requires : goal.offer-answer-requires
@@ -31,6 +31,6 @@ returns-clause-opened g c =
     still_layer planned node c.offer-answer.new.self opened c.offer-answer.ensures.ends (offered_layer planned node c.offer-answer.new.self c.args.bearer c.args.octets.now c.args.bits.now opened c.offer-answer.ensures.stands)
     (offered_runs planned node c.offer-answer.new.self c.args.bearer c.args.octets.now c.args.bits.now opened c.offer-answer.ensures.stands)
 
-pub returns-clause-few : goal.returns-clause-few
-returns-clause-few g c =
-    offered_few g.U.Indications.shows c.args.accepted.now.config c.args.bearer c.offer-answer.result c.args.user.now c.tell_answer.new.user (omega arith) c.tell_answer.ensures.shown
+pub returns-clause-limited : goal.returns-clause-limited
+returns-clause-limited g c =
+    offered_limited g.U.Indications.shows c.args.accepted.now.config c.args.bearer c.offer-answer.result c.args.user.now c.tell_answer.new.user (omega (arith, c.ranges.bearer.fits)) c.tell_answer.ensures.shown

@@ -10,7 +10,7 @@ use Rattle.dch_ue.specs.Steps.{has_read}
 use Rattle.dch_ue.specs.Values.{Node, readings_of}
 use Rattle.dch_ue.specs.contracts.node.Ue.{the_view}
 use Rattle.dch_ue.proofs.Staying.{ends_through, given_start, layer_of, noted_start, read_has, started_layer, still_ticked, ticked_layer}
-use Rattle.dch_ue.proofs.Stepping.{ticked_few}
+use Rattle.dch_ue.proofs.Stepping.{ticked_limited}
 use Rattle.dch_ue.proofs.Ticking.{ticked}
 use Rattle.dch_ue.proofs.node.Ue.tick.Goals as goal
 
@@ -104,10 +104,10 @@ returns-clause-step g c = λ state stands.
     ticked g.U.Indications.shows planned state node c.tick.new.self c.receive.new.layer c.start.new.self c.receive.new.self c.transmit.new.self c.args.user.now c.receive.new.user c.transmit.new.user at up ticking c.receive.ensures
     (c.start.ensures.started (has_read planned (readings_of c.receive.new.self.ttis) state.layer).layer (c.receive.ensures.reads.read.stands (ticks planned.config state.layer) ticking)) c.transmit.ensures
 
-pub returns-clause-few : goal.returns-clause-few
-returns-clause-few g c =
+pub returns-clause-limited : goal.returns-clause-limited
+returns-clause-limited g c =
     let planned = c.args.accepted.now in
     let node : Node = the_view c.self.inside in
     let opened : IsNodeOf planned node = subst (λ (n : Node). IsNodeOf planned n) (sym c.self.view_is) c.requires.opened in
-    ticked_few g.U.Indications.shows planned node.cfn node.receiver c.receive.new.self c.tick.new.self c.receive.new.layer c.start.new.self node.transmitter c.transmit.new.self c.args.user.now c.receive.new.user c.transmit.new.user
+    ticked_limited g.U.Indications.shows planned node.cfn node.receiver c.receive.new.self c.tick.new.self c.receive.new.layer c.start.new.self node.transmitter c.transmit.new.self c.args.user.now c.receive.new.user c.transmit.new.user
     (subst IsGood c.config-config.ensures.value c.config-config.ensures.good) (ticked_layer planned node c.tick.new.self opened c.tick.ensures.stands) c.receive.ensures c.transmit.ensures

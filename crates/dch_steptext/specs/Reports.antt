@@ -1,0 +1,21 @@
+-- Reports that hold more lines, and their room.
+use Rattle.std.specs.Prelude.{◌<◌, ◌≤◌, ◌+◌, ◌++◌, ℕ, List, length}
+use Rattle.dch_indication.specs.Lines.{Line}
+use Rattle.dch_indication.specs.Told.{Told}
+use Rattle.dch_script.specs.Adding.{ShowsLine}
+use Rattle.dch_script.specs.Held.{Held}
+use Rattle.dch_script.specs.LineText.{text_of}
+
+-- a report with more lines
+abbrev pub added : Held → List Line → Held
+added report lines = record report { text = report.text ++ text_of lines }
+
+-- there is room for so many more bytes
+abbrev pub HasRoomFor : Held → ℕ → Type 0
+HasRoomFor report count = length report.text + count ≤ report.most
+
+-- a report was told of lines whose text has less than so many bytes
+pub record IsToldFew (bytes : ℕ) (before after : Held) : Type 0 where
+  pub lines : List Line
+  pub told : Told ShowsLine before lines after
+  pub few : length (text_of lines) < bytes
