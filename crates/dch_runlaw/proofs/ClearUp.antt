@@ -125,13 +125,13 @@ whole_sent planned i cfn count given R frames reader good inside heard half all 
         cc
 
 -- what is read at the Node B, and again at the network controller
-pub reads_back : (planned : Planned) (cfn : ℕ) (frames : ℕ → Option Radio) (i : ℕ) (given : Given) (reader : RxFrames) (held other : Held) → IsPlanned planned → i < length planned.config.uplink.side.channels → AreHeard planned Up cfn frames reader
+pub reads_back : (planned : Planned) (i : ℕ) (given : Given) (reader : RxFrames) (held other : Held) → IsPlanned planned → i < length planned.config.uplink.side.channels
     → WasSent planned reader i given.format (joined_bits given.blocks) → AreSized (format_at (channel_at planned.config.uplink.side i) given.format).size given.blocks
     → IsTtiRead planned reader i held → HasFormat (channel_at planned.config.uplink.side i) held → HasFormat (channel_at planned.config.uplink.side i) other → IsSameTti held other → other.good ≡ held.good
     → (good_in (Read other) ≡ given.blocks) × ((k : ℕ) → k < length other.good → IsTrue (slice_index_or other.good k false))
-reads_back planned cfn frames i given reader held other good inside heard was sized read has has_other same marks =
+reads_back planned i given reader held other good inside was sized read has has_other same marks =
     let channel : Trch = channel_at planned.config.uplink.side i in
-    let sent : IsReadAsSent planned Up (IsTtiRead planned) reader i given.format (joined_bits given.blocks) = uplink_sent planned cfn frames reader i given.format (joined_bits given.blocks) good heard inside was in
+    let sent : IsReadAsSent planned Up (IsTtiRead planned) reader i given.format (joined_bits given.blocks) = uplink_sent planned reader i given.format (joined_bits given.blocks) good inside was in
     let arrives = sent.arrives held read in
     let number : held.format ≡ given.format = sent.number held read in
     let there : ArrivesAs (joined_bits given.blocks) other = record {

@@ -201,4 +201,4 @@ up_frame planned old new lines f good clear sized wholes d s = record {
         subst (λ (p : Planned). MayBeTaken p n (f.up_output.iub n) new.ue.state.layer (f.rncs n) (f.rncs (n + 1)) (f.taken n) (f.rnc_lines n)) d.active.rnc
         (subst (λ (o : Option (List ℕ)). MayBeTaken old.rnc.state.planned n o new.ue.state.layer (f.rncs n) (f.rncs (n + 1)) (f.taken n) (f.rnc_lines n)) (clear.iub_up n small) (f.takes n small)) in
         let active : (f.rncs n).planned ≡ planned = (keeps_all old new lines f n (omega (arith, small))).active ∙ ap (λ (x : RncState). x.planned) ticked.state ∙ d.active.rnc in
-        set_done planned c new.node_b.state.frames received.rx_frames new.ue.state.layer n (received.lines n) (f.rnc_lines n) (f.up_output.iub n) (f.rncs n) (f.rncs (n + 1)) (f.taken n) good heard were sized active (received.sets n small) may
+        set_done planned received.rx_frames new.ue.state.layer n (received.lines n) (f.rnc_lines n) (f.up_output.iub n) (f.rncs n) (f.rncs (n + 1)) (f.taken n) good were sized active (received.sets n small) may

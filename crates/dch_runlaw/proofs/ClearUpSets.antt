@@ -17,8 +17,7 @@ use Rattle.dch_iub.specs.Back.{IsReadBack}
 use Rattle.dch_iub.proofs.Back.{one_reading}
 use Rattle.dch_iub.proofs.Refused.{no_form}
 use Rattle.dch_node.specs.Lines.{Line}
-use Rattle.dch_node.specs.RxFrames.{AreHeard}
-use Rattle.dch_node.specs.Values.{Output, Radio}
+use Rattle.dch_node.specs.Values.{Output}
 use Rattle.dch_layer2.specs.Layers.{Layer}
 use Rattle.dch_layer2.specs.Joined.{joined_bits}
 use Rattle.dch_layer2.specs.Reading.{Nothing, Read, Reading}
@@ -67,13 +66,13 @@ set_ends : (side : Side) (reader : RxFrames) (i s : ℕ) → IsSide side → i <
 set_ends side reader i s good inside member = ap (λ s. ends (set_frames side s) reader.cfn) (sym member) ∙ ap (λ n. ends n reader.cfn) (set_frames-member side i good inside)
 
 -- no TTI is lost
-never_lost : (planned : Planned) (cfn : ℕ) (frames : ℕ → Option Radio) (reader : RxFrames) (layer : Layer) (s : ℕ) (lines : List Line) (iub : Option (List ℕ)) → IsPlanned planned → AreHeard planned Up cfn frames reader → WereSent planned reader layer
+never_lost : (planned : Planned) (reader : RxFrames) (layer : Layer) (s : ℕ) (lines : List Line) (iub : Option (List ℕ)) → IsPlanned planned → WereSent planned reader layer
     → IsLost planned.config.uplink.side reader s lines iub → ⊥
-never_lost planned cfn frames reader layer s lines iub good heard were lost =
+never_lost planned reader layer s lines iub good were lost =
     let side : Side = planned.config.uplink.side in
     let i : ℕ = lost.channel in
     let over : ends (channel_at side i).frames reader.cfn ≡ true = sym (set_ends side reader i s good.good.uplink.side lost.is.inside lost.is.member) ∙ lost.over in
-    (uplink_sent planned cfn frames reader i (layer.given i).format (joined_bits (layer.given i).blocks) good heard lost.is.inside (were i lost.is.inside over)).good lost.frame lost.is.bad
+    (uplink_sent planned reader i (layer.given i).format (joined_bits (layer.given i).blocks) good lost.is.inside (were i lost.is.inside over)).good lost.frame lost.is.bad
 
 -- what the network controller reads of it
 record Readings (side : Side) (layer : Layer) (s : ℕ) (readings : ℕ → Reading) : Type 0 where
@@ -92,9 +91,9 @@ fits_of side layer s readings are i inside = elim (eqb_tells (channel_at side i)
   | inr apart ↦ subst (λ (r : Reading). IsSublist (good_in r) (layer.given i).blocks) (sym (are.other i apart.1)) tt
 ]
 
-readings_of : (planned : Planned) (cfn : ℕ) (frames : ℕ → Option Radio) (reader : RxFrames) (layer : Layer) (s : ℕ) (lines : List Line) (iub : Option (List ℕ)) (old new : RncState) (output : Output) → IsPlanned planned → AreHeard planned Up cfn frames reader → WereSent planned reader layer → AreAllSized planned.config.uplink.side layer
+readings_of : (planned : Planned) (reader : RxFrames) (layer : Layer) (s : ℕ) (lines : List Line) (iub : Option (List ℕ)) (old new : RncState) (output : Output) → IsPlanned planned → WereSent planned reader layer → AreAllSized planned.config.uplink.side layer
     → (up : IsSentUp planned reader s lines iub) → IsReadFrame planned old s up.octets new output → Readings planned.config.uplink.side layer s new.readings
-readings_of planned cfn frames reader layer s lines iub old new output good heard were sized up read =
+readings_of planned reader layer s lines iub old new output good were sized up read =
     let side : Side = planned.config.uplink.side in
     let at : ℕ = started (set_frames side s) reader.cfn in
     let back : IsReadBack Up side s at read.cfn planned.config.qe read.qe up.held read.held = one_reading planned.config Up s at planned.config.qe read.cfn read.qe up.octets up.held read.held up.written.read read.read in
@@ -104,17 +103,17 @@ readings_of planned cfn frames reader layer s lines iub old new output good hear
           let reading : new.readings i ≡ Read (held_at read.held.blocks i) = are i ∙ own_set side s i read.held inside member in
           let over : ends (channel_at side i).frames reader.cfn ≡ true = sym (set_ends side reader i s good.good.uplink.side inside member) ∙ up.over in
           subst (λ (r : Reading). (good_in r ≡ (layer.given i).blocks) × IsClean r) (sym reading)
-          (reads_back planned cfn frames i (layer.given i) reader (held_at up.held.blocks i) (held_at read.held.blocks i) good inside heard (were i inside over) (sized i inside)
+          (reads_back planned i (layer.given i) reader (held_at up.held.blocks i) (held_at read.held.blocks i) good inside (were i inside over) (sized i inside)
           (up.read i inside member) (up.written.read.formats i inside member) (read.read.formats i inside member) (back.ttis i inside member) (back.marks.marks i inside member));
       other = λ i apart. are i ∙ other_set side s i read.held apart;
     }
 
 -- the Iub frame is read
-read_done : (planned : Planned) (cfn : ℕ) (frames : ℕ → Option Radio) (reader : RxFrames) (layer : Layer) (s : ℕ) (lines rnc_lines : List Line) (iub : Option (List ℕ)) (old new : RncState) (taken : Taken) → IsPlanned planned → AreHeard planned Up cfn frames reader → WereSent planned reader layer → AreAllSized planned.config.uplink.side layer
+read_done : (planned : Planned) (reader : RxFrames) (layer : Layer) (s : ℕ) (lines rnc_lines : List Line) (iub : Option (List ℕ)) (old new : RncState) (taken : Taken) → IsPlanned planned → WereSent planned reader layer → AreAllSized planned.config.uplink.side layer
     → (up : IsSentUp planned reader s lines iub) → (t : IsTaken planned s up.octets layer old new taken rnc_lines) → IsReadFrame planned old s up.octets new t.output → SetDone planned.config.uplink.side layer reader s taken lines rnc_lines
-read_done planned cfn frames reader layer s lines rnc_lines iub old new taken good heard were sized up t read =
+read_done planned reader layer s lines rnc_lines iub old new taken good were sized up t read =
     let side : Side = planned.config.uplink.side in
-    let are : Readings side layer s new.readings = readings_of planned cfn frames reader layer s lines iub old new t.output good heard were sized up read in
+    let are : Readings side layer s new.readings = readings_of planned reader layer s lines iub old new t.output good were sized up read in
     let same : (i : ℕ) → taken.readings i ≡ new.readings i = λ i. ap (λ (x : Taken). x.readings i) t.is in
     let output : AreSound t.output.lines =
     subst AreSound (sym (ap (λ (o : Output). o.lines) read.reported))
@@ -127,9 +126,9 @@ read_done planned cfn frames reader layer s lines rnc_lines iub old new taken go
       sound_taken = subst AreSound (sym (t.reported ∙ ap (λ (l : List Line). t.output.lines ++ l) none)) (sound-append t.output.lines [] output tt);
     }
 
-pub set_done : (planned : Planned) (cfn : ℕ) (frames : ℕ → Option Radio) (reader : RxFrames) (layer : Layer) (s : ℕ) (lines rnc_lines : List Line) (iub : Option (List ℕ)) (old new : RncState) (taken : Taken) → IsPlanned planned → AreHeard planned Up cfn frames reader → WereSent planned reader layer → AreAllSized planned.config.uplink.side layer
+pub set_done : (planned : Planned) (reader : RxFrames) (layer : Layer) (s : ℕ) (lines rnc_lines : List Line) (iub : Option (List ℕ)) (old new : RncState) (taken : Taken) → IsPlanned planned → WereSent planned reader layer → AreAllSized planned.config.uplink.side layer
     → old.planned ≡ planned → DeliversSet planned reader s lines iub → MayBeTaken planned s iub layer old new taken rnc_lines → SetDone planned.config.uplink.side layer reader s taken lines rnc_lines
-set_done planned cfn frames reader layer s lines rnc_lines iub old new taken good heard were sized active (inl waits) may =
+set_done planned reader layer s lines rnc_lines iub old new taken good were sized active (inl waits) may =
     let side : Side = planned.config.uplink.side in
     let none : MayBeTaken planned s None layer old new taken rnc_lines = subst (λ (o : Option (List ℕ)). MayBeTaken planned s o layer old new taken rnc_lines) waits.none may in
     record {
@@ -137,11 +136,11 @@ set_done planned cfn frames reader layer s lines rnc_lines iub old new taken goo
       sound = subst AreSound (sym waits.quiet) tt;
       sound_taken = subst AreSound (sym none.2) tt;
     }
-set_done planned cfn frames reader layer s lines rnc_lines iub old new taken good heard were sized active (inr (inl lost)) may = absurd (never_lost planned cfn frames reader layer s lines iub good heard were lost)
-set_done planned cfn frames reader layer s lines rnc_lines iub old new taken good heard were sized active (inr (inr up)) may =
+set_done planned reader layer s lines rnc_lines iub old new taken good were sized active (inr (inl lost)) may = absurd (never_lost planned reader layer s lines iub good were lost)
+set_done planned reader layer s lines rnc_lines iub old new taken good were sized active (inr (inr up)) may =
     let t : IsTaken planned s up.octets layer old new taken rnc_lines = subst (λ (o : Option (List ℕ)). MayBeTaken planned s o layer old new taken rnc_lines) up.sent may in
     let step : IsArrival planned old s up.octets new t.output = subst (λ (p : Planned). IsArrival p old s up.octets new t.output) active t.step in
     elim step [
-      | inl read ↦ read_done planned cfn frames reader layer s lines rnc_lines iub old new taken good heard were sized up t read
+      | inl read ↦ read_done planned reader layer s lines rnc_lines iub old new taken good were sized up t read
       | inr refused ↦ absurd (no_form planned.config Up s up.octets refused.error refused.cause (started (set_frames planned.config.uplink.side s) reader.cfn) planned.config.qe up.held up.written.read)
     ]

@@ -22,7 +22,6 @@ use Rattle.dch_combine.specs.Legs.{LegFrame}
 use Rattle.dch_combine.specs.Taken.{IsRefusal}
 use Rattle.dch_node.specs.Lines.{Line}
 use Rattle.dch_node.specs.RxFrames.{AreHeard}
-use Rattle.dch_node.specs.Values.{Radio}
 use Rattle.dch_layer2.specs.Layers.{Layer}
 use Rattle.dch_layer2.specs.Joined.{CarriesGiven, joined_bits}
 use Rattle.dch_linkcmd.specs.NodebSteps.{DeliversSet}
@@ -93,21 +92,21 @@ last_frame planned set cfn i good inside member over =
     ]
 
 -- the Node B delivers a set whose TTIs were all sent and came
-delivers : (planned : Planned) (cfn : ℕ) (frames : ℕ → Option Radio) (reader : RxFrames) (layer : Layer) (set : ℕ) (lines : List Line) (iub : Option (List ℕ)) → IsPlanned planned → AreHeard planned Up cfn frames reader → Ends planned set reader.cfn
+delivers : (planned : Planned) (reader : RxFrames) (layer : Layer) (set : ℕ) (lines : List Line) (iub : Option (List ℕ)) → IsPlanned planned → Ends planned set reader.cfn
     → ForSet (up_side planned) set (λ i. WasSent planned reader i (layer.given i).format (joined_bits (layer.given i).blocks)) → DeliversSet planned reader set lines iub → Delivers planned set layer reader.cfn iub
-delivers planned cfn frames reader layer set lines iub good heard over were (inl waits) = absurd (let both : false ≡ true = sym waits.on ∙ over in cc)
-delivers planned cfn frames reader layer set lines iub good heard over were (inr (inl lost)) =
+delivers planned reader layer set lines iub good over were (inl waits) = absurd (let both : false ≡ true = sym waits.on ∙ over in cc)
+delivers planned reader layer set lines iub good over were (inr (inl lost)) =
     let i : ℕ = lost.channel in
-    absurd ((uplink_sent planned cfn frames reader i (layer.given i).format (joined_bits (layer.given i).blocks) good heard lost.is.inside (were i lost.is.inside lost.is.member)).good lost.frame lost.is.bad)
-delivers planned cfn frames reader layer set lines iub good heard over were (inr (inr up)) = record {
+    absurd ((uplink_sent planned reader i (layer.given i).format (joined_bits (layer.given i).blocks) good lost.is.inside (were i lost.is.inside lost.is.member)).good lost.frame lost.is.bad)
+delivers planned reader layer set lines iub good over were (inr (inr up)) = record {
   octets = up.octets;
   sent = up.sent;
   held = up.held;
   written = up.written;
   carries = λ i inside member.
-      let sent = uplink_sent planned cfn frames reader i (layer.given i).format (joined_bits (layer.given i).blocks) good heard inside (were i inside member) in
+      let sent = uplink_sent planned reader i (layer.given i).format (joined_bits (layer.given i).blocks) good inside (were i inside member) in
       record { format = sent.number (held_at up.held.blocks i) (up.read i inside member); bits = (sent.arrives (held_at up.held.blocks i) (up.read i inside member)).same };
-  good = λ i inside member. ((uplink_sent planned cfn frames reader i (layer.given i).format (joined_bits (layer.given i).blocks) good heard inside (were i inside member)).arrives (held_at up.held.blocks i) (up.read i inside member)).good;
+  good = λ i inside member. ((uplink_sent planned reader i (layer.given i).format (joined_bits (layer.given i).blocks) good inside (were i inside member)).arrives (held_at up.held.blocks i) (up.read i inside member)).good;
 }
 
 -- the uplink radio frame comes to the Node B of leg k
@@ -123,7 +122,7 @@ radio_delivers planned legs k set old new good small r a halves = λ over.
     whole_sent planned i c (c % frames_of planned i + 1) (layer.given i) (λ d. d ≡ layer.running) (new.legs k).node_b.state.frames reader good inside heard (halves i inside member)
     (last_frame planned set c i good inside member over) (wholes i inside) in
     subst (λ n. Delivers planned set layer n ((new.legs k).node_b.last.iub set)) rx_cfn
-    (delivers planned c (new.legs k).node_b.state.frames reader layer set (r.step.lines set) ((new.legs k).node_b.last.iub set) good heard (ap (ends (set_frames (up_side planned) set)) rx_cfn ∙ over) were (r.step.sets set small))
+    (delivers planned reader layer set (r.step.lines set) ((new.legs k).node_b.last.iub set) good (ap (ends (set_frames (up_side planned) set)) rx_cfn ∙ over) were (r.step.sets set small))
   where
     wholes : (i : ℕ) → i < length (up_side planned).channels → length (joined_bits (new.ue.state.layer.given i).blocks) ≡ bits_of (format_at (channel_at (up_side planned) i) (new.ue.state.layer.given i).format)
     wholes i inside = subst (λ (u : Course UeState UeEvent). length (joined_bits (u.state.layer.given i).blocks) ≡ bits_of (format_at (channel_at (up_side planned) i) (u.state.layer.given i).format)) (sym r.change.ue) (a.ue.layer.given.whole i inside)

@@ -15,8 +15,8 @@ use Rattle.dch_tti.specs.Received.{ArrivesAs}
 use Rattle.dch_tti.proofs.Arrived.{arrived}
 use Rattle.dch_tti.specs.Formats.{AllGive}
 use Rattle.dch_tti.specs.Read.{AreVotesOf}
-use Rattle.dch_tti.specs.RxFrames.{RxFrames, frame_at}
-use Rattle.dch_tti.proofs.Alike.{KeepTheSame, reading_alike, same_cells, same_combination}
+use Rattle.dch_tti.specs.RxFrames.{IsReaderOf, RxFrames, frame_at}
+use Rattle.dch_tti.proofs.Alike.{KeepTheSame, bad_alike, reading_alike, same_cells, same_combination}
 use Rattle.dch_tti.proofs.Sent.{given_format, none_bad, sent_formats}
 use Rattle.dch_dlphy.specs.Frames.{multiplexed}
 use Rattle.dch_dlphy.specs.Loaded.{tti_cells}
@@ -62,28 +62,39 @@ sent_format planned reader i f sequence blocks held good inside sent read =
     let frames : IsFrames (channel_at side i).frames = (good.good.downlink.side.channels i inside).frames in
     given_format side reader i f held.format (all_give planned reader i f sequence blocks inside sent) (omega (arith, frames)) read.format
 
--- and just its blocks are read
-pub sent_arrives : (planned : Planned) (cfn : ℕ) (frames : ℕ → Option Radio) (reader : RxFrames) (i f : ℕ) (sequence : List ℕ) (blocks : List Bit) (held : Held) → IsPlanned planned → AreHeard planned Down cfn frames reader → i < length planned.config.downlink.side.channels
+-- and just its blocks are read, where what is kept fits the direction
+sent_arrives : (planned : Planned) (reader : RxFrames) (i f : ℕ) (sequence : List ℕ) (blocks : List Bit) (held : Held) → IsPlanned planned → IsReaderOf planned Down reader → i < length planned.config.downlink.side.channels
     → IsSentTti planned reader i f sequence blocks → IsTtiRead planned reader i held → ArrivesAs blocks held
-sent_arrives planned cfn frames reader i f sequence blocks held good heard inside sent read =
+sent_arrives planned reader i f sequence blocks held good opened inside sent read =
     let side : Side = planned.config.downlink.side in
     let channel : Trch = channel_at side i in
     let g : ℕ = held.format in
-    let other : RxFrames = roomed planned Down reader in
-    let same : KeepTheSame reader other = keep_same planned Down reader in
     let number : g ≡ f = sent_format planned reader i f sequence blocks held good inside sent read in
-    let kept : IsSentTti planned other i f sequence blocks = record { loaded = sent.loaded; from = sent.from; whole = sent.whole; frames = sent_alike planned Down (multiplexed planned) reader other i sequence sent.loaded same sent.frames } in
-    let again : IsTtiRead planned other i held = read_alike planned reader other i held same read in
-    let short : length again.votes ≤ 131072 = omega (arith, again.long, ((good.good.downlink.side.channels i inside).formats g again.format.inside).bits) in
-    let votes : AreVotesOf side i g blocks again.votes =
-    votes_arrive planned other i g sequence again.votes blocks good.good.downlink good.downlink good.clear (is_reader planned Down cfn frames reader heard) inside again.format.inside again.long again.are
-    (subst (λ f. IsSentTti planned other i f sequence blocks) (sym number) kept) in
-    arrived channel g (format_at channel g) again.votes held blocks votes.coded votes.sent again.blocks again.long short votes.whole votes.is votes.copies votes.clear
+    let short : length read.votes ≤ 131072 = omega (arith, read.long, ((good.good.downlink.side.channels i inside).formats g read.format.inside).bits) in
+    let votes : AreVotesOf side i g blocks read.votes =
+    votes_arrive planned reader i g sequence read.votes blocks good.good.downlink good.downlink good.clear opened inside read.format.inside read.long read.are
+    (subst (λ f. IsSentTti planned reader i f sequence blocks) (sym number) sent) in
+    arrived channel g (format_at channel g) read.votes held blocks votes.coded votes.sent read.blocks read.long short votes.whole votes.is votes.copies votes.clear
 
-pub downlink_sent : (planned : Planned) (cfn : ℕ) (frames : ℕ → Option Radio) (reader : RxFrames) (i f : ℕ) (blocks : List Bit) → IsPlanned planned → AreHeard planned Down cfn frames reader → i < length planned.config.downlink.side.channels
+pub downlink_opened : (planned : Planned) (reader : RxFrames) (i f : ℕ) (blocks : List Bit) → IsPlanned planned → IsReaderOf planned Down reader → i < length planned.config.downlink.side.channels
     → WasSent planned reader i f blocks → IsReadAsSent planned Down (IsTtiRead planned) reader i f blocks
-downlink_sent planned cfn frames reader i f blocks good heard inside was = record {
+downlink_opened planned reader i f blocks good opened inside was = record {
   good = λ n bad. none_bad planned.config.downlink.side reader i f n (all_give planned reader i f was.sequence blocks inside was.sent) bad;
   number = λ held read. sent_format planned reader i f was.sequence blocks held good inside was.sent read;
-  arrives = λ held read. sent_arrives planned cfn frames reader i f was.sequence blocks held good heard inside was.sent read;
+  arrives = λ held read. sent_arrives planned reader i f was.sequence blocks held good opened inside was.sent read;
 }
+
+-- and so of frames that came, whatever room there is for them
+pub downlink_sent : (planned : Planned) (cfn : ℕ) (frames : ℕ → Option Radio) (reader : RxFrames) (i f : ℕ) (blocks : List Bit) → IsPlanned planned → AreHeard planned Down cfn frames reader → i < length planned.config.downlink.side.channels
+    → WasSent planned reader i f blocks → IsReadAsSent planned Down (IsTtiRead planned) reader i f blocks
+downlink_sent planned cfn frames reader i f blocks good heard inside was =
+    let sent : IsSentTti planned reader i f was.sequence blocks = was.sent in
+    let other : RxFrames = roomed planned Down reader in
+    let same : KeepTheSame reader other = keep_same planned Down reader in
+    let kept : IsSentTti planned other i f was.sequence blocks = record { loaded = sent.loaded; from = sent.from; whole = sent.whole; frames = sent_alike planned Down (multiplexed planned) reader other i was.sequence sent.loaded same sent.frames } in
+    let again : IsReadAsSent planned Down (IsTtiRead planned) other i f blocks = downlink_opened planned other i f blocks good (is_reader planned Down cfn frames reader heard) inside (record { sequence = was.sequence; sent = kept }) in
+    record {
+      good = λ n bad. again.good n (bad_alike planned.config.downlink.side reader other i n same bad);
+      number = λ held read. again.number held (read_alike planned reader other i held same read);
+      arrives = λ held read. again.arrives held (read_alike planned reader other i held same read);
+    }

@@ -24,7 +24,7 @@ use Rattle.dch_runlaw.specs.TextTold.{IsRead, TellsFalse}
 use Rattle.dch_runlaw.specs.Headline.{Carries, CarriesAlone, CarriesBoth, CarriesFirst, CarriesSecond, IsLater, IsSilentOn, MayCarryBoth}
 use Rattle.dch_runlaw.proofs.Changing.{changed_is}
 use Rattle.dch_runlaw.proofs.CountedFrames.{eighth_over}
-use Rattle.dch_runlaw.proofs.HeadlineHandedUp.{am_rows, am_rows_over, tm_rows_down, tm_rows_up, um_rows_down, um_rows_down_over, um_rows_up, um_rows_up_over}
+use Rattle.dch_runlaw.proofs.HeadlineHandedUp.{am_rows, am_rows_over, tm_rows_down, tm_rows_down_over, tm_rows_up, tm_rows_up_over, um_rows_down, um_rows_down_over, um_rows_up, um_rows_up_over}
 use Rattle.dch_runlaw.proofs.HeadlineSilence.{silent, silent_on}
 use Rattle.dch_runlaw.proofs.HonestHanded.{silent_history, tm_silent_down, tm_silent_up, um_silent_down, um_silent_up}
 use Rattle.dch_runlaw.proofs.HonestOver.{silent_over, tm_down_silent_over, tm_up_silent_over, um_down_silent_over, um_up_silent_over}
@@ -76,10 +76,10 @@ first_carried planned first quiet events link reported run text good eighth show
           um_rows_down planned first b down (end_events events (opened_link planned first) link reported run) link text bearer (um_silent_down planned first b down events link reported run bearer (lacks_down planned down reported text good.good there tells none)) read;
       transparent_up = λ b up bearer none.
           let there = (bearer.good.bearers b bearer.there).up.there up bearer.channel in
-          tm_rows_up planned b up link text bearer (tm_silent_up planned first b up events link reported run bearer (lacks_up planned up reported text good.good there tells none)) read;
+          tm_rows_up planned first b up (end_events events (opened_link planned first) link reported run) link text bearer (tm_silent_up planned first b up events link reported run bearer (lacks_up planned up reported text good.good there tells none)) read;
       transparent_down = λ b down bearer none.
           let there = (bearer.good.bearers b bearer.there).down.there down bearer.channel in
-          tm_rows_down planned b down link text bearer (tm_silent_down planned first b down events link reported run bearer (lacks_down planned down reported text good.good there tells none)) read;
+          tm_rows_down planned first b down (end_events events (opened_link planned first) link reported run) link text bearer (tm_silent_down planned first b down events link reported run bearer (lacks_down planned down reported text good.good there tells none)) read;
     }
 
 -- and one of two
@@ -118,12 +118,12 @@ second_carried planned second first quiet before early start over after link lat
       transparent_up = λ b up up_later bearer bearer_later none none_later.
           let there = (bearer.good.bearers b bearer.there).up.there up bearer.channel in
           let there_later = (bearer_later.good.bearers b bearer_later.there).up.there up_later bearer_later.channel in
-          tm_rows_up second b up_later link (one ++ two) bearer_later (tm_up_silent_over planned second first b up up_later before after start link early late over run bearer bearer_later
+          tm_rows_up_over planned second first b up up_later (end_events before (opened_link planned first) over.last early over.run) (end_events after start link late run) over.last link (one ++ two) bearer_later (tm_up_silent_over planned second first b up up_later before after start link early late over run bearer bearer_later
           (lacks_up planned up early one good.good there tells none) (lacks_up second up_later late two later.good there_later tells_later none_later)) read;
       transparent_down = λ b down down_later bearer bearer_later none none_later.
           let there = (bearer.good.bearers b bearer.there).down.there down bearer.channel in
           let there_later = (bearer_later.good.bearers b bearer_later.there).down.there down_later bearer_later.channel in
-          tm_rows_down second b down_later link (one ++ two) bearer_later (tm_down_silent_over planned second first b down down_later before after start link early late over run bearer bearer_later
+          tm_rows_down_over planned second first b down down_later (end_events before (opened_link planned first) over.last early over.run) (end_events after start link late run) over.last link (one ++ two) bearer_later (tm_down_silent_over planned second first b down down_later before after start link early late over run bearer bearer_later
           (lacks_down planned down early one good.good there tells none) (lacks_down second down_later late two later.good there_later tells_later none_later)) read;
     }
 

@@ -17,9 +17,9 @@ use Rattle.dch_runlaw.specs.UmHistory.{got_lines}
 use Rattle.dch_runlaw.proofs.Bearers.{is_am_bearer}
 use Rattle.dch_runlaw.proofs.Small.{gots_bits, gots_units}
 use Rattle.dch_runlaw.specs.Nodes.{Event}
-use Rattle.dch_runlaw.specs.HonestBearers.{HasHistory, HasHistoryOver, HasKnownDown, HasKnownDownOver, HasKnownUp, HasKnownUpOver, HasTmSomeDown, HasTmSomeUp, IsAcknowledged, IsTransparent, IsUnacknowledged}
+use Rattle.dch_runlaw.specs.HonestBearers.{HasHistory, HasHistoryOver, HasKnownDown, HasKnownDownOver, HasKnownUp, HasKnownUpOver, HasSomeDown, HasSomeDownOver, HasSomeUp, HasSomeUpOver, IsAcknowledged, IsTransparent, IsUnacknowledged}
 use Rattle.dch_runlaw.specs.TextTold.{IsRead}
-use Rattle.dch_runlaw.specs.HeadlineHandedUp.{HandsUp, HandsUpKnownDown, HandsUpKnownDownOver, HandsUpKnownUp, HandsUpKnownUpOver, HandsUpOver, HandsUpSome}
+use Rattle.dch_runlaw.specs.HeadlineHandedUp.{HandsUp, HandsUpKnownDown, HandsUpKnownDownOver, HandsUpKnownUp, HandsUpKnownUpOver, HandsUpOver, HandsUpSomeDown, HandsUpSomeDownOver, HandsUpSomeUp, HandsUpSomeUpOver}
 
 pub low : (n b : ℕ) → b < n → n ≤ 16 → b < 2 ^ 64
 low n b there few = omega (arith, there, few)
@@ -83,14 +83,27 @@ um_rows_down_over planned second first b i i_later earlier later last link text 
 }
 
 -- and those of a transparent one
-pub tm_rows_up : (planned : Planned) (b i : ℕ) (link : LinkState) (text : List ℕ) → IsTransparent planned Up b i → HasTmSomeUp planned b link → IsRead link text → HandsUpSome planned Up b link.ue.state.layer link.rnc.lines text
-tm_rows_up planned b i link text is some read = record {
-  units = some;
-  rows_are = read.up b (low (length planned.config.bearers) b is.there is.good.few) ∙ ap rows_of (ap (gots Up b) some.lines ∙ gots_bits Up b some.handed);
+pub tm_rows_up : (planned : Planned) (first b i : ℕ) (happened : List Event) (link : LinkState) (text : List ℕ) → IsTransparent planned Up b i → HasSomeUp planned first b i happened link → IsRead link text → HandsUpSomeUp planned first b i happened link text
+tm_rows_up planned first b i happened link text is has read = record {
+  units = has;
+  rows_are = read.up b (low (length planned.config.bearers) b is.there is.good.few) ∙ ap rows_of (ap (gots Up b) (ap (lines_of b) (sym has.reached.are.rnc_lines) ∙ has.some.lines) ∙ gots_bits Up b has.some.handed);
 }
 
-pub tm_rows_down : (planned : Planned) (b i : ℕ) (link : LinkState) (text : List ℕ) → IsTransparent planned Down b i → HasTmSomeDown planned b link → IsRead link text → HandsUpSome planned Down b link.rnc.state.layer link.ue.lines text
-tm_rows_down planned b i link text is some read = record {
-  units = some;
-  rows_are = read.down b (low (length planned.config.bearers) b is.there is.good.few) ∙ ap rows_of (ap (gots Down b) some.lines ∙ gots_bits Down b some.handed);
+pub tm_rows_down : (planned : Planned) (first b i : ℕ) (happened : List Event) (link : LinkState) (text : List ℕ) → IsTransparent planned Down b i → HasSomeDown planned first b i happened link → IsRead link text → HandsUpSomeDown planned first b i happened link text
+tm_rows_down planned first b i happened link text is has read = record {
+  units = has;
+  rows_are = read.down b (low (length planned.config.bearers) b is.there is.good.few) ∙ ap rows_of (ap (gots Down b) (ap (lines_of b) (sym has.reached.are.ue_lines) ∙ has.some.lines) ∙ gots_bits Down b has.some.handed);
+}
+
+-- over two parts
+pub tm_rows_up_over : (planned second : Planned) (first b i i_later : ℕ) (earlier later : List Event) (last link : LinkState) (text : List ℕ) → IsTransparent second Up b i_later → HasSomeUpOver planned second first b i i_later earlier later last link → IsRead link text → HandsUpSomeUpOver planned second first b i i_later earlier later last link text
+tm_rows_up_over planned second first b i i_later earlier later last link text is has read = record {
+  units = has;
+  rows_are = read.up b (low (length second.config.bearers) b is.there is.good.few) ∙ ap rows_of (ap (gots Up b) (ap (lines_of b) (sym has.reached.are.rnc_lines) ∙ has.some.lines) ∙ gots_bits Up b has.some.handed);
+}
+
+pub tm_rows_down_over : (planned second : Planned) (first b i i_later : ℕ) (earlier later : List Event) (last link : LinkState) (text : List ℕ) → IsTransparent second Down b i_later → HasSomeDownOver planned second first b i i_later earlier later last link → IsRead link text → HandsUpSomeDownOver planned second first b i i_later earlier later last link text
+tm_rows_down_over planned second first b i i_later earlier later last link text is has read = record {
+  units = has;
+  rows_are = read.down b (low (length second.config.bearers) b is.there is.good.few) ∙ ap rows_of (ap (gots Down b) (ap (lines_of b) (sym has.reached.are.ue_lines) ∙ has.some.lines) ∙ gots_bits Down b has.some.handed);
 }

@@ -18,7 +18,7 @@ use Rattle.dch_runlaw.specs.Runs.{Event, Runs}
 use Rattle.dch_runlaw.specs.EndEvents.{end_events}
 use Rattle.dch_runlaw.specs.Nodes.{Any, AreFaithful, AreWhole, opened_nodes, world_of}
 use Rattle.dch_runlaw.proofs.NodesEvents.{nodes_history, nodes_whole_history, tm_down, tm_down_history, tm_up, tm_up_history, um_down, um_down_history, um_up, um_up_history}
-use Rattle.dch_runlaw.specs.HonestBearers.{HasHistory, HasKnownDown, HasKnownUp, HasTmDown, HasTmSomeDown, HasTmSomeUp, HasTmUp, HasUmDown, HasUmUp, HasWholeHistory, IsAcknowledged, IsTransparent, IsUnacknowledged, down_way, up_way}
+use Rattle.dch_runlaw.specs.HonestBearers.{HasHistory, HasKnownDown, HasKnownUp, HasSomeDown, HasSomeUp, HasTmDown, HasTmUp, HasUmDown, HasUmUp, HasWholeHistory, IsAcknowledged, IsTransparent, IsUnacknowledged, down_way, up_way}
 use Rattle.dch_runlaw.specs.HonestFits.{IsChannel, IsHonest, IsUndamaged, IsUndamagedOn, RunFits}
 use Rattle.dch_runlaw.specs.HonestSilent.{IsSilent, Lacks}
 use Rattle.dch_runlaw.specs.Parts.{Begins}
@@ -146,17 +146,23 @@ um_undamaged_down planned first b down events new lines run is fits =
     (whole_phase (down_frames planned down) new.rnc.state.cfn (o.stand.dl down) (new.rnc.state.layer.given down).blocks o.stand.down_phase)
 
 -- transparent bearers
-pub tm_silent_up : (planned : Planned) (first b up : ℕ) (events : List Event) (new : LinkState) (lines : List Line) → Runs (opened_link planned first) events new lines → IsTransparent planned Up b up → Lacks lines (Differs Up up) → HasTmSomeUp planned b new
+pub tm_silent_up : (planned : Planned) (first b up : ℕ) (events : List Event) (new : LinkState) (lines : List Line) (run : Runs (opened_link planned first) events new lines) → IsTransparent planned Up b up → Lacks lines (Differs Up up) → HasSomeUp planned first b up (end_events events (opened_link planned first) new lines run) new
 tm_silent_up planned first b up events new lines run is lacks =
     let are = up_channels planned b up is.good is.there is.channel in
     let o = goes planned first up 0 (up_setting IsFound IsSublist planned up 0 honest are) events new lines run (silent_honest planned Up up events (opened_link planned first) new lines run is.good (opened_fresh planned first).are are.up_is.there lacks) (any_fits planned Down 0 events (opened_link planned first) new lines run) in
-    tm_up planned first first b up (end_events events (opened_link planned first) new lines run) (nodes_of planned up 0 (up_setting IsFound IsSublist planned up 0 honest are) new o.stand) (is_tm_bearer planned.config Up b up is.good is.there is.mode is.channel) o.run (phase_holds IsFound IsSublist (up_frames planned up) new.rnc.state.cfn (o.stand.ul up) (new.ue.state.layer.given up).blocks honest o.stand.up_phase)
+    record {
+      reached = record { nodes = nodes_of planned up 0 (up_setting IsFound IsSublist planned up 0 honest are) new o.stand; run = o.run; are = record { ue = refl; rnc = refl; ue_lines = refl; rnc_lines = refl } };
+      some = tm_up planned first first b up (end_events events (opened_link planned first) new lines run) (nodes_of planned up 0 (up_setting IsFound IsSublist planned up 0 honest are) new o.stand) (is_tm_bearer planned.config Up b up is.good is.there is.mode is.channel) o.run (phase_holds IsFound IsSublist (up_frames planned up) new.rnc.state.cfn (o.stand.ul up) (new.ue.state.layer.given up).blocks honest o.stand.up_phase);
+    }
 
-pub tm_silent_down : (planned : Planned) (first b down : ℕ) (events : List Event) (new : LinkState) (lines : List Line) → Runs (opened_link planned first) events new lines → IsTransparent planned Down b down → Lacks lines (Differs Down down) → HasTmSomeDown planned b new
+pub tm_silent_down : (planned : Planned) (first b down : ℕ) (events : List Event) (new : LinkState) (lines : List Line) (run : Runs (opened_link planned first) events new lines) → IsTransparent planned Down b down → Lacks lines (Differs Down down) → HasSomeDown planned first b down (end_events events (opened_link planned first) new lines run) new
 tm_silent_down planned first b down events new lines run is lacks =
     let are = down_channels planned b down is.good is.there is.channel in
     let o = goes planned first 0 down (down_setting IsFound IsSublist planned 0 down honest are) events new lines run (any_fits planned Up 0 events (opened_link planned first) new lines run) (silent_honest planned Down down events (opened_link planned first) new lines run is.good (opened_fresh planned first).are are.down_is.there lacks) in
-    tm_down planned first first b down (end_events events (opened_link planned first) new lines run) (nodes_of planned 0 down (down_setting IsFound IsSublist planned 0 down honest are) new o.stand) (is_tm_bearer planned.config Down b down is.good is.there is.mode is.channel) o.run (phase_holds IsFound IsSublist (down_frames planned down) new.rnc.state.cfn (o.stand.dl down) (new.rnc.state.layer.given down).blocks honest o.stand.down_phase)
+    record {
+      reached = record { nodes = nodes_of planned 0 down (down_setting IsFound IsSublist planned 0 down honest are) new o.stand; run = o.run; are = record { ue = refl; rnc = refl; ue_lines = refl; rnc_lines = refl } };
+      some = tm_down planned first first b down (end_events events (opened_link planned first) new lines run) (nodes_of planned 0 down (down_setting IsFound IsSublist planned 0 down honest are) new o.stand) (is_tm_bearer planned.config Down b down is.good is.there is.mode is.channel) o.run (phase_holds IsFound IsSublist (down_frames planned down) new.rnc.state.cfn (o.stand.dl down) (new.rnc.state.layer.given down).blocks honest o.stand.down_phase);
+    }
 
 pub tm_undamaged_up : (planned : Planned) (first b up : ℕ) (events : List Event) (new : LinkState) (lines : List Line) (run : Runs (opened_link planned first) events new lines) → IsTransparent planned Up b up → IsUndamagedOn planned Up up events (opened_link planned first) new lines run → HasTmUp planned b up new
 tm_undamaged_up planned first b up events new lines run is fits =

@@ -20,7 +20,7 @@ use Rattle.dch_runlaw.specs.Runs.{Event, Runs}
 use Rattle.dch_runlaw.specs.Parts.{GoesOver}
 use Rattle.dch_runlaw.specs.EndEvents.{end_events}
 use Rattle.dch_runlaw.specs.Nodes.{Changes, Event as NodesEvent, Nodes, RunsInTwo, opened_nodes}
-use Rattle.dch_runlaw.specs.HonestBearers.{HasHistoryOver, HasKnownDownOver, HasKnownUpOver, HasTmDown, HasTmSomeDown, HasTmSomeUp, HasTmUp, HasUmDown, HasUmUp, HasWholeHistory, IsAcknowledged, IsTransparent, IsUnacknowledged, down_way, up_way}
+use Rattle.dch_runlaw.specs.HonestBearers.{HasHistoryOver, HasKnownDownOver, HasKnownUpOver, HasSomeDownOver, HasSomeUpOver, HasTmDown, HasTmUp, HasUmDown, HasUmUp, HasWholeHistory, IsAcknowledged, IsTransparent, IsUnacknowledged, down_way, up_way}
 use Rattle.dch_runlaw.specs.HonestFits.{IsUndamaged, IsUndamagedOn, RunFits}
 use Rattle.dch_runlaw.specs.HonestSilent.{IsSilent, Lacks}
 use Rattle.dch_runlaw.proofs.Begun.{Fresh, changed_for, changed_fresh, opened_fresh}
@@ -239,8 +239,8 @@ um_down_undamaged_over planned second first b down down_later before after start
     (whole_phase (down_frames second down_later) new.rnc.state.cfn (w.behind.stand.dl down_later) (new.rnc.state.layer.given down_later).blocks w.behind.stand.down_phase)
 
 -- transparent bearers
-pub tm_up_silent_over : (planned second : Planned) (first b up up_later : ℕ) (before after : List Event) (start new : LinkState) (xs ys : List Line) (o : GoesOver planned second first before xs start) → Runs start after new ys → IsTransparent planned Up b up → IsTransparent second Up b up_later
-    → Lacks xs (Differs Up up) → Lacks ys (Differs Up up_later) → HasTmSomeUp second b new
+pub tm_up_silent_over : (planned second : Planned) (first b up up_later : ℕ) (before after : List Event) (start new : LinkState) (xs ys : List Line) (o : GoesOver planned second first before xs start) (run : Runs start after new ys) → IsTransparent planned Up b up → IsTransparent second Up b up_later
+    → Lacks xs (Differs Up up) → Lacks ys (Differs Up up_later) → HasSomeUpOver planned second first b up up_later (end_events before (opened_link planned first) o.last xs o.run) (end_events after start new ys run) o.last new
 tm_up_silent_over planned second first b up up_later before after start new xs ys o run is later lacks lacks_later =
     let are : AreChannels planned up 0 = up_channels planned b up is.good is.there is.channel in
     let on : AreChannels second up_later 0 = up_channels second b up_later later.good later.there later.channel in
@@ -253,9 +253,17 @@ tm_up_silent_over planned second first b up up_later before after start new xs y
     (any_fits planned Down 0 before (opened_link planned first) o.last xs o.run)
     (silent_honest second Up up_later after start new ys run later.good (over_for planned second first before xs start o) on.up_is.there lacks_later)
     (any_fits second Down 0 after start new ys run) in
-    tm_up_two planned second first first b up up_later one two (nodes_of second up_later 0 h new w.behind.stand) (is_tm_bearer planned.config Up b up is.good is.there is.mode is.channel) (is_tm_bearer second.config Up b up_later later.good later.there later.mode later.channel) (in_two planned second first up 0 up_later 0 g h o.last start new one two w)
-    (phase_holds IsFound IsSublist (up_frames planned up) o.last.rnc.state.cfn (w.before.stand.ul up) (o.last.ue.state.layer.given up).blocks honest w.before.stand.up_phase)
-    (phase_holds IsFound IsSublist (up_frames second up_later) new.rnc.state.cfn (w.behind.stand.ul up_later) (new.ue.state.layer.given up_later).blocks honest w.behind.stand.up_phase)
+    record {
+      reached = record {
+        nodes = nodes_of second up_later 0 h new w.behind.stand;
+        run = in_two planned second first up 0 up_later 0 g h o.last start new one two w;
+        are_mid = record { ue = refl; rnc = refl; ue_lines = refl; rnc_lines = refl };
+        are = record { ue = refl; rnc = refl; ue_lines = refl; rnc_lines = refl };
+      };
+      some = tm_up_two planned second first first b up up_later one two (nodes_of second up_later 0 h new w.behind.stand) (is_tm_bearer planned.config Up b up is.good is.there is.mode is.channel) (is_tm_bearer second.config Up b up_later later.good later.there later.mode later.channel) (in_two planned second first up 0 up_later 0 g h o.last start new one two w)
+          (phase_holds IsFound IsSublist (up_frames planned up) o.last.rnc.state.cfn (w.before.stand.ul up) (o.last.ue.state.layer.given up).blocks honest w.before.stand.up_phase)
+          (phase_holds IsFound IsSublist (up_frames second up_later) new.rnc.state.cfn (w.behind.stand.ul up_later) (new.ue.state.layer.given up_later).blocks honest w.behind.stand.up_phase);
+    }
 
 pub tm_up_undamaged_over : (planned second : Planned) (first b up up_later : ℕ) (before after : List Event) (start new : LinkState) (xs ys : List Line) (o : GoesOver planned second first before xs start) (run : Runs start after new ys) → start.rnc.state.cfn % 8 ≡ 0 → IsTransparent planned Up b up → IsTransparent second Up b up_later
     → IsUndamagedOn planned Up up before (opened_link planned first) o.last xs o.run → IsUndamagedOn second Up up_later after start new ys run → HasTmUp second b up_later new
@@ -275,8 +283,8 @@ tm_up_undamaged_over planned second first b up up_later before after start new x
     (sym (w.before.stand.up_phase.over (all_over planned.config.uplink.side up o.last.rnc.state.cfn is.good.uplink.side are.up_is.there (same_cfn planned second first before xs start o eighth))))
     (whole_phase (up_frames second up_later) new.rnc.state.cfn (w.behind.stand.ul up_later) (new.ue.state.layer.given up_later).blocks w.behind.stand.up_phase)
 
-pub tm_down_silent_over : (planned second : Planned) (first b down down_later : ℕ) (before after : List Event) (start new : LinkState) (xs ys : List Line) (o : GoesOver planned second first before xs start) → Runs start after new ys → IsTransparent planned Down b down → IsTransparent second Down b down_later
-    → Lacks xs (Differs Down down) → Lacks ys (Differs Down down_later) → HasTmSomeDown second b new
+pub tm_down_silent_over : (planned second : Planned) (first b down down_later : ℕ) (before after : List Event) (start new : LinkState) (xs ys : List Line) (o : GoesOver planned second first before xs start) (run : Runs start after new ys) → IsTransparent planned Down b down → IsTransparent second Down b down_later
+    → Lacks xs (Differs Down down) → Lacks ys (Differs Down down_later) → HasSomeDownOver planned second first b down down_later (end_events before (opened_link planned first) o.last xs o.run) (end_events after start new ys run) o.last new
 tm_down_silent_over planned second first b down down_later before after start new xs ys o run is later lacks lacks_later =
     let are : AreChannels planned 0 down = down_channels planned b down is.good is.there is.channel in
     let on : AreChannels second 0 down_later = down_channels second b down_later later.good later.there later.channel in
@@ -289,9 +297,17 @@ tm_down_silent_over planned second first b down down_later before after start ne
     (silent_honest planned Down down before (opened_link planned first) o.last xs o.run is.good (opened_fresh planned first).are are.down_is.there lacks)
     (any_fits second Up 0 after start new ys run)
     (silent_honest second Down down_later after start new ys run later.good (over_for planned second first before xs start o) on.down_is.there lacks_later) in
-    tm_down_two planned second first first b down down_later one two (nodes_of second 0 down_later h new w.behind.stand) (is_tm_bearer planned.config Down b down is.good is.there is.mode is.channel) (is_tm_bearer second.config Down b down_later later.good later.there later.mode later.channel) (in_two planned second first 0 down 0 down_later g h o.last start new one two w)
-    (phase_holds IsFound IsSublist (down_frames planned down) o.last.rnc.state.cfn (w.before.stand.dl down) (o.last.rnc.state.layer.given down).blocks honest w.before.stand.down_phase)
-    (phase_holds IsFound IsSublist (down_frames second down_later) new.rnc.state.cfn (w.behind.stand.dl down_later) (new.rnc.state.layer.given down_later).blocks honest w.behind.stand.down_phase)
+    record {
+      reached = record {
+        nodes = nodes_of second 0 down_later h new w.behind.stand;
+        run = in_two planned second first 0 down 0 down_later g h o.last start new one two w;
+        are_mid = record { ue = refl; rnc = refl; ue_lines = refl; rnc_lines = refl };
+        are = record { ue = refl; rnc = refl; ue_lines = refl; rnc_lines = refl };
+      };
+      some = tm_down_two planned second first first b down down_later one two (nodes_of second 0 down_later h new w.behind.stand) (is_tm_bearer planned.config Down b down is.good is.there is.mode is.channel) (is_tm_bearer second.config Down b down_later later.good later.there later.mode later.channel) (in_two planned second first 0 down 0 down_later g h o.last start new one two w)
+          (phase_holds IsFound IsSublist (down_frames planned down) o.last.rnc.state.cfn (w.before.stand.dl down) (o.last.rnc.state.layer.given down).blocks honest w.before.stand.down_phase)
+          (phase_holds IsFound IsSublist (down_frames second down_later) new.rnc.state.cfn (w.behind.stand.dl down_later) (new.rnc.state.layer.given down_later).blocks honest w.behind.stand.down_phase);
+    }
 
 pub tm_down_undamaged_over : (planned second : Planned) (first b down down_later : ℕ) (before after : List Event) (start new : LinkState) (xs ys : List Line) (o : GoesOver planned second first before xs start) (run : Runs start after new ys) → start.rnc.state.cfn % 8 ≡ 0 → IsTransparent planned Down b down → IsTransparent second Down b down_later
     → IsUndamagedOn planned Down down before (opened_link planned first) o.last xs o.run → IsUndamagedOn second Down down_later after start new ys run → HasTmDown second b down_later new

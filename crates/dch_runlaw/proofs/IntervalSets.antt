@@ -13,8 +13,6 @@ use Rattle.dch_ulphy.specs.Sent.{WasSent}
 use Rattle.dch_iub.specs.Forms.{IsWrittenForm}
 use Rattle.dch_iub.specs.Shape.{ForSet}
 use Rattle.dch_node.specs.Lines.{Line}
-use Rattle.dch_node.specs.RxFrames.{AreHeard}
-use Rattle.dch_node.specs.Values.{Radio}
 use Rattle.dch_layer2.specs.Layers.{Given, Layer}
 use Rattle.dch_layer2.specs.Joined.{CarriesGiven, joined_bits}
 use Rattle.dch_linkcmd.specs.NodebSteps.{DeliversSet}
@@ -29,7 +27,6 @@ use Rattle.dch_runlaw.specs.Parts.{Begins}
 use Rattle.dch_runlaw.proofs.Begun.{Begun, begun, begun_agree}
 use Rattle.dch_runlaw.proofs.RunningOver.{runs_on}
 use Rattle.dch_runlaw.proofs.SizedRuns.{is_sized}
-use Rattle.dch_runlaw.proofs.ClearSent.{heard_as}
 use Rattle.dch_runlaw.proofs.ClearTtis.{over_or_on}
 use Rattle.dch_runlaw.specs.Intervals.{AllArrive, AreGood, Tti, UpAsGiven}
 use Rattle.dch_runlaw.proofs.IntervalAgree.{Agree, Parts, parts, runs_agree}
@@ -78,21 +75,21 @@ record SetUp (planned : Planned) (layer : Layer) (set cfn : ℕ) (iub : Option (
   carries : ForSet (up_side planned) set (λ i. CarriesGiven (layer.given i) (held_at held.blocks i))
   good : ForSet (up_side planned) set (λ i. AreGood (held_at held.blocks i))
 
-set_up : (planned : Planned) (cfn : ℕ) (frames : ℕ → Option Radio) (reader : RxFrames) (layer : Layer) (set : ℕ) (lines : List Line) (iub : Option (List ℕ)) → IsPlanned planned → AreHeard planned Up cfn frames reader → ends (set_frames (up_side planned) set) reader.cfn ≡ true
+set_up : (planned : Planned) (reader : RxFrames) (layer : Layer) (set : ℕ) (lines : List Line) (iub : Option (List ℕ)) → IsPlanned planned → ends (set_frames (up_side planned) set) reader.cfn ≡ true
     → ForSet (up_side planned) set (λ i. WasSent planned reader i (layer.given i).format (joined_bits (layer.given i).blocks)) → DeliversSet planned reader set lines iub → SetUp planned layer set reader.cfn iub
-set_up planned cfn frames reader layer set lines iub good heard over were (inl waits) = absurd (let both : false ≡ true = sym waits.on ∙ over in cc)
-set_up planned cfn frames reader layer set lines iub good heard over were (inr (inl lost)) =
+set_up planned reader layer set lines iub good over were (inl waits) = absurd (let both : false ≡ true = sym waits.on ∙ over in cc)
+set_up planned reader layer set lines iub good over were (inr (inl lost)) =
     let i : ℕ = lost.channel in
-    absurd ((uplink_sent planned cfn frames reader i (layer.given i).format (joined_bits (layer.given i).blocks) good heard lost.is.inside (were i lost.is.inside lost.is.member)).good lost.frame lost.is.bad)
-set_up planned cfn frames reader layer set lines iub good heard over were (inr (inr up)) = record {
+    absurd ((uplink_sent planned reader i (layer.given i).format (joined_bits (layer.given i).blocks) good lost.is.inside (were i lost.is.inside lost.is.member)).good lost.frame lost.is.bad)
+set_up planned reader layer set lines iub good over were (inr (inr up)) = record {
   octets = up.octets;
   sent = up.sent;
   held = up.held;
   written = up.written;
   carries = λ i inside member.
-      let sent = uplink_sent planned cfn frames reader i (layer.given i).format (joined_bits (layer.given i).blocks) good heard inside (were i inside member) in
+      let sent = uplink_sent planned reader i (layer.given i).format (joined_bits (layer.given i).blocks) good inside (were i inside member) in
       record { format = sent.number (held_at up.held.blocks i) (up.read i inside member); bits = (sent.arrives (held_at up.held.blocks i) (up.read i inside member)).same };
-  good = λ i inside member. ((uplink_sent planned cfn frames reader i (layer.given i).format (joined_bits (layer.given i).blocks) good heard inside (were i inside member)).arrives (held_at up.held.blocks i) (up.read i inside member)).good;
+  good = λ i inside member. ((uplink_sent planned reader i (layer.given i).format (joined_bits (layer.given i).blocks) good inside (were i inside member)).arrives (held_at up.held.blocks i) (up.read i inside member)).good;
 }
 
 -- a value that never changes
@@ -180,8 +177,5 @@ up_interval planned set events start mid new lines good begins eighth run small 
     were : ForSet side set (λ i. WasSent planned p.receives.rx_frames i (new.ue.state.layer.given i).format (joined_bits (new.ue.state.layer.given i).blocks))
     were = λ i inside member. last_sent planned t.last new t.last_lines f good b i inside last_formats arrive.1 (on i inside member) (subst (λ n. c % n + 1 ≡ n) (same i inside member) at_end) (wholes i inside)
 
-    heard : AreHeard planned Up c new.node_b.state.frames p.receives.rx_frames
-    heard = heard_as planned Up f.node_b.cfn c new.node_b.state.frames new.node_b.state.frames p.receives.rx_frames p.node_b_cfn (λ k. refl) p.receives.kept
-
     done : SetUp planned new.ue.state.layer set p.receives.rx_frames.cfn (f.up_output.iub set)
-    done = set_up planned c new.node_b.state.frames p.receives.rx_frames new.ue.state.layer set (p.receives.lines set) (f.up_output.iub set) good heard (ap (ends frames) rx_cfn ∙ over) were (p.receives.sets set small)
+    done = set_up planned p.receives.rx_frames new.ue.state.layer set (p.receives.lines set) (f.up_output.iub set) good (ap (ends frames) rx_cfn ∙ over) were (p.receives.sets set small)

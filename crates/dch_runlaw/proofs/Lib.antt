@@ -117,6 +117,7 @@ pub mod DownlinkDamaged
 pub mod FewChanged
 pub mod UplinkDamaged
 pub mod DownlinkSent
+pub mod ReadAfterWrite
 pub mod Readers
 pub mod ToldApart
 pub mod UplinkCopies

@@ -11,7 +11,7 @@ use Rattle.dch_linkcmd.specs.RncState.{Event as RncEvent, OfferedUnit as RncOffe
 use Rattle.dch_linkcmd.specs.RncSteps.{IsReadFrame, IsRefusedFrame, Steps as RncSteps}
 use Rattle.dch_linkcmd.specs.Within.{RncWithin, UeWithin}
 use Rattle.dch_runlaw.specs.History.{IsAmBearer, IsHistory, IsWholeHistory}
-use Rattle.dch_runlaw.specs.TmHistory.{IsTmBearer, IsTmHistory, IsTmSome}
+use Rattle.dch_runlaw.specs.TmHistory.{IsTmBearer, IsTmHistory}
 use Rattle.dch_runlaw.specs.UmHistory.{Any as AnyWorld, IsKnownHistory, IsUmBearer, IsUmHistory}
 use Rattle.dch_runlaw.specs.Worlds.{AreFaithful as AreWorldFaithful, AreWholeSoFar, At, Far, Happens as WorldHappens, IsFaithful, Near, Runs as WorldRuns, World, turned}
 use Rattle.dch_runlaw.proofs.Histories.{am_history, whole_history}
@@ -19,7 +19,7 @@ use Rattle.dch_runlaw.proofs.Tm.{tm_some}
 use Rattle.dch_runlaw.proofs.TmRuns.{tm_history}
 use Rattle.dch_runlaw.proofs.UmKnown.{known_history}
 use Rattle.dch_runlaw.proofs.UmRuns.{um_history}
-use Rattle.dch_runlaw.specs.Nodes.{Any, AreFaithful, AreWhole, AtRnc, AtUe, Event, Happens, Nodes, Runs, opened_nodes, world_of}
+use Rattle.dch_runlaw.specs.Nodes.{Any, AreFaithful, AreWhole, AtRnc, AtUe, Event, Happens, IsDownSome, IsUpSome, Nodes, Runs, opened_nodes, world_of}
 use Rattle.dch_runlaw.proofs.NodesSteps.{rnc_lifts, ue_lifts}
 
 -- a step of a node keeps its configuration, but for a change
@@ -125,10 +125,10 @@ pub um_down : (planned : Planned) (ue_first rnc_first b down : ℕ) (events : Li
 um_down planned ue_first rnc_first b down events nodes is run faithful =
     known_history planned.config Down b down [] [] (turned (world_of nodes)) (um_down_history planned ue_first rnc_first b down events nodes is run) tt faithful
 
-pub tm_up : (planned : Planned) (ue_first rnc_first b up : ℕ) (events : List Event) (nodes : Nodes) → IsTmBearer planned.config Up b up → Runs Any (opened_nodes planned ue_first rnc_first) events nodes → IsFaithful (nodes.up up) → IsTmSome planned.config Up b nodes.ue.layer nodes.rnc_lines
+pub tm_up : (planned : Planned) (ue_first rnc_first b up : ℕ) (events : List Event) (nodes : Nodes) → IsTmBearer planned.config Up b up → Runs Any (opened_nodes planned ue_first rnc_first) events nodes → IsFaithful (nodes.up up) → IsUpSome planned b up nodes
 tm_up planned ue_first rnc_first b up events nodes is run faithful =
     tm_some planned.config Up b up [] [] (world_of nodes) (tm_up_history planned ue_first rnc_first b up events nodes is run) tt faithful
 
-pub tm_down : (planned : Planned) (ue_first rnc_first b down : ℕ) (events : List Event) (nodes : Nodes) → IsTmBearer planned.config Down b down → Runs Any (opened_nodes planned ue_first rnc_first) events nodes → IsFaithful (nodes.down down) → IsTmSome planned.config Down b nodes.rnc.layer nodes.ue_lines
+pub tm_down : (planned : Planned) (ue_first rnc_first b down : ℕ) (events : List Event) (nodes : Nodes) → IsTmBearer planned.config Down b down → Runs Any (opened_nodes planned ue_first rnc_first) events nodes → IsFaithful (nodes.down down) → IsDownSome planned b down nodes
 tm_down planned ue_first rnc_first b down events nodes is run faithful =
     tm_some planned.config Down b down [] [] (turned (world_of nodes)) (tm_down_history planned ue_first rnc_first b down events nodes is run) tt faithful

@@ -10,7 +10,7 @@ use Rattle.dch_node.specs.Values.{Output}
 use Rattle.dch_linkcmd.specs.UeState.{State as UeState}
 use Rattle.dch_linkcmd.specs.RncState.{State as RncState}
 use Rattle.dch_runlaw.specs.History.{IsAmBearer}
-use Rattle.dch_runlaw.specs.TmHistory.{IsTmBearer, IsTmCarried, IsTmSome, units_in}
+use Rattle.dch_runlaw.specs.TmHistory.{IsTmBearer, IsTmCarried, units_in}
 use Rattle.dch_runlaw.specs.UmHistory.{Any as AnyWorld, IsUmBearer, IsUmCarried, pdus_in}
 use Rattle.dch_runlaw.specs.Worlds.{AreFaithful as AreWorldFaithful, AreWholeSoFar, HasChanged, IsFaithful, RunsInTwo as WorldsInTwo, World, turned}
 use Rattle.dch_runlaw.proofs.Parts.{over_parts, whole_parts}
@@ -19,7 +19,7 @@ use Rattle.dch_runlaw.proofs.TmRuns.{tm_over}
 use Rattle.dch_runlaw.proofs.UmKnown.{known_over}
 use Rattle.dch_runlaw.proofs.UmRuns.{um_over}
 use Rattle.dch_runlaw.proofs.UmWhole.{um_all_came}
-use Rattle.dch_runlaw.specs.Nodes.{Any, AreAllTaken, AreFaithful, AreWhole, Changes, Event, IsAmHistoryOver, IsDownKnownOver, IsUpKnownOver, IsWholeAmHistory, Nodes, RunsInTwo, opened_nodes, world_of}
+use Rattle.dch_runlaw.specs.Nodes.{Any, AreAllTaken, AreFaithful, AreWhole, Changes, Event, IsAmHistoryOver, IsDownKnownOver, IsDownSomeOver, IsUpKnownOver, IsUpSomeOver, IsWholeAmHistory, Nodes, RunsInTwo, opened_nodes, world_of}
 use Rattle.dch_runlaw.proofs.NodesEvents.{Have, RunsOn, flipped, run_turned, runs_on}
 
 -- both layers 2 changed
@@ -86,7 +86,7 @@ um_up_whole first second ue_first rnc_first b up up_later earlier later nodes ru
     let l = any_two first second ue_first rnc_first earlier later nodes run in
     um_all_came second.config Up b up_later (pdus_in first.config Up b up (run.mid.up up).given) (pdus_in first.config Up b up (run.mid.up up).taken) (world_of nodes) running (um_over first.config second.config Up Down b up up_later l.before.events l.behind.events (world_of nodes) is on (in_two first second AnyWorld AnyWorld ue_first rnc_first run.mid run.next nodes l)) (ap (pdus_in first.config Up b up) before) e
 
-pub tm_up_two : (first second : Planned) (ue_first rnc_first b up up_later : ℕ) (earlier later : List Event) (nodes : Nodes) → IsTmBearer first.config Up b up → IsTmBearer second.config Up b up_later → (run : RunsInTwo first second Any Any ue_first rnc_first earlier later nodes) → IsFaithful (run.mid.up up) → IsFaithful (nodes.up up_later) → IsTmSome second.config Up b nodes.ue.layer nodes.rnc_lines
+pub tm_up_two : (first second : Planned) (ue_first rnc_first b up up_later : ℕ) (earlier later : List Event) (nodes : Nodes) → IsTmBearer first.config Up b up → IsTmBearer second.config Up b up_later → (run : RunsInTwo first second Any Any ue_first rnc_first earlier later nodes) → IsFaithful (run.mid.up up) → IsFaithful (nodes.up up_later) → IsUpSomeOver first second b up up_later run.mid nodes
 tm_up_two first second ue_first rnc_first b up up_later earlier later nodes is on run before faithful =
     let l = any_two first second ue_first rnc_first earlier later nodes run in
     tm_some second.config Up b up_later (units_in first.config Up b up (run.mid.up up).given) (units_in first.config Up b up (run.mid.up up).taken) (world_of nodes) (tm_over first.config second.config Up Down b up up_later l.before.events l.behind.events (world_of nodes) is on (in_two first second AnyWorld AnyWorld ue_first rnc_first run.mid run.next nodes l)) (sub_units first.config Up b up (run.mid.up up) before) faithful
@@ -106,7 +106,7 @@ um_down_whole first second ue_first rnc_first b down down_later earlier later no
     let l = any_two first second ue_first rnc_first earlier later nodes run in
     um_all_came second.config Down b down_later (pdus_in first.config Down b down (run.mid.down down).given) (pdus_in first.config Down b down (run.mid.down down).taken) (turned (world_of nodes)) running (um_over first.config second.config Down Up b down down_later (map flipped l.before.events) (map flipped l.behind.events) (turned (world_of nodes)) is on (turned_two first second ue_first rnc_first run.mid run.next nodes l)) (ap (pdus_in first.config Down b down) before) e
 
-pub tm_down_two : (first second : Planned) (ue_first rnc_first b down down_later : ℕ) (earlier later : List Event) (nodes : Nodes) → IsTmBearer first.config Down b down → IsTmBearer second.config Down b down_later → (run : RunsInTwo first second Any Any ue_first rnc_first earlier later nodes) → IsFaithful (run.mid.down down) → IsFaithful (nodes.down down_later) → IsTmSome second.config Down b nodes.rnc.layer nodes.ue_lines
+pub tm_down_two : (first second : Planned) (ue_first rnc_first b down down_later : ℕ) (earlier later : List Event) (nodes : Nodes) → IsTmBearer first.config Down b down → IsTmBearer second.config Down b down_later → (run : RunsInTwo first second Any Any ue_first rnc_first earlier later nodes) → IsFaithful (run.mid.down down) → IsFaithful (nodes.down down_later) → IsDownSomeOver first second b down down_later run.mid nodes
 tm_down_two first second ue_first rnc_first b down down_later earlier later nodes is on run before faithful =
     let l = any_two first second ue_first rnc_first earlier later nodes run in
     tm_some second.config Down b down_later (units_in first.config Down b down (run.mid.down down).given) (units_in first.config Down b down (run.mid.down down).taken) (turned (world_of nodes)) (tm_over first.config second.config Down Up b down down_later (map flipped l.before.events) (map flipped l.behind.events) (turned (world_of nodes)) is on (turned_two first second ue_first rnc_first run.mid run.next nodes l)) (sub_units first.config Down b down (run.mid.down down) before) faithful

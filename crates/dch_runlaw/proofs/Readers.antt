@@ -3,17 +3,16 @@ use Rattle.std.proofs.Common.{◌≡◌, ◌<◌, ◌∙◌, ℕ, List, Option, 
 use Rattle.std.specs.Prelude.{map, slice_index}
 use Rattle.std.specs.List.{range_with_len}
 use Rattle.std.proofs.lemmas.List.FromFn.{get_or-map-range_with_len, length-map-range_with_len}
-use Rattle.std.proofs.lemmas.Nat.{mod_below}
 use Rattle.dch_bits.specs.declared.bit.Trit.{Trit}
 use Rattle.dch_types.specs.declared.channel.Dir.{Dir}
-use Rattle.dch_types.specs.Parts.{channel_at, side_of}
+use Rattle.dch_types.specs.Parts.{side_of}
 use Rattle.dch_accept.specs.Cells.{code_cells, frame_cells}
 use Rattle.dch_accept.specs.Frames.{most_cells}
 use Rattle.dch_accept.specs.Plans.{Planned}
 use Rattle.dch_accept.specs.Rooms.{most_room}
 use Rattle.dch_node.specs.RxFrames.{AreHeard, KeepsRadio}
 use Rattle.dch_node.specs.Values.{Radio}
-use Rattle.dch_tti.specs.RxFrames.{AreBack, Finds, IsFound, IsKeptOf, IsReaderOf, RxFrame, RxFrames, frame_at, rx_frame_at, tti_place}
+use Rattle.dch_tti.specs.RxFrames.{AreBack, Finds, IsFound, IsKeptOf, IsReaderOf, RxFrame, RxFrames, frame_at, rx_frame_at}
 use Rattle.dch_tti.specs.Sent.{AreSentFrames, IsSentFrame}
 use Rattle.dch_tti.proofs.Alike.{KeepTheSame, same_cells, same_combination}
 use Rattle.dch_tti.specs.Loaded.{Loaded}
@@ -60,14 +59,6 @@ is_reader planned dir cfn frames reader heard = record {
     long = λ c found. (found_of planned dir (frames k) (rx_frame_at reader.frames k) c (heard.kept k inside) found).1;
   });
 }
-
--- the combination of each frame of a TTI is listed
-pub is_listed : (planned : Planned) (dir : Dir) (cfn : ℕ) (frames : ℕ → Option Radio) (reader : RxFrames) (i n c : ℕ) → AreHeard planned dir cfn frames reader
-    → (frame_at (side_of planned.config dir) reader i n).combination ≡ Some c → c < length (side_of planned.config dir).combinations
-is_listed planned dir cfn frames reader i n c heard found =
-    let k : ℕ = tti_place reader.cfn (channel_at (side_of planned.config dir) i).frames n in
-    let inside : k < 8 = mod_below _ 8 (omega arith) in
-    (found_of planned dir (frames k) (rx_frame_at reader.frames k) c (heard.kept k inside) found).0
 
 -- frames that are kept as they were sent stay so
 sent_frame : (planned : Planned) (dir : Dir) (multiplexed : List Loaded → ℕ → ℕ → ℕ → Trit) (i n c : ℕ) (loaded : Loaded) (one other : RxFrame) → other.combination ≡ one.combination → other.cells ≡ one.cells

@@ -192,15 +192,14 @@ sub-append [] ys us vs h k = sub_above ys us vs k
 sub-append (x ∷ xs) ys [] vs h k = absurd h
 sub-append (x ∷ xs) ys (u ∷ us) vs h k = ⊎_elim (λ (p : (x ≡ u) × IsSublist xs us). inl (p.0, sub-append xs ys us vs p.1 k)) (λ (p : IsSublist (x ∷ xs) us). inr (sub-append (x ∷ xs) ys us vs p k)) h
 
-pub tm_some : (config : Config) (out : Dir) (b i : ℕ) (g t : List (List Bit)) (w : World) → IsTmHistory config out b i g t w → IsSublist t g → IsFaithful (w.out i) → IsTmSome config out b w.near.layer w.far.said
+pub tm_some : (config : Config) (out : Dir) (b i : ℕ) (g t : List (List Bit)) (w : World) → IsTmHistory config out b i g t w → IsSublist t g → IsFaithful (w.out i) → IsTmSome config out b i g t w
 tm_some config out b i g t w h before faithful =
     let came = t ++ units_in config out b i (w.out i).taken in
     let sent = g ++ units_in config out b i (w.out i).given in
     record {
-      waiting = h.near.waiting;
-      accepted = h.near.accepted;
-      bearing = h.near.bearing;
+      near = h.near;
       handed = came;
+      came = refl;
       lines = h.far.lines;
       some = subst (λ l. IsSublist came l) (sym h.near.given) (sub_more came sent h.near.waiting.units (sub-append t (units_in config out b i (w.out i).taken) g (units_in config out b i (w.out i).given) before (sub_units config out b i (w.out i) faithful)));
     }

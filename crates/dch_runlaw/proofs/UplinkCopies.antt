@@ -1,5 +1,5 @@
 -- The votes of an uplink TTI that is kept as it was sent are the copies of its coded bits.
-use Rattle.std.proofs.Common.{◌≡◌, ◌+◌, ◌*◌, ◌%◌, ◌<◌, ◌≤◌, ◌^◌, ◌∙◌, ℕ, List, Option, length, drop, get_or, arith, refl, ap, sym, subst, inl, inr}
+use Rattle.std.proofs.Common.{◌≡◌, ◌+◌, ◌*◌, ◌%◌, ◌<◌, ◌≤◌, ◌^◌, ◌∙◌, ℕ, List, length, drop, get_or, arith, refl, ap, sym, subst, inl, inr}
 use Rattle.std.specs.Prelude.{slice_index}
 use Rattle.std.specs.Int.{div_ceil}
 use Rattle.std.proofs.Math.Nat.{mul_assoc, mul-zero}
@@ -30,6 +30,7 @@ use Rattle.dch_match.proofs.SharesLemmas.{nothing_shared, shared_le}
 use Rattle.dch_match.proofs.Sizes.{largest_most}
 use Rattle.dch_collision.specs.Copies.{bits_in, frame_copies, padded_in, uplink_copies}
 use Rattle.dch_collision.specs.Plans.{plan_at}
+use Rattle.dch_collision.specs.Sequences.{IsLegal}
 use Rattle.dch_collision.proofs.FrameSizes.{frame_size-plan}
 use Rattle.dch_frame.specs.Stages.{as_cell, origin_of}
 use Rattle.dch_frame.specs.Votes.{copies_as_votes}
@@ -50,9 +51,6 @@ use Rattle.dch_ulphy.specs.Read.{IsTtiRead, channel_cells, frame_votes, pattern_
 use Rattle.dch_ulphy.specs.Sent.{IsSentFrame, IsSentTti}
 use Rattle.dch_ulphy.proofs.Arrived.{segment_bit, segment_bits, segment_shown}
 use Rattle.dch_ulphy.proofs.SentBack.{loaded_long}
-use Rattle.dch_node.specs.RxFrames.{AreHeard}
-use Rattle.dch_node.specs.Values.{Radio}
-use Rattle.dch_runlaw.proofs.Readers.{is_listed}
 
 few_rows : (bits f : ℕ) → IsFrames f → bits ≤ 131072 → div_ceil bits f ≤ 131072
 few_rows bits f (inl e) short = subst (λ f. div_ceil bits f ≤ 131072) (sym e) (omega (arith, (div_ceil_times bits 1 (omega arith)).1))
@@ -145,8 +143,8 @@ sent_votes planned reader i g sequence blocks sent good inside listed j within =
     let long : length sent.loaded.cells ≡ rows * f = loaded_long trch g blocks sent.loaded sent.from in
     frame_counts planned i n c sent.loaded (frame_at side reader i n) frame sent.from.coded rows j good.good.uplink inside there (good.uplink.each c there) below height long sent.from.cells early refl
 
-pub sent_copies : (planned : Planned) (cfn : ℕ) (frames : ℕ → Option Radio) (reader : RxFrames) (i : ℕ) (sequence : List ℕ) (blocks : List Bit) (held : Held) (sent : IsSentTti planned reader i held.format sequence blocks) (read : IsTtiRead planned reader i held)
-    → IsPlanned planned → AreHeard planned Up cfn frames reader → i < length planned.config.uplink.side.channels → AreCopies read.votes sent.from.coded (uplink_copies planned.config.uplink i held.format sequence)
-sent_copies planned cfn frames reader i sequence blocks held sent read good heard inside = λ j v within.
+pub sent_copies : (planned : Planned) (reader : RxFrames) (i : ℕ) (sequence : List ℕ) (blocks : List Bit) (held : Held) (sent : IsSentTti planned reader i held.format sequence blocks) (read : IsTtiRead planned reader i held)
+    → IsPlanned planned → IsLegal planned.config.uplink.side i held.format sequence → i < length planned.config.uplink.side.channels → AreCopies read.votes sent.from.coded (uplink_copies planned.config.uplink i held.format sequence)
+sent_copies planned reader i sequence blocks held sent read good legal inside = λ j v within.
     read.are j v within
-    ∙ sent_votes planned reader i held.format sequence blocks sent good inside (λ n below. is_listed planned Up cfn frames reader i n (slice_index sequence n) heard (sent.frames n below).found) j (omega (arith, within, read.long))
+    ∙ sent_votes planned reader i held.format sequence blocks sent good inside (λ n below. legal.there n (omega (arith, below, legal.whole))) j (omega (arith, within, read.long))

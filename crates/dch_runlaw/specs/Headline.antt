@@ -21,7 +21,7 @@ use Rattle.dch_runlaw.specs.EndEvents.{end_events}
 use Rattle.dch_runlaw.specs.HonestBearers.{IsAcknowledged, IsTransparent, IsUnacknowledged}
 use Rattle.dch_runlaw.specs.TextDiffering.{false_words}
 use Rattle.dch_runlaw.specs.Undamaged.{CarriesAll}
-use Rattle.dch_runlaw.specs.HeadlineHandedUp.{HandsUp, HandsUpKnownDown, HandsUpKnownDownOver, HandsUpKnownUp, HandsUpKnownUpOver, HandsUpOver, HandsUpSome}
+use Rattle.dch_runlaw.specs.HeadlineHandedUp.{HandsUp, HandsUpKnownDown, HandsUpKnownDownOver, HandsUpKnownUp, HandsUpKnownUpOver, HandsUpOver, HandsUpSomeDown, HandsUpSomeDownOver, HandsUpSomeUp, HandsUpSomeUpOver}
 use Rattle.dch_runlaw.specs.HeadlineReceived.{ReceivesDown, ReceivesUp}
 
 -- no row of a text is `false up I`, or `false down I`: a block was taken as good of channel I that it was not given
@@ -40,8 +40,8 @@ pub record CarriesFirst (planned : Planned) (first : ℕ) (events : List Event) 
   pub acknowledged : (b up down : ℕ) → IsAcknowledged planned b up down → IsSilentOn Up up text → IsSilentOn Down down text → HandsUp planned first b (end_events events (opened_link planned first) link reported run) link text
   pub unacknowledged_up : (b up : ℕ) → IsUnacknowledged planned Up b up → IsSilentOn Up up text → HandsUpKnownUp planned first b up (end_events events (opened_link planned first) link reported run) link text
   pub unacknowledged_down : (b down : ℕ) → IsUnacknowledged planned Down b down → IsSilentOn Down down text → HandsUpKnownDown planned first b down (end_events events (opened_link planned first) link reported run) link text
-  pub transparent_up : (b up : ℕ) → IsTransparent planned Up b up → IsSilentOn Up up text → HandsUpSome planned Up b link.ue.state.layer link.rnc.lines text
-  pub transparent_down : (b down : ℕ) → IsTransparent planned Down b down → IsSilentOn Down down text → HandsUpSome planned Down b link.rnc.state.layer link.ue.lines text
+  pub transparent_up : (b up : ℕ) → IsTransparent planned Up b up → IsSilentOn Up up text → HandsUpSomeUp planned first b up (end_events events (opened_link planned first) link reported run) link text
+  pub transparent_down : (b down : ℕ) → IsTransparent planned Down b down → IsSilentOn Down down text → HandsUpSomeDown planned first b down (end_events events (opened_link planned first) link reported run) link text
 
 -- what a run carries from opening on in which a second configuration becomes active behind a first part, and whose two parts have these texts.
 -- Of a bearer the rows of both texts hand up the units, in one row of units: it goes on, over other channels perhaps. Where no damage has an effect
@@ -61,9 +61,9 @@ pub record CarriesSecond (planned second : Planned) (first : ℕ) (before : List
   pub unacknowledged_down : (b down down_later : ℕ) → IsUnacknowledged planned Down b down → IsUnacknowledged second Down b down_later
       → IsSilentOn Down down one → IsSilentOn Down down_later two → HandsUpKnownDownOver planned second first b down down_later (end_events before (opened_link planned first) over.last early over.run) (end_events after start link late run) over.last link (one ++ two)
   pub transparent_up : (b up up_later : ℕ) → IsTransparent planned Up b up → IsTransparent second Up b up_later
-      → IsSilentOn Up up one → IsSilentOn Up up_later two → HandsUpSome second Up b link.ue.state.layer link.rnc.lines (one ++ two)
+      → IsSilentOn Up up one → IsSilentOn Up up_later two → HandsUpSomeUpOver planned second first b up up_later (end_events before (opened_link planned first) over.last early over.run) (end_events after start link late run) over.last link (one ++ two)
   pub transparent_down : (b down down_later : ℕ) → IsTransparent planned Down b down → IsTransparent second Down b down_later
-      → IsSilentOn Down down one → IsSilentOn Down down_later two → HandsUpSome second Down b link.rnc.state.layer link.ue.lines (one ++ two)
+      → IsSilentOn Down down one → IsSilentOn Down down_later two → HandsUpSomeDownOver planned second first b down down_later (end_events before (opened_link planned first) over.last early over.run) (end_events after start link late run) over.last link (one ++ two)
 
 -- events lead three nodes that were opened for a configuration through a run of one part, whose lines have this text
 pub record CarriesAlone (planned : Planned) (first : ℕ) (quiet : Bool) (events : List Event) (text : List ℕ) : Type 0 where

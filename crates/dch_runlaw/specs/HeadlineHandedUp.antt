@@ -1,20 +1,17 @@
 -- The rows of a run's text that hand up units of a bearer, whatever damage came between its nodes.
 use Rattle.std.specs.Prelude.{◌≡◌, ℕ, List, Bool}
 use Rattle.dch_types.specs.declared.channel.Dir.TheVariants.{Up, Down}
-use Rattle.dch_types.specs.declared.channel.Dir.{Dir}
 use Rattle.dch_accept.specs.Plans.{Planned}
 use Rattle.dch_script.specs.Lines.{lines_of as rows}
-use Rattle.dch_node.specs.Lines.{Line}
-use Rattle.dch_layer2.specs.Layers.{Layer}
 use Rattle.dch_layer2.specs.UnitLines.{unit_lines}
 use Rattle.dch_linkcmd.specs.LinkLink.{LinkState}
 use Rattle.dch_rlcum.specs.Handing.{AreFewLost, known_units}
 use Rattle.dch_runlaw.specs.History.{events_over, pair_after}
 use Rattle.dch_runlaw.specs.Rows.{got_rows, gots, rows_of}
-use Rattle.dch_runlaw.specs.TmHistory.{IsTmSome, bits_lines}
+use Rattle.dch_runlaw.specs.TmHistory.{bits_lines}
 use Rattle.dch_runlaw.specs.UmHistory.{ArriveAs, got_lines, sent_by}
 use Rattle.dch_runlaw.specs.Nodes.{Event}
-use Rattle.dch_runlaw.specs.HonestBearers.{HasHistory, HasHistoryOver, HasKnownDown, HasKnownDownOver, HasKnownUp, HasKnownUpOver}
+use Rattle.dch_runlaw.specs.HonestBearers.{HasHistory, HasHistoryOver, HasKnownDown, HasKnownDownOver, HasKnownUp, HasKnownUpOver, HasSomeDown, HasSomeDownOver, HasSomeUp, HasSomeUpOver}
 
 -- those of an acknowledged bearer: its two ends stand in a history of two ends with blocks in flight, in order, some of which are lost, and
 -- the rows are those of the units that the history hands up. They are the accepted units, in order, each once and whole, as far as they came
@@ -53,7 +50,20 @@ pub record HandsUpKnownDownOver (planned second : Planned) (first b i i_later : 
   pub rows_are : (arrives : ℕ → Bool) → ArriveAs units.known.near.sends arrives units.known.came → AreFewLost 0 (sent_by units.known.near.sends arrives)
       → got_rows Down b (rows text) ≡ rows_of (gots Down b (unit_lines Down b (known_units (sent_by units.known.near.sends arrives) 0 units.known.near.sends.accepted)))
 
--- those of a transparent bearer: some of the accepted units, in order, each at most once
-pub record HandsUpSome (planned : Planned) (dir : Dir) (b : ℕ) (from : Layer) (said : List Line) (text : List ℕ) : Type 0 where
-  pub units : IsTmSome planned.config dir b from said
-  pub rows_are : got_rows dir b (rows text) ≡ rows_of (bits_lines dir b units.handed)
+-- those of a transparent bearer: the units of the blocks that came, which are some of the accepted ones, in order, each at most once
+pub record HandsUpSomeUp (planned : Planned) (first b i : ℕ) (happened : List Event) (link : LinkState) (text : List ℕ) : Type 0 where
+  pub units : HasSomeUp planned first b i happened link
+  pub rows_are : got_rows Up b (rows text) ≡ rows_of (bits_lines Up b units.some.handed)
+
+pub record HandsUpSomeDown (planned : Planned) (first b i : ℕ) (happened : List Event) (link : LinkState) (text : List ℕ) : Type 0 where
+  pub units : HasSomeDown planned first b i happened link
+  pub rows_are : got_rows Down b (rows text) ≡ rows_of (bits_lines Down b units.some.handed)
+
+-- the same over two parts of a run: those that came in the first part, and then those of the second one
+pub record HandsUpSomeUpOver (planned second : Planned) (first b i i_later : ℕ) (earlier later : List Event) (last link : LinkState) (text : List ℕ) : Type 0 where
+  pub units : HasSomeUpOver planned second first b i i_later earlier later last link
+  pub rows_are : got_rows Up b (rows text) ≡ rows_of (bits_lines Up b units.some.handed)
+
+pub record HandsUpSomeDownOver (planned second : Planned) (first b i i_later : ℕ) (earlier later : List Event) (last link : LinkState) (text : List ℕ) : Type 0 where
+  pub units : HasSomeDownOver planned second first b i i_later earlier later last link
+  pub rows_are : got_rows Down b (rows text) ≡ rows_of (bits_lines Down b units.some.handed)

@@ -12,9 +12,9 @@ use Rattle.dch_accept.specs.Plans.{Planned}
 use Rattle.dch_layer2.specs.Bearings.{bearer_in, channel_of}
 use Rattle.dch_layer2.specs.Layers.{Layer}
 use Rattle.dch_linkcmd.specs.LinkLink.{LinkState}
-use Rattle.dch_runlaw.specs.TmHistory.{IsTmCarried, IsTmSome}
+use Rattle.dch_runlaw.specs.TmHistory.{IsTmCarried}
 use Rattle.dch_runlaw.specs.UmHistory.{IsUmCarried}
-use Rattle.dch_runlaw.specs.Nodes.{Any, Event, IsAmHistory, IsAmHistoryOver, IsDownKnown, IsDownKnownOver, IsUpKnown, IsUpKnownOver, IsWholeAmHistory, Nodes, Runs, RunsInTwo, opened_nodes}
+use Rattle.dch_runlaw.specs.Nodes.{Any, Event, IsAmHistory, IsAmHistoryOver, IsDownKnown, IsDownKnownOver, IsDownSome, IsDownSomeOver, IsUpKnown, IsUpKnownOver, IsUpSome, IsUpSomeOver, IsWholeAmHistory, Nodes, Runs, RunsInTwo, opened_nodes}
 
 -- an acknowledged bearer of a good configuration, with its two channels
 pub record IsAcknowledged (planned : Planned) (b up down : ℕ) : Type 0 where
@@ -105,6 +105,24 @@ pub record HasKnownDownOver (planned second : Planned) (first b down down_later 
   pub reached : AreReachedOver planned second first earlier later last link
   pub known : IsDownKnownOver planned second b down down_later reached.run.mid reached.nodes
 
+-- what came of a transparent bearer's uplink, and of its downlink
+pub record HasSomeUp (planned : Planned) (first b up : ℕ) (happened : List Event) (link : LinkState) : Type 0 where
+  pub reached : AreReached planned first happened link
+  pub some : IsUpSome planned b up reached.nodes
+
+pub record HasSomeDown (planned : Planned) (first b down : ℕ) (happened : List Event) (link : LinkState) : Type 0 where
+  pub reached : AreReached planned first happened link
+  pub some : IsDownSome planned b down reached.nodes
+
+-- and where a second configuration became active, too
+pub record HasSomeUpOver (planned second : Planned) (first b up up_later : ℕ) (earlier later : List Event) (last link : LinkState) : Type 0 where
+  pub reached : AreReachedOver planned second first earlier later last link
+  pub some : IsUpSomeOver planned second b up up_later reached.run.mid reached.nodes
+
+pub record HasSomeDownOver (planned second : Planned) (first b down down_later : ℕ) (earlier later : List Event) (last link : LinkState) : Type 0 where
+  pub reached : AreReachedOver planned second first earlier later last link
+  pub some : IsDownSomeOver planned second b down down_later reached.run.mid reached.nodes
+
 -- handed up of an unacknowledged bearer are the accepted units, in order, whose length indicator was sent in TTIs that have ended
 abbrev pub HasUmUp : Planned → ℕ → ℕ → LinkState → Type 0
 HasUmUp planned b up link = IsUmCarried planned.config Up b up link.ue.state.layer link.rnc.lines (up_way planned up link)
@@ -118,10 +136,3 @@ HasTmUp planned b up link = IsTmCarried planned.config Up b up link.ue.state.lay
 
 abbrev pub HasTmDown : Planned → ℕ → ℕ → LinkState → Type 0
 HasTmDown planned b down link = IsTmCarried planned.config Down b down link.rnc.state.layer link.ue.lines (down_way planned down link)
-
--- or some of the accepted units, in order, each at most once
-abbrev pub HasTmSomeUp : Planned → ℕ → LinkState → Type 0
-HasTmSomeUp planned b link = IsTmSome planned.config Up b link.ue.state.layer link.rnc.lines
-
-abbrev pub HasTmSomeDown : Planned → ℕ → LinkState → Type 0
-HasTmSomeDown planned b link = IsTmSome planned.config Down b link.rnc.state.layer link.ue.lines

@@ -19,7 +19,7 @@ use Rattle.dch_linkcmd.specs.Within.{RncWithin, UeWithin}
 use Rattle.dch_runlaw.specs.Worlds.{IsFaithful, IsFront, Log, World, no_log, turned}
 use Rattle.dch_runlaw.specs.History.{IsHistory, IsHistoryOver, IsWholeHistory}
 use Rattle.dch_runlaw.specs.UmHistory.{IsKnownHistory, pdus_in}
-use Rattle.dch_runlaw.specs.TmHistory.{IsTmSome}
+use Rattle.dch_runlaw.specs.TmHistory.{IsTmSome, units_in}
 
 -- the two nodes, all lines that each has reported, and for each channel the blocks that were given to it and those that were taken of it
 pub record Nodes : Type 0 where
@@ -167,9 +167,18 @@ abbrev pub IsDownKnownOver : Planned → Planned → ℕ → ℕ → ℕ → Nod
 IsDownKnownOver first second b down down_later mid nodes =
     IsKnownHistory second.config Down b down_later (pdus_in first.config Down b down (mid.down down).given) (pdus_in first.config Down b down (mid.down down).taken) (turned (world_of nodes))
 
--- what is handed up of a transparent bearer's uplink, or of its downlink, is some of the units that were accepted, in order
-abbrev pub IsUpSome : Planned → ℕ → Nodes → Type 0
-IsUpSome planned b nodes = IsTmSome planned.config Up b nodes.ue.layer nodes.rnc_lines
+-- what came of a transparent bearer's uplink, and of its downlink, is handed up, and some of what was accepted
+abbrev pub IsUpSome : Planned → ℕ → ℕ → Nodes → Type 0
+IsUpSome planned b up nodes = IsTmSome planned.config Up b up [] [] (world_of nodes)
 
-abbrev pub IsDownSome : Planned → ℕ → Nodes → Type 0
-IsDownSome planned b nodes = IsTmSome planned.config Down b nodes.rnc.layer nodes.ue_lines
+abbrev pub IsDownSome : Planned → ℕ → ℕ → Nodes → Type 0
+IsDownSome planned b down nodes = IsTmSome planned.config Down b down [] [] (turned (world_of nodes))
+
+-- and over two parts
+abbrev pub IsUpSomeOver : Planned → Planned → ℕ → ℕ → ℕ → Nodes → Nodes → Type 0
+IsUpSomeOver first second b up up_later mid nodes =
+    IsTmSome second.config Up b up_later (units_in first.config Up b up (mid.up up).given) (units_in first.config Up b up (mid.up up).taken) (world_of nodes)
+
+abbrev pub IsDownSomeOver : Planned → Planned → ℕ → ℕ → ℕ → Nodes → Nodes → Type 0
+IsDownSomeOver first second b down down_later mid nodes =
+    IsTmSome second.config Down b down_later (units_in first.config Down b down (mid.down down).given) (units_in first.config Down b down (mid.down down).taken) (turned (world_of nodes))

@@ -53,14 +53,14 @@ pub record IsTmBearer (config : Config) (out : Dir) (b i : ℕ) : Type 0 where
   pub channel : channel_of config out b ≡ Some i
   pub apart : AreApart config out i
 
--- what is handed up of a transparent bearer is some of the units that were accepted, in order, each once
-pub record IsTmSome (config : Config) (dir : Dir) (b : ℕ) (from : Layer) (said : List Line) : Type 0 where
-  pub waiting : Waiting
-  pub accepted : List (List Bit)
-  pub bearing : from.bearings b ≡ Transparent waiting accepted
+-- where units of the bearer were given and taken in another configuration before: handed up are just the units of the blocks that came, which
+-- are some of those that were accepted, in order, each once
+pub record IsTmSome (config : Config) (out : Dir) (b i : ℕ) (given taken : List (List Bit)) (w : World) : Type 0 where
+  pub near : IsTmSender config out b i given w.near (w.out i)
   pub handed : List (List Bit)
-  pub lines : lines_of b said ≡ bits_lines dir b handed
-  pub some : IsSublist handed accepted
+  pub came : handed ≡ taken ++ units_in config out b i (w.out i).taken
+  pub lines : lines_of b w.far.said ≡ bits_lines out b handed
+  pub some : IsSublist handed near.accepted
 
 -- and where all came but the blocks that are on their way, it is all accepted units but those in these blocks and those that wait
 pub record IsTmCarried (config : Config) (dir : Dir) (b i : ℕ) (from : Layer) (said : List Line) (running : List (List Bit)) : Type 0 where

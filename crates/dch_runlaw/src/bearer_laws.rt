@@ -6,7 +6,7 @@ ghost use Rattle.dch_config.specs.Changes.{KeepsBearer};
 ghost use Rattle.dch_runlaw.specs.Worlds.{AreFaithful, AreWholeSoFar, At, IsFaithful, Runs, RunsInTwo, World, opened_world};
 ghost use Rattle.dch_runlaw.specs.History.{IsAmBearer, IsHistory, IsHistoryOver, IsWholeHistory};
 ghost use Rattle.dch_runlaw.specs.UmHistory.{Any, IsKnownHistory, IsUmBearer, IsUmCarried, pdus_in};
-ghost use Rattle.dch_runlaw.specs.TmHistory.{IsTmBearer, IsTmCarried, IsTmSome};
+ghost use Rattle.dch_runlaw.specs.TmHistory.{IsTmBearer, IsTmCarried, IsTmSome, units_in};
 
 /// A law. Two ends do with their layers 2 whatever they like, in any order: units are offered, TTIs start, and any blocks are taken of any
 /// channel. After each event the good blocks that were taken of the two channels of an acknowledged bearer are some of those that were given to
@@ -66,17 +66,18 @@ pub fn um_whole_law()
 {}
 
 /// A law. Where the good blocks that were taken of a transparent bearer's channel are some of those that were given to it, in order, all lines on
-/// the bearer are some of its accepted units, in order; and where all blocks were taken but those on their way, they are all accepted units, in
-/// order, but for those in these blocks and those that wait. And so of its channels in two parts.
+/// the bearer are the units of the blocks that came, which are some of its accepted units, in order; and where all blocks were taken but those on
+/// their way, they are all accepted units, in order, but for those in these blocks and those that wait. And so of its channels in two parts.
 pub fn tm_law()
     ensures some { (config : Config) (out into : Dir) (b i : ℕ) (events : List At) (w : World) → IsTmBearer config out b i →
         Runs config out into Any (opened_world config out into) events w →
-        IsFaithful (w.out i) → IsTmSome config out b w.near.layer w.far.said }
+        IsFaithful (w.out i) → IsTmSome config out b i [] [] w }
     ensures all { (config : Config) (out into : Dir) (b i : ℕ) (events : List At) (w : World) (running : List (List Bit)) →
         IsTmBearer config out b i → Runs config out into Any (opened_world config out into) events w →
         (w.out i).given ≡ (w.out i).taken ++ running → IsTmCarried config out b i w.near.layer w.far.said running }
     ensures some_of_two { (first second : Config) (out into : Dir) (b i j : ℕ) (earlier later : List At) (w : World) → IsTmBearer first out b i → IsTmBearer second out b j →
-        (run : RunsInTwo first second out into Any Any earlier later w) → IsFaithful (run.mid.out i) → IsFaithful (w.out j) → IsTmSome second out b w.near.layer w.far.said }
+        (run : RunsInTwo first second out into Any Any earlier later w) → IsFaithful (run.mid.out i) → IsFaithful (w.out j) →
+        IsTmSome second out b j (units_in first out b i (run.mid.out i).given) (units_in first out b i (run.mid.out i).taken) w }
     ensures all_of_two { (first second : Config) (out into : Dir) (b i j : ℕ) (earlier later : List At) (w : World) (running : List (List Bit)) →
         IsTmBearer first out b i → IsTmBearer second out b j → (run : RunsInTwo first second out into Any Any earlier later w) →
         (run.mid.out i).given ≡ (run.mid.out i).taken → (w.out j).given ≡ (w.out j).taken ++ running → IsTmCarried second out b j w.near.layer w.far.said running }

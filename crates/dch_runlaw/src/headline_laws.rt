@@ -15,8 +15,8 @@ ghost use Rattle.dch_runlaw.specs.Headline.{Carries, IsLater};
 /// Where no row of the text of a part says of an acknowledged bearer's two channels in that part that a block was taken as good that was not
 /// given, the rows that hand up its units are those of the accepted units, in order, each once and whole, as far as they came without a gap, but
 /// for those that were discarded. Where none says so of the channel of another bearer, they are, for an unacknowledged one, those of the units
-/// whose octets and length indicator all came and whose start is known, where fewer than 128 successive PDUs were lost; and for a transparent one some of
-/// the accepted units, in order, each at most once. What was in flight at the change is lost.
+/// whose octets and length indicator all came and whose start is known, where fewer than 128 successive PDUs were lost; and for a transparent one those
+/// of the blocks that came, some of the accepted units, in order, each at most once. What was in flight at the change is lost.
 pub fn headline_law()
     ensures { (planned : Planned) (second : Option Later) (first : ℕ) (quiet : Bool) (script : List (List ℕ)) (new : Run) (text : List ℕ) → IsPlanned planned → IfSome second (IsLater planned) → first % 8 ≡ 0 →
         HandlesLines link_lines (opened_run planned second first quiet) script new text → Carries planned second first quiet script text }

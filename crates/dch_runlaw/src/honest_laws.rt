@@ -9,7 +9,7 @@ ghost use Rattle.dch_linkcmd.specs.LinkLink.{LinkState, opened_link};
 ghost use Rattle.dch_runlaw.specs.Parts.{Begins};
 ghost use Rattle.dch_runlaw.specs.Runs.{Event, Runs};
 ghost use Rattle.dch_runlaw.specs.EndEvents.{end_events};
-ghost use Rattle.dch_runlaw.specs.HonestBearers.{HasHistory, HasKnownDown, HasKnownUp, HasTmDown, HasTmSomeDown, HasTmSomeUp, HasTmUp, HasUmDown, HasUmUp, HasWholeHistory, IsAcknowledged, IsTransparent, IsUnacknowledged};
+ghost use Rattle.dch_runlaw.specs.HonestBearers.{HasHistory, HasKnownDown, HasKnownUp, HasSomeDown, HasSomeUp, HasTmDown, HasTmUp, HasUmDown, HasUmUp, HasWholeHistory, IsAcknowledged, IsTransparent, IsUnacknowledged};
 ghost use Rattle.dch_runlaw.specs.HonestFits.{IsHonest, IsUndamaged, IsUndamagedOn};
 ghost use Rattle.dch_runlaw.specs.HonestSilent.{IsSilent, Lacks};
 
@@ -57,12 +57,13 @@ pub fn um_undamaged_law()
 {}
 
 /// A law: with any damage, where no line says of the channel of a transparent bearer that a block was taken as good that was not given,
-/// handed up of it are some of the accepted units, in order, each at most once. Nothing is asked of any other channel.
+/// handed up of it are the units of the blocks that came, which are some of the accepted ones, in order, each at most once. Nothing is
+/// asked of any other channel.
 pub fn tm_link_law()
-    ensures up { (planned : Planned) (first b up : ℕ) (events : List Event) (new : LinkState) (lines : List Line) → Runs (opened_link planned first) events new lines →
-        IsTransparent planned Up b up → Lacks lines (Differs Up up) → HasTmSomeUp planned b new }
-    ensures down { (planned : Planned) (first b down : ℕ) (events : List Event) (new : LinkState) (lines : List Line) → Runs (opened_link planned first) events new lines →
-        IsTransparent planned Down b down → Lacks lines (Differs Down down) → HasTmSomeDown planned b new }
+    ensures up { (planned : Planned) (first b up : ℕ) (events : List Event) (new : LinkState) (lines : List Line) (run : Runs (opened_link planned first) events new lines) →
+        IsTransparent planned Up b up → Lacks lines (Differs Up up) → HasSomeUp planned first b up (end_events events (opened_link planned first) new lines run) new }
+    ensures down { (planned : Planned) (first b down : ℕ) (events : List Event) (new : LinkState) (lines : List Line) (run : Runs (opened_link planned first) events new lines) →
+        IsTransparent planned Down b down → Lacks lines (Differs Down down) → HasSomeDown planned first b down (end_events events (opened_link planned first) new lines run) new }
 {}
 
 /// A law: where what is taken as good of each TTI of its channel is just what was given for it, handed up of a transparent bearer are just

@@ -38,6 +38,7 @@ pub use sized_laws::{end_law, sized_law};
 pub use soft_nodes_laws::{soft_events_law, soft_nodes_law, soft_told_law};
 pub use text_laws::{false_law, read_law, shown_read_law, told_law};
 pub use tti_laws::{
-    damaged_frame_law, damaged_tti_law, little_changed_law, sent_tti_law, told_apart_law,
+    damaged_frame_law, damaged_tti_law, little_changed_law, read_after_write_law, sent_tti_law,
+    told_apart_law,
 };
 pub use undamaged_laws::{harmless_run_law, undamaged_over_law, undamaged_run_law};

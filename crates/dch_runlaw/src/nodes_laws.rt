@@ -6,7 +6,7 @@ ghost use Rattle.dch_runlaw.specs.History.{IsAmBearer};
 ghost use Rattle.dch_runlaw.specs.TmHistory.{IsTmBearer};
 ghost use Rattle.dch_runlaw.specs.UmHistory.{IsUmBearer};
 ghost use Rattle.dch_runlaw.specs.Worlds.{IsFaithful};
-ghost use Rattle.dch_runlaw.specs.Nodes.{Any, AreAllTaken, AreFaithful, AreWhole, Event, IsAmHistory, IsAmHistoryOver, IsDownKnown, IsDownKnownOver, IsDownSome, IsUpKnown, IsUpKnownOver, IsUpSome, IsWholeAmHistory, Nodes, Runs, RunsInTwo, opened_nodes};
+ghost use Rattle.dch_runlaw.specs.Nodes.{Any, AreAllTaken, AreFaithful, AreWhole, Event, IsAmHistory, IsAmHistoryOver, IsDownKnown, IsDownKnownOver, IsDownSome, IsDownSomeOver, IsUpKnown, IsUpKnownOver, IsUpSome, IsUpSomeOver, IsWholeAmHistory, Nodes, Runs, RunsInTwo, opened_nodes};
 
 /// A law: any events happen at a terminal and a network controller, in any order and with any frames. After each event the good blocks
 /// taken so far of the two channels of an acknowledged bearer are some of the blocks given to them so far, in order.
@@ -56,16 +56,17 @@ pub fn um_nodes_law()
 {}
 
 /// A law: and of a transparent bearer, where what was taken of its channel is some of what was given to it, all lines on the bearer are
-/// some of the units that were accepted, in order, each at most once. And so in two parts, of the units that were accepted in both.
+/// the units of the blocks that were taken, which are some of those that were accepted, in order, each at most once. And so in two parts, of
+/// what was taken and accepted in both.
 pub fn tm_nodes_law()
     ensures up { (planned : Planned) (ue_first rnc_first b up : ℕ) (events : List Event) (nodes : Nodes) → IsTmBearer planned.config Up b up →
-        Runs Any (opened_nodes planned ue_first rnc_first) events nodes → IsFaithful (nodes.up up) → IsUpSome planned b nodes }
+        Runs Any (opened_nodes planned ue_first rnc_first) events nodes → IsFaithful (nodes.up up) → IsUpSome planned b up nodes }
     ensures down { (planned : Planned) (ue_first rnc_first b down : ℕ) (events : List Event) (nodes : Nodes) → IsTmBearer planned.config Down b down →
-        Runs Any (opened_nodes planned ue_first rnc_first) events nodes → IsFaithful (nodes.down down) → IsDownSome planned b nodes }
+        Runs Any (opened_nodes planned ue_first rnc_first) events nodes → IsFaithful (nodes.down down) → IsDownSome planned b down nodes }
     ensures up_in_two { (first second : Planned) (ue_first rnc_first b up up_later : ℕ) (earlier later : List Event) (nodes : Nodes) →
         IsTmBearer first.config Up b up → IsTmBearer second.config Up b up_later → (run : RunsInTwo first second Any Any ue_first rnc_first earlier later nodes) →
-        IsFaithful (run.mid.up up) → IsFaithful (nodes.up up_later) → IsUpSome second b nodes }
+        IsFaithful (run.mid.up up) → IsFaithful (nodes.up up_later) → IsUpSomeOver first second b up up_later run.mid nodes }
     ensures down_in_two { (first second : Planned) (ue_first rnc_first b down down_later : ℕ) (earlier later : List Event) (nodes : Nodes) →
         IsTmBearer first.config Down b down → IsTmBearer second.config Down b down_later → (run : RunsInTwo first second Any Any ue_first rnc_first earlier later nodes) →
-        IsFaithful (run.mid.down down) → IsFaithful (nodes.down down_later) → IsDownSome second b nodes }
+        IsFaithful (run.mid.down down) → IsFaithful (nodes.down down_later) → IsDownSomeOver first second b down down_later run.mid nodes }
 {}

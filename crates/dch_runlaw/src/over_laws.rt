@@ -7,7 +7,7 @@ ghost use Rattle.dch_linkcmd.specs.LinkLink.{LinkState, opened_link};
 ghost use Rattle.dch_runlaw.specs.Parts.{GoesOver};
 ghost use Rattle.dch_runlaw.specs.Runs.{Event, Runs};
 ghost use Rattle.dch_runlaw.specs.EndEvents.{end_events};
-ghost use Rattle.dch_runlaw.specs.HonestBearers.{HasHistoryOver, HasKnownDownOver, HasKnownUpOver, HasTmDown, HasTmSomeDown, HasTmSomeUp, HasTmUp, HasUmDown, HasUmUp, HasWholeHistory, IsAcknowledged, IsTransparent, IsUnacknowledged};
+ghost use Rattle.dch_runlaw.specs.HonestBearers.{HasHistoryOver, HasKnownDownOver, HasKnownUpOver, HasSomeDownOver, HasSomeUpOver, HasTmDown, HasTmUp, HasUmDown, HasUmUp, HasWholeHistory, IsAcknowledged, IsTransparent, IsUnacknowledged};
 ghost use Rattle.dch_runlaw.specs.HonestFits.{IsUndamaged, IsUndamagedOn};
 ghost use Rattle.dch_runlaw.specs.HonestSilent.{IsSilent, Lacks};
 
@@ -41,13 +41,13 @@ pub fn um_over_law()
         IsUndamagedOn planned Down down before (opened_link planned first) over.last early over.run → IsUndamagedOn second Down down_later after start new late run → HasUmDown second b down_later new }
 {}
 
-/// A law: and a transparent one, of which some of the units that were accepted in both parts are handed up, in order, each at most once; and where
-/// just what was given is taken in both parts, all whose block was sent in TTIs that have ended.
+/// A law: and a transparent one, of which the units of the blocks that came in both parts are handed up, some of those that were accepted, in order,
+/// each at most once; and where just what was given is taken in both parts, all whose block was sent in TTIs that have ended.
 pub fn tm_over_law()
-    ensures up { (planned second : Planned) (first b up up_later : ℕ) (before after : List Event) (start new : LinkState) (early late : List Line) (over : GoesOver planned second first before early start) → Runs start after new late →
-        IsTransparent planned Up b up → IsTransparent second Up b up_later → Lacks early (Differs Up up) → Lacks late (Differs Up up_later) → HasTmSomeUp second b new }
-    ensures down { (planned second : Planned) (first b down down_later : ℕ) (before after : List Event) (start new : LinkState) (early late : List Line) (over : GoesOver planned second first before early start) → Runs start after new late →
-        IsTransparent planned Down b down → IsTransparent second Down b down_later → Lacks early (Differs Down down) → Lacks late (Differs Down down_later) → HasTmSomeDown second b new }
+    ensures up { (planned second : Planned) (first b up up_later : ℕ) (before after : List Event) (start new : LinkState) (early late : List Line) (over : GoesOver planned second first before early start) (run : Runs start after new late) →
+        IsTransparent planned Up b up → IsTransparent second Up b up_later → Lacks early (Differs Up up) → Lacks late (Differs Up up_later) → HasSomeUpOver planned second first b up up_later (end_events before (opened_link planned first) over.last early over.run) (end_events after start new late run) over.last new }
+    ensures down { (planned second : Planned) (first b down down_later : ℕ) (before after : List Event) (start new : LinkState) (early late : List Line) (over : GoesOver planned second first before early start) (run : Runs start after new late) →
+        IsTransparent planned Down b down → IsTransparent second Down b down_later → Lacks early (Differs Down down) → Lacks late (Differs Down down_later) → HasSomeDownOver planned second first b down down_later (end_events before (opened_link planned first) over.last early over.run) (end_events after start new late run) over.last new }
     ensures whole_up { (planned second : Planned) (first b up up_later : ℕ) (before after : List Event) (start new : LinkState) (early late : List Line) (over : GoesOver planned second first before early start) (run : Runs start after new late) → start.rnc.state.cfn % 8 ≡ 0 →
         IsTransparent planned Up b up → IsTransparent second Up b up_later →
         IsUndamagedOn planned Up up before (opened_link planned first) over.last early over.run → IsUndamagedOn second Up up_later after start new late run → HasTmUp second b up_later new }

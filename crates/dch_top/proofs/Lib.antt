@@ -1,5 +1,7 @@
 pub mod Commands
 pub mod GenComplete
+pub mod Cutting
+pub mod LinkHandled
 pub mod LinkUnits
 pub mod NodeComplete
 pub mod BadFrames
@@ -10,7 +12,10 @@ pub mod Outcomes
 pub mod PairComplete
 pub mod Scripts
 pub mod SoftRuns
+pub mod LedRows
+pub mod SoftRows
 pub mod SoftStays
+pub mod SoftUnits
 pub mod Traces
 pub mod Blocks
 pub mod Checks

@@ -30,7 +30,7 @@ use Rattle.dch_top.specs.declared.status.Status.TheVariants.{Ok as Well}
 use Rattle.dch_top.specs.declared.front.FrontKind.TheVariants.{Both}
 
 -- a second configuration keeps its limits, and can follow the first one
-laters : (first : Planned) (second : Option Second) → IfSome second (λ s. IsPlanned s.accepted) → IfSome (later_of second) (CanFollow first) → IfSome (later_of second) (IsLater first)
+pub laters : (first : Planned) (second : Option Second) → IfSome second (λ s. IsPlanned s.accepted) → IfSome (later_of second) (CanFollow first) → IfSome (later_of second) (IsLater first)
 laters first None good follows = tt
 laters first (Some second) good follows = record { good = good; follows = follows }
 

@@ -1,3 +1,4 @@
+pub mod LinkHandled
 pub mod LinkUnits
 pub mod Ran
 pub mod Benches
@@ -10,6 +11,7 @@ pub mod NodeRuns
 pub mod PairRuns
 pub mod RncRuns
 pub mod SoftRuns
+pub mod SoftUnits
 pub mod Traces
 pub mod UeRuns
 pub mod Checked

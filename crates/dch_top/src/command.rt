@@ -11,6 +11,7 @@ ghost use Rattle.dch_top.specs.declared.arguments.Subcommand.TheVariants.{Check,
 ghost use Rattle.dch_top.specs.declared.arguments.Arguments.{Arguments};
 ghost use Rattle.dch_top.specs.Benches.{no_nodes};
 ghost use Rattle.dch_top.specs.Fronts.{AdmitsFront};
+ghost use Rattle.dch_top.specs.LinkHandled.{CarriesSoFar};
 ghost use Rattle.dch_top.specs.LinkUnits.{CarriesUnits};
 ghost use Rattle.dch_top.specs.PairRuns.{ArePairLines};
 ghost use Rattle.dch_top.specs.Encoded.{AreGood};
@@ -29,7 +30,7 @@ use crate::soft::run_soft;
 use crate::status::Status;
 use crate::ue::run_ue;
 use dch_bits::NoMemory;
-use dch_io::{Sink, Source, write_all};
+use dch_io::{CleanSink, CleanSource, Sink, Source, write_all};
 use std::alloc::Global;
 
 /// Runs the command that the words name: reads from the source and writes to the sink. The words don't hold the
@@ -55,6 +56,11 @@ pub fn run<S: Source, K: Sink>(
     // between the nodes, also where they went over to a second configuration.
     ensures headline { (arguments : Arguments) → Says words.now arguments → arguments.subcommand ≡ Link → result ≡ Status.Ok
         → CarriesUnits arguments.start arguments.quiet (end_of S.left S.faults source.old source.new) (end_of K.taken K.faults sink.old sink.new) }
+
+    // Whatever the status, so does the text of the lines that were handled, where the line `open` was written whole: up to a malformed line, a failed read or the
+    // limit, or up to the line in whose text a write failed.
+    ensures handled { (arguments : Arguments) → Says words.now arguments → arguments.subcommand ≡ Link
+        → CarriesSoFar arguments.start arguments.quiet (end_of S.left S.faults source.old source.new) (end_of K.taken K.faults sink.old sink.new) result }
 
     // Good lines without a fault are all answered.
     ensures complete { Asks words.now Encode → IfSome (S.left source.old) (λ input. AreGood (lines_of input) → rest_of input ≡ [] → length input ≤ LIMIT
@@ -85,6 +91,12 @@ pub fn run<S: Source, K: Sink>(
 {
     follow_words(alloc, words, source, sink, bench)
 }
+
+/// A law: the faults of `CleanSource` and `CleanSink` never rise. So `run` over these two never answers that a read or a write failed.
+pub fn clean_law()
+    ensures read { (old new : List ℕ) → ¬ Rose (⟦<CleanSource<'static> as Source>⟧.faults old) (⟦<CleanSource<'static> as Source>⟧.faults new) }
+    ensures write { (old new : CleanSink) → ¬ Rose (⟦<CleanSink as Sink>⟧.faults old) (⟦<CleanSink as Sink>⟧.faults new) }
+{}
 
 fn follow_words<S: Source, K: Sink>(
     alloc: Global,

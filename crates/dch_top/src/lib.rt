@@ -20,12 +20,15 @@ mod number;
 mod pair;
 mod rnc;
 mod soft;
+mod soft_laws;
 mod status;
 mod trace_laws;
 mod ue;
 
 pub use arguments::one_meaning_law;
 pub use bench::Bench;
-pub use command::run;
+pub use command::{clean_law, run};
+pub use dch_runlaw::{nodes_law, tm_nodes_law, um_nodes_law, whole_nodes_law};
+pub use soft_laws::soft_law;
 pub use status::Status;
 pub use trace_laws::{node_b_trace_law, rnc_trace_law};

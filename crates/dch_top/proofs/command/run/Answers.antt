@@ -3,6 +3,7 @@ use Rattle.dch_top.proofs.Checks.{good_answered, refused_answered}
 use Rattle.dch_top.proofs.Commands.{runs_as}
 use Rattle.dch_top.proofs.Complete.{completes}
 use Rattle.dch_top.proofs.GenComplete.{gen_answered}
+use Rattle.dch_top.proofs.LinkHandled.{units_handled}
 use Rattle.dch_top.proofs.LinkUnits.{units_carried}
 use Rattle.dch_top.proofs.NodeComplete.{events_answered}
 use Rattle.dch_top.proofs.PairComplete.{pair_answered}
@@ -28,3 +29,6 @@ returns-clause-refused g c asks = refused_answered _ _ _ _ _ _ _ _ c.follow_word
 
 pub returns-clause-headline : goal.returns-clause-headline
 returns-clause-headline g c arguments says is well = units_carried arguments.subcommand arguments _ _ _ c.follow_words.result (c.follow_words.ensures.runs arguments says) is well
+
+pub returns-clause-handled : goal.returns-clause-handled
+returns-clause-handled g c arguments says is = units_handled arguments.subcommand arguments _ _ _ c.follow_words.result (c.follow_words.ensures.runs arguments says) is
