@@ -15,7 +15,7 @@ use Rattle.dch_am.specs.Rules.{Rules}
 use Rattle.dch_am.specs.Sender.{Sender, after_offer, offered, opened_sender}
 use Rattle.dch_am.specs.Short.{IsShort}
 use Rattle.dch_am.specs.Telling.{after_telling, is_due, tells_now, tick_receiver}
-use Rattle.dch_am.specs.Texts.{IsHeard, IsMrw, next_pdu}
+use Rattle.dch_am.specs.Texts.{IsMrw, IsReport, next_pdu}
 
 -- its two sides, and how many units of those that its receiver has read were handed up
 pub record Entity : Type 0 where
@@ -54,7 +54,7 @@ writes Rests = false
 
 -- these octets are what is written, in a PDU of so many
 abbrev pub IsWritten : Turn → Rules → ℕ → List ℕ → Sender → Receiver → Type 0
-IsWritten Tells rules size out s r = IsHeard out (tells_now (8 * size) r)
+IsWritten Tells rules size out s r = IsReport out (tells_now (8 * size) r)
 IsWritten Moves rules size out s r = IsMrw out s.discard
 IsWritten Sends rules size out s r = (out ≡ next_pdu rules (size - 2) s) × IsShort (size - 2) (body_of_choice (choice rules s) (size - 2) s)
 IsWritten Rests rules size out s r = Unit {0}

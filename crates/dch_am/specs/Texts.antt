@@ -27,6 +27,11 @@ abbrev pub IsHeard : List ℕ → Option Told → Type 0
 IsHeard out None = ⊥
 IsHeard out (Some t) = am_reading out ≡ Ok (Status (fields_of t))
 
+-- these octets are a status: just what is told, and the other end reads that
+pub record IsReport (out : List ℕ) (o : Option Told) : Type 0 where
+  pub text : IsTold out o
+  pub read : IsHeard out o
+
 -- a discard runs, and these octets are just its MRW, which the other end reads
 pub record IsMoved (out : List ℕ) (x : Discard) : Type 0 where
   pub text : IsText out (0 ∷ mrw_text (wrapped x.k) x.n)

@@ -17,7 +17,6 @@ use Rattle.dch_rlcum.specs.Receiving.{Receiving}
 use Rattle.dch_rlcum.specs.Sending.{Sending, Units, after_build, builds, is_unsent, no_units, pdu_of, units_after}
 use Rattle.dch_am.specs.Discards.{tick_sender}
 use Rattle.dch_am.specs.Entities.{IsWritten, offers_to_send, receiver_after, sender_after, turn}
-use Rattle.dch_pair.specs.Answers.{IsToldAt}
 use Rattle.dch_am.specs.Receiver.{Receiver}
 use Rattle.dch_am.specs.Rules.{Rules}
 use Rattle.dch_am.specs.Sender.{Sender, after_offer, offered}
@@ -96,7 +95,6 @@ am_builds config out into b (Acknowledged s r) v now block is built same =
         octets = turned.octets;
         some = turned.some;
         written = subst (λ n. IsWritten (turn rules s r) rules n turned.octets s r) size turned.written;
-        told = subst (λ n. IsToldAt (turn rules s r) turned.octets n r) size turned.told;
         small = turned.small;
         long = turned.long ∙ size;
         block_is = turned.block_is ∙ ap (λ shape. block_of shape.ct turned.octets) is.shape;

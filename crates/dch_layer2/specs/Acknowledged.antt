@@ -9,7 +9,7 @@ use Rattle.dch_am.specs.Rules.{Rules}
 use Rattle.dch_am.specs.Sender.{Sender}
 use Rattle.dch_am.specs.declared.answers.StatusTaken.{StatusTaken}
 use Rattle.dch_amlaw.specs.Pair.{is_beyond}
-use Rattle.dch_pair.specs.Answers.{IsToldAt, is_outside, is_unknown}
+use Rattle.dch_pair.specs.Answers.{is_outside, is_unknown}
 use Rattle.dch_pair.specs.EntityStanding.{Represents, Running, is_settled, size_in, size_of}
 use Rattle.dch_pair.specs.declared.answers.Received.{Received}
 use Rattle.dch_pair.specs.declared.answers.Received.TheVariants.{Data, Control, Reset, ResetAck}
@@ -62,7 +62,6 @@ pub record BuildsAtTurn (rules : Rules) (s : Sender) (r : Receiver) (old new : A
   pub octets : List ℕ
   pub some : true ≡ writes (turn rules s r)
   pub written : IsWritten (turn rules s r) rules old.shape.octets octets s r
-  pub told : IsToldAt (turn rules s r) octets old.shape.octets r
   pub small : AreOctets octets
   pub long : length octets ≡ old.shape.octets
   pub block_is : block ≡ block_of old.shape.ct octets

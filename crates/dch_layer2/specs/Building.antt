@@ -10,7 +10,6 @@ use Rattle.dch_am.specs.Receiver.{Receiver}
 use Rattle.dch_am.specs.Rules.{Rules}
 use Rattle.dch_am.specs.Sender.{Sender}
 use Rattle.dch_am.specs.Entities.{IsWritten, receiver_after, sender_after, turn, writes}
-use Rattle.dch_pair.specs.Answers.{IsToldAt}
 use Rattle.dch_layer2.specs.Octets.{AreOctets, block_of, field_for}
 use Rattle.dch_layer2.specs.Bearings.{Bearing, Transparent, Unacknowledged, Acknowledged, Sends, ct_of, pdu_octets, rules_in}
 
@@ -34,7 +33,6 @@ pub record IsAtTurn (config : Config) (dir : Dir) (b : ℕ) (s : Sender) (r : Re
   pub octets : List ℕ
   pub some : true ≡ writes (turn (rules_in config b) s r)
   pub written : IsWritten (turn (rules_in config b) s r) (rules_in config b) (pdu_octets config dir b) octets s r
-  pub told : IsToldAt (turn (rules_in config b) s r) octets (pdu_octets config dir b) r
   pub small : AreOctets octets
   pub long : length octets ≡ pdu_octets config dir b
   pub block_is : block ≡ block_of (ct_of config dir b) octets

@@ -10,7 +10,7 @@ use Rattle.dch_am.specs.Sender.{Discard, vt_s}
 use Rattle.dch_am.specs.Short.{IsShort}
 use Rattle.dch_am.specs.Status.{Told, fields_of}
 use Rattle.dch_am.specs.Telling.{tells_now}
-use Rattle.dch_am.specs.Texts.{IsHeard, IsMrw, pdu_of_choice}
+use Rattle.dch_am.specs.Texts.{IsMrw, IsReport, pdu_of_choice}
 use Rattle.dch_am.proofs.Turns.{sends_gives}
 use Rattle.dch_rlcpdu.specs.declared.am.AmView.TheVariants.{Payload as Read, Status}
 use Rattle.dch_rlcpdu.specs.Am.{am_pdu, am_reading}
@@ -53,9 +53,9 @@ mrw_sent : (d : ℕ) (out : List ℕ) (o : Option Discard) → IsMrw out o → I
 mrw_sent d out None is = is
 mrw_sent d out (Some x) is = is.read
 
-told_sent : (d : ℕ) (out : List ℕ) (o : Option Told) → IsHeard out o → IsSent d out (report_of o)
-told_sent d out None is = is
-told_sent d out (Some t) is = is
+told_sent : (d : ℕ) (out : List ℕ) (o : Option Told) → IsReport out o → IsSent d out (report_of o)
+told_sent d out None is = is.read
+told_sent d out (Some t) is = is.read
 
 -- what is written is the block
 pub written_sent : (t : Turn) (rules : Rules) (e : End) (out : List ℕ) → e.octets ≤ 126 → turn rules e.entity.sender e.entity.receiver ≡ t → true ≡ writes t → IsWritten t rules e.octets out e.entity.sender e.entity.receiver → IsSent (e.octets - 2) out (block_of t rules e)

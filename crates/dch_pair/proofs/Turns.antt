@@ -8,7 +8,7 @@ use Rattle.dch_am.specs.Rules.{Rules}
 use Rattle.dch_am.specs.Sender.{Sender}
 use Rattle.dch_am.specs.Telling.{is_due}
 use Rattle.dch_pair.specs.declared.answers.Built.{Built}
-use Rattle.dch_pair.specs.Answers.{IsToldAt, built_at}
+use Rattle.dch_pair.specs.Answers.{built_at}
 use Rattle.dch_pair.specs.EntityStanding.{Represents, Running}
 
 -- something is written where something is due
@@ -33,7 +33,3 @@ Did t rules size built out e now = (Some built ≡ built_at t) × IsWritten t ru
 
 pub did : (t : Turn) (rules : Rules) (size : ℕ) (built : Built) (out : List ℕ) (e : Entity) (now : Running) → turn rules e.sender e.receiver ≡ t → Did t rules size built out e now → Did (turn rules e.sender e.receiver) rules size built out e now
 did t rules size built out e now q h = subst (λ x. Did x rules size built out e now) (sym q) h
-
--- what it told
-pub told_at : (t : Turn) (out : List ℕ) (size : ℕ) (s : Sender) (r : Receiver) (rules : Rules) → turn rules s r ≡ t → IsToldAt t out size r → IsToldAt (turn rules s r) out size r
-told_at t out size s r rules q h = subst (λ x. IsToldAt x out size r) (sym q) h

@@ -1,14 +1,12 @@
 -- What an entity of the acknowledged mode answers (TS 25.322 4.2.1.3).
-use Rattle.std.specs.Prelude.{◌&&◌, ◌*◌, ℕ, List, Bool, true, false, drop, Option, Some, None}
+use Rattle.std.specs.Prelude.{◌&&◌, ℕ, List, Bool, true, false, drop, Option, Some, None}
 use Rattle.dch_rlcpdu.specs.Fields.{Field}
 use Rattle.dch_am.specs.Acknowledging.{status_answer}
 use Rattle.dch_am.specs.Entities.{Entity, Pdu, DataPdu, StatusPdu, ResetPdu, ResetAckPdu, Turn, Tells, Moves, Sends, Rests}
 use Rattle.dch_am.specs.Moves.{control_answer}
-use Rattle.dch_am.specs.Receiver.{Receiver, taken}
+use Rattle.dch_am.specs.Receiver.{taken}
 use Rattle.dch_am.specs.Rules.{Rules}
 use Rattle.dch_am.specs.Sender.{Sender}
-use Rattle.dch_am.specs.Telling.{tells_now}
-use Rattle.dch_am.specs.Texts.{IsTold}
 use Rattle.dch_am.specs.declared.answers.MrwTaken.{MrwTaken}
 use Rattle.dch_am.specs.declared.answers.MrwTaken.TheVariants.{Nothing, Obeyed, Old, Outside as OutsideMove}
 use Rattle.dch_am.specs.declared.answers.StatusTaken.{StatusTaken}
@@ -26,13 +24,6 @@ built_at Tells = Some Status
 built_at Moves = Some Mrw
 built_at Sends = Some DataBuilt
 built_at Rests = None
-
--- a status is just the text of what is told in a PDU of so many octets, with zeros behind it
-abbrev pub IsToldAt : Turn → List ℕ → ℕ → Receiver → Type 0
-IsToldAt Tells out size r = IsTold out (tells_now (8 * size) r)
-IsToldAt Moves out size r = Unit {0}
-IsToldAt Sends out size r = Unit {0}
-IsToldAt Rests out size r = Unit {0}
 
 -- what the status that rides on a data PDU is answered
 abbrev pub riding_answer : Rules → Option (List Field) → Sender → Option StatusTaken

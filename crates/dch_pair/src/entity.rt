@@ -7,7 +7,7 @@ ghost use Rattle.dch_am.specs.Sender.{Sender, discarded, offered};
 ghost use Rattle.dch_amsend.specs.Standing.{IsSame as IsSameSide, Stands};
 ghost use Rattle.dch_amsend.specs.SduDiscard.{capped};
 ghost use Rattle.dch_sar.specs.Taking.{handed_of, written};
-ghost use Rattle.dch_pair.specs.Answers.{IsToldAt, built_at, is_refused, is_refused_riding, received, riding_answer, waiting};
+ghost use Rattle.dch_pair.specs.Answers.{built_at, is_refused, is_refused_riding, received, riding_answer, waiting};
 ghost use Rattle.dch_pair.specs.EntityStanding.{AreSizes, IsSame, Represents, available_in, is_due, is_settled, size_in, size_of, waiting_in};
 
 use crate::answers::{Built, Received};
@@ -131,8 +131,6 @@ impl AmEntity {
         requires size { length out.old ≡ size_of self.old }
         ensures answer { (rules : Rules) (e : Entity) → Represents rules self.old e → Some result ≡ built_at (turn rules e.sender e.receiver) }
         ensures written { (rules : Rules) (e : Entity) → Represents rules self.old e → IsWritten (turn rules e.sender e.receiver) rules (size_of self.old) out.new e.sender e.receiver }
-        // a status has nothing else behind it
-        ensures told { (rules : Rules) (e : Entity) → Represents rules self.old e → IsToldAt (turn rules e.sender e.receiver) out.new (size_of self.old) e.receiver }
         ensures stands { (rules : Rules) (e : Entity) → Represents rules self.old e → Represents rules self.new (step rules (size_of self.old) e Build) }
         ensures same { IsSame self.old self.new }
     {
@@ -145,7 +143,6 @@ impl AmEntity {
         ensures history { (rules : Rules) (e : Entity) → Represents rules self.old e →
             (Some result ≡ built_at (turn rules e.sender e.receiver)) × IsWritten (turn rules e.sender e.receiver) rules (size_of self.old) out.new e.sender e.receiver
             × Represents rules self.new (step rules (size_of self.old) e Build) }
-        ensures told { (rules : Rules) (e : Entity) → Represents rules self.old e → IsToldAt (turn rules e.sender e.receiver) out.new (size_of self.old) e.receiver }
         ensures same { IsSame self.old self.new }
     {
         if self.receiver.status_due() {

@@ -6,7 +6,7 @@ use Rattle.std.proofs.lemmas.List.{append-nil}
 use Rattle.dch_am.specs.Rules.{Rules}
 use Rattle.dch_am.specs.Sender.{offered}
 use Rattle.dch_bits.specs.declared.offer.Offer.{Offer}
-use Rattle.dch_reset.specs.State.{Build, IsTold as TellsAt, IsWritten, Offer as Offers, Reset, Tick, step, turn, writes}
+use Rattle.dch_reset.specs.State.{Build, IsWritten, Offer as Offers, Reset, Tick, step, turn, writes}
 use Rattle.dch_script.specs.Held.{Held}
 use Rattle.dch_script.specs.Pair.{ParsedPair, arrive, build, lose, offer, reset, tick}
 use Rattle.dch_lines.specs.Texts.{octets_of}
@@ -63,12 +63,12 @@ given rules s end hex unit near far new answer before now are same is new_is now
 
 -- a PDU is built
 pub built : (rules : Rules) (s : Sides) (end : ℕ) (near far new : SideValue) (out : List ℕ) (before now : Held) → AreSides rules near far s → true ≡ writes (turn rules s.near.state) → length far.coming < 1024 → length out ≡ near.size
-    → IsWritten (turn rules s.near.state) rules s.near.size out s.near.state → TellsAt (turn rules s.near.state) s.near.size out s.near.state → IsSide rules new (record s.near { state = step rules s.near.size s.near.state Build })
+    → IsWritten (turn rules s.near.state) rules s.near.size out s.near.state → IsSide rules new (record s.near { state = step rules s.near.size s.near.state Build })
     → now ≡ record before { text = before.text ++ octets_text (codes "sent ") end out } → LeadsTo rules s (build end) new (record far { coming = far.coming ++ out ∷ [] }) before now
-built rules s end near far new out before now are due few long written told new_is now_is = record {
+built rules s end near far new out before now are due few long written new_is now_is = record {
   timely = ap₂ (λ a b. not (a && b)) (sym due) (ap (λ (line : List (List ℕ)). nat_lt (length line) 1024) (sym are.other.coming) ∙ lt-ltb (length far.coming) 1024 few);
   after = record { sides = builds rules s out; text = octets_text (codes "sent ") end out };
-  happens = record { out = out; size = long ∙ are.one.size; is = written; told = told; holds = refl };
+  happens = record { out = out; size = long ∙ are.one.size; is = written; holds = refl };
   sides = record { one = new_is; other = record { end = are.other.end; size = are.other.size; coming = ap (λ line. line ++ out ∷ []) are.other.coming; bounded = are.other.bounded } };
   added = now_is;
 }

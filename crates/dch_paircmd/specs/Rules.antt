@@ -7,7 +7,7 @@ use Rattle.dch_pair.specs.Answers.{waiting}
 use Rattle.dch_rlcpdu.specs.Am.{am_reading}
 use Rattle.dch_reset.specs.Answers.{answer_read, came_read}
 use Rattle.dch_reset.specs.History.{handed_up}
-use Rattle.dch_reset.specs.State.{Build, Event, IsTold as TellsAt, IsWritten, Offer, Reset, State, Tick, step, turn, writes}
+use Rattle.dch_reset.specs.State.{Build, Event, IsWritten, Offer, Reset, State, Tick, step, turn, writes}
 use Rattle.dch_script.specs.Pair.{ParsedPair, ends, offer, build, arrive, lose, tick, reset, pair_meaning_at}
 use Rattle.dch_script.specs.Report.{line_text}
 use Rattle.dch_script.specs.declared.event.LineError.{LineError}
@@ -101,7 +101,6 @@ pub record BuildsOut (rules : Rules) (end : ℕ) (s : Sides) (after : Happened) 
   pub out : List ℕ
   pub size : length out ≡ s.near.size
   pub is : IsWritten (turn rules s.near.state) rules s.near.size out s.near.state
-  pub told : TellsAt (turn rules s.near.state) s.near.size out s.near.state
   pub holds : after ≡ record { sides = builds rules s out; text = octets_text (codes "sent ") end out }
 
 -- what the event of a line makes of the two ends

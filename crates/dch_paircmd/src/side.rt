@@ -3,7 +3,7 @@ ghost use Rattle.dch_am.specs.Rules.{Rules, rules_of};
 ghost use Rattle.dch_am.specs.Sender.{offered};
 ghost use Rattle.dch_reset.specs.History.{handed_up};
 ghost use Rattle.dch_reset.specs.Standing.{AreSizes, Represents, is_due, is_settled, size_in, waiting_in};
-ghost use Rattle.dch_reset.specs.State.{Build, IsTold as TellsAt, IsWritten, Offer as Offers, Reset, State, Tick, step, turn, writes};
+ghost use Rattle.dch_reset.specs.State.{Build, IsWritten, Offer as Offers, Reset, State, Tick, step, turn, writes};
 ghost use Rattle.dch_paircmd.specs.Ends.{PairEnd, opened_end};
 ghost use Rattle.dch_paircmd.specs.Standing.{Arrives, IsKnown, IsSide, StaysSide};
 ghost use Rattle.dch_paircmd.specs.Texts.{units_text};
@@ -112,7 +112,6 @@ impl Side {
         requires size { length out.old ≡ self.old.size }
         ensures long { length out.new ≡ self.old.size }
         ensures written { (rules : Rules) (s : PairEnd) → IsSide rules self.old s → IsWritten (turn rules s.state) rules s.size out.new s.state }
-        ensures told { (rules : Rules) (s : PairEnd) → IsSide rules self.old s → TellsAt (turn rules s.state) s.size out.new s.state }
         ensures stands { (rules : Rules) (s : PairEnd) → IsSide rules self.old s → IsSide rules self.new (record s { state = step rules s.size s.state Build }) }
         ensures same { StaysSide self.old self.new }
     {

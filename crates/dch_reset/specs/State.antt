@@ -4,7 +4,6 @@ use Rattle.std.specs.Prelude.{◌≡◌, ◌+◌, ℕ, List, not, ◌==◌, Opti
 use Rattle.dch_am.specs.Entities.{Entity, Event as EntityEvent, Build as Builds, Come as Comes, HandUp as HandsUp, Offer as Offers, Tick as Ticks, IsWritten as IsEntityWritten, Pdu, DataPdu, StatusPdu, ResetPdu, ResetAckPdu, Turn as EntityTurn, opened_entity, step as entity_step, turn as entity_turn, writes as entity_writes}
 use Rattle.dch_am.specs.Restart.{restarted_entity}
 use Rattle.dch_am.specs.Rules.{Rules}
-use Rattle.dch_pair.specs.Answers.{IsToldAt}
 use Rattle.dch_rlcpdu.specs.AmControl.{reset_text}
 use Rattle.dch_reset.specs.Ends.{Pending, hfni_of, is_asked, is_heard, rsn_of, ticked}
 
@@ -54,13 +53,6 @@ IsWritten Answers rules size out e = out ≡ reset_text 2 (rsn_of e.heard) (hfni
 IsWritten Asks rules size out e = IsReset e.pending e.restarts size out
 IsWritten (Works turn) rules size out e = IsEntityWritten turn rules size out e.entity.sender e.entity.receiver
 IsWritten Waits rules size out e = Unit {0}
-
--- a status is just the text of what is told, with zeros behind it
-abbrev pub IsTold : Turn → ℕ → List ℕ → State → Type 0
-IsTold Answers size out e = Unit {0}
-IsTold Asks size out e = Unit {0}
-IsTold (Works turn) size out e = IsToldAt turn out size e.entity.receiver
-IsTold Waits size out e = Unit {0}
 
 -- a RESET that was written is due again after 30 ticks
 abbrev pub asked_again : Option Pending → Option Pending

@@ -10,7 +10,7 @@ ghost use Rattle.dch_sar.specs.Taking.{handed_of, written};
 ghost use Rattle.dch_reset.specs.Ends.{is_asked, is_heard};
 ghost use Rattle.dch_reset.specs.Answers.{answer, answer_read, came_read, data_answer, entity_answer, is_unread, unless_pending};
 ghost use Rattle.dch_reset.specs.Standing.{AreSizes, IsSame, Represents, is_due, is_settled, size_in, size_of, waiting_in};
-ghost use Rattle.dch_reset.specs.State.{Build, Come, HandUp, IsTold, IsWritten, Offer as Offers, Reset, State, Tick, came, opened_state, restarted, step, taken_by, turn, writes};
+ghost use Rattle.dch_reset.specs.State.{Build, Come, HandUp, IsWritten, Offer as Offers, Reset, State, Tick, came, opened_state, restarted, step, taken_by, turn, writes};
 ghost use Rattle.dch_reset.specs.declared.answers.Got.TheVariants.{Ignored, Repeated, Restarted};
 
 use crate::answers::Got;
@@ -162,8 +162,6 @@ impl ResetEnd {
         requires due { is_due self.old ≡ true }
         requires size { length out.old ≡ size_of self.old }
         ensures written { (rules : Rules) (e : State) → Represents rules self.old e → IsWritten (turn rules e) rules (size_of self.old) out.new e }
-        // a status has nothing else behind it
-        ensures told { (rules : Rules) (e : State) → Represents rules self.old e → IsTold (turn rules e) (size_of self.old) out.new e }
         ensures stands { (rules : Rules) (e : State) → Represents rules self.old e → Represents rules self.new (step rules (size_of self.old) e Build) }
         ensures same { IsSame self.old self.new }
     {

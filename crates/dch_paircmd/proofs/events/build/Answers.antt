@@ -18,4 +18,4 @@ returns-clause-answers c rules s are =
     let few : length c.args.far.now.coming < 1024 = grind (arith, nat_tests) in
     subst (λ (v : SideValue). LeadsTo rules s (build c.args.end) c.build.new.self v c.args.report.now c.put_octets.new.report) (sym c.send.ensures)
     (built rules s c.args.end c.args.near.now c.args.far.now c.build.new.self c.build.new.out c.args.report.now c.put_octets.new.report are (c.if-not-due.ensures.answer rules s.near are.one) few c.build.ensures.long
-    (c.build.ensures.written rules s.near are.one) (c.build.ensures.told rules s.near are.one) (c.build.ensures.stands rules s.near are.one) c.put_octets.ensures)
+    (c.build.ensures.written rules s.near are.one) (c.build.ensures.stands rules s.near are.one) c.put_octets.ensures)

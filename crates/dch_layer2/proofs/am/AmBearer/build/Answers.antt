@@ -1,6 +1,5 @@
 use Rattle.std.proofs.Common.{◌≡◌, ◌∙◌, ap, arith, subst, sym, true}
 use Rattle.dch_am.specs.Entities.{IsWritten, turn}
-use Rattle.dch_pair.specs.Answers.{IsToldAt}
 use Rattle.dch_pair.specs.EntityStanding.{is_due}
 use Rattle.dch_layer2.specs.Acknowledged.{AmRunning, BuildsAtTurn, HasSides, entity_of}
 use Rattle.dch_layer2.specs.contracts.am.AmBearer.{the_view}
@@ -24,7 +23,6 @@ returns-clause-built c rules s r is =
       octets = c.build.new.out;
       some = sym due ∙ (sym c.is_due-due.ensures.value ∙ c.is_due-due.ensures.answer rules (entity_of s r) here.entity);
       written = subst (λ n. IsWritten (turn rules s r) rules n c.build.new.out s r) c.self.invariant.octets (c.build.ensures.written rules (entity_of s r) here.entity);
-      told = subst (λ n. IsToldAt (turn rules s r) c.build.new.out n r) c.self.invariant.octets (c.build.ensures.told rules (entity_of s r) here.entity);
       small = c.write_block.ensures.octets;
       long = omega (arith, c.write_block.ensures.long, c.self.invariant.whole.whole, c.requires.size, ap (λ (x : AmRunning). x.shape.bits) c.self.view_is, c.write_block.auto.out);
       block_is = c.write_block.ensures.block;

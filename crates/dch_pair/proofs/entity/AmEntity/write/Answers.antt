@@ -2,7 +2,7 @@ use Rattle.std.proofs.Common.{◌≡◌, ◌∙◌, ◌*◌, true, refl, subst, 
 use Rattle.dch_am.specs.Entities.{Tells, Moves, Sends}
 use Rattle.dch_am.specs.Building.{gives}
 use Rattle.dch_am.specs.Telling.{after_telling, tells_now}
-use Rattle.dch_am.specs.Texts.{IsHeard, IsTold}
+use Rattle.dch_am.specs.Texts.{IsReport}
 use Rattle.dch_am.proofs.Turns.{turn_moves, turn_sends, turn_tells}
 use Rattle.dch_amrecv.specs.Holding.{is_due as is_told}
 use Rattle.dch_amsend.specs.Standing.{is_control_due, is_due as can_send, room_in}
@@ -10,7 +10,7 @@ use Rattle.dch_amsend.proofs.Due.{can_build_gives}
 use Rattle.dch_pair.specs.declared.answers.Built.TheVariants.{Status, Mrw, Data}
 use Rattle.dch_pair.specs.EntityStanding.{Represents, Running, is_due, size_of}
 use Rattle.dch_pair.proofs.Events.{follows, rules_stay}
-use Rattle.dch_pair.proofs.Turns.{Did, did, due_last, told_at}
+use Rattle.dch_pair.proofs.Turns.{Did, did, due_last}
 use Rattle.dch_pair.proofs.entity.AmEntity.write.Goals as goal
 
 pub returns-then-status_due-clause-history : goal.returns-then-status_due-clause-history
@@ -21,37 +21,15 @@ returns-then-status_due-clause-history c rules e is =
     did Tells rules (size_of c.args.self.now) Status c.write_status.new.out e now
     (turn_tells rules e.sender e.receiver (sym (c.if-status_due.ensures.due e.handed e.receiver here.receiver))) (
       refl,
-      subst (λ (x : Running). IsHeard c.write_status.new.out (tells_now (8 * size_of x) e.receiver)) c.self.view_is (subst (λ n. IsHeard c.write_status.new.out (tells_now (8 * n) e.receiver)) c.self.invariant.0 (c.write_status.ensures.read e.handed e.receiver here.receiver)),
+      subst (λ (x : Running). IsReport c.write_status.new.out (tells_now (8 * size_of x) e.receiver)) c.self.view_is
+      (subst (λ n. IsReport c.write_status.new.out (tells_now (8 * n) e.receiver)) c.self.invariant.0
+      (record { text = c.write_status.ensures.text e.handed e.receiver here.receiver; read = c.write_status.ensures.read e.handed e.receiver here.receiver })),
       record {
         rules_are = rules_stay rules v e c.write_status.new.self here c.write_status.ensures.same.rules;
         sender = here.sender;
         receiver = follows after_telling rules v e c.write_status.new.self here c.write_status.ensures.stands;
       },
     )
-
-pub returns-then-status_due-clause-told : goal.returns-then-status_due-clause-told
-returns-then-status_due-clause-told c rules e is =
-    let v : Running = record { sender = c.self.inside.sender; receiver = c.self.inside.receiver } in
-    let here : Represents rules v e = subst (λ v. Represents rules v e) (sym c.self.view_is) is in
-    told_at Tells c.write_status.new.out (size_of c.args.self.now) e.sender e.receiver rules
-    (turn_tells rules e.sender e.receiver (sym (c.if-status_due.ensures.due e.handed e.receiver here.receiver)))
-    (subst (λ (x : Running). IsTold c.write_status.new.out (tells_now (8 * size_of x) e.receiver)) c.self.view_is (subst (λ n. IsTold c.write_status.new.out (tells_now (8 * n) e.receiver)) c.self.invariant.0 (c.write_status.ensures.text e.handed e.receiver here.receiver)))
-
-pub returns-then-control_due-clause-told : goal.returns-then-control_due-clause-told
-returns-then-control_due-clause-told c rules e is =
-    let v : Running = record { sender = c.self.inside.sender; receiver = c.self.inside.receiver } in
-    let here : Represents rules v e = subst (λ v. Represents rules v e) (sym c.self.view_is) is in
-    told_at Moves c.write_control.new.out (size_of c.args.self.now) e.sender e.receiver rules
-    (turn_moves rules e.sender e.receiver (sym (c.if-status_due.ensures.due e.handed e.receiver here.receiver)) (sym (c.if-control_due.ensures.due rules e.sender here.sender))) tt
-
-pub returns-clause-told : goal.returns-clause-told
-returns-clause-told c rules e is =
-    let v : Running = record { sender = c.self.inside.sender; receiver = c.self.inside.receiver } in
-    let here : Represents rules v e = subst (λ v. Represents rules v e) (sym c.self.view_is) is in
-    let some : is_due v ≡ true = subst (λ (x : Running). is_due x ≡ true) (sym c.self.view_is) c.requires.due in
-    let due : gives rules e.sender ≡ true = sym (can_build_gives rules (room_in v.sender) v.sender.outgoing e.sender here.sender.outgoing) ∙ due_last (is_told v.receiver) (is_control_due v.sender) (can_send v.sender) some c.if-status_due.ensures.value c.if-control_due.ensures.value in
-    told_at Sends c.build.new.out (size_of c.args.self.now) e.sender e.receiver rules
-    (turn_sends rules e.sender e.receiver (sym (c.if-status_due.ensures.due e.handed e.receiver here.receiver)) (sym (c.if-control_due.ensures.due rules e.sender here.sender)) due) tt
 
 pub returns-then-control_due-clause-history : goal.returns-then-control_due-clause-history
 returns-then-control_due-clause-history c rules e is =
