@@ -1,4 +1,4 @@
-ghost use Rattle.std.specs.Prelude.{◌≡◌, ◌≢◌, ◌≤◌, ◌==◌, IfOk, Some, drop, length, nat_lt, true};
+ghost use Rattle.std.specs.Prelude.{◌≡◌, ◌≢◌, ◌≤◌, ◌==◌, IfNone, IfOk, Some, drop, length, nat_lt, true};
 ghost use Rattle.dch_bits.specs.declared.offer.Offer.TheVariants.{Accepted};
 ghost use Rattle.dch_am.specs.Entities.{Build, Come, Entity, HandUp, IsSmall, IsWritten, Offer as Offers, Tick, after_riding, offers_to_send, opened_entity, pdu_of, step, turn, writes};
 ghost use Rattle.dch_am.specs.Restart.{restarted_entity};
@@ -202,6 +202,7 @@ impl AmEntity {
         ensures first { result ≡ handed_of (waiting_in self.old) }
         ensures written { out.new ≡ written (waiting_in self.old) out.old }
         ensures rest { waiting_in self.new ≡ drop 1 (waiting_in self.old) }
+        ensures none { IfNone result (self.new ≡ self.old) }
         ensures answer { (rules : Rules) (e : Entity) → Represents rules self.old e → result ≡ handed_of (waiting e) }
         ensures unit { (rules : Rules) (e : Entity) → Represents rules self.old e → out.new ≡ written (waiting e) out.old }
         ensures stands { (rules : Rules) (e : Entity) → Represents rules self.old e → Represents rules self.new (step rules (size_of self.old) e HandUp) }

@@ -1,4 +1,4 @@
-ghost use Rattle.std.specs.Prelude.{◌≡◌, ◌≢◌, ◌≤◌, ◌==◌, IfOk, drop, if◌then◌else◌, is_some, length, true};
+ghost use Rattle.std.specs.Prelude.{◌≡◌, ◌≢◌, ◌≤◌, ◌==◌, IfNone, IfOk, drop, if◌then◌else◌, is_some, length, true};
 ghost use Rattle.dch_bits.specs.declared.offer.Offer.TheVariants.{Accepted};
 ghost use Rattle.dch_am.specs.Entities.{IsSmall, ResetAckPdu, ResetPdu, pdu_of};
 ghost use Rattle.dch_am.specs.Rules.{Rules, rules_of};
@@ -205,6 +205,7 @@ impl ResetEnd {
         ensures first { result ≡ handed_of (waiting_in self.old) }
         ensures written { out.new ≡ written (waiting_in self.old) out.old }
         ensures rest { waiting_in self.new ≡ drop 1 (waiting_in self.old) }
+        ensures none { IfNone result (self.new ≡ self.old) }
         ensures answer { (rules : Rules) (e : State) → Represents rules self.old e → result ≡ handed_of (waiting e.entity) }
         ensures unit { (rules : Rules) (e : State) → Represents rules self.old e → out.new ≡ written (waiting e.entity) out.old }
         ensures stands { (rules : Rules) (e : State) → Represents rules self.old e → Represents rules self.new (step rules (size_of self.old) e HandUp) }

@@ -1,5 +1,5 @@
 use Rattle.dch_pair.specs.Standing.{IsPeer, Peer}
-use Rattle.std.proofs.Common.{◌≡◌, subst, sym}
+use Rattle.std.proofs.Common.{subst, sym}
 use Rattle.dch_pair.proofs.peer.Peer.close.Goals as goal
 
 pub returns-clause-discarded : goal.returns-clause-discarded
