@@ -8,7 +8,7 @@ ghost use Rattle.dch_amrecv.specs.Places.{front, is_kept, laid, put, vacant};
 use crate::reading::{greater_trim, read, read_on, run_on};
 use crate::window::RxWindow;
 use dch_bits::NoMemory;
-use dch_rlcpdu::{Body, Handed, SnRun};
+use dch_rlcpdu::{Body, Handed};
 use dch_sar::Reassembler;
 use std::alloc::Global;
 use std::marker::Model;
@@ -137,7 +137,7 @@ impl RxBuffer {
 
     /// The missing PDUs as runs of at most 16: the place of the first of each run, and how many follow it. As many are written as find
     /// room. Answers how many runs there are.
-    pub fn missing_runs(&self, out: &mut [SnRun]) -> usize
+    pub fn missing_runs(&self, out: &mut [(u16, u8)]) -> usize
         requires { self.now.kept.capacity ≤ 2048 }
         ensures count { result ≡ length (runs (vacant 0 self.now.kept.places)) }
         ensures runs { out.new ≡ laid (runs (vacant 0 self.now.kept.places)) out.old }

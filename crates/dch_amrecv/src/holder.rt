@@ -11,9 +11,7 @@ use crate::buffer::RxBuffer;
 use crate::telling::{most, number};
 use dch_am::{MrwTaken, Taken};
 use dch_bits::NoMemory;
-use dch_rlcpdu::{
-    Body, Handed, MrwPlace, NUMBERS, SnRun, write_ack, write_mrw_ack, write_mrw_status,
-};
+use dch_rlcpdu::{Body, Handed, MrwPlace, NUMBERS, write_ack, write_mrw_ack, write_mrw_status};
 use dch_types::AmRules;
 use std::alloc::Global;
 use std::marker::Model;
@@ -191,12 +189,12 @@ impl Holder {
     {
         match self.ack {
             None => {
-                let mut pairs = [SnRun { first: 0, more: 0 }; 62];
+                let mut pairs = [(0, 0); 62];
                 let (count, lsn) = self.missing_runs(8 * self.reply, &mut pairs);
                 write_ack(&pairs[..count], lsn, out);
             }
             Some(place) if self.owed && self.status_prohibit_timer == 0 => {
-                let mut pairs = [SnRun { first: 0, more: 0 }; 62];
+                let mut pairs = [(0, 0); 62];
                 let (count, lsn) = self.missing_runs(8 * self.reply - 20, &mut pairs);
                 write_mrw_status(place.n, place.sn, &pairs[..count], lsn, out);
             }
@@ -205,7 +203,7 @@ impl Holder {
     }
 
     /// The runs of missing numbers that fit so many bits, and the LSN.
-    fn missing_runs(&self, bits: usize, pairs: &mut [SnRun]) -> (usize, u16)
+    fn missing_runs(&self, bits: usize, pairs: &mut [(u16, u8)]) -> (usize, u16)
         requires least { 20 ≤ bits }
         requires bits { bits ≤ 1008 }
         requires room { length pairs.old ≡ 62 }

@@ -5,14 +5,13 @@ ghost use Rattle.dch_amrecv.specs.Places.{front, laid, vacant};
 use crate::places::is_taken;
 use circular_buffer::HeapCircularBuffer;
 use dch_pool::Block;
-use dch_rlcpdu::SnRun;
 
 /// The vacant places as runs of at most 16, of which as many are written as find room: the first place, and how many follow it.
 /// Answers how many runs there are. Places are counted from one on, which is vacant.
 pub fn write_missing_runs(
     ring: &HeapCircularBuffer<Option<Block>>,
     from: usize,
-    out: &mut [SnRun],
+    out: &mut [(u16, u8)],
 ) -> usize
     requires from { from ≤ length ring.now.items }
     requires first { front (drop from ring.now.items) ≡ 0 }
@@ -51,15 +50,12 @@ fn continues(first: usize, more: usize, i: usize) -> bool
     i == first + more + 1 && more < 15
 }
 
-fn write_missing_run(out: &mut [SnRun], i: usize, first: usize, more: usize)
+fn write_missing_run(out: &mut [(u16, u8)], i: usize, first: usize, more: usize)
     requires first { first < 2048 }
     requires more { more < 16 }
     ensures { out.new ≡ slice_set out.old i (first, more) }
 {
     if i < out.len() {
-        out[i] = SnRun {
-            first: first as u16,
-            more: more as u8,
-        };
+        out[i] = (first as u16, more as u8);
     }
 }

@@ -2,7 +2,7 @@ ghost use Rattle.std.specs.Prelude.{◌≡◌, ◌+◌, ◌<◌, ◌≤◌, ◌+
 ghost use Rattle.dch_am.specs.Status.{fits, most};
 ghost use Rattle.dch_amrecv.specs.Holding.{numbered};
 
-use dch_rlcpdu::{NUMBERS, SnRun};
+use dch_rlcpdu::NUMBERS;
 
 /// The greatest number of runs, at most all of these, that fit so many bits.
 pub fn most(bits: usize, runs: usize) -> usize
@@ -22,14 +22,12 @@ pub fn most(bits: usize, runs: usize) -> usize
 }
 
 /// Gives runs their numbers of 12 bits.
-pub fn number(pairs: &mut [SnRun], next: u16)
+pub fn number(pairs: &mut [(u16, u8)], next: u16)
     ensures { pairs.new ≡ map (numbered next) pairs.old }
 {
     for i in 0..pairs.len() {
-        let run = pairs[i];
-        pairs[i] = SnRun {
-            first: ((next as u32 + run.first as u32) % NUMBERS as u32) as u16,
-            more: run.more,
-        };
+        let (first, more) = pairs[i];
+        let number = (next as u32 + first as u32) % NUMBERS as u32;
+        pairs[i] = (number as u16, more);
     }
 }

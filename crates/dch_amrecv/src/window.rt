@@ -10,7 +10,7 @@ use crate::stored::{store, stored};
 use circular_buffer::HeapCircularBuffer;
 use dch_bits::NoMemory;
 use dch_pool::{Block, Pool};
-use dch_rlcpdu::{Body, SnRun};
+use dch_rlcpdu::Body;
 use std::alloc::Global;
 use std::marker::Model;
 
@@ -122,7 +122,7 @@ impl RxWindow {
 
     /// The places without a PDU as runs of at most 16, from a place on that has none: the first of each run, counted from there, and
     /// how many follow it. As many are written as find room. Answers how many runs there are.
-    pub fn missing_runs(&self, from: usize, out: &mut [SnRun]) -> usize
+    pub fn missing_runs(&self, from: usize, out: &mut [(u16, u8)]) -> usize
         requires from { from ≤ length self.now.ring.items }
         requires first { front (drop from self.now.ring.items) ≡ 0 }
         requires few { self.now.ring.capacity ≤ 2048 }

@@ -4,7 +4,7 @@ ghost use Rattle.dch_am.specs.Numbers.{range};
 ghost use Rattle.dch_retx.specs.StatusItems.{first_of, missing_of, said_by, said_in};
 ghost use Rattle.dch_retx.specs.StatusItem.{first_outside, is_unknown, place_of};
 
-use dch_rlcpdu::{Cursor, NUMBERS, SnRun, StatusView, Sufi};
+use dch_rlcpdu::{Cursor, NUMBERS, StatusView, Sufi};
 
 /// Where a number stands among PDUs in flight, the first of which has another one.
 pub fn place_of(first: u16, number: u16) -> u16
@@ -75,7 +75,7 @@ fn outside_list(cursor: &Cursor<'_>, pairs: u8, sent: SentNumbers) -> Option<u16
     ensures { result ≡ first_outside sent.window sent.first sent.count (said_in (ListField (pairs_of (first_of cursor.now)))) }
 {
     for j in 0..pairs as usize {
-        let run = cursor.run(j);
+        let run = cursor.pair(j);
         let found = outside_run(run, sent);
         if found.is_some() {
             return found;
@@ -85,20 +85,21 @@ fn outside_list(cursor: &Cursor<'_>, pairs: u8, sent: SentNumbers) -> Option<u16
 }
 
 /// The first number of a run that is outside.
-fn outside_run(run: SnRun, sent: SentNumbers) -> Option<u16>
+fn outside_run(run: (u16, u8), sent: SentNumbers) -> Option<u16>
     requires number { run.0 < 4096 }
     requires more { run.1 < 16 }
     requires sent { (sent.window ≤ 2048) × (sent.first < 4096) × (sent.count ≤ 2048) }
     ensures { result ≡ first_outside sent.window sent.first sent.count (map missing_of (range run.0 (run.1 + 1))) }
 {
-    let place = place_of(sent.first, run.first);
+    let (first, more) = run;
+    let place = place_of(sent.first, first);
     if place >= sent.count {
-        return Some(run.first);
+        return Some(first);
     }
-    if place + (run.more as u16) < sent.count {
+    if place + (more as u16) < sent.count {
         return None;
     }
-    Some((run.first + (sent.count - place)) % NUMBERS)
+    Some((first + (sent.count - place)) % NUMBERS)
 }
 
 /// The first number of a BITMAP that is outside.

@@ -7,7 +7,7 @@ ghost use Rattle.dch_retx.specs.StatusItem.{is_named, names_place, with_name, wi
 
 use crate::flight::Flight;
 use crate::hear::place_of;
-use dch_rlcpdu::{Cursor, NUMBERS, SnRun, StatusView, Sufi};
+use dch_rlcpdu::{Cursor, NUMBERS, StatusView, Sufi};
 
 /// What names do: the number of the first PDU in flight, the place from which named PDUs are requested, the place before which they are marked, and
 /// the place of the PDU that is asked for.
@@ -62,7 +62,7 @@ fn name_list(flight: &mut Flight, cursor: &Cursor<'_>, pairs: u8, naming: Naming
 {
     let mut named = false;
     for j in 0..pairs as usize {
-        let run = cursor.run(j);
+        let run = cursor.pair(j);
         let here = name_run(flight, run, naming);
         named = named || here;
     }
@@ -70,13 +70,13 @@ fn name_list(flight: &mut Flight, cursor: &Cursor<'_>, pairs: u8, naming: Naming
 }
 
 /// The numbers of a run.
-fn name_run(flight: &mut Flight, run: SnRun, naming: Naming) -> bool
+fn name_run(flight: &mut Flight, run: (u16, u8), naming: Naming) -> bool
     requires number { run.0 < 4096 }
     requires first { naming.first < 4096 }
     ensures named { result ≡ is_named naming.first naming.polled (map missing_of (range run.0 (run.1 + 1))) }
     ensures after { flight.new ≡ buffer (with_names naming.first naming.from naming.to (map missing_of (range run.0 (run.1 + 1))) flight.old.items) flight.old.capacity }
 {
-    let SnRun { first, more } = run;
+    let (first, more) = run;
     let mut named = false;
     for k in 0..more as u16 + 1 {
         let here = name_one(flight, (first + k) % NUMBERS, naming);

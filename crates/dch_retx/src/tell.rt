@@ -8,7 +8,7 @@ ghost use Rattle.dch_retx.specs.Telling.{ends_by, told_more, IsPassed, IsTold};
 
 use crate::buffer::Running;
 use crate::hear::{SentNumbers, place_of};
-use dch_rlcpdu::{Cursor, NUMBERS, SnRun, StatusView, Sufi};
+use dch_rlcpdu::{Cursor, NUMBERS, StatusView, Sufi};
 
 /// Nothing is outside, wherever the lowest open PDU stands.
 const NO_LIMIT: u16 = NUMBERS + 1;
@@ -126,21 +126,22 @@ fn limit_list(cursor: &Cursor<'_>, pairs: u8, sent: SentNumbers) -> u16
 {
     let mut limit = NO_LIMIT;
     for j in 0..pairs as usize {
-        let run = cursor.run(j);
+        let run = cursor.pair(j);
         limit = limit.min(limit_run(run, sent));
     }
     limit
 }
 
 /// The same for a run.
-fn limit_run(run: SnRun, sent: SentNumbers) -> u16
+fn limit_run(run: (u16, u8), sent: SentNumbers) -> u16
     requires number { run.0 < 4096 }
     requires more { run.1 < 16 }
     requires sent { (sent.window ≤ 2048) × (sent.first < 4096) × (sent.count ≤ 2048) }
     ensures { result ≡ limit_in sent.window sent.first sent.count (map missing_of (range run.0 (run.1 + 1))) }
 {
-    let place = place_of(sent.first, run.first);
-    if place + (run.more as u16) < sent.count {
+    let (first, more) = run;
+    let place = place_of(sent.first, first);
+    if place + (more as u16) < sent.count {
         place + 1
     } else {
         0

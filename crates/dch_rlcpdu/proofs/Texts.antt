@@ -52,12 +52,6 @@ both front back at next a b c far first second text start is =
 pub nothing : (at : ℕ) (a : List ℕ) → Adds at [] a a
 nothing at a text start is = subst (IsText a) (sym (append-nil text)) is
 
--- what stands at a place, whatever stands where there is none
-pub same_at : (ps : List (ℕ × ℕ)) (i : ℕ) (p q : ℕ × ℕ) → i < length ps → get_or ps i p ≡ get_or ps i q
-same_at [] i p q l = absurd (omega arith)
-same_at (x ∷ ps) zero p q l = refl
-same_at (x ∷ ps) (suc i) p q l = same_at ps i p q (omega arith)
-
 -- one pair more
 pub pair_next : (ps : List (ℕ × ℕ)) (i at : ℕ) (p : ℕ × ℕ) (a b c : List ℕ) → i < length ps → p ≡ get_or ps i (0, 0) → Adds at (pairs_text (take i ps)) a b → Adds (at + 4 * i) (pairs_text (p ∷ [])) b c → Adds at (pairs_text (take (i + 1) ps)) a c
 pair_next ps i at p a b c inside is first second =

@@ -2,8 +2,7 @@ ghost use Rattle.std.specs.Prelude.{◌≡◌, ◌<◌, ◌==◌, length, drop, 
 ghost use Rattle.dch_rlcpdu.specs.Fields.{NoMoreField, bits_of, pairs_of};
 ghost use Rattle.dch_rlcpdu.specs.Sufis.{bits_in, pairs_in, sufi_of, IsInRange};
 
-use crate::field::{bit_at, run_at, size_at, sufi_at};
-use crate::run::SnRun;
+use crate::field::{bit_at, pair_at, size_at, sufi_at};
 use crate::sufi::Sufi;
 use std::marker::Model;
 
@@ -47,14 +46,14 @@ impl Cursor<'_> {
         sufi_at(self.octets, self.at)
     }
 
-    /// Run `j` of the first field that is left, a LIST: the first missing number, and how many follow it.
-    pub fn run(&self, j: usize) -> SnRun
+    /// Pair `j` of the first field that is left, a LIST: the first missing number, and how many follow it.
+    pub fn pair(&self, j: usize) -> (u16, u8)
         requires { j < length (pairs_of (slice_index_or self.now 0 NoMoreField)) }
         ensures value { result ≡ slice_index_or (pairs_of (slice_index_or self.now 0 NoMoreField)) j (0, 0) }
         ensures number { result.0 < 4096 }
         ensures more { result.1 < 16 }
     {
-        run_at(self.octets, self.at, j)
+        pair_at(self.octets, self.at, j)
     }
 
     /// Bit `j` of the first field that is left, a BITMAP.

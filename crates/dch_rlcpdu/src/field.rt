@@ -5,7 +5,6 @@ ghost use Rattle.dch_rlcpdu.specs.Reading.{field_of, is_last, size_by, size_of, 
 ghost use Rattle.dch_rlcpdu.specs.Sufis.{sufi_of, IsInRange};
 
 use crate::half::{bit_of, half, number};
-use crate::run::SnRun;
 use crate::sufi::Sufi;
 
 /// How many half octets the field at a place has, 0 where none is known.
@@ -104,18 +103,15 @@ pub(crate) fn sufi_at(octets: &[u8], at: usize) -> Sufi
     }
 }
 
-/// Run `j` of the LIST at a place.
-pub(crate) fn run_at(octets: &[u8], at: usize, j: usize) -> SnRun
+/// Pair `j` of the LIST at a place.
+pub(crate) fn pair_at(octets: &[u8], at: usize, j: usize) -> (u16, u8)
     requires whole { at + size_of (drop at (halves octets.now)) ≤ 2 * length octets.now }
     requires pair { j < length (pairs_of (field_of (drop at (halves octets.now)))) }
     ensures value { result ≡ slice_index_or (pairs_of (field_of (drop at (halves octets.now)))) j (0, 0) }
     ensures number { result.0 < 4096 }
     ensures more { result.1 < 16 }
 {
-    SnRun {
-        first: number(octets, at, 4 * j + 2),
-        more: half(octets, at, 4 * j + 5),
-    }
+    (number(octets, at, 4 * j + 2), half(octets, at, 4 * j + 5))
 }
 
 /// Bit `j` of the BITMAP at a place.

@@ -3,8 +3,6 @@ ghost use Rattle.dch_rlcpdu.specs.Fields.{fifteens};
 ghost use Rattle.dch_rlcpdu.specs.Halves.{halves};
 ghost use Rattle.dch_rlcpdu.specs.Writing.{IsText, ack_text, digits, list_text, lists_text, mrw_ack_text, mrw_text, pairs_text, status_text};
 
-use crate::run::SnRun;
-
 /// Empties a PDU and writes the half octet in front of the fields of a status.
 pub(crate) fn start(out: &mut [u8])
     requires { 0 < length out.old }
@@ -46,27 +44,27 @@ fn put_number(out: &mut [u8], at: usize, number: u16)
     put(out, at + 2, (number % 16) as u8);
 }
 
-fn put_run(out: &mut [u8], at: usize, run: SnRun)
+fn put_pair(out: &mut [u8], at: usize, pair: (u16, u8))
     requires place { at + 4 ≤ 2 * length out.old }
-    requires number { run.0 < 4096 }
-    requires more { run.1 < 16 }
-    ensures { (text : List ℕ) → length text ≡ at → IsText out.old text → IsText out.new (text ++ pairs_text (run ∷ [])) }
+    requires number { pair.0 < 4096 }
+    requires more { pair.1 < 16 }
+    ensures { (text : List ℕ) → length text ≡ at → IsText out.old text → IsText out.new (text ++ pairs_text (pair ∷ [])) }
 {
-    put_number(out, at, run.first);
-    put(out, at + 3, run.more);
+    put_number(out, at, pair.0);
+    put(out, at + 3, pair.1);
 }
 
-fn put_runs(out: &mut [u8], at: usize, pairs: &[SnRun])
+fn put_pairs(out: &mut [u8], at: usize, pairs: &[(u16, u8)])
     requires place { at + 4 * length pairs.now ≤ 2 * length out.old }
     requires pairs { All (λ p. (p.0 < 4096) × (p.1 < 16)) pairs.now }
     ensures { (text : List ℕ) → length text ≡ at → IsText out.old text → IsText out.new (text ++ pairs_text pairs.now) }
 {
     for i in 0..pairs.len() {
-        put_run(out, at + 4 * i, pairs[i]);
+        put_pair(out, at + 4 * i, pairs[i]);
     }
 }
 
-fn put_list(out: &mut [u8], at: usize, pairs: &[SnRun])
+fn put_list(out: &mut [u8], at: usize, pairs: &[(u16, u8)])
     requires place { at + 2 + 4 * length pairs.now ≤ 2 * length out.old }
     requires few { length pairs.now < 16 }
     requires pairs { All (λ p. (p.0 < 4096) × (p.1 < 16)) pairs.now }
@@ -74,11 +72,11 @@ fn put_list(out: &mut [u8], at: usize, pairs: &[SnRun])
 {
     put(out, at, 3);
     put(out, at + 1, pairs.len() as u8);
-    put_runs(out, at + 2, pairs);
+    put_pairs(out, at + 2, pairs);
 }
 
 /// Writes LISTs of fifteen pairs each, the last with the rest, behind what stands already, and answers where they end.
-fn put_lists(out: &mut [u8], at: usize, pairs: &[SnRun]) -> usize
+fn put_lists(out: &mut [u8], at: usize, pairs: &[(u16, u8)]) -> usize
     requires place { at + length (lists_text (fifteens (length pairs.now) pairs.now)) ≤ 2 * length out.old }
     requires pairs { All (λ p. (p.0 < 4096) × (p.1 < 16)) pairs.now }
     ensures end { result ≡ at + length (lists_text (fifteens (length pairs.now) pairs.now)) }
@@ -97,7 +95,7 @@ fn put_lists(out: &mut [u8], at: usize, pairs: &[SnRun]) -> usize
 }
 
 /// Writes the LISTs of all pairs, and ACK, behind what stands already.
-pub(crate) fn put_status(out: &mut [u8], at: usize, pairs: &[SnRun], lsn: u16)
+pub(crate) fn put_status(out: &mut [u8], at: usize, pairs: &[(u16, u8)], lsn: u16)
     requires place { at + length (status_text pairs.now lsn) ≤ 2 * length out.old }
     requires pairs { All (λ p. (p.0 < 4096) × (p.1 < 16)) pairs.now }
     requires number { lsn < 4096 }

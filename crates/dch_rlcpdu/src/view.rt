@@ -6,7 +6,6 @@ ghost use Rattle.dch_rlcpdu.specs.Sufis.{bits_in, pairs_in, sufi_of, IsInRange};
 
 use crate::cursor::Cursor;
 use crate::field::{ends_at, whole_size_at};
-use crate::run::SnRun;
 use crate::sufi::Sufi;
 use std::marker::Model;
 
@@ -59,15 +58,15 @@ impl StatusView<'_> {
         self.cursor_at(i).field()
     }
 
-    /// Run `j` of field `i`, a LIST: the first missing number, and how many follow it.
-    pub fn run(&self, i: usize, j: usize) -> SnRun
+    /// Pair `j` of field `i`, a LIST: the first missing number, and how many follow it.
+    pub fn pair(&self, i: usize, j: usize) -> (u16, u8)
         requires field { i < length self.now }
         requires pair { j < length (pairs_of (slice_index_or self.now i NoMoreField)) }
         ensures value { result ≡ slice_index_or (pairs_of (slice_index_or self.now i NoMoreField)) j (0, 0) }
         ensures number { result.0 < 4096 }
         ensures more { result.1 < 16 }
     {
-        self.cursor_at(i).run(j)
+        self.cursor_at(i).pair(j)
     }
 
     /// Bit `j` of field `i`, a BITMAP: true where that number has arrived.

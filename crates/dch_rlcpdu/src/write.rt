@@ -5,11 +5,10 @@ ghost use Rattle.dch_rlcpdu.specs.Reading.{status_of};
 ghost use Rattle.dch_rlcpdu.specs.Writing.{IsText, mrw_ack_text, mrw_text, status_text};
 
 use crate::put::{put_mrw, put_mrw_ack, put_status, start};
-use crate::run::SnRun;
 
 /// Writes the status PDU that says: all below `lsn` has arrived but these runs of missing numbers, each its first
-/// number and how many follow it (TS 25.322 9.2.1.5). Fifteen runs stand in each LIST, and zeros behind the status.
-pub fn write_ack(pairs: &[SnRun], lsn: u16, out: &mut [u8])
+/// number and how many follow it (TS 25.322 9.2.1.5). Fifteen pairs stand in each LIST, and zeros behind the status.
+pub fn write_ack(pairs: &[(u16, u8)], lsn: u16, out: &mut [u8])
     // in bits
     requires fit { 20 + 8 * div_ceil (length pairs.now) 15 + 16 * length pairs.now ≤ 8 * length out.old }
     requires pairs { All (λ p. (p.0 < 4096) × (p.1 < 16)) pairs.now }
@@ -50,7 +49,7 @@ pub fn write_mrw_ack(n: u8, sn: u16, out: &mut [u8])
 }
 
 /// Writes the status PDU that says that the window was moved, and then what `write_ack` says.
-pub fn write_mrw_status(n: u8, sn: u16, pairs: &[SnRun], lsn: u16, out: &mut [u8])
+pub fn write_mrw_status(n: u8, sn: u16, pairs: &[(u16, u8)], lsn: u16, out: &mut [u8])
     // in bits
     requires fit { 40 + 8 * div_ceil (length pairs.now) 15 + 16 * length pairs.now ≤ 8 * length out.old }
     requires mrw { sn < 4096 }

@@ -1,16 +1,13 @@
 use dch_rlcpdu::{StatusView, Sufi};
 
-// What field `i` of a status says, with its first run or bit.
+// What field `i` of a status says, with its first pair or bit.
 fn said(octets: &[u8], i: usize) -> Option<(Sufi, (u16, u8), bool)> {
     let view = StatusView::read(octets)?;
     if i >= view.fields() {
         return None;
     }
     Some(match view.field(i) {
-        Sufi::List { pairs } if pairs > 0 => {
-            let run = view.run(i, 0);
-            (Sufi::List { pairs }, (run.first, run.more), false)
-        }
+        Sufi::List { pairs } if pairs > 0 => (Sufi::List { pairs }, view.pair(i, 0), false),
         Sufi::Bitmap { first, bits } if bits > 0 => (
             Sufi::Bitmap { first, bits },
             (0, 0),

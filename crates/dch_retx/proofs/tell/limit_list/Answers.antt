@@ -18,8 +18,8 @@ loop-j-init c = record {
 pub loop-j-preserved : goal.loop-j-preserved
 loop-j-preserved c = record {
   so_far =
-      limit_part c.args.sent.window c.args.sent.first c.args.sent.count c.loop-j.limit c.limit_run.result (map missing_of (named (pairs_of (first_of c.args.cursor.now)))) (map missing_of (named (drop c.loop-j.j (pairs_of (first_of c.args.cursor.now))))) (map missing_of (range c.run-run.result.0 (c.run-run.result.1 + 1))) (map missing_of (named (drop (c.loop-j.j + 1) (pairs_of (first_of c.args.cursor.now)))))
-      c.loop-j.invariant.so_far (numbers_of (pairs_of (first_of c.args.cursor.now)) c.loop-j.j c.run-run.result (omega arith) (sym c.run-run.ensures.value)) c.limit_run.ensures
+      limit_part c.args.sent.window c.args.sent.first c.args.sent.count c.loop-j.limit c.limit_run.result (map missing_of (named (pairs_of (first_of c.args.cursor.now)))) (map missing_of (named (drop c.loop-j.j (pairs_of (first_of c.args.cursor.now))))) (map missing_of (range c.pair-run.result.0 (c.pair-run.result.1 + 1))) (map missing_of (named (drop (c.loop-j.j + 1) (pairs_of (first_of c.args.cursor.now)))))
+      c.loop-j.invariant.so_far (numbers_of (pairs_of (first_of c.args.cursor.now)) c.loop-j.j c.pair-run.result (omega arith) (sym c.pair-run.ensures.value)) c.limit_run.ensures
       ∙ ap (λ k. min k (limit_in c.args.sent.window c.args.sent.first c.args.sent.count (map missing_of (named (drop (c.loop-j.j + 1) (pairs_of (first_of c.args.cursor.now))))))) (sym c.min-limit.ensures);
   small = omega (arith, c.loop-j.invariant.small);
 }

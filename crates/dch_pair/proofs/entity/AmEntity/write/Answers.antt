@@ -22,8 +22,8 @@ returns-then-status_due-clause-history c rules e is =
     (turn_tells rules e.sender e.receiver (sym (c.if-status_due.ensures.due e.handed e.receiver here.receiver))) (
       refl,
       subst (λ (x : Running). IsReport c.write_status.new.out (tells_now (8 * size_of x) e.receiver)) c.self.view_is
-      (subst (λ n. IsReport c.write_status.new.out (tells_now (8 * n) e.receiver)) c.self.invariant.0
-      (record { text = c.write_status.ensures.text e.handed e.receiver here.receiver; read = c.write_status.ensures.read e.handed e.receiver here.receiver })),
+          (subst (λ n. IsReport c.write_status.new.out (tells_now (8 * n) e.receiver)) c.self.invariant.0
+          (record { text = c.write_status.ensures.text e.handed e.receiver here.receiver; read = c.write_status.ensures.read e.handed e.receiver here.receiver })),
       record {
         rules_are = rules_stay rules v e c.write_status.new.self here c.write_status.ensures.same.rules;
         sender = here.sender;

@@ -3,23 +3,6 @@ use std::marker::Model;
 /// PDUs of the acknowledged mode are numbered modulo this.
 pub const NUMBERS: u16 = 4096;
 
-/// A run of missing numbers of PDUs: the first one, modulo 4096, and how many follow it, at most 15.
-#[derive(Clone, Copy)]
-pub struct SnRun {
-    pub first: u16,
-    pub more: u8,
-}
-
-impl Model for SnRun {
-    ghost use Rattle.std.specs.Prelude.{ℕ};
-
-    ghost Value = { ℕ × ℕ };
-
-    ghost view = { λ r. (r.first, r.more) };
-
-    ghost inverse = { λ p. record { first = p.0; more = p.1 } };
-}
-
 /// Where a discard ends: the number of a PDU, modulo 4096, and the place of a length indicator in it, below 16.
 #[derive(Clone, Copy)]
 pub struct MrwPlace {

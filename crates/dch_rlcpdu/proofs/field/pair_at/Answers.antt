@@ -1,7 +1,7 @@
 use Rattle.std.proofs.Common.{drop, arith, sym, ap₂, ◌∙◌, ℕ}
 use Rattle.dch_rlcpdu.specs.Halves.{halves}
 use Rattle.dch_rlcpdu.proofs.FieldKinds.{PairAt, pair_place}
-use Rattle.dch_rlcpdu.proofs.field.run_at.Goals as goal
+use Rattle.dch_rlcpdu.proofs.field.pair_at.Goals as goal
 
 pub number-requires : goal.number-requires
 number-requires c =
