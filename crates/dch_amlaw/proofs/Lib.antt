@@ -9,6 +9,7 @@ pub mod History
 pub mod Short
 mod Examples
 pub mod Lossless
+pub mod Listed
 pub mod Units
 pub mod Readings
 pub mod Places

@@ -14,3 +14,4 @@ pub mod Settling
 pub mod Events
 pub mod Tells
 pub mod Handing
+pub mod Histories

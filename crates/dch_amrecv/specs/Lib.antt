@@ -7,3 +7,4 @@ pub mod Holding
 pub mod Standing
 pub mod Moves
 pub mod Texts
+pub mod History

@@ -1,14 +1,16 @@
-ghost use Rattle.std.specs.Prelude.{◌≡◌, ◌≢◌, ◌+◌, ◌*◌, ◌<◌, ◌≤◌, ◌==◌, ℕ, [], IfNone, IfOk, Some, drop, length, true};
+ghost use Rattle.std.specs.Prelude.{◌≡◌, ◌≢◌, ◌+◌, ◌*◌, ◌<◌, ◌≤◌, ◌==◌, ◌++◌, ℕ, List, [], ◌∷◌, IfNone, IfOk, Some, drop, length, true};
 ghost use Rattle.dch_am.specs.declared.answers.MrwTaken.TheVariants.{Obeyed, Old};
 ghost use Rattle.dch_am.specs.declared.answers.Taken.TheVariants.{Duplicate, Outside};
 ghost use Rattle.dch_am.specs.Moves.{after_control as after_moves, control_answer as moves_answer};
 ghost use Rattle.dch_am.specs.Receiver.{Receiver, after_pdu, opened_receiver, taken};
+ghost use Rattle.dch_am.specs.ReceiverHistory.{Arrive, HandUp, Obey, ReceiverEvent, Restart, Tell, Tick};
 ghost use Rattle.dch_am.specs.Telling.{after_telling as after_told, is_due as is_told, tells_now, tick_receiver};
 ghost use Rattle.dch_am.specs.Contents.{body_in};
 ghost use Rattle.dch_sar.specs.Taking.{handed_of, written};
 ghost use Rattle.dch_rlcpdu.specs.Reading.{status_of};
-ghost use Rattle.dch_am.specs.Rules.{rules_of};
+ghost use Rattle.dch_am.specs.Rules.{Rules, rules_of};
 ghost use Rattle.dch_am.specs.Texts.{IsHeard, IsTold};
+ghost use Rattle.dch_amrecv.specs.History.{IsReceiverOf};
 ghost use Rattle.dch_amrecv.specs.Holding.{after_unit, is_due, is_settled, opened, with_mrw_ack, with_owed};
 ghost use Rattle.dch_amrecv.specs.Standing.{IsSame, Stands, given_after, said};
 
@@ -50,6 +52,7 @@ impl AmRecv {
         requires window { rules.window ≤ 2048 }
         ensures value { IfOk result (λ r. r ≡ opened rules pdu reply) }
         ensures stands { IfOk result (λ r. (buffer : ℕ) → Stands r 0 (opened_receiver (rules_of buffer rules))) }
+        ensures history { IfOk result (λ r. (buffer : ℕ) → IsReceiverOf (rules_of buffer rules) [] r) }
     {
         let holder = Holder::open(alloc, pdu, reply, rules)?;
         Ok(AmRecv { holder })
@@ -64,6 +67,8 @@ impl AmRecv {
         ensures answer { (buffer given : ℕ) (r : Receiver) → Stands self.old given r → result ≡ taken (rules_of buffer self.old.rules) r sn }
         ensures stands { (buffer given : ℕ) (r : Receiver) → Stands self.old given r →
             Stands self.new given (after_pdu (rules_of buffer self.old.rules) (taken (rules_of buffer self.old.rules) r sn) r sn poll (body_in body.now)) }
+        ensures history { (rules : Rules) (events : List ReceiverEvent) → IsReceiverOf rules events self.old →
+            IsReceiverOf rules (events ++ Arrive sn poll (body_in body.now) ∷ []) self.new }
         // a duplicate with the poll bit has a status owed, and nothing else
         ensures duplicate { result ≡ Duplicate → self.new ≡ with_owed poll self.old }
         ensures outside { result ≡ Outside → self.new ≡ self.old }
@@ -91,6 +96,8 @@ impl AmRecv {
         ensures next { (given : ℕ) (r : Receiver) → Stands self.old given r → result ≡ handed_of (drop given r.reading.units) }
         ensures octets { (given : ℕ) (r : Receiver) → Stands self.old given r → out.new ≡ written (drop given r.reading.units) out.old }
         ensures stands { (given : ℕ) (r : Receiver) → Stands self.old given r → Stands self.new (given_after result given) r }
+        ensures history { (rules : Rules) (events : List ReceiverEvent) → IsReceiverOf rules events self.old →
+            IsReceiverOf rules (events ++ HandUp ∷ []) self.new }
         ensures same { IsSame self.old self.new }
     {
         self.holder.next_unit(out)
@@ -114,6 +121,8 @@ impl AmRecv {
         // the other end reads that
         ensures read { (given : ℕ) (r : Receiver) → Stands self.old given r → IsHeard out.new (tells_now (8 * self.old.reply) r) }
         ensures stands { (buffer given : ℕ) (r : Receiver) → Stands self.old given r → Stands self.new given (after_told (rules_of buffer self.old.rules) r) }
+        ensures history { (rules : Rules) (events : List ReceiverEvent) → IsReceiverOf rules events self.old →
+            IsReceiverOf rules (events ++ Tell ∷ []) self.new }
         ensures same { IsSame self.old self.new }
         ensures kept { self.new.kept ≡ self.old.kept }
     {
@@ -125,6 +134,8 @@ impl AmRecv {
         requires settled { is_settled self.old ≡ true }
         ensures answer { (buffer given : ℕ) (r : Receiver) → Stands self.old given r → result ≡ moves_answer (rules_of buffer self.old.rules) r status.now }
         ensures stands { (buffer given : ℕ) (r : Receiver) → Stands self.old given r → Stands self.new given (after_moves (rules_of buffer self.old.rules) r status.now) }
+        ensures history { (rules : Rules) (events : List ReceiverEvent) → IsReceiverOf rules events self.old →
+            IsReceiverOf rules (events ++ Obey status.now ∷ []) self.new }
         // an old MRW is answered, and nothing else
         ensures old { result ≡ Old → self.new ≡ with_mrw_ack self.new.ack self.old }
         ensures unchanged { result ≢ Obeyed → result ≢ Old → self.new ≡ self.old }
@@ -142,6 +153,8 @@ impl AmRecv {
         requires settled { is_settled self.old ≡ true }
         ensures value { self.new ≡ opened self.old.rules self.old.pdu self.old.reply }
         ensures stands { (buffer : ℕ) → Stands self.new 0 (opened_receiver (rules_of buffer self.old.rules)) }
+        ensures history { (rules : Rules) (events : List ReceiverEvent) → IsReceiverOf rules events self.old →
+            IsReceiverOf rules (events ++ Restart ∷ []) self.new }
         ensures same { IsSame self.old self.new }
     {
         self.holder.restart();
@@ -150,6 +163,8 @@ impl AmRecv {
     /// One tick of the timers.
     pub fn tick(&mut self)
         ensures stands { (buffer given : ℕ) (r : Receiver) → Stands self.old given r → Stands self.new given (tick_receiver (rules_of buffer self.old.rules) r) }
+        ensures history { (rules : Rules) (events : List ReceiverEvent) → IsReceiverOf rules events self.old →
+            IsReceiverOf rules (events ++ Tick ∷ []) self.new }
         ensures same { IsSame self.old self.new }
         ensures kept { self.new.kept ≡ self.old.kept }
     {

@@ -7,6 +7,7 @@ pub mod Events
 pub mod Extents
 pub mod Fills
 pub mod Finding
+pub mod Histories
 pub mod Offering
 pub mod Passing
 pub mod Placing

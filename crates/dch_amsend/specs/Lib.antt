@@ -3,6 +3,7 @@ pub mod BufferStanding
 pub mod Counting
 pub mod DiscardStanding
 pub mod Discarding
+pub mod History
 pub mod Outgoing
 pub mod Scanning
 pub mod SduDiscard

@@ -1,16 +1,19 @@
-ghost use Rattle.std.specs.Prelude.{◌≡◌, ◌≢◌, ◌<◌, ◌≤◌, ◌&&◌, ◌||◌, not, ℕ, true, IfOk, is_some, length, nat_lt};
+ghost use Rattle.std.specs.Prelude.{◌≡◌, ◌≢◌, ◌<◌, ◌≤◌, ◌&&◌, ◌||◌, ◌++◌, not, ℕ, List, [], ◌∷◌, true, IfOk, is_some, length, nat_lt};
 ghost use Rattle.dch_bits.specs.declared.offer.Offer.TheVariants.{Accepted};
 ghost use Rattle.dch_am.specs.declared.answers.StatusTaken.TheVariants.{Taken};
 ghost use Rattle.dch_am.specs.Acknowledging.{after_fields, status_answer};
-ghost use Rattle.dch_am.specs.Building.{after_build, available, body_of_choice, choice, gives};
+ghost use Rattle.dch_am.specs.Building.{after_build, available, body_of_choice, choice, gives, number_of, polls_at};
 ghost use Rattle.dch_am.specs.Discards.{after_moving, discards, mrw_due, tick_sender};
+ghost use Rattle.dch_am.specs.Listed.{IsListed, listed_text};
 ghost use Rattle.dch_am.specs.Restart.{restarted_sender};
 ghost use Rattle.dch_am.specs.Rules.{Rules, rules_of};
 ghost use Rattle.dch_am.specs.Sender.{Sender, after_offer, discarded, offered, opened_sender};
+ghost use Rattle.dch_am.specs.SenderHistory.{Build, Hear, Move, Offer as Offers, Restart, SenderEvent, Tick};
 ghost use Rattle.dch_am.specs.Short.{IsShort};
 ghost use Rattle.dch_am.specs.Texts.{IsMrw, next_pdu};
 ghost use Rattle.dch_retx.specs.Standing.{timed};
 ghost use Rattle.dch_amsend.specs.SduDiscard.{capped};
+ghost use Rattle.dch_amsend.specs.History.{IsSenderOf};
 ghost use Rattle.dch_amsend.specs.Outgoing.{available_of};
 ghost use Rattle.dch_amsend.specs.Standing.{IsSame, Stands, is_control_due, is_due, pdu_octets, room_in};
 
@@ -61,6 +64,7 @@ impl AmSend {
         requires window { rules.window ≤ 2048 }
         ensures size { IfOk result (λ v. pdu_octets v ≡ pdu) }
         ensures stands { IfOk result (λ v. Stands (rules_of buffer rules) v opened_sender) }
+        ensures history { IfOk result (λ v. IsSenderOf (rules_of buffer rules) [] v) }
     {
         let outgoing = Outgoing::open(alloc, pdu, buffer, rules)?;
         let discard = SduDiscard::open(alloc, buffer)?;
@@ -77,6 +81,8 @@ impl AmSend {
         ensures answer { (rules : Rules) (s : Sender) → Stands rules self.old s → result ≡ offered rules s unit.now }
         ensures refused { result ≢ Accepted → self.new ≡ self.old }
         ensures stands { (rules : Rules) (s : Sender) → Stands rules self.old s → Stands rules self.new (after_offer (offered rules s unit.now) s unit.now) }
+        ensures history { (rules : Rules) (events : List SenderEvent) → IsSenderOf rules events self.old →
+            IsSenderOf rules (events ++ Offers unit.now ∷ []) self.new }
         ensures same { IsSame self.old self.new }
     {
         match self.outgoing.offer(unit) {
@@ -113,6 +119,12 @@ impl AmSend {
         // it says all that it holds
         ensures short { (rules : Rules) (s : Sender) → Stands rules self.old s → IsShort (room_in self.old) (body_of_choice (choice rules s) (room_in self.old) s) }
         ensures stands { (rules : Rules) (s : Sender) → Stands rules self.old s → Stands rules self.new (after_build rules (room_in self.old) s) }
+        // it is the PDU of its number in the list of PDUs of the accepted units, for the first time or again
+        ensures listed { (rules : Rules) (s : Sender) → Stands rules self.old s → IsListed (room_in self.old) s →
+            out.new ≡ listed_text (room_in self.old) (after_build rules (room_in self.old) s)
+            (number_of (choice rules s) s) (polls_at (choice rules s) rules (room_in self.old) s) }
+        ensures history { (rules : Rules) (events : List SenderEvent) → IsSenderOf rules events self.old →
+            IsSenderOf rules (events ++ Build ∷ []) self.new }
         ensures same { IsSame self.old self.new }
     {
         self.outgoing.build(out)
@@ -123,6 +135,8 @@ impl AmSend {
         ensures answer { (rules : Rules) (s : Sender) → Stands rules self.old s → result ≡ status_answer rules s status.now }
         ensures outside { result ≢ Taken → self.new ≡ self.old }
         ensures stands { (rules : Rules) (s : Sender) → Stands rules self.old s → Stands rules self.new (after_fields rules s status.now) }
+        ensures history { (rules : Rules) (events : List SenderEvent) → IsSenderOf rules events self.old →
+            IsSenderOf rules (events ++ Hear status.now ∷ []) self.new }
         ensures same { IsSame self.old self.new }
     {
         let before = self.outgoing.sdus();
@@ -135,6 +149,8 @@ impl AmSend {
     /// due is discarded with all before it.
     pub fn tick(&mut self)
         ensures stands { (rules : Rules) (s : Sender) → Stands rules self.old s → Stands rules self.new (tick_sender rules s) }
+        ensures history { (rules : Rules) (events : List SenderEvent) → IsSenderOf rules events self.old →
+            IsSenderOf rules (events ++ Tick ∷ []) self.new }
         ensures same { IsSame self.old self.new }
     {
         self.count();
@@ -194,6 +210,8 @@ impl AmSend {
         requires size { length out.old ≡ pdu_octets self.old }
         ensures mrw { (rules : Rules) (s : Sender) → Stands rules self.old s → IsMrw out.new s.discard }
         ensures stands { (rules : Rules) (s : Sender) → Stands rules self.old s → Stands rules self.new (after_moving rules s s.discard) }
+        ensures history { (rules : Rules) (events : List SenderEvent) → IsSenderOf rules events self.old →
+            IsSenderOf rules (events ++ Move ∷ []) self.new }
         ensures same { IsSame self.old self.new }
     {
         self.outgoing.write_mrw(out)
@@ -203,6 +221,8 @@ impl AmSend {
     /// The others stay in order, with their ages, and begin with PDU 0. How many units were discarded since opening stays.
     pub fn restart(&mut self)
         ensures stands { (rules : Rules) (s : Sender) → Stands rules self.old s → Stands rules self.new (restarted_sender s) }
+        ensures history { (rules : Rules) (events : List SenderEvent) → IsSenderOf rules events self.old →
+            IsSenderOf rules (events ++ Restart ∷ []) self.new }
         ensures same { IsSame self.old self.new }
     {
         let kept = self.outgoing.restart();

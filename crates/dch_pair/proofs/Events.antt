@@ -1,13 +1,10 @@
 -- A running entity after a call.
-use Rattle.std.proofs.Common.{◌≡◌, ◌+◌, ℕ, List, [], ◌∷◌, ◌++◌, cond, length, drop, arith, refl, sym, ap, ◌∙◌, subst, length-drop}
-use Rattle.std.specs.Prelude.{nat_lt}
-use Rattle.std.proofs.lemmas.Bool.{le-ltb, lt-ltb}
+use Rattle.std.proofs.Common.{◌≡◌, ℕ, List, [], ◌∷◌, ◌++◌, refl, sym, ap, ◌∙◌, subst}
 use Rattle.dch_am.specs.Entities.{Entity, Event, step, steps}
 use Rattle.dch_am.specs.Receiver.{Receiver}
 use Rattle.dch_am.specs.Rules.{Rules, rules_of}
 use Rattle.dch_amrecv.specs.Holding.{Holding}
-use Rattle.dch_amrecv.specs.Standing.{Stands, given_after}
-use Rattle.dch_sar.specs.Taking.{handed_of}
+use Rattle.dch_amrecv.specs.Standing.{Stands}
 use Rattle.dch_pair.specs.EntityStanding.{Represents, Running}
 
 -- one event more
@@ -29,11 +26,3 @@ follows next rules v e h is step = subst (λ x. Stands h e.handed (next x e.rece
 -- what it answers, by its rules
 pub answers : {A : Type 0} → (answer : Rules → A) (rules : Rules) (v : Running) (e : Entity) (x : A) → Represents rules v e → x ≡ answer (rules_of rules.buffer v.receiver.rules) → x ≡ answer rules
 answers answer rules v e x is q = q ∙ ap answer (sym is.rules_are)
-
--- the next unit is handed up, where one waits
-pub hand_on : (given : ℕ) (units : List (List ℕ)) → given_after (handed_of (drop given units)) given ≡ cond (nat_lt given (length units)) (given + 1) given
-hand_on given units = go (drop given units) refl
-  where
-    go : (rest : List (List ℕ)) → drop given units ≡ rest → given_after (handed_of rest) given ≡ cond (nat_lt given (length units)) (given + 1) given
-    go [] e = sym (ap (λ b. cond b (given + 1) given) (le-ltb given (length units) (omega (arith, length-drop given units, ap length e))))
-    go (x ∷ rest) e = sym (ap (λ b. cond b (given + 1) given) (lt-ltb given (length units) (omega (arith, length-drop given units, ap length e))))

@@ -17,7 +17,7 @@ pub use answers::{Built, Received};
 pub use dch_amlaw::in_order_law;
 pub use entity::AmEntity;
 pub use inside::are_inside;
-pub use laws::events_law;
+pub use laws::{events_law, listed_law};
 pub use outcome::PairEnd;
 pub use run::run_pair;
 pub use setup::{End, PairEvent, PairSetup};

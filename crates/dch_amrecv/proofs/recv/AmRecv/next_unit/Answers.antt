@@ -3,6 +3,9 @@ use Rattle.dch_sar.specs.Taking.{handed_of, written}
 use Rattle.dch_amrecv.specs.Holding.{Holding, after_unit}
 use Rattle.dch_amrecv.specs.Standing.{IsSame}
 use Rattle.dch_amrecv.proofs.Handing.{handed_cut, next_stands, none_same, written_cut}
+use Rattle.dch_am.specs.ReceiverHistory.{HandUp}
+use Rattle.dch_am.specs.Rules.{rules_of}
+use Rattle.dch_amrecv.proofs.Histories.{handed_on, happened}
 use Rattle.dch_amrecv.proofs.recv.AmRecv.next_unit.Goals as goal
 
 pub returns-clause-none : goal.returns-clause-none
@@ -23,3 +26,6 @@ returns-clause-stands c given r s =
 
 pub returns-clause-same : goal.returns-clause-same
 returns-clause-same c = subst (IsSame c.args.self.now) (sym (c.next_unit.ensures.rest ∙ ap after_unit c.self.view_is)) (record { rules = refl; pdu = refl; reply = refl })
+
+pub returns-clause-history : goal.returns-clause-history
+returns-clause-history c = λ rules events. happened rules events HandUp c.args.self.now _ (returns-clause-same c).rules (λ side is. handed_on (rules_of rules.buffer c.args.self.now.rules) c.next_unit.new.self side c.next_unit.result (returns-clause-next c side.handed side.receiver is) (returns-clause-stands c side.handed side.receiver is))

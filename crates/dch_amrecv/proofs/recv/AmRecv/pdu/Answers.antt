@@ -5,6 +5,8 @@ use Rattle.dch_amrecv.specs.Holding.{after_answer, answer}
 use Rattle.dch_am.specs.Rules.{rules_of}
 use Rattle.dch_amrecv.specs.Standing.{IsSame, Stands}
 use Rattle.dch_amrecv.proofs.Events.{answer_is, pdu_stands, same_answer}
+use Rattle.dch_am.specs.ReceiverHistory.{Arrive}
+use Rattle.dch_amrecv.proofs.Histories.{happened}
 use Rattle.dch_amrecv.proofs.recv.AmRecv.pdu.Goals as goal
 
 pub returns-clause-answer : goal.returns-clause-answer
@@ -19,3 +21,6 @@ returns-clause-stands c buffer given r s =
 
 pub returns-clause-same : goal.returns-clause-same
 returns-clause-same c = subst (IsSame c.args.self.now) (sym (c.pdu.ensures.after ∙ ap (λ h. after_answer c.pdu.result c.args.sn c.args.poll (body_in c.args.body.now) h) c.self.view_is)) (same_answer c.args.self.now c.args.sn c.args.poll (body_in c.args.body.now) c.pdu.result)
+
+pub returns-clause-history : goal.returns-clause-history
+returns-clause-history c = λ rules events. happened rules events (Arrive c.args.sn c.args.poll (body_in c.args.body.now)) c.args.self.now _ (returns-clause-same c).rules (λ side. returns-clause-stands c rules.buffer side.handed side.receiver)

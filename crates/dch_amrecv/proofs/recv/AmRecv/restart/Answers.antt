@@ -4,6 +4,8 @@ use Rattle.dch_am.specs.Rules.{rules_of}
 use Rattle.dch_amrecv.specs.Holding.{Holding, opened}
 use Rattle.dch_amrecv.specs.Standing.{IsSame, Stands}
 use Rattle.dch_amrecv.proofs.Events.{opened_stands}
+use Rattle.dch_am.specs.ReceiverHistory.{Restart}
+use Rattle.dch_amrecv.proofs.Histories.{happened}
 use Rattle.dch_amrecv.proofs.recv.AmRecv.restart.Goals as goal
 
 pub returns-clause-value : goal.returns-clause-value
@@ -15,3 +17,6 @@ returns-clause-stands c buffer =
 
 pub returns-clause-same : goal.returns-clause-same
 returns-clause-same c = subst (IsSame c.args.self.now) (sym (returns-clause-value c)) (record { rules = refl; pdu = refl; reply = refl })
+
+pub returns-clause-history : goal.returns-clause-history
+returns-clause-history c = λ rules events. happened rules events Restart c.args.self.now _ (returns-clause-same c).rules (λ side is. returns-clause-stands c rules.buffer)

@@ -4,7 +4,10 @@ use Rattle.dch_rlcpdu.specs.Writing.{IsText}
 use Rattle.dch_amrecv.specs.Holding.{after_telling, fields_told, plain_due}
 use Rattle.dch_amrecv.specs.Standing.{IsSame}
 use Rattle.dch_amrecv.specs.Texts.{text_told}
-use Rattle.dch_amrecv.proofs.Tells.{fields_are, heard, text_is}
+use Rattle.dch_amrecv.proofs.Tells.{fields_are, heard, text_is, told_stands}
+use Rattle.dch_am.specs.ReceiverHistory.{Tell, receiver_step}
+use Rattle.dch_am.specs.Rules.{rules_of}
+use Rattle.dch_amrecv.proofs.Histories.{StandsFor, happened}
 use Rattle.dch_amrecv.proofs.recv.AmRecv.write_status.Goals as goal
 
 pub returns-clause-fields : goal.returns-clause-fields
@@ -26,3 +29,6 @@ returns-clause-same c = subst (IsSame c.args.self.now) (sym (c.tell.ensures.afte
 
 pub returns-clause-kept : goal.returns-clause-kept
 returns-clause-kept c = ap (λ h. h.kept) (c.tell.ensures.after ∙ ap after_telling c.self.view_is)
+
+pub returns-clause-history : goal.returns-clause-history
+returns-clause-history c = λ rules events. happened rules events Tell c.args.self.now _ (returns-clause-same c).rules (λ side is. subst (λ h. StandsFor h (receiver_step (rules_of rules.buffer c.args.self.now.rules) side Tell)) (sym (c.tell.ensures.after ∙ ap after_telling c.self.view_is)) (told_stands c.args.self.now rules.buffer side.handed side.receiver is))

@@ -1,9 +1,11 @@
-use Rattle.std.proofs.Common.{◌≡◌, ◌-◌, ◌∙◌, subst, sym}
+use Rattle.std.proofs.Common.{◌≡◌, ◌-◌, ◌∙◌, subst, sym, ap}
 use Rattle.dch_bits.specs.declared.offer.Offer.TheVariants.{Accepted}
 use Rattle.dch_am.specs.Sender.{after_offer, offered}
 use Rattle.dch_amsend.specs.Outgoing.{IsOutgoing}
 use Rattle.dch_amsend.specs.Standing.{Sending, Stands}
 use Rattle.dch_amsend.proofs.Sending.{offer_stands, other_offer, stands_by}
+use Rattle.dch_am.specs.SenderHistory.{Offer as Offers}
+use Rattle.dch_amsend.proofs.Histories.{happened}
 use Rattle.dch_amsend.proofs.send.AmSend.offer.Goals as goal
 
 pub returns-in-Accepted-clause-answer : goal.returns-in-Accepted-clause-answer
@@ -34,3 +36,9 @@ returns-in_default-clause-stands c = λ rules s is.
     let here : Stands rules v s = subst (λ x. Stands rules x s) (sym c.self.view_is) is in
     let goes = c.offer.ensures.history rules (c.self.inside.outgoing.size - 2) s here.outgoing in
     offer_stands rules _ s c.args.unit.now c.offer.result (sym goes.0) (stands_by rules v s (after_offer c.offer.result s c.args.unit.now) c.offer.new.self c.self.inside.discard here c.offer.ensures.size goes.1 (other_offer rules c.self.inside.discard s c.args.unit.now c.offer.result c.in_default.not-Accepted here.sdu_discard))
+
+pub returns-in-Accepted-clause-history : goal.returns-in-Accepted-clause-history
+returns-in-Accepted-clause-history c = λ rules events. happened rules events (Offers c.args.unit.now) c.args.self.now _ (c.offer.ensures.size ∙ ap (λ (x : Sending). x.outgoing.size) c.self.view_is) (returns-in-Accepted-clause-stands c rules)
+
+pub returns-in_default-clause-history : goal.returns-in_default-clause-history
+returns-in_default-clause-history c = λ rules events. happened rules events (Offers c.args.unit.now) c.args.self.now _ (c.offer.ensures.size ∙ ap (λ (x : Sending). x.outgoing.size) c.self.view_is) (returns-in_default-clause-stands c rules)

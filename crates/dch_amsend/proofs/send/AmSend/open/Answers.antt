@@ -10,3 +10,6 @@ returns-clause-stands c = record {
   outgoing = subst (λ n. IsOutgoing (rules_of c.args.buffer c.args.rules) (n - 2) c.in_ok-outgoing.outgoing opened_sender) (sym c.in_ok-outgoing.ensures.size) c.in_ok-outgoing.ensures.history;
   sdu_discard = c.in_ok-discard.ensures.history (rules_of c.args.buffer c.args.rules);
 }
+
+pub returns-clause-history : goal.returns-clause-history
+returns-clause-history c = returns-clause-stands c

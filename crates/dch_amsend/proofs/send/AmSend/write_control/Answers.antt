@@ -1,4 +1,4 @@
-use Rattle.std.proofs.Common.{◌≡◌, ◌-◌, ◌∙◌, subst, sym, true}
+use Rattle.std.proofs.Common.{◌≡◌, ◌-◌, ◌∙◌, subst, sym, true, ap}
 use Rattle.dch_am.specs.Numbers.{wrapped}
 use Rattle.dch_rlcpdu.specs.declared.am.AmView.TheVariants.{Status}
 use Rattle.dch_rlcpdu.proofs.AmPdus.{am_back, status_written}
@@ -8,6 +8,8 @@ use Rattle.dch_retx.specs.RetxBuffer.{is_due}
 use Rattle.dch_retx.proofs.Ticking.{due_is}
 use Rattle.dch_amsend.specs.Standing.{Sending, Stands}
 use Rattle.dch_amsend.proofs.Sending.{moving_stands, mrw_by}
+use Rattle.dch_am.specs.SenderHistory.{Move}
+use Rattle.dch_amsend.proofs.Histories.{happened}
 use Rattle.dch_amsend.proofs.send.AmSend.write_control.Goals as goal
 
 pub returns-clause-stands : goal.returns-clause-stands
@@ -25,3 +27,6 @@ returns-clause-mrw c = λ rules s is.
     mrw_by s c.write_mrw.new.out (sym (due_is rules c.self.inside.outgoing.line s here.outgoing.line) ∙ due) (λ x e.
     let written = c.write_mrw.ensures.history rules (c.self.inside.outgoing.size - 2) s x here.outgoing e in
     record { text = written.0; read = am_back c.write_mrw.new.out (Status (mrw_fields (wrapped x.k) x.n)) (status_written c.write_mrw.new.out (mrw_text (wrapped x.k) x.n) (mrw_fields (wrapped x.k) x.n) written.0 written.1) })
+
+pub returns-clause-history : goal.returns-clause-history
+returns-clause-history c = λ rules events. happened rules events Move c.args.self.now _ (c.write_mrw.ensures.size ∙ ap (λ (x : Sending). x.outgoing.size) c.self.view_is) (returns-clause-stands c rules)

@@ -1,7 +1,8 @@
 use Rattle.std.proofs.Common.{subst, sym}
 use Rattle.dch_amrecv.specs.Standing.{Stands, given_after}
 use Rattle.dch_pair.specs.EntityStanding.{Represents, Running}
-use Rattle.dch_pair.proofs.Events.{hand_on, rules_stay}
+use Rattle.dch_amrecv.proofs.Histories.{hand_on}
+use Rattle.dch_pair.proofs.Events.{rules_stay}
 use Rattle.dch_pair.proofs.entity.AmEntity.next_unit.Goals as goal
 
 pub returns-clause-answer : goal.returns-clause-answer
