@@ -7,9 +7,8 @@ use Rattle.std.proofs.lemmas.Bool.{false≢true, ne_eqb}
 use Rattle.std.proofs.lemmas.List.{drop-take, length-take-le, nil_from_length, take-append-le, take_all}
 use Rattle.std.proofs.lemmas.List.Recursion.{is_count_by}
 use Rattle.dch_io.specs.Ends.{End, span}
-use Rattle.dch_io.specs.Pieces.{IsPiece, ReadsOn}
+use Rattle.dch_io.specs.Pieces.{IsPiece, LIMIT, ReadsOn}
 use Rattle.dch_io.specs.declared.feed.ReadStop.TheVariants.{Failed, TooLong}
-use Rattle.dch_io.specs.declared.feed.TheConstants.{LIMIT}
 use Rattle.dch_script.specs.Lines.{lines_after, rest_after, lines_of}
 use Rattle.dch_check.specs.ConfigSection.{Gathered, behind, behind_separator, configuration_of, gathered, has_separator, is_complete, is_separator, nothing, script_of, section_of, settled}
 use Rattle.dch_check.specs.TakenConfigs.{FailsInConfig, IsTakenConfig, IsConfigTooLong, LacksInConfig}
@@ -63,7 +62,7 @@ too_long_config a b c f g h count section room gathering reads =
     record {
       taken = gathering.taken ++ reads.piece;
       takes = Consumes-trans a b c gathering.taken reads.piece gathering.takes reads.takes;
-      long = omega (arith, reads.some, length-append gathering.taken reads.piece);
+      long = omega (arith, reads.one, length-append gathering.taken reads.piece);
       soon = rw front_is gathering.going;
     }
 
@@ -72,7 +71,10 @@ pub lacks_in_config : (a b c : Option (List ℕ)) (f g h count : ℕ) (section :
 lacks_in_config a b c f g h count section piece gathering next = record {
   taken = gathering.taken ++ piece;
   takes = Consumes-trans a b c gathering.taken piece gathering.takes next.takes;
-  within = omega (arith, gathering.counted, next.within, length-append gathering.taken piece);
+  lacks = record {
+    within = omega (arith, gathering.counted, next.within, length-append gathering.taken piece);
+    soon = record { old = gathering.taken; piece = piece; pieces = refl; small = next.small; incomplete = gathering.going };
+  };
 }
 
 -- what follows the line `---`, where that line doesn't end in the first bytes
@@ -217,11 +219,7 @@ config_completed a b c f g h count read from section next room later gathering i
       few = rw (ne_eqb read 0 some) few;
       ordered = ordered;
       inside = inside;
-      old = gathering.taken;
-      piece = piece;
-      pieces = refl;
-      small = is_piece.small;
-      soon = gathering.going;
+      soon = record { old = gathering.taken; piece = piece; pieces = refl; small = is_piece.small; incomplete = gathering.going };
       later = omega (arith, gathering.later, later);
     }
 
@@ -245,11 +243,7 @@ config_ended a b c f g h count read from section next room later gathering is_pi
       few = rw (none, text) (omega (arith, lines_few [] (configuration_of gathering.taken), section_within [] gathering.taken, gathering.counted));
       ordered = ordered;
       inside = inside;
-      old = gathering.taken;
-      piece = [];
-      pieces = sym (append-nil gathering.taken);
-      small = omega arith;
-      soon = gathering.going;
+      soon = record { old = gathering.taken; piece = []; pieces = sym (append-nil gathering.taken); small = omega arith; incomplete = gathering.going };
       later = omega (arith, gathering.later, later);
     }
 

@@ -1,8 +1,8 @@
 -- How the configuration at the front of an input is taken, by the bytes that the source gave.
-use Rattle.std.specs.Prelude.{◌≡◌, ◌<◌, ◌≤◌, ◌⊎◌, ◌+◌, ◌-◌, ℕ, List, ◌++◌, true, false, length, take, slice_range, Result, Ok, Err, if◌then◌else◌}
+use Rattle.std.specs.Prelude.{◌≡◌, ◌≤◌, ◌⊎◌, ◌+◌, ◌-◌, ℕ, List, ◌++◌, true, false, length, take, slice_range, Result, Ok, Err, if◌then◌else◌}
 use Rattle.std.specs.Io.KnownBytes.{Consumes, IsAtEnd}
 use Rattle.dch_io.specs.Ends.{End, Fails}
-use Rattle.dch_io.specs.declared.feed.TheConstants.{LIMIT, PIECE}
+use Rattle.dch_io.specs.Pieces.{LIMIT, PIECE}
 use Rattle.dch_script.specs.Lines.{lines_of}
 use Rattle.dch_check.specs.ConfigSection.{configuration_of, is_complete, script_of, settled}
 use Rattle.dch_check.specs.declared.taken_config.TakenConfig.{TakenConfig}
@@ -26,6 +26,14 @@ pub record IsEnded (front : TakenConfig) (source : End) (taken : List ℕ) : Typ
 abbrev pub lines_before : TakenConfig → ℕ
 lines_before front = length (lines_of (settled front.section)) + (if front.pending.at_end then 0 else 1)
 
+-- no more was taken than the piece with which the configuration is complete
+pub record IsTakenSoon (taken : List ℕ) : Type 0 where
+  pub old : List ℕ
+  pub piece : List ℕ
+  pub pieces : taken ≡ old ++ piece
+  pub small : length piece ≤ PIECE
+  pub incomplete : is_complete old ≡ false
+
 -- the configuration was taken whole, with no more pieces than that needs
 pub record IsTakenConfig (source : End) (room : List ℕ) (front : TakenConfig) : Type 0 where
   pub taken : List ℕ
@@ -38,11 +46,7 @@ pub record IsTakenConfig (source : End) (room : List ℕ) (front : TakenConfig) 
   pub few : lines_before front + (front.pending.to - front.pending.from) ≤ front.read
   pub ordered : front.pending.from ≤ front.pending.to
   pub inside : front.pending.to ≤ length room
-  pub old : List ℕ
-  pub piece : List ℕ
-  pub pieces : taken ≡ old ++ piece
-  pub small : length piece ≤ PIECE
-  pub soon : is_complete old ≡ false
+  pub soon : IsTakenSoon taken
   pub later : source.faults_before ≤ source.faults_now
 
 -- the source failed before the configuration was whole
@@ -53,18 +57,23 @@ pub record FailsInConfig (source : End) : Type 0 where
   pub soon : is_complete taken ≡ false
   pub fails : Fails source
 
--- more bytes were taken than may come, and the configuration was not whole within the limit
+-- just one byte more was taken than may come, and the configuration was not whole within the limit
 pub record IsConfigTooLong (source : End) : Type 0 where
   pub taken : List ℕ
   pub takes : Consumes source.before source.now taken
-  pub long : LIMIT < length taken
+  pub long : length taken ≡ LIMIT + 1
   pub soon : is_complete (take LIMIT taken) ≡ false
 
--- memory was wanted
+-- memory was wanted, no later than with the piece that completes the configuration
+pub record LacksEarly (taken : List ℕ) : Type 0 where
+  pub within : length taken ≤ LIMIT
+  pub soon : IsTakenSoon taken
+
+-- memory was wanted before the configuration was whole
 pub record LacksInConfig (source : End) : Type 0 where
   pub taken : List ℕ
   pub takes : Consumes source.before source.now taken
-  pub within : length taken ≤ LIMIT
+  pub lacks : LacksEarly taken
 
 -- what taking the configuration does
 abbrev pub TakesConfig : End → List ℕ → Result TakenConfig ConfigFault → Type 0

@@ -1,6 +1,6 @@
 ghost use Rattle.std.specs.Prelude.{◌≡◌, ◌≤◌, ◌-◌, length, drop, IfOk, OnOk};
 ghost use Rattle.dch_io.specs.Ends.{end_of};
-ghost use Rattle.dch_io.specs.declared.feed.TheConstants.{LIMIT, PIECE};
+ghost use Rattle.dch_io.specs.Pieces.{LIMIT, PIECE};
 ghost use Rattle.dch_script.specs.Lines.{lines_of};
 ghost use Rattle.dch_check.specs.ConfigSection.{behind, gathered, settled};
 ghost use Rattle.dch_check.specs.TakenConfigs.{TakesConfig, lines_before};

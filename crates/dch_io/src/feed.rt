@@ -1,8 +1,7 @@
 ghost use Rattle.std.specs.Prelude.{◌≡◌, ◌≤◌, length, OnOk, OnErr, IfOk};
 ghost use Rattle.std.specs.Io.KnownBytes.{Appends};
 ghost use Rattle.dch_io.specs.Ends.{Breaks, end_of};
-ghost use Rattle.dch_io.specs.Pieces.{ReadsOn};
-ghost use Rattle.dch_io.specs.declared.feed.TheConstants.{LIMIT, PIECE};
+ghost use Rattle.dch_io.specs.Pieces.{LIMIT, PIECE, ReadsOn};
 
 use crate::{Failed, Sink, Source};
 use dch_bits::NoMemory;
@@ -54,7 +53,7 @@ pub fn new_piece(alloc: Global) -> Result<Vec<u8>, NoMemory>
 }
 
 /// Reads the next piece of an input of which so many bytes came to the front of `room`, and answers its length: 0 at the end of
-/// the input. Where as many bytes came as may come, one more is looked for.
+/// the input. Where as many bytes came as may come, just one more is looked for.
 pub fn read_next<S: Source>(
     source: &mut S,
     room: &mut [u8],

@@ -5,7 +5,7 @@ use Rattle.std.specs.Prelude.{Err}
 use Rattle.std.specs.Io.KnownBytes.{Consumes, IsAtEnd, Keeps}
 use Rattle.std.proofs.KnownBytes.{Appends-trans, Consumes-trans, Appends-nil, Consumes-nil}
 use Rattle.dch_io.specs.Ends.{End, Breaks, Fails, span}
-use Rattle.dch_io.specs.declared.feed.TheConstants.{LIMIT, PIECE}
+use Rattle.dch_io.specs.Pieces.{LIMIT, PIECE}
 use Rattle.dch_script.specs.Code.{longest}
 use Rattle.dch_script.specs.Lines.{lines_after}
 use Rattle.dch_script.specs.declared.event.LineError.TheVariants.{Cut, Long}
@@ -205,9 +205,9 @@ piece_ends semantics a b c k l m f g e h i j first old new part piece ReadFault 
 piece_ends semantics a b c k l m f g e h i j first old new part piece TooLong going consumes within small takes = absurd takes
 
 -- one byte more than may come is taken
-pub too_long : {S : Type 0} (semantics : Semantics S) (a b c k l : Option (List ℕ)) (f g e h i : ℕ) (first old : Progress S) (part piece : List ℕ) → Going semantics (span a b f g) (span k l h i) first old part → Consumes b c piece → old.bytes ≡ LIMIT → 0 < length piece
+pub too_long : {S : Type 0} (semantics : Semantics S) (a b c k l : Option (List ℕ)) (f g e h i : ℕ) (first old : Progress S) (part piece : List ℕ) → Going semantics (span a b f g) (span k l h i) first old part → Consumes b c piece → old.bytes ≡ LIMIT → length piece ≡ 1
     → FollowsInput semantics (span a c f e) (span k l h i) first old.handler part TooLong
-too_long semantics a b c k l f g e h i first old part piece going consumes full some =
+too_long semantics a b c k l f g e h i first old part piece going consumes full one =
     let done : List ℕ = part ++ going.taken in
     let count : first.bytes + length done ≡ LIMIT = omega (arith, going.at.counted) in
     let front : take (LIMIT - first.bytes) (done ++ piece) ≡ done = take-append-le (LIMIT - first.bytes) done piece (omega (arith, count)) ∙ take_all (LIMIT - first.bytes) done (omega (arith, count)) in

@@ -6,7 +6,7 @@ use Rattle.dch_script.specs.Code.{longest}
 use Rattle.dch_script.specs.Lines.{lines_after, rest_after}
 use Rattle.dch_script.specs.declared.event.LineError.{LineError}
 use Rattle.dch_script.specs.declared.event.LineError.TheVariants.{Cut}
-use Rattle.dch_io.specs.declared.feed.TheConstants.{LIMIT, PIECE}
+use Rattle.dch_io.specs.Pieces.{LIMIT, PIECE}
 use Rattle.dch_lines.specs.Semantics.{Semantics}
 use Rattle.dch_lines.specs.Processor.{Progress, HasFaulty, MeetsFault}
 use Rattle.dch_lines.specs.LineTexts.{HandlesFront, HandlesLines, nonempty_lines, refusal}
@@ -115,9 +115,9 @@ pub record FailsWriting {S : Type 0} (semantics : Semantics S) (source sink : En
   pub cut : IsCutShort written (old.text ++ text ++ last)
   pub covers : ((taken ≡ []) × (length part ≤ PIECE)) ⊎ CoversAll semantics old (part ++ taken) written
 
--- more bytes were taken than may come; within the limit each whole line is good, the line that has begun is not too long, and the text is written
+-- just one byte more was taken than may come; within the limit each whole line is good, the line that has begun is not too long, and the text is written
 pub record IsTooLong {S : Type 0} (semantics : Semantics S) (old : Progress S) (bytes written : List ℕ) : Type 0 where
-  pub long : LIMIT < old.bytes + length bytes
+  pub long : old.bytes + length bytes ≡ LIMIT + 1
   pub short : length (rest_after old.line (take (LIMIT - old.bytes) bytes)) ≤ longest
   pub state : S
   pub text : List ℕ

@@ -1,5 +1,5 @@
 ghost use Rattle.std.specs.Prelude.{◌≡◌, ◌<◌, ◌≤◌, ◌+◌, ◌++◌, ℕ, false, length, OnOk, IfErr};
-ghost use Rattle.dch_io.specs.declared.feed.TheConstants.{LIMIT};
+ghost use Rattle.dch_io.specs.Pieces.{LIMIT};
 ghost use Rattle.dch_lines.specs.Semantics.{Adds, Counts, IsFault, Leads, RefusesLong, Semantics};
 ghost use Rattle.dch_lines.specs.LineTexts.{is_empty};
 

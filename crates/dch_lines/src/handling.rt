@@ -1,6 +1,6 @@
 ghost use Rattle.std.specs.Prelude.{◌≡◌, ◌<◌, ◌≤◌, ◌+◌, length, IfOk};
 ghost use Rattle.dch_io.specs.Ends.{end_of};
-ghost use Rattle.dch_io.specs.declared.feed.TheConstants.{LIMIT};
+ghost use Rattle.dch_io.specs.Pieces.{LIMIT};
 ghost use Rattle.dch_lines.specs.Processor.{EndsSteps, LineOutcome};
 ghost use Rattle.dch_lines.specs.Semantics.{Leads};
 

@@ -1,6 +1,6 @@
 ghost use Rattle.std.specs.Prelude.{◌≡◌, ◌<◌, ◌≤◌, ◌+◌, ◌-◌, length, slice_range, OnOk};
 ghost use Rattle.dch_io.specs.Ends.{end_of};
-ghost use Rattle.dch_io.specs.declared.feed.TheConstants.{LIMIT, PIECE};
+ghost use Rattle.dch_io.specs.Pieces.{LIMIT, PIECE};
 ghost use Rattle.dch_script.specs.Code.{longest};
 ghost use Rattle.dch_lines.specs.Followed.{FollowsInput};
 ghost use Rattle.dch_lines.specs.Pieces.{AnswersFault, TakesPiece, EndsInput};

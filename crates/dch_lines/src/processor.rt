@@ -1,7 +1,7 @@
 ghost use Rattle.std.specs.Prelude.{◌≡◌, ◌↔◌, IsTrue, ◌<◌, ◌≤◌, ◌+◌, ◌-◌, ◌++◌, [], ℕ, List, Option, length, true, false, IfOk, OnOk, OnErr};
 ghost use Rattle.std.specs.Io.KnownBytes.{Appends};
 ghost use Rattle.dch_io.specs.Ends.{Breaks, end_of, span};
-ghost use Rattle.dch_io.specs.declared.feed.TheConstants.{LIMIT};
+ghost use Rattle.dch_io.specs.Pieces.{LIMIT};
 ghost use Rattle.dch_script.specs.Code.{longest};
 ghost use Rattle.dch_script.specs.declared.code.TheConstants.{LONGEST_LINE};
 ghost use Rattle.dch_lines.specs.Processor.{Progress, EndsLine, LeadsOn, Steps, Follows, FollowsPart, EndsIn, GoesOnIn, Takes, StopsAt};

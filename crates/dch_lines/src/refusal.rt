@@ -1,5 +1,5 @@
 ghost use Rattle.std.specs.Prelude.{◌≡◌, ◌≤◌, ◌+◌, ◌++◌, length};
-ghost use Rattle.dch_io.specs.declared.feed.TheConstants.{LIMIT};
+ghost use Rattle.dch_io.specs.Pieces.{LIMIT};
 ghost use Rattle.dch_lines.specs.LineTexts.{reason, refusal};
 ghost use Rattle.dch_lines.specs.declared.processor.TheConstants.{LEAST_ROOM};
 

@@ -2,7 +2,7 @@
 use Rattle.std.proofs.Common.{◌≡◌, ◌≤◌, ◌+◌, ◌*◌, ◌%◌, ℕ, Bool, subst, sym}
 use Rattle.std.specs.Prelude.{IfSome, Option, Some, None}
 use Rattle.dch_accept.specs.Plans.{Planned}
-use Rattle.dch_io.specs.declared.feed.TheConstants.{LIMIT}
+use Rattle.dch_io.specs.Pieces.{LIMIT}
 use Rattle.dch_script.specs.Held.{Held}
 use Rattle.dch_link.specs.Passing.{IsStage}
 use Rattle.dch_link.specs.Standing.{HasNext, IsLinkOf}

@@ -10,7 +10,7 @@ use Rattle.dch_check.specs.ConfigSection.{configuration_of}
 use Rattle.dch_check.specs.Both.{AreAccepted, RefusesBoth}
 use Rattle.dch_check.proofs.ConfigSections.{configuration_more}
 use Rattle.dch_check.proofs.BothJudgements.{one_both}
-use Rattle.dch_io.specs.declared.feed.TheConstants.{LIMIT}
+use Rattle.dch_io.specs.Pieces.{LIMIT}
 use Rattle.dch_lines.proofs.Complete.{consumed, all_consumed}
 use Rattle.dch_top.specs.Checked.{Answers, Checks, HasEnded, Judged}
 use Rattle.dch_top.specs.declared.check.Answer.{Answer}
@@ -41,7 +41,7 @@ answered a b k l f g h i answer status judged answers = absurd answers
 -- there is no judgement, and nothing is written
 pub unanswered : (a b k : Option (List ℕ)) (f g h : ℕ) (status : Status) → Judged (span a b f g) (Err status) → Checks (span a b f g) (span k k h h) status
 unanswered a b k f g h ReadFault judged = record { taken = judged.taken; written = []; takes = judged.takes; writes = Appends-nil k; answers = (judged.finds, refl) }
-unanswered a b k f g h NoMemory judged = record { taken = judged.taken; written = []; takes = judged.takes; writes = Appends-nil k; answers = refl }
+unanswered a b k f g h NoMemory judged = record { taken = judged.taken; written = []; takes = judged.takes; writes = Appends-nil k; answers = (judged.finds, refl) }
 unanswered a b k f g h TooLong judged = record { taken = judged.taken; written = []; takes = judged.takes; writes = Appends-nil k; answers = (judged.finds, refl) }
 unanswered a b k f g h status judged = absurd judged.finds
 

@@ -3,6 +3,7 @@ use Rattle.std.proofs.Common.{◌≡◌, ℕ, List, [], Option, map, string_byte
 use Rattle.std.proofs.KnownBytes.{Appends-nil, Consumes-nil}
 use Rattle.std.specs.declared.alloc.Global.{Global}
 use Rattle.dch_io.specs.Ends.{End, span}
+use Rattle.dch_check.specs.TakenConfigs.{LacksEarly}
 use Rattle.dch_top.specs.declared.arguments.Subcommand.{Subcommand}
 use Rattle.dch_top.specs.declared.arguments.Subcommand.TheVariants.{Check, Encode, NodeB, Rnc, Ue, Link, Soft, Gen, Pair}
 use Rattle.dch_top.specs.declared.arguments.Arguments.{Arguments}
@@ -30,13 +31,16 @@ ran_nothing words a k f h nodes none = record {
   misuses = λ not. (record { written = []; writes = Appends-nil k; answers = refl; unread = refl }, none);
 }
   where
+    lacks : LacksEarly []
+    lacks = record { within = omega arith; soon = record { old = []; piece = []; pieces = refl; small = omega arith; incomplete = refl } }
+
     nothing : (subcommand : Subcommand) (arguments : Arguments) → Runs subcommand arguments (span a a f f) (span k k h h) nodes NoMemory
-    nothing Check arguments = (record { taken = []; written = []; takes = Consumes-nil a; writes = Appends-nil k; answers = refl }, none)
+    nothing Check arguments = (record { taken = []; written = []; takes = Consumes-nil a; writes = Appends-nil k; answers = (lacks, refl) }, none)
     nothing Encode arguments = ((Consumes-nil a, Appends-nil k), none)
-    nothing NodeB arguments = record { runs = record { taken = []; written = []; takes = Consumes-nil a; writes = Appends-nil k; answers = inl (omega arith, refl) }; idle = λ ill. none }
-    nothing Rnc arguments = record { runs = record { taken = []; written = []; takes = Consumes-nil a; writes = Appends-nil k; answers = inl (omega arith, refl) }; idle = λ ill. none }
-    nothing Ue arguments = record { runs = record { taken = []; written = []; takes = Consumes-nil a; writes = Appends-nil k; answers = inl (omega arith, refl) }; idle = λ ill. none }
-    nothing Link arguments = record { runs = record { taken = []; written = []; takes = Consumes-nil a; writes = Appends-nil k; answers = inl (omega arith, refl) }; idle = λ ill. none }
-    nothing Soft arguments = record { runs = record { taken = []; written = []; takes = Consumes-nil a; writes = Appends-nil k; answers = inl (omega arith, refl) }; idle = λ ill. none }
+    nothing NodeB arguments = record { runs = record { taken = []; written = []; takes = Consumes-nil a; writes = Appends-nil k; answers = inl (lacks, refl) }; idle = λ ill. none }
+    nothing Rnc arguments = record { runs = record { taken = []; written = []; takes = Consumes-nil a; writes = Appends-nil k; answers = inl (lacks, refl) }; idle = λ ill. none }
+    nothing Ue arguments = record { runs = record { taken = []; written = []; takes = Consumes-nil a; writes = Appends-nil k; answers = inl (lacks, refl) }; idle = λ ill. none }
+    nothing Link arguments = record { runs = record { taken = []; written = []; takes = Consumes-nil a; writes = Appends-nil k; answers = inl (lacks, refl) }; idle = λ ill. none }
+    nothing Soft arguments = record { runs = record { taken = []; written = []; takes = Consumes-nil a; writes = Appends-nil k; answers = inl (lacks, refl) }; idle = λ ill. none }
     nothing Gen arguments = record { ends = (Appends-nil k, none); unread = refl }
     nothing Pair arguments = (inr (refl, (Consumes-nil a, Appends-nil k)), none)

@@ -7,9 +7,8 @@ use Rattle.std.proofs.lemmas.Bool.{false≢true}
 use Rattle.std.proofs.Math.Seq.{take-append-add}
 use Rattle.std.specs.declared.alloc.Global.{Global}
 use Rattle.dch_io.specs.Ends.{End, span}
-use Rattle.dch_io.specs.Pieces.{IsPiece, ReadsOn}
+use Rattle.dch_io.specs.Pieces.{IsPiece, LIMIT, ReadsOn}
 use Rattle.dch_io.specs.declared.feed.ReadStop.TheVariants as stop
-use Rattle.dch_io.specs.declared.feed.TheConstants.{LIMIT}
 use Rattle.dch_check.specs.ConfigSection.{configuration_of, is_complete, settled}
 use Rattle.dch_check.specs.TakenConfigs.{IsTakenConfig, TakesConfig}
 use Rattle.dch_check.specs.Both.{AreAccepted, RefusesBoth}
@@ -21,7 +20,7 @@ use Rattle.dch_top.specs.Checked.{HasEnded, Judged, JudgesText, PassesOver, faul
 use Rattle.dch_top.specs.declared.check.Answer.{Answer}
 use Rattle.dch_top.specs.declared.check.Answer.TheVariants.{Accepted as AcceptedBy, Refused as RefusedBy}
 use Rattle.dch_top.specs.declared.status.Status.{Status}
-use Rattle.dch_top.specs.declared.status.Status.TheVariants.{ReadFault, TooLong}
+use Rattle.dch_top.specs.declared.status.Status.TheVariants.{NoMemory, ReadFault, TooLong}
 
 -- the rest of an input is taken, and has not ended
 pub record Passing (source : End) (first count : ℕ) : Type 0 where
@@ -61,7 +60,7 @@ pub passes_limit : (a b c : Option (List ℕ)) (f g h first count : ℕ) (room :
 passes_limit a b c f g h first count room passing reads = record {
   more = passing.more ++ reads.piece;
   takes = Consumes-trans a b c passing.more reads.piece passing.takes reads.takes;
-  ends = omega (arith, passing.counted, reads.full, reads.some, length-append passing.more reads.piece);
+  ends = omega (arith, passing.counted, reads.full, reads.one, length-append passing.more reads.piece);
 }
 
 -- a fault before the configuration was whole
@@ -71,7 +70,7 @@ config_fault a b f g room fault.ReadFault takes = record {
   takes = takes.takes;
   finds = record { fails = takes.fails; within = takes.within; good = λ done. absurd (false≢true (sym takes.soon ∙ done)) };
 }
-config_fault a b f g room fault.NoMemory takes = record { taken = takes.taken; takes = takes.takes; finds = tt }
+config_fault a b f g room fault.NoMemory takes = record { taken = takes.taken; takes = takes.takes; finds = takes.lacks }
 config_fault a b f g room fault.TooLong takes = record {
   taken = takes.taken;
   takes = takes.takes;
@@ -91,17 +90,17 @@ judged_refused source room front line is refuses = record {
     within = is.within;
     ended = has_ended source room front is;
     refuses = subst (λ t. RefusesBoth t (string_bytes line)) is.text refuses;
-    old = is.old;
-    piece = is.piece;
-    pieces = is.pieces;
-    small = is.small;
     soon = is.soon;
   };
 }
 
+-- memory is wanted for its judgement
+pub judged_lacks : (source : End) (room : List ℕ) (front : TakenConfig) (status : Status) → IsTakenConfig source room front → status ≡ NoMemory → Judged source (Err status)
+judged_lacks source room front status is lacks = rw lacks (record { taken = is.taken; takes = is.takes; finds = record { within = is.within; soon = is.soon } })
+
 -- it is judged at the end of the input
 pub judged_whole : (source : End) (room : List ℕ) (front : TakenConfig) (found : Result Answer Status) → IsTakenConfig source room front → front.pending.at_end ≡ true → JudgesText (settled front.section) found → Judged source found
-judged_whole source room front (Err status) is end judges = rw judges (record { taken = is.taken; takes = is.takes; finds = tt })
+judged_whole source room front (Err status) is end judges = judged_lacks source room front status is judges
 judged_whole source room front (Ok (RefusedBy line)) is end judges = judged_refused source room front line is judges
 judged_whole source room front (Ok (AcceptedBy line)) is end judges = record {
   taken = is.taken;

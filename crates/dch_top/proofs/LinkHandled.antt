@@ -3,7 +3,7 @@ use Rattle.std.proofs.Common.{◌≡◌, ◌≢◌, ◌<◌, ◌⊎◌, ◌∙�
 use Rattle.std.specs.Prelude.{codes, take, ◌-◌}
 use Rattle.std.specs.Io.KnownBytes.{Appends, Consumes}
 use Rattle.dch_io.specs.Ends.{End}
-use Rattle.dch_io.specs.declared.feed.TheConstants.{LIMIT}
+use Rattle.dch_io.specs.Pieces.{LIMIT}
 use Rattle.dch_script.specs.Lines.{lines_of, rest_of}
 use Rattle.dch_check.specs.ConfigSection.{configuration_of, script_of}
 use Rattle.dch_check.specs.declared.both.Configurations.{Configurations}

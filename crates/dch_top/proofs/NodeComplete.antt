@@ -7,7 +7,7 @@ use Rattle.std.proofs.Math.Seq.{get_or-append_seam}
 use Rattle.dch_types.specs.declared.config.Config.{Config}
 use Rattle.dch_io.specs.Causes.{Rose}
 use Rattle.dch_io.specs.Ends.{End, span}
-use Rattle.dch_io.specs.declared.feed.TheConstants.{LIMIT}
+use Rattle.dch_io.specs.Pieces.{LIMIT}
 use Rattle.dch_accept.specs.Plans.{Planned}
 use Rattle.dch_script.specs.Lines.{lines_of, rest_of}
 use Rattle.dch_script.specs.declared.event.LineError.{LineError}

@@ -3,7 +3,7 @@ use Rattle.std.proofs.Common.{◌≡◌, ◌⊎◌, ◌≤◌, ℕ, List, [], Op
 use Rattle.std.specs.Io.KnownBytes.{IsAtEnd}
 use Rattle.dch_io.specs.Causes.{Rose}
 use Rattle.dch_io.specs.Ends.{End, span}
-use Rattle.dch_io.specs.declared.feed.TheConstants.{LIMIT}
+use Rattle.dch_io.specs.Pieces.{LIMIT}
 use Rattle.dch_script.specs.Lines.{lines_of, rest_of}
 use Rattle.dch_lines.specs.Followed.{FollowsInput}
 use Rattle.dch_lines.specs.declared.stop.Outcome.{Outcome}

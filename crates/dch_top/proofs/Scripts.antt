@@ -66,7 +66,7 @@ ends_ill semantics represents source sink front old new handler state bytes line
 -- a fault before the configuration was whole
 pub ends_unopened : {kind : FrontKind} (a b k : Option (List ℕ)) (f g h : ℕ) (room : List ℕ) (fault : ConfigFault) → TakesConfig (span a b f g) room (Err fault) → EndsUnopened kind (span a b f g) (span k k h h) (fault_status fault)
 ends_unopened a b k f g h room fault.ReadFault takes = record { taken = takes.taken; written = []; takes = takes.takes; writes = Appends-nil k; answers = (record { fails = takes.fails; within = takes.within; soon = takes.soon }, refl) }
-ends_unopened a b k f g h room fault.NoMemory takes = record { taken = takes.taken; written = []; takes = takes.takes; writes = Appends-nil k; answers = (takes.within, refl) }
+ends_unopened a b k f g h room fault.NoMemory takes = record { taken = takes.taken; written = []; takes = takes.takes; writes = Appends-nil k; answers = (takes.lacks, refl) }
 ends_unopened a b k f g h room fault.TooLong takes = record { taken = takes.taken; written = []; takes = takes.takes; writes = Appends-nil k; answers = (record { long = takes.long; soon = takes.soon }, refl) }
 
 -- why a line is refused, seen from another end of the input
@@ -138,14 +138,14 @@ follows_whole {S} {kind} semantics opened a b c k l f g h i j room front accepte
       ended = inl (complete_more is.taken run.taken whole.done);
       accepted = accepted;
       is = subst (λ t. ArePlannedAs kind t accepted) (is.text ∙ sym more) good;
-      old = is.old;
-      piece = is.piece;
+      old = is.soon.old;
+      piece = is.soon.piece;
       later = run.taken;
-      pieces = ap (λ p. p ++ run.taken) is.pieces;
-      small = is.small;
-      soon = is.soon;
+      pieces = ap (λ p. p ++ run.taken) is.soon.pieces;
+      small = is.soon.small;
+      soon = is.soon.incomplete;
       part = part;
-      rest = whole.behind ∙ ap (λ t. script_of t) is.pieces;
+      rest = whole.behind ∙ ap (λ t. script_of t) is.soon.pieces;
       script = script ∙ ap (λ p. p ++ run.taken) (sym whole.behind);
       answers = subst (λ (p : Progress _). AnswersTaken semantics (span a c f h) (span k l i j) p after part run.taken run.written outcome) begin
           (answers_from semantics (span b c g h) (span a c f h) (span k l i j) (opened_begin front (opened accepted)) after part run.taken run.written outcome (λ end. end) (λ fails. omega (arith, is.later, fails)) run.answers);
@@ -172,14 +172,14 @@ follows_last {S} {kind} semantics opened a b k l now f g i j room front accepted
       ended = inr ended.end;
       accepted = accepted;
       is = subst (λ t. ArePlannedAs kind t accepted) is.text good;
-      old = is.old;
-      piece = is.piece;
+      old = is.soon.old;
+      piece = is.soon.piece;
       later = run.taken;
-      pieces = is.pieces ∙ sym (ap (λ l. (is.old ++ is.piece) ++ l) unread ∙ append-nil (is.old ++ is.piece));
-      small = is.small;
-      soon = is.soon;
+      pieces = is.soon.pieces ∙ sym (ap (λ l. (is.soon.old ++ is.soon.piece) ++ l) unread ∙ append-nil (is.soon.old ++ is.soon.piece));
+      small = is.soon.small;
+      soon = is.soon.incomplete;
       part = part;
-      rest = empty ∙ sym none ∙ ap (λ t. script_of t) is.pieces;
+      rest = empty ∙ sym none ∙ ap (λ t. script_of t) is.soon.pieces;
       script = none ∙ sym (ap (λ p. p ++ run.taken) empty ∙ unread);
       answers = subst (λ (p : Progress _). AnswersTaken semantics (span a b f g) (span k l i j) p after part run.taken run.written outcome) begin
           (answers_from semantics (span (Some []) now 0 0) (span a b f g) (span k l i j) (opened_begin front (opened accepted)) after part run.taken run.written outcome (λ end. ended.end) (λ fails. absurd (omega (arith, fails))) run.answers);
@@ -245,7 +245,7 @@ lacks_before_opening a b c k l f g h i j room front is still = record {
   written = [];
   takes = subst (Consumes a c) (append-nil is.taken) (Consumes-trans a b c is.taken [] is.takes still.0);
   writes = still.1;
-  answers = (is.within, refl);
+  answers = (record { within = is.within; soon = is.soon }, refl);
 }
 
 -- only one outcome is well

@@ -1,9 +1,10 @@
 -- What `check` answers, by the bytes that it took and wrote.
-use Rattle.std.specs.Prelude.{◌≡◌, ◌<◌, ◌≤◌, ◌⊎◌, ◌+◌, ℕ, List, [], ◌++◌, true, false, length, take, Result, Ok, Err, string_bytes}
+use Rattle.std.specs.Prelude.{◌≡◌, ◌≤◌, ◌⊎◌, ◌+◌, ℕ, List, [], ◌++◌, true, false, length, take, Result, Ok, Err, string_bytes}
 use Rattle.std.specs.Io.KnownBytes.{Consumes, Appends, IsAtEnd}
 use Rattle.dch_io.specs.Ends.{End, Breaks, Fails, IsCutShort}
-use Rattle.dch_io.specs.declared.feed.TheConstants.{LIMIT, PIECE}
+use Rattle.dch_io.specs.Pieces.{LIMIT}
 use Rattle.dch_check.specs.ConfigSection.{configuration_of, is_complete}
+use Rattle.dch_check.specs.TakenConfigs.{IsTakenSoon, LacksEarly}
 use Rattle.dch_check.specs.Both.{AreAccepted, RefusesBoth}
 use Rattle.dch_check.specs.declared.taken_config.ConfigFault.{ConfigFault}
 use Rattle.dch_check.specs.declared.taken_config.ConfigFault.TheVariants as fault
@@ -27,11 +28,7 @@ pub record IsRefusedInput (Refuses : List ℕ → List ℕ → Type 0) (source :
   pub within : length taken ≤ LIMIT
   pub ended : HasEnded source taken
   pub refuses : Refuses (configuration_of taken) line
-  pub old : List ℕ
-  pub piece : List ℕ
-  pub pieces : taken ≡ old ++ piece
-  pub small : length piece ≤ PIECE
-  pub soon : is_complete old ≡ false
+  pub soon : IsTakenSoon taken
 
 -- no configuration that is complete is refused
 abbrev pub IsGoodSoFar : List ℕ → Type 0
@@ -43,9 +40,9 @@ pub record FailsJudging (source : End) (taken : List ℕ) : Type 0 where
   pub within : length taken ≤ LIMIT
   pub good : IsGoodSoFar taken
 
--- more bytes were taken than may come
+-- just one byte more was taken than may come
 pub record IsBeyond (taken : List ℕ) : Type 0 where
-  pub long : LIMIT < length taken
+  pub long : length taken ≡ LIMIT + 1
   pub good : IsGoodSoFar (take LIMIT taken)
 
 -- a write failed within the one line of the answer
@@ -62,7 +59,7 @@ ChecksTaken source sink taken written Refused = IsRefusedInput RefusesBoth sourc
 ChecksTaken source sink taken written Usage = ⊥
 ChecksTaken source sink taken written ReadFault = FailsJudging source taken × (written ≡ [])
 ChecksTaken source sink taken written WriteFault = FailsAnswering source sink taken written
-ChecksTaken source sink taken written NoMemory = written ≡ []
+ChecksTaken source sink taken written NoMemory = LacksEarly taken × (written ≡ [])
 ChecksTaken source sink taken written TooLong = IsBeyond taken × (written ≡ [])
 
 -- the source gave some bytes, and the sink took the answer to them
@@ -89,7 +86,7 @@ abbrev pub Finds : End → List ℕ → Result Answer Status → Type 0
 Finds source taken (Ok (AcceptedBy line)) = IsGoodInput source taken (string_bytes line)
 Finds source taken (Ok (RefusedBy line)) = IsRefusedInput RefusesBoth source taken (string_bytes line)
 Finds source taken (Err ReadFault) = FailsJudging source taken
-Finds source taken (Err NoMemory) = Unit {0}
+Finds source taken (Err NoMemory) = LacksEarly taken
 Finds source taken (Err TooLong) = IsBeyond taken
 Finds source taken (Err _) = ⊥
 
@@ -117,7 +114,7 @@ Answers sink _ _ = ⊥
 abbrev pub EndsAfter : End → ℕ → Result (Unit {0}) Status → Type 0
 EndsAfter source count (Ok done) = IsAtEnd source.now × (count ≤ LIMIT)
 EndsAfter source count (Err ReadFault) = Fails source × (count ≤ LIMIT)
-EndsAfter source count (Err TooLong) = LIMIT < count
+EndsAfter source count (Err TooLong) = count ≡ LIMIT + 1
 EndsAfter source count (Err _) = ⊥
 
 -- the rest of an input was taken, after so many bytes

@@ -1,12 +1,12 @@
 -- What a command with a configuration in front of its lines answers, by the bytes that it took and wrote.
-use Rattle.std.specs.Prelude.{◌≡◌, ◌≢◌, ◌<◌, ◌≤◌, ◌⊎◌, ◌+◌, ◌-◌, ℕ, List, [], ◌++◌, Bool, false, MatchBool, length, take, Option, Some, IfSome, Result, Ok, Err, codes, if◌then◌else◌}
+use Rattle.std.specs.Prelude.{◌≡◌, ◌≢◌, ◌≤◌, ◌⊎◌, ◌+◌, ◌-◌, ℕ, List, [], ◌++◌, Bool, false, MatchBool, length, take, Option, Some, IfSome, Result, Ok, Err, codes, if◌then◌else◌}
 use Rattle.std.specs.Io.KnownBytes.{Consumes, Appends}
 use Rattle.dch_io.specs.Ends.{End, Fails, IsCutShort, span}
-use Rattle.dch_io.specs.declared.feed.TheConstants.{LIMIT, PIECE}
+use Rattle.dch_io.specs.Pieces.{LIMIT, PIECE}
 use Rattle.dch_accept.specs.Plans.{IsPlanned}
 use Rattle.dch_script.specs.Lines.{lines_of}
 use Rattle.dch_check.specs.ConfigSection.{configuration_of, is_complete, script_of, settled}
-use Rattle.dch_check.specs.TakenConfigs.{IsTakenConfig, lines_before}
+use Rattle.dch_check.specs.TakenConfigs.{IsTakenConfig, LacksEarly, lines_before}
 use Rattle.dch_check.specs.declared.both.Configurations.{Configurations}
 use Rattle.dch_check.specs.declared.taken_config.TakenConfig.{TakenConfig}
 use Rattle.dch_lines.specs.Followed.{AnswersTaken, FollowsInput}
@@ -27,9 +27,9 @@ pub record FailsEarly (source : End) (taken : List ℕ) : Type 0 where
   pub within : length taken ≤ LIMIT
   pub soon : is_complete taken ≡ false
 
--- more bytes were taken than may come, and the configuration was not complete within the limit
+-- just one byte more was taken than may come, and the configuration was not complete within the limit
 pub record IsLongEarly (taken : List ℕ) : Type 0 where
-  pub long : LIMIT < length taken
+  pub long : length taken ≡ LIMIT + 1
   pub soon : is_complete (take LIMIT taken) ≡ false
 
 -- a write failed within the line that refuses the configuration
@@ -46,7 +46,7 @@ EndsEarly kind source sink taken written Refused = IsRefusedInput (RefusesFront 
 EndsEarly kind source sink taken written Usage = ⊥
 EndsEarly kind source sink taken written ReadFault = FailsEarly source taken × (written ≡ [])
 EndsEarly kind source sink taken written WriteFault = CutsRefusal kind source sink taken written
-EndsEarly kind source sink taken written NoMemory = (length taken ≤ LIMIT) × (written ≡ [])
+EndsEarly kind source sink taken written NoMemory = LacksEarly taken × (written ≡ [])
 EndsEarly kind source sink taken written TooLong = IsLongEarly taken × (written ≡ [])
 
 -- the work with the lines of a script in a state, before the first of them: the line `open` waits, and lines are counted over the whole input

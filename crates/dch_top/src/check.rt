@@ -1,6 +1,6 @@
 ghost use Rattle.std.specs.Prelude.{◌≡◌, ◌≤◌, length, option_map};
 ghost use Rattle.dch_io.specs.Ends.{end_of};
-ghost use Rattle.dch_io.specs.declared.feed.TheConstants.{LIMIT, PIECE};
+ghost use Rattle.dch_io.specs.Pieces.{LIMIT, PIECE};
 ghost use Rattle.dch_accept.specs.Answers.{count_of};
 ghost use Rattle.dch_check.specs.ConfigSection.{settled};
 ghost use Rattle.dch_top.specs.Checked.{Answers, Checks, Judged, JudgesText, PassesOver, answer_line, fault_status};
@@ -65,6 +65,7 @@ fn judge_input<S: Source>(alloc: Global, source: &mut S) -> Result<Answer, Statu
     judge_taken(alloc, source, &mut piece)
 }
 
+#[tactic(auto, using(crate::proofs::Judging::judged_lacks, crate::proofs::Judging::judged_refused, crate::proofs::Judging::judged_whole))]
 fn judge_taken<S: Source>(alloc: Global, source: &mut S, piece: &mut [u8]) -> Result<Answer, Status>
     requires { length piece.old ≡ PIECE }
     ensures { Judged (end_of S.left S.faults source.old source.new) result }
@@ -74,13 +75,13 @@ fn judge_taken<S: Source>(alloc: Global, source: &mut S, piece: &mut [u8]) -> Re
         Err(fault) => return Err(status_of(fault)),
     };
     match judge_section(alloc, &front.section) {
-        Ok(Answer::Accepted(line)) if !front.pending.at_end => {
-            match pass_over(source, piece, front.read) {
-                Ok(()) => Ok(Answer::Accepted(line)),
-                Err(status) => Err(status),
-            }
-        }
-        answer => answer,
+        Ok(Answer::Accepted(line)) if front.pending.at_end => Ok(Answer::Accepted(line)),
+        Ok(Answer::Accepted(line)) => match pass_over(source, piece, front.read) {
+            Ok(()) => Ok(Answer::Accepted(line)),
+            Err(status) => Err(status),
+        },
+        Ok(Answer::Refused(line)) => Ok(Answer::Refused(line)),
+        Err(status) => Err(status),
     }
 }
 

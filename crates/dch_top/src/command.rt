@@ -5,7 +5,7 @@ ghost use Rattle.dch_script.specs.Lines.{lines_of, rest_of};
 ghost use Rattle.dch_check.specs.ConfigSection.{configuration_of, script_of};
 ghost use Rattle.dch_check.specs.Both.{AreAccepted, RefusesBoth};
 ghost use Rattle.dch_check.specs.declared.both.Configurations.{Configurations};
-ghost use Rattle.dch_io.specs.declared.feed.TheConstants.{LIMIT};
+ghost use Rattle.dch_io.specs.Pieces.{LIMIT};
 ghost use Rattle.dch_top.specs.Parses.{AreLegs};
 ghost use Rattle.dch_top.specs.declared.arguments.Subcommand.TheVariants.{Check, Encode, Gen, Link, Pair, Soft};
 ghost use Rattle.dch_top.specs.declared.arguments.Arguments.{Arguments};

@@ -1,6 +1,6 @@
 ghost use Rattle.std.specs.Prelude.{◌≡◌, ◌≤◌, ◌+◌, ◌-◌, [], length, slice_range};
 ghost use Rattle.dch_io.specs.Ends.{end_of};
-ghost use Rattle.dch_io.specs.declared.feed.TheConstants.{LIMIT, PIECE};
+ghost use Rattle.dch_io.specs.Pieces.{LIMIT, PIECE};
 ghost use Rattle.dch_check.specs.ConfigSection.{settled};
 ghost use Rattle.dch_check.specs.TakenConfigs.{lines_before};
 ghost use Rattle.dch_lines.specs.declared.processor.TheConstants.{LEAST_ROOM};

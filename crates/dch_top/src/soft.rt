@@ -1,6 +1,6 @@
 ghost use Rattle.std.specs.Prelude.{◌≡◌, ◌≤◌, length};
 ghost use Rattle.dch_io.specs.Ends.{end_of};
-ghost use Rattle.dch_io.specs.declared.feed.TheConstants.{PIECE};
+ghost use Rattle.dch_io.specs.Pieces.{PIECE};
 ghost use Rattle.dch_top.specs.Parses.{AreLegs};
 ghost use Rattle.dch_top.specs.Benches.{no_nodes};
 ghost use Rattle.dch_top.specs.SoftRuns.{GivesNodes, RunsSoft};

@@ -1,6 +1,6 @@
 use Rattle.std.proofs.Common.{◌-◌}
 use Rattle.dch_io.specs.Ends.{end_of}
-use Rattle.dch_io.specs.declared.feed.TheConstants.{LIMIT}
+use Rattle.dch_io.specs.Pieces.{LIMIT}
 use Rattle.dch_check.proofs.Taking.{Gathering}
 use Rattle.dch_check.proofs.taken_config.take_config.Given as goal
 

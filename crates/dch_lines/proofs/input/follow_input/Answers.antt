@@ -1,6 +1,6 @@
 use Rattle.std.proofs.Common.{◌≡◌, ◌≤◌, ◌+◌, ◌-◌, length, drop, take, arith, ap, sym, ◌∙◌, length-take}
 use Rattle.std.specs.Prelude.{slice_range}
-use Rattle.dch_io.specs.declared.feed.TheConstants.{LIMIT, PIECE}
+use Rattle.dch_io.specs.Pieces.{LIMIT, PIECE}
 use Rattle.dch_lines.specs.Processor.{standing}
 use Rattle.dch_lines.proofs.Runs.{begins, goes_on, part_ends, piece_ends, too_long, ends_by}
 use Rattle.dch_lines.proofs.input.follow_input.Goals as goal
@@ -43,7 +43,7 @@ returns-in-Err-TooLong g c =
     let reads = rw c.in-Err-TooLong.field-0-is at c.in-Err-TooLong.ensures.reads in
     λ state is.
     let so = c.pieces.invariant.going state is in
-    (so.0, so.1, too_long g.C.LineHandler.semantics _ _ _ _ _ _ _ _ _ _ (standing state c.args.processor.now) (standing so.0 c.pieces.processor) _ reads.piece so.2 reads.takes (sym c.bytes.ensures.value ∙ reads.full) reads.some)
+    (so.0, so.1, too_long g.C.LineHandler.semantics _ _ _ _ _ _ _ _ _ _ (standing state c.args.processor.now) (standing so.0 c.pieces.processor) _ reads.piece so.2 reads.takes (sym c.bytes.ensures.value ∙ reads.full) reads.one)
 
 pub returns-then-read-eq0 : goal.returns-then-read-eq0
 returns-then-read-eq0 g c =

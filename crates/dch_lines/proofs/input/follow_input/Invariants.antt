@@ -1,7 +1,7 @@
 use Rattle.std.proofs.Common.{◌-◌, ◌≤◌, length}
 use Rattle.std.specs.Prelude.{slice_range}
 use Rattle.dch_io.specs.Ends.{end_of}
-use Rattle.dch_io.specs.declared.feed.TheConstants.{LIMIT}
+use Rattle.dch_io.specs.Pieces.{LIMIT}
 use Rattle.dch_script.specs.Code.{longest}
 use Rattle.dch_lines.specs.Pieces.{Going}
 use Rattle.dch_lines.specs.Processor.{LeadsOn}

@@ -1,6 +1,6 @@
 use Rattle.std.proofs.Common.{◌-◌}
 use Rattle.dch_io.specs.Ends.{end_of}
-use Rattle.dch_io.specs.declared.feed.TheConstants.{LIMIT}
+use Rattle.dch_io.specs.Pieces.{LIMIT}
 use Rattle.dch_top.proofs.Judging.{Passing}
 use Rattle.dch_top.proofs.check.pass_over.Given as goal
 

@@ -1,5 +1,5 @@
 use Rattle.std.proofs.Common.{◌≡◌, ◌≤◌, ◌<◌, ◌^◌, ℕ, length, arith, ap, sym, subst}
-use Rattle.dch_io.specs.declared.feed.TheConstants.{LIMIT}
+use Rattle.dch_io.specs.Pieces.{LIMIT}
 use Rattle.dch_script.specs.Held.{Held}
 use Rattle.dch_script.specs.Report.{line_text}
 use Rattle.dch_script.specs.declared.report.Line.TheVariants.{EndFrames}

@@ -1,5 +1,5 @@
 use Rattle.std.proofs.Common.{◌≡◌, ◌≤◌, ◌<◌, ◌+◌, arith, refl, sym, subst}
-use Rattle.dch_io.specs.declared.feed.TheConstants.{LIMIT}
+use Rattle.dch_io.specs.Pieces.{LIMIT}
 use Rattle.dch_nodecmd.specs.Standing.{Handler, HasRun, IsReady}
 use Rattle.dch_nodecmd.proofs.Changing.{asked, first_stays, goes_on_in, on_ok, stays_ready}
 use Rattle.dch_nodecmd.proofs.Running.{went_on}
