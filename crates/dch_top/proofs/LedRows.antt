@@ -1,12 +1,12 @@
 -- The rows of a text whose lines are led by the number of a leg.
-use Rattle.std.proofs.Common.{◌≡◌, ◌∙◌, ◌++◌, ℕ, List, [], ◌∷◌, Bool, true, false, arith, refl, ap, ap₂, sym, append_assoc, append-nil}
-use Rattle.std.specs.Prelude.{◌==◌, codes, decimal, map, if◌then◌else◌}
+use Rattle.std.proofs.Common.{◌≡◌, ◌∙◌, ◌++◌, ℕ, List, [], ◌∷◌, arith, refl, ap, ap₂, sym, append_assoc, append-nil}
+use Rattle.std.specs.Prelude.{◌==◌, codes, decimal, map}
 use Rattle.dch_script.specs.Lines.{lines_after, lines_of, rest_after, rest_of}
 use Rattle.dch_linkcmd.specs.Led.{lead, led_lines}
 use Rattle.dch_script.proofs.Lines.{lines_after-append, rest_after-append}
 use Rattle.dch_types.specs.declared.channel.Dir.{Dir}
 use Rattle.dch_script.specs.Report.{place_text}
-use Rattle.dch_runlaw.specs.Rows.{got_rows, got_words, starts_with}
+use Rattle.dch_runlaw.specs.Rows.{got_rows}
 use Rattle.dch_runlaw.proofs.Rows.{Lacks, decimal_lacks}
 use Rattle.dch_runlaw.proofs.Sublists.{either}
 

@@ -1,5 +1,5 @@
 -- A run of `link` carries the units of the bearers in the lines that were handled, however it ended.
-use Rattle.std.proofs.Common.{◌≡◌, ◌≢◌, ◌<◌, ◌⊎◌, ◌∙◌, ◌%◌, ◌*◌, ◌++◌, ℕ, List, [], ◌∷◌, Bool, length, arith, refl, ap, ap₂, sym, subst, append-nil, append_assoc, length-append, inl, inr, ⊎_elim}
+use Rattle.std.proofs.Common.{◌≡◌, ◌≢◌, ◌<◌, ◌⊎◌, ◌∙◌, ◌%◌, ◌*◌, ◌++◌, ℕ, List, [], ◌∷◌, Bool, length, arith, refl, ap, sym, subst, append-nil, append_assoc, length-append, inl, inr, ⊎_elim}
 use Rattle.std.specs.Prelude.{codes, take, ◌-◌}
 use Rattle.std.specs.Io.KnownBytes.{Appends, Consumes}
 use Rattle.dch_io.specs.Ends.{End}

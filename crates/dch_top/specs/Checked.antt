@@ -1,5 +1,5 @@
 -- What `check` answers, by the bytes that it took and wrote.
-use Rattle.std.specs.Prelude.{◌≡◌, ◌≤◌, ◌⊎◌, ◌+◌, ℕ, List, [], ◌++◌, true, false, length, take, Result, Ok, Err, string_bytes}
+use Rattle.std.specs.Prelude.{◌≡◌, ◌≤◌, ◌⊎◌, ◌+◌, ℕ, List, [], true, length, take, Result, Ok, Err, string_bytes}
 use Rattle.std.specs.Io.KnownBytes.{Consumes, Appends, IsAtEnd}
 use Rattle.dch_io.specs.Ends.{End, Breaks, Fails, IsCutShort}
 use Rattle.dch_io.specs.Pieces.{LIMIT}
