@@ -5,20 +5,19 @@ use Rattle.std.specs.Prelude.{Option, None, Some, is_some as is_one, ◌||◌, �
 use Rattle.std.proofs.lemmas.Bool.{cases_lt, le-leb, le-ltb, lt-leb, lt-ltb, ltb-false, ltb-true}
 use Rattle.std.proofs.lemmas.List.{append-nil, drop-append-le, drop-drop, get_or-drop, get_or_append_left}
 use Rattle.std.proofs.Math.Seq.{drop-append_seam, take-append_seam}
-use Rattle.dch_sar.specs.Filling.{total}
 use Rattle.dch_bits.specs.declared.offer.Offer.TheVariants.{Accepted, Full, WrongSize}
 use Rattle.dch_am.specs.Bodies.{joined, sizes}
 use Rattle.dch_am.specs.Cuts.{AllFull}
 use Rattle.dch_txbuf.specs.declared.taken.Cut.{Cut}
 use Rattle.dch_txbuf.specs.declared.taken.Start.{Start}
 use Rattle.dch_txbuf.specs.Cuts.{IsStart, IsThere, after_cut, cut_of, first_of, is_padded, led_by, left_at, indicators_with, next_start, octets_of, trimmed}
-use Rattle.dch_txbuf.proofs.Cutting.{cut_is_padded, length-trimmed, placed_cut, trimmed_none}
+use Rattle.dch_txbuf.proofs.Cutting.{cut_is_padded, length-trimmed, placed_cut}
 use Rattle.dch_txbuf.proofs.Following.{left_next, start_next}
 use Rattle.dch_txbuf.specs.Chunks.{blocks_for}
 use Rattle.dch_txbuf.specs.Sdus.{blocks_in}
 use Rattle.dch_rlcum.specs.Queue.{IsPlace, IsQueue, units_at}
 use Rattle.dch_rlcum.specs.Receiving.{is_some}
-use Rattle.dch_rlcum.specs.Sending.{Sending, answer_of, begun, begun_octets, blocks, blocks_of, carried, held_by, leading, left_by, indicators_in, room_of, units_after, with_unit}
+use Rattle.dch_rlcum.specs.Sending.{Sending, answer_of, blocks, blocks_of, carried, held_by, leading, left_by, indicators_in, room_of, units_after, with_unit}
 use Rattle.dch_rlcum.proofs.Cutting.{IsCutOf, cuts_are, indicators_are, octets_are, sent_after}
 
 past : (us : List (List ℕ)) (k : ℕ) → length us ≤ k → length (get_or us k []) ≡ 0
@@ -255,65 +254,6 @@ room_is a b c = ⊎_elim
     (λ (m : a + b ≤ c). le-ltb c (a + b) m ∙ sym (ap not (le-leb (a + b) c m)))
     (cases_lt c (a + b))
 
--- the sender begins anew with the SDUs of which nothing was sent
-abbrev pub begun_in : Start → ℕ
-begun_in start = start.sdu + cond (nat_lt 0 start.used) 1 0
-
-begun_few : (sdus : List (List ℕ)) (start : Start) → IsStart sdus start → begun_in start ≤ length sdus
-begun_few sdus start is = go (nat_lt 0 start.used) refl
-  where
-    go : (b : Bool) → nat_lt 0 start.used ≡ b → start.sdu + cond b 1 0 ≤ length sdus
-    go true e = ⊎_elim
-        (λ (m : start.sdu < length sdus). omega (arith, m))
-        (λ (m : length sdus ≤ start.sdu). absurd (omega (arith, is.used, past sdus start.sdu m, ltb-true 0 start.used e)))
-        (cases_lt start.sdu (length sdus))
-    go false e = omega (arith, is.sdu)
-
-pub record IsAnew (sdus : List (List ℕ)) (start : Start) (owed : Bool) : Type 0 where
-  pub few : begun_in start ≤ length sdus
-  pub lengths : sizes (drop (begun_in start) sdus) ≡ drop (begun (units_at sdus start owed)) (units_at sdus start owed).lengths
-  pub row : joined (drop (begun_in start) sdus) ≡ drop (begun_octets (units_at sdus start owed)) (joined (left_at start sdus))
-  pub full : AllFull (drop (begun_in start) sdus)
-
-pub anew : (sdus : List (List ℕ)) (start : Start) (owed : Bool) → IsQueue sdus start owed → IsAnew sdus start owed
-anew sdus start owed q = record {
-  few = begun_few sdus start q.place.start_is;
-  lengths = ap sizes split ∙ sizes_go (nat_lt 0 start.used) refl (drop start.sdu sdus);
-  row = ap joined split ∙ row_go (nat_lt 0 start.used) refl (drop start.sdu sdus);
-  full = subst AllFull (sym split) (full_go (nat_lt 0 start.used) refl (drop start.sdu sdus) q.place.left);
-}
-  where
-    split : drop (begun_in start) sdus ≡ drop (cond (nat_lt 0 start.used) 1 0) (drop start.sdu sdus)
-    split = sym (drop-drop (cond (nat_lt 0 start.used) 1 0) start.sdu sdus)
-
-    sizes_go : (b : Bool) → nat_lt 0 start.used ≡ b → (us : List (List ℕ)) → sizes (drop (cond b 1 0) us) ≡ drop (cond b 1 0) (sizes (trimmed start.used us))
-    sizes_go true e [] = refl
-    sizes_go true e (u ∷ us) = refl
-    sizes_go false e us = sym (ap (λ n. sizes (trimmed n us)) (zero_is (ltb-false 0 start.used e)) ∙ ap sizes (trimmed_none us))
-      where
-        zero_is : {n : ℕ} → n ≤ 0 → n ≡ 0
-        zero_is l = omega (arith, l)
-
-    row_go : (b : Bool) → nat_lt 0 start.used ≡ b → (us : List (List ℕ)) → joined (drop (cond b 1 0) us) ≡ drop (total (take (cond b 1 0) (sizes (trimmed start.used us)))) (joined (trimmed start.used us))
-    row_go true e [] = refl
-    row_go true e (u ∷ us) = let n : total (length (drop start.used u) ∷ []) ≡ length (drop start.used u) = omega arith in sym (ap (λ k. drop k (drop start.used u ++ joined us)) n ∙ drop-append_seam (drop start.used u) (joined us))
-    row_go false e us = sym (ap (λ n. joined (trimmed n us)) (zero_is (ltb-false 0 start.used e)) ∙ ap joined (trimmed_none us))
-      where
-        zero_is : {n : ℕ} → n ≤ 0 → n ≡ 0
-        zero_is l = omega (arith, l)
-
-    full_go : (b : Bool) → nat_lt 0 start.used ≡ b → (us : List (List ℕ)) → AllFull (trimmed start.used us) → AllFull (drop (cond b 1 0) us)
-    full_go true e [] full = tt
-    full_go true e (u ∷ us) full = full.1
-    full_go false e [] full = tt
-    full_go false e (u ∷ us) full = (omega (arith, full.0, length-drop start.used u), full.1)
-
-pub queue_anew : (us : List (List ℕ)) → AllFull us → IsQueue us (record { sdu = 0; used = 0 }) false
-queue_anew us full = record {
-  place = record { start_is = record { sdu = omega arith; used = omega arith }; left = subst AllFull (sym (trimmed_none us)) full; owed_is = λ e. absurd (cc) };
-  first = refl;
-}
-
 pub byte_is : (b : Bool) → bool_byte b ≡ cond b 1 0
 byte_is true = refl
 byte_is false = refl
@@ -372,10 +312,3 @@ answered s unit sdus room some few held e =
 pub some_unit : (unit : List ℕ) → (length unit == 0) ≡ false → 0 < length unit
 some_unit [] e = absurd (cc)
 some_unit (x ∷ xs) e = omega arith
-
-pub count_left : (us : List (List ℕ)) → length us ≡ length (sizes (left_at (record { sdu = 0; used = 0 }) us))
-count_left us = sym (ap (λ vs. length (sizes vs)) (trimmed_none us) ∙ length_sizes us)
-  where
-    length_sizes : (vs : List (List ℕ)) → length (sizes vs) ≡ length vs
-    length_sizes [] = refl
-    length_sizes (v ∷ vs) = ap suc (length_sizes vs)

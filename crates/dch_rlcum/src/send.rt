@@ -4,7 +4,7 @@ ghost use Rattle.dch_bits.specs.declared.offer.Offer.TheVariants.{Accepted};
 ghost use Rattle.dch_txbuf.specs.Cuts.{led_by};
 ghost use Rattle.dch_rlcum.specs.History.{IsAvailable, IsSenderOf, accepted, texts};
 ghost use Rattle.dch_rlcum.specs.Queue.{IsPlace, units_at};
-ghost use Rattle.dch_rlcum.specs.Sending.{after_build, after_offer, answer_of, builds, carried_by, is_due, is_unsent, leading, no_units, pdu_of, restarted, room_of};
+ghost use Rattle.dch_rlcum.specs.Sending.{after_build, after_offer, answer_of, builds, carried_by, is_due, is_unsent, leading, no_units, pdu_of, room_of};
 
 use dch_bits::{NoMemory, Offer};
 use dch_rlcpdu::{FILLED, STARTS};
@@ -135,20 +135,6 @@ impl UmSend {
         };
         self.owed = cut.owed;
         self.number = (self.number + 1) % 128;
-    }
-
-    /// Begins anew: a unit of which an octet was sent is dropped, and the others wait in order. The next PDU has the number 0.
-    /// Answers how many units wait.
-    pub fn restart(&mut self) -> usize
-        ensures count { result ≡ length self.new.units.lengths }
-        ensures after { self.new ≡ restarted self.old }
-    {
-        let begun = self.start.sdu as usize + usize::from(self.start.used > 0);
-        self.sdus.release(begun);
-        self.start = Start { sdu: 0, used: 0 };
-        self.owed = false;
-        self.number = 0;
-        self.sdus.len()
     }
 }
 
