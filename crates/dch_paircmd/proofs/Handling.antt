@@ -1,16 +1,19 @@
 -- The lines of `pair`, as its handler takes them.
-use Rattle.std.proofs.Common.{◌≡◌, ◌<◌, ◌≤◌, ◌^◌, ◌++◌, ℕ, List, true, false, Option, Some, None, Result, Ok, Err, OnOk, IfErr, inr, length, arith, refl, sym, subst, length-append}
+use Rattle.std.proofs.Common.{◌≡◌, ◌<◌, ◌≤◌, ◌^◌, ◌++◌, ℕ, List, Bool, true, false, not, Option, Some, None, Result, Ok, Err, OnOk, IfOk, IfErr, inr, length, arith, refl, sym, subst, length-append}
 use Rattle.std.specs.Prelude.{◌==◌, codes, decimal}
 use Rattle.dch_script.specs.Held.{Held}
-use Rattle.dch_script.specs.Pair.{ParsedPair, ends, pair_meaning_at}
+use Rattle.dch_script.specs.Pair.{ParsedPair, begins_with_ends, ends, is_opening, pair_meaning, pair_of, parsed_pair}
+use Rattle.dch_script.specs.ParsedLine.{◌>>=◌}
 use Rattle.dch_script.specs.Report.{line_text}
 use Rattle.dch_script.specs.declared.event.LineError.{LineError}
+use Rattle.dch_script.specs.declared.pair.PairLine.{PairLine}
 use Rattle.dch_script.specs.declared.report.Line.TheVariants.{Open, EndLines}
+use Rattle.dch_script.proofs.PairKept.{line_opens}
 use Rattle.dch_lines.specs.Semantics.{Adds, IsFault, Leads}
 use Rattle.dch_lines.proofs.Texts.{decimal_short}
 use Rattle.dch_lines.specs.declared.stop.LineFault.{LineFault}
 use Rattle.dch_paircmd.specs.Ends.{Ends, opened_ends}
-use Rattle.dch_paircmd.specs.Rules.{RefusesLine, TakesLine, end_in, pair_lines}
+use Rattle.dch_paircmd.specs.Rules.{RefusesLine, TakesLine, end_in, in_place, pair_lines, pair_meaning_at}
 use Rattle.dch_paircmd.specs.Standing.{Answers, AnswersEvent, AreEnds, AreSides, EndsValue, LeadsOn, LeadsTo, RepresentsRun, SideValue}
 
 -- what happens at the end `a`
@@ -46,6 +49,19 @@ second_led e line near far before now same window led = record {
 pub second_answers : (result : Result (Unit {0}) LineError) (e : Ends) (line : ParsedPair) (near far : SideValue) (before now : Held) → (end_in line == 0) ≡ false → e.rules.window ≤ 2048 → Answers result e.rules (record { near = e.second; far = e.first }) line near far before now → AnswersEvent result e line (record { first = far; second = near }) before now
 second_answers (Ok done) e line near far before now same window led = second_led e line near far before now same window led
 second_answers (Err why) e line near far before now same window refused = (refused.0, rw same refused.1)
+
+-- a line in its place opens the ends just where they aren't open
+placed_by : (opened : Bool) (line : List ℕ) (parsed : ParsedPair) (begins : Result Bool LineError) → begins_with_ends line ≡ begins → Ok parsed ≡ (begins >>= (λ ends_it. in_place opened ends_it (pair_meaning line))) → is_opening parsed ≡ not opened
+placed_by opened line parsed (Err error) first says = absurd (cc)
+placed_by false line parsed (Ok true) first says = line_opens line true parsed first (sym says)
+placed_by true line parsed (Ok false) first says = line_opens line false parsed first (sym says)
+placed_by false line parsed (Ok false) first says = absurd (cc)
+placed_by true line parsed (Ok true) first says = absurd (cc)
+
+pub placed : (opened : Bool) (line : List ℕ) (answer : Result PairLine LineError) → parsed_pair answer ≡ pair_meaning_at opened line → IfOk answer (λ parsed. is_opening (pair_of parsed) ≡ not opened)
+unfolding pair_meaning_at
+placed opened line (Ok parsed) says = placed_by opened line (pair_of parsed) (begins_with_ends line) refl says
+placed opened line (Err error) says = tt
 
 -- the first line opens the ends
 pub opens : (line : List ℕ) (first second buffer window : ℕ) (v : EndsValue) (before now : Held) → Ok (ends first second buffer window) ≡ pair_meaning_at false line → AreEnds v (opened_ends first second buffer window) → now ≡ record before { text = before.text ++ line_text Open }

@@ -1,17 +1,18 @@
 -- The rules of the command `pair`: the first line opens two ends of a bearer in acknowledged mode that can be reset, and each later line is an
 -- event at one of them.
-use Rattle.std.specs.Prelude.{◌≡◌, ◌⊎◌, ◌&&◌, ◌++◌, ◌==◌, ℕ, List, [], ◌∷◌, Bool, true, false, not, Option, Some, None, is_some, Ok, Err, codes, drop, length, nat_lt}
+use Rattle.std.specs.Prelude.{◌≡◌, ◌⊎◌, ◌&&◌, ◌++◌, ◌==◌, ℕ, List, [], ◌∷◌, Bool, true, false, not, Option, Some, None, is_some, Result, Ok, Err, codes, drop, length, nat_lt}
 use Rattle.dch_am.specs.Rules.{Rules}
 use Rattle.dch_am.specs.Sender.{offered}
 use Rattle.dch_pair.specs.Answers.{waiting}
 use Rattle.dch_rlcpdu.specs.Am.{am_reading}
 use Rattle.dch_reset.specs.Answers.{answer_read, came_read}
 use Rattle.dch_reset.specs.History.{handed_up}
-use Rattle.dch_reset.specs.State.{Build, Event, IsWritten, Offer, Reset, State, Tick, step, turn, writes}
-use Rattle.dch_script.specs.Pair.{ParsedPair, ends, offer, build, arrive, lose, tick, reset, pair_meaning_at}
+use Rattle.dch_reset.specs.State.{Build, Event, IsTold as TellsAt, IsWritten, Offer, Reset, State, Tick, step, turn, writes}
+use Rattle.dch_script.specs.ParsedLine.{◌>>=◌}
+use Rattle.dch_script.specs.Pair.{ParsedPair, ends, offer, build, arrive, lose, tick, reset, begins_with_ends, pair_meaning}
 use Rattle.dch_script.specs.Report.{line_text}
 use Rattle.dch_script.specs.declared.event.LineError.{LineError}
-use Rattle.dch_script.specs.declared.event.LineError.TheVariants.{When}
+use Rattle.dch_script.specs.declared.event.LineError.TheVariants.{When, Word}
 use Rattle.dch_script.specs.declared.report.Line.TheVariants.{Open, EndLines}
 use Rattle.dch_lines.specs.Semantics.{Semantics}
 use Rattle.dch_lines.specs.Texts.{octets_of}
@@ -126,6 +127,17 @@ Does None (ends first second buffer window) new text = (new ≡ Some (opened_end
 Does None line new text = ⊥
 Does (Some old) line None text = ⊥
 Does (Some old) line (Some new) text = Happens old line new text
+
+-- a line says what it says by itself, where it is in its place: `ends` opens the ends, so it stands first, and nowhere else
+abbrev pub in_place : Bool → Bool → Result ParsedPair LineError → Result ParsedPair LineError
+in_place false true meaning = meaning
+in_place true false meaning = meaning
+in_place opened begins meaning = Err Word
+
+unfoldable pub pair_meaning_at : Bool → List ℕ → Result ParsedPair LineError
+pair_meaning_at opened line = do
+  begins ← begins_with_ends line
+  in_place opened begins (pair_meaning line)
 
 pub record TakesLine (old : Option Ends) (line : List ℕ) (new : Option Ends) (text : List ℕ) : Type 0 where
   pub parsed : ParsedPair

@@ -1,9 +1,9 @@
-ghost use Rattle.std.specs.Prelude.{◌≡◌, ◌≤◌, ◌+◌, None, Some, IfErr, IfOk, OnOk, false, length, refl, true};
-ghost use Rattle.dch_script.specs.Pair.{pair_meaning_at};
+ghost use Rattle.std.specs.Prelude.{◌≡◌, ◌≤◌, ◌+◌, None, Some, IfErr, IfOk, OnOk, false, length, not, refl, true};
+ghost use Rattle.dch_script.specs.Pair.{IsOfPair, is_opening, pair_of, parsed_pair};
 ghost use Rattle.dch_lines.specs.Semantics.{Adds, IsFault, Leads};
 ghost use Rattle.dch_paircmd.specs.Ends.{Ends};
 ghost use Rattle.dch_paircmd.specs.Overlong.{pair_refuses_long};
-ghost use Rattle.dch_paircmd.specs.Rules.{pair_lines};
+ghost use Rattle.dch_paircmd.specs.Rules.{pair_lines, pair_meaning_at};
 ghost use Rattle.dch_paircmd.specs.Standing.{AreEnds, AreKnown, IsReady, RepresentsRun};
 ghost use Rattle.dch_paircmd.specs.declared.handler.TheConstants.{MOST_TEXT};
 
@@ -11,7 +11,7 @@ use crate::ends::PairEnds;
 use crate::events::Rooms;
 use dch_bits::NoMemory;
 use dch_lines::{LineFault, LineHandler};
-use dch_script::{Line, LineError, PairLine, Report, parse_pair_at};
+use dch_script::{Line, LineError, PairLine, Report, begins_with_ends, parse_pair};
 use std::alloc::Global;
 use std::marker::Model;
 
@@ -59,6 +59,20 @@ impl PairHandler {
     }
 }
 
+/// Reads a line in its place: `ends` opens the ends, so it stands first, and nowhere else. A line that is out of place is refused for
+/// that, whatever its further words.
+#[tactic(auto, unfolding(crate::specs::Rules::pair_meaning_at))]
+fn read_line(opened: bool, line: &[u8]) -> Result<PairLine<'_>, LineError>
+    ensures says { parsed_pair result ≡ pair_meaning_at opened line.entry.now }
+    ensures good { IfOk result (λ parsed. IsOfPair (pair_of parsed)) }
+    ensures place { IfOk result (λ parsed. is_opening (pair_of parsed) ≡ not opened) }
+{
+    match (opened, begins_with_ends(line)?) {
+        (false, true) | (true, false) => parse_pair(line),
+        (false, false) | (true, true) => Err(LineError::Word),
+    }
+}
+
 /// Takes the first line, which opens the ends.
 fn start(alloc: Global, line: &[u8], report: &mut Report) -> Result<PairEnds, LineFault>
     requires room { length report.old.text + MOST_TEXT ≤ report.old.most }
@@ -68,7 +82,7 @@ fn start(alloc: Global, line: &[u8], report: &mut Report) -> Result<PairEnds, Li
     ensures most { report.new.most ≡ report.old.most }
     ensures fits { IfOk result (λ _. length report.new.text ≤ report.new.most) }
 {
-    match parse_pair_at(false, line) {
+    match read_line(false, line) {
         Ok(
             PairLine::Ends {
                 first,
@@ -104,7 +118,7 @@ fn pass(
     ensures most { report.new.most ≡ report.old.most }
     ensures fits { OnOk result (length report.new.text ≤ report.new.most) }
 {
-    let event = match parse_pair_at(true, line) {
+    let event = match read_line(true, line) {
         Ok(event) => event,
         Err(why) => return Err(LineFault::Malformed(why)),
     };

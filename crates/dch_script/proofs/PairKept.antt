@@ -1,6 +1,6 @@
 -- What the lines of `pair` keep.
-use Rattle.std.proofs.Common.{◌≡◌, ◌≤◌, ℕ, List, [], ◌∷◌, Bool, true, false, Result, Ok, Err, refl, sym, IfOk, lit≤}
-use Rattle.std.specs.Prelude.{codes, not}
+use Rattle.std.proofs.Common.{◌≡◌, ◌≤◌, ℕ, List, [], ◌∷◌, Bool, true, false, Result, Ok, Err, refl, sym, ◌∙◌, IfOk, lit≤}
+use Rattle.std.specs.Prelude.{codes}
 use Rattle.std.specs.Str.{bytes_eq}
 use Rattle.dch_types.specs.declared.bearer.Mode.TheVariants.{Am}
 use Rattle.dch_script.specs.declared.event.LineError.{LineError}
@@ -8,7 +8,8 @@ use Rattle.dch_script.specs.declared.pair.PairLine.{PairLine}
 use Rattle.dch_script.specs.Forms.{one, two, four}
 use Rattle.dch_script.specs.LineWords.{words_of}
 use Rattle.dch_script.specs.Meaning.{content_of}
-use Rattle.dch_script.specs.Pair.{ParsedPair, ends, offer, build, arrive, lose, tick, reset, IsOfPair, end_of, event_at, is_opening, line_words_at, lone_end, pair_ends, pair_event, pair_line_words, pair_meaning, pair_meaning_at, pair_of, pair_offer, pair_words, parsed_pair, words_at}
+use Rattle.dch_script.specs.Pair.{ParsedPair, ends, offer, build, arrive, lose, tick, reset, IsOfPair, end_of, event_at, begins_with_ends, is_first_ends, is_opening, lone_end, pair_ends, pair_event, pair_line_words, pair_meaning, pair_of, pair_offer, pair_words, parsed_pair}
+use Rattle.dch_script.specs.ParsedLine.{◌>>=◌}
 use Rattle.dch_script.specs.Parts.{number_from}
 use Rattle.dch_script.specs.Units.{text_of}
 use Rattle.dch_script.proofs.Kept.{bind_keeps, from_keeps, if_keeps, ok_keeps, text_keeps}
@@ -120,25 +121,20 @@ events_open first words parsed is =
     if_keeps (bytes_eq first (codes "tick")) _ _ parsed P (event_open tick end parsed (λ e. refl)) (λ not_tick.
     if_keeps (bytes_eq first (codes "reset")) _ _ parsed P (event_open reset end parsed (λ e. refl)) (λ none. absurd (cc)) not_tick) not_lose) not_arrive) not_build) not_offer) is
 
--- a line in its place keeps the same
-at_keeps : (opened : Bool) (first : List ℕ) (words : List (List ℕ)) (parsed : ParsedPair) → words_at opened first words ≡ Ok parsed → IsOfPair parsed × (is_opening parsed ≡ not opened)
-unfolding words_at
-at_keeps false first words parsed is = if_keeps (bytes_eq first (codes "ends")) _ _ parsed (IsOfPair parsed × (is_opening parsed ≡ true)) (λ e. (ends_keeps words parsed e, ends_open words parsed e)) (λ none. absurd (cc)) is
-at_keeps true first words parsed is = if_keeps (bytes_eq first (codes "ends")) _ _ parsed (IsOfPair parsed × (is_opening parsed ≡ false)) (λ none. absurd (cc)) (λ e. (events_keep first words parsed e, events_open first words parsed e)) is
+-- a line opens the ends where its first word is `ends`
+first_open : (first : List ℕ) (words : List (List ℕ)) (parsed : ParsedPair) (begins : Bool) → bytes_eq first (codes "ends") ≡ begins → pair_words first words ≡ Ok parsed → is_opening parsed ≡ begins
+unfolding pair_words
+first_open first words parsed true same is = ends_open words parsed (rw same at is)
+first_open first words parsed false same is = events_open first words parsed (rw same at is)
 
-line_at_keeps : (opened : Bool) (words : List (List ℕ)) (parsed : ParsedPair) → line_words_at opened words ≡ Ok parsed → IsOfPair parsed × (is_opening parsed ≡ not opened)
-line_at_keeps opened [] parsed is = absurd (cc)
-line_at_keeps opened (first ∷ words) parsed is = at_keeps opened first words parsed is
+words_open : (words : List (List ℕ)) (parsed : ParsedPair) → pair_line_words words ≡ Ok parsed → is_opening parsed ≡ is_first_ends words
+words_open [] parsed is = absurd (cc)
+words_open (first ∷ words) parsed is = first_open first words parsed _ refl is
 
-meaning_at_keeps : (opened : Bool) (line : List ℕ) (parsed : ParsedPair) → pair_meaning_at opened line ≡ Ok parsed → IsOfPair parsed × (is_opening parsed ≡ not opened)
-unfolding pair_meaning_at
-meaning_at_keeps opened line parsed is =
-    bind_keeps (content_of line) (λ text. line_words_at opened (words_of text)) parsed (IsOfPair parsed × (is_opening parsed ≡ not opened)) (λ text _ last. line_at_keeps opened (words_of text) parsed last) is
+content_opens : (content : Result (List ℕ) LineError) (begins : Bool) (parsed : ParsedPair) → (content >>= (λ text. Ok (is_first_ends (words_of text)))) ≡ Ok begins → (content >>= (λ text. pair_line_words (words_of text))) ≡ Ok parsed → is_opening parsed ≡ begins
+content_opens (Ok text) begins parsed first says = let same : is_first_ends (words_of text) ≡ begins = cc in words_open (words_of text) parsed says ∙ same
+content_opens (Err error) begins parsed first says = absurd (cc)
 
-pub pair_at_keeps : (opened : Bool) (line : List ℕ) (answer : Result PairLine LineError) → parsed_pair answer ≡ pair_meaning_at opened line → IfOk answer (λ parsed. IsOfPair (pair_of parsed))
-pair_at_keeps opened line (Ok parsed) says = (meaning_at_keeps opened line (pair_of parsed) (sym says)).0
-pair_at_keeps opened line (Err error) says = tt
-
-pub place_keeps : (opened : Bool) (line : List ℕ) (answer : Result PairLine LineError) → parsed_pair answer ≡ pair_meaning_at opened line → IfOk answer (λ parsed. is_opening (pair_of parsed) ≡ not opened)
-place_keeps opened line (Ok parsed) says = (meaning_at_keeps opened line (pair_of parsed) (sym says)).1
-place_keeps opened line (Err error) says = tt
+pub line_opens : (line : List ℕ) (begins : Bool) (parsed : ParsedPair) → begins_with_ends line ≡ Ok begins → pair_meaning line ≡ Ok parsed → is_opening parsed ≡ begins
+unfolding begins_with_ends pair_meaning
+line_opens line begins parsed first says = content_opens (content_of line) begins parsed first says

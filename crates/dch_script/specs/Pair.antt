@@ -96,19 +96,15 @@ pair_meaning line = do
   text ← content_of line
   pair_line_words (words_of text)
 
--- and in its place: `ends` opens the ends, so it stands first, and nowhere else
-unfoldable pub words_at : Bool → List ℕ → List (List ℕ) → Result ParsedPair LineError
-words_at false first words = if bytes_eq first (codes "ends") then pair_ends words else Err Word
-words_at true first words = if bytes_eq first (codes "ends") then Err Word else pair_event first words
+-- the first word is `ends`
+abbrev pub is_first_ends : List (List ℕ) → Bool
+is_first_ends [] = false
+is_first_ends (first ∷ words) = bytes_eq first (codes "ends")
 
-abbrev pub line_words_at : Bool → List (List ℕ) → Result ParsedPair LineError
-line_words_at opened [] = Err Word
-line_words_at opened (first ∷ words) = words_at opened first words
-
-unfoldable pub pair_meaning_at : Bool → List ℕ → Result ParsedPair LineError
-pair_meaning_at opened line = do
+unfoldable pub begins_with_ends : List ℕ → Result Bool LineError
+begins_with_ends line = do
   text ← content_of line
-  line_words_at opened (words_of text)
+  Ok (is_first_ends (words_of text))
 
 -- a line opens the ends
 abbrev pub is_opening : ParsedPair → Bool

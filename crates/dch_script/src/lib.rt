@@ -21,6 +21,6 @@ pub use code::{LONGEST_LINE, parse};
 pub use event::{Command, Event, LineError};
 pub use judge::parse_in;
 pub use numbers::{decimal_law, read_number};
-pub use pair::{PairLine, parse_pair, parse_pair_at};
+pub use pair::{PairLine, begins_with_ends, parse_pair};
 pub use report::{Line, Report, dir_word};
 pub use soft::parse_leg;

@@ -1,5 +1,5 @@
-ghost use Rattle.std.specs.Prelude.{◌≡◌, IfOk, not};
-ghost use Rattle.dch_script.specs.Pair.{IsOfPair, end_of, is_opening, lone_end, pair_ends, pair_event, pair_meaning, pair_meaning_at, pair_of, pair_offer, pair_words, parsed_pair};
+ghost use Rattle.std.specs.Prelude.{◌≡◌, IfOk};
+ghost use Rattle.dch_script.specs.Pair.{IsOfPair, begins_with_ends, end_of, lone_end, pair_ends, pair_event, pair_meaning, pair_of, pair_offer, pair_words, parsed_pair};
 ghost use Rattle.dch_script.specs.LineWords.{later_words};
 
 use crate::content::content_of;
@@ -64,26 +64,13 @@ fn pair_line(line: &[u8]) -> Result<PairLine<'_>, LineError>
     pair_words(first, words)
 }
 
-/// Reads a line of `pair` in its place: `ends` is the only form until the ends are opened, and none afterwards. Where it is out of
-/// place the answer is `LineError::Word`, whatever its further words. `LineError::When` is left to the caller.
-pub fn parse_pair_at<'a>(opened: bool, line: &'a [u8]) -> Result<PairLine<'a>, LineError>
-    ensures says { parsed_pair result ≡ pair_meaning_at opened line.entry.now }
-    ensures good { IfOk result (λ parsed. IsOfPair (pair_of parsed)) }
-    ensures place { IfOk result (λ parsed. is_opening (pair_of parsed) ≡ not opened) }
+/// Whether the first word of a line of `pair` is `ends`; `Long` or `Cut` where it is no line.
+#[tactic(auto, unfolding(crate::specs::Pair::begins_with_ends))]
+pub fn begins_with_ends(line: &[u8]) -> Result<bool, LineError>
+    ensures { result ≡ begins_with_ends line.now }
 {
-    pair_line_at(opened, line)
-}
-
-#[tactic(auto, unfolding(crate::specs::Pair::pair_meaning_at, crate::specs::Pair::words_at))]
-fn pair_line_at(opened: bool, line: &[u8]) -> Result<PairLine<'_>, LineError>
-    ensures { parsed_pair result ≡ pair_meaning_at opened line.entry.now }
-{
-    let (first, words) = cut_word(content_of(line)?);
-    match (opened, is_word(first, b"ends")) {
-        (false, true) => pair_ends(words),
-        (true, false) => pair_event(first, words),
-        (false, false) | (true, true) => Err(LineError::Word),
-    }
+    let (first, _words) = cut_word(content_of(line)?);
+    Ok(is_word(first, b"ends"))
 }
 
 #[tactic(auto, unfolding(crate::specs::Pair::pair_words))]
