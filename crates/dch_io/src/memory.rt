@@ -66,7 +66,11 @@ impl Source for MemorySource {
         ensures cause { HasCause self.old.faults self.new.faults result }
         ensures fails { IsErr result ↔ Contains self.old.failing self.old.calls }
         ensures count { IfOk result (λ n. n ≡ min (max self.old.step 1) (min (length into.old) (length self.old.left))) }
-        ensures rest { self.new ≡ record self.old { left = self.new.left; calls = min (self.old.calls + 1) (2 ^ 64 - 1); faults = faults_after self.old.faults result } }
+        ensures rest { self.new ≡ record self.old {
+          left = self.new.left;
+          calls = min (self.old.calls + 1) (2 ^ 64 - 1);
+          faults = faults_after self.old.faults result;
+        } }
     {
         let fails = self.failing.contains(&self.calls);
         self.calls = self.calls.saturating_add(1);
@@ -140,7 +144,12 @@ impl Sink for MemorySink {
         ensures fails { IsErr result ↔ (Contains self.old.failing self.old.calls ⊎ ((0 < length piece.now) × (self.old.room ≡ 0))) }
         ensures count { IfOk result (λ n. n ≡ min (max self.old.step 1) (min (length piece.now) self.old.room)) }
         ensures room { length self.new.taken + self.new.room ≡ length self.old.taken + self.old.room }
-        ensures rest { self.new ≡ record self.old { taken = self.new.taken; room = self.new.room; calls = min (self.old.calls + 1) (2 ^ 64 - 1); faults = faults_after self.old.faults result } }
+        ensures rest { self.new ≡ record self.old {
+          taken = self.new.taken;
+          room = self.new.room;
+          calls = min (self.old.calls + 1) (2 ^ 64 - 1);
+          faults = faults_after self.old.faults result;
+        } }
     {
         let room = self.room.len() - self.at;
         let fails = self.failing.contains(&self.calls) || (!piece.is_empty() && room == 0);

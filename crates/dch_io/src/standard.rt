@@ -3,8 +3,8 @@ ghost use Rattle.std.specs.Prelude.{◌≡◌};
 use crate::{Failed, Sink, Source};
 use std::io::{Read, Write};
 
-/// A source over a reader of std, such as standard input. It tells the bytes that its reader tells: of standard input none, since what
-/// comes in is the system's word.
+/// A source over a reader of std, such as standard input. It tells the bytes that its reader tells: of standard input
+/// none, since what comes in is the system's word.
 #[derive(Drop)]
 pub struct StdSource<R: Read> {
     reader: R,
@@ -37,8 +37,8 @@ impl<R: Read> Source for StdSource<R> {
     }
 }
 
-/// A sink over a writer of std, such as standard output. It tells the bytes that its writer tells: of standard output none. A write
-/// that takes nothing is a fault.
+/// A sink over a writer of std, such as standard output. It tells the bytes that its writer tells: of standard output
+/// none. A write that takes nothing is a fault.
 #[derive(Drop)]
 pub struct StdSink<W: Write> {
     writer: W,

@@ -59,8 +59,8 @@ impl PairHandler {
     }
 }
 
-/// Reads a line in its place: `ends` opens the ends, so it stands first, and nowhere else. A line that is out of place is refused for
-/// that, whatever its further words.
+/// Reads a line in its place: `ends` opens the ends, so it stands first, and nowhere else. A line that is out of place
+/// is refused for that, whatever its further words.
 #[tactic(auto, unfolding(crate::specs::Rules::pair_meaning_at))]
 fn read_line(opened: bool, line: &[u8]) -> Result<PairLine<'_>, LineError>
     ensures says { parsed_pair result ≡ pair_meaning_at opened line.entry.now }
