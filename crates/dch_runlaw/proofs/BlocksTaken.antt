@@ -1,5 +1,5 @@
 -- What the blocks of a channel do to an acknowledged bearer, as a history of its pair.
-use Rattle.std.proofs.Common.{◌≡◌, ◌+◌, ◌-◌, ℕ, List, [], ◌∷◌, ◌++◌, Bool, true, false, cond, Result, Ok, Err, length, drop, refl, sym, ap, ◌∙◌, subst, append_assoc}
+use Rattle.std.proofs.Common.{◌≡◌, ◌+◌, ◌-◌, ℕ, List, [], ◌∷◌, ◌++◌, Bool, true, false, cond, Result, Ok, Err, length, map, drop, not, refl, sym, ap, ap₂, ◌∙◌, subst, append_assoc}
 use Rattle.std.specs.Prelude.{◌==◌, ◌||◌, filter, nat_lt}
 use Rattle.std.proofs.lemmas.Bool.{cond_both}
 use Rattle.std.proofs.lemmas.List.{append-nil}
@@ -25,8 +25,8 @@ use Rattle.dch_am.specs.Sender.{Sender}
 use Rattle.dch_rlcum.specs.Receiving.{Receiving, after_pdu as after_um}
 use Rattle.dch_layer2.specs.Hearing.{receiver_of, hears, hears_am, hears_um, new_units, rides_outside}
 use Rattle.dch_pair.specs.Answers.{is_unknown}
-use Rattle.dch_amlaw.specs.Pair.{At, Block, End, IsSafe, Pair, after, happens, is_beyond, is_outside_answer}
-use Rattle.dch_amlaw.specs.Lossless.{NoneLost}
+use Rattle.dch_amlaw.specs.Pair.{Arrive, At, Block, End, Event, IsSafe, Near, Pair, after, happens, is_beyond, is_outside_answer}
+use Rattle.dch_amlaw.specs.Lossless.{NoneLost, is_loss}
 use Rattle.dch_layer2.specs.Bearings.{Acknowledged, Bearing, Sends, Transparent, Unacknowledged, ct_of, pdu_octets, rules_in}
 use Rattle.dch_layer2.specs.Layers.{Came, Layer, Outcome, goes, takes, takes_one}
 use Rattle.dch_node.specs.Lines.{Line, Outside}
@@ -34,8 +34,9 @@ use Rattle.dch_layer2.specs.UnitLines.{line_if, unit_line, unit_lines}
 use Rattle.dch_layer2.specs.Octets.{octets_of}
 use Rattle.dch_am.specs.Entities.{pdu_of}
 use Rattle.dch_pair.proofs.Units.{Grown, grown_by_pdu}
+use Rattle.dch_runlaw.specs.Calls.{for_each}
 use Rattle.dch_runlaw.specs.Doings.{block_if, good_blocks, has_bits}
-use Rattle.dch_runlaw.specs.History.{is_mine, is_to}
+use Rattle.dch_runlaw.specs.History.{calls_of, is_mine, is_to}
 use Rattle.dch_runlaw.specs.Lines.{is_of, lines_of}
 use Rattle.dch_runlaw.specs.Worlds.{IsFront, IsSublist}
 use Rattle.dch_runlaw.proofs.Catching.{AlwaysSafe, Caught, Wires, catches, pair_of}
@@ -115,12 +116,21 @@ pub none_lost-append : (xs ys : List At) → NoneLost xs → NoneLost ys → Non
 none_lost-append [] ys h k = k
 none_lost-append (x ∷ xs) ys h k = (h.0, none_lost-append xs ys h.1 k)
 
+-- the calls of two lists of events
+pub calls-append : (xs ys cs ds : List At) → calls_of xs ≡ cs → calls_of ys ≡ ds → calls_of (xs ++ ys) ≡ cs ++ ds
+calls-append xs ys cs ds e f = filter-append (λ event. not (is_loss event)) xs ys ∙ ap₂ (λ (us vs : List At). us ++ vs) e f
+
+pub each-append : (call : Event) (xs ys : List (List Bit)) → map Near (for_each call (xs ++ ys)) ≡ map Near (for_each call xs) ++ map Near (for_each call ys)
+each-append call [] ys = refl
+each-append call (x ∷ xs) ys = ap (λ (l : List At). Near call ∷ l) (each-append call xs ys)
+
 pub safe_after : (rules : Rules) (p q : Pair) (events : List At) → after rules p events ≡ q → AlwaysSafe rules p → AlwaysSafe rules q
 safe_after rules p q events e safe = λ more. subst (IsSafe rules) (after-append rules p events more ∙ ap (λ x. after rules x more) e) (safe (events ++ more))
 
--- the bearer after blocks came: events of the history, its end and what is left of its line, and the units that were handed up
-pub record Took (rules : Rules) (into : Dir) (b : ℕ) (near far : End) (out line : List Block) (skip d : ℕ) (rest : List (List Bit)) (new : Outcome) (Fits : Type 0) : Type 0 where
+-- the bearer after these blocks came: events of the history, its end and what is left of its line, and the units that were handed up
+pub record Took (rules : Rules) (into : Dir) (b : ℕ) (near far : End) (out line : List Block) (skip d : ℕ) (blocks rest : List (List Bit)) (new : Outcome) (Fits : Type 0) : Type 0 where
   pub events : List At
+  pub called : calls_of events ≡ map Near (for_each Arrive blocks)
   pub end : End
   pub later : List Block
   pub is : after rules (pair_of near far out line) events ≡ pair_of end far out later
@@ -133,9 +143,10 @@ pub record Took (rules : Rules) (into : Dir) (b : ℕ) (near far : End) (out lin
   pub kept : Fits → NoneLost events
 
 -- nothing came for it
-nothing : (rules : Rules) (into : Dir) (b : ℕ) (near far : End) (out line : List Block) (skip d : ℕ) (rest : List (List Bit)) (new : Outcome) → new.layer.bearings b ≡ Acknowledged near.entity.sender near.entity.receiver → lines_of b new.lines ≡ [] → Wires skip d line rest → (Fits : Type 0) → Took rules into b near far out line skip d rest new Fits
+nothing : (rules : Rules) (into : Dir) (b : ℕ) (near far : End) (out line : List Block) (skip d : ℕ) (rest : List (List Bit)) (new : Outcome) → new.layer.bearings b ≡ Acknowledged near.entity.sender near.entity.receiver → lines_of b new.lines ≡ [] → Wires skip d line rest → (Fits : Type 0) → Took rules into b near far out line skip d [] rest new Fits
 nothing rules into b near far out line skip d rest new e f wires Fits = record {
   events = [];
+  called = refl;
   end = near;
   later = line;
   is = refl;
@@ -149,9 +160,10 @@ nothing rules into b near far out line skip d rest new e f wires Fits = record {
 }
 
 -- a block came for it
-came_for : (config : Config) (into : Dir) (b i : ℕ) (near far : End) (out line : List Block) (skip d : ℕ) (block : List Bit) (rest : List (List Bit)) (layer : Layer) (Fits : Type 0) → layer.bearings b ≡ Acknowledged near.entity.sender near.entity.receiver → Caught (rules_in config b) near far out line skip d block rest Fits → Took (rules_in config b) into b near far out line skip d rest (goes config into i block (To b skip) layer) Fits
+came_for : (config : Config) (into : Dir) (b i : ℕ) (near far : End) (out line : List Block) (skip d : ℕ) (block : List Bit) (rest : List (List Bit)) (layer : Layer) (Fits : Type 0) → layer.bearings b ≡ Acknowledged near.entity.sender near.entity.receiver → Caught (rules_in config b) near far out line skip d block rest Fits → Took (rules_in config b) into b near far out line skip d (block ∷ []) rest (goes config into i block (To b skip) layer) Fits
 came_for config into b i near far out line skip d block rest layer Fits e c = record {
   events = c.events;
+  called = c.called;
   end = c.end;
   later = c.later;
   is = c.is;
@@ -165,34 +177,35 @@ came_for config into b i near far out line skip d block rest layer Fits e c = re
 }
 
 -- one block that came on the channel
-one : (config : Config) (into : Dir) (b i : ℕ) (near far : End) (out line : List Block) (bit : Bit) (bits : List Bit) (ys : List (List Bit)) (layer : Layer) (to : Demux) → layer.bearings b ≡ Acknowledged near.entity.sender near.entity.receiver → receiver config into i (bit ∷ bits) ≡ to → AlwaysSafe (rules_in config b) (pair_of near far out line) → Wires (field_bits (ct_of config into b)) (pdu_octets config into b - 2) line ys → IsSublist (cond (is_to b to) ((bit ∷ bits) ∷ []) []) ys → Took (rules_in config b) into b near far out line (field_bits (ct_of config into b)) (pdu_octets config into b - 2) (behind (cond (is_to b to) ((bit ∷ bits) ∷ []) []) ys) (goes config into i (bit ∷ bits) to layer) (IsFront (cond (is_to b to) ((bit ∷ bits) ∷ []) []) ys)
+one : (config : Config) (into : Dir) (b i : ℕ) (near far : End) (out line : List Block) (bit : Bit) (bits : List Bit) (ys : List (List Bit)) (layer : Layer) (to : Demux) → layer.bearings b ≡ Acknowledged near.entity.sender near.entity.receiver → receiver config into i (bit ∷ bits) ≡ to → AlwaysSafe (rules_in config b) (pair_of near far out line) → Wires (field_bits (ct_of config into b)) (pdu_octets config into b - 2) line ys → IsSublist (cond (is_to b to) ((bit ∷ bits) ∷ []) []) ys → Took (rules_in config b) into b near far out line (field_bits (ct_of config into b)) (pdu_octets config into b - 2) (cond (is_to b to) ((bit ∷ bits) ∷ []) []) (behind (cond (is_to b to) ((bit ∷ bits) ∷ []) []) ys) (goes config into i (bit ∷ bits) to layer) (IsFront (cond (is_to b to) ((bit ∷ bits) ∷ []) []) ys)
 one config into b i near far out line bit bits ys layer (To c skip) e to safe wires sub = either (b == c)
     (λ q. let same : b ≡ c = number_same b c q in
     let goes_to : receiver config into i (bit ∷ bits) ≡ To b skip = to ∙ ap (λ x. To x skip) (sym same) in
     let skips : skip ≡ field_bits (ct_of config into b) = receiver_skips config into i b skip (bit ∷ bits) (receiver_has config into i b skip (bit ∷ bits) goes_to) goes_to in
     let sub_is : IsSublist ((bit ∷ bits) ∷ []) ys = subst (λ x. IsSublist (cond x ((bit ∷ bits) ∷ []) []) ys) q sub in
-    subst (λ x. Took (rules_in config b) into b near far out line (field_bits (ct_of config into b)) (pdu_octets config into b - 2) (behind (cond x ((bit ∷ bits) ∷ []) []) ys) (goes config into i (bit ∷ bits) (To c skip) layer) (IsFront (cond x ((bit ∷ bits) ∷ []) []) ys)) (sym q)
-    (subst (λ x. Took (rules_in config b) into b near far out line (field_bits (ct_of config into b)) (pdu_octets config into b - 2) (past (bit ∷ bits) ys) (goes config into i (bit ∷ bits) (To x skip) layer) (IsFront ((bit ∷ bits) ∷ []) ys)) same
-    (subst (λ x. Took (rules_in config b) into b near far out line (field_bits (ct_of config into b)) (pdu_octets config into b - 2) (past (bit ∷ bits) ys) (goes config into i (bit ∷ bits) (To b x) layer) (IsFront ((bit ∷ bits) ∷ []) ys)) (sym skips)
+    subst (λ x. Took (rules_in config b) into b near far out line (field_bits (ct_of config into b)) (pdu_octets config into b - 2) (cond x ((bit ∷ bits) ∷ []) []) (behind (cond x ((bit ∷ bits) ∷ []) []) ys) (goes config into i (bit ∷ bits) (To c skip) layer) (IsFront (cond x ((bit ∷ bits) ∷ []) []) ys)) (sym q)
+    (subst (λ x. Took (rules_in config b) into b near far out line (field_bits (ct_of config into b)) (pdu_octets config into b - 2) ((bit ∷ bits) ∷ []) (past (bit ∷ bits) ys) (goes config into i (bit ∷ bits) (To x skip) layer) (IsFront ((bit ∷ bits) ∷ []) ys)) same
+    (subst (λ x. Took (rules_in config b) into b near far out line (field_bits (ct_of config into b)) (pdu_octets config into b - 2) ((bit ∷ bits) ∷ []) (past (bit ∷ bits) ys) (goes config into i (bit ∷ bits) (To b x) layer) (IsFront ((bit ∷ bits) ∷ []) ys)) (sym skips)
     (came_for config into b i near far out line (field_bits (ct_of config into b)) (pdu_octets config into b - 2) (bit ∷ bits) (past (bit ∷ bits) ys) layer (IsFront ((bit ∷ bits) ∷ []) ys) e
     (catches (rules_in config b) near far out line (field_bits (ct_of config into b)) (pdu_octets config into b - 2) (bit ∷ bits) ys safe wires sub_is)))))
     (λ q. let other : (c == b) ≡ false = other_number c b (λ f. let t : (b == c) ≡ true = same_number b c (sym f) in absurd (cc)) in
-    subst (λ x. Took (rules_in config b) into b near far out line (field_bits (ct_of config into b)) (pdu_octets config into b - 2) (behind (cond x ((bit ∷ bits) ∷ []) []) ys) (goes config into i (bit ∷ bits) (To c skip) layer) (IsFront (cond x ((bit ∷ bits) ∷ []) []) ys)) (sym q)
+    subst (λ x. Took (rules_in config b) into b near far out line (field_bits (ct_of config into b)) (pdu_octets config into b - 2) (cond x ((bit ∷ bits) ∷ []) []) (behind (cond x ((bit ∷ bits) ∷ []) []) ys) (goes config into i (bit ∷ bits) (To c skip) layer) (IsFront (cond x ((bit ∷ bits) ∷ []) []) ys)) (sym q)
     (nothing (rules_in config b) into b near far out line (field_bits (ct_of config into b)) (pdu_octets config into b - 2) ys (goes config into i (bit ∷ bits) (To c skip) layer) (rw q e) (other_hears config into b c (drop skip (bit ∷ bits)) (layer.bearings c) other) wires (IsFront [] ys)))
 one config into b i near far out line bit bits ys layer Reserved e to safe wires sub = nothing (rules_in config b) into b near far out line (field_bits (ct_of config into b)) (pdu_octets config into b - 2) ys (goes config into i (bit ∷ bits) Reserved layer) e refl wires (IsFront [] ys)
 one config into b i near far out line bit bits ys layer (NoBearer ct) e to safe wires sub = nothing (rules_in config b) into b near far out line (field_bits (ct_of config into b)) (pdu_octets config into b - 2) ys (goes config into i (bit ∷ bits) (NoBearer ct) layer) e refl wires (IsFront [] ys)
 one config into b i near far out line bit bits ys layer Nobody e to safe wires sub = nothing (rules_in config b) into b near far out line (field_bits (ct_of config into b)) (pdu_octets config into b - 2) ys (goes config into i (bit ∷ bits) Nobody layer) e refl wires (IsFront [] ys)
 
 -- a good block, a bad one, and one without bits
-block : (config : Config) (into : Dir) (b i k : ℕ) (near far : End) (out line : List Block) (bits : List Bit) (good : Bool) (ys : List (List Bit)) (layer : Layer) → layer.bearings b ≡ Acknowledged near.entity.sender near.entity.receiver → AlwaysSafe (rules_in config b) (pair_of near far out line) → Wires (field_bits (ct_of config into b)) (pdu_octets config into b - 2) line ys → IsSublist (filter (is_mine config into b i) (block_if good (has_bits bits) bits)) ys → Took (rules_in config b) into b near far out line (field_bits (ct_of config into b)) (pdu_octets config into b - 2) (behind (filter (is_mine config into b i) (block_if good (has_bits bits) bits)) ys) (takes_one config into i k bits good layer) (IsFront (filter (is_mine config into b i) (block_if good (has_bits bits) bits)) ys)
+block : (config : Config) (into : Dir) (b i k : ℕ) (near far : End) (out line : List Block) (bits : List Bit) (good : Bool) (ys : List (List Bit)) (layer : Layer) → layer.bearings b ≡ Acknowledged near.entity.sender near.entity.receiver → AlwaysSafe (rules_in config b) (pair_of near far out line) → Wires (field_bits (ct_of config into b)) (pdu_octets config into b - 2) line ys → IsSublist (filter (is_mine config into b i) (block_if good (has_bits bits) bits)) ys → Took (rules_in config b) into b near far out line (field_bits (ct_of config into b)) (pdu_octets config into b - 2) (filter (is_mine config into b i) (block_if good (has_bits bits) bits)) (behind (filter (is_mine config into b i) (block_if good (has_bits bits) bits)) ys) (takes_one config into i k bits good layer) (IsFront (filter (is_mine config into b i) (block_if good (has_bits bits) bits)) ys)
 block config into b i k near far out line [] true ys layer e safe wires sub = nothing (rules_in config b) into b near far out line (field_bits (ct_of config into b)) (pdu_octets config into b - 2) ys (takes_one config into i k [] true layer) e refl wires (IsFront [] ys)
 block config into b i k near far out line (bit ∷ bits) true ys layer e safe wires sub = one config into b i near far out line bit bits ys layer (receiver config into i (bit ∷ bits)) e refl safe wires sub
 block config into b i k near far out line bits false ys layer e safe wires sub = nothing (rules_in config b) into b near far out line (field_bits (ct_of config into b)) (pdu_octets config into b - 2) ys (takes_one config into i k bits false layer) e refl wires (IsFront [] ys)
 
 -- one after another
-took_on : (rules : Rules) (into : Dir) (b : ℕ) (near far : End) (out line : List Block) (skip d : ℕ) (rest last : List (List Bit)) (mid : Outcome) (new : Layer) (lines : List Line) (One Two Fits : Type 0) (first : Fits → One) (second : Fits → Two) (t : Took rules into b near far out line skip d rest mid One) → Took rules into b t.end far out t.later skip d last (record { layer = new; lines = lines }) Two → Took rules into b near far out line skip d last (record { layer = new; lines = mid.lines ++ lines }) Fits
-took_on rules into b near far out line skip d rest last mid new lines One Two Fits first second t u = record {
+took_on : (rules : Rules) (into : Dir) (b : ℕ) (near far : End) (out line : List Block) (skip d : ℕ) (xs ys rest last : List (List Bit)) (mid : Outcome) (new : Layer) (lines : List Line) (One Two Fits : Type 0) (first : Fits → One) (second : Fits → Two) (t : Took rules into b near far out line skip d xs rest mid One) → Took rules into b t.end far out t.later skip d ys last (record { layer = new; lines = lines }) Two → Took rules into b near far out line skip d (xs ++ ys) last (record { layer = new; lines = mid.lines ++ lines }) Fits
+took_on rules into b near far out line skip d xs ys rest last mid new lines One Two Fits first second t u = record {
   events = t.events ++ u.events;
+  called = calls-append t.events u.events (map Near (for_each Arrive xs)) (map Near (for_each Arrive ys)) t.called u.called ∙ sym (each-append Arrive xs ys);
   end = u.end;
   later = u.later;
   is = after-append rules (pair_of near far out line) t.events u.events ∙ ap (λ x. after rules x u.events) t.is ∙ u.is;
@@ -205,7 +218,7 @@ took_on rules into b near far out line skip d rest last mid new lines One Two Fi
   kept = λ f. none_lost-append t.events u.events (t.kept (first f)) (u.kept (second f));
 }
 
-pub all_taken : (config : Config) (into : Dir) (b i k : ℕ) (near far : End) (out line : List Block) (came : List Came) (ys : List (List Bit)) (layer : Layer) → layer.bearings b ≡ Acknowledged near.entity.sender near.entity.receiver → AlwaysSafe (rules_in config b) (pair_of near far out line) → Wires (field_bits (ct_of config into b)) (pdu_octets config into b - 2) line ys → IsSublist (filter (is_mine config into b i) (good_blocks came)) ys → Took (rules_in config b) into b near far out line (field_bits (ct_of config into b)) (pdu_octets config into b - 2) (behind (filter (is_mine config into b i) (good_blocks came)) ys) (takes config into i k came layer) (IsFront (filter (is_mine config into b i) (good_blocks came)) ys)
+pub all_taken : (config : Config) (into : Dir) (b i k : ℕ) (near far : End) (out line : List Block) (came : List Came) (ys : List (List Bit)) (layer : Layer) → layer.bearings b ≡ Acknowledged near.entity.sender near.entity.receiver → AlwaysSafe (rules_in config b) (pair_of near far out line) → Wires (field_bits (ct_of config into b)) (pdu_octets config into b - 2) line ys → IsSublist (filter (is_mine config into b i) (good_blocks came)) ys → Took (rules_in config b) into b near far out line (field_bits (ct_of config into b)) (pdu_octets config into b - 2) (filter (is_mine config into b i) (good_blocks came)) (behind (filter (is_mine config into b i) (good_blocks came)) ys) (takes config into i k came layer) (IsFront (filter (is_mine config into b i) (good_blocks came)) ys)
 all_taken config into b i k near far out line [] ys layer e safe wires sub = nothing (rules_in config b) into b near far out line (field_bits (ct_of config into b)) (pdu_octets config into b - 2) ys (takes config into i k [] layer) e refl wires (IsFront [] ys)
 all_taken config into b i k near far out line (c ∷ came) ys layer e safe wires sub =
     let p = is_mine config into b i in
@@ -214,6 +227,7 @@ all_taken config into b i k near far out line (c ∷ came) ys layer e safe wires
     let both : IsSublist (first ++ filter p (good_blocks came)) ys = subst (λ l. IsSublist l ys) split sub in
     let t = block config into b i k near far out line c.bits c.good ys layer e safe wires (sub_front first (filter p (good_blocks came)) ys both) in
     let u = all_taken config into b i (k + 1) t.end far out t.later came (behind first ys) (takes_one config into i k c.bits c.good layer).layer t.bearing (safe_after (rules_in config b) (pair_of near far out line) (pair_of t.end far out t.later) t.events t.is safe) t.wires (sub_behind first (filter p (good_blocks came)) ys both) in
-    subst (λ l. Took (rules_in config b) into b near far out line (field_bits (ct_of config into b)) (pdu_octets config into b - 2) l (takes config into i k (c ∷ came) layer) (IsFront (filter p (good_blocks (c ∷ came))) ys)) (sym (ap (λ l. behind l ys) split ∙ behind-append first (filter p (good_blocks came)) ys))
-    (took_on (rules_in config b) into b near far out line (field_bits (ct_of config into b)) (pdu_octets config into b - 2) (behind first ys) (behind (filter p (good_blocks came)) (behind first ys)) (takes_one config into i k c.bits c.good layer) (takes config into i (k + 1) came (takes_one config into i k c.bits c.good layer).layer).layer (takes config into i (k + 1) came (takes_one config into i k c.bits c.good layer).layer).lines (IsFront first ys) (IsFront (filter p (good_blocks came)) (behind first ys)) (IsFront (filter p (good_blocks (c ∷ came))) ys)
-    (λ f. front_first first (filter p (good_blocks came)) ys (subst (λ l. IsFront l ys) split f)) (λ f. front_behind first (filter p (good_blocks came)) ys (subst (λ l. IsFront l ys) split f)) t u)
+    subst (λ l. Took (rules_in config b) into b near far out line (field_bits (ct_of config into b)) (pdu_octets config into b - 2) l (behind l ys) (takes config into i k (c ∷ came) layer) (IsFront (filter p (good_blocks (c ∷ came))) ys)) (sym split)
+    (subst (λ l. Took (rules_in config b) into b near far out line (field_bits (ct_of config into b)) (pdu_octets config into b - 2) (first ++ filter p (good_blocks came)) l (takes config into i k (c ∷ came) layer) (IsFront (filter p (good_blocks (c ∷ came))) ys)) (sym (behind-append first (filter p (good_blocks came)) ys))
+    (took_on (rules_in config b) into b near far out line (field_bits (ct_of config into b)) (pdu_octets config into b - 2) first (filter p (good_blocks came)) (behind first ys) (behind (filter p (good_blocks came)) (behind first ys)) (takes_one config into i k c.bits c.good layer) (takes config into i (k + 1) came (takes_one config into i k c.bits c.good layer).layer).layer (takes config into i (k + 1) came (takes_one config into i k c.bits c.good layer).layer).lines (IsFront first ys) (IsFront (filter p (good_blocks came)) (behind first ys)) (IsFront (filter p (good_blocks (c ∷ came))) ys)
+    (λ f. front_first first (filter p (good_blocks came)) ys (subst (λ l. IsFront l ys) split f)) (λ f. front_behind first (filter p (good_blocks came)) ys (subst (λ l. IsFront l ys) split f)) t u))

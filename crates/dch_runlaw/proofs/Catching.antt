@@ -23,6 +23,7 @@ use Rattle.dch_pair.proofs.Lines.{IsWire}
 use Rattle.dch_node.specs.Lines.{Outside}
 use Rattle.dch_layer2.specs.UnitLines.{line_if, unit_lines}
 use Rattle.dch_layer2.specs.Octets.{octets_of}
+use Rattle.dch_runlaw.specs.History.{calls_of}
 use Rattle.dch_runlaw.specs.Worlds.{IsFront, IsSublist}
 use Rattle.dch_runlaw.proofs.Sublists.{either, past, same, same_false, same_true}
 
@@ -77,6 +78,7 @@ quiet rules d out e (Report t) is q = subst (λ v. IsQuiet rules v e) (sym is) (
 -- the end and its line after a block came
 pub record Caught (rules : Rules) (near far : End) (out line : List Block) (skip d : ℕ) (x : List Bit) (rest : List (List Bit)) (Fits : Type 0) : Type 0 where
   pub events : List At
+  pub called : calls_of events ≡ Near Arrive ∷ []
   pub end : End
   pub later : List Block
   pub is : after rules (pair_of near far out line) events ≡ pair_of end far out later
@@ -98,6 +100,7 @@ arrived rules near far out b line skip d x ys safe is wires Fits =
     let does = wire_sides rules d (octets_of (drop skip x)) near b is in
     record {
       events = Near Arrive ∷ [];
+      called = refl;
       end = takes rules near b;
       later = line;
       is = refl;
@@ -122,6 +125,7 @@ catches rules near far out (b ∷ line) skip d x (y ∷ ys) safe wires h = eithe
     lost : same x y ≡ false → Caught rules near far out line skip d x (past x ys) (IsFront (x ∷ []) ys) → Caught rules near far out (b ∷ line) skip d x (past x ys) (IsFront (x ∷ []) (y ∷ ys))
     lost e c = record {
       events = Near Lose ∷ c.events;
+      called = c.called;
       end = c.end;
       later = c.later;
       is = c.is;

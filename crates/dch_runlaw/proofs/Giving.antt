@@ -1,5 +1,5 @@
 -- The blocks that an acknowledged bearer builds, as a history of its pair, and where they stand among those of a channel.
-use Rattle.std.proofs.Common.{◌≡◌, ◌-◌, ◌≤◌, ℕ, zero, suc, List, [], ◌∷◌, ◌++◌, Bool, true, false, cond, Option, Some, None, drop, refl, sym, ap, ◌∙◌, subst, append_assoc}
+use Rattle.std.proofs.Common.{◌≡◌, ◌-◌, ◌≤◌, ℕ, zero, suc, List, [], ◌∷◌, ◌++◌, Bool, true, false, cond, Option, Some, None, drop, map, refl, sym, ap, ◌∙◌, subst, append_assoc}
 use Rattle.std.specs.Prelude.{◌==◌, filter}
 use Rattle.std.proofs.lemmas.List.{append-nil}
 use Rattle.dch_bits.specs.declared.bit.Bit.{Bit}
@@ -19,14 +19,16 @@ use Rattle.dch_layer2.specs.Building.{Builds, Gives, IsAtTurn}
 use Rattle.dch_layer2.specs.Octets.{bits_of, field_for, octets_of}
 use Rattle.dch_layer2.specs.Starting.{joined}
 use Rattle.dch_layer2.proofs.Octets.{block_back}
-use Rattle.dch_runlaw.specs.History.{AreApart, is_mine, is_to}
+use Rattle.dch_runlaw.specs.Calls.{for_each}
+use Rattle.dch_runlaw.specs.History.{AreApart, calls_of, is_mine, is_to}
 use Rattle.dch_runlaw.proofs.Catching.{Wires, pair_of}
 use Rattle.dch_runlaw.proofs.Names.{comes_to}
-use Rattle.dch_runlaw.proofs.BlocksTaken.{after-append, none_lost-append}
+use Rattle.dch_runlaw.proofs.BlocksTaken.{after-append, calls-append, none_lost-append}
 
 -- the end after blocks were built: events of the history, and what stands at the back of its line
 pub record Gave (rules : Rules) (near far : End) (line back : List Block) (skip d : ℕ) (blocks : List (List Bit)) (next : Bearing) : Type 0 where
   pub events : List At
+  pub called : calls_of events ≡ map Near (for_each Build blocks)
   pub end : End
   pub more : List Block
   pub is : after rules (pair_of near far line back) events ≡ pair_of end far (line ++ more) back
@@ -62,6 +64,7 @@ built config out b near far line back next block size small at = go (block_at t 
     go None e sent = absurd sent
     go (Some x) e sent = record {
       events = Near Build ∷ [];
+      called = refl;
       end = stepped rules near BuildEvent;
       more = x ∷ [];
       is = ap (λ o. pair_of (stepped rules near BuildEvent) far (sent_on line o) back) e;
@@ -76,6 +79,7 @@ built config out b near far line back next block size small at = go (block_at t 
 pub all_given : (config : Config) (out : Dir) (b n : ℕ) (near far : End) (line back : List Block) (old new : Bearing) (blocks : List (List Bit)) → near.octets ≡ pdu_octets config out b → pdu_octets config out b ≤ 126 → old ≡ Acknowledged near.entity.sender near.entity.receiver → Gives config out b n old new blocks → Gave (rules_in config b) near far line back (field_bits (ct_of config out b)) (pdu_octets config out b - 2) blocks new
 all_given config out b zero near far line back old new blocks size small e g = record {
   events = [];
+  called = ap (λ (l : List (List Bit)). map Near (for_each Build l)) (sym g.1);
   end = near;
   more = [];
   is = ap (λ l. pair_of near far l back) (sym (append-nil line));
@@ -90,6 +94,7 @@ all_given config out b (suc n) near far line back old new blocks size small e g 
     let u = all_given config out b n t.end far (line ++ t.more) back g.next new g.rest (t.octets ∙ size) small t.bearing g.later in
     record {
       events = t.events ++ u.events;
+      called = calls-append t.events u.events (map Near (for_each Build (g.block ∷ []))) (map Near (for_each Build g.rest)) t.called u.called ∙ ap (λ (l : List (List Bit)). map Near (for_each Build l)) (sym g.all);
       end = u.end;
       more = t.more ++ u.more;
       is = after-append (rules_in config b) (pair_of near far line back) t.events u.events ∙ ap (λ x. after (rules_in config b) x u.events) t.is ∙ u.is ∙ ap (λ l. pair_of u.end far l back) (append_assoc line t.more u.more);

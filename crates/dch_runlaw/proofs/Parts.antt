@@ -9,18 +9,17 @@ use Rattle.dch_config.specs.Changes.{GoesOnAs, KeepsBearer}
 use Rattle.dch_am.specs.Rules.{Rules}
 use Rattle.dch_amlaw.specs.Pair.{At, Block, End, Pair, after, opened}
 use Rattle.dch_amlaw.proofs.History.{always_safe}
-use Rattle.dch_amlaw.proofs.Lossless.{always_whole}
 use Rattle.dch_layer2.specs.Bearings.{bearer_in, pdu_octets, rules_in}
 use Rattle.dch_layer2.proofs.KeptBearings.{kept_octets, kept_rules}
 use Rattle.dch_layer2.proofs.Good.{there}
-use Rattle.dch_amlaw.specs.Lossless.{NoneLost}
+use Rattle.dch_runlaw.specs.Calls.{run_calls}
 use Rattle.dch_runlaw.specs.History.{ArePair, IsAmBearer, IsHistoryOver, IsWholeHistory, all_lost, events_over, far_lost, near_lost, pair_after}
 use Rattle.dch_runlaw.specs.Lines.{lines_of}
 use Rattle.dch_runlaw.specs.Worlds.{AreFaithful, AreWholeSoFar, At as OneEvent, HasChanged, Log, RunsInTwo, World, opened_world}
 use Rattle.dch_runlaw.proofs.Catching.{AlwaysSafe}
-use Rattle.dch_runlaw.proofs.Histories.{are_left, begins, sim_runs, whole_runs}
+use Rattle.dch_runlaw.proofs.Histories.{are_left, begins, sim_runs, whole_of, whole_runs}
 use Rattle.dch_runlaw.proofs.Steps.{Flow, Sim, Simulated}
-use Rattle.dch_runlaw.proofs.BlocksTaken.{after-append, none_lost-append, safe_after}
+use Rattle.dch_runlaw.proofs.BlocksTaken.{after-append, calls-append, none_lost-append, safe_after}
 
 -- nothing is in flight any more
 abbrev emptied : Pair → Pair
@@ -75,10 +74,11 @@ goes_over first second out into b up down up2 down2 w new p same c s = record {
 opened_safe : (config : Config) (out into : Dir) (b up down : ℕ) → IsAmBearer config out into b up down → AlwaysSafe (rules_in config b) (opened (rules_in config b) (pdu_octets config out b) (pdu_octets config into b))
 opened_safe config out into b up down is = λ es. always_safe (rules_in config b) (pdu_octets config out b) (pdu_octets config into b) es is.window
 
-pub over_parts : (first second : Config) (out into : Dir) (b up down up2 down2 : ℕ) (earlier later : List OneEvent) (w : World) → KeepsBearer first second b → IsAmBearer first out into b up down → IsAmBearer second out into b up2 down2 → (r : RunsInTwo first second out into (AreFaithful up down) (AreFaithful up2 down2) earlier later w) → IsHistoryOver second out into b r.mid w
+pub over_parts : (first second : Config) (out into : Dir) (b up down up2 down2 : ℕ) (earlier later : List OneEvent) (w : World) → KeepsBearer first second b → IsAmBearer first out into b up down → IsAmBearer second out into b up2 down2 → (r : RunsInTwo first second out into (AreFaithful up down) (AreFaithful up2 down2) earlier later w) → IsHistoryOver second out into b (run_calls first out into b (AreFaithful up down) (opened_world first out into) earlier r.mid r.before) (run_calls second out into b (AreFaithful up2 down2) r.next later w r.behind) r.mid w
 over_parts first second out into b up down up2 down2 earlier later w keeps is on r = record {
-  before = record { events = t.events; pair = s.pair; safe = safe t.events };
+  before = record { events = t.events; called = t.called; pair = s.pair; safe = safe t.events };
   later = u.events;
+  called = u.called;
   pair = subst (λ q. ArePair out into b w q) (sym all) u.sim.pair;
   safe = safe (events_over second out into b t.events u.events);
 }
@@ -92,7 +92,7 @@ over_parts first second out into b up down up2 down2 earlier later w keeps is on
     safe : AlwaysSafe (rules_in second b) start
     safe = opened_safe second out into b up2 down2 on
 
-    t : Simulated first out into b up down r.mid (opened (rules_in first b) (pdu_octets first out b) (pdu_octets first into b)) ⊥
+    t : Simulated first out into b up down r.mid (opened (rules_in first b) (pdu_octets first out b) (pdu_octets first into b)) (run_calls first out into b (AreFaithful up down) (opened_world first out into) earlier r.mid r.before) ⊥
     t = sim_runs first out into b up down earlier (opened_world first out into) r.mid (opened (rules_in first b) (pdu_octets first out b) (pdu_octets first into b)) is (begins first out into b up down is) (opened_safe first out into b up down is) r.before
 
     p : Pair
@@ -104,7 +104,7 @@ over_parts first second out into b up down up2 down2 earlier later w keeps is on
     to : after (rules_in second b) start (t.events ++ all_lost p) ≡ emptied p
     to = after-append (rules_in second b) start t.events (all_lost p) ∙ lost_is (rules_in second b) p
 
-    u : Simulated second out into b up2 down2 w (emptied p) ⊥
+    u : Simulated second out into b up2 down2 w (emptied p) (run_calls second out into b (AreFaithful up2 down2) r.next later w r.behind) ⊥
     u = sim_runs second out into b up2 down2 later r.next w (emptied p) on (goes_over first second out into b up down up2 down2 r.mid r.next p same r.changes s) (safe_after (rules_in second b) start (emptied p) (t.events ++ all_lost p) to safe) r.behind
 
     all : pair_after second out into b (events_over second out into b t.events u.events) ≡ after (rules_in second b) (emptied p) u.events
@@ -118,23 +118,23 @@ none_long (block ∷ line) e = absurd (cc)
 none_left : (config : Config) (dir : Dir) (b i : ℕ) (log : Log) (line : List Block) → Flow config dir b i log line → log.given ≡ log.taken → line ≡ []
 none_left config dir b i log line f e = none_long line (are_left config dir b i log line f [] (e ∙ sym (append-nil log.taken)))
 
-pub whole_parts : (first second : Config) (out into : Dir) (b up down up2 down2 : ℕ) (earlier later : List OneEvent) (w : World) → KeepsBearer first second b → IsAmBearer first out into b up down → IsAmBearer second out into b up2 down2 → (r : RunsInTwo first second out into (AreWholeSoFar up down) (AreWholeSoFar up2 down2) earlier later w) → (r.mid.out up).given ≡ (r.mid.out up).taken → (r.mid.back down).given ≡ (r.mid.back down).taken → IsWholeHistory second out into b up2 down2 w
-whole_parts first second out into b up down up2 down2 earlier later w keeps is on r outs backs = record {
-  events = t.events ++ u.events;
-  none_lost = none;
-  pair = v.pair;
-  whole = always_whole (rules_in second b) (pdu_octets second out b) (pdu_octets second into b) (t.events ++ u.events) on.window none;
-  out_left = are_left second out b up2 (w.out up2) (pair_after second out into b (t.events ++ u.events)).out v.out_flow;
-  back_left = are_left second into b down2 (w.back down2) (pair_after second out into b (t.events ++ u.events)).back v.back_flow;
-}
+pub whole_parts : (first second : Config) (out into : Dir) (b up down up2 down2 : ℕ) (earlier later : List OneEvent) (w : World) → KeepsBearer first second b → IsAmBearer first out into b up down → IsAmBearer second out into b up2 down2 → (r : RunsInTwo first second out into (AreWholeSoFar up down) (AreWholeSoFar up2 down2) earlier later w) → (r.mid.out up).given ≡ (r.mid.out up).taken → (r.mid.back down).given ≡ (r.mid.back down).taken → IsWholeHistory second out into b up2 down2 (run_calls first out into b (AreWholeSoFar up down) (opened_world first out into) earlier r.mid r.before ++ run_calls second out into b (AreWholeSoFar up2 down2) r.next later w r.behind) w
+whole_parts first second out into b up down up2 down2 earlier later w keeps is on r outs backs =
+    whole_of second out into b up2 down2 (t.events ++ u.events) (one ++ two) w on (none_lost-append t.events u.events (t.kept tt) (u.kept tt)) (calls-append t.events u.events one two t.called u.called) (subst (Sim second out into b up2 down2 w) (sym (after-append (rules_in second b) start t.events u.events)) u.sim)
   where
+    one : List At
+    one = run_calls first out into b (AreWholeSoFar up down) (opened_world first out into) earlier r.mid r.before
+
+    two : List At
+    two = run_calls second out into b (AreWholeSoFar up2 down2) r.next later w r.behind
+
     same : AreSame first second out into b
     same = are_same first second out into b up down keeps is
 
     start : Pair
     start = opened (rules_in second b) (pdu_octets second out b) (pdu_octets second into b)
 
-    t : Simulated first out into b up down r.mid (opened (rules_in first b) (pdu_octets first out b) (pdu_octets first into b)) (Unit {0})
+    t : Simulated first out into b up down r.mid (opened (rules_in first b) (pdu_octets first out b) (pdu_octets first into b)) one (Unit {0})
     t = whole_runs first out into b up down earlier (opened_world first out into) r.mid (opened (rules_in first b) (pdu_octets first out b) (pdu_octets first into b)) is (begins first out into b up down is) (opened_safe first out into b up down is) r.before
 
     p : Pair
@@ -149,11 +149,5 @@ whole_parts first second out into b up down up2 down2 earlier later w keeps is o
     next : Sim second out into b up2 down2 r.next p
     next = subst (Sim second out into b up2 down2 r.next) empty (goes_over first second out into b up down up2 down2 r.mid r.next p same r.changes s)
 
-    u : Simulated second out into b up2 down2 w p (Unit {0})
+    u : Simulated second out into b up2 down2 w p two (Unit {0})
     u = whole_runs second out into b up2 down2 later r.next w p on next (safe_after (rules_in second b) start p t.events refl (opened_safe second out into b up2 down2 on)) r.behind
-
-    none : NoneLost (t.events ++ u.events)
-    none = none_lost-append t.events u.events (t.kept tt) (u.kept tt)
-
-    v : Sim second out into b up2 down2 w (pair_after second out into b (t.events ++ u.events))
-    v = subst (Sim second out into b up2 down2 w) (sym (after-append (rules_in second b) start t.events u.events)) u.sim

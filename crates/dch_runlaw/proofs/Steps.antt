@@ -1,5 +1,5 @@
 -- What an end does is a history of the pair of an acknowledged bearer.
-use Rattle.std.proofs.Common.{◌≡◌, ◌-◌, ℕ, List, [], ◌∷◌, ◌++◌, Bool, refl, sym, ap, ◌∙◌, subst}
+use Rattle.std.proofs.Common.{◌≡◌, ◌-◌, ℕ, List, [], ◌∷◌, ◌++◌, Bool, Option, map, refl, sym, ap, ◌∙◌, subst}
 use Rattle.std.specs.Prelude.{◌==◌, filter}
 use Rattle.std.proofs.lemmas.List.{append-nil}
 use Rattle.std.proofs.lemmas.List.Elements.{filter-append}
@@ -9,7 +9,7 @@ use Rattle.dch_bits.specs.declared.offer.Offer.TheVariants.{Accepted, Full, Wron
 use Rattle.dch_types.specs.declared.channel.Dir.{Dir}
 use Rattle.dch_types.specs.declared.config.Config.{Config}
 use Rattle.dch_mac.specs.Field.{field_bits}
-use Rattle.dch_amlaw.specs.Pair.{At, Block, End, Near, Offer, Pair, Tick, after}
+use Rattle.dch_amlaw.specs.Pair.{At, Block, Build, End, Near, Offer, Pair, Tick, after}
 use Rattle.dch_amlaw.specs.Lossless.{NoneLost}
 use Rattle.dch_layer2.specs.Bearings.{Acknowledged, after_answer, answers, channel_of, ct_of, line_of_answer, pdu_octets, rules_in, ticked}
 use Rattle.dch_layer2.specs.Layers.{blocks, offers}
@@ -17,7 +17,8 @@ use Rattle.dch_node.specs.Lines.{Line}
 use Rattle.dch_layer2.specs.UnitLines.{unit_lines}
 use Rattle.dch_layer2.specs.Starting.{IsStart, asked_in, count_on}
 use Rattle.dch_runlaw.specs.Doings.{Blocks, Offers, Says, Starts, Ticks, given_by}
-use Rattle.dch_runlaw.specs.History.{ArePair, IsAmBearer, IsEndOf, is_mine}
+use Rattle.dch_runlaw.specs.Calls.{calls_in, for_each, own_blocks, own_on}
+use Rattle.dch_runlaw.specs.History.{ArePair, IsAmBearer, IsEndOf, calls_of, is_mine}
 use Rattle.dch_runlaw.specs.Lines.{lines_of}
 use Rattle.dch_runlaw.specs.Worlds.{DoesNear, IsSublist, Log, World}
 use Rattle.dch_runlaw.proofs.Catching.{Wires, pair_of}
@@ -43,8 +44,10 @@ pub record Sim (config : Config) (out into : Dir) (b up down : ℕ) (w : World) 
   pub out_flow : Flow config out b up (w.out up) p.out
   pub back_flow : Flow config into b down (w.back down) p.back
 
-pub record Simulated (config : Config) (out into : Dir) (b up down : ℕ) (w : World) (p : Pair) (Fits : Type 0) : Type 0 where
+-- events of the pair, of which these are the calls
+pub record Simulated (config : Config) (out into : Dir) (b up down : ℕ) (w : World) (p : Pair) (calls : List At) (Fits : Type 0) : Type 0 where
   pub events : List At
+  pub called : calls_of events ≡ calls
   pub sim : Sim config out into b up down w (after (rules_in config b) p events)
   pub kept : Fits → NoneLost events
 
@@ -82,10 +85,11 @@ changes config out into b up down w new p e lines s octets units bearing said no
 }
 
 -- a unit is offered
-pub sim_offers : (config : Config) (out into : Dir) (b up down c : ℕ) (octets : List ℕ) (bits : List Bit) (w new : World) (p : Pair) → Sim config out into b up down w p → DoesNear config out into w (Offers c octets bits) new → (Fits : Type 0) → Simulated config out into b up down new p Fits
+pub sim_offers : (config : Config) (out into : Dir) (b up down c : ℕ) (octets : List ℕ) (bits : List Bit) (w new : World) (p : Pair) → Sim config out into b up down w p → DoesNear config out into w (Offers c octets bits) new → (Fits : Type 0) → Simulated config out into b up down new p (map Near (calls_in config out into b w.near.layer (Offers c octets bits) new.near.layer)) Fits
 sim_offers config out into b up down c octets bits w new p s d Fits = either (b == c)
     (λ q. let same : b ≡ c = number_same b c q in record {
       events = Near (Offer octets) ∷ [];
+      called = rw q refl;
       sim = changes config out into b up down w new p (after (rules_in config b) p (Near (Offer octets) ∷ [])).near d.lines s refl refl
           (ap (λ l. l.bearings b) d.does.0 ∙ rw q (sym (ap (λ x. after_answer (answers config out x octets bits (w.near.layer.bearings x)) octets bits (w.near.layer.bearings x)) same) ∙ ap (λ x. after_answer (answers config out b octets bits x) octets bits x) s.pair.near.bearing))
           d.said (none d.does.1) d.far (same_out (w.out up) (new.out up) (d.out_log up)) (same_back (w.back down) (new.back down) (d.back_log down));
@@ -93,6 +97,7 @@ sim_offers config out into b up down c octets bits w new p s d Fits = either (b 
     })
     (λ q. record {
       events = [];
+      called = rw q refl;
       sim = changes config out into b up down w new p p.near d.lines s refl refl (ap (λ l. l.bearings b) d.does.0 ∙ rw q s.pair.near.bearing) d.said (none d.does.1) d.far (same_out (w.out up) (new.out up) (d.out_log up)) (same_back (w.back down) (new.back down) (d.back_log down));
       kept = λ _. tt;
     })
@@ -101,33 +106,37 @@ sim_offers config out into b up down c octets bits w new p s d Fits = either (b 
     none e = ap (lines_of b) e ∙ answer_line out b c (answers config out c octets bits (w.near.layer.bearings c))
 
 -- a combination is blocked or free
-pub sim_blocks : (config : Config) (out into : Dir) (b up down c : ℕ) (on : Bool) (w new : World) (p : Pair) → Sim config out into b up down w p → DoesNear config out into w (Blocks c on) new → (Fits : Type 0) → Simulated config out into b up down new p Fits
+pub sim_blocks : (config : Config) (out into : Dir) (b up down c : ℕ) (on : Bool) (w new : World) (p : Pair) → Sim config out into b up down w p → DoesNear config out into w (Blocks c on) new → (Fits : Type 0) → Simulated config out into b up down new p (map Near (calls_in config out into b w.near.layer (Blocks c on) new.near.layer)) Fits
 sim_blocks config out into b up down c on w new p s d Fits = record {
   events = [];
+  called = refl;
   sim = changes config out into b up down w new p p.near d.lines s refl refl (ap (λ l. l.bearings b) d.does.0 ∙ s.pair.near.bearing) d.said (ap (lines_of b) d.does.1) d.far (same_out (w.out up) (new.out up) (d.out_log up)) (same_back (w.back down) (new.back down) (d.back_log down));
   kept = λ _. tt;
 }
 
 -- what is no part of layer 2 is reported
-pub sim_says : (config : Config) (out into : Dir) (b up down : ℕ) (said : List Line) (w new : World) (p : Pair) → Sim config out into b up down w p → DoesNear config out into w (Says said) new → (Fits : Type 0) → Simulated config out into b up down new p Fits
+pub sim_says : (config : Config) (out into : Dir) (b up down : ℕ) (said : List Line) (w new : World) (p : Pair) → Sim config out into b up down w p → DoesNear config out into w (Says said) new → (Fits : Type 0) → Simulated config out into b up down new p (map Near (calls_in config out into b w.near.layer (Says said) new.near.layer)) Fits
 sim_says config out into b up down said w new p s d Fits = record {
   events = [];
+  called = refl;
   sim = changes config out into b up down w new p p.near d.lines s refl refl (ap (λ l. l.bearings b) d.does.0 ∙ s.pair.near.bearing) d.said (ap (lines_of b) d.does.1 ∙ d.does.2 b) d.far (same_out (w.out up) (new.out up) (d.out_log up)) (same_back (w.back down) (new.back down) (d.back_log down));
   kept = λ _. tt;
 }
 
 -- the timers tick
-pub sim_ticks : (config : Config) (out into : Dir) (b up down : ℕ) (w new : World) (p : Pair) → Sim config out into b up down w p → DoesNear config out into w Ticks new → (Fits : Type 0) → Simulated config out into b up down new p Fits
+pub sim_ticks : (config : Config) (out into : Dir) (b up down : ℕ) (w new : World) (p : Pair) → Sim config out into b up down w p → DoesNear config out into w Ticks new → (Fits : Type 0) → Simulated config out into b up down new p (map Near (calls_in config out into b w.near.layer Ticks new.near.layer)) Fits
 sim_ticks config out into b up down w new p s d Fits = record {
   events = Near Tick ∷ [];
+  called = refl;
   sim = changes config out into b up down w new p (after (rules_in config b) p (Near Tick ∷ [])).near d.lines s refl refl (ap (λ l. l.bearings b) d.does.0 ∙ ap (ticked config b) s.pair.near.bearing) d.said (ap (lines_of b) d.does.1) d.far (same_out (w.out up) (new.out up) (d.out_log up)) (same_back (w.back down) (new.back down) (d.back_log down));
   kept = λ _. (refl, tt);
 }
 
 -- TTIs start
-pub sim_starts : (config : Config) (out into : Dir) (b up down cfn : ℕ) (w new : World) (p : Pair) → IsAmBearer config out into b up down → Sim config out into b up down w p → DoesNear config out into w (Starts cfn) new → (Fits : Type 0) → Simulated config out into b up down new p Fits
+pub sim_starts : (config : Config) (out into : Dir) (b up down cfn : ℕ) (w new : World) (p : Pair) → IsAmBearer config out into b up down → Sim config out into b up down w p → DoesNear config out into w (Starts cfn) new → (Fits : Type 0) → Simulated config out into b up down new p (map Near (calls_in config out into b w.near.layer (Starts cfn) new.near.layer)) Fits
 sim_starts config out into b up down cfn w new p is s d Fits = record {
   events = g.events;
+  called = g.called ∙ ap (λ (l : List (List Bit)). map Near (for_each Build l)) (sym own);
   sim = subst (Sim config out into b up down new) (sym g.is) (record {
     pair = record {
       near = record { bearing = g.bearing; lines = no_lines into b w.near.said d.lines new.near.said g.end.entity.receiver.reading.units d.said (s.pair.near.lines ∙ ap (unit_lines into b) (sym g.units)) (ap (lines_of b) d.does.1) };
@@ -155,5 +164,11 @@ sim_starts config out into b up down cfn w new p is s d Fits = record {
     g : Gave (rules_in config b) p.near p.far p.out p.back (field_bits (ct_of config out b)) (pdu_octets config out b - 2) (st.built b) (new.near.layer.bearings b)
     g = all_given config out b asked_count p.near p.far p.out p.back (w.near.layer.bearings b) (new.near.layer.bearings b) (st.built b) s.near_octets is.up_size s.pair.near.bearing (st.gives b)
 
+    given : mine config out b up (given_by config out w.near.layer (Starts cfn) new.near.layer up) ≡ st.built b
+    given = start_mine config out cfn b up w.near.layer new.near.layer st is.up_apart is.up_is is.least is.most
+
+    own : own_blocks config out b (given_by config out w.near.layer (Starts cfn) new.near.layer) ≡ st.built b
+    own = ap (λ (o : Option ℕ). own_on config out b o (given_by config out w.near.layer (Starts cfn) new.near.layer)) is.up_is ∙ given
+
     split : mine config out b up ((w.out up).given ++ given_by config out w.near.layer (Starts cfn) new.near.layer up) ≡ mine config out b up (w.out up).given ++ st.built b
-    split = filter-append (is_mine config out b up) (w.out up).given (given_by config out w.near.layer (Starts cfn) new.near.layer up) ∙ ap (λ l. mine config out b up (w.out up).given ++ l) (start_mine config out cfn b up w.near.layer new.near.layer st is.up_apart is.up_is is.least is.most)
+    split = filter-append (is_mine config out b up) (w.out up).given (given_by config out w.near.layer (Starts cfn) new.near.layer up) ∙ ap (λ l. mine config out b up (w.out up).given ++ l) given

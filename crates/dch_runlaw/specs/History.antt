@@ -1,5 +1,5 @@
 -- When an acknowledged bearer of two ends is the pair of a history (TS 25.322 11.3).
-use Rattle.std.specs.Prelude.{◌≡◌, ◌≤◌, ◌++◌, ◌==◌, ℕ, List, [], ◌∷◌, Bool, true, false, Some, filter, length}
+use Rattle.std.specs.Prelude.{◌≡◌, ◌≤◌, ◌++◌, ◌==◌, ℕ, List, [], ◌∷◌, Bool, true, false, Some, filter, length, not}
 use Rattle.dch_types.specs.declared.channel.Dir.{Dir}
 use Rattle.dch_types.specs.declared.bearer.Mode.TheVariants.{Am}
 use Rattle.dch_types.specs.declared.config.Config.{Config}
@@ -9,7 +9,7 @@ use Rattle.dch_mac.specs.declared.answer.Demux.{Demux}
 use Rattle.dch_mac.specs.declared.answer.Demux.TheVariants.{To, Reserved, NoBearer, Nobody}
 use Rattle.dch_mac.specs.Receivers.{receiver}
 use Rattle.dch_amlaw.specs.Pair.{At, Block, End, Far, IsSafe, Lose, Near, Pair, after, opened}
-use Rattle.dch_amlaw.specs.Lossless.{AreWhole, NoneLost}
+use Rattle.dch_amlaw.specs.Lossless.{AreWhole, NoneLost, is_loss}
 use Rattle.dch_layer2.specs.UnitLines.{unit_lines}
 use Rattle.dch_layer2.specs.Bearings.{Acknowledged, bearer_in, channel_of, pdu_octets, rules_in}
 use Rattle.dch_runlaw.specs.Lines.{lines_of}
@@ -49,9 +49,14 @@ pub record ArePair (out into : Dir) (b : ℕ) (w : World) (p : Pair) : Type 0 wh
 abbrev pub pair_after : Config → Dir → Dir → ℕ → List At → Pair
 pair_after config out into b events = after (rules_in config b) (opened (rules_in config b) (pdu_octets config out b) (pdu_octets config into b)) events
 
--- there is a history of which they are the ends, and it is safe
-pub record IsHistory (config : Config) (out into : Dir) (b : ℕ) (w : World) : Type 0 where
+-- the calls among the events of a history: all but losses on the way
+abbrev pub calls_of : List At → List At
+calls_of events = filter (λ event. not (is_loss event)) events
+
+-- these calls, with losses on the way between them, are a history of which they are the ends, and it is safe
+pub record IsHistory (config : Config) (out into : Dir) (b : ℕ) (calls : List At) (w : World) : Type 0 where
   pub events : List At
+  pub called : calls_of events ≡ calls
   pub pair : ArePair out into b w (pair_after config out into b events)
   pub safe : IsSafe (rules_in config b) (pair_after config out into b events)
 
@@ -72,10 +77,12 @@ all_lost p = near_lost p.back ++ far_lost p.out
 abbrev pub events_over : Config → Dir → Dir → ℕ → List At → List At → List At
 events_over config out into b earlier later = earlier ++ (all_lost (pair_after config out into b earlier) ++ later)
 
--- over two parts, the first of which led to a world: there is a history that led there, and the whole history goes on from it
-pub record IsHistoryOver (config : Config) (out into : Dir) (b : ℕ) (mid w : World) : Type 0 where
-  pub before : IsHistory config out into b mid
+-- over two parts, the first of which led to a world: its calls are a history that led there, and with the calls of the
+-- second part the whole history goes on from it
+pub record IsHistoryOver (config : Config) (out into : Dir) (b : ℕ) (first second : List At) (mid w : World) : Type 0 where
+  pub before : IsHistory config out into b first mid
   pub later : List At
+  pub called : calls_of later ≡ second
   pub pair : ArePair out into b w (pair_after config out into b (events_over config out into b before.events later))
   pub safe : IsSafe (rules_in config b) (pair_after config out into b (events_over config out into b before.events later))
 
@@ -93,12 +100,11 @@ is_mine config dir b i block = is_to b (receiver config dir i block)
 abbrev pub AreLeft : Config → Dir → ℕ → ℕ → Log → List Block → Type 0
 AreLeft config dir b i log line = (rest : List (List Bit)) → log.given ≡ log.taken ++ rest → length line ≡ length (filter (is_mine config dir b i) rest)
 
--- there is a history of which they are the ends, in which nothing is lost: handed up are, in order, the accepted units whose length indicator was sent
--- before the blocks that are still in flight
-pub record IsWholeHistory (config : Config) (out into : Dir) (b up down : ℕ) (w : World) : Type 0 where
-  pub events : List At
-  pub none_lost : NoneLost events
-  pub pair : ArePair out into b w (pair_after config out into b events)
-  pub whole : AreWhole (pair_after config out into b events)
-  pub out_left : AreLeft config out b up (w.out up) (pair_after config out into b events).out
-  pub back_left : AreLeft config into b down (w.back down) (pair_after config out into b events).back
+-- these calls alone are a history of which they are the ends, and nothing is lost in it: handed up are, in order, the
+-- accepted units whose length indicator was sent before the blocks that are still in flight
+pub record IsWholeHistory (config : Config) (out into : Dir) (b up down : ℕ) (calls : List At) (w : World) : Type 0 where
+  pub none_lost : NoneLost calls
+  pub pair : ArePair out into b w (pair_after config out into b calls)
+  pub whole : AreWhole (pair_after config out into b calls)
+  pub out_left : AreLeft config out b up (w.out up) (pair_after config out into b calls).out
+  pub back_left : AreLeft config into b down (w.back down) (pair_after config out into b calls).back

@@ -40,6 +40,7 @@ pub mod Lines
 pub mod Doings
 pub mod Worlds
 pub mod History
+pub mod Calls
 pub mod Ended
 pub mod UmHistory
 pub mod TmHistory

@@ -3,6 +3,7 @@ ghost use Rattle.dch_bits.specs.declared.bit.Bit.{Bit};
 ghost use Rattle.dch_types.specs.declared.channel.Dir.{Dir};
 ghost use Rattle.dch_types.specs.declared.config.Config.{Config};
 ghost use Rattle.dch_config.specs.Changes.{KeepsBearer};
+ghost use Rattle.dch_runlaw.specs.Calls.{run_calls};
 ghost use Rattle.dch_runlaw.specs.Worlds.{AreFaithful, AreWholeSoFar, At, IsFaithful, Runs, RunsInTwo, World, opened_world};
 ghost use Rattle.dch_runlaw.specs.History.{IsAmBearer, IsHistory, IsHistoryOver, IsWholeHistory};
 ghost use Rattle.dch_runlaw.specs.UmHistory.{Any, IsKnownHistory, IsUmBearer, IsUmCarried, pdus_in};
@@ -20,10 +21,13 @@ ghost use Rattle.dch_runlaw.specs.TmHistory.{IsTmBearer, IsTmCarried, IsTmSome, 
 /// lost, and the history goes on.
 pub fn am_history_law()
     ensures one { (config : Config) (out into : Dir) (b up down : ℕ) (events : List At) (w : World) → IsAmBearer config out into b up down →
-        Runs config out into (AreFaithful up down) (opened_world config out into) events w → IsHistory config out into b w }
+        (run : Runs config out into (AreFaithful up down) (opened_world config out into) events w) →
+        IsHistory config out into b (run_calls config out into b (AreFaithful up down) (opened_world config out into) events w run) w }
     ensures two { (first second : Config) (out into : Dir) (b up down up_later down_later : ℕ) (earlier later : List At) (w : World) →
         KeepsBearer first second b → IsAmBearer first out into b up down → IsAmBearer second out into b up_later down_later →
-        (run : RunsInTwo first second out into (AreFaithful up down) (AreFaithful up_later down_later) earlier later w) → IsHistoryOver second out into b run.mid w }
+        (run : RunsInTwo first second out into (AreFaithful up down) (AreFaithful up_later down_later) earlier later w) →
+        IsHistoryOver second out into b (run_calls first out into b (AreFaithful up down) (opened_world first out into) earlier run.mid run.before)
+            (run_calls second out into b (AreFaithful up_later down_later) run.next later w run.behind) run.mid w }
 {}
 
 /// A law. Where besides, after each event, what was taken of the two channels begins what was given to them, nothing is lost in that history:
@@ -32,11 +36,14 @@ pub fn am_history_law()
 /// And so over two parts where all that was given to the two channels in the first part was taken there.
 pub fn whole_law()
     ensures one { (config : Config) (out into : Dir) (b up down : ℕ) (events : List At) (w : World) → IsAmBearer config out into b up down →
-        Runs config out into (AreWholeSoFar up down) (opened_world config out into) events w → IsWholeHistory config out into b up down w }
+        (run : Runs config out into (AreWholeSoFar up down) (opened_world config out into) events w) →
+        IsWholeHistory config out into b up down (run_calls config out into b (AreWholeSoFar up down) (opened_world config out into) events w run) w }
     ensures two { (first second : Config) (out into : Dir) (b up down up_later down_later : ℕ) (earlier later : List At) (w : World) →
         KeepsBearer first second b → IsAmBearer first out into b up down → IsAmBearer second out into b up_later down_later →
         (run : RunsInTwo first second out into (AreWholeSoFar up down) (AreWholeSoFar up_later down_later) earlier later w) →
-        (run.mid.out up).given ≡ (run.mid.out up).taken → (run.mid.back down).given ≡ (run.mid.back down).taken → IsWholeHistory second out into b up_later down_later w }
+        (run.mid.out up).given ≡ (run.mid.out up).taken → (run.mid.back down).given ≡ (run.mid.back down).taken →
+        IsWholeHistory second out into b up_later down_later (run_calls first out into b (AreWholeSoFar up down) (opened_world first out into) earlier run.mid run.before ++
+            run_calls second out into b (AreWholeSoFar up_later down_later) run.next later w run.behind) w }
 {}
 
 /// A law. Two ends do whatever they like, and at last the good blocks that were taken of a channel of an unacknowledged bearer are some of those
