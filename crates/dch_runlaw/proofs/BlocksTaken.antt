@@ -120,6 +120,7 @@ none_lost-append (x ∷ xs) ys h k = (h.0, none_lost-append xs ys h.1 k)
 pub calls-append : (xs ys cs ds : List At) → calls_of xs ≡ cs → calls_of ys ≡ ds → calls_of (xs ++ ys) ≡ cs ++ ds
 calls-append xs ys cs ds e f = filter-append (λ event. not (is_loss event)) xs ys ∙ ap₂ (λ (us vs : List At). us ++ vs) e f
 
+-- and a call for each of more blocks
 pub each-append : (call : Event) (xs ys : List (List Bit)) → map Near (for_each call (xs ++ ys)) ≡ map Near (for_each call xs) ++ map Near (for_each call ys)
 each-append call [] ys = refl
 each-append call (x ∷ xs) ys = ap (λ (l : List At). Near call ∷ l) (each-append call xs ys)

@@ -1,7 +1,9 @@
 -- What happens at the terminal and the network controller in a run is a list of events at a terminal and a network controller.
 use Rattle.std.proofs.Common.{◌≡◌, ◌∙◌, ◌++◌, ℕ, List, [], ◌∷◌, Option, Some, None, append_assoc, append-nil, refl, sym, ap, subst, inl, inr}
 use Rattle.dch_types.specs.declared.channel.Dir.TheVariants.{Up, Down}
+use Rattle.dch_types.specs.declared.config.Config.{Config}
 use Rattle.dch_accept.specs.Plans.{Planned}
+use Rattle.dch_amlaw.specs.Pair.{At}
 use Rattle.dch_node.specs.Lines.{Line}
 use Rattle.dch_linkcmd.specs.UeState.{BlockedCombination as UeBlocked, DownlinkFrame, Event as UeEvent, OfferedUnit as UeOffered, State as UeState, Tick as UeTicks}
 use Rattle.dch_linkcmd.specs.UeSteps.{Steps as UeSteps}
@@ -20,6 +22,7 @@ use Rattle.dch_runlaw.specs.Lines.{lines_of}
 use Rattle.dch_runlaw.proofs.Bearers.{is_am_bearer}
 use Rattle.dch_runlaw.specs.HonestBearers.{IsAcknowledged}
 use Rattle.dch_runlaw.specs.Nodes.{Any, AreFaithful, AtRnc, AtUe, Happens as NodesHappen, IsAmHistory, Nodes, Runs as NodesRun, opened_nodes}
+use Rattle.dch_runlaw.specs.NodesCalls.{event_calls, nodes_calls}
 use Rattle.dch_runlaw.proofs.NodesEvents.{nodes_history}
 use Rattle.dch_runlaw.specs.SoftEndEvents.{AfterEach, AreOf, HandsUp, EndEvent, EventAtRnc, EventAtUe, IsListOf, after, after_all, between, combined, event_of, events_of, end_events, in_stage, in_step, rnc_events, ue_events}
 use Rattle.dch_runlaw.specs.SoftRuns.{Between, Move, Next, Point, Runs, Steps, behind, opened_point}
@@ -41,13 +44,20 @@ after-append nodes [] ys = refl
 after-append nodes (x ∷ xs) ys = after-append (after nodes x) xs ys
 
 -- so they are a list of events, after each of which something holds
-all_run : (Holds : Nodes → Type 0) (nodes : Nodes) (happened : List EndEvent) → AllHappen nodes happened → AfterEach Holds nodes happened → NodesRun Holds nodes (events_of happened) (after_all nodes happened)
+unfoldable all_run : (Holds : Nodes → Type 0) (nodes : Nodes) (happened : List EndEvent) → AllHappen nodes happened → AfterEach Holds nodes happened → NodesRun Holds nodes (events_of happened) (after_all nodes happened)
 all_run Holds nodes [] all holds = refl
 all_run Holds nodes (x ∷ happened) all holds = record { next = after nodes x; first = all.0; holds = holds.0; later = all_run Holds (after nodes x) happened all.1 holds.1 }
 
-any_each : (nodes : Nodes) (happened : List EndEvent) → AfterEach Any nodes happened
+unfoldable any_each : (nodes : Nodes) (happened : List EndEvent) → AfterEach Any nodes happened
 any_each nodes [] = tt
 any_each nodes (x ∷ happened) = (tt, any_each (after nodes x) happened)
+
+-- with the same calls, whatever holds
+all_called : (config : Config) (b : ℕ) (Holds : Nodes → Type 0) (nodes : Nodes) (happened : List EndEvent) (all : AllHappen nodes happened) (holds : AfterEach Holds nodes happened)
+    → nodes_calls config b Holds nodes (events_of happened) (after_all nodes happened) (all_run Holds nodes happened all holds) ≡ nodes_calls config b Any nodes (events_of happened) (after_all nodes happened) (all_run Any nodes happened all (any_each nodes happened))
+unfolding all_run any_each
+all_called config b Holds nodes [] all holds = refl
+all_called config b Holds nodes (x ∷ happened) all holds = ap (λ (l : List At). event_calls config b nodes (event_of x) (after nodes x) ++ l) (all_called config b Holds (after nodes x) happened all.1 holds.1)
 
 -- one event at the terminal, or at the network controller
 ue_happens : (old new : SoftState) (event : UeEvent) (nodes : Nodes) → UeWithin event → UeGoes old event new → AreOf old nodes → NodesHappen nodes (AtUe event) (after nodes (EventAtUe event new.ue))
@@ -220,16 +230,17 @@ opened_leads : (planned : Planned) (first legs : ℕ) (moves : List Move) (new :
 opened_leads planned first legs moves new lines run =
     runs_lead moves (opened_point planned first legs) new lines (opened_nodes planned first first) run (record { ue = refl; rnc = refl; ue_lines = refl; rnc_lines = refl })
 
+-- so it is a list of events
+abbrev list_of : (planned : Planned) (first legs : ℕ) (happened : List EndEvent) (soft : SoftState) → Leads (opened_point planned first legs).soft (opened_nodes planned first first) happened soft → IsListOf planned first happened soft
+list_of planned first legs happened soft leads = record {
+  ue = leads.ue;
+  rnc = leads.rnc;
+  run = all_run Any (opened_nodes planned first first) happened leads.all (any_each (opened_nodes planned first first) happened);
+  are = leads.are;
+}
+
 pub run_listed : (planned : Planned) (first legs : ℕ) (moves : List Move) (new : Point) (lines : List Line) (run : Runs (opened_point planned first legs) moves new lines) → IsListOf planned first (end_events moves (opened_point planned first legs) new lines run) new.soft
-run_listed planned first legs moves new lines run =
-    let happened : List EndEvent = end_events moves (opened_point planned first legs) new lines run in
-    let leads : Leads (opened_point planned first legs).soft (opened_nodes planned first first) happened new.soft = opened_leads planned first legs moves new lines run in
-    record {
-      ue = leads.ue;
-      rnc = leads.rnc;
-      run = all_run Any (opened_nodes planned first first) happened leads.all (any_each (opened_nodes planned first first) happened);
-      are = leads.are;
-    }
+run_listed planned first legs moves new lines run = list_of planned first legs (end_events moves (opened_point planned first legs) new lines run) new.soft (opened_leads planned first legs moves new lines run)
 
 pub run_faithful : (planned : Planned) (first legs up down : ℕ) (moves : List Move) (new : Point) (lines : List Line) (run : Runs (opened_point planned first legs) moves new lines)
     → AfterEach (AreFaithful up down) (opened_nodes planned first first) (end_events moves (opened_point planned first legs) new lines run)
@@ -243,13 +254,16 @@ pub run_hands_up : (planned : Planned) (first legs b up down : ℕ) (moves : Lis
 run_hands_up planned first legs b up down moves new lines run is faithful =
     let happened : List EndEvent = end_events moves (opened_point planned first legs) new lines run in
     let nodes : Nodes = after_all (opened_nodes planned first first) happened in
-    let are : AreOf new.soft nodes = (run_listed planned first legs moves new lines run).are in
+    let leads : Leads (opened_point planned first legs).soft (opened_nodes planned first first) happened new.soft = opened_leads planned first legs moves new lines run in
+    let listed : IsListOf planned first happened new.soft = list_of planned first legs happened new.soft leads in
     let bearer : IsAmBearer planned.config Up Down b up down = is_am_bearer planned.config b up down is.good is.there is.mode is.up_is is.down_is in
-    let history : IsAmHistory planned b nodes = nodes_history planned first first b up down (events_of happened) nodes bearer (run_faithful planned first legs up down moves new lines run faithful) in
+    let history : IsAmHistory planned b (nodes_calls planned.config b Any (opened_nodes planned first first) (events_of happened) nodes listed.run) nodes =
+    subst (λ (calls : List At). IsAmHistory planned b calls nodes) (all_called planned.config b (AreFaithful up down) (opened_nodes planned first first) happened leads.all faithful)
+    (nodes_history planned first first b up down (events_of happened) nodes bearer (all_run (AreFaithful up down) (opened_nodes planned first first) happened leads.all faithful)) in
     let told : IsTold (opened_point planned first legs).soft new.soft lines = run_told (opened_point planned first legs) moves new lines run in
     record {
-      are = are;
+      listed = listed;
       history = history;
-      up = sym (told.up b) ∙ ap (lines_of b) (sym are.rnc_lines) ∙ history.pair.far.lines;
-      down = sym (told.down b) ∙ ap (lines_of b) (sym are.ue_lines) ∙ history.pair.near.lines;
+      up = sym (told.up b) ∙ ap (lines_of b) (sym listed.are.rnc_lines) ∙ history.pair.far.lines;
+      down = sym (told.down b) ∙ ap (lines_of b) (sym listed.are.ue_lines) ∙ history.pair.near.lines;
     }

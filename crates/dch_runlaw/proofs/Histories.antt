@@ -1,52 +1,28 @@
 -- A run of two ends is a history of the pair of an acknowledged bearer whose channels are faithful.
-use Rattle.std.proofs.Common.{◌≡◌, ◌-◌, ℕ, suc, length, List, [], ◌∷◌, ◌++◌, Bool, true, false, cond, not, Option, Some, map, refl, sym, ap, ◌∙◌, subst, append_assoc}
-use Rattle.std.specs.Prelude.{◌==◌}
+use Rattle.std.proofs.Common.{◌≡◌, ◌-◌, ℕ, suc, length, List, [], ◌∷◌, ◌++◌, Bool, true, false, cond, not, map, refl, sym, ap, ◌∙◌, subst, append_assoc}
 use Rattle.std.proofs.lemmas.List.{append-nil, map-append}
 use Rattle.std.proofs.lemmas.List.Elements.{filter-append}
 use Rattle.dch_bits.specs.declared.bit.Bit.{Bit}
 use Rattle.dch_types.specs.declared.channel.Dir.{Dir}
 use Rattle.dch_types.specs.declared.config.Config.{Config}
-use Rattle.dch_mac.specs.declared.answer.Demux.{Demux}
-use Rattle.dch_mac.specs.declared.answer.Demux.TheVariants.{To, Reserved, NoBearer, Nobody}
 use Rattle.dch_mac.specs.Field.{field_bits}
-use Rattle.dch_mac.specs.Receivers.{receiver}
 use Rattle.dch_am.specs.Rules.{Rules}
 use Rattle.dch_amlaw.specs.Pair.{At, Block, Event as Call, Far as FarAt, IsSafe, Near as NearAt, Pair, after, happens, opened, turned as turned_pair}
 use Rattle.dch_amlaw.specs.Lossless.{NoneLost, is_loss_event}
 use Rattle.dch_amlaw.proofs.History.{always_safe}
 use Rattle.dch_amlaw.proofs.Lossless.{always_whole}
-use Rattle.dch_layer2.specs.Bearings.{channel_of, ct_of, opened_mode, pdu_octets, rules_in}
+use Rattle.dch_layer2.specs.Bearings.{ct_of, opened_mode, pdu_octets, rules_in}
 use Rattle.dch_layer2.specs.Layers.{Came, takes}
 use Rattle.dch_runlaw.specs.Calls.{calls_at, calls_in, calls_in_all, run_calls}
 use Rattle.dch_runlaw.specs.Doings.{Blocks, Doing, Offers, Says, Starts, Takes, Ticks, good_blocks, taken_by}
-use Rattle.dch_runlaw.specs.History.{AreLeft, IsAmBearer, IsEndOf, IsHistory, IsWholeHistory, calls_of, pair_after, is_mine, is_to}
+use Rattle.dch_runlaw.specs.History.{AreLeft, IsAmBearer, IsEndOf, IsHistory, IsWholeHistory, calls_of, pair_after, is_mine}
 use Rattle.dch_runlaw.specs.Lines.{lines_of}
 use Rattle.dch_runlaw.specs.Worlds.{AreFaithful, AreWholeSoFar, At as OneEvent, DoesAll, DoesNear, Far, Happens, IsFront, IsSublist, Log, Near, Runs, World, opened_world, turned}
 use Rattle.dch_runlaw.proofs.Catching.{AlwaysSafe, Wires}
-use Rattle.dch_runlaw.proofs.Names.{number_same, other_number, receiver_has, same_number}
+use Rattle.dch_runlaw.proofs.OwnBlocks.{taken_mine}
 use Rattle.dch_runlaw.proofs.Steps.{Flow, Sim, Simulated, mine, more_lines, same_out, sim_blocks, sim_offers, sim_says, sim_starts, sim_ticks}
-use Rattle.dch_runlaw.proofs.Sublists.{behind, behind-append, behind_own, either, front_behind, front_filter, front_first, front_sub, sub_behind, sub_filter, sub_front}
+use Rattle.dch_runlaw.proofs.Sublists.{behind, behind-append, behind_own, front_behind, front_filter, front_first, front_sub, sub_behind, sub_filter, sub_front}
 use Rattle.dch_runlaw.proofs.BlocksTaken.{Took, after-append, all_taken, calls-append, none_lost-append, safe_after}
-
--- on another channel no block is the bearer's
-not_to : (config : Config) (into : Dir) (b down i : ℕ) (block : List Bit) (to : Demux) → channel_of config into b ≡ Some down → (i ≡ down → ⊥) → receiver config into i block ≡ to → is_to b to ≡ false
-not_to config into b down i block (To c skip) on f e = other_number b c (λ same. f (injected (sym (receiver_has config into i c skip block e) ∙ sym (ap (channel_of config into) same) ∙ on)))
-  where
-    injected : {x y : ℕ} → ◌≡◌ {A = Option ℕ} (Some x) (Some y) → x ≡ y
-    injected e = cc
-not_to config into b down i block Reserved on f e = refl
-not_to config into b down i block (NoBearer ct) on f e = refl
-not_to config into b down i block Nobody on f e = refl
-
-none_mine : (config : Config) (into : Dir) (b down i : ℕ) (blocks : List (List Bit)) → channel_of config into b ≡ Some down → (i ≡ down → ⊥) → mine config into b i blocks ≡ []
-none_mine config into b down i [] on f = refl
-none_mine config into b down i (x ∷ xs) on f = rw (not_to config into b down i x (receiver config into i x) on f refl) (none_mine config into b down i xs on f)
-
--- what is the bearer's of what comes on a channel
-pub taken_mine : (config : Config) (into : Dir) (b down i : ℕ) (came : List Came) → channel_of config into b ≡ Some down → mine config into b down (taken_by (Takes i came) down) ≡ mine config into b i (good_blocks came)
-taken_mine config into b down i came on = either (i == down)
-    (λ e. rw e (ap (λ j. mine config into b j (good_blocks came)) (sym (number_same i down e))))
-    (λ e. rw e (sym (none_mine config into b down i (good_blocks came) on (λ same. let t : (i == down) ≡ true = same_number i down same in absurd (cc)))))
 
 -- blocks are taken
 sim_takes : (config : Config) (out into : Dir) (b up down i : ℕ) (came : List Came) (w new : World) (p : Pair) → IsAmBearer config out into b up down → Sim config out into b up down w p → AlwaysSafe (rules_in config b) p → IsSublist (mine config into b down ((w.back down).taken ++ taken_by (Takes i came) down)) (mine config into b down (w.back down).given) → DoesNear config out into w (Takes i came) new → Simulated config out into b up down new p (map NearAt (calls_in config out into b w.near.layer (Takes i came) new.near.layer)) (IsFront (mine config into b down ((w.back down).taken ++ taken_by (Takes i came) down)) (mine config into b down (w.back down).given))

@@ -1,5 +1,5 @@
 -- What a run of three nodes hands up of bearers.
-use Rattle.std.proofs.Common.{◌≡◌, ◌<◌, ℕ, List, Some, arith, length, refl}
+use Rattle.std.proofs.Common.{◌≡◌, ◌<◌, ℕ, List, Some, arith, length, refl, subst}
 use Rattle.dch_bits.specs.declared.bit.Bit.{Bit}
 use Rattle.dch_types.specs.declared.channel.Dir.{Dir}
 use Rattle.dch_types.specs.declared.channel.Dir.TheVariants.{Up, Down}
@@ -7,6 +7,7 @@ use Rattle.dch_types.specs.Parts.{side_of}
 use Rattle.dch_config.specs.Good.{IsGood}
 use Rattle.dch_accept.specs.Plans.{Planned}
 use Rattle.dch_node.specs.Lines.{Differs, Line}
+use Rattle.dch_amlaw.specs.Pair.{At}
 use Rattle.dch_layer2.specs.Bearings.{channel_of}
 use Rattle.dch_linkcmd.specs.Checks.{IsSublist as IsFound}
 use Rattle.dch_linkcmd.specs.LinkLink.{LinkState, opened_link}
@@ -16,9 +17,9 @@ use Rattle.dch_runlaw.proofs.Tm.{tm_carried}
 use Rattle.dch_runlaw.proofs.UmWhole.{um_carried}
 use Rattle.dch_runlaw.specs.Runs.{Event, Runs}
 use Rattle.dch_runlaw.specs.EndEvents.{end_events}
-use Rattle.dch_runlaw.specs.Nodes.{Any, AreFaithful, AreWhole, opened_nodes, world_of}
+use Rattle.dch_runlaw.specs.Nodes.{Any, AreFaithful, AreWhole, Event as NodesEvent, IsAmHistory, IsWholeAmHistory, Nodes, opened_nodes, world_of}
 use Rattle.dch_runlaw.proofs.NodesEvents.{nodes_history, nodes_whole_history, tm_down, tm_down_history, tm_up, tm_up_history, um_down, um_down_history, um_up, um_up_history}
-use Rattle.dch_runlaw.specs.HonestBearers.{HasHistory, HasKnownDown, HasKnownUp, HasSomeDown, HasSomeUp, HasTmDown, HasTmUp, HasUmDown, HasUmUp, HasWholeHistory, IsAcknowledged, IsTransparent, IsUnacknowledged, down_way, up_way}
+use Rattle.dch_runlaw.specs.HonestBearers.{Alone, HasHistory, HasKnownDown, HasKnownUp, HasSomeDown, HasSomeUp, HasTmDown, HasTmUp, HasUmDown, HasUmUp, HasWholeHistory, IsAcknowledged, IsTransparent, IsUnacknowledged, down_way, up_way}
 use Rattle.dch_runlaw.specs.HonestFits.{IsChannel, IsHonest, IsUndamaged, IsUndamagedOn, RunFits}
 use Rattle.dch_runlaw.specs.HonestSilent.{IsSilent, Lacks}
 use Rattle.dch_runlaw.specs.Parts.{Begins}
@@ -28,7 +29,7 @@ use Rattle.dch_runlaw.proofs.HonestChannels.{is_channel}
 use Rattle.dch_runlaw.proofs.HonestPhases.{Anything, Joins, anything, honest, phase_holds, undamaged, whole_phase}
 use Rattle.dch_runlaw.proofs.HonestRuns.{fresh_stand, run_goes}
 use Rattle.dch_runlaw.proofs.HonestSilence.{any_fits, run_fits}
-use Rattle.dch_runlaw.proofs.HonestStanding.{Onward, Setting, any-run, down_frames, nodes_of, up_frames}
+use Rattle.dch_runlaw.proofs.HonestStanding.{Onward, Setting, any-called, any-run, down_frames, nodes_of, up_frames}
 
 -- two channels of good directions
 pub record AreChannels (planned : Planned) (up down : ℕ) : Type 0 where
@@ -76,25 +77,34 @@ pub silent_history : (planned : Planned) (first b up down : ℕ) (events : List 
 silent_history planned first b up down events new lines run is silent =
     let are = am_channels planned b up down is in
     let o = goes planned first up down (honest_setting planned up down are) events new lines run (silent_honest planned Up up events (opened_link planned first) new lines run is.good (opened_fresh planned first).are are.up_is.there silent.up_silent) (silent_honest planned Down down events (opened_link planned first) new lines run is.good (opened_fresh planned first).are are.down_is.there silent.down_silent) in
+    let nodes : Nodes = nodes_of planned up down (honest_setting planned up down are) new o.stand in
+    let happened : List NodesEvent = end_events events (opened_link planned first) new lines run in
     record {
       reached = record {
-        nodes = nodes_of planned up down (honest_setting planned up down are) new o.stand;
-        run = any-run (AreFaithful up down) (opened_nodes planned first first) (nodes_of planned up down (honest_setting planned up down are) new o.stand) (end_events events (opened_link planned first) new lines run) o.run;
+        nodes = nodes;
+        run = any-run (AreFaithful up down) (opened_nodes planned first first) nodes happened o.run;
         are = record { ue = refl; rnc = refl; ue_lines = refl; rnc_lines = refl };
       };
-      history = nodes_history planned first first b up down (end_events events (opened_link planned first) new lines run) (nodes_of planned up down (honest_setting planned up down are) new o.stand) (is_am_bearer planned.config b up down is.good is.there is.mode is.up_is is.down_is) o.run;
+      history = subst (λ (calls : List At). IsAmHistory planned b calls nodes) (any-called planned.config b (AreFaithful up down) (opened_nodes planned first first) nodes happened o.run)
+          (nodes_history planned first first b up down happened nodes (is_am_bearer planned.config b up down is.good is.there is.mode is.up_is is.down_is) o.run);
     }
 
-pub undamaged_history : (planned : Planned) (first b up down : ℕ) (events : List Event) (new : LinkState) (lines : List Line) (run : Runs (opened_link planned first) events new lines) → IsAcknowledged planned b up down → IsUndamaged planned up down events (opened_link planned first) new lines run → HasWholeHistory planned b up down new
+pub undamaged_history : (planned : Planned) (first b up down : ℕ) (events : List Event) (new : LinkState) (lines : List Line) (run : Runs (opened_link planned first) events new lines) → IsAcknowledged planned b up down → IsUndamaged planned up down events (opened_link planned first) new lines run → HasWholeHistory (Alone planned first (end_events events (opened_link planned first) new lines run)) b up down new
 undamaged_history planned first b up down events new lines run is fits =
     let are = am_channels planned b up down is in
     let o = goes planned first up down (whole_setting planned up down are) events new lines run fits.up_is fits.down_is in
+    let nodes : Nodes = nodes_of planned up down (whole_setting planned up down are) new o.stand in
+    let happened : List NodesEvent = end_events events (opened_link planned first) new lines run in
     record {
-      nodes = nodes_of planned up down (whole_setting planned up down are) new o.stand;
-      are = record { ue = refl; rnc = refl; ue_lines = refl; rnc_lines = refl };
+      reached = record {
+        nodes = nodes;
+        run = any-run (AreWhole up down) (opened_nodes planned first first) nodes happened o.run;
+        are = record { ue = refl; rnc = refl; ue_lines = refl; rnc_lines = refl };
+      };
       up_taken = whole_phase (up_frames planned up) new.rnc.state.cfn (o.stand.ul up) (new.ue.state.layer.given up).blocks o.stand.up_phase;
       down_taken = whole_phase (down_frames planned down) new.rnc.state.cfn (o.stand.dl down) (new.rnc.state.layer.given down).blocks o.stand.down_phase;
-      history = nodes_whole_history planned first first b up down (end_events events (opened_link planned first) new lines run) (nodes_of planned up down (whole_setting planned up down are) new o.stand) (is_am_bearer planned.config b up down is.good is.there is.mode is.up_is is.down_is) o.run;
+      history = subst (λ (calls : List At). IsWholeAmHistory planned b up down calls nodes) (any-called planned.config b (AreWhole up down) (opened_nodes planned first first) nodes happened o.run)
+          (nodes_whole_history planned first first b up down happened nodes (is_am_bearer planned.config b up down is.good is.there is.mode is.up_is is.down_is) o.run);
     }
 
 -- a bearer's own channel, and any channel of the other direction

@@ -1,5 +1,5 @@
 -- What a run of three nodes in two parts hands up of bearers.
-use Rattle.std.proofs.Common.{◌≡◌, ◌<◌, ◌%◌, ◌∙◌, ℕ, List, true, length, refl, sym, ap}
+use Rattle.std.proofs.Common.{◌≡◌, ◌<◌, ◌%◌, ◌∙◌, ◌++◌, ℕ, List, true, length, refl, sym, ap, subst₂}
 use Rattle.std.proofs.lemmas.List.{append-nil}
 use Rattle.dch_types.specs.declared.channel.Dir.TheVariants.{Up, Down}
 use Rattle.dch_types.specs.declared.channel.Side.{Side}
@@ -8,6 +8,7 @@ use Rattle.dch_types.specs.Parts.{channel_at}
 use Rattle.dch_types.specs.Timing.{starts}
 use Rattle.dch_config.specs.Changes.{KeepsBearer}
 use Rattle.dch_accept.specs.Plans.{Planned}
+use Rattle.dch_amlaw.specs.Pair.{At}
 use Rattle.dch_node.specs.Lines.{Differs, Line}
 use Rattle.dch_node.specs.Values.{no_output}
 use Rattle.dch_linkcmd.proofs.Steady.{starts-eighth}
@@ -19,8 +20,9 @@ use Rattle.dch_runlaw.proofs.Bearers.{is_am_bearer, is_tm_bearer, is_um_bearer}
 use Rattle.dch_runlaw.specs.Runs.{Event, Runs}
 use Rattle.dch_runlaw.specs.Parts.{GoesOver}
 use Rattle.dch_runlaw.specs.EndEvents.{end_events}
-use Rattle.dch_runlaw.specs.Nodes.{Changes, Event as NodesEvent, Nodes, RunsInTwo, opened_nodes}
-use Rattle.dch_runlaw.specs.HonestBearers.{HasHistoryOver, HasKnownDownOver, HasKnownUpOver, HasSomeDownOver, HasSomeUpOver, HasTmDown, HasTmUp, HasUmDown, HasUmUp, HasWholeHistory, IsAcknowledged, IsTransparent, IsUnacknowledged, down_way, up_way}
+use Rattle.dch_runlaw.specs.NodesCalls.{nodes_calls}
+use Rattle.dch_runlaw.specs.Nodes.{Any, Changes, Event as NodesEvent, IsAmHistoryOver, IsWholeAmHistory, Nodes, RunsInTwo, opened_nodes}
+use Rattle.dch_runlaw.specs.HonestBearers.{AreReachedOver, Both, HasHistoryOver, HasKnownDownOver, HasKnownUpOver, HasSomeDownOver, HasSomeUpOver, HasTmDown, HasTmUp, HasUmDown, HasUmUp, HasWholeHistory, IsAcknowledged, IsTransparent, IsUnacknowledged, down_way, up_way}
 use Rattle.dch_runlaw.specs.HonestFits.{IsUndamaged, IsUndamagedOn, RunFits}
 use Rattle.dch_runlaw.specs.HonestSilent.{IsSilent, Lacks}
 use Rattle.dch_runlaw.proofs.Begun.{Fresh, changed_for, changed_fresh, opened_fresh}
@@ -31,7 +33,7 @@ use Rattle.dch_runlaw.proofs.HonestPhases.{honest, phase_holds, undamaged, whole
 use Rattle.dch_runlaw.proofs.HonestRuns.{fresh_stand, run_goes}
 use Rattle.dch_runlaw.proofs.HonestSilence.{any_fits}
 use Rattle.dch_runlaw.proofs.HonestStaying.{AreFor}
-use Rattle.dch_runlaw.proofs.HonestStanding.{Onward, Setting, any-run, down_frames, nodes_of, up_frames}
+use Rattle.dch_runlaw.proofs.HonestStanding.{Onward, Setting, any-called, any-run, down_frames, nodes_of, up_frames}
 
 -- how the terminal and the network controller stand where the second part begins
 abbrev fresh_nodes : (second : Planned) (up down : ℕ) (h : Setting second up down) (start : LinkState) → Fresh second start → Nodes
@@ -79,6 +81,22 @@ in_two planned second first up down up_later down_later g h last start new earli
   behind = w.behind.run;
 }
 
+-- the two nodes were reached, whatever holds after each event
+abbrev reached_over : (planned second : Planned) (first up down up_later down_later : ℕ) (g : Setting planned up down) (h : Setting second up_later down_later) (last start new : LinkState) (earlier later : List NodesEvent) (w : WentOver planned second first up down up_later down_later g h last start new earlier later)
+    → AreReachedOver planned second first earlier later last new
+reached_over planned second first up down up_later down_later g h last start new earlier later w = record {
+  nodes = nodes_of second up_later down_later h new w.behind.stand;
+  run = record {
+    mid = nodes_of planned up down g last w.before.stand;
+    next = fresh_nodes second up_later down_later h start w.fresh;
+    before = any-run g.H (opened_nodes planned first first) (nodes_of planned up down g last w.before.stand) earlier w.before.run;
+    changes = w.changes;
+    behind = any-run h.H (fresh_nodes second up_later down_later h start w.fresh) (nodes_of second up_later down_later h new w.behind.stand) later w.behind.run;
+  };
+  are_mid = record { ue = refl; rnc = refl; ue_lines = refl; rnc_lines = refl };
+  are = record { ue = refl; rnc = refl; ue_lines = refl; rnc_lines = refl };
+}
+
 -- the configuration that is active where the second part begins, and the CFN
 over_for : (planned second : Planned) (first : ℕ) (before : List Event) (xs : List Line) (start : LinkState) → GoesOver planned second first before xs start → AreFor second start
 over_for planned second first before xs start o = changed_for second o.last start (changed_is second o.last start o.changes)
@@ -105,27 +123,22 @@ silent_over planned second first b up down up_later down_later before after star
     (silent_honest planned Down down before (opened_link planned first) o.last xs o.run is.good (opened_fresh planned first).are are.down_is.there silent.down_silent)
     (silent_honest second Up up_later after start new ys run later.good (over_for planned second first before xs start o) on.up_is.there silent_later.up_silent)
     (silent_honest second Down down_later after start new ys run later.good (over_for planned second first before xs start o) on.down_is.there silent_later.down_silent) in
+    let mid : Nodes = nodes_of planned up down g o.last w.before.stand in
+    let next : Nodes = fresh_nodes second up_later down_later h start w.fresh in
+    let nodes : Nodes = nodes_of second up_later down_later h new w.behind.stand in
+    let reached : AreReachedOver planned second first one two o.last new = reached_over planned second first up down up_later down_later g h o.last start new one two w in
     record {
-      reached = record {
-        nodes = nodes_of second up_later down_later h new w.behind.stand;
-        run = record {
-          mid = nodes_of planned up down g o.last w.before.stand;
-          next = fresh_nodes second up_later down_later h start w.fresh;
-          before = any-run g.H (opened_nodes planned first first) (nodes_of planned up down g o.last w.before.stand) one w.before.run;
-          changes = w.changes;
-          behind = any-run h.H (fresh_nodes second up_later down_later h start w.fresh) (nodes_of second up_later down_later h new w.behind.stand) two w.behind.run;
-        };
-        are_mid = record { ue = refl; rnc = refl; ue_lines = refl; rnc_lines = refl };
-        are = record { ue = refl; rnc = refl; ue_lines = refl; rnc_lines = refl };
-      };
-      history = two_history planned second first first b up down up_later down_later one two (nodes_of second up_later down_later h new w.behind.stand) keeps
+      reached = reached;
+      history = subst₂ (λ (calls calls_later : List At). IsAmHistoryOver second b calls calls_later mid nodes) {v = nodes_calls second.config b Any reached.run.next two reached.nodes reached.run.behind}
+          (any-called planned.config b g.H (opened_nodes planned first first) mid one w.before.run) (any-called second.config b h.H next nodes two w.behind.run)
+          (two_history planned second first first b up down up_later down_later one two nodes keeps
           (is_am_bearer planned.config b up down is.good is.there is.mode is.up_is is.down_is) (is_am_bearer second.config b up_later down_later later.good later.there later.mode later.up_is later.down_is)
-          (in_two planned second first up down up_later down_later g h o.last start new one two w);
+          (in_two planned second first up down up_later down_later g h o.last start new one two w));
     }
 
 pub undamaged_over : (planned second : Planned) (first b up down up_later down_later : ℕ) (before after : List Event) (start new : LinkState) (xs ys : List Line) (o : GoesOver planned second first before xs start) (run : Runs start after new ys) → KeepsBearer planned.config second.config b → start.rnc.state.cfn % 8 ≡ 0
     → IsAcknowledged planned b up down → IsAcknowledged second b up_later down_later → IsUndamaged planned up down before (opened_link planned first) o.last xs o.run → IsUndamaged second up_later down_later after start new ys run
-    → HasWholeHistory second b up_later down_later new
+    → HasWholeHistory (Both planned second first (end_events before (opened_link planned first) o.last xs o.run) (end_events after start new ys run) o.last) b up_later down_later new
 undamaged_over planned second first b up down up_later down_later before after start new xs ys o run keeps eighth is later fits fits_later =
     let are : AreChannels planned up down = am_channels planned b up down is in
     let on : AreChannels second up_later down_later = am_channels second b up_later down_later later in
@@ -135,18 +148,22 @@ undamaged_over planned second first b up down up_later down_later before after s
     let two : List NodesEvent = end_events after start new ys run in
     let w : WentOver planned second first up down up_later down_later g h o.last start new one two = goes_over planned second first up down up_later down_later g h before after start new xs ys o run fits.up_is fits.down_is fits_later.up_is fits_later.down_is in
     let over : o.last.rnc.state.cfn % 8 ≡ 0 = same_cfn planned second first before xs start o eighth in
+    let mid : Nodes = nodes_of planned up down g o.last w.before.stand in
+    let next : Nodes = fresh_nodes second up_later down_later h start w.fresh in
+    let nodes : Nodes = nodes_of second up_later down_later h new w.behind.stand in
     record {
-      nodes = nodes_of second up_later down_later h new w.behind.stand;
-      are = record { ue = refl; rnc = refl; ue_lines = refl; rnc_lines = refl };
+      reached = reached_over planned second first up down up_later down_later g h o.last start new one two w;
       up_taken = whole_phase (up_frames second up_later) new.rnc.state.cfn (w.behind.stand.ul up_later) (new.ue.state.layer.given up_later).blocks w.behind.stand.up_phase;
       down_taken = whole_phase (down_frames second down_later) new.rnc.state.cfn (w.behind.stand.dl down_later) (new.rnc.state.layer.given down_later).blocks w.behind.stand.down_phase;
-      history = two_whole planned second first first b up down up_later down_later one two (nodes_of second up_later down_later h new w.behind.stand) keeps
+      history = subst₂ (λ (calls calls_later : List At). IsWholeAmHistory second b up_later down_later (calls ++ calls_later) nodes)
+          (any-called planned.config b g.H (opened_nodes planned first first) mid one w.before.run) (any-called second.config b h.H next nodes two w.behind.run)
+          (two_whole planned second first first b up down up_later down_later one two nodes keeps
           (is_am_bearer planned.config b up down is.good is.there is.mode is.up_is is.down_is) (is_am_bearer second.config b up_later down_later later.good later.there later.mode later.up_is later.down_is)
           (in_two planned second first up down up_later down_later g h o.last start new one two w)
           (record {
             up_is = sym (w.before.stand.up_phase.over (all_over planned.config.uplink.side up o.last.rnc.state.cfn is.good.uplink.side are.up_is.there over));
             down_is = sym (w.before.stand.down_phase.over (all_over planned.config.downlink.side down o.last.rnc.state.cfn is.good.downlink.side are.down_is.there over));
-          });
+          }));
     }
 
 -- unacknowledged bearers

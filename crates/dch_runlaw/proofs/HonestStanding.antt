@@ -1,14 +1,17 @@
 -- Where the three nodes stand before a radio frame, with what went over two channels.
-use Rattle.std.proofs.Common.{◌≡◌, ℕ, List, [], ◌∷◌, ◌++◌, subst}
+use Rattle.std.proofs.Common.{◌≡◌, ℕ, List, [], ◌∷◌, ◌++◌, ap, refl, subst}
 use Rattle.dch_bits.specs.declared.bit.Bit.{Bit}
+use Rattle.dch_types.specs.declared.config.Config.{Config}
 use Rattle.dch_types.specs.Parts.{channel_at}
 use Rattle.dch_accept.specs.Plans.{Planned}
+use Rattle.dch_amlaw.specs.Pair.{At}
 use Rattle.dch_node.specs.Lines.{Line}
 use Rattle.dch_linkcmd.specs.UeState.{State as UeState}
 use Rattle.dch_linkcmd.specs.RncState.{State as RncState}
 use Rattle.dch_linkcmd.specs.LinkLink.{LinkState}
 use Rattle.dch_runlaw.specs.Worlds.{Log}
 use Rattle.dch_runlaw.specs.Nodes.{Any, Event, Nodes, Runs}
+use Rattle.dch_runlaw.specs.NodesCalls.{event_calls, nodes_calls}
 use Rattle.dch_runlaw.specs.HonestFits.{IsChannel}
 use Rattle.dch_runlaw.proofs.HonestPhases.{Joins, Phase}
 use Rattle.dch_runlaw.proofs.HonestStaying.{AreFor}
@@ -58,6 +61,12 @@ runs-append H a b c [] ys r t = subst (λ x. Runs H x ys c) r t
 runs-append H a b c (x ∷ xs) ys r t = record { next = r.next; first = r.first; holds = r.holds; later = runs-append H r.next b c xs ys r.later t }
 
 -- whatever holds after each event
-pub any-run : (H : Nodes → Type 0) (a b : Nodes) (events : List Event) → Runs H a events b → Runs Any a events b
+unfoldable pub any-run : (H : Nodes → Type 0) (a b : Nodes) (events : List Event) → Runs H a events b → Runs Any a events b
 any-run H a b [] r = r
 any-run H a b (x ∷ xs) r = record { next = r.next; first = r.first; holds = tt; later = any-run H r.next b xs r.later }
+
+-- with the same calls
+pub any-called : (config : Config) (bearer : ℕ) (H : Nodes → Type 0) (a b : Nodes) (events : List Event) (r : Runs H a events b) → nodes_calls config bearer H a events b r ≡ nodes_calls config bearer Any a events b (any-run H a b events r)
+unfolding any-run
+any-called config bearer H a b [] r = refl
+any-called config bearer H a b (x ∷ xs) r = ap (λ (l : List At). event_calls config bearer a x r.next ++ l) (any-called config bearer H r.next b xs r.later)

@@ -93,6 +93,7 @@ pub mod Scripting
 pub use Rattle.dch_linkcmd.proofs.RunLines as LinkcmdRunLines
 pub mod Sublists
 pub mod Names
+pub mod OwnBlocks
 pub mod Catching
 pub mod BlocksTaken
 pub mod Giving

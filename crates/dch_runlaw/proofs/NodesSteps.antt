@@ -17,6 +17,7 @@ use Rattle.dch_tti.specs.RxFrames.{RxFrames}
 use Rattle.dch_node.specs.IubFrames.{refusal_number}
 use Rattle.dch_node.specs.Lines.{IubBad, Line, Phy}
 use Rattle.dch_node.specs.Values.{Output}
+use Rattle.dch_amlaw.specs.Pair.{Arrive, Build, Event, Tick}
 use Rattle.dch_layer2.specs.Layers.{ticks}
 use Rattle.dch_layer2.specs.Reading.{Bad, Nothing, Read, Reading}
 use Rattle.dch_linkcmd.specs.Checks.{good_in}
@@ -24,28 +25,20 @@ use Rattle.dch_linkcmd.specs.UeState.{Event as UeEvent, OfferedUnit as UeOffered
 use Rattle.dch_linkcmd.specs.UeSteps.{IsReading, IsTick as IsUeTick}
 use Rattle.dch_linkcmd.specs.RncState.{Event as RncEvent, OfferedUnit as RncOffered, BlockedCombination as RncBlocked, Change as RncChange, IubFrame, Tick as RncTicks, State as RncState, set_readings}
 use Rattle.dch_linkcmd.specs.RncSteps.{IsReadFrame, IsRefusedFrame, IsTick as IsRncTick, sent_line, sent_lines}
-use Rattle.dch_runlaw.specs.Doings.{Blocks, Doing, Offers, Says, Starts, Ticks}
+use Rattle.dch_runlaw.specs.Calls.{for_each, own_blocks}
+use Rattle.dch_runlaw.specs.Doings.{Blocks, Offers, Says, Starts, Ticks}
 use Rattle.dch_runlaw.specs.Lines.{lines_of}
-use Rattle.dch_runlaw.specs.Worlds.{DoesAll, DoesNear, World, turned}
+use Rattle.dch_runlaw.specs.Worlds.{World, turned}
 use Rattle.dch_runlaw.proofs.Sublists.{either}
 use Rattle.dch_runlaw.proofs.BlocksTaken.{lines-append}
-use Rattle.dch_runlaw.specs.Nodes.{Nodes, StepsRnc, StepsUe, given_at, world_of}
-use Rattle.dch_runlaw.proofs.NodesLifting.{does-append, doings_below, quietly, reads_all, took_is, with_near, world_below}
+use Rattle.dch_runlaw.specs.Nodes.{Nodes, StepsRnc, StepsUe, given_at, given_by_ue, world_of}
+use Rattle.dch_runlaw.specs.NodesCalls.{rnc_calls, ue_calls}
+use Rattle.dch_runlaw.proofs.NodesLifting.{Lifts, as_calls, quietly, reads_all, single, then_, took_below, took_calls, took_is, with_near, world_below}
 use Rattle.dch_runlaw.proofs.NodesTaken.{IsWholeReading, taken-same}
-
--- doings that lead from a world to another one
-pub record Lifts (config : Config) (out into : Dir) (w new : World) : Type 0 where
-  pub doings : List Doing
-  pub all : DoesAll config out into w doings new
-
-single : (config : Config) (out into : Dir) (w new : World) (doing : Doing) → DoesNear config out into w doing new → Lifts config out into w new
-single config out into w new doing d = record { doings = doing ∷ []; all = record { next = new; first = d; later = refl } }
-
-then_ : (config : Config) (out into : Dir) (w m new : World) (xs : List Doing) → DoesAll config out into w xs m → Lifts config out into m new → Lifts config out into w new
-then_ config out into w m new xs d l = record { doings = xs ++ l.doings; all = does-append config out into w m new xs l.doings d l.all }
+use Rattle.dch_runlaw.proofs.OwnBlocks.{own_none, own_same}
 
 -- what is no part of layer 2
-spoken : (config : Config) (out into : Dir) (m new : World) (lines : List Line) → new.near.layer ≡ m.near.layer → new.near.said ≡ m.near.said ++ lines → ((b : ℕ) → lines_of b lines ≡ []) → new.far ≡ m.far → ((i : ℕ) → new.out i ≡ m.out i) → ((i : ℕ) → new.back i ≡ m.back i) → Lifts config out into m new
+spoken : (config : Config) (out into : Dir) (m new : World) (lines : List Line) → new.near.layer ≡ m.near.layer → new.near.said ≡ m.near.said ++ lines → ((b : ℕ) → lines_of b lines ≡ []) → new.far ≡ m.far → ((i : ℕ) → new.out i ≡ m.out i) → ((i : ℕ) → new.back i ≡ m.back i) → Lifts config out into m new (λ b. [])
 spoken config out into m new lines layer said none far outs backs = single config out into m new (Says lines) (record {
   lines = lines;
   does = (layer, refl, none);
@@ -72,12 +65,14 @@ whole_nothing r e = subst IsWholeReading (sym e) tt
 none_down : (old new : Nodes) (e : UeEvent) (s : StepsUe old e new) → ((i : ℕ) → new.ue.readings i ≡ Nothing) → (i : ℕ) → new.down i ≡ record { given = (old.down i).given; taken = (old.down i).taken ++ [] }
 none_down old new e s none i = s.down i ∙ ap (λ (r : Reading). record { given = (old.down i).given; taken = (old.down i).taken ++ good_in r }) (none i)
 
-ue_tick_lifts : (planned : Planned) (old new : Nodes) (s : StepsUe old UeTicks new) → IsUeTick planned old.ue new.ue s.output → old.ue.planned ≡ planned → Lifts planned.config Up Down (world_of old) (world_of new)
+ue_tick_lifts : (planned : Planned) (old new : Nodes) (s : StepsUe old UeTicks new) → IsUeTick planned old.ue new.ue s.output → old.ue.planned ≡ planned → Lifts planned.config Up Down (world_of old) (world_of new) (λ b. ue_calls planned.config b old.ue UeTicks new.ue)
 ue_tick_lifts planned old new s tick active =
-    then_ planned.config Up Down w w1 (world_of new) (Ticks ∷ []) (quietly planned.config Up Down w Ticks (ticks planned.config old.ue.layer) [] (refl, refl) (λ i. refl) (λ i. refl))
-    (then_ planned.config Up Down w1 w2 (world_of new) (Says [] ∷ doings_below Down new.ue.readings n) (reads_all planned.config Up Down new.ue.readings n w1)
-    (then_ planned.config Up Down w2 w3 (world_of new) (Starts old.ue.cfn ∷ []) starts
-    (spoken planned.config Up Down w3 (world_of new) (Phy Up tick.radio.tfci tick.radio.cells ∷ []) refl said (λ b. refl) (ue_far old UeTicks new s) outs backs)))
+    as_calls planned.config Up Down w (world_of new) (λ b. Tick ∷ (took b ++ (build b ++ []))) (λ b. ue_calls planned.config b old.ue UeTicks new.ue)
+    (then_ planned.config Up Down w w1 (world_of new) (λ b. Tick ∷ []) (λ b. took b ++ (build b ++ [])) (quietly planned.config Up Down w Ticks (ticks planned.config old.ue.layer) [] (refl, refl) (λ i. refl) (λ i. refl))
+    (then_ planned.config Up Down w1 w2 (world_of new) took (λ b. build b ++ []) (reads_all planned.config Up Down new.ue.readings n w1)
+    (then_ planned.config Up Down w2 w3 (world_of new) build (λ b. []) starts
+    (spoken planned.config Up Down w3 (world_of new) (Phy Up tick.radio.tfci tick.radio.cells ∷ []) refl said (λ b. refl) (ue_far old UeTicks new s) outs backs))))
+    are_calls
   where
     n : ℕ
     n = length planned.config.downlink.side.channels
@@ -94,19 +89,21 @@ ue_tick_lifts planned old new s tick active =
     w3 : World
     w3 = record { near = record { layer = new.ue.layer; said = w2.near.said ++ [] }; far = w2.far; out = λ i. record { given = (w2.out i).given ++ given_at planned.config.uplink.side old.ue.cfn new.ue.layer i; taken = (w2.out i).taken }; back = w2.back }
 
-    starts : DoesAll planned.config Up Down w2 (Starts old.ue.cfn ∷ []) w3
-    starts = record {
-      next = w3;
-      first = record {
-        lines = [];
-        does = (tick.start, refl);
-        said = refl;
-        far = refl;
-        out_log = λ i. refl;
-        back_log = λ i. ap (λ l. record { given = (w2.back i).given; taken = l }) (sym (append-nil (w2.back i).taken));
-      };
-      later = refl;
-    }
+    took : ℕ → List Event
+    took = took_calls planned.config Down new.ue.readings n
+
+    build : ℕ → List Event
+    build b = for_each Build (own_blocks planned.config Up b (given_at planned.config.uplink.side old.ue.cfn new.ue.layer))
+
+    starts : Lifts planned.config Up Down w2 w3 build
+    starts = single planned.config Up Down w2 w3 (Starts old.ue.cfn) (record {
+      lines = [];
+      does = (tick.start, refl);
+      said = refl;
+      far = refl;
+      out_log = λ i. refl;
+      back_log = λ i. ap (λ l. record { given = (w2.back i).given; taken = l }) (sym (append-nil (w2.back i).taken));
+    })
 
     said : new.ue_lines ≡ w3.near.said ++ (Phy Up tick.radio.tfci tick.radio.cells ∷ [])
     said = s.reported ∙ ap (λ l. old.ue_lines ++ l) tick.reported ∙ simp (append_assoc, append-nil)
@@ -120,12 +117,21 @@ ue_tick_lifts planned old new s tick active =
     outs : (i : ℕ) → new.up i ≡ w3.out i
     outs i = s.up i ∙ ap (λ (p : Planned). record { given = (old.up i).given ++ given_at p.config.uplink.side old.ue.cfn new.ue.layer i; taken = (old.up i).taken }) active
 
-    backs : (i : ℕ) → new.down i ≡ w3.back i
-    backs i = s.down i
-        ∙ ap (λ l. record { given = (old.down i).given; taken = (old.down i).taken ++ l }) (sym (taken-same (new.ue.readings i) (whole i)))
-        ∙ ap (λ l. record { given = (old.down i).given; taken = (old.down i).taken ++ l }) (sym (took_is new.ue.readings n i tick.no_more))
+    came : (i : ℕ) → took_below new.ue.readings n i ≡ good_in (new.ue.readings i)
+    came i = took_is new.ue.readings n i tick.no_more ∙ taken-same (new.ue.readings i) (whole i)
 
-ue_at : (old : Nodes) (e : UeEvent) (new : Nodes) → StepsUe old e new → Lifts old.ue.planned.config Up Down (world_of old) (world_of new)
+    backs : (i : ℕ) → new.down i ≡ w3.back i
+    backs i = s.down i ∙ ap (λ l. record { given = (old.down i).given; taken = (old.down i).taken ++ l }) (sym (came i))
+
+    are_calls : (b : ℕ) → Tick ∷ (took b ++ (build b ++ [])) ≡ ue_calls planned.config b old.ue UeTicks new.ue
+    are_calls b =
+        let arrives : took b ≡ for_each Arrive (own_blocks planned.config Down b (λ i. good_in (new.ue.readings i))) =
+        ap (for_each Arrive) (own_same planned.config Down b (took_below new.ue.readings n) (λ i. good_in (new.ue.readings i)) came) in
+        let builds : build b ≡ for_each Build (own_blocks planned.config Up b (given_by_ue old.ue UeTicks new.ue)) =
+        ap (λ (p : Planned). for_each Build (own_blocks planned.config Up b (given_at p.config.uplink.side old.ue.cfn new.ue.layer))) (sym active) in
+        ap₂ (λ (k l : List Event). Tick ∷ (k ++ l)) arrives (append-nil (build b) ∙ builds)
+
+ue_at : (old : Nodes) (e : UeEvent) (new : Nodes) → StepsUe old e new → Lifts old.ue.planned.config Up Down (world_of old) (world_of new) (λ b. ue_calls old.ue.planned.config b old.ue e new.ue)
 ue_at old (UeOffered b octets bits) new s = single old.ue.planned.config Up Down (world_of old) (world_of new) (Offers b octets bits) (record {
   lines = s.output.lines;
   does = (ap (λ (x : UeState). x.layer) s.step.state, ap (λ (o : Output). o.lines) s.step.reported);
@@ -153,8 +159,8 @@ ue_at old (DownlinkFrame frame) new s = single old.ue.planned.config Up Down (wo
 ue_at old UeTicks new s = ue_tick_lifts old.ue.planned old new s s.step refl
 ue_at old (UeChange second) new s = absurd s.within
 
-pub ue_lifts : (planned : Planned) (old : Nodes) (e : UeEvent) (new : Nodes) → old.ue.planned ≡ planned → StepsUe old e new → Lifts planned.config Up Down (world_of old) (world_of new)
-ue_lifts planned old e new active s = subst (λ (p : Planned). Lifts p.config Up Down (world_of old) (world_of new)) active (ue_at old e new s)
+pub ue_lifts : (planned : Planned) (old : Nodes) (e : UeEvent) (new : Nodes) → old.ue.planned ≡ planned → StepsUe old e new → Lifts planned.config Up Down (world_of old) (world_of new) (λ b. ue_calls planned.config b old.ue e new.ue)
+ue_lifts planned old e new active s = subst (λ (p : Planned). Lifts p.config Up Down (world_of old) (world_of new) (λ b. ue_calls p.config b old.ue e new.ue)) active (ue_at old e new s)
 
 -- a step of the network controller, as it sees the terminal
 rnc_far : (old : Nodes) (e : RncEvent) (new : Nodes) → StepsRnc old e new → (turned (world_of new)).far ≡ (turned (world_of old)).far
@@ -190,10 +196,12 @@ whole_set side set held i formats = either (nat_lt i (length side.channels))
     (λ e. rw (l, e) tt))
     (λ l. rw l tt)
 
-rnc_frame : (planned : Planned) (old : Nodes) (set : ℕ) (octets : List ℕ) (new : Nodes) (s : StepsRnc old (IubFrame set octets) new) → IsReadFrame planned old.rnc set octets new.rnc s.output → Lifts planned.config Down Up (turned (world_of old)) (turned (world_of new))
+rnc_frame : (planned : Planned) (old : Nodes) (set : ℕ) (octets : List ℕ) (new : Nodes) (s : StepsRnc old (IubFrame set octets) new) → IsReadFrame planned old.rnc set octets new.rnc s.output → Lifts planned.config Down Up (turned (world_of old)) (turned (world_of new)) (λ b. rnc_calls planned.config b old.rnc (IubFrame set octets) new.rnc)
 rnc_frame planned old set octets new s f =
-    then_ planned.config Down Up w w1 (turned (world_of new)) (Says [] ∷ doings_below Up readings n) (reads_all planned.config Down Up readings n w)
-    (spoken planned.config Down Up w1 (turned (world_of new)) [] (ap (λ (x : RncState). x.layer) f.state) said (λ b. refl) (rnc_far old (IubFrame set octets) new s) outs backs)
+    as_calls planned.config Down Up w (turned (world_of new)) (λ b. took b ++ []) (λ b. rnc_calls planned.config b old.rnc (IubFrame set octets) new.rnc)
+    (then_ planned.config Down Up w w1 (turned (world_of new)) took (λ b. []) (reads_all planned.config Down Up readings n w)
+    (spoken planned.config Down Up w1 (turned (world_of new)) [] (ap (λ (x : RncState). x.layer) f.state) said (λ b. refl) (rnc_far old (IubFrame set octets) new s) outs backs))
+    are_calls
   where
     n : ℕ
     n = length planned.config.uplink.side.channels
@@ -213,27 +221,44 @@ rnc_frame planned old set octets new s f =
     outs : (i : ℕ) → new.down i ≡ w1.out i
     outs i = s.down i ∙ ap (λ l. record { given = l; taken = (old.down i).taken }) (append-nil (old.down i).given)
 
+    came : (i : ℕ) → took_below readings n i ≡ good_in (new.rnc.readings i)
+    came i =
+        took_is readings n i (λ j l. past_none planned.config.uplink.side set f.held j l)
+        ∙ taken-same (readings i) (whole_set planned.config.uplink.side set f.held i f.read.formats)
+        ∙ ap (λ (x : RncState). good_in (x.readings i)) (sym f.state)
+
     backs : (i : ℕ) → new.up i ≡ w1.back i
-    backs i = s.up i
-        ∙ ap (λ (x : RncState). record { given = (old.up i).given; taken = (old.up i).taken ++ good_in (x.readings i) }) f.state
-        ∙ ap (λ l. record { given = (old.up i).given; taken = (old.up i).taken ++ l }) (sym (taken-same (readings i) (whole_set planned.config.uplink.side set f.held i f.read.formats)))
-        ∙ ap (λ l. record { given = (old.up i).given; taken = (old.up i).taken ++ l }) (sym (took_is readings n i (λ j l. past_none planned.config.uplink.side set f.held j l)))
+    backs i = s.up i ∙ ap (λ l. record { given = (old.up i).given; taken = (old.up i).taken ++ l }) (sym (came i))
 
-rnc_refused : (planned : Planned) (old : Nodes) (set : ℕ) (octets : List ℕ) (new : Nodes) (s : StepsRnc old (IubFrame set octets) new) → IsRefusedFrame planned old.rnc set octets new.rnc s.output → Lifts planned.config Down Up (turned (world_of old)) (turned (world_of new))
-rnc_refused planned old set octets new s r = single planned.config Down Up (turned (world_of old)) (turned (world_of new)) (Says (IubBad Up set (refusal_number r.error) ∷ [])) (record {
-  lines = s.output.lines;
-  does = (ap (λ (x : RncState). x.layer) r.state, ap (λ (o : Output). o.lines) r.reported, λ b. refl);
-  said = s.reported;
-  far = rnc_far old (IubFrame set octets) new s;
-  out_log = s.down;
-  back_log = none_up old new (IubFrame set octets) s (λ i. ap (λ (x : RncState). x.readings i) r.state);
-})
+    took : ℕ → List Event
+    took = took_calls planned.config Up readings n
 
-rnc_tick_lifts : (planned : Planned) (old new : Nodes) (s : StepsRnc old RncTicks new) → IsRncTick planned old.rnc new.rnc s.output → old.rnc.planned ≡ planned → Lifts planned.config Down Up (turned (world_of old)) (turned (world_of new))
+    are_calls : (b : ℕ) → took b ++ [] ≡ rnc_calls planned.config b old.rnc (IubFrame set octets) new.rnc
+    are_calls b = append-nil (took b) ∙ ap (for_each Arrive) (own_same planned.config Up b (took_below readings n) (λ i. good_in (new.rnc.readings i)) came)
+
+rnc_refused : (planned : Planned) (old : Nodes) (set : ℕ) (octets : List ℕ) (new : Nodes) (s : StepsRnc old (IubFrame set octets) new) → IsRefusedFrame planned old.rnc set octets new.rnc s.output → Lifts planned.config Down Up (turned (world_of old)) (turned (world_of new)) (λ b. rnc_calls planned.config b old.rnc (IubFrame set octets) new.rnc)
+rnc_refused planned old set octets new s r =
+    as_calls planned.config Down Up (turned (world_of old)) (turned (world_of new)) (λ b. []) (λ b. rnc_calls planned.config b old.rnc (IubFrame set octets) new.rnc)
+    (single planned.config Down Up (turned (world_of old)) (turned (world_of new)) (Says (IubBad Up set (refusal_number r.error) ∷ [])) (record {
+      lines = s.output.lines;
+      does = (ap (λ (x : RncState). x.layer) r.state, ap (λ (o : Output). o.lines) r.reported, λ b. refl);
+      said = s.reported;
+      far = rnc_far old (IubFrame set octets) new s;
+      out_log = s.down;
+      back_log = none_up old new (IubFrame set octets) s none;
+    }))
+    (λ b. sym (ap (for_each Arrive) (own_same planned.config Up b (λ i. good_in (new.rnc.readings i)) (λ i. []) (λ i. ap good_in (none i)) ∙ own_none planned.config Up b)))
+  where
+    none : (i : ℕ) → new.rnc.readings i ≡ Nothing
+    none i = ap (λ (x : RncState). x.readings i) r.state
+
+rnc_tick_lifts : (planned : Planned) (old new : Nodes) (s : StepsRnc old RncTicks new) → IsRncTick planned old.rnc new.rnc s.output → old.rnc.planned ≡ planned → Lifts planned.config Down Up (turned (world_of old)) (turned (world_of new)) (λ b. rnc_calls planned.config b old.rnc RncTicks new.rnc)
 rnc_tick_lifts planned old new s tick active =
-    then_ planned.config Down Up w w1 (turned (world_of new)) (Ticks ∷ []) (quietly planned.config Down Up w Ticks (ticks planned.config old.rnc.layer) [] (refl, refl) (λ i. refl) (λ i. refl))
-    (then_ planned.config Down Up w1 w2 (turned (world_of new)) (Starts old.rnc.cfn ∷ []) starts
-    (spoken planned.config Down Up w2 (turned (world_of new)) (sent_lines s.output.iub 8) refl said (sent_none s.output.iub 8) (rnc_far old RncTicks new s) outs backs))
+    as_calls planned.config Down Up w (turned (world_of new)) (λ b. Tick ∷ (build b ++ [])) (λ b. rnc_calls planned.config b old.rnc RncTicks new.rnc)
+    (then_ planned.config Down Up w w1 (turned (world_of new)) (λ b. Tick ∷ []) (λ b. build b ++ []) (quietly planned.config Down Up w Ticks (ticks planned.config old.rnc.layer) [] (refl, refl) (λ i. refl) (λ i. refl))
+    (then_ planned.config Down Up w1 w2 (turned (world_of new)) build (λ b. []) starts
+    (spoken planned.config Down Up w2 (turned (world_of new)) (sent_lines s.output.iub 8) refl said (sent_none s.output.iub 8) (rnc_far old RncTicks new s) outs backs)))
+    (λ b. ap (λ (l : List Event). Tick ∷ l) (append-nil (build b) ∙ ap (λ (p : Planned). for_each Build (own_blocks planned.config Down b (given_at p.config.downlink.side old.rnc.cfn new.rnc.layer))) (sym active)))
   where
     w : World
     w = turned (world_of old)
@@ -244,19 +269,18 @@ rnc_tick_lifts planned old new s tick active =
     w2 : World
     w2 = record { near = record { layer = new.rnc.layer; said = w1.near.said ++ [] }; far = w1.far; out = λ i. record { given = (w1.out i).given ++ given_at planned.config.downlink.side old.rnc.cfn new.rnc.layer i; taken = (w1.out i).taken }; back = w1.back }
 
-    starts : DoesAll planned.config Down Up w1 (Starts old.rnc.cfn ∷ []) w2
-    starts = record {
-      next = w2;
-      first = record {
-        lines = [];
-        does = (tick.start, refl);
-        said = refl;
-        far = refl;
-        out_log = λ i. refl;
-        back_log = λ i. ap (λ l. record { given = (w1.back i).given; taken = l }) (sym (append-nil (w1.back i).taken));
-      };
-      later = refl;
-    }
+    build : ℕ → List Event
+    build b = for_each Build (own_blocks planned.config Down b (given_at planned.config.downlink.side old.rnc.cfn new.rnc.layer))
+
+    starts : Lifts planned.config Down Up w1 w2 build
+    starts = single planned.config Down Up w1 w2 (Starts old.rnc.cfn) (record {
+      lines = [];
+      does = (tick.start, refl);
+      said = refl;
+      far = refl;
+      out_log = λ i. refl;
+      back_log = λ i. ap (λ l. record { given = (w1.back i).given; taken = l }) (sym (append-nil (w1.back i).taken));
+    })
 
     said : new.rnc_lines ≡ w2.near.said ++ sent_lines s.output.iub 8
     said = s.reported ∙ ap (λ l. old.rnc_lines ++ l) tick.reported ∙ simp (append-nil)
@@ -267,7 +291,7 @@ rnc_tick_lifts planned old new s tick active =
     backs : (i : ℕ) → new.up i ≡ w2.back i
     backs i = none_up old new RncTicks s (λ j. ap (λ (x : RncState). x.readings j) tick.state) i ∙ ap (λ l. record { given = (old.up i).given; taken = l }) (append-nil (old.up i).taken)
 
-rnc_at : (old : Nodes) (e : RncEvent) (new : Nodes) → StepsRnc old e new → Lifts old.rnc.planned.config Down Up (turned (world_of old)) (turned (world_of new))
+rnc_at : (old : Nodes) (e : RncEvent) (new : Nodes) → StepsRnc old e new → Lifts old.rnc.planned.config Down Up (turned (world_of old)) (turned (world_of new)) (λ b. rnc_calls old.rnc.planned.config b old.rnc e new.rnc)
 rnc_at old (RncOffered b octets bits) new s = single old.rnc.planned.config Down Up (turned (world_of old)) (turned (world_of new)) (Offers b octets bits) (record {
   lines = s.output.lines;
   does = (ap (λ (x : RncState). x.layer) s.step.state, ap (λ (o : Output). o.lines) s.step.reported);
@@ -288,5 +312,5 @@ rnc_at old (IubFrame set octets) new s = ⊎_elim (rnc_frame old.rnc.planned old
 rnc_at old RncTicks new s = rnc_tick_lifts old.rnc.planned old new s s.step refl
 rnc_at old (RncChange second) new s = absurd s.within
 
-pub rnc_lifts : (planned : Planned) (old : Nodes) (e : RncEvent) (new : Nodes) → old.rnc.planned ≡ planned → StepsRnc old e new → Lifts planned.config Down Up (turned (world_of old)) (turned (world_of new))
-rnc_lifts planned old e new active s = subst (λ (p : Planned). Lifts p.config Down Up (turned (world_of old)) (turned (world_of new))) active (rnc_at old e new s)
+pub rnc_lifts : (planned : Planned) (old : Nodes) (e : RncEvent) (new : Nodes) → old.rnc.planned ≡ planned → StepsRnc old e new → Lifts planned.config Down Up (turned (world_of old)) (turned (world_of new)) (λ b. rnc_calls planned.config b old.rnc e new.rnc)
+rnc_lifts planned old e new active s = subst (λ (p : Planned). Lifts p.config Down Up (turned (world_of old)) (turned (world_of new)) (λ b. rnc_calls p.config b old.rnc e new.rnc)) active (rnc_at old e new s)

@@ -12,10 +12,11 @@ use Rattle.dch_linkcmd.specs.LinkLink.{LinkState, opened_link}
 use Rattle.dch_runlaw.specs.Lines.{lines_of}
 use Rattle.dch_runlaw.proofs.Bearers.{is_am_bearer}
 use Rattle.dch_runlaw.specs.Runs.{Between, Event, Frame, Runs}
-use Rattle.dch_runlaw.specs.Nodes.{world_of}
-use Rattle.dch_runlaw.specs.HonestBearers.{down_way, up_way}
+use Rattle.dch_runlaw.specs.EndEvents.{end_events}
+use Rattle.dch_runlaw.specs.Nodes.{Nodes, world_of}
+use Rattle.dch_runlaw.specs.HonestBearers.{Alone, AreOf, Parts, active, calls_reached, down_way, nodes_reached, up_way}
 use Rattle.dch_runlaw.specs.Parts.{Begins}
-use Rattle.dch_runlaw.proofs.Handed.{IsHanded, TakesAll, handed}
+use Rattle.dch_runlaw.proofs.Handed.{IsHanded, TakesAll, are_reached, handed}
 use Rattle.dch_runlaw.specs.Clear.{IsClear}
 use Rattle.dch_runlaw.specs.ClearSound.{AreSound, is_sound}
 use Rattle.dch_runlaw.proofs.ClearRuns.{clear_on, clear_sound}
@@ -68,34 +69,36 @@ pub level_over : (planned : Planned) (events : List Event) (old new : LinkState)
 level_over planned events old new lines run good all v = run_level planned events old new lines run good (takes_all planned events old new lines run all) v
 
 -- all lines on a bearer
-both_mild : (planned : Planned) (new : LinkState) (b : ℕ) → IsGood planned.config → IsHanded planned new → b < length planned.config.bearers → (bearer_in planned.config b).mode ≡ Am → (AreMild (lines_of b new.ue.lines)) × (AreMild (lines_of b new.rnc.lines))
-both_mild planned new b good handed l mode =
-    let both : HasBoth planned.config b = has_both planned.config b good l mode in
+both_mild : (parts : Parts) (new : LinkState) (b : ℕ) → IsGood (active parts).config → IsHanded parts new → b < length (active parts).config.bearers → (bearer_in (active parts).config b).mode ≡ Am → (AreMild (lines_of b new.ue.lines)) × (AreMild (lines_of b new.rnc.lines))
+both_mild parts new b good handed l mode =
+    let both : HasBoth (active parts).config b = has_both (active parts).config b good l mode in
     let h = handed.acknowledged b both.up both.down (record { good = good; there = l; mode = mode; up_is = both.up_is; down_is = both.down_is }) in
-    let mild : BothMild b (world_of h.nodes) = am_mild planned.config Up Down b both.up both.down (world_of h.nodes) (is_am_bearer planned.config b both.up both.down good l mode both.up_is both.down_is) h.history in
-    (subst (λ (x : List Line). AreMild (lines_of b x)) h.are.ue_lines mild.near, subst (λ (x : List Line). AreMild (lines_of b x)) h.are.rnc_lines mild.far)
+    let nodes : Nodes = nodes_reached parts new h.reached in
+    let are : AreOf new nodes = are_reached parts new h.reached in
+    let mild : BothMild b (world_of nodes) = am_mild (active parts).config Up Down b both.up both.down (calls_reached b parts new h.reached) (world_of nodes) (is_am_bearer (active parts).config b both.up both.down good l mode both.up_is both.down_is) h.history in
+    (subst (λ (x : List Line). AreMild (lines_of b x)) are.ue_lines mild.near, subst (λ (x : List Line). AreMild (lines_of b x)) are.rnc_lines mild.far)
 
-up_mild : (planned : Planned) (new : LinkState) (b i : ℕ) (mode : Mode) → IsGood planned.config → IsHanded planned new → (bearer_in planned.config b).mode ≡ mode → channel_of planned.config Up b ≡ Some i → AreMild (lines_of b new.rnc.lines)
-up_mild planned new b i Am good handed e on = (both_mild planned new b good handed (there planned.config Up b i on) e).1
-up_mild planned new b i Um good handed e on =
-    um_mild planned.config Up b i new.ue.state.layer new.rnc.lines (up_way planned i new) (handed.unacknowledged_up b i (record { good = good; there = there planned.config Up b i on; mode = e; channel = on }))
-up_mild planned new b i Tm good handed e on =
-    tm_mild planned.config Up b i new.ue.state.layer new.rnc.lines (up_way planned i new) (handed.transparent_up b i (record { good = good; there = there planned.config Up b i on; mode = e; channel = on }))
+up_mild : (parts : Parts) (new : LinkState) (b i : ℕ) (mode : Mode) → IsGood (active parts).config → IsHanded parts new → (bearer_in (active parts).config b).mode ≡ mode → channel_of (active parts).config Up b ≡ Some i → AreMild (lines_of b new.rnc.lines)
+up_mild parts new b i Am good handed e on = (both_mild parts new b good handed (there (active parts).config Up b i on) e).1
+up_mild parts new b i Um good handed e on =
+    um_mild (active parts).config Up b i new.ue.state.layer new.rnc.lines (up_way (active parts) i new) (handed.unacknowledged_up b i (record { good = good; there = there (active parts).config Up b i on; mode = e; channel = on }))
+up_mild parts new b i Tm good handed e on =
+    tm_mild (active parts).config Up b i new.ue.state.layer new.rnc.lines (up_way (active parts) i new) (handed.transparent_up b i (record { good = good; there = there (active parts).config Up b i on; mode = e; channel = on }))
 
-down_mild : (planned : Planned) (new : LinkState) (b i : ℕ) (mode : Mode) → IsGood planned.config → IsHanded planned new → (bearer_in planned.config b).mode ≡ mode → channel_of planned.config Down b ≡ Some i → AreMild (lines_of b new.ue.lines)
-down_mild planned new b i Am good handed e on = (both_mild planned new b good handed (there planned.config Down b i on) e).0
-down_mild planned new b i Um good handed e on =
-    um_mild planned.config Down b i new.rnc.state.layer new.ue.lines (down_way planned i new) (handed.unacknowledged_down b i (record { good = good; there = there planned.config Down b i on; mode = e; channel = on }))
-down_mild planned new b i Tm good handed e on =
-    tm_mild planned.config Down b i new.rnc.state.layer new.ue.lines (down_way planned i new) (handed.transparent_down b i (record { good = good; there = there planned.config Down b i on; mode = e; channel = on }))
+down_mild : (parts : Parts) (new : LinkState) (b i : ℕ) (mode : Mode) → IsGood (active parts).config → IsHanded parts new → (bearer_in (active parts).config b).mode ≡ mode → channel_of (active parts).config Down b ≡ Some i → AreMild (lines_of b new.ue.lines)
+down_mild parts new b i Am good handed e on = (both_mild parts new b good handed (there (active parts).config Down b i on) e).0
+down_mild parts new b i Um good handed e on =
+    um_mild (active parts).config Down b i new.rnc.state.layer new.ue.lines (down_way (active parts) i new) (handed.unacknowledged_down b i (record { good = good; there = there (active parts).config Down b i on; mode = e; channel = on }))
+down_mild parts new b i Tm good handed e on =
+    tm_mild (active parts).config Down b i new.rnc.state.layer new.ue.lines (down_way (active parts) i new) (handed.transparent_down b i (record { good = good; there = there (active parts).config Down b i on; mode = e; channel = on }))
 
 -- the lines of a part
-pub part_plain : (planned : Planned) (events : List Event) (start new : LinkState) (lines : List Line) (run : Runs start events new lines) → IsPlanned planned → Begins planned start → start.rnc.state.cfn % 8 ≡ 0 → IsClear events start new lines run → Level planned new → IsHanded planned new → ArePlain lines
-part_plain planned events start new lines run good begins eighth clear level handed = plain_lines lines
-    (clear_sound planned events start new lines run good begins eighth clear)
+pub part_plain : (parts : Parts) (events : List Event) (start new : LinkState) (lines : List Line) (run : Runs start events new lines) → IsPlanned (active parts) → Begins (active parts) start → start.rnc.state.cfn % 8 ≡ 0 → IsClear events start new lines run → Level (active parts) new → IsHanded parts new → ArePlain lines
+part_plain parts events start new lines run good begins eighth clear level handed = plain_lines lines
+    (clear_sound (active parts) events start new lines run good begins eighth clear)
     (run_mild events start new lines run
-    (all_mild planned.config Down new.ue.lines level.ue_known (λ b has. down_mild planned new b has.channel (bearer_in planned.config b).mode good.good handed refl has.is))
-    (all_mild planned.config Up new.rnc.lines level.rnc_known (λ b has. up_mild planned new b has.channel (bearer_in planned.config b).mode good.good handed refl has.is)))
+    (all_mild (active parts).config Down new.ue.lines level.ue_known (λ b has. down_mild parts new b has.channel (bearer_in (active parts).config b).mode good.good handed refl has.is))
+    (all_mild (active parts).config Up new.rnc.lines level.rnc_known (λ b has. up_mild parts new b has.channel (bearer_in (active parts).config b).mode good.good handed refl has.is)))
 
 -- the law
 pub clear_plain : (planned : Planned) (first : ℕ) (events : List Event) (new : LinkState) (lines : List Line) (run : Runs (opened_link planned first) events new lines) → IsPlanned planned → first % 8 ≡ 0 → IsClear events (opened_link planned first) new lines run → ArePlain lines
@@ -103,4 +106,4 @@ clear_plain planned first events new lines run good eighth clear =
     let opened : LinkState = opened_link planned first in
     let begins : Begins planned opened = inl (record { first = first; is = refl }) in
     let all : TakesAll planned events opened new lines run = λ dir i inside. clear_on planned dir i events opened new lines run good begins eighth clear inside in
-    part_plain planned events opened new lines run good begins eighth clear (level_over planned events opened new lines run good.good all (opened_level planned first)) (handed planned first events new lines run all)
+    part_plain (Alone planned first (end_events events opened new lines run)) events opened new lines run good begins eighth clear (level_over planned events opened new lines run good.good all (opened_level planned first)) (handed planned first events new lines run all)

@@ -6,7 +6,7 @@ use Rattle.dch_bits.specs.declared.bit.Bit.{Bit}
 use Rattle.dch_types.specs.declared.channel.Dir.{Dir}
 use Rattle.dch_types.specs.declared.config.Config.{Config}
 use Rattle.dch_am.specs.Rules.{Rules}
-use Rattle.dch_amlaw.specs.Pair.{Pair}
+use Rattle.dch_amlaw.specs.Pair.{At, Pair}
 use Rattle.dch_amlaw.proofs.Short.{AreShort, BothRead, always_short}
 use Rattle.dch_node.specs.Lines.{Line, Took, Full, Wrong, Bad, Reserved, NoBearer, Nobody, PduBad, Outside, Overlong, Got, GotBits, Iub, IubBad, Phy, PhyNone, BadTti, Differs}
 use Rattle.dch_layer2.specs.Bearings.{pdu_octets, rules_in}
@@ -113,11 +113,11 @@ pub record BothMild (b : ℕ) (w : World) : Type 0 where
   pub near : AreMild (lines_of b w.near.said)
   pub far : AreMild (lines_of b w.far.said)
 
-pub am_mild : (config : Config) (out into : Dir) (b up down : ℕ) (w : World) → IsAmBearer config out into b up down → IsWholeHistory config out into b up down w → BothMild b w
-am_mild config out into b up down w bearer h =
+pub am_mild : (config : Config) (out into : Dir) (b up down : ℕ) (calls : List At) (w : World) → IsAmBearer config out into b up down → IsWholeHistory config out into b up down calls w → BothMild b w
+am_mild config out into b up down calls w bearer h =
     let rules : Rules = rules_in config b in
-    let p : Pair = pair_after config out into b h.events in
-    let short : BothRead p = always_short rules (pdu_octets config out b) (pdu_octets config into b) h.events bearer.window in
+    let p : Pair = pair_after config out into b calls in
+    let short : BothRead p = always_short rules (pdu_octets config out b) (pdu_octets config into b) calls bearer.window in
     record {
       near = subst AreMild (sym h.pair.near.lines) (units_mild into b p.near.entity.receiver.reading.units short.near);
       far = subst AreMild (sym h.pair.far.lines) (units_mild out b p.far.entity.receiver.reading.units short.far);

@@ -44,7 +44,7 @@ pub record Sim (config : Config) (out into : Dir) (b up down : ℕ) (w : World) 
   pub out_flow : Flow config out b up (w.out up) p.out
   pub back_flow : Flow config into b down (w.back down) p.back
 
--- events of the pair, of which these are the calls
+-- events of the pair that lead there, of which these are the calls
 pub record Simulated (config : Config) (out into : Dir) (b up down : ℕ) (w : World) (p : Pair) (calls : List At) (Fits : Type 0) : Type 0 where
   pub events : List At
   pub called : calls_of events ≡ calls

@@ -25,7 +25,7 @@ use Rattle.dch_runlaw.specs.History.{AreApart, is_mine, is_to}
 use Rattle.dch_runlaw.specs.Lines.{lines_of}
 use Rattle.dch_runlaw.specs.TmHistory.{IsTmCarried, IsTmHistory, IsTmSome, bits_lines, unit_in, units_in}
 use Rattle.dch_runlaw.specs.Worlds.{IsFaithful, IsSublist, Log, World}
-use Rattle.dch_runlaw.proofs.Histories.{taken_mine}
+use Rattle.dch_runlaw.proofs.OwnBlocks.{taken_mine}
 use Rattle.dch_runlaw.proofs.Steps.{answer_line}
 use Rattle.dch_runlaw.proofs.Turns.{start_mine}
 use Rattle.dch_runlaw.proofs.Names.{number_same, other_number, receiver_has, receiver_skips, same_number}

@@ -32,7 +32,7 @@ use Rattle.dch_runlaw.specs.Doings.{Blocks, Does, Doing, Offers, Says, Starts, T
 use Rattle.dch_runlaw.specs.History.{AreApart, is_mine, is_to}
 use Rattle.dch_runlaw.specs.Lines.{lines_of}
 use Rattle.dch_runlaw.specs.UmHistory.{lines_all, lines_one, pdu_in, pdus_in, receives, receives_one}
-use Rattle.dch_runlaw.proofs.Histories.{taken_mine}
+use Rattle.dch_runlaw.proofs.OwnBlocks.{taken_mine}
 use Rattle.dch_runlaw.proofs.Steps.{answer_line}
 use Rattle.dch_runlaw.proofs.Turns.{start_mine}
 use Rattle.dch_runlaw.proofs.Names.{number_same, other_number, receiver_has, receiver_skips, same_number}

@@ -1,4 +1,4 @@
--- The calls that the two ends of an acknowledged bearer get, by what its two ends do with their layers 2, in the order in which they get them.
+-- The calls that the two ends of an acknowledged bearer get where two ends do something with their layers 2, in order.
 use Rattle.std.specs.Prelude.{◌++◌, ◌==◌, ℕ, List, [], ◌∷◌, Option, None, Some, if◌then◌else◌, filter, map}
 use Rattle.dch_bits.specs.declared.bit.Bit.{Bit}
 use Rattle.dch_types.specs.declared.channel.Dir.{Dir}
@@ -10,12 +10,12 @@ use Rattle.dch_runlaw.specs.Doings.{Blocks, Doing, Offers, Says, Starts, Takes, 
 use Rattle.dch_runlaw.specs.History.{is_mine}
 use Rattle.dch_runlaw.specs.Worlds.{At as OneEvent, DoesAll, Far, Happens, Near, Runs, World, turned}
 
--- those of a channel's blocks that are for bearer b, if it has the channel
+-- the blocks of bearer b on its channel, if it has one
 abbrev pub own_on : Config → Dir → ℕ → Option ℕ → (ℕ → List (List Bit)) → List (List Bit)
 own_on config dir b None blocks = []
 own_on config dir b (Some i) blocks = filter (is_mine config dir b i) (blocks i)
 
--- those of the channel that it has in a direction
+-- its blocks among those of all channels of a direction
 abbrev pub own_blocks : Config → Dir → ℕ → (ℕ → List (List Bit)) → List (List Bit)
 own_blocks config dir b blocks = own_on config dir b (channel_of config dir b) blocks
 
@@ -23,11 +23,12 @@ own_blocks config dir b blocks = own_on config dir b (channel_of config dir b) b
 abbrev pub for_each : Event → List (List Bit) → List Event
 for_each call blocks = map (λ block. call) blocks
 
--- a unit is offered to bearer b, if it is offered to it
+-- the offer of a unit to a bearer, where that is bearer b
 abbrev pub offered : ℕ → ℕ → List ℕ → List Event
 offered b bearer octets = if b == bearer then Offer octets ∷ [] else []
 
--- what an end does: a unit is offered to the bearer, its timers tick, a PDU arrives in each good block for it, and it builds each block that it gives
+-- where an end does something: a unit is offered to bearer b, its timers tick, a PDU arrives in each good block for it,
+-- or it builds each block that it gives
 abbrev pub calls_in : Config → Dir → Dir → ℕ → Layer → Doing → Layer → List Event
 calls_in config out into b old (Offers bearer octets bits) new = offered b bearer octets
 calls_in config out into b old (Blocks combination on) new = []
@@ -36,17 +37,17 @@ calls_in config out into b old (Takes channel came) new = for_each Arrive (filte
 calls_in config out into b old (Starts cfn) new = for_each Build (own_blocks config out b (given_by config out old (Starts cfn) new))
 calls_in config out into b old (Says lines) new = []
 
--- one thing after another
+-- where it does one thing after another
 abbrev pub calls_in_all : (config : Config) (out into : Dir) (b : ℕ) (old : World) (doings : List Doing) (new : World) → DoesAll config out into old doings new → List Event
 calls_in_all config out into b old [] new does = []
 calls_in_all config out into b old (doing ∷ doings) new does = calls_in config out into b old.near.layer doing does.next.near.layer ++ calls_in_all config out into b does.next doings new does.later
 
--- an event of one of the two ends
+-- in an event of one of the two ends
 abbrev pub calls_at : (config : Config) (out into : Dir) (b : ℕ) (old : World) (event : OneEvent) (new : World) → Happens config out into old event new → List At
 calls_at config out into b old (Near doings) new happens = map NearCall (calls_in_all config out into b old doings new happens)
 calls_at config out into b old (Far doings) new happens = map FarCall (calls_in_all config into out b (turned old) doings (turned new) happens)
 
--- a run of both
+-- in a run of both
 abbrev pub run_calls : (config : Config) (out into : Dir) (b : ℕ) (Holds : World → Type 0) (old : World) (events : List OneEvent) (new : World) → Runs config out into Holds old events new → List At
 run_calls config out into b Holds old [] new run = []
 run_calls config out into b Holds old (event ∷ events) new run = calls_at config out into b old event run.next run.first ++ run_calls config out into b Holds run.next events new run.later

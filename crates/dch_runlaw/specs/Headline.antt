@@ -18,7 +18,7 @@ use Rattle.dch_runlaw.specs.Parts.{GoesOver}
 use Rattle.dch_runlaw.specs.Runs.{Event, Frame, Runs}
 use Rattle.dch_runlaw.specs.Scripts.{AreSaid}
 use Rattle.dch_runlaw.specs.EndEvents.{end_events}
-use Rattle.dch_runlaw.specs.HonestBearers.{IsAcknowledged, IsTransparent, IsUnacknowledged}
+use Rattle.dch_runlaw.specs.HonestBearers.{Alone, Both, IsAcknowledged, IsTransparent, IsUnacknowledged}
 use Rattle.dch_runlaw.specs.TextDiffering.{false_words}
 use Rattle.dch_runlaw.specs.Undamaged.{CarriesAll}
 use Rattle.dch_runlaw.specs.HeadlineHandedUp.{HandsUp, HandsUpKnownDown, HandsUpKnownDownOver, HandsUpKnownUp, HandsUpKnownUpOver, HandsUpOver, HandsUpSomeDown, HandsUpSomeDownOver, HandsUpSomeUp, HandsUpSomeUpOver}
@@ -36,7 +36,7 @@ IsSilentOn dir i text = ¬ Contains (rows text) (false_words dir i)
 pub record CarriesFirst (planned : Planned) (first : ℕ) (events : List Event) (link : LinkState) (reported : List Line) (run : Runs (opened_link planned first) events link reported) (text : List ℕ) : Type 0 where
   pub received_down : ReceivesDown planned (opened_link planned first)
   pub received_up : ReceivesUp planned (opened_link planned first)
-  pub undamaged : IsClear events (opened_link planned first) link reported run → CarriesAll planned link reported
+  pub undamaged : IsClear events (opened_link planned first) link reported run → CarriesAll (Alone planned first (end_events events (opened_link planned first) link reported run)) link reported
   pub acknowledged : (b up down : ℕ) → IsAcknowledged planned b up down → IsSilentOn Up up text → IsSilentOn Down down text → HandsUp planned first b (end_events events (opened_link planned first) link reported run) link text
   pub unacknowledged_up : (b up : ℕ) → IsUnacknowledged planned Up b up → IsSilentOn Up up text → HandsUpKnownUp planned first b up (end_events events (opened_link planned first) link reported run) link text
   pub unacknowledged_down : (b down : ℕ) → IsUnacknowledged planned Down b down → IsSilentOn Down down text → HandsUpKnownDown planned first b down (end_events events (opened_link planned first) link reported run) link text
@@ -53,7 +53,7 @@ pub record CarriesSecond (planned second : Planned) (first : ℕ) (before : List
     (after : List Event) (link : LinkState) (late : List Line) (run : Runs start after link late) (one two : List ℕ) : Type 0 where
   pub received_down : ReceivesDown second start
   pub received_up : ReceivesUp second start
-  pub undamaged : IsClear before (opened_link planned first) over.last early over.run → IsClear after start link late run → CarriesAll second link (early ++ late)
+  pub undamaged : IsClear before (opened_link planned first) over.last early over.run → IsClear after start link late run → CarriesAll (Both planned second first (end_events before (opened_link planned first) over.last early over.run) (end_events after start link late run) over.last) link (early ++ late)
   pub acknowledged : (b up down up_later down_later : ℕ) → IsAcknowledged planned b up down → IsAcknowledged second b up_later down_later
       → IsSilentOn Up up one → IsSilentOn Down down one → IsSilentOn Up up_later two → IsSilentOn Down down_later two → HandsUpOver planned second first b (end_events before (opened_link planned first) over.last early over.run) (end_events after start link late run) over.last link (one ++ two)
   pub unacknowledged_up : (b up up_later : ℕ) → IsUnacknowledged planned Up b up → IsUnacknowledged second Up b up_later

@@ -13,9 +13,9 @@ use Rattle.dch_runlaw.specs.UmHistory.{ArriveAs, got_lines, sent_by}
 use Rattle.dch_runlaw.specs.Nodes.{Event}
 use Rattle.dch_runlaw.specs.HonestBearers.{HasHistory, HasHistoryOver, HasKnownDown, HasKnownDownOver, HasKnownUp, HasKnownUpOver, HasSomeDown, HasSomeDownOver, HasSomeUp, HasSomeUpOver}
 
--- those of an acknowledged bearer: its two ends stand in a history of two ends with blocks in flight, in order, some of which are lost, and
--- the rows are those of the units that the history hands up. They are the accepted units, in order, each once and whole, as far as they came
--- without a gap, but for those that were discarded
+-- those of an acknowledged bearer: the calls of its two ends are a history of two ends with blocks in flight, in order,
+-- some of which are lost, and the rows are those of the units that the history hands up. They are the accepted units, in
+-- order, each once and whole, as far as they came without a gap, but for those that were discarded
 pub record HandsUp (planned : Planned) (first b : ℕ) (happened : List Event) (link : LinkState) (text : List ℕ) : Type 0 where
   pub units : HasHistory planned first b happened link
   pub up : got_rows Up b (rows text) ≡ rows_of (got_lines Up b (pair_after planned.config Up Down b units.history.events).far.entity.receiver.reading.units)

@@ -9,11 +9,13 @@ use Rattle.dch_types.specs.Parts.{channel_at}
 use Rattle.dch_types.specs.Timing.{starts}
 use Rattle.dch_config.specs.Good.{IsGood}
 use Rattle.dch_accept.specs.Plans.{Planned}
+use Rattle.dch_amlaw.specs.Pair.{At}
 use Rattle.dch_layer2.specs.Bearings.{bearer_in, channel_of}
 use Rattle.dch_layer2.specs.Layers.{Layer}
 use Rattle.dch_linkcmd.specs.LinkLink.{LinkState}
 use Rattle.dch_runlaw.specs.TmHistory.{IsTmCarried}
 use Rattle.dch_runlaw.specs.UmHistory.{IsUmCarried}
+use Rattle.dch_runlaw.specs.NodesCalls.{nodes_calls}
 use Rattle.dch_runlaw.specs.Nodes.{Any, Event, IsAmHistory, IsAmHistoryOver, IsDownKnown, IsDownKnownOver, IsDownSome, IsDownSomeOver, IsUpKnown, IsUpKnownOver, IsUpSome, IsUpSomeOver, IsWholeAmHistory, Nodes, Runs, RunsInTwo, opened_nodes}
 
 -- an acknowledged bearer of a good configuration, with its two channels
@@ -58,15 +60,40 @@ pub record AreReachedOver (planned second : Planned) (first : ℕ) (earlier late
   pub are_mid : AreOf last run.mid
   pub are : AreOf link nodes
 
--- they stand in a history of an acknowledged bearer's pair
+-- a run of one part, or of two: what happened at the two nodes in each, and the state that the first of two parts led to
+pub data Parts : Type 0 where
+  Alone : (planned : Planned) → (first : ℕ) → (happened : List Event) → Parts
+  Both : (planned second : Planned) → (first : ℕ) → (earlier later : List Event) → (last : LinkState) → Parts
+
+-- the configuration of the last part
+abbrev pub active : Parts → Planned
+active (Alone planned first happened) = planned
+active (Both planned second first earlier later last) = second
+
+-- it led to two nodes
+abbrev pub AreReachedIn : Parts → LinkState → Type 0
+AreReachedIn (Alone planned first happened) link = AreReached planned first happened link
+AreReachedIn (Both planned second first earlier later last) link = AreReachedOver planned second first earlier later last link
+
+-- which are these
+abbrev pub nodes_reached : (parts : Parts) (link : LinkState) → AreReachedIn parts link → Nodes
+nodes_reached (Alone planned first happened) link reached = reached.nodes
+nodes_reached (Both planned second first earlier later last) link reached = reached.nodes
+
+-- and the calls that the ends of bearer b got at them
+abbrev pub calls_reached : ℕ → (parts : Parts) (link : LinkState) → AreReachedIn parts link → List At
+calls_reached b (Alone planned first happened) link reached = nodes_calls planned.config b Any (opened_nodes planned first first) happened reached.nodes reached.run
+calls_reached b (Both planned second first earlier later last) link reached = nodes_calls planned.config b Any (opened_nodes planned first first) earlier reached.run.mid reached.run.before ++ nodes_calls second.config b Any reached.run.next later reached.nodes reached.run.behind
+
+-- they stand in a history of an acknowledged bearer's pair, of which its calls are the events but for losses on the way
 pub record HasHistory (planned : Planned) (first b : ℕ) (happened : List Event) (link : LinkState) : Type 0 where
   pub reached : AreReached planned first happened link
-  pub history : IsAmHistory planned b reached.nodes
+  pub history : IsAmHistory planned b (calls_reached b (Alone planned first happened) link reached) reached.nodes
 
 -- or, behind a first part that led to a last state, in one that goes on from there when all that was in flight is lost
 pub record HasHistoryOver (planned second : Planned) (first b : ℕ) (earlier later : List Event) (last link : LinkState) : Type 0 where
   pub reached : AreReachedOver planned second first earlier later last link
-  pub history : IsAmHistoryOver second b reached.run.mid reached.nodes
+  pub history : IsAmHistoryOver second b (nodes_calls planned.config b Any (opened_nodes planned first first) earlier reached.run.mid reached.run.before) (nodes_calls second.config b Any reached.run.next later reached.nodes reached.run.behind) reached.run.mid reached.nodes
 
 -- the blocks that a channel was given for a TTI that has not ended, before the radio frame of a CFN
 abbrev pub on_way : Side → ℕ → Layer → ℕ → List (List Bit)
@@ -79,13 +106,13 @@ up_way planned up link = on_way planned.config.uplink.side link.rnc.state.cfn li
 abbrev pub down_way : Planned → ℕ → LinkState → List (List Bit)
 down_way planned down link = on_way planned.config.downlink.side link.rnc.state.cfn link.rnc.state.layer down
 
--- in a history in which nothing is lost: of what was given all was taken but the blocks of TTIs that have not ended
-pub record HasWholeHistory (planned : Planned) (b up down : ℕ) (link : LinkState) : Type 0 where
-  pub nodes : Nodes
-  pub are : AreOf link nodes
-  pub up_taken : (nodes.up up).given ≡ (nodes.up up).taken ++ up_way planned up link
-  pub down_taken : (nodes.down down).given ≡ (nodes.down down).taken ++ down_way planned down link
-  pub history : IsWholeAmHistory planned b up down nodes
+-- its calls are a history in which nothing is lost: of what was given all was taken but the blocks of TTIs that have not
+-- ended
+pub record HasWholeHistory (parts : Parts) (b up down : ℕ) (link : LinkState) : Type 0 where
+  pub reached : AreReachedIn parts link
+  pub up_taken : ((nodes_reached parts link reached).up up).given ≡ ((nodes_reached parts link reached).up up).taken ++ up_way (active parts) up link
+  pub down_taken : ((nodes_reached parts link reached).down down).given ≡ ((nodes_reached parts link reached).down down).taken ++ down_way (active parts) down link
+  pub history : IsWholeAmHistory (active parts) b up down (calls_reached b parts link reached) (nodes_reached parts link reached)
 
 -- what is known of an unacknowledged bearer's uplink, and of its downlink
 pub record HasKnownUp (planned : Planned) (first b up : ℕ) (happened : List Event) (link : LinkState) : Type 0 where

@@ -5,6 +5,7 @@ pub mod Sized
 pub mod SizedEnds
 pub mod SizedLinks
 pub mod Nodes
+pub mod NodesCalls
 pub mod EndEvents
 pub mod HonestFits
 pub mod HonestSilent

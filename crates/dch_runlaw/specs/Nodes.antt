@@ -9,6 +9,7 @@ use Rattle.dch_types.specs.Timing.{starts}
 use Rattle.dch_accept.specs.Plans.{Planned}
 use Rattle.dch_node.specs.Lines.{Line}
 use Rattle.dch_node.specs.Values.{Output}
+use Rattle.dch_amlaw.specs.Pair.{At as Call}
 use Rattle.dch_layer2.specs.Layers.{Layer}
 use Rattle.dch_linkcmd.specs.UeState.{Event as UeEvent, OfferedUnit as UeOffered, BlockedCombination as UeBlocked, Change as UeChange, DownlinkFrame, Tick as UeTicks, State as UeState, opened_state as opened_ue}
 use Rattle.dch_linkcmd.specs.UeSteps.{Steps as UeSteps}
@@ -139,17 +140,19 @@ pub record AreAllTaken (up down : ℕ) (nodes : Nodes) : Type 0 where
 abbrev pub world_of : Nodes → World
 world_of nodes = record { near = record { layer = nodes.ue.layer; said = nodes.ue_lines }; far = record { layer = nodes.rnc.layer; said = nodes.rnc_lines }; out = nodes.up; back = nodes.down }
 
--- there is a history of the pair of an acknowledged bearer of which the two nodes have the ends, and it is safe
-abbrev pub IsAmHistory : Planned → ℕ → Nodes → Type 0
-IsAmHistory planned b nodes = IsHistory planned.config Up Down b (world_of nodes)
+-- these calls, with losses on the way between them, are a history of an acknowledged bearer's pair of which the two nodes
+-- have the ends, and it is safe
+abbrev pub IsAmHistory : Planned → ℕ → List Call → Nodes → Type 0
+IsAmHistory planned b calls nodes = IsHistory planned.config Up Down b calls (world_of nodes)
 
--- and over two parts, the first of which led to two nodes: the history that led there, the loss of all that was in flight, and what came then
-abbrev pub IsAmHistoryOver : Planned → ℕ → Nodes → Nodes → Type 0
-IsAmHistoryOver second b mid nodes = IsHistoryOver second.config Up Down b (world_of mid) (world_of nodes)
+-- and over two parts, the first of which led to two nodes: a history of its calls that led there, the loss of all that was
+-- in flight, and the calls of the second part
+abbrev pub IsAmHistoryOver : Planned → ℕ → List Call → List Call → Nodes → Nodes → Type 0
+IsAmHistoryOver second b before behind mid nodes = IsHistoryOver second.config Up Down b before behind (world_of mid) (world_of nodes)
 
--- and nothing is lost in it
-abbrev pub IsWholeAmHistory : Planned → ℕ → ℕ → ℕ → Nodes → Type 0
-IsWholeAmHistory planned b up down nodes = IsWholeHistory planned.config Up Down b up down (world_of nodes)
+-- and nothing is lost: the calls alone are the history
+abbrev pub IsWholeAmHistory : Planned → ℕ → ℕ → ℕ → List Call → Nodes → Type 0
+IsWholeAmHistory planned b up down calls nodes = IsWholeHistory planned.config Up Down b up down calls (world_of nodes)
 
 -- what is known of an unacknowledged bearer's uplink, and of its downlink
 abbrev pub IsUpKnown : Planned → ℕ → ℕ → Nodes → Type 0

@@ -16,6 +16,7 @@ use Rattle.dch_linkcmd.specs.soft_stage.Stage.{Stage}
 use Rattle.dch_linkcmd.specs.soft_stage.Stage.TheVariants.{RncTick, IubDown, RadioDown, UeTick, RadioUp, IubUp, Combine}
 use Rattle.dch_runlaw.specs.Directions.{lines_on}
 use Rattle.dch_runlaw.specs.History.{pair_after}
+use Rattle.dch_runlaw.specs.NodesCalls.{nodes_calls}
 use Rattle.dch_runlaw.specs.Nodes.{Any, AtRnc, AtUe, Event as NodesEvent, IsAmHistory, Nodes, Runs as NodesRun, given_by_rnc, given_by_ue, opened_nodes}
 use Rattle.dch_runlaw.specs.SoftRuns.{Between, Move, Next, Point, Runs, Steps}
 
@@ -115,10 +116,11 @@ pub record IsListOf (planned : Planned) (first : ℕ) (happened : List EndEvent)
   pub run : NodesRun Any (opened_nodes planned first first) (events_of happened) (after_all (opened_nodes planned first first) happened)
   pub are : AreOf soft (after_all (opened_nodes planned first first) happened)
 
--- with what went over their channels they stand in a history of an acknowledged bearer's pair; and the lines of the run on PDUs and units of
--- the bearer are just the units that the history hands up at its ends
+-- with what went over their channels they stand in a history of an acknowledged bearer's pair, of which its calls are the
+-- events but for losses on the way; and the lines of the run on PDUs and units of the bearer are just the units that the
+-- history hands up at its ends
 pub record HandsUp (planned : Planned) (first b : ℕ) (happened : List EndEvent) (soft : SoftState) (lines : List Line) : Type 0 where
-  pub are : AreOf soft (after_all (opened_nodes planned first first) happened)
-  pub history : IsAmHistory planned b (after_all (opened_nodes planned first first) happened)
+  pub listed : IsListOf planned first happened soft
+  pub history : IsAmHistory planned b (nodes_calls planned.config b Any (opened_nodes planned first first) (events_of happened) (after_all (opened_nodes planned first first) happened) listed.run) (after_all (opened_nodes planned first first) happened)
   pub up : lines_on Up b lines ≡ unit_lines Up b (pair_after planned.config Up Down b history.events).far.entity.receiver.reading.units
   pub down : lines_on Down b lines ≡ unit_lines Down b (pair_after planned.config Up Down b history.events).near.entity.receiver.reading.units

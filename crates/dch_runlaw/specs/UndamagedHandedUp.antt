@@ -4,7 +4,6 @@ use Rattle.dch_bits.specs.declared.bit.Bit.{Bit}
 use Rattle.dch_types.specs.declared.channel.Dir.{Dir}
 use Rattle.dch_types.specs.declared.channel.Dir.TheVariants.{Up, Down}
 use Rattle.dch_types.specs.declared.config.Config.{Config}
-use Rattle.dch_accept.specs.Plans.{Planned}
 use Rattle.dch_script.specs.Lines.{lines_of as rows}
 use Rattle.dch_node.specs.Lines.{Line}
 use Rattle.dch_am.specs.Bodies.{ends}
@@ -16,18 +15,18 @@ use Rattle.dch_runlaw.specs.History.{pair_after}
 use Rattle.dch_runlaw.specs.Rows.{got_rows, rows_of}
 use Rattle.dch_runlaw.specs.TmHistory.{IsTmCarried, bits_lines}
 use Rattle.dch_runlaw.specs.UmHistory.{IsUmCarried, got_lines, pdus_of}
-use Rattle.dch_runlaw.specs.HonestBearers.{HasWholeHistory}
+use Rattle.dch_runlaw.specs.HonestBearers.{HasWholeHistory, Parts, active, calls_reached}
 
 -- the accepted units of one end of an acknowledged bearer, in order, whose length indicator lies in the PDUs that arrived at the other end
 abbrev pub ended_units : End → End → List (List ℕ)
 ended_units from to = take (ends (take (gap_free to) from.entity.sender.bodies)) from.entity.sender.accepted
 
--- those of an acknowledged bearer: its two ends stand in a history in which nothing is lost and just the blocks of TTIs that have not ended
+-- those of an acknowledged bearer: the calls of its two ends are a history in which nothing is lost and just the blocks of TTIs that have not ended
 -- are in flight, and the rows are those of the accepted units, in order, whose length indicator was sent in TTIs that have ended
-pub record HandsUpWhole (planned : Planned) (b up down : ℕ) (link : LinkState) (text : List ℕ) : Type 0 where
-  pub units : HasWholeHistory planned b up down link
-  pub up_rows : got_rows Up b (rows text) ≡ rows_of (got_lines Up b (ended_units (pair_after planned.config Up Down b units.history.events).near (pair_after planned.config Up Down b units.history.events).far))
-  pub down_rows : got_rows Down b (rows text) ≡ rows_of (got_lines Down b (ended_units (pair_after planned.config Up Down b units.history.events).far (pair_after planned.config Up Down b units.history.events).near))
+pub record HandsUpWhole (parts : Parts) (b up down : ℕ) (link : LinkState) (text : List ℕ) : Type 0 where
+  pub units : HasWholeHistory parts b up down link
+  pub up_rows : got_rows Up b (rows text) ≡ rows_of (got_lines Up b (ended_units (pair_after (active parts).config Up Down b (calls_reached b parts link units.reached)).near (pair_after (active parts).config Up Down b (calls_reached b parts link units.reached)).far))
+  pub down_rows : got_rows Down b (rows text) ≡ rows_of (got_lines Down b (ended_units (pair_after (active parts).config Up Down b (calls_reached b parts link units.reached)).far (pair_after (active parts).config Up Down b (calls_reached b parts link units.reached)).near))
 
 -- those of an unacknowledged bearer, where all blocks of its channel came but some that are on their way: the accepted units, in order, whose
 -- length indicator lies in the PDUs that came

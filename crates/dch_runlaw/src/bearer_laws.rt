@@ -13,9 +13,11 @@ ghost use Rattle.dch_runlaw.specs.TmHistory.{IsTmBearer, IsTmCarried, IsTmSome, 
 /// channel. After each event the good blocks that were taken of the two channels of an acknowledged bearer are some of those that were given to
 /// them, in order. Other bearers may share these channels.
 ///
-/// Then there is a history of two ends of this bearer alone, with blocks in flight in order, some of which are lost, that leads to just
-/// the senders and receivers that it has at the two ends. So what holds after every history holds of it: handed up are the
-/// accepted units in order, each once, as far as they came without a gap, but for those that were discarded, and no answer is Outside.
+/// Then the calls that its two ends got are a history of two ends of this bearer alone, with blocks in flight in order, some of which are
+/// lost: its units that were offered, the ticks, a PDU that arrives in each good block for it, and a build for each block that it gave.
+/// With losses on the way between them they lead to just the senders and receivers that it has at the two ends. So what holds after every
+/// history holds of it: handed up are the accepted units in order, each once, as far as they came without a gap, but for those that were
+/// discarded, and no answer is Outside.
 ///
 /// And so where another configuration that keeps the bearer becomes active in between, with other channels perhaps: what is in flight then is
 /// lost, and the history goes on.
@@ -27,11 +29,12 @@ pub fn am_history_law()
         KeepsBearer first second b → IsAmBearer first out into b up down → IsAmBearer second out into b up_later down_later →
         (run : RunsInTwo first second out into (AreFaithful up down) (AreFaithful up_later down_later) earlier later w) →
         IsHistoryOver second out into b (run_calls first out into b (AreFaithful up down) (opened_world first out into) earlier run.mid run.before)
-            (run_calls second out into b (AreFaithful up_later down_later) run.next later w run.behind) run.mid w }
+        (run_calls second out into b (AreFaithful up_later down_later) run.next later w run.behind) run.mid w }
 {}
 
-/// A law. Where besides, after each event, what was taken of the two channels begins what was given to them, nothing is lost in that history:
-/// handed up at each end are just the accepted units of the other one, in order, whose length indicator was sent in the blocks that were taken.
+/// A law. Where besides, after each event, what was taken of the two channels begins what was given to them, the calls alone are that
+/// history, and nothing is lost in it: handed up at each end are just the accepted units of the other one, in order, whose length indicator
+/// was sent in the blocks that were taken.
 ///
 /// And so over two parts where all that was given to the two channels in the first part was taken there.
 pub fn whole_law()
@@ -43,7 +46,7 @@ pub fn whole_law()
         (run : RunsInTwo first second out into (AreWholeSoFar up down) (AreWholeSoFar up_later down_later) earlier later w) →
         (run.mid.out up).given ≡ (run.mid.out up).taken → (run.mid.back down).given ≡ (run.mid.back down).taken →
         IsWholeHistory second out into b up_later down_later (run_calls first out into b (AreWholeSoFar up down) (opened_world first out into) earlier run.mid run.before ++
-            run_calls second out into b (AreWholeSoFar up_later down_later) run.next later w run.behind) w }
+        run_calls second out into b (AreWholeSoFar up_later down_later) run.next later w run.behind) w }
 {}
 
 /// A law. Two ends do whatever they like, and at last the good blocks that were taken of a channel of an unacknowledged bearer are some of those

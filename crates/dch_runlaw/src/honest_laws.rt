@@ -9,7 +9,7 @@ ghost use Rattle.dch_linkcmd.specs.LinkLink.{LinkState, opened_link};
 ghost use Rattle.dch_runlaw.specs.Parts.{Begins};
 ghost use Rattle.dch_runlaw.specs.Runs.{Event, Runs};
 ghost use Rattle.dch_runlaw.specs.EndEvents.{end_events};
-ghost use Rattle.dch_runlaw.specs.HonestBearers.{HasHistory, HasKnownDown, HasKnownUp, HasSomeDown, HasSomeUp, HasTmDown, HasTmUp, HasUmDown, HasUmUp, HasWholeHistory, IsAcknowledged, IsTransparent, IsUnacknowledged};
+ghost use Rattle.dch_runlaw.specs.HonestBearers.{Alone, HasHistory, HasKnownDown, HasKnownUp, HasSomeDown, HasSomeUp, HasTmDown, HasTmUp, HasUmDown, HasUmUp, HasWholeHistory, IsAcknowledged, IsTransparent, IsUnacknowledged};
 ghost use Rattle.dch_runlaw.specs.HonestFits.{IsHonest, IsUndamaged, IsUndamagedOn};
 ghost use Rattle.dch_runlaw.specs.HonestSilent.{IsSilent, Lacks};
 
@@ -22,19 +22,20 @@ pub fn honest_law()
 {}
 
 /// A law: in a run of three nodes, radio frame by radio frame and with any damage between them, no line says of the two channels of an
-/// acknowledged bearer that a block was taken as good that was not given. Then the bearer's two ends are those of a history of two ends
-/// with blocks in flight, in order, some of which are lost. It is safe: handed up are the accepted units in order, each once, as far as
+/// acknowledged bearer that a block was taken as good that was not given. Then the calls that the bearer's two ends got are a history of two
+/// ends with blocks in flight, in order, some of which are lost. It is safe: handed up are the accepted units in order, each once, as far as
 /// they came without a gap, but for those that were discarded; and all lines on the bearer are the units that are handed up.
 pub fn link_law()
     ensures { (planned : Planned) (first b up down : ℕ) (events : List Event) (new : LinkState) (lines : List Line) (run : Runs (opened_link planned first) events new lines) →
         IsAcknowledged planned b up down → IsSilent up down lines → HasHistory planned first b (end_events events (opened_link planned first) new lines run) new }
 {}
 
-/// A law: where what is taken as good of each TTI is just what was given for it, nothing is lost. Handed up at each end are just the
+/// A law: where what is taken as good of each TTI is just what was given for it, nothing is lost in this history. Handed up at each end are just the
 /// accepted units of the other one, in order, whose length indicator was sent in TTIs that have ended.
 pub fn undamaged_law()
     ensures { (planned : Planned) (first b up down : ℕ) (events : List Event) (new : LinkState) (lines : List Line) (run : Runs (opened_link planned first) events new lines) →
-        IsAcknowledged planned b up down → IsUndamaged planned up down events (opened_link planned first) new lines run → HasWholeHistory planned b up down new }
+        IsAcknowledged planned b up down → IsUndamaged planned up down events (opened_link planned first) new lines run →
+        HasWholeHistory (Alone planned first (end_events events (opened_link planned first) new lines run)) b up down new }
 {}
 
 /// A law: with any damage, where no line says of the channel of an unacknowledged bearer that a block was taken as good that was not given:

@@ -1,4 +1,4 @@
-ghost use Rattle.std.specs.Prelude.{ℕ, List};
+ghost use Rattle.std.specs.Prelude.{◌++◌, ℕ, List};
 ghost use Rattle.dch_types.specs.declared.channel.Dir.TheVariants.{Down, Up};
 ghost use Rattle.dch_config.specs.Changes.{KeepsBearer};
 ghost use Rattle.dch_accept.specs.Plans.{Planned};
@@ -6,36 +6,43 @@ ghost use Rattle.dch_runlaw.specs.History.{IsAmBearer};
 ghost use Rattle.dch_runlaw.specs.TmHistory.{IsTmBearer};
 ghost use Rattle.dch_runlaw.specs.UmHistory.{IsUmBearer};
 ghost use Rattle.dch_runlaw.specs.Worlds.{IsFaithful};
+ghost use Rattle.dch_runlaw.specs.NodesCalls.{nodes_calls};
 ghost use Rattle.dch_runlaw.specs.Nodes.{Any, AreAllTaken, AreFaithful, AreWhole, Event, IsAmHistory, IsAmHistoryOver, IsDownKnown, IsDownKnownOver, IsDownSome, IsDownSomeOver, IsUpKnown, IsUpKnownOver, IsUpSome, IsUpSomeOver, IsWholeAmHistory, Nodes, Runs, RunsInTwo, opened_nodes};
 
 /// A law: any events happen at a terminal and a network controller, in any order and with any frames. After each event the good blocks
 /// taken so far of the two channels of an acknowledged bearer are some of the blocks given to them so far, in order.
 ///
-/// Then the calls that its two ends get are a history of two ends with blocks in flight, in order: there is one that leads to just
-/// their senders and receivers. It is safe; and all lines on PDUs and units of the bearer are the units that it hands up.
+/// Then the calls that its two ends got are a history of two ends with blocks in flight, in order: its units that were offered, the ticks,
+/// a PDU that arrives in each good block for it, and a build for each block that it gave. With losses on the way between them they lead
+/// to just their senders and receivers. It is safe; and all lines on PDUs and units of the bearer are the units that it hands up.
 ///
 /// And so in two parts, where another configuration that keeps the bearer becomes active at both nodes, one after the other, and in each
 /// part this holds of the channels that the bearer has there, with what was given and taken in the part. The blocks that were given in the
 /// first part and not taken there are lost, and the history goes on.
 pub fn nodes_law()
     ensures one { (planned : Planned) (ue_first rnc_first b up down : ℕ) (events : List Event) (nodes : Nodes) → IsAmBearer planned.config Up Down b up down →
-        Runs (AreFaithful up down) (opened_nodes planned ue_first rnc_first) events nodes → IsAmHistory planned b nodes }
+        (run : Runs (AreFaithful up down) (opened_nodes planned ue_first rnc_first) events nodes) →
+        IsAmHistory planned b (nodes_calls planned.config b (AreFaithful up down) (opened_nodes planned ue_first rnc_first) events nodes run) nodes }
     ensures two { (first second : Planned) (ue_first rnc_first b up down up_later down_later : ℕ) (earlier later : List Event) (nodes : Nodes) →
         KeepsBearer first.config second.config b → IsAmBearer first.config Up Down b up down → IsAmBearer second.config Up Down b up_later down_later →
         (run : RunsInTwo first second (AreFaithful up down) (AreFaithful up_later down_later) ue_first rnc_first earlier later nodes) →
-        IsAmHistoryOver second b run.mid nodes }
+        IsAmHistoryOver second b (nodes_calls first.config b (AreFaithful up down) (opened_nodes first ue_first rnc_first) earlier run.mid run.before)
+        (nodes_calls second.config b (AreFaithful up_later down_later) run.next later nodes run.behind) run.mid nodes }
 {}
 
-/// A law: where besides, after each event, what was taken of the two channels begins what was given to them, nothing is lost in that
-/// history. Handed up at each end are just the accepted units of the other one, in order, whose length indicator was sent in the blocks that
+/// A law: where besides, after each event, what was taken of the two channels begins what was given to them, the calls alone are that
+/// history, and nothing is lost in it. Handed up at each end are just the accepted units of the other one, in order, whose length indicator was sent in the blocks that
 /// were taken. And so in two parts where all that was given to the two channels in the first part was taken there.
 pub fn whole_nodes_law()
     ensures one { (planned : Planned) (ue_first rnc_first b up down : ℕ) (events : List Event) (nodes : Nodes) → IsAmBearer planned.config Up Down b up down →
-        Runs (AreWhole up down) (opened_nodes planned ue_first rnc_first) events nodes → IsWholeAmHistory planned b up down nodes }
+        (run : Runs (AreWhole up down) (opened_nodes planned ue_first rnc_first) events nodes) →
+        IsWholeAmHistory planned b up down (nodes_calls planned.config b (AreWhole up down) (opened_nodes planned ue_first rnc_first) events nodes run) nodes }
     ensures two { (first second : Planned) (ue_first rnc_first b up down up_later down_later : ℕ) (earlier later : List Event) (nodes : Nodes) →
         KeepsBearer first.config second.config b → IsAmBearer first.config Up Down b up down → IsAmBearer second.config Up Down b up_later down_later →
         (run : RunsInTwo first second (AreWhole up down) (AreWhole up_later down_later) ue_first rnc_first earlier later nodes) →
-        AreAllTaken up down run.mid → IsWholeAmHistory second b up_later down_later nodes }
+        AreAllTaken up down run.mid →
+        IsWholeAmHistory second b up_later down_later (nodes_calls first.config b (AreWhole up down) (opened_nodes first ue_first rnc_first) earlier run.mid run.before ++
+        nodes_calls second.config b (AreWhole up_later down_later) run.next later nodes run.behind) nodes }
 {}
 
 /// A law: any events happen at a terminal and a network controller, and at last what was taken of the channel of an unacknowledged bearer is

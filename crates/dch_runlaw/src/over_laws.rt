@@ -7,21 +7,21 @@ ghost use Rattle.dch_linkcmd.specs.LinkLink.{LinkState, opened_link};
 ghost use Rattle.dch_runlaw.specs.Parts.{GoesOver};
 ghost use Rattle.dch_runlaw.specs.Runs.{Event, Runs};
 ghost use Rattle.dch_runlaw.specs.EndEvents.{end_events};
-ghost use Rattle.dch_runlaw.specs.HonestBearers.{HasHistoryOver, HasKnownDownOver, HasKnownUpOver, HasSomeDownOver, HasSomeUpOver, HasTmDown, HasTmUp, HasUmDown, HasUmUp, HasWholeHistory, IsAcknowledged, IsTransparent, IsUnacknowledged};
+ghost use Rattle.dch_runlaw.specs.HonestBearers.{Both, HasHistoryOver, HasKnownDownOver, HasKnownUpOver, HasSomeDownOver, HasSomeUpOver, HasTmDown, HasTmUp, HasUmDown, HasUmUp, HasWholeHistory, IsAcknowledged, IsTransparent, IsUnacknowledged};
 ghost use Rattle.dch_runlaw.specs.HonestFits.{IsUndamaged, IsUndamagedOn};
 ghost use Rattle.dch_runlaw.specs.HonestSilent.{IsSilent, Lacks};
 
 /// A law: a second configuration becomes active behind a first part of a run of three nodes, and a bearer that is acknowledged goes on over
 /// other channels perhaps. With any damage, where no line of a part says of its two channels in that part that a block was taken as good
-/// that was not given, its two ends are those of one history over both parts, with blocks in flight, in order, some of which are lost. All
-/// that are in flight at the change are. It is safe, and all lines on the bearer are the units that are handed up. Where what is taken of
+/// that was not given, the calls that its two ends got are one history over both parts, with blocks in flight, in order, some of which are
+/// lost. All that are in flight at the change are. It is safe, and all lines on the bearer are the units that are handed up. Where what is taken of
 /// each TTI in both parts is just what was given for it, and all TTIs have ended at the change, nothing is lost.
 pub fn link_over_law()
     ensures history { (planned second : Planned) (first b up down up_later down_later : ℕ) (before after : List Event) (start new : LinkState) (early late : List Line) (over : GoesOver planned second first before early start) (run : Runs start after new late) → KeepsBearer planned.config second.config b →
         IsAcknowledged planned b up down → IsAcknowledged second b up_later down_later → IsSilent up down early → IsSilent up_later down_later late → HasHistoryOver planned second first b (end_events before (opened_link planned first) over.last early over.run) (end_events after start new late run) over.last new }
     ensures whole { (planned second : Planned) (first b up down up_later down_later : ℕ) (before after : List Event) (start new : LinkState) (early late : List Line) (over : GoesOver planned second first before early start) (run : Runs start after new late) → KeepsBearer planned.config second.config b → start.rnc.state.cfn % 8 ≡ 0 →
         IsAcknowledged planned b up down → IsAcknowledged second b up_later down_later → IsUndamaged planned up down before (opened_link planned first) over.last early over.run → IsUndamaged second up_later down_later after start new late run →
-        HasWholeHistory second b up_later down_later new }
+        HasWholeHistory (Both planned second first (end_events before (opened_link planned first) over.last early over.run) (end_events after start new late run) over.last) b up_later down_later new }
 {}
 
 /// A law: and an unacknowledged bearer. With any damage some of the PDUs that were sent in both parts came, in order; and where fewer than 128

@@ -19,7 +19,7 @@ pub fn soft_events_law()
 {}
 
 /// A law: in a run in soft handover, with any damage on any leg, both channels of an acknowledged bearer of a good configuration are
-/// faithful after each event at the terminal and the network controller. Then the calls that its two ends get are a history of two ends
+/// faithful after each event at the terminal and the network controller. Then the calls that its two ends got are a history of two ends
 /// with blocks in flight, in order; and of the lines of the run, those on PDUs and units of the bearer are just the units that this
 /// history hands up, in order.
 pub fn soft_nodes_law()

@@ -49,7 +49,7 @@ GetsUnharmed = (k set : ℕ) (stage : Stage) (old new : SoftState) → (old.legs
 abbrev pub ShowsUnits : List Line → List ℕ → Type 0
 ShowsUnits reported text = (dir : Dir) (b : ℕ) → b < 2 ^ 64 → got_rows dir b (lines_of text) ≡ rows_of (gots dir b reported)
 
--- the ends of an acknowledged bearer stand in a history of two ends, and the rows of the text are those of the units that it hands up
+-- the calls of an acknowledged bearer's ends are a history of two ends, and the rows of the text are those of the units that it hands up
 pub record HandsUpRows (planned : Planned) (first b : ℕ) (happened : List EndEvent) (soft : SoftState) (reported : List Line) (text : List ℕ) : Type 0 where
   pub units : HandsUp planned first b happened soft reported
   pub up : got_rows Up b (lines_of text) ≡ rows_of (got_lines Up b (pair_after planned.config Up Down b units.history.events).far.entity.receiver.reading.units)
