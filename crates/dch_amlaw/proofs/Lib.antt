@@ -10,8 +10,5 @@ pub mod Short
 mod Examples
 pub mod Lossless
 pub mod Listed
-pub mod Units
-pub mod Readings
-pub mod Places
 pub mod Receivers
 pub mod Views

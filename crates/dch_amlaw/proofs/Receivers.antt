@@ -1,8 +1,7 @@
--- A receiver of the acknowledged mode stays limited, and what it tells comes out of the bytes of what it holds and of what comes.
-use Rattle.std.proofs.Common.{◌≡◌, ◌<◌, ◌≤◌, ◌+◌, ◌-◌, ◌*◌, ◌∙◌, ◌++◌, ◌||◌, ℕ, List, [], ◌∷◌, Bool, true, false, cond, Option, Some, None, Result, Ok, Err, max, arith, refl, ap, sym, ⊎_elim}
+-- A receiver of the acknowledged mode stays limited, whatever comes.
+use Rattle.std.proofs.Common.{◌≡◌, ◌<◌, ◌≤◌, ◌+◌, ◌-◌, ◌∙◌, ◌++◌, ◌||◌, ℕ, List, ◌∷◌, Bool, true, false, cond, Option, Some, None, Result, Ok, Err, max, arith, refl, sym, ⊎_elim}
 use Rattle.std.specs.Prelude.{nat_le}
 use Rattle.std.proofs.lemmas.Bool.{leb-false, lt-ltb, ltb-true, or_cases, or_left, or_right}
-use Rattle.std.proofs.lemmas.List.{append-nil}
 use Rattle.std.proofs.lemmas.List.Elements.{All-cons, All-nil}
 use Rattle.dch_rlcpdu.specs.declared.am.AmView.{AmView}
 use Rattle.dch_rlcpdu.specs.declared.am.AmView.TheVariants.{Payload, Status, Reset, ResetAck}
@@ -15,51 +14,33 @@ use Rattle.dch_am.specs.declared.answers.MrwTaken.TheVariants.{Nothing, Obeyed, 
 use Rattle.dch_am.specs.Bodies.{Body}
 use Rattle.dch_am.specs.Contents.{body_in}
 use Rattle.dch_am.specs.Entities.{pdu_of, receiver_by}
-use Rattle.dch_am.specs.Moves.{after_control, after_move, after_move_in, move_in, obeyed_mrw, trimmed, with_ack, with_move}
+use Rattle.dch_am.specs.Moves.{after_control, after_move, after_move_in, move_in, obeyed_mrw, with_ack, with_move}
 use Rattle.dch_am.specs.Numbers.{ahead, below, has, run_of, top}
 use Rattle.dch_am.specs.Receiver.{Receiver, after_pdu, vr_r, got, numbers, opened_receiver, read_on, taken, with_pdu}
 use Rattle.dch_am.specs.Rules.{Rules}
 use Rattle.dch_am.proofs.Lists.{Is, has-append, has-below, run_grows, top_above, top_least}
-use Rattle.dch_amlaw.proofs.Hands.{passed_le}
-use Rattle.dch_amlaw.specs.Bounded.{IsBoundedReceiver, IsLight, Takes}
-use Rattle.dch_amlaw.specs.Bytes.{body_bytes, part_bytes, receiver_bytes, run_bytes}
-use Rattle.dch_amlaw.proofs.Readings.{GoesOn, run_on}
-use Rattle.dch_amlaw.proofs.Places.{put_le, run_light, run_moves, run_split}
-
-pub keeps : (window : ℕ) (r : Receiver) (bytes : ℕ) → IsBoundedReceiver window r → Takes window r r bytes
-keeps window r bytes is = record { more = []; units = sym (append-nil r.reading.units); paid = omega arith; bounded = is }
+use Rattle.dch_amlaw.specs.Bounded.{IsBoundedReceiver, IsLight, body_octets}
 
 -- more numbers are there
-grows : (old new : List ℕ) → ((x : ℕ) → Is x old → Is x new) → run_of old (top old) ≤ run_of new (top new)
+pub grows : (old new : List ℕ) → ((x : ℕ) → Is x old → Is x new) → run_of old (top old) ≤ run_of new (top new)
 grows old new sub = run_grows old new (top old) (top new) (top_least old (top new) (λ x h. top_above new x (sub x h))) sub
 
-one_more : (passed k : ℕ) (ns : List ℕ) (x : ℕ) → Is x (below passed ++ ns) → Is x (below passed ++ (k ∷ ns))
+pub one_more : (passed k : ℕ) (ns : List ℕ) (x : ℕ) → Is x (below passed ++ ns) → Is x (below passed ++ (k ∷ ns))
 one_more passed k ns x h = has-append x (below passed) (k ∷ ns) ∙ ⊎_elim (λ q. or_left _ _ q) (λ q. or_right _ _ (or_right _ _ q)) (or_cases (has x (below passed)) (has x ns) (sym (has-append x (below passed) ns) ∙ h))
 
-more_passed : (passed later : ℕ) (ns : List ℕ) (x : ℕ) → passed ≤ later → Is x (below passed ++ ns) → Is x (below later ++ ns)
+pub more_passed : (passed later : ℕ) (ns : List ℕ) (x : ℕ) → passed ≤ later → Is x (below passed ++ ns) → Is x (below later ++ ns)
 more_passed passed later ns x le h = has-append x (below later) ns ∙ ⊎_elim (λ q. or_left _ _ (has-below x later ∙ lt-ltb x later (omega (arith, le, ltb-true x passed (sym (has-below x passed) ∙ q))))) (λ q. or_right _ _ q) (or_cases (has x (below passed)) (has x ns) (sym (has-append x (below passed) ns) ∙ h))
 
 -- a PDU is kept
-kept : (rules : Rules) (r : Receiver) (ahead_by : ℕ) (poll : Bool) (body : Body) → ahead_by < rules.window → body_bytes body ≤ 1116 → IsBoundedReceiver rules.window r →
-    Takes rules.window r (read_on (with_pdu rules r (vr_r r + ahead_by) poll body) (vr_r r)) 1116
+kept : (rules : Rules) (r : Receiver) (ahead_by : ℕ) (poll : Bool) (body : Body) → ahead_by < rules.window → body_octets body ≤ 124 → IsBoundedReceiver rules.window r →
+    IsBoundedReceiver rules.window (read_on (with_pdu rules r (vr_r r + ahead_by) poll body) (vr_r r))
 kept rules r ahead_by poll body near light is =
     let k : ℕ = vr_r r + ahead_by in
     let now : Receiver = with_pdu rules r k poll body in
-    let d : ℕ = vr_r now - vr_r r in
     let grow : vr_r r ≤ vr_r now = grows (got r) (got now) (one_more r.passed k (numbers r.arrived)) in
-    let place : vr_r r + d ≡ vr_r now = omega arith in
-    let on : GoesOn r.reading (read_on now (vr_r r)).reading (run_bytes now.arrived (vr_r r) d) = run_on r.trim now.arrived r.reading (vr_r r) d in
-    let high : top (numbers now.arrived) ≤ vr_r r + rules.window = omega (arith, is.inside, near) in
-    let advances : run_bytes now.arrived (vr_r r) d + run_bytes now.arrived (vr_r r + d) rules.window ≡ run_bytes now.arrived (vr_r r) rules.window = run_moves now.arrived (vr_r r) d rules.window high in
-    let at : run_bytes now.arrived (vr_r r + d) rules.window ≡ run_bytes now.arrived (vr_r now) rules.window = ap (λ n. run_bytes now.arrived n rules.window) place in
-    record {
-      more = on.more;
-      units = on.units;
-      paid = omega (arith, on.paid, advances, at, put_le k body r.arrived (vr_r r) rules.window, light);
-      bounded = record { light = All-cons IsLight (k, body) r.arrived light is.light; inside = omega (arith, high, grow) };
-    }
+    record { light = All-cons IsLight (k, body) r.arrived light is.light; inside = omega (arith, is.inside, near, grow) }
 
-near_by : (rules : Rules) (r : Receiver) (sn : ℕ) → taken rules r sn ≡ Kept → ahead (vr_r r) sn < rules.window
+pub near_by : (rules : Rules) (r : Receiver) (sn : ℕ) → taken rules r sn ≡ Kept → ahead (vr_r r) sn < rules.window
 near_by rules r sn is = go (nat_le (4096 - rules.window) (ahead (vr_r r) sn) || has (vr_r r + ahead (vr_r r) sn) (got r)) (nat_le rules.window (ahead (vr_r r) sn)) refl is
   where
     go : (c e : Bool) → nat_le rules.window (ahead (vr_r r) sn) ≡ e → cond c Duplicate (cond e Outside Kept) ≡ Kept → ahead (vr_r r) sn < rules.window
@@ -67,71 +48,50 @@ near_by rules r sn is = go (nat_le (4096 - rules.window) (ahead (vr_r r) sn) || 
     go false true h q = absurd (cc)
     go false false h q = leb-false _ _ h
 
-pub pdu_taken : (rules : Rules) (r : Receiver) (sn : ℕ) (poll : Bool) (body : Body) → body_bytes body ≤ 1116 → IsBoundedReceiver rules.window r → Takes rules.window r (after_pdu rules (taken rules r sn) r sn poll body) 1116
-pdu_taken rules r sn poll body light is = go (taken rules r sn) refl
+pdu_bounded : (rules : Rules) (r : Receiver) (sn : ℕ) (poll : Bool) (body : Body) → body_octets body ≤ 124 → IsBoundedReceiver rules.window r → IsBoundedReceiver rules.window (after_pdu rules (taken rules r sn) r sn poll body)
+pdu_bounded rules r sn poll body light is = go (taken rules r sn) refl
   where
-    go : (t : Taken) → taken rules r sn ≡ t → Takes rules.window r (after_pdu rules t r sn poll body) 1116
+    go : (t : Taken) → taken rules r sn ≡ t → IsBoundedReceiver rules.window (after_pdu rules t r sn poll body)
     go Kept e = kept rules r (ahead (vr_r r) sn) poll body (near_by rules r sn e) light is
-    go Duplicate e = record { more = []; units = sym (append-nil r.reading.units); paid = omega arith; bounded = record { light = is.light; inside = is.inside } }
-    go Outside e = keeps rules.window r 1116 is
+    go Duplicate e = record { light = is.light; inside = is.inside }
+    go Outside e = is
 
 -- an MRW is obeyed
-obeyed : (window : ℕ) (r : Receiver) (ahead_by sn n : ℕ) → IsBoundedReceiver window r → Takes window r (with_ack (read_on (with_move r (vr_r r + ahead_by) n) (vr_r r + ahead_by)) sn n) 0
+obeyed : (window : ℕ) (r : Receiver) (ahead_by sn n : ℕ) → IsBoundedReceiver window r → IsBoundedReceiver window (with_ack (read_on (with_move r (vr_r r + ahead_by) n) (vr_r r + ahead_by)) sn n)
 obeyed window r ahead_by sn n is =
     let k : ℕ = vr_r r + ahead_by in
     let now : Receiver = with_move r k n in
-    let d : ℕ = vr_r now - k in
     let grow : vr_r r ≤ vr_r now = grows (got r) (got now) (λ x h. more_passed r.passed (max r.passed k) (numbers r.arrived) x (omega arith) h) in
-    let reach : k ≤ vr_r now = omega (arith, passed_le now) in
-    let place : vr_r r + (ahead_by + d) ≡ vr_r now = omega arith in
-    let on : GoesOn (record { units = r.reading.units; part = [] }) (read_on now k).reading (run_bytes r.arrived k d) = run_on (trimmed r.trim k n) r.arrived (record { units = r.reading.units; part = [] }) k d in
-    let advances : run_bytes r.arrived (vr_r r) (ahead_by + d) + run_bytes r.arrived (vr_r r + (ahead_by + d)) window ≡ run_bytes r.arrived (vr_r r) window = run_moves r.arrived (vr_r r) (ahead_by + d) window is.inside in
-    let at : run_bytes r.arrived (vr_r r + (ahead_by + d)) window ≡ run_bytes r.arrived (vr_r now) window = ap (λ m. run_bytes r.arrived m window) place in
-    record {
-      more = on.more;
-      units = on.units;
-      paid = omega (arith, on.paid, advances, at, run_split r.arrived (vr_r r) ahead_by d);
-      bounded = record { light = is.light; inside = omega (arith, is.inside, grow) };
-    }
+    record { light = is.light; inside = omega (arith, is.inside, grow) }
 
-pub move_taken : (window : ℕ) (r : Receiver) (t : MrwTaken) (sn n : ℕ) → IsBoundedReceiver window r → Takes window r (after_move t r sn n) 0
-move_taken window r Obeyed sn n is = obeyed window r (ahead (vr_r r) sn) sn n is
-move_taken window r Old sn n is = record { more = []; units = sym (append-nil r.reading.units); paid = omega arith; bounded = record { light = is.light; inside = is.inside } }
-move_taken window r (Beyond i) sn n is = keeps window r 0 is
-move_taken window r Nothing sn n is = keeps window r 0 is
+move_bounded : (window : ℕ) (r : Receiver) (t : MrwTaken) (sn n : ℕ) → IsBoundedReceiver window r → IsBoundedReceiver window (after_move t r sn n)
+move_bounded window r Obeyed sn n is = obeyed window r (ahead (vr_r r) sn) sn n is
+move_bounded window r Old sn n is = record { light = is.light; inside = is.inside }
+move_bounded window r (Beyond i) sn n is = is
+move_bounded window r Nothing sn n is = is
 
-pub control_taken : (rules : Rules) (r : Receiver) (fields : List Field) → IsBoundedReceiver rules.window r → Takes rules.window r (after_control rules r fields) 0
-control_taken rules r fields is = go (move_in fields)
+control_bounded : (rules : Rules) (r : Receiver) (fields : List Field) → IsBoundedReceiver rules.window r → IsBoundedReceiver rules.window (after_control rules r fields)
+control_bounded rules r fields is = go (move_in fields)
   where
-    go : (o : Option (ℕ × ℕ)) → Takes rules.window r (after_move_in rules r o) 0
-    go None = keeps rules.window r 0 is
-    go (Some p) = move_taken rules.window r (obeyed_mrw rules r p.0) p.0 p.1 is
+    go : (o : Option (ℕ × ℕ)) → IsBoundedReceiver rules.window (after_move_in rules r o)
+    go None = is
+    go (Some p) = move_bounded rules.window r (obeyed_mrw rules r p.0) p.0 p.1 is
 
 -- what a PDU holds is light
 abbrev pub IsLightView : Result AmView PduError → Type 0
-IsLightView (Ok (Payload sn poll c piggyback)) = body_bytes (body_in c) ≤ 1116
+IsLightView (Ok (Payload sn poll c piggyback)) = body_octets (body_in c) ≤ 124
 IsLightView (Ok (Status fields)) = Unit {0}
 IsLightView (Ok (Reset rsn hfni)) = Unit {0}
 IsLightView (Ok (ResetAck rsn hfni)) = Unit {0}
 IsLightView (Err e) = Unit {0}
 
 -- a PDU that was read comes
-pub view_taken : (rules : Rules) (r : Receiver) (view : AmView) → IsLightView (Ok view) → IsBoundedReceiver rules.window r → Takes rules.window r (receiver_by rules (pdu_of view) r) 1116
-view_taken rules r (Payload sn poll c piggyback) light is = pdu_taken rules r sn poll (body_in c) light is
-view_taken rules r (Status fields) light is =
-    let t : Takes rules.window r (after_control rules r fields) 0 = control_taken rules r fields is in
-    record { more = t.more; units = t.units; paid = omega (arith, t.paid); bounded = t.bounded }
-view_taken rules r (Reset rsn hfni) light is = keeps rules.window r 1116 is
-view_taken rules r (ResetAck rsn hfni) light is = keeps rules.window r 1116 is
+pub view_bounded : (rules : Rules) (r : Receiver) (view : AmView) → IsLightView (Ok view) → IsBoundedReceiver rules.window r → IsBoundedReceiver rules.window (receiver_by rules (pdu_of view) r)
+view_bounded rules r (Payload sn poll c piggyback) light is = pdu_bounded rules r sn poll (body_in c) light is
+view_bounded rules r (Status fields) light is = control_bounded rules r fields is
+view_bounded rules r (Reset rsn hfni) light is = is
+view_bounded rules r (ResetAck rsn hfni) light is = is
 
 -- a receiver that was opened
 pub receiver_opened : (rules : Rules) → IsBoundedReceiver rules.window (opened_receiver rules)
 receiver_opened rules = record { light = All-nil IsLight; inside = omega arith }
-
--- how much can come of it
-pub receiver_most : (window : ℕ) (r : Receiver) → IsBoundedReceiver window r → receiver_bytes window r ≤ 3009 + window * 1116
-receiver_most window r is = omega (arith, part_most r.reading.part, run_light r.arrived (vr_r r) window is.light)
-  where
-    part_most : (part : List ℕ) → part_bytes part ≤ 3009
-    part_most [] = omega arith
-    part_most (x ∷ xs) = omega arith

@@ -1,4 +1,4 @@
--- A PDU of few octets brings few bytes.
+-- A PDU of few octets is light.
 use Rattle.std.proofs.Common.{◌≡◌, ◌<◌, ◌≤◌, ◌+◌, ◌-◌, ◌*◌, ◌/◌, ◌%◌, ◌||◌, ℕ, suc, List, [], ◌∷◌, Bool, true, false, cond, Option, Some, None, Result, Ok, Err, length, drop, get_or, arith, refl, ap, length-append, length-drop, length-take}
 use Rattle.std.specs.Prelude.{◌==◌, nat_lt}
 use Rattle.std.proofs.lemmas.Bool.{cond_both}
@@ -17,7 +17,8 @@ use Rattle.dch_rlcpdu.specs.Split.{body_reading}
 use Rattle.dch_rlcpdu.proofs.Ends.{Marked, indicators_marked}
 use Rattle.dch_rlcpdu.proofs.Splits.{IsBody, body_text}
 use Rattle.dch_am.specs.Contents.{all_but_last, body_in, last_of}
-use Rattle.dch_amlaw.specs.Bytes.{body_bytes, full_bytes, pieces_bytes}
+use Rattle.dch_am.specs.Entities.{one_if}
+use Rattle.dch_amlaw.specs.Bounded.{body_octets, pieces_octets}
 use Rattle.dch_amlaw.proofs.Receivers.{IsLightView}
 
 -- the parts together have no more octets than there are behind a place
@@ -56,22 +57,22 @@ content_read mode following p c size few e =
       few = omega (arith, few, ap length is.parts.text, length-append (indicator_octets c.indicators) c.octets, length-indicator_octets c.indicators);
     }
 
--- the bytes of parts
-parts_bytes : (ps : List (List ℕ)) → pieces_bytes (all_but_last ps) + 9 * length (last_of ps) ≡ 9 * total_of ps + 6 * (length ps - 1)
-parts_bytes [] = omega arith
-parts_bytes (p ∷ []) = omega arith
-parts_bytes (p ∷ q ∷ ps) = omega (arith, parts_bytes (q ∷ ps))
+-- the octets of parts, and of the indicators between them
+parts_octets : (ps : List (List ℕ)) → pieces_octets (all_but_last ps) + length (last_of ps) ≡ total_of ps + (length ps - 1)
+parts_octets [] = omega arith
+parts_octets (p ∷ []) = omega arith
+parts_octets (p ∷ q ∷ ps) = omega (arith, parts_octets (q ∷ ps))
 
-first_bytes : (indicators : List ℕ) → full_bytes (begins_with 0 indicators) ≤ 6 * leading indicators
-first_bytes indicators = go (begins_with 0 indicators) (begins_with 124 indicators)
+first_octets : (indicators : List ℕ) → one_if (begins_with 0 indicators) ≤ leading indicators
+first_octets indicators = go (begins_with 0 indicators) (begins_with 124 indicators)
   where
-    go : (a b : Bool) → full_bytes a ≤ 6 * cond (a || b) 1 0
+    go : (a b : Bool) → one_if a ≤ cond (a || b) 1 0
     go true b = omega arith
     go false true = omega arith
     go false false = omega arith
 
-pub content_bytes : (size : ℕ) (c : Content) → IsContent size c → body_bytes (body_in c) ≤ 9 * size
-content_bytes size c is = omega (arith, parts_bytes (parts_of c), first_bytes c.indicators, is.parts, is.octets, is.indicators, is.few)
+content_octets : (size : ℕ) (c : Content) → IsContent size c → body_octets (body_in c) ≤ size
+content_octets size c is = omega (arith, parts_octets (parts_of c), first_octets c.indicators, is.parts, is.octets, is.indicators, is.few)
 
 -- of the acknowledged mode, of at most 126 octets
 status_light : (o : Option (List Field)) → IsLightView (status_reading o)
@@ -98,7 +99,7 @@ body_light sn poll following p few (Ok c) is = go (piggyback_reading c)
   where
     go : (q : Result (Option (List Field)) PduError) → IsLightView (with_piggyback sn poll c q)
     go (Err e) = tt
-    go (Ok piggyback) = omega (arith, content_bytes 124 c (content_read Acknowledged following p c 124 few is))
+    go (Ok piggyback) = omega (arith, content_octets 124 c (content_read Acknowledged following p c 124 few is))
 
 data_light : (first : ℕ) (p : List ℕ) → length p ≤ 125 → IsLightView (data_reading first p)
 data_light first [] few = tt

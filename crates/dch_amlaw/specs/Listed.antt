@@ -18,7 +18,8 @@ pub record IsListedLine (from : End) (line : List Block) : Type 0 where
   pub built : IsListed (from.octets - 2) from.entity.sender
   pub in_flight : AreListed (from.octets - 2) from.entity.sender line
 
--- and of both
+-- in both directions the PDUs that were built, and the data PDUs in flight, are those of the list of PDUs of the
+-- sender's SDUs
 pub record IsListedPair (p : Pair) : Type 0 where
   pub near_far : IsListedLine p.near p.out
   pub far_near : IsListedLine p.far p.back

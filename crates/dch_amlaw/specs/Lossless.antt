@@ -34,7 +34,8 @@ pub record IsWhole (from to : End) (line : List Block) : Type 0 where
   pub numbers : Continues (gap_free to) line (vt_s from.entity.sender)
   pub units : to.entity.receiver.reading.units ≡ take (ends (take (gap_free to) from.entity.sender.bodies)) from.entity.sender.accepted
 
--- and so of both directions
+-- in both directions: the PDUs that have arrived are those below a number, those from it on are in flight, and
+-- delivered are the accepted SDUs, in order, whose length indicator lies in the PDUs that arrived
 pub record AreWhole (p : Pair) : Type 0 where
   pub near_far : IsWhole p.near p.far p.out
   pub far_near : IsWhole p.far p.near p.back

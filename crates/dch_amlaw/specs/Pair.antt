@@ -148,7 +148,7 @@ abbrev pub happens : Rules → Pair → At → Pair
 happens rules p (Near e) = happens_near rules p e
 happens rules p (Far e) = turned (happens_near rules (turned p) e)
 
--- a whole history
+-- two ends after a whole history, with the blocks in flight between them
 abbrev pub after : Rules → Pair → List At → Pair
 after rules p [] = p
 after rules p (e ∷ es) = after rules (happens rules p e) es
@@ -206,7 +206,8 @@ pub record IsKept (rules : Rules) (from to : End) : Type 0 where
   pub none_lost : (i : ℕ) → i < ends (take (gap_free to) from.entity.sender.bodies) → (in_span from.entity.sender.bodies to.spans i ≡ true) ⊎ (has i from.entity.sender.discarded_units ≡ true)
   pub in_order : to.entity.receiver.reading.units ≡ picked from.entity.sender.bodies to.spans 0 from.entity.sender.accepted
 
--- what holds after every history
+-- what holds of two ends after every history, in both directions: SDUs are delivered in order, each once, and none that
+-- came without a gap is lost but those discarded; the next PDU in flight is not outside the window
 pub record IsSafe (rules : Rules) (p : Pair) : Type 0 where
   pub near_far : IsKept rules p.near p.far
   pub far_near : IsKept rules p.far p.near

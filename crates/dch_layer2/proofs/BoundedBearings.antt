@@ -16,8 +16,8 @@ use Rattle.dch_am.specs.Entities.{Turn, Tells, Moves, Sends as SendsData, Rests,
 use Rattle.dch_am.specs.Receiver.{Receiver}
 use Rattle.dch_am.specs.Rules.{Rules}
 use Rattle.dch_am.specs.Sender.{Sender}
-use Rattle.dch_amlaw.specs.Bounded.{IsBoundedReceiver, Takes}
-use Rattle.dch_amlaw.proofs.Receivers.{IsLightView, keeps, receiver_opened, view_taken}
+use Rattle.dch_amlaw.specs.Bounded.{IsBoundedReceiver}
+use Rattle.dch_amlaw.proofs.Receivers.{IsLightView, receiver_opened, view_bounded}
 use Rattle.dch_amlaw.proofs.Views.{reading_light}
 use Rattle.dch_layer2.specs.Bearings.{Bearing, Transparent, Unacknowledged, Acknowledged, Sends, after_answer, bearer_in, opened_bearing, opened_mode, rules_in, ticked}
 use Rattle.dch_layer2.specs.Building.{Builds, Gives}
@@ -30,12 +30,12 @@ um_bounded config dir b (Ok view) s r is = record { mode = is.mode; settled = re
 um_bounded config dir b (Err e) s r is = is
 
 -- what was read comes, if anything was
-pub reading_taken : (rules : Rules) (r : Receiver) (view : Result AmView PduError) → IsLightView view → IsBoundedReceiver rules.window r → Takes rules.window r (receiver_of rules view r) 1116
-reading_taken rules r (Ok view) light is = view_taken rules r view light is
-reading_taken rules r (Err e) light is = keeps rules.window r 1116 is
+reading_bounded : (rules : Rules) (r : Receiver) (view : Result AmView PduError) → IsLightView view → IsBoundedReceiver rules.window r → IsBoundedReceiver rules.window (receiver_of rules view r)
+reading_bounded rules r (Ok view) light is = view_bounded rules r view light is
+reading_bounded rules r (Err e) light is = is
 
 am_bounded : (config : Config) (dir : Dir) (b : ℕ) (view : Result AmView PduError) (s : Sender) (r : Receiver) → IsLightView view → IsBoundedAm config b r → IsBounded config b (hears_am (rules_in config b) dir b view s r).bearing
-am_bounded config dir b view s r light is = record { mode = is.mode; receiver = (reading_taken (rules_in config b) r view light is.receiver).bounded }
+am_bounded config dir b view s r light is = record { mode = is.mode; receiver = reading_bounded (rules_in config b) r view light is.receiver }
 
 pub length-octets_from : (n : ℕ) (bits : List Bit) → length (octets_from n bits) ≡ n
 length-octets_from zero bits = refl

@@ -23,6 +23,6 @@ IsBounded config b (Transparent w us) = Unit {0}
 IsBounded config b (Unacknowledged s r) = IsBoundedUm config b r
 IsBounded config b (Acknowledged s r) = IsBoundedAm config b r
 
--- all bearers are
+-- each receiver of all bearers of an end is bounded, and in unacknowledged mode no SDU that ended waits
 abbrev pub AreBounded : Config → Layer → Type 0
 AreBounded config layer = (b : ℕ) → b < length config.bearers → IsBounded config b (layer.bearings b)

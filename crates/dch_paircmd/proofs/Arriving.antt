@@ -9,9 +9,10 @@ use Rattle.dch_am.specs.Entities.{Entity, Turn as EntityTurn, Tells, Moves, Send
 use Rattle.dch_am.specs.Receiver.{Receiver}
 use Rattle.dch_am.specs.Rules.{Rules}
 use Rattle.dch_am.specs.Telling.{tick_receiver}
-use Rattle.dch_amlaw.specs.Bounded.{IsBoundedReceiver, Takes}
-use Rattle.dch_amlaw.specs.Bytes.{unit_bytes, units_bytes}
-use Rattle.dch_amlaw.proofs.Receivers.{IsLightView, receiver_most, receiver_opened, view_taken}
+use Rattle.dch_amlaw.specs.Bounded.{IsBoundedReceiver}
+use Rattle.dch_amlaw.proofs.Receivers.{IsLightView, receiver_opened, view_bounded}
+use Rattle.dch_steptext.specs.ReceiverBytes.{Takes, unit_bytes, units_bytes}
+use Rattle.dch_steptext.proofs.ReceiverBytes.{receiver_most, view_taken}
 use Rattle.dch_amlaw.proofs.Views.{reading_light}
 use Rattle.dch_pair.specs.Answers.{waiting}
 use Rattle.dch_bits.specs.declared.offer.Offer.{Offer}
@@ -62,7 +63,7 @@ taken_limited rules size e (Some p) view light bounded all = still_limited rules
 taken_limited rules size e None view light bounded all =
     let t : Takes rules.window e.entity.receiver (receiver_by rules (pdu_of view) e.entity.receiver) 1116 = view_taken rules e.entity.receiver view light bounded in
     let new : waiting (taken_by rules size e None (pdu_of view)).entity ≡ t.more = ap₂ (λ n us. drop n us) all t.units ∙ drop-append_seam e.entity.receiver.reading.units t.more in
-    record { bounded = t.bounded; few = omega (arith, t.paid, receiver_most rules.window e.entity.receiver bounded, ap units_bytes new) }
+    record { bounded = view_bounded rules e.entity.receiver view light bounded; few = omega (arith, t.paid, receiver_most rules.window e.entity.receiver bounded, ap units_bytes new) }
 
 -- an end begins anew
 restarted_limited : (rules : Rules) (e : State) → IsLimited rules (restarted rules e).entity

@@ -7,7 +7,7 @@ use Rattle.dch_pair.specs.Answers.{waiting}
 use Rattle.dch_rlcpdu.specs.Am.{am_reading}
 use Rattle.dch_reset.specs.Answers.{answer_read, came_read}
 use Rattle.dch_reset.specs.History.{handed_up}
-use Rattle.dch_reset.specs.State.{Build, Event, IsTold as TellsAt, IsWritten, Offer, Reset, State, Tick, step, turn, writes}
+use Rattle.dch_reset.specs.State.{Build, Event, IsWritten, Offer, Reset, State, Tick, step, turn, writes}
 use Rattle.dch_script.specs.ParsedLine.{◌>>=◌}
 use Rattle.dch_script.specs.Pair.{ParsedPair, ends, offer, build, arrive, lose, tick, reset, begins_with_ends, pair_meaning}
 use Rattle.dch_script.specs.Report.{line_text}

@@ -21,10 +21,11 @@ use Rattle.dch_am.specs.Entities.{Turn, Tells, Moves, Sends as SendsData, Rests,
 use Rattle.dch_am.specs.Receiver.{Receiver}
 use Rattle.dch_am.specs.Rules.{Rules}
 use Rattle.dch_am.specs.Sender.{Sender}
-use Rattle.dch_amlaw.specs.Bounded.{Takes}
-use Rattle.dch_amlaw.specs.Bytes.{part_bytes, receiver_bytes, units_bytes}
-use Rattle.dch_amlaw.proofs.Places.{run_above}
-use Rattle.dch_amlaw.proofs.Receivers.{IsLightView, receiver_most}
+use Rattle.dch_amlaw.specs.Bounded.{IsBoundedReceiver}
+use Rattle.dch_steptext.specs.ReceiverBytes.{Takes, part_bytes, receiver_bytes, units_bytes}
+use Rattle.dch_steptext.proofs.PlaceBytes.{run_above}
+use Rattle.dch_amlaw.proofs.Receivers.{IsLightView}
+use Rattle.dch_steptext.proofs.ReceiverBytes.{keeps, receiver_most, view_taken}
 use Rattle.dch_script.specs.LineText.{text_of}
 use Rattle.dch_layer2.specs.Bearings.{Bearing, Transparent, Unacknowledged, Acknowledged, Sends, after_answer, bearer_in, opened_bearing, opened_mode, rules_in, ticked}
 use Rattle.dch_layer2.specs.Building.{Builds, Gives}
@@ -32,7 +33,7 @@ use Rattle.dch_layer2.specs.Hearing.{error_number, hears, hears_am, hears_um, li
 use Rattle.dch_layer2.specs.Octets.{octets_of}
 use Rattle.dch_layer2.specs.UnitLines.{line_if, unit_lines}
 use Rattle.dch_layer2.specs.BoundedBearers.{IsBounded, IsBoundedAm, IsBoundedUm}
-use Rattle.dch_layer2.proofs.BoundedBearings.{MayCome, length-octets_from, octets_light, reading_taken}
+use Rattle.dch_layer2.proofs.BoundedBearings.{MayCome, length-octets_from, octets_light}
 use Rattle.dch_steptext.specs.Bytes.{bearing_bytes}
 use Rattle.dch_steptext.proofs.Texts.{bits_line, line_if_long, short_line, text_long, told, told_within}
 use Rattle.dch_steptext.proofs.UmReceivers.{IsFew, held_pdu, reading_few}
@@ -66,6 +67,11 @@ lines_long rules dir b (Ok (Status fields)) s r units small = before _
 lines_long rules dir b (Ok (Reset rsn hfni)) s r units small = omega arith
 lines_long rules dir b (Ok (ResetAck rsn hfni)) s r units small = omega arith
 lines_long rules dir b (Err e) s r units small = omega (arith, short_line (PduBad dir b (error_number e)) (omega (arith, small), error_small e))
+
+-- what was read comes, if anything was
+reading_taken : (rules : Rules) (r : Receiver) (view : Result AmView PduError) → IsLightView view → IsBoundedReceiver rules.window r → Takes rules.window r (receiver_of rules view r) 1116
+reading_taken rules r (Ok view) light is = view_taken rules r view light is
+reading_taken rules r (Err e) light is = keeps rules.window r 1116
 
 am_paid : (config : Config) (dir : Dir) (b : ℕ) (view : Result AmView PduError) (s : Sender) (r : Receiver) → b < 100 → IsLightView view → IsBoundedAm config b r → IsPaid config b (Acknowledged s r) (hears_am (rules_in config b) dir b view s r).bearing (hears_am (rules_in config b) dir b view s r).lines
 am_paid config dir b view s r small light is =

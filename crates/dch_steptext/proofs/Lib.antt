@@ -1,3 +1,7 @@
+pub mod UnitBytes
+pub mod PieceBytes
+pub mod PlaceBytes
+pub mod ReceiverBytes
 pub mod BearingBytes
 pub mod LayerBytes
 pub mod ReadingBytes

@@ -14,7 +14,7 @@ use Rattle.dch_script.specs.Report.{bits_shown, cells_shown, dir_word, iub_text,
 use Rattle.dch_indication.specs.Lines.{Line, Took, Full, Wrong, Bad, Reserved, NoBearer, Nobody, PduBad, Outside, Overlong, Got, GotBits, Iub, IubBad, Phy, PhyNone, BadTti, Differs}
 use Rattle.dch_script.specs.LineText.{text_of}
 use Rattle.dch_script.proofs.Adding.{text_of-append}
-use Rattle.dch_amlaw.specs.Bytes.{unit_bytes, units_bytes}
+use Rattle.dch_steptext.specs.ReceiverBytes.{unit_bytes, units_bytes}
 use Rattle.dch_layer2.specs.UnitLines.{line_if, unit_line, unit_lines}
 use Rattle.dch_steptext.specs.Limits.{AreAllLimited, AreLimited, IsLimited, HasFewWords}
 

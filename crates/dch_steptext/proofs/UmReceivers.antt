@@ -10,9 +10,9 @@ use Rattle.dch_rlcpdu.specs.Parts.{Content, begins_with, leading, parts_of, tota
 use Rattle.dch_rlcpdu.specs.Split.{body_reading}
 use Rattle.dch_rlcpdu.specs.Um.{um_reading, um_view}
 use Rattle.dch_rlcum.specs.Receiving.{Receiving, added, after_first, after_number, after_parts, after_pdu, dropped, ended, is_some}
-use Rattle.dch_amlaw.specs.Bytes.{part_bytes, units_bytes}
-use Rattle.dch_amlaw.proofs.Readings.{part_more}
-use Rattle.dch_amlaw.proofs.Units.{unit_paid, units_more}
+use Rattle.dch_steptext.specs.ReceiverBytes.{part_bytes, units_bytes}
+use Rattle.dch_steptext.proofs.PieceBytes.{part_more}
+use Rattle.dch_steptext.proofs.UnitBytes.{unit_paid, units_more}
 use Rattle.dch_amlaw.proofs.Views.{IsContent, content_read}
 
 -- what is told of the units that wait, and what can still come

@@ -3,7 +3,7 @@
 use Rattle.std.specs.Prelude.{ℕ, length}
 use Rattle.dch_types.specs.declared.config.Config.{Config}
 use Rattle.dch_types.specs.Sums.{total}
-use Rattle.dch_amlaw.specs.Bytes.{part_bytes, receiver_bytes}
+use Rattle.dch_steptext.specs.ReceiverBytes.{part_bytes, receiver_bytes}
 use Rattle.dch_layer2.specs.Bearings.{Bearing, Transparent, Unacknowledged, Acknowledged, rules_in}
 use Rattle.dch_layer2.specs.Layers.{Layer}
 
@@ -13,6 +13,6 @@ bearing_bytes config b (Transparent w us) = 0
 bearing_bytes config b (Unacknowledged s r) = part_bytes r.part
 bearing_bytes config b (Acknowledged s r) = receiver_bytes (rules_in config b).window r
 
--- of all bearers
+-- how many bytes of report the SDUs in progress and the kept PDUs of all bearers of an end may still take
 abbrev pub layer_bytes : Config → Layer → ℕ
 layer_bytes config layer = total (λ b. bearing_bytes config b (layer.bearings b)) (length config.bearers)

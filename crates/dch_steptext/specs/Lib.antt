@@ -1,3 +1,4 @@
 pub mod Bytes
+pub mod ReceiverBytes
 pub mod Limits
 pub mod Reports

@@ -1,10 +1,16 @@
-ghost use Rattle.std.specs.Prelude.{◌≡◌, ◌<◌, ◌≤◌, ◌+◌, ◌++◌, ◌*◌, ℕ, List, [], ◌∷◌, Bool, codes, length};
+ghost use Rattle.std.specs.Prelude.{◌≡◌, ◌<◌, ◌≤◌, ◌+◌, ◌++◌, ◌*◌, ℕ, List, [], ◌∷◌, Bool, Ok, codes, length};
 ghost use Rattle.dch_bits.specs.declared.bit.Bit.{Bit};
 ghost use Rattle.dch_types.specs.declared.channel.Dir.{Dir};
 ghost use Rattle.dch_types.specs.declared.config.Config.{Config};
 ghost use Rattle.dch_types.specs.Parts.{side_of};
 ghost use Rattle.dch_config.specs.Good.{IsGood};
 ghost use Rattle.dch_indication.specs.Lines.{Line};
+ghost use Rattle.dch_rlcpdu.specs.Am.{am_reading};
+ghost use Rattle.dch_rlcpdu.specs.declared.am.AmView.{AmView};
+ghost use Rattle.dch_am.specs.Entities.{pdu_of, receiver_by};
+ghost use Rattle.dch_am.specs.Receiver.{Receiver};
+ghost use Rattle.dch_am.specs.Rules.{Rules};
+ghost use Rattle.dch_amlaw.specs.Bounded.{IsBoundedReceiver};
 ghost use Rattle.dch_script.specs.LineText.{text_of, words_of};
 ghost use Rattle.dch_layer2.specs.BoundedBearers.{AreBounded};
 ghost use Rattle.dch_layer2.specs.FormatBlocks.{AreBlocks};
@@ -12,6 +18,7 @@ ghost use Rattle.dch_layer2.specs.Layers.{Came, Layer, blocks, offers, opened_la
 ghost use Rattle.dch_layer2.specs.Starting.{IsStart};
 ghost use Rattle.dch_steptext.specs.Bytes.{layer_bytes};
 ghost use Rattle.dch_steptext.specs.Limits.{AreLimited, HasFewWords};
+ghost use Rattle.dch_steptext.specs.ReceiverBytes.{Takes, receiver_bytes};
 
 /// A law: the text of lines is their texts, one after another.
 pub fn text_law()
@@ -27,6 +34,17 @@ pub fn few_law()
 /// A law: each of so many lines, which are short or on frames of a good configuration, has at most 300,000 bytes.
 pub fn limited_law()
     ensures { (count : ℕ) (lines : List Line) → AreLimited count lines → length (text_of lines) ≤ count * 300000 }
+{}
+
+/// A law: a PDU of at most 126 octets pays for the report on the SDUs that it ends out of what a receiver of the
+/// acknowledged mode held, and of 1,116 bytes. So at most 3,009 bytes of report, and 1,116 for each PDU of the window,
+/// can still come of it.
+pub fn receiver_law()
+    ensures takes { (rules : Rules) (r : Receiver) (octets : List ℕ) (view : AmView) → length octets ≤ 126 →
+        am_reading octets ≡ Ok view → IsBoundedReceiver rules.window r →
+        Takes rules.window r (receiver_by rules (pdu_of view) r) 1116 }
+    ensures most { (window : ℕ) (r : Receiver) → IsBoundedReceiver window r →
+        receiver_bytes window r ≤ 3009 + window * 1116 }
 {}
 
 /// A law: the report on blocks that come is paid out of what the bearers held, and of 5,200 bytes for each block. An offer is answered by

@@ -4,4 +4,4 @@
 
 mod laws;
 
-pub use laws::{few_law, held_law, limited_law, report_law, still_law, text_law};
+pub use laws::{few_law, held_law, limited_law, receiver_law, report_law, still_law, text_law};

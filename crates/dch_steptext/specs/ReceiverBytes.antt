@@ -1,6 +1,6 @@
 -- How many bytes of report can still come of what a receiver of the acknowledged mode holds: of the unit in progress, and of the PDUs that
 -- arrived behind a missing one (TS 25.322 11.3.3). A line on a unit has up to 13 bytes and two for each octet; one on an overlong unit has up to 17.
-use Rattle.std.specs.Prelude.{◌+◌, ◌*◌, ℕ, List, [], ◌∷◌, Bool, true, false, length, min, nat_lt, if◌then◌else◌}
+use Rattle.std.specs.Prelude.{◌≡◌, ◌≤◌, ◌++◌, ◌+◌, ◌*◌, ℕ, List, [], ◌∷◌, Bool, true, false, length, min, nat_lt, if◌then◌else◌}
 use Rattle.dch_types.specs.Sums.{total}
 use Rattle.dch_am.specs.Bodies.{Body}
 use Rattle.dch_am.specs.Receiver.{Receiver, body_of, vr_r}
@@ -36,6 +36,13 @@ body_bytes b = full_bytes b.full + pieces_bytes b.pieces + 9 * length b.rest
 abbrev pub run_bytes : List (ℕ × Body) → ℕ → ℕ → ℕ
 run_bytes arrived from n = total (λ i. body_bytes (body_of arrived (from + i))) n
 
--- of a receiver with this window
+-- how many bytes of report the SDU in progress and the kept PDUs of a receiver with this window may still take
 abbrev pub receiver_bytes : ℕ → Receiver → ℕ
 receiver_bytes window r = part_bytes r.reading.part + run_bytes r.arrived (vr_r r) window
+
+-- a receiver after an event: units that ended follow, and what is told of them and what can still come is no more than before and so
+-- many bytes
+pub record Takes (window : ℕ) (old new : Receiver) (bytes : ℕ) : Type 0 where
+  pub more : List (List ℕ)
+  pub units : new.reading.units ≡ old.reading.units ++ more
+  pub paid : units_bytes more + receiver_bytes window new ≤ receiver_bytes window old + bytes

@@ -2,7 +2,7 @@
 use Rattle.std.proofs.Common.{◌≡◌, ◌≤◌, ◌+◌, ◌*◌, ◌++◌, ℕ, List, [], ◌∷◌, Bool, true, false, cond, length, arith, refl}
 use Rattle.std.specs.Prelude.{nat_lt}
 use Rattle.std.proofs.lemmas.Bool.{ltb-true, ltb-false}
-use Rattle.dch_amlaw.specs.Bytes.{part_bytes, unit_bytes, units_bytes}
+use Rattle.dch_steptext.specs.ReceiverBytes.{part_bytes, unit_bytes, units_bytes}
 
 -- a unit that ends is told out of what its octets and its indicator bring
 pub unit_paid : (x : ℕ) (xs : List ℕ) → unit_bytes (x ∷ xs) ≤ part_bytes (x ∷ xs) + 6

@@ -8,10 +8,11 @@ use Rattle.std.proofs.lemmas.List.Elements.{All-head, All-tail}
 use Rattle.dch_types.specs.Sums.{total}
 use Rattle.dch_types.proofs.Sums.{total_none, total_same, total_small}
 use Rattle.dch_am.specs.Bodies.{Body}
+use Rattle.dch_am.specs.Entities.{one_if}
 use Rattle.dch_am.specs.Numbers.{top}
 use Rattle.dch_am.specs.Receiver.{body_of, numbers}
-use Rattle.dch_amlaw.specs.Bounded.{IsLight}
-use Rattle.dch_amlaw.specs.Bytes.{body_bytes, run_bytes}
+use Rattle.dch_amlaw.specs.Bounded.{IsLight, body_octets, pieces_octets}
+use Rattle.dch_steptext.specs.ReceiverBytes.{body_bytes, full_bytes, pieces_bytes, run_bytes}
 
 -- numbers of which one at most is another, and small
 one_changed : (w v : ℕ → ℕ) (at more n : ℕ) → ((i : ℕ) → (w i ≡ v i) ⊎ ((i ≡ at) × (w i ≤ more))) → total w n ≤ total v n + more
@@ -61,10 +62,24 @@ run_moves arrived from d window past =
     let same : d + window ≡ window + d = omega arith in
     omega (arith, run_split arrived from d window, run_split arrived from window d, run_above arrived (from + window) d past, ap (λ k. run_bytes arrived from k) same)
 
+-- each octet of a PDU brings at most nine bytes
+full_few : (full : Bool) → full_bytes full ≤ 9 * one_if full
+full_few true = omega arith
+full_few false = omega arith
+
+pieces_few : (ps : List (List ℕ)) → pieces_bytes ps ≤ 9 * pieces_octets ps
+pieces_few [] = omega arith
+pieces_few (p ∷ ps) = omega (arith, pieces_few ps)
+
+pub body_few : (body : Body) → body_bytes body ≤ 9 * body_octets body
+body_few body = omega (arith, full_few body.full, pieces_few body.pieces)
+
 -- light PDUs alone arrived
 light_at : (arrived : List (ℕ × Body)) (j : ℕ) → All IsLight arrived → body_bytes (body_of arrived j) ≤ 1116
 light_at [] j are = omega arith
-light_at (p ∷ ps) j are = cond_both {A = Body} (j == p.0) p.1 (body_of ps j) (λ body. body_bytes body ≤ 1116) (λ _. All-head IsLight p ps are) (λ _. light_at ps j (All-tail IsLight p ps are))
+light_at (p ∷ ps) j are =
+    let first : body_octets p.1 ≤ 124 = All-head IsLight p ps are in
+    cond_both {A = Body} (j == p.0) p.1 (body_of ps j) (λ body. body_bytes body ≤ 1116) (λ _. omega (arith, body_few p.1, first)) (λ _. light_at ps j (All-tail IsLight p ps are))
 
 pub run_light : (arrived : List (ℕ × Body)) (from n : ℕ) → All IsLight arrived → run_bytes arrived from n ≤ n * 1116
 run_light arrived from n are = total_small (λ i. body_bytes (body_of arrived (from + i))) n 1116 (λ i. light_at arrived (from + i) are)

@@ -6,8 +6,8 @@ use Rattle.std.proofs.lemmas.List.{append-nil}
 use Rattle.dch_types.specs.Sums.{total}
 use Rattle.dch_am.specs.Bodies.{Body, Reading, ended, read_body, read_full, read_pieces, read_rest}
 use Rattle.dch_am.specs.Receiver.{body_of, dead_pieces, read_one, read_run, read_trimmed}
-use Rattle.dch_amlaw.specs.Bytes.{body_bytes, full_bytes, part_bytes, pieces_bytes, run_bytes, units_bytes}
-use Rattle.dch_amlaw.proofs.Units.{unit_paid, units_more}
+use Rattle.dch_steptext.specs.ReceiverBytes.{body_bytes, full_bytes, part_bytes, pieces_bytes, run_bytes, units_bytes}
+use Rattle.dch_steptext.proofs.UnitBytes.{unit_paid, units_more}
 
 -- octets are added
 pub part_more : (part octets : List ℕ) → part_bytes (part ++ octets) ≤ part_bytes part + 9 * length octets
