@@ -31,3 +31,5 @@ pub mod KeptBearers
 pub mod BoundedBearings
 pub mod PduSizes
 pub mod BoundedLayers
+pub mod SameLayers
+pub mod OneStart

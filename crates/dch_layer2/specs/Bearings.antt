@@ -36,7 +36,8 @@ pub record Sends : Type 0 where
   pub accepted : List (List ℕ)
   pub cuts : List ℕ
 
--- of the transparent mode too the units that were accepted are history
+-- what RLC keeps of a bearer at one end, in its mode. Of the transparent mode too, the SDUs that were accepted are
+-- history
 pub data Bearing : Type 0 where
   Transparent : (waiting : Waiting) → (accepted : List (List Bit)) → Bearing
   Unacknowledged : (sends : Sends) → (receiving : Receiving) → Bearing
@@ -96,6 +97,7 @@ opened_mode config dir b Tm = Transparent (record { units = []; buffer = (bearer
 opened_mode config dir b Um = Unacknowledged (record { sending = record { units = no_units; row = []; number = 0; pdu = pdu_octets config dir b; buffer = (bearer_in config b).buffer; mark_start = marks_start dir }; accepted = []; cuts = [] }) opened
 opened_mode config dir b Am = Acknowledged opened_sender (opened_receiver (rules_in config b))
 
+-- what RLC keeps of a bearer at opening, where the end sends in a direction
 abbrev pub opened_bearing : Config → Dir → ℕ → Bearing
 opened_bearing config dir b = opened_mode config dir b (bearer_in config b).mode
 
@@ -116,13 +118,13 @@ with_unit Accepted unit units = units ++ unit ∷ []
 with_unit Full unit units = units
 with_unit WrongSize unit units = units
 
--- one unit more where it is accepted
+-- a bearer after an offer: one SDU more where it is accepted
 abbrev pub after_answer : Offer → List ℕ → List Bit → Bearing → Bearing
 after_answer o octets bits (Transparent w us) = Transparent (after_unit o bits w) (with_unit o bits us)
 after_answer o octets bits (Unacknowledged s r) = Unacknowledged (record { sending = after_waiting o octets s.sending; accepted = accepted o octets s.accepted; cuts = s.cuts }) r
 after_answer o octets bits (Acknowledged s r) = Acknowledged (after_offer o s octets) r
 
--- one tick of the timers
+-- a bearer after one tick of its timers
 abbrev pub ticked : Config → ℕ → Bearing → Bearing
 ticked config b (Transparent w us) = Transparent w us
 ticked config b (Unacknowledged s r) = Unacknowledged s r

@@ -53,7 +53,7 @@ pub record BuildsFirst (config : Config) (dir : Dir) (b : ℕ) (Rest : Bearing �
   pub later : Rest next rest
   pub all : blocks ≡ block ∷ rest
 
--- so many blocks one after another
+-- a bearer builds so many blocks one after another
 abbrev pub Gives : Config → Dir → ℕ → ℕ → Bearing → Bearing → List (List Bit) → Type 0
 Gives config dir b zero old new blocks = (new ≡ old) × (blocks ≡ [])
 Gives config dir b (suc n) old new blocks = BuildsFirst config dir b (λ next rest. Gives config dir b n next new rest) old blocks

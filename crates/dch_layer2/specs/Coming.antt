@@ -25,7 +25,7 @@ abbrev pub came_below : Held → ℕ → List Came
 came_below held zero = []
 came_below held (suc k) = came_below held k ++ came_at held k ∷ []
 
--- all of them
+-- all blocks of a TTI as they came, in order
 abbrev pub came_of : Held → List Came
 came_of held = came_below held (length held.good)
 

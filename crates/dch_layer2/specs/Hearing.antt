@@ -75,7 +75,7 @@ hears_am rules dir b view s r = record {
   lines = lines_by rules dir b view s r (new_units r (receiver_of rules view r));
 }
 
--- these are the bits of a PDU, which came for bearer b
+-- what the bits of a PDU that came for bearer b make of it, and the lines on it
 abbrev pub hears : Config → Dir → ℕ → List Bit → Bearing → Heard
 hears config dir b bits (Transparent w us) = record { bearing = Transparent w us; lines = GotBits dir b bits ∷ [] }
 hears config dir b bits (Unacknowledged s r) = hears_um dir b (um_reading (octets_of bits)) s r

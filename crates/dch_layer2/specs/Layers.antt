@@ -46,7 +46,7 @@ pub record Outcome : Type 0 where
   pub layer : Layer
   pub lines : List Line
 
--- a unit is offered
+-- layer 2 of an end after an SDU is offered to a bearer, and the line that answers it
 abbrev pub offers : Config → Dir → ℕ → List ℕ → List Bit → Layer → Outcome
 offers config out b octets bits layer = record {
   layer = with_bearing layer b (after_answer (answers config out b octets bits (layer.bearings b)) octets bits (layer.bearings b));
@@ -85,7 +85,7 @@ abbrev pub takes_one : Config → Dir → ℕ → ℕ → List Bit → Bool → 
 takes_one config into channel k bits true layer = takes_good config into channel bits layer
 takes_one config into channel k bits false layer = record { layer = layer; lines = Bad into channel k ∷ [] }
 
--- the blocks of a channel in order, of which the first is block k
+-- layer 2 of an end after blocks of a TTI of a channel came, and the lines on them
 abbrev pub takes : Config → Dir → ℕ → ℕ → List Came → Layer → Outcome
 takes config into channel k [] layer = record { layer = layer; lines = [] }
 takes config into channel k (came ∷ later) layer = record {

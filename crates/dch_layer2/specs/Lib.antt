@@ -22,3 +22,4 @@ pub mod Acknowledged
 pub mod BearerStanding
 pub mod FormatBlocks
 pub mod BoundedBearers
+pub mod SameLayers

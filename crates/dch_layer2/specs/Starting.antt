@@ -53,6 +53,8 @@ blocks_for asked built i = joined built (in_turn asked i 8)
 abbrev pub given_now : Asked → ℕ → (ℕ → List (List Bit)) → Layer → ℕ → Given
 given_now asked c built old i = if starts asked i then record { format = format_number asked.side c i; blocks = blocks_for asked built i } else old.given i
 
+-- TTIs start at a CFN: the best TFC is chosen, and each channel that starts is given its blocks by priority and then by
+-- bearer
 pub record IsStart (config : Config) (out : Dir) (cfn : ℕ) (old new : Layer) : Type 0 where
   pub best : IsBest (asked_in config out cfn old) new.running
   pub built : ℕ → List (List Bit)

@@ -6,6 +6,9 @@ pub mod Coursing
 pub mod Fits
 pub mod Following
 pub mod Nexts
+pub mod OneNodes
+pub mod OneReadings
+pub mod OneText
 pub mod Opened
 pub mod Reporting
 pub mod Sublists

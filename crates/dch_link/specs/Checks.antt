@@ -15,13 +15,13 @@ good_from held k (suc count) = if slice_index_or held.good k false then block_at
 abbrev pub good_blocks : Held → List (List Bit)
 good_blocks held = if held.size == 0 then [] else good_from held 0 (length held.good)
 
--- of what was read of a channel
+-- the good blocks with bits of what was read of a channel
 abbrev pub good_in : Reading → List (List Bit)
 good_in Nothing = []
 good_in (Read held) = good_blocks held
 good_in (Bad frame) = []
 
--- some of these, in their order
+-- blocks that are a subsequence of others
 abbrev pub IsSublist : List (List Bit) → List (List Bit) → Type 0
 IsSublist [] ys = Unit {0}
 IsSublist (x ∷ xs) [] = ⊥

@@ -16,6 +16,7 @@ pub mod Hearing
 pub mod Legs
 pub mod SoftPassing
 pub mod Rooms
+pub mod Same
 pub mod Soft
 pub mod SoftStages
 pub mod SoftStanding

@@ -5,6 +5,7 @@
 mod check;
 mod event;
 mod hearing;
+mod laws;
 mod leg;
 mod link;
 mod report;
@@ -17,6 +18,7 @@ pub use dch_nodeb::NodeB;
 pub use dch_rnc::Rnc;
 pub use dch_ue::Ue;
 pub use event::LinkEvent;
+pub use laws::one_text_law;
 pub use leg::Leg;
 pub use link::{CHECKS, Link};
 pub use soft::{COMBINED, Soft};

@@ -1,5 +1,6 @@
 pub mod Cfns
 pub mod Changing
+pub mod OneText
 pub mod Passing
 pub mod Ready
 pub mod RunLines

@@ -5,6 +5,7 @@ pub mod Reading
 pub mod Rules
 pub mod Run
 pub mod RunLines
+pub mod Same
 pub mod Standing
 pub mod Taking
 pub mod SoftCounting

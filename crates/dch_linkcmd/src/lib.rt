@@ -4,6 +4,7 @@
 
 mod filter;
 mod handler;
+mod laws;
 mod led;
 mod reading;
 mod soft_filter;
@@ -11,4 +12,5 @@ mod soft_handler;
 mod soft_reading;
 
 pub use handler::LinkHandler;
+pub use laws::one_text_law;
 pub use soft_handler::SoftHandler;

@@ -1,3 +1,4 @@
 pub mod IubFrames
 pub mod RxFrames
 pub mod Traces
+pub mod Outputs

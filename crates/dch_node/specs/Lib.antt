@@ -4,3 +4,4 @@ pub mod RxFrames
 pub mod Standing
 pub mod Traces
 pub mod Values
+pub mod Outputs

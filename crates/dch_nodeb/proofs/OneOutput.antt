@@ -5,18 +5,16 @@ use Rattle.dch_types.specs.Limits.{IsSide}
 use Rattle.dch_accept.specs.Plans.{IsPlanned, Planned}
 use Rattle.dch_tti.proofs.Alike.{KeepTheSame}
 use Rattle.dch_node.specs.Lines.{Line, joined}
-use Rattle.dch_node.specs.Traces.{Trace}
+use Rattle.dch_node.specs.Outputs.{IsSameOutput}
 use Rattle.dch_node.specs.Values.{Output, Radio}
+use Rattle.dch_node.proofs.Outputs.{HasOneOutput, equal_output}
 use Rattle.dch_node.proofs.RxFrames.{heard_same}
-use Rattle.dch_nodeb.specs.Same.{ArePlanned, IsSameOutput, IsSameState}
+use Rattle.dch_nodeb.specs.Same.{BringsPlanned, IsSameState}
 use Rattle.dch_nodeb.specs.State.{Change, DownlinkDue, Event, IubFrame, State, UplinkFrame}
 use Rattle.dch_nodeb.specs.Steps.{IsDeparture, IsReception, Steps, radio_line}
 use Rattle.dch_nodeb.proofs.OneRadio.{radio_one}
 use Rattle.dch_nodeb.proofs.OneTti.{delivers_alike, delivers_one}
 use Rattle.dch_nodeb.proofs.Same.{arrival_answer, step_same}
-
-pub same_output : (output : Output) → IsSameOutput output output
-same_output output = record { lines = refl; sent = refl; iub = λ s inside. refl }
 
 -- a downlink radio frame
 departure_same : (planned : Planned) (old new older newer : State) (output more : Output) → planned ≡ new.planned → IsSameState new newer → IsDeparture planned old new output → IsDeparture planned older newer more → IsSameOutput output more
@@ -55,33 +53,28 @@ reception_same planned old new older newer frame output more good cfn states a b
 pub step_output : (old new older newer : State) (event : Event) (output more : Output) → IsPlanned old.planned → IsSameState old older
     → Steps old event new output → Steps older event newer more → IsSameOutput output more
 step_output old new older newer (IubFrame set octets) output more planned same a b =
-    subst (λ (o : Output). IsSameOutput output o) (sym (arrival_answer old new older newer set octets output more same.planned a b)) (same_output output)
+    equal_output output more (arrival_answer old new older newer set octets output more same.planned a b)
 step_output old new older newer DownlinkDue output more planned same a b = departure_output old new older newer output more same a b
 step_output old new older newer (UplinkFrame frame) output more planned same a b =
     reception_same old.planned old new older newer frame output more planned.good.uplink.side same.cfn (step_same old new older newer (UplinkFrame frame) output more same a b) a
     (subst (λ (p : Planned). IsReception p older frame newer more) same.planned b)
 step_output old new older newer (Change other) output more planned same a b =
-    subst (λ (o : Output). IsSameOutput output o) (a.quiet ∙ sym b.quiet) (same_output output)
+    equal_output output more (b.quiet ∙ sym a.quiet)
 
--- the configuration that is active is an accepted one, as are all that become active later
+-- the configuration that is active is an accepted one
 planned_by : (old new : State) → new ≡ old → IsPlanned old.planned → IsPlanned new.planned
 planned_by old new same is = subst (λ (s : State). IsPlanned s.planned) (sym same) is
 
-step_planned : (old new : State) (event : Event) (events : List Event) (output : Output) → IsPlanned old.planned → ArePlanned (event ∷ events) → Steps old event new output → IsPlanned new.planned × ArePlanned events
-step_planned old new (IubFrame set octets) events output is are (inl kept) = (planned_by _ new kept.state is, are)
-step_planned old new (IubFrame set octets) events output is are (inr refused) = (planned_by _ new refused.state is, are)
-step_planned old new DownlinkDue events output is are step = (planned_by _ new step.state is, are)
-step_planned old new (UplinkFrame frame) events output is are step = (planned_by _ new step.state is, are)
-step_planned old new (Change planned) events output is are step = (planned_by _ new step.state are.0, are.1)
+step_planned : (old new : State) (event : Event) (output : Output) → IsPlanned old.planned → BringsPlanned event → Steps old event new output → IsPlanned new.planned
+step_planned old new (IubFrame set octets) output is brings (inl kept) = planned_by _ new kept.state is
+step_planned old new (IubFrame set octets) output is brings (inr refused) = planned_by _ new refused.state is
+step_planned old new DownlinkDue output is brings step = planned_by _ new step.state is
+step_planned old new (UplinkFrame frame) output is brings step = planned_by _ new step.state is
+step_planned old new (Change planned) output is brings step = planned_by _ new step.state brings
 
--- all steps have the same lines, and the last one the same output
-pub trace_output : (old older new newer : State) (before earlier last more : Output) (events : List Event) (lines rest : List Line) → IsPlanned old.planned → ArePlanned events → IsSameState old older → IsSameOutput before earlier
-    → Trace Steps old before events new last lines → Trace Steps older earlier events newer more rest → (rest ≡ lines) × IsSameOutput last more
-trace_output old older new newer before earlier last more [] lines rest planned are same outputs a b =
-    (b.2 ∙ sym a.2, subst (λ (o : Output). IsSameOutput o more) (sym a.1) (subst (λ (o : Output). IsSameOutput before o) (sym b.1) outputs))
-trace_output old older new newer before earlier last more (event ∷ events) lines rest planned are same outputs a b =
-    let now : IsSameOutput a.output b.output = step_output old a.next older b.next event a.output b.output planned same a.step b.step in
-    let next : IsPlanned a.next.planned × ArePlanned events = step_planned old a.next event events a.output planned are a.step in
-    let later = trace_output a.next b.next new newer a.output b.output last more events a.rest b.rest next.0 next.1
-    (step_same old a.next older b.next event a.output b.output same a.step b.step) now a.later b.later in
-    (b.reported ∙ ap₂ (λ (ls ms : List Line). ls ++ ms) now.lines later.0 ∙ sym a.reported, later.1)
+pub one_output : HasOneOutput Steps (λ state. IsPlanned state.planned) BringsPlanned IsSameState
+one_output = record {
+  keeps = step_planned;
+  states = λ old new older newer event output more planned same a b. step_same old new older newer event output more same a b;
+  outputs = step_output;
+}

@@ -1,9 +1,8 @@
--- Two states of a Node B that say the same, and two outputs.
-use Rattle.std.specs.Prelude.{◌≡◌, ◌<◌, ℕ, List, [], ◌∷◌, Option, Some, None, length}
+-- Two states of a Node B that say the same.
+use Rattle.std.specs.Prelude.{◌≡◌, ◌<◌, ℕ, Option, Some, None, length}
 use Rattle.dch_types.specs.declared.channel.Side.{Side}
 use Rattle.dch_accept.specs.Plans.{IsPlanned}
 use Rattle.dch_iub.specs.Shape.{ForSet}
-use Rattle.dch_node.specs.Values.{Output}
 use Rattle.dch_nodeb.specs.State.{Change, DownlinkDue, DownlinkIubFrame, Event, IubFrame, State, UplinkFrame}
 
 -- another frame is kept for the set, with the same CFN and the same blocks of each of its channels
@@ -27,16 +26,9 @@ pub record IsSameState (state other : State) : Type 0 where
   pub given : (i : ℕ) → i < length state.planned.config.downlink.side.channels → other.given i ≡ state.given i
   pub frames : (k : ℕ) → other.frames k ≡ state.frames k
 
--- the outputs have the same lines, the same radio frame, and the same Iub frame for each set
-pub record IsSameOutput (output other : Output) : Type 0 where
-  pub lines : other.lines ≡ output.lines
-  pub sent : other.sent ≡ output.sent
-  pub iub : (s : ℕ) → s < 8 → other.iub s ≡ output.iub s
-
--- each configuration that becomes active is one that can be accepted
-abbrev pub ArePlanned : List Event → Type 0
-ArePlanned [] = Unit {0}
-ArePlanned (IubFrame set octets ∷ events) = ArePlanned events
-ArePlanned (DownlinkDue ∷ events) = ArePlanned events
-ArePlanned (UplinkFrame frame ∷ events) = ArePlanned events
-ArePlanned (Change planned ∷ events) = IsPlanned planned × ArePlanned events
+-- a configuration that becomes active is one that can be accepted
+abbrev pub BringsPlanned : Event → Type 0
+BringsPlanned (IubFrame set octets) = Unit {0}
+BringsPlanned DownlinkDue = Unit {0}
+BringsPlanned (UplinkFrame frame) = Unit {0}
+BringsPlanned (Change planned) = IsPlanned planned

@@ -1,9 +1,11 @@
 ghost use Rattle.std.specs.Prelude.{◌≡◌, ℕ, List};
+ghost use Rattle.std.specs.List.{All};
 ghost use Rattle.dch_accept.specs.Plans.{IsPlanned, Planned};
 ghost use Rattle.dch_node.specs.Lines.{Line};
+ghost use Rattle.dch_node.specs.Outputs.{IsSameOutput};
 ghost use Rattle.dch_node.specs.Traces.{Reaches};
 ghost use Rattle.dch_node.specs.Values.{Output};
-ghost use Rattle.dch_nodeb.specs.Same.{ArePlanned, IsSameOutput, IsSameState};
+ghost use Rattle.dch_nodeb.specs.Same.{BringsPlanned, IsSameState};
 ghost use Rattle.dch_nodeb.specs.State.{DownlinkDue, Event, IubFrame, State, opened_state};
 ghost use Rattle.dch_nodeb.specs.Steps.{Steps};
 
@@ -26,7 +28,7 @@ pub fn one_output_law()
         IsSameState old older → Steps old DownlinkDue new output → Steps older DownlinkDue newer more → IsSameOutput output more }
     ensures step { (old new older newer : State) (event : Event) (output more : Output) → IsPlanned old.planned → IsSameState old older →
         Steps old event new output → Steps older event newer more → IsSameOutput output more }
-    ensures history { (planned : Planned) (first : ℕ) (events : List Event) (state other : State) (last more : Output) (lines rest : List Line) → IsPlanned planned → ArePlanned events →
+    ensures history { (planned : Planned) (first : ℕ) (events : List Event) (state other : State) (last more : Output) (lines rest : List Line) → IsPlanned planned → All BringsPlanned events →
         Reaches Steps (opened_state planned first) events state last lines →
         Reaches Steps (opened_state planned first) events other more rest → (rest ≡ lines) × IsSameOutput last more }
 {}

@@ -10,3 +10,4 @@ pub mod Opening
 pub mod Sending
 pub mod Staying
 pub mod Taking
+pub mod OneOutput

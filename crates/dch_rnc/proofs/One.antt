@@ -45,7 +45,7 @@ reads_below-same config readings others (suc n) layer same =
     ∙ ap (λ (o : Outcome). record { layer = o.layer; lines = (reads_below config Up readings n layer).lines ++ o.lines }) (same n (omega arith) (reads_below config Up readings n layer).layer)
 
 -- two readings of a frame
-frame_same : (planned : Planned) (set cfn qe other_cfn other_qe : ℕ) (held other : HeldSet) (layer : Layer) → IsReadBack Up planned.config.uplink.side set cfn other_cfn qe other_qe held other
+pub frame_same : (planned : Planned) (set cfn qe other_cfn other_qe : ℕ) (held other : HeldSet) (layer : Layer) → IsReadBack Up planned.config.uplink.side set cfn other_cfn qe other_qe held other
     → reads_below planned.config Up (set_readings planned.config.uplink.side set other) (length planned.config.uplink.side.channels) layer
     ≡ reads_below planned.config Up (set_readings planned.config.uplink.side set held) (length planned.config.uplink.side.channels) layer
 frame_same planned set cfn qe other_cfn other_qe held other layer back =

@@ -6,3 +6,4 @@ pub mod Standing
 pub mod State
 pub mod Steps
 pub mod Values
+pub mod Same

@@ -4,10 +4,14 @@ ghost use Rattle.dch_types.specs.declared.config.Config.{Config};
 ghost use Rattle.dch_iub.specs.Answers.{IsCause};
 ghost use Rattle.dch_iub.specs.declared.error.IubError.{IubError};
 ghost use Rattle.dch_node.specs.IubFrames.{refusal_number};
-ghost use Rattle.dch_node.specs.Lines.{IubBad};
+ghost use Rattle.dch_node.specs.Lines.{IubBad, Line};
+ghost use Rattle.dch_node.specs.Outputs.{IsSameOutput};
+ghost use Rattle.dch_node.specs.Traces.{Reaches};
 ghost use Rattle.dch_node.specs.Values.{Output, says};
+ghost use Rattle.dch_accept.specs.Plans.{Planned};
 ghost use Rattle.dch_layer2.specs.Layers.{Layer};
-ghost use Rattle.dch_rnc.specs.State.{IubFrame, State, no_readings};
+ghost use Rattle.dch_rnc.specs.Same.{IsSameState};
+ghost use Rattle.dch_rnc.specs.State.{Event, IubFrame, State, no_readings, opened_state};
 ghost use Rattle.dch_rnc.specs.Steps.{IsSent, Steps};
 
 /// A law: an Iub frame is taken in one way. What layer 2 becomes and what is reported follow from the frame, the configuration
@@ -23,4 +27,14 @@ pub fn one_arrival_law()
 pub fn one_frame_law()
     ensures { (config : Config) (cfn : ℕ) (layer other : Layer) (set : ℕ) (sent more : Option (List ℕ)) → ((i : ℕ) → i < length config.downlink.side.channels → other.given i ≡ layer.given i) →
         IsSent config cfn layer set sent → IsSent config cfn other set more → more ≡ sent }
+{}
+
+/// A law: a step of a network controller has one output. From states that say the same, an event leads to such states and gives the
+/// same lines and the same Iub frame for each set; and so the same events give the same lines since opening.
+pub fn one_output_law()
+    ensures step { (old new older newer : State) (event : Event) (output more : Output) → IsSameState old older →
+        Steps old event new output → Steps older event newer more → IsSameState new newer × IsSameOutput output more }
+    ensures history { (planned : Planned) (first : ℕ) (events : List Event) (state other : State) (last more : Output) (lines rest : List Line) →
+        Reaches Steps (opened_state planned first) events state last lines → Reaches Steps (opened_state planned first) events other more rest →
+        IsSameState state other × ((rest ≡ lines) × IsSameOutput last more) }
 {}

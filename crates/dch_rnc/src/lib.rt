@@ -10,5 +10,5 @@ mod sets;
 mod uplink;
 
 pub use event::RncEvent;
-pub use laws::{one_arrival_law, one_frame_law};
+pub use laws::{one_arrival_law, one_frame_law, one_output_law};
 pub use node::Rnc;

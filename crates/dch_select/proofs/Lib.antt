@@ -3,3 +3,4 @@ pub mod Lists
 pub mod Counting
 pub mod Order
 pub mod Idle
+pub mod One

@@ -14,7 +14,7 @@ use Rattle.dch_select.specs.Candidates.{IsCandidate}
 use Rattle.dch_select.specs.Choices.{IsChoice, IsBestBelow, IsBestOf}
 use Rattle.dch_select.specs.declared.best.Choice.{Choice}
 
-compared_total : (asked : Asked) → IsTotalOrder (compared asked)
+pub compared_total : (asked : Asked) → IsTotalOrder (compared asked)
 compared_total asked =
     then_total (on_total (carried asked) nat_list_cmp_total) (then_total (back_total (on_total (bits_of asked) nat_cmp_total)) (back_total nat_cmp_total))
 

@@ -13,3 +13,4 @@ pub mod Ticking
 pub mod OneFrame
 pub mod Opening
 pub mod Changing
+pub mod OneOutput

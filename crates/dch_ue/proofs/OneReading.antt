@@ -80,7 +80,7 @@ nothing_same : (reading other : Reading) → reading ≡ Nothing → other ≡ N
 nothing_same reading other a b = subst (λ (r : Reading). ReadsSame r other) (sym a) b
 
 -- the radio frames with that of the CFN among them
-frames_same : (old older : State) (k : ℕ) → older.cfn ≡ old.cfn → older.came ≡ old.came → older.frames k ≡ old.frames k → frames_now older k ≡ frames_now old k
+pub frames_same : (old older : State) (k : ℕ) → older.cfn ≡ old.cfn → older.came ≡ old.came → older.frames k ≡ old.frames k → frames_now older k ≡ frames_now old k
 frames_same old older k cfn came frames =
     ap (λ n. if k == n % 8 then older.came else older.frames k) cfn
     ∙ ap₂ (λ (c f : Option Radio). if k == old.cfn % 8 then c else f) came frames

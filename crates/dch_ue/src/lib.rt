@@ -9,5 +9,5 @@ mod receiver;
 mod transmitter;
 
 pub use event::UeEvent;
-pub use laws::{one_frame_law, one_reading_law};
+pub use laws::{one_frame_law, one_output_law, one_reading_law};
 pub use node::Ue;
