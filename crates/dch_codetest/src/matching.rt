@@ -3,7 +3,7 @@ ghost use Rattle.dch_types.specs.Limits.{IsUplink, IsDownlink};
 ghost use Rattle.dch_config.specs.Good.{IsGood};
 ghost use Rattle.dch_match.specs.Patterns.{IsWellFormed};
 
-use crate::texts::{packets_side, reference_side, speech_side, tiny_side};
+use crate::texts::{hundred_side, packets_side, reference_side, speech_side, tiny_side};
 use dch_bits::NoMemory;
 use dch_config::read;
 use dch_match::{Kind, Pattern, UplinkPlan, Walk, downlink, frame, keeps, kept, origin, uplink};
@@ -76,6 +76,24 @@ fn amounts(a: u32, b: u32, c: u32, d: u32, e: u32) -> [u32; 8] {
     amounts
 }
 
+/// Whether the TTI of each channel, in a format, has so many coded bits.
+fn are_coded(config: &Uplink, coded: &[(usize, u64)]) -> bool
+    requires { IsUplink config.now }
+{
+    let count = config.side.channels.len();
+    for i in 0..count {
+        let Some((format, wanted)) = coded.get(i).copied() else {
+            return false;
+        };
+        let channel = config.side.channel(i);
+        match channel.formats.as_slice().get(format) {
+            Some(format) if channel.tti_bits(format) == wanted => {}
+            _ => return false,
+        }
+    }
+    coded.len() == count
+}
+
 fn reference_uplink(config: &Uplink) -> bool
     requires { IsUplink config.now }
 {
@@ -88,7 +106,9 @@ fn speech_uplink(config: &Uplink) -> bool
 {
     let before = amounts(152, 167, 68, 129, 0);
     let sent = amounts(180, 187, 95, 138, 0);
-    are_amounts(config, 5, 600, before, sent) && are_starts(config, 3, 3, &[1, 127, 211, 43])
+    are_coded(config, &[(2, 303), (1, 333), (1, 136), (1, 516)])
+        && are_amounts(config, 5, 600, before, sent)
+        && are_starts(config, 3, 3, &[1, 127, 211, 43])
 }
 
 fn packets_uplink(config: &Uplink) -> bool
@@ -130,11 +150,11 @@ fn first_pattern(alloc: Global, config: &Downlink) -> Result<Option<Pattern>, No
     Ok(Some(plan.pattern(0, 1)))
 }
 
-/// Whether so many bits are kept, and of the first 14 these are removed.
-fn are_removed(pattern: &Pattern, left: u32, removed: &[u32]) -> bool
+/// Whether so many bits are kept, and of the first `count` these are removed.
+fn are_removed(pattern: &Pattern, left: u32, count: u32, removed: &[u32]) -> bool
     requires { IsWellFormed pattern.now }
 {
-    for bit in 0..14 {
+    for bit in 0..count {
         if bit >= pattern.len || (keeps(pattern, bit) == 0) != removed.contains(&bit) {
             return false;
         }
@@ -188,7 +208,22 @@ fn reference_downlink(alloc: Global, config: &Downlink) -> Result<bool, NoMemory
     let Some(pattern) = first_pattern(alloc, config)? else {
         return Ok(false);
     };
-    Ok(pattern.len == 804 && are_removed(&pattern, 804 - 118, &[0, 6, 13]) && is_walked(&pattern))
+    Ok(
+        pattern.len == 804
+            && are_removed(&pattern, 804 - 118, 14, &[0, 6, 13])
+            && is_walked(&pattern),
+    )
+}
+
+/// Of the 100 bits of the one channel each tenth is removed, from the first on.
+fn tenth_removed(alloc: Global, config: &Downlink) -> Result<bool, NoMemory>
+    requires { IsDownlink config.now }
+{
+    let Some(pattern) = first_pattern(alloc, config)? else {
+        return Ok(false);
+    };
+    let removed = [0, 10, 20, 30, 40, 50, 60, 70, 80, 90];
+    Ok(pattern.len == 100 && are_removed(&pattern, 90, 100, &removed))
 }
 
 fn speech_downlink(alloc: Global, config: &Downlink) -> Result<bool, NoMemory>
@@ -246,6 +281,7 @@ enum Sample {
     FlexiblePackets,
     ThreeCodes,
     OneCode,
+    Hundred,
 }
 
 /// In the uplink of three codes nothing is to be sent. The uplink at flexible positions is that at fixed ones.
@@ -272,6 +308,7 @@ fn downlink_is_right(alloc: Global, sample: Sample, config: &Downlink) -> Result
         Sample::FlexiblePackets => lowered_packets(alloc, config),
         Sample::ThreeCodes => are_repeated(alloc, config, 3),
         Sample::OneCode => are_repeated(alloc, config, 1),
+        Sample::Hundred => tenth_removed(alloc, config),
     }
 }
 
@@ -285,6 +322,7 @@ fn parts(sample: Sample) -> (u16, &'static str, u16, u8, &'static str) {
         Sample::FlexiblePackets => (9600, packets_side(), 608, 1, "flexible"),
         Sample::ThreeCodes => (150, tiny_side(), 10, 3, "fixed"),
         Sample::OneCode => (150, tiny_side(), 10, 1, "flexible"),
+        Sample::Hundred => (150, hundred_side(), 6, 1, "fixed"),
     }
 }
 
@@ -329,6 +367,7 @@ fn amounts_and_patterns(rt: HostRuntime) {
         Sample::FlexiblePackets,
         Sample::ThreeCodes,
         Sample::OneCode,
+        Sample::Hundred,
     ] {
         assert!(rt; is_sample_right(rt.alloc(), sample));
     }

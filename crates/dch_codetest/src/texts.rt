@@ -7,6 +7,13 @@ channel = [{ tti = 10, code = \"none\", crc = 0, rm = 256, set = 0, formats = [[
 "
 }
 
+/// The same, with a block of 100 bits.
+pub fn hundred_side() -> &'static str {
+    "combinations = [[0],[1]]
+channel = [{ tti = 10, code = \"none\", crc = 0, rm = 256, set = 0, formats = [[0,0],[1,100]] }]
+"
+}
+
 /// Speech in three classes, and signalling on a channel of its own.
 pub fn speech_side() -> &'static str {
     "combinations = [[0,0,0,0],[1,0,0,0],[2,1,1,0],[0,0,0,1],[1,0,0,1],[2,1,1,1]]

@@ -16,15 +16,15 @@ enum Step {
     Send(u8),
     /// So many PDUs are built.
     BuildMany(u8),
-    /// A PDU is built that begins with these octets; zeros where none is available.
-    Build([u8; 4]),
+    /// A PDU is built of these octets, so many octets of 7, and zeros; of zeros where none is available.
+    Build([u8; 4], u8),
     /// A status arrives.
     Hear([u8; 6], StatusTaken),
     /// So many ticks.
     Wait(u8),
     /// So many units have been discarded.
     Discarded(u64),
-    /// What is due to be told begins with these octets; zeros where nothing is due.
+    /// What is due to be told has these octets, and zeros behind them; zeros alone where nothing is due.
     Tell([u8; 4]),
 }
 
@@ -56,6 +56,16 @@ fn next(sender: &mut AmSend) -> [u8; 18]
         sender.build(&mut out);
     }
     out
+}
+
+// These octets, so many of 7, and zeros.
+fn padded(front: [u8; 4], sevens: u8) -> [u8; 18] {
+    let mut pdu = [0; 18];
+    pdu[..4].copy_from_slice(&front);
+    for octet in pdu[4..].iter_mut().take(sevens as usize) {
+        *octet = 7;
+    }
+    pdu
 }
 
 // The MRW that is due, zeros where none is.
@@ -133,14 +143,14 @@ fn goes(sender: &mut AmSend, step: Step) -> bool
             build_many(sender, pdus);
             true
         }
-        Step::Build(front) => next(sender).starts_with(&front),
+        Step::Build(front, sevens) => next(sender) == padded(front, sevens),
         Step::Hear(status, taken) => hear(sender, &status) == Some(taken),
         Step::Wait(ticks) => {
             wait(sender, ticks);
             true
         }
         Step::Discarded(units) => sender.discarded() == units,
-        Step::Tell(front) => next_mrw(sender).starts_with(&front),
+        Step::Tell(front) => next_mrw(sender) == padded(front, 0),
     }
 }
 
@@ -170,12 +180,11 @@ fn run(alloc: Global, buffer: u16, rules: AmRules, steps: &[Step]) -> bool
     }
 }
 
-fn padding_and_its_discard() -> [Step; 12] {
+fn padding_and_its_discard() -> [Step; 11] {
     [
         Step::Offer(0, Offer::WrongSize),
-        Step::Offer(1501, Offer::WrongSize),
         Step::Offer(10, Offer::Accepted),
-        Step::Build([0x80, 0x05, 0x15, 0xfe]),
+        Step::Build([0x80, 0x05, 0x15, 0xfe], 10),
         Step::Wait(4),
         Step::Discarded(0),
         Step::Wait(1),
@@ -190,15 +199,23 @@ fn padding_and_its_discard() -> [Step; 12] {
 fn just_full_and_its_discard() -> [Step; 5] {
     [
         Step::Offer(16, Offer::Accepted),
-        Step::Build([0x80, 0x00, 7, 7]),
-        Step::Build([0x80, 0x0d, 0x01, 0xfe]),
+        Step::Build([0x80, 0x00, 7, 7], 14),
+        Step::Build([0x80, 0x0d, 0x01, 0xfe], 0),
         Step::Wait(5),
         Step::Tell([0x06, 0x10, 0x01, 0x00]),
     ]
 }
 
+fn longest() -> [Step; 2] {
+    [
+        Step::Offer(1501, Offer::WrongSize),
+        Step::Offer(1500, Offer::Accepted),
+    ]
+}
+
 #[test]
 fn units_and_their_discard(rt: HostRuntime) {
+    assert!(rt; run(rt.alloc(), 64, rules(), &longest()));
     assert!(rt; run(rt.alloc(), 64, rules(), &padding_and_its_discard()));
     assert!(rt; run(rt.alloc(), 64, rules(), &just_full_and_its_discard()));
 }
@@ -213,9 +230,9 @@ fn statuses() -> [Step; 7] {
             StatusTaken::Outside(4),
         ),
         Step::Hear([0x03, 0x10, 0x01, 0x12, 0x00, 0x40], StatusTaken::Taken),
-        Step::Build([0x80, 0x09, 0x1e, 7]),
-        Step::Build([0x80, 0x15, 0x1e, 7]),
-        Step::Build([0; 4]),
+        Step::Build([0x80, 0x09, 0x1e, 7], 14),
+        Step::Build([0x80, 0x15, 0x1e, 7], 14),
+        Step::Build([0; 4], 0),
     ]
 }
 
@@ -224,11 +241,11 @@ fn owed_poll() -> [Step; 7] {
     [
         Step::Send(4),
         Step::Hear([0x03, 0x10, 0x00, 0x02, 0x00, 0x40], StatusTaken::Taken),
-        Step::Build([0x80, 0x05, 0x1e, 7]),
-        Step::Build([0; 4]),
+        Step::Build([0x80, 0x05, 0x1e, 7], 14),
+        Step::Build([0; 4], 0),
         Step::Wait(2),
-        Step::Build([0x80, 0x1d, 0x1e, 7]),
-        Step::Build([0; 4]),
+        Step::Build([0x80, 0x1d, 0x1e, 7], 14),
+        Step::Build([0; 4], 0),
     ]
 }
 
@@ -268,10 +285,10 @@ fn polls(alloc: Global, pdus: u16, units: u16, window: u8, second: u8, third: u8
         Step::Offer(15, Offer::Accepted),
         Step::Offer(15, Offer::Accepted),
         Step::Offer(15, Offer::Accepted),
-        Step::Build([0x80, 0x01, 0x1e, 7]),
-        Step::Build([0x80, second, 0x1e, 7]),
-        Step::Build([0x80, third, 0x1e, 7]),
-        Step::Build([0x80, 0x1d, 0x1e, 7]),
+        Step::Build([0x80, 0x01, 0x1e, 7], 14),
+        Step::Build([0x80, second, 0x1e, 7], 14),
+        Step::Build([0x80, third, 0x1e, 7], 14),
+        Step::Build([0x80, 0x1d, 0x1e, 7], 14),
     ];
     run(alloc, 64, rules, &steps)
 }
