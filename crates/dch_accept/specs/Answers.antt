@@ -80,7 +80,8 @@ pub record IsCollision (config : Config) (dir : Dir) (i f r : ℕ) (sequence : L
   pub few : count_of config ≤ 2048
   pub is : IsFirstCollision config dir i f r sequence first second
 
--- the cause of each refusal
+-- the cause of each refusal of a configuration: the tests before it are passed, and its own is not. Want of memory
+-- needs no cause
 abbrev pub IsCause : Config → Refusal → Type 0
 IsCause config NoMemory = Unit {0}
 IsCause config (NoRate c) = IsFirstWithoutRate config.uplink c
@@ -111,7 +112,7 @@ pub record IsAccepted (config : Config) (accepted : Planned) : Type 0 where
   pub few : count_of config ≤ 2048
   pub clear : IsClear config
 
--- the answer for a configuration
+-- the answer for a configuration: accepted with its plans, or refused for its cause
 abbrev pub Accepts : Config → Result Planned Refusal → Type 0
 Accepts config (Ok accepted) = IsAccepted config accepted
 Accepts config (Err refusal) = IsCause config refusal

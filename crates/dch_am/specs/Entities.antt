@@ -17,7 +17,8 @@ use Rattle.dch_am.specs.Short.{IsShort}
 use Rattle.dch_am.specs.Telling.{after_telling, is_due, tells_now, tick_receiver}
 use Rattle.dch_am.specs.Texts.{IsMrw, IsReport, next_pdu}
 
--- its two sides, and how many units of those that its receiver has read were handed up
+-- an entity of the acknowledged mode: its two sides, and how many SDUs of those that its receiver has read were
+-- delivered
 pub record Entity : Type 0 where
   pub sender : Sender
   pub receiver : Receiver
@@ -140,5 +141,6 @@ abbrev pub steps : Rules → ℕ → Entity → List Event → Entity
 steps rules size e [] = e
 steps rules size e (event ∷ events) = steps rules size (step rules size e event) events
 
+-- the entity after all events since opening
 abbrev pub entity_after : Rules → ℕ → List Event → Entity
 entity_after rules size events = steps rules size (opened_entity rules) events

@@ -29,7 +29,7 @@ opened_side rules = record { receiver = opened_receiver rules; handed = 0 }
 abbrev pub with_receiver : ReceivingSide → Receiver → ReceivingSide
 with_receiver side r = record { receiver = r; handed = side.handed }
 
--- after an event
+-- a receiver after an event, with how many of its SDUs were delivered
 abbrev pub receiver_step : Rules → ReceivingSide → ReceiverEvent → ReceivingSide
 receiver_step rules side (Arrive sn poll body) =
     with_receiver side (after_pdu rules (taken rules side.receiver sn) side.receiver sn poll body)
@@ -47,5 +47,6 @@ abbrev pub receiver_steps : Rules → ReceivingSide → List ReceiverEvent → R
 receiver_steps rules side [] = side
 receiver_steps rules side (event ∷ events) = receiver_steps rules (receiver_step rules side event) events
 
+-- the receiver after all events since opening, with how many of its SDUs were delivered
 abbrev pub receiver_after : Rules → List ReceiverEvent → ReceivingSide
 receiver_after rules events = receiver_steps rules (opened_side rules) events

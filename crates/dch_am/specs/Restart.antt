@@ -29,7 +29,7 @@ whole_of part q = if q.owed || is_empty part then q.units else drop 1 q.units
 abbrev pub fresh_sender : List (List ℕ) → List ℕ → ℕ → ℕ → Sender
 fresh_sender units at ticks before = record { accepted = units; unsent = record { owed = false; units = units }; bodies = []; cuts = []; acked = []; requested = []; builds = 0; poll_timer = 0; polled = None; owed = false; ticks = ticks; accepted_at = at; sendings = []; discard = None; dropped = 0; discarded_units = []; discarded_before = before }
 
--- it begins anew with the units of which nothing was built. Their ages go on
+-- a sender begins anew with the SDUs of which no octet was built. Their ages go on
 abbrev pub restarted_sender : Sender → Sender
 restarted_sender s = fresh_sender (drop (begun s) s.accepted) (drop (begun s) s.accepted_at) s.ticks (discarded s)
 

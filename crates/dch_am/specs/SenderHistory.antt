@@ -31,5 +31,6 @@ abbrev pub sender_steps : Rules → ℕ → Sender → List SenderEvent → Send
 sender_steps rules d s [] = s
 sender_steps rules d s (event ∷ events) = sender_steps rules d (sender_step rules d s event) events
 
+-- the sender after all events since opening
 abbrev pub sender_after : Rules → ℕ → List SenderEvent → Sender
 sender_after rules d events = sender_steps rules d opened_sender events

@@ -4,6 +4,6 @@ use Rattle.dch_am.specs.Rules.{Rules}
 use Rattle.dch_am.specs.SenderHistory.{SenderEvent, sender_after}
 use Rattle.dch_amsend.specs.Standing.{Sending, Stands, room_in}
 
--- it stands for the sender at which these events happened
+-- a sending side that runs stands for the sender at which these events happened since opening
 abbrev pub IsSenderOf : Rules → List SenderEvent → Sending → Type 0
 IsSenderOf rules events v = Stands rules v (sender_after rules (room_in v) events)

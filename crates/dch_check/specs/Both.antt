@@ -56,7 +56,7 @@ pub record AreAcceptedAs (text : List ℕ) (accepted : Configurations) : Type 0 
   pub first : IsAcceptedAs (first_of text) accepted.first
   pub second : IsSecond text accepted.first accepted.second
 
--- they are accepted, and these are the lines that say so
+-- both configurations of a text are accepted, where it has two, and these are the lines that say so
 pub record AreAccepted (text lines : List ℕ) : Type 0 where
   pub configurations : Configurations
   pub accepted : AreAcceptedAs text configurations
@@ -96,7 +96,7 @@ pub record IsRefusedBehind (text line : List ℕ) : Type 0 where
 abbrev pub RefusesBoth : List ℕ → List ℕ → Type 0
 RefusesBoth text line = Refuses (first_of text) line ⊎ IsRefusedBehind text line
 
--- the judgement of a text
+-- the judgement of a text that may have a second configuration: what is accepted, or the line that refuses it
 abbrev pub JudgesBoth : List ℕ → Judgement → Type 0
 JudgesBoth text (Accepted accepted) = AreAcceptedAs text accepted
 JudgesBoth text (Refused line) = RefusesBoth text (string_bytes line)

@@ -57,6 +57,6 @@ in_channel side number i = total (number i) (length (channel_at side i).formats)
 abbrev pub over_formats : Side → (ℕ → ℕ → ℕ) → ℕ
 over_formats side number = total (in_channel side number) (length side.channels)
 
--- the sum over both directions
+-- how many code blocks may be punctured, each as often as there are legal sequences: the sum over both directions
 abbrev pub search_count : Uplink → Downlink → ℕ
 search_count uplink downlink = over_formats uplink.side (uplink_count uplink) + over_formats downlink.side (downlink_count downlink)

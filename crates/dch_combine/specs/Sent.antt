@@ -14,7 +14,7 @@ pub record IsSentBlock (sent : Held) (b : ℕ) (held : Held) : Type 0 where
 abbrev pub AreSent : (ℕ → Option LegFrame) → ℕ → Held → Type 0
 AreSent legs i sent = (k b : ℕ) → IsGoodBlock (blocks_in (legs k) i) b → IsSentBlock sent b (blocks_in (legs k) i)
 
--- all blocks that were sent are good
+-- the blocks that a leg has of a channel are in the transport format of those that were sent, and each of them is good
 pub record HasAll (sent held : Held) : Type 0 where
   pub format : held.format ≡ sent.format
   pub good : (b : ℕ) → b < length sent.good → IsGoodBlock held b

@@ -51,5 +51,6 @@ limit_refusals config =
     ∷ first_bearer_refusal config
     ∷ first_bits_refusal config.uplink.side config.downlink.side ∷ []
 
+-- the first limit that a configuration breaks, in the order in which they are looked at
 unfoldable pub limit_refusal : Config → Option ConfigError
 limit_refusal config = first_refusal (limit_refusals config)

@@ -10,7 +10,7 @@ use Rattle.dch_gen.specs.Bearers.{gen_bearers}
 unfoldable pub gen_side : Side
 gen_side = record { channels = gen_channels; combinations = gen_combinations 36 }
 
--- the configuration
+-- the configuration of `gen`
 unfoldable pub gen_config : Config
 gen_config = record {
   uplink = record { side = gen_side; largest = 9600; pl = 100 };

@@ -40,7 +40,7 @@ pub record PassesAll (old new : LinkState) (lines : List Line) : Type 0 where
 abbrev pub PassesFrame : ℕ → ℕ → LinkState → LinkState → List Line → Type 0
 PassesFrame n f old new lines = Follows (HappenAll (offered n f)) PassesAll old new lines
 
--- the first frames of n
+-- the first so many radio frames of a run of n pass, each with the SDUs before it
 abbrev pub PassFrames : ℕ → ℕ → LinkState → LinkState → List Line → Type 0
 PassFrames n zero old new lines = (new ≡ old) × (lines ≡ [])
 PassFrames n (suc f) old new lines = Follows (PassFrames n f) (PassesFrame n f) old new lines

@@ -22,7 +22,7 @@ octet_at f dir b j = (7 * f + 31 * b + 101 * number_of dir + 13 * j) % 256
 abbrev pub bit_of : ℕ → Bit
 bit_of n = if n / 3 % 2 == 0 then Zero else One
 
--- and bit j
+-- bit j of an SDU of a transparent bearer of `gen`
 abbrev pub bit_at : ℕ → Dir → ℕ → ℕ → Bit
 bit_at f dir b j = bit_of (3 * f + 5 * b + number_of dir + j)
 

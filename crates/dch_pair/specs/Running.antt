@@ -74,7 +74,7 @@ pub record IsRecord (r : Record) (e : End) : Type 0 where
   pub discarded : r.discarded ≡ capped (discarded e.entity.sender)
   pub units : r.units ≡ e.entity.receiver.reading.units
 
--- that is the outcome of a pair
+-- what two ends that run have done with SDUs is what a pair of the definitions has done
 pub record IsOutcome (o : Outcome) (p : Pair) : Type 0 where
   pub first : IsRecord o.first p.near
   pub second : IsRecord o.second p.far

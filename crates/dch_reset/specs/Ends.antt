@@ -214,7 +214,7 @@ abbrev pub happens : Rules → ResetPair → At → ResetPair
 happens rules p (Near e) = happens_near rules p e
 happens rules p (Far e) = turned (happens_near rules (turned p) e)
 
--- a whole history
+-- two ends that can be reset after a whole history, with what is in flight between them
 abbrev pub after : Rules → ResetPair → List At → ResetPair
 after rules p [] = p
 after rules p (e ∷ es) = after rules (happens rules p e) es

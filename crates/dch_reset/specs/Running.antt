@@ -68,7 +68,8 @@ pub record IsRecord (r : Record) (e : ResetEnd) : Type 0 where
   pub restarts : r.restarts ≡ capped e.restarts
   pub units : r.units ≡ handed e
 
--- that is the outcome of a pair
+-- what two ends that run and can be reset have done with SDUs, and how often each restarted, is what a pair of the
+-- definitions has done
 pub record IsOutcome (o : Outcome) (p : ResetPair) : Type 0 where
   pub first : IsRecord o.first p.near
   pub second : IsRecord o.second p.far

@@ -7,6 +7,8 @@ use Rattle.dch_am.specs.Rules.{Rules}
 use Rattle.dch_rlcpdu.specs.AmControl.{reset_text}
 use Rattle.dch_reset.specs.Ends.{Pending, hfni_of, is_asked, is_heard, rsn_of, ticked}
 
+-- an end that can be reset: its entity since the last restart, a reset that is pending, the RSN of the next one and of
+-- the last RESET that came, whether it owes a RESET ACK, and how often it restarted
 pub record State : Type 0 where
   pub entity : Entity  -- since the last restart
   pub pending : Option Pending

@@ -22,7 +22,7 @@ lists_text (ps ∷ rest) = list_text ps ++ lists_text rest
 abbrev pub ack_text : ℕ → List ℕ
 ack_text lsn = 2 ∷ digits lsn
 
--- LISTs of these pairs, and ACK
+-- the octets of a status: LISTs of these pairs, and an ACK
 abbrev pub status_text : List (ℕ × ℕ) → ℕ → List ℕ
 status_text pairs lsn = lists_text (fifteens (length pairs) pairs) ++ ack_text lsn
 

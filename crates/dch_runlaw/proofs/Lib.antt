@@ -123,3 +123,4 @@ pub mod Readers
 pub mod ToldApart
 pub mod UplinkCopies
 pub mod UplinkSent
+pub use Rattle.dch_amlaw.proofs.Short as AmlawShort

@@ -47,7 +47,7 @@ abbrev pub calls_at : (config : Config) (out into : Dir) (b : ℕ) (old : World)
 calls_at config out into b old (Near doings) new happens = map NearCall (calls_in_all config out into b old doings new happens)
 calls_at config out into b old (Far doings) new happens = map FarCall (calls_in_all config into out b (turned old) doings (turned new) happens)
 
--- in a run of both
+-- the calls that the two ends of bearer b get in a run of two layers 2, in order
 abbrev pub run_calls : (config : Config) (out into : Dir) (b : ℕ) (Holds : World → Type 0) (old : World) (events : List OneEvent) (new : World) → Runs config out into Holds old events new → List At
 run_calls config out into b Holds old [] new run = []
 run_calls config out into b Holds old (event ∷ events) new run = calls_at config out into b old event run.next run.first ++ run_calls config out into b Holds run.next events new run.later

@@ -20,7 +20,7 @@ abbrev pub EventClear : (old : LinkState) → (event : Event) → (new : LinkSta
 EventClear old (Between event) new lines step = Unit {0}
 EventClear old Frame new lines step = FrameClear old new lines step.frame
 
--- and in each radio frame of a run
+-- in each radio frame of a run no damage has an effect: what each node sends arrives as it was sent
 abbrev pub IsClear : (events : List Event) → (old new : LinkState) → (lines : List Line) → Runs old events new lines → Type 0
 IsClear [] old new lines run = Unit {0}
 IsClear (event ∷ events) old new lines run = EventClear old event run.next run.own run.step × IsClear events run.next new run.rest run.later

@@ -106,7 +106,8 @@ pub record WasDamagedUp (planned : Planned) (reader : RxFrames) (i f : ℕ) (blo
   pub combinations : AreSameCombinations planned.config.uplink.side i sent reader
   pub few : AreFewChanged planned.config.uplink.side i f (uplink_copies planned.config.uplink i f was.sequence) (uplink_changes planned i was.sequence sent reader (padded_in planned.config.uplink.side i f))
 
--- and in the downlink, where these radio frames were kept as they were written
+-- a downlink TTI that was sent, and whose radio frames were kept in the TFCs in which they were written, with few
+-- channel bits changed
 pub record WasDamagedDown (planned : Planned) (reader : RxFrames) (i f : ℕ) (blocks : List Bit) : Type 0 where
   pub sent : RxFrames
   pub was : WasSentDown planned sent i f blocks

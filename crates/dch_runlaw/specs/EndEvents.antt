@@ -41,7 +41,7 @@ abbrev pub in_step : (event : Event) → (old new : LinkState) → (lines : List
 in_step (Between event) old new lines step = between event
 in_step Frame old new lines step = until_set old new lines step.frame 8
 
--- in a run
+-- the events at the terminal and the network controller in a run of three nodes, in order
 abbrev pub end_events : (events : List Event) → (old new : LinkState) → (lines : List Line) → Runs old events new lines → List NodesEvent
 end_events [] old new lines run = []
 end_events (event ∷ events) old new lines run = in_step event old run.next run.own run.step ++ end_events events run.next new run.rest run.later

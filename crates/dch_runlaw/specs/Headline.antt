@@ -73,7 +73,8 @@ pub record CarriesAlone (planned : Planned) (first : ℕ) (quiet : Bool) (events
   pub shows : text ≡ shown quiet (text_of reported)
   pub carries : CarriesFirst planned first events link reported run text
 
--- or through one of two parts, where a second configuration becomes active just before a radio frame, and the text is that of both parts
+-- events lead three nodes through a run of two parts, and the text is that of both: the second configuration becomes
+-- active just before a radio frame
 pub record CarriesBoth (planned : Planned) (later : Later) (first : ℕ) (quiet : Bool) (events : List Event) (text : List ℕ) : Type 0 where
   pub before : List Event
   pub after : List Event
@@ -98,7 +99,8 @@ abbrev pub MayCarryBoth : Planned → Option Later → ℕ → Bool → List Eve
 MayCarryBoth planned None first quiet events text = CarriesAlone planned first quiet events text
 MayCarryBoth planned (Some later) first quiet events text = ((frames_in events ≤ later.frame) × CarriesAlone planned first quiet events text) ⊎ CarriesBoth planned later first quiet events text
 
--- the lines of a script, each read in the configuration that is active before it, say events that do so
+-- each line of a script is read in the configuration that is active before it; the lines say events that lead three
+-- nodes through a run of one part or of two, and the run carries the SDUs of the bearers
 pub record Carries (planned : Planned) (second : Option Later) (first : ℕ) (quiet : Bool) (script : List (List ℕ)) (text : List ℕ) : Type 0 where
   pub events : List Event
   pub said : AreSaid (active_behind planned.config (coming second)) 0 script events

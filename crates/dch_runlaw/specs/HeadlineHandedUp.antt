@@ -13,22 +13,23 @@ use Rattle.dch_runlaw.specs.UmHistory.{ArriveAs, got_lines, sent_by}
 use Rattle.dch_runlaw.specs.Nodes.{Event}
 use Rattle.dch_runlaw.specs.HonestBearers.{HasHistory, HasHistoryOver, HasKnownDown, HasKnownDownOver, HasKnownUp, HasKnownUpOver, HasSomeDown, HasSomeDownOver, HasSomeUp, HasSomeUpOver}
 
--- those of an acknowledged bearer: the calls of its two ends are a history of two ends with blocks in flight, in order,
--- some of which are lost, and the rows are those of the units that the history hands up. They are the accepted units, in
--- order, each once and whole, as far as they came without a gap, but for those that were discarded
+-- the lines `got` of an acknowledged bearer: the calls of its two ends are a history with blocks in flight, in order,
+-- some of which are lost, and the lines are those of the SDUs that the history delivers. These are the accepted SDUs,
+-- in order, each once and whole, as far as they came without a gap, but for those that were discarded
 pub record HandsUp (planned : Planned) (first b : ℕ) (happened : List Event) (link : LinkState) (text : List ℕ) : Type 0 where
   pub units : HasHistory planned first b happened link
   pub up : got_rows Up b (rows text) ≡ rows_of (got_lines Up b (pair_after planned.config Up Down b units.history.events).far.entity.receiver.reading.units)
   pub down : got_rows Down b (rows text) ≡ rows_of (got_lines Down b (pair_after planned.config Up Down b units.history.events).near.entity.receiver.reading.units)
 
--- over two parts of a run the history goes on behind the first one, and what was in flight at the change is lost
+-- the same of an acknowledged bearer over two parts of a run, whose history goes on over the change, where what is in
+-- flight is lost
 pub record HandsUpOver (planned second : Planned) (first b : ℕ) (earlier later : List Event) (last link : LinkState) (text : List ℕ) : Type 0 where
   pub units : HasHistoryOver planned second first b earlier later last link
   pub up : got_rows Up b (rows text) ≡ rows_of (got_lines Up b (pair_after second.config Up Down b (events_over second.config Up Down b units.history.before.events units.history.later)).far.entity.receiver.reading.units)
   pub down : got_rows Down b (rows text) ≡ rows_of (got_lines Down b (pair_after second.config Up Down b (events_over second.config Up Down b units.history.before.events units.history.later)).near.entity.receiver.reading.units)
 
--- those of an unacknowledged bearer, whichever of its PDUs those are that came, where fewer than 128 successive ones were lost before each of them:
--- the units of which all came, in order
+-- the lines `got` of an unacknowledged bearer, where fewer than 128 successive PDUs were lost before each that came:
+-- the SDUs of which all came, in order
 pub record HandsUpKnownUp (planned : Planned) (first b i : ℕ) (happened : List Event) (link : LinkState) (text : List ℕ) : Type 0 where
   pub units : HasKnownUp planned first b i happened link
   pub rows_are : (arrives : ℕ → Bool) → ArriveAs units.known.near.sends arrives units.known.came → AreFewLost 0 (sent_by units.known.near.sends arrives)
@@ -50,7 +51,8 @@ pub record HandsUpKnownDownOver (planned second : Planned) (first b i i_later : 
   pub rows_are : (arrives : ℕ → Bool) → ArriveAs units.known.near.sends arrives units.known.came → AreFewLost 0 (sent_by units.known.near.sends arrives)
       → got_rows Down b (rows text) ≡ rows_of (gots Down b (unit_lines Down b (known_units (sent_by units.known.near.sends arrives) 0 units.known.near.sends.accepted)))
 
--- those of a transparent bearer: the units of the blocks that came, which are some of the accepted ones, in order, each at most once
+-- the lines `got` of a transparent bearer: the SDUs of the blocks that came, a subsequence of the accepted ones, each
+-- at most once
 pub record HandsUpSomeUp (planned : Planned) (first b i : ℕ) (happened : List Event) (link : LinkState) (text : List ℕ) : Type 0 where
   pub units : HasSomeUp planned first b i happened link
   pub rows_are : got_rows Up b (rows text) ≡ rows_of (bits_lines Up b units.some.handed)

@@ -53,7 +53,7 @@ pair_after config out into b events = after (rules_in config b) (opened (rules_i
 abbrev pub calls_of : List At → List At
 calls_of events = filter (λ event. not (is_loss event)) events
 
--- these calls, with losses on the way between them, are a history of which they are the ends, and it is safe
+-- these calls are, with losses on the way between them, a history of an acknowledged bearer's two ends, and it is safe
 pub record IsHistory (config : Config) (out into : Dir) (b : ℕ) (calls : List At) (w : World) : Type 0 where
   pub events : List At
   pub called : calls_of events ≡ calls

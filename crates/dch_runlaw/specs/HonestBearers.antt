@@ -53,7 +53,8 @@ pub record AreReached (planned : Planned) (first : ℕ) (happened : List Event) 
   pub run : Runs Any (opened_nodes planned first first) happened nodes
   pub are : AreOf link nodes
 
--- and so in two parts, where another configuration became active behind the first one
+-- what happened at the terminal and the network controller in two parts, with what went over their channels, led to the
+-- two nodes; another configuration became active behind the first part
 pub record AreReachedOver (planned second : Planned) (first : ℕ) (earlier later : List Event) (last link : LinkState) : Type 0 where
   pub nodes : Nodes
   pub run : RunsInTwo planned second Any Any first first earlier later nodes
@@ -70,7 +71,7 @@ abbrev pub active : Parts → Planned
 active (Alone planned first happened) = planned
 active (Both planned second first earlier later last) = second
 
--- it led to two nodes
+-- what happened in one part or in two led to the terminal and the network controller of a run
 abbrev pub AreReachedIn : Parts → LinkState → Type 0
 AreReachedIn (Alone planned first happened) link = AreReached planned first happened link
 AreReachedIn (Both planned second first earlier later last) link = AreReachedOver planned second first earlier later last link
@@ -80,17 +81,19 @@ abbrev pub nodes_reached : (parts : Parts) (link : LinkState) → AreReachedIn p
 nodes_reached (Alone planned first happened) link reached = reached.nodes
 nodes_reached (Both planned second first earlier later last) link reached = reached.nodes
 
--- and the calls that the ends of bearer b got at them
+-- the calls that the two ends of bearer b got in a run of one part or of two
 abbrev pub calls_reached : ℕ → (parts : Parts) (link : LinkState) → AreReachedIn parts link → List At
 calls_reached b (Alone planned first happened) link reached = nodes_calls planned.config b Any (opened_nodes planned first first) happened reached.nodes reached.run
 calls_reached b (Both planned second first earlier later last) link reached = nodes_calls planned.config b Any (opened_nodes planned first first) earlier reached.run.mid reached.run.before ++ nodes_calls second.config b Any reached.run.next later reached.nodes reached.run.behind
 
--- they stand in a history of an acknowledged bearer's pair, of which its calls are the events but for losses on the way
+-- the calls that the two ends of an acknowledged bearer got in a run are, but for losses on the way, the events of a
+-- history of the two ends
 pub record HasHistory (planned : Planned) (first b : ℕ) (happened : List Event) (link : LinkState) : Type 0 where
   pub reached : AreReached planned first happened link
   pub history : IsAmHistory planned b (calls_reached b (Alone planned first happened) link reached) reached.nodes
 
--- or, behind a first part that led to a last state, in one that goes on from there when all that was in flight is lost
+-- the same over two parts of a run: behind the first part the history goes on from its last state, when all that was in
+-- flight is lost
 pub record HasHistoryOver (planned second : Planned) (first b : ℕ) (earlier later : List Event) (last link : LinkState) : Type 0 where
   pub reached : AreReachedOver planned second first earlier later last link
   pub history : IsAmHistoryOver second b (nodes_calls planned.config b Any (opened_nodes planned first first) earlier reached.run.mid reached.run.before) (nodes_calls second.config b Any reached.run.next later reached.nodes reached.run.behind) reached.run.mid reached.nodes

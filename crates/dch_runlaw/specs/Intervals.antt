@@ -62,7 +62,7 @@ pub record ArrivesAsSent (dir : Dir) (old new : LinkState) (lines : List Line) (
   pub sent : radio_sent dir old new lines f ≡ Some radio
   pub came : radio_after old.damage dir (Some radio) ≡ Some radio
 
--- and so in each radio frame of a TTI
+-- in each radio frame of a TTI the radio frame of a direction is sent, and arrives as it was sent
 abbrev pub AllArrive : Dir → (frames : ℕ) → (old new : LinkState) → Tti frames old new → Type 0
 AllArrive dir frames old new t = InTti (ArrivesAsSent dir) frames old new t
 
@@ -92,7 +92,8 @@ abbrev pub frames_come : Dir → LinkState → ℕ → Option Radio
 frames_come Up link = link.node_b.state.frames
 frames_come Down link = link.ue.state.frames
 
--- the far end reads the TTI in the combinations in which its radio frames were sent, whatever it keeps of them
+-- in what the far end keeps of the radio frames of the last 8 CFNs, each radio frame of a TTI has the TFC in which it
+-- was sent
 abbrev pub FindsAll : Planned → Dir → (frames : ℕ) → (old new : LinkState) → Tti frames old new → Type 0
 FindsAll planned dir frames old new t = (reader : RxFrames) → AreHeard planned dir t.last.rnc.state.cfn (frames_come dir new) reader → InTti (FindsCombination planned dir reader) frames old new t
 

@@ -23,7 +23,7 @@ is_of b PhyNone = false
 is_of b (BadTti dir i n) = false
 is_of b (Differs dir i) = false
 
--- those lines among more, in order
+-- the lines on a bearer among others, in order: those on its PDUs, and on the SDUs in them
 abbrev pub lines_of : ℕ → List Line → List Line
 lines_of b [] = []
 lines_of b (line ∷ lines) = if is_of b line then (line ∷ lines_of b lines) else lines_of b lines

@@ -18,7 +18,8 @@ ue_calls config b old (DownlinkFrame frame) new = []
 ue_calls config b old UeTicks new = Tick ∷ (for_each Arrive (own_blocks config Down b (λ i. good_in (new.readings i))) ++ for_each Build (own_blocks config Up b (given_by_ue old UeTicks new)))
 ue_calls config b old (UeChange second) new = []
 
--- and in one of the network controller, which takes the blocks of an Iub frame when it comes
+-- the calls that an end of bearer b gets in a step of the network controller: an SDU is offered; or its timers tick and
+-- it builds each block that it gives for a TTI that starts; or a PDU arrives in each good block of an Iub frame
 abbrev pub rnc_calls : Config → ℕ → RncState → RncEvent → RncState → List Call
 rnc_calls config b old (RncOffered bearer octets bits) new = offered b bearer octets
 rnc_calls config b old (RncBlocked combination on) new = []
@@ -31,7 +32,7 @@ abbrev pub event_calls : Config → ℕ → Nodes → Event → Nodes → List A
 event_calls config b old (AtUe event) new = map Near (ue_calls config b old.ue event new.ue)
 event_calls config b old (AtRnc event) new = map Far (rnc_calls config b old.rnc event new.rnc)
 
--- in a run of both
+-- the calls that the two ends of bearer b get in a run of a terminal and a network controller, in order
 abbrev pub nodes_calls : (config : Config) (b : ℕ) (Holds : Nodes → Type 0) (old : Nodes) (events : List Event) (new : Nodes) → Runs Holds old events new → List At
 nodes_calls config b Holds old [] new run = []
 nodes_calls config b Holds old (event ∷ events) new run = event_calls config b old event run.next ++ nodes_calls config b Holds run.next events new run.later

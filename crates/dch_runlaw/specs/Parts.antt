@@ -13,7 +13,7 @@ pub record GoesOver (planned second : Planned) (first : ℕ) (events : List Even
   pub run : Runs (opened_link planned first) events last lines
   pub changes : Changes second last start
 
--- every bearer goes on in it
+-- every bearer goes on in the second configuration
 abbrev pub KeepsAll : Planned → Planned → Type 0
 KeepsAll planned second = (b : ℕ) → KeepsBearer planned.config second.config b
 
@@ -32,5 +32,6 @@ pub record BeginsSecond (planned : Planned) (start : LinkState) : Type 0 where
   pub lines : List Line
   pub over : GoesOver before planned first events lines start
 
+-- a part of a run begins at opening, or behind another part whose configuration keeps its limits
 abbrev pub Begins : Planned → LinkState → Type 0
 Begins planned start = BeginsFirst planned start ⊎ BeginsSecond planned start

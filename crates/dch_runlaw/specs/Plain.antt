@@ -23,7 +23,7 @@ is_plain PhyNone = false
 is_plain (BadTti dir i n) = false
 is_plain (Differs dir i) = false
 
--- and so of all lines
+-- lines of which none tells of trouble
 abbrev pub ArePlain : List Line → Type 0
 ArePlain [] = Unit {0}
 ArePlain (line ∷ lines) = (is_plain line ≡ true) × ArePlain lines

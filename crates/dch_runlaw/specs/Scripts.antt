@@ -43,7 +43,8 @@ pub record SaysFirst (config : Config) (frames : ℕ) (line : List ℕ) (Rest : 
   pub later : Rest (frames + frames_in own) rest
   pub all : events ≡ own ++ rest
 
--- each line is read in the configuration that is active when so many radio frames have passed
+-- lines of a script say these events, each line read in the configuration that is active when so many radio frames have
+-- passed
 abbrev pub AreSaid : (ℕ → Config) → ℕ → List (List ℕ) → List Event → Type 0
 AreSaid at frames [] events = events ≡ []
 AreSaid at frames (line ∷ lines) events = SaysFirst (at frames) frames line (λ now rest. AreSaid at now lines rest) events

@@ -53,7 +53,7 @@ abbrev pub in_step : (move : Move) → (old new : Point) → (lines : List Line)
 in_step (Between event) old new lines step = between event step.soft
 in_step Next old new lines step = in_stage old.stage old.soft step.soft lines step.passes
 
--- in a run
+-- the events at the terminal and the network controller in a run in soft handover, in order
 abbrev pub end_events : (moves : List Move) → (old new : Point) → (lines : List Line) → Runs old moves new lines → List EndEvent
 end_events [] old new lines run = []
 end_events (move ∷ moves) old new lines run = in_step move old run.next run.own run.step ++ end_events moves run.next new run.rest run.later
@@ -66,7 +66,8 @@ event_of (EventAtRnc event rnc) = AtRnc event
 abbrev pub events_of : List EndEvent → List NodesEvent
 events_of happened = map event_of happened
 
--- the two nodes after it: a channel was given what its near end gave to it, and what its far end read as good was taken of it
+-- the terminal and the network controller after an event: a channel was given what its near end gave to it, and what
+-- its far end read as good was taken of it
 abbrev pub after : Nodes → EndEvent → Nodes
 after old (EventAtUe event ue) = record old {
   ue = ue.state;

@@ -43,11 +43,12 @@ pub record SaysFirst (legs : ℕ) (config : Config) (line : List ℕ) (Rest : Li
   pub later : Rest rest
   pub all : moves ≡ own ++ rest
 
+-- lines of a script of `soft` say these moves: events and stages of radio frames
 abbrev pub AreSaid : ℕ → Config → List (List ℕ) → List Move → Type 0
 AreSaid legs config [] moves = moves ≡ []
 AreSaid legs config (line ∷ lines) moves = SaysFirst legs config line (AreSaid legs config lines) moves
 
--- what is shown of the lines of a run: those of a leg are led by its number
+-- what is shown of the lines of a run in soft handover
 abbrev pub shown_in : Bool → (moves : List Move) → (old new : Point) → (lines : List Line) → Runs old moves new lines → List ℕ
 shown_in quiet [] old new lines run = []
 shown_in quiet (Between event ∷ moves) old new lines run = shown quiet (text_of run.own) ++ shown_in quiet moves run.next new run.rest run.later

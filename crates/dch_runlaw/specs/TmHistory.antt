@@ -53,8 +53,8 @@ pub record IsTmBearer (config : Config) (out : Dir) (b i : ℕ) : Type 0 where
   pub channel : channel_of config out b ≡ Some i
   pub apart : AreApart config out i
 
--- where units of the bearer were given and taken in another configuration before: handed up are just the units of the blocks that came, which
--- are some of those that were accepted, in order, each once
+-- of a transparent bearer, in one configuration or in two: delivered are just the SDUs of the blocks that came, a
+-- subsequence of those that were accepted, each once
 pub record IsTmSome (config : Config) (out : Dir) (b i : ℕ) (given taken : List (List Bit)) (w : World) : Type 0 where
   pub near : IsTmSender config out b i given w.near (w.out i)
   pub handed : List (List Bit)

@@ -108,12 +108,13 @@ pub record IsUmCarried (config : Config) (dir : Dir) (b i : ℕ) (from : Layer) 
   pub count : came + length (filter (is_mine config dir b i) running) ≡ length sends.cuts
   pub lines : lines_of b said ≡ got_lines dir b (marked_units (take came (pdus_of sends)) 0 sends.accepted)
 
--- of all the sender's PDUs, those that arrive are these
+-- of all PDUs of an unacknowledged sender, those that arrive have these texts
 abbrev pub ArriveAs : Sends → (ℕ → Bool) → List (List ℕ) → Type 0
 ArriveAs s arrives came = arriving arrives 0 (texts s.sending.pdu s.sending.mark_start s.accepted s.cuts) ≡ came
 
--- where PDUs of the bearer were given and taken in another configuration before: those that came are some of all the sender's PDUs, in order;
--- whichever these are, where fewer than 128 successive ones are lost, all lines on the bearer are the units that are known
+-- of an unacknowledged bearer, in one configuration or in two: the PDUs that came are a subsequence of all the
+-- sender's; whichever these are, where fewer than 128 successive ones are lost, all lines on the bearer are the SDUs
+-- that are known
 pub record IsKnownHistory (config : Config) (out : Dir) (b i : ℕ) (given taken : List (List ℕ)) (w : World) : Type 0 where
   pub near : IsUmSender config out b i given w.near (w.out i)
   pub came : List (List ℕ)

@@ -9,8 +9,7 @@ use Rattle.dch_runlaw.specs.HonestBearers.{IsAcknowledged, IsTransparent, IsUnac
 use Rattle.dch_runlaw.specs.Plain.{ArePlain}
 use Rattle.dch_runlaw.specs.UndamagedHandedUp.{HandsUpMarked, HandsUpSent, HandsUpWhole}
 
--- the rows of a text that hand up the units of a bearer are just those of the accepted units, in order, that were sent whole in TTIs that have
--- ended: for each bearer of each mode, in each direction in which it has a channel
+-- the lines `got` of each bearer in an undamaged run
 pub record HandsUpAll (parts : Parts) (link : LinkState) (text : List ℕ) : Type 0 where
   pub acknowledged : (b up down : ℕ) → IsAcknowledged (active parts) b up down → HandsUpWhole parts b up down link text
   pub unacknowledged_up : (b up : ℕ) → IsUnacknowledged (active parts) Up b up → HandsUpMarked (active parts).config Up b up link.ue.state.layer link.rnc.lines (up_way (active parts) up link) text

@@ -7,7 +7,8 @@ use Rattle.dch_node.specs.Lines.{Line}
 use Rattle.dch_layer2.specs.Layers.{Layer, changed_layer, opened_layer}
 use Rattle.dch_runlaw.specs.Doings.{Doing, Does, given_by, taken_by}
 
--- blocks without bits are left out
+-- what went over a channel: the blocks that were given to it, and those that were taken of it as good. Blocks without
+-- bits are left out
 pub record Log : Type 0 where
   pub given : List (List Bit)
   pub taken : List (List Bit)

@@ -55,7 +55,7 @@ content line = if is_ended line then take (length line - 1) line else line
 abbrev pub longest : ℕ
 longest = 1048576
 
--- what a line says
+-- what a line of `encode` says, or the first reason why it says nothing
 unfoldable pub meaning : List ℕ → Result CodeLine LineError
 meaning line = if nat_lt longest (length (content line)) then Err Long else (if is_ended line then line_words (words_of (content line)) else Err Cut)
 

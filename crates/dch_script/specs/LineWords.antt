@@ -10,7 +10,7 @@ abbrev pub words_from : List ℕ → List ℕ → List (List ℕ)
 words_from front [] = front ∷ []
 words_from front (c ∷ text) = if is_space c then front ∷ words_from [] text else words_from (front ++ c ∷ []) text
 
--- the words of a text
+-- the words of a line, which spaces separate
 abbrev pub words_of : List ℕ → List (List ℕ)
 words_of text = words_from [] text
 

@@ -36,13 +36,13 @@ part_of word = if bytes_eq word (codes "t") then Ok true else (if bytes_eq word 
 unfoldable pub number_in : ℕ → List ℕ → Result ℕ LineError
 number_in most word = ok_or (number_of most word) Number
 
--- COMBINATION of a direction
+-- the word COMBINATION: the number of a TFC of a direction
 unfoldable pub combination_of : Config → Dir → List ℕ → Result ℕ LineError
 combination_of config dir word = do
   c ← number_in 65535 word
   provided (nat_lt c (length (side_of config dir).combinations)) c Number
 
--- SET of a direction
+-- the word SET: the number of a set of a direction that is there
 unfoldable pub set_of : Config → Dir → List ℕ → Result ℕ LineError
 set_of config dir word = do
   set ← number_in 255 word
@@ -75,6 +75,6 @@ unfoldable pub tfci_letters : Config → Dir → ℕ
 tfci_letters config Up = 30
 tfci_letters config Down = if nat_lt config.downlink.sf 128 then 120 else 30
 
--- TFCI
+-- the word TFCI: so many letters of bits
 unfoldable pub tfci_of : Config → Dir → List ℕ → Result (List ℕ) LineError
 tfci_of config dir text = provided (is_word_of_bits (tfci_letters config dir) text) text Text

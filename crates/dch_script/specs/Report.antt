@@ -74,6 +74,6 @@ words_text (EndFrames count) = codes "end frames=" ++ decimal count
 words_text (EndLines count) = codes "end lines=" ++ decimal count
 words_text (Accepted count) = codes "accepted count=" ++ decimal count
 
--- a line with its line feed
+-- the text of a line of a report, with its line feed
 abbrev pub line_text : Line → List ℕ
 line_text line = words_text line ++ codes "\n"

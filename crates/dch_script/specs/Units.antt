@@ -33,7 +33,7 @@ mode_at config b = option_map_or (λ bearer. bearer.mode) (slice_get config.bear
 unfoldable pub text_of : Mode → List ℕ → Result (List ℕ) LineError
 text_of mode text = provided (is_unit mode text) text Text
 
--- BEARER TEXT
+-- the words BEARER TEXT: a bearer that sends in the direction, and an SDU for it, in octets or in bits
 unfoldable pub unit_of : Config → Dir → List ℕ → List ℕ → Result ParsedLine LineError
 unit_of config dir bearer text = do
   b ← bearer_of config dir bearer

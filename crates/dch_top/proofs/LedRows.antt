@@ -2,7 +2,7 @@
 use Rattle.std.proofs.Common.{◌≡◌, ◌∙◌, ◌++◌, ℕ, List, [], ◌∷◌, arith, refl, ap, ap₂, sym, append_assoc, append-nil}
 use Rattle.std.specs.Prelude.{◌==◌, codes, decimal, map}
 use Rattle.dch_script.specs.Lines.{lines_after, lines_of, rest_after, rest_of}
-use Rattle.dch_linkcmd.specs.Led.{lead, led_lines}
+use Rattle.dch_runlaw.specs.Led.{lead, led_lines}
 use Rattle.dch_script.proofs.Lines.{lines_after-append, rest_after-append}
 use Rattle.dch_types.specs.declared.channel.Dir.{Dir}
 use Rattle.dch_script.specs.Report.{place_text}

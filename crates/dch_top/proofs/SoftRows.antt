@@ -15,7 +15,7 @@ use Rattle.dch_gen.specs.SoftPassing.{leg_of, next_stage}
 use Rattle.dch_gen.specs.SoftStages.{AtStage, GivesFrame, RncGoes, UeGoes, WhereOver}
 use Rattle.dch_gen.specs.soft_stage.Stage.{Stage}
 use Rattle.dch_gen.specs.soft_stage.Stage.TheVariants.{RncTick, IubDown, RadioDown, UeTick, RadioUp, IubUp, Combine}
-use Rattle.dch_linkcmd.specs.Led.{led, led_lines}
+use Rattle.dch_runlaw.specs.Led.{led, led_lines}
 use Rattle.dch_runlaw.specs.Directions.{lines_on}
 use Rattle.dch_runlaw.specs.Lines.{lines_of}
 use Rattle.dch_runlaw.specs.Rows.{AreSmall, got_rows, got_words, gots, is_got, row_of, rows_of, starts_with}

@@ -11,10 +11,10 @@ use Rattle.dch_check.specs.ConfigSection.{script_of}
 use Rattle.dch_lines.specs.LineTexts.{HandlesLines}
 use Rattle.dch_lines.specs.declared.stop.Outcome.TheVariants.{Ok as Done}
 use Rattle.dch_node.specs.Lines.{Got, Line, Overlong}
-use Rattle.dch_amlaw.specs.Pair.{Pair}
-use Rattle.dch_amlaw.proofs.Short.{AreShort, BothRead, always_short}
-use Rattle.dch_layer2.specs.Bearings.{pdu_octets, rules_in}
-use Rattle.dch_layer2.specs.UnitLines.{unit_lines}
+use Rattle.dch_runlaw.specs.AmlawPair.{Pair}
+use Rattle.dch_runlaw.proofs.AmlawShort.{AreShort, BothRead, always_short}
+use Rattle.dch_runlaw.specs.Bearings.{pdu_octets, rules_in}
+use Rattle.dch_runlaw.specs.UnitLines.{unit_lines}
 use Rattle.dch_runlaw.specs.Directions.{lines_on}
 use Rattle.dch_runlaw.specs.History.{IsAmBearer, pair_after}
 use Rattle.dch_runlaw.specs.HonestBearers.{IsAcknowledged}

@@ -21,7 +21,7 @@ abbrev pub AdmitsFront : FrontKind → List ℕ → Configurations → Type 0
 AdmitsFront Single text accepted = IsAlone text accepted × (has_second text ≡ false)
 AdmitsFront Both text accepted = AreAcceptedAs text accepted
 
--- it is refused by this line
+-- the text in front of a command's lines is refused by this line, by what may stand there
 abbrev pub RefusesFront : FrontKind → List ℕ → List ℕ → Type 0
 RefusesFront Single text line = RefusesSingle text line
 RefusesFront Both text line = RefusesBoth text line

@@ -18,7 +18,7 @@ pub record HoldsGen (start frames : ℕ) (sink : End) (nodes : Nodes) : Type 0 w
   pub all : nodes ≡ record { ue = Some ue; node_bs = node_b ∷ []; rnc = Some rnc }
   pub writes : WritesSummary start frames sink ue node_b rnc
 
--- how a run ends
+-- how a run of `gen` ends by each status: what was written, and what the bench holds
 abbrev pub EndsGen : ℕ → ℕ → End → Nodes → Status → Type 0
 EndsGen start frames sink nodes Ok = HoldsGen start frames sink nodes
 EndsGen start frames sink nodes WriteFault = CutsSummary start frames sink × (nodes ≡ no_nodes)

@@ -50,7 +50,7 @@ pub record RunsWith {S : Type 0} (kind : FrontKind) (semantics : Semantics S) (o
   pub runs : RunsConfigured kind semantics opened (IfWell Holds nodes status) source sink status
   pub idle : status ≢ Well → nodes ≡ no_nodes
 
--- that of a command with one node
+-- a run of a command with one node: what it took and wrote, its status, and what the bench holds
 abbrev pub RunsNode : {S E : Type 0} → NodeRules S E → (Nodes → Run S E → Type 0) → ℕ → Bool → End → End → Nodes → Status → Type 0
 RunsNode rules Holds start quiet source sink nodes status = RunsWith Both (node_lines rules) (run_of rules start quiet) Holds source sink nodes status
 

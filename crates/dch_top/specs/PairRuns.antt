@@ -36,7 +36,7 @@ FollowsAs source sink WriteFault = FollowsPair source sink FailedWriting
 FollowsAs source sink NoMemory = FollowsPair source sink Lacking
 FollowsAs source sink TooLong = FollowsPair source sink TookTooMuch
 
--- the same, or there was no memory to begin
+-- a run of `pair` by its status: its lines were followed, or there was no memory to begin
 abbrev pub RunsPair : End → End → Status → Type 0
 RunsPair source sink status = FollowsAs source sink status ⊎ ((status ≡ NoMemory) × IsUntouched source sink)
 

@@ -27,6 +27,7 @@ use Rattle.dch_top.specs.declared.status.Status.TheVariants.{Usage, WriteFault, 
 use Rattle.dch_top.specs.declared.front.FrontKind.{FrontKind}
 use Rattle.dch_top.specs.declared.front.FrontKind.TheVariants.{Single, Both}
 
+-- the usage line
 abbrev pub usage : List ℕ
 usage = codes "usage: dch COMMAND [COUNT] [--start N] [--quiet]\n"
 
@@ -52,7 +53,7 @@ Says words arguments = Parses (map string_bytes words) arguments
 abbrev pub Asks : List (String Global) → Subcommand → Type 0
 Asks words subcommand = (arguments : Arguments) × (Says words arguments × (arguments.subcommand ≡ subcommand))
 
--- the words are no command
+-- the words of a command line are no command
 abbrev pub IsNoCommand : List (String Global) → Type 0
 IsNoCommand words = ¬ IsCommand (map string_bytes words)
 
@@ -68,7 +69,7 @@ Runs Soft arguments source sink bench status = RunsSoft arguments.count argument
 Runs Gen arguments source sink bench status = RunsGen arguments.start arguments.count source sink bench status
 Runs Pair arguments source sink bench status = RunsPair source sink status × (bench ≡ no_nodes)
 
--- what a run of these words does
+-- what a run of these words took, wrote and answered, and what the bench holds: the main theorem
 pub record Ran (words : List (String Global)) (source sink : End) (bench : Nodes) (status : Status) : Type 0 where
   pub runs : (arguments : Arguments) → Says words arguments → Runs arguments.subcommand arguments source sink bench status
   pub misuses : IsNoCommand words → Misuses source sink status × (bench ≡ no_nodes)

@@ -45,6 +45,6 @@ pub record HoldsSoft (count : ℕ) (nodes : Nodes) (run : Run) : Type 0 where
 abbrev pub RunsSoft : ℕ → ℕ → Bool → End → End → Nodes → Status → Type 0
 RunsSoft legs start quiet source sink nodes status = RunsWith Single soft_lines (λ accepted. opened_run accepted.first (8 * start) legs quiet) (HoldsSoft legs) source sink nodes status
 
--- each of the lines is empty or says something to the nodes where there are so many legs
+-- each line is empty, or says something to the nodes of a soft handover over so many legs
 abbrev pub AreSoftLines : ℕ → Config → List (List ℕ) → Type 0
 AreSoftLines legs config lines = All (λ line. (is_empty line ≡ true) ⊎ ((said : Said) × Says legs config line said)) lines

@@ -12,6 +12,7 @@ use Rattle.dch_tree.specs.Tables.{unknown, need, field}
 abbrev pub channel_keys : List (List ℕ)
 channel_keys = codes "tti" ∷ codes "code" ∷ codes "crc" ∷ codes "rm" ∷ codes "set" ∷ codes "formats" ∷ []
 
+-- the faults of the keys of a channel
 unfoldable pub channel_faults : List ℕ → Members → List Fault
 channel_faults path ms =
     unknown path channel_keys ms

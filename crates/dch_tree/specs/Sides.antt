@@ -60,6 +60,7 @@ side_from ms = record {
 abbrev pub uplink_keys : List (List ℕ)
 uplink_keys = codes "largest" ∷ codes "pl" ∷ codes "combinations" ∷ codes "channel" ∷ []
 
+-- the faults of the keys of the uplink
 unfoldable pub uplink_faults : List ℕ → Members → List Fault
 uplink_faults path ms =
     unknown path uplink_keys ms

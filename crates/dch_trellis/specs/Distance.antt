@@ -37,7 +37,7 @@ abbrev pub lost : ℕ → Vote → Bit → ℕ
 lost sent vote Zero = max vote.ones (sent - vote.zeros)
 lost sent vote One = max vote.zeros (sent - vote.ones)
 
--- and of those of all bits
+-- how many of the copies of all bits of a coded block did not arrive as they were sent
 abbrev pub damage : (ℕ → ℕ) → List Vote → List Bit → ℕ
 damage sent [] bits = 0
 damage sent (vote ∷ votes) [] = 0

@@ -37,13 +37,14 @@ pub record IsCorrectable (coding : Coding) (plan : Plan) (sent : ℕ → ℕ) (v
   pub apart : AreToldApart (coded_as coding) plan.size (filler_of plan r) (block_copies coding plan sent r) count
   pub few : 2 * damage (block_copies coding plan sent r) (block_votes coding plan votes r) (coded_bits_of coding plan joined r) < count
 
--- and so of each code block
+-- in each code block of a TTI less than half of the copies that tell it from any other did not arrive as they were sent
 abbrev pub AreCorrectable : Coding → (ℕ → ℕ) → List Vote → List Bit → Type 0
 AreCorrectable coding sent votes joined =
     let plan = plan_of (length joined) coding in
     (r : ℕ) → r < plan.blocks → IsCorrectable coding plan sent votes joined r
 
--- of each code block so few copies are wrong, where each coded bit was received so many times at least
+-- in each code block of a TTI less than half as many copies are wrong as so many times the free distance of its code.
+-- So many times at least each coded bit was received
 abbrev pub AreFewWrong : Coding → ℕ → List Vote → List Bit → Type 0
 AreFewWrong coding least votes joined =
     let plan = plan_of (length joined) coding in

@@ -33,8 +33,8 @@ pub record IsSentAndPushed (planned : Planned) (dir : Dir) (multiplexed : List L
   pub shown : IsViewOf frame view
   pub pushed : IsPushed planned dir cfn (Some view) old new
 
--- and so are all frames of a TTI of channel i from its first CFN on, each in its combination of a sequence; reader n is what is
--- kept before frame n
+-- all radio frames of a TTI of channel i are pushed as they were written, each in its TFC of a sequence; reader n is
+-- what is kept before radio frame n
 abbrev pub AreSentAndPushed : Planned → Dir → (List Loaded → ℕ → ℕ → ℕ → Trit) → ℕ → ℕ → List ℕ → Loaded → (ℕ → RxFrames) → Type 0
 AreSentAndPushed planned dir multiplexed i first sequence loaded readers =
     (n : ℕ) → n < (channel_at (side_of planned.config dir) i).frames → IsSentAndPushed planned dir multiplexed i (first + n) (slice_index sequence n) loaded (readers n) (readers (n + 1))

@@ -23,7 +23,7 @@ pub record IsSentFrame (planned : Planned) (dir : Dir) (multiplexed : List Loade
   pub found : kept.combination ≡ Some c
   pub back : AreBack (code_cells planned dir (length frame.cells)) frame.cells kept.cells
 
--- and so are all frames of the TTI, each in its combination of a sequence
+-- all radio frames of a TTI are kept as they were written, each in its TFC of a sequence
 abbrev pub AreSentFrames : Planned → Dir → (List Loaded → ℕ → ℕ → ℕ → Trit) → RxFrames → ℕ → List ℕ → Loaded → Type 0
 AreSentFrames planned dir multiplexed reader i sequence loaded =
     let side = side_of planned.config dir in

@@ -38,7 +38,8 @@ pub record IsSentTti (planned : Planned) (reader : RxFrames) (i f : ℕ) (sequen
   pub whole : length blocks ≡ bits_of (format_at (channel_at planned.config.uplink.side i) f)
   pub frames : AreSentFrames planned reader i sequence loaded
 
--- and so for some sequence of combinations that is legal for the channel and the format
+-- the kept radio frames of an uplink TTI are those that were written, in some sequence of TFCs that is legal for the
+-- channel and the transport format, with these blocks loaded
 pub record WasSent (planned : Planned) (reader : RxFrames) (i f : ℕ) (blocks : List Bit) : Type 0 where
   pub sequence : List ℕ
   pub legal : IsLegal planned.config.uplink.side i f sequence
