@@ -11,8 +11,8 @@ use Rattle.dch_types.specs.Parts.{channel_at, format_at, side_of}
 use Rattle.dch_coding.specs.Rooms.{Holds, HoldsSide, channel_room, format_room, wider}
 use Rattle.dch_coding.specs.declared.room.CodingRoom.{CodingRoom}
 use Rattle.dch_coding.proofs.Rooms.{channel_short, holds_channel, holds_over}
-use Rattle.dch_match.specs.declared.downlink_plan.RateMatching.{RateMatching}
-use Rattle.dch_match.specs.Downlinks.{matching_at}
+use Rattle.dch_frame.specs.declared.downlink_plan.RateMatching.{RateMatching}
+use Rattle.dch_frame.specs.Downlinks.{matching_at}
 use Rattle.dch_accept.specs.declared.room.TtiRoom.{TtiRoom}
 use Rattle.dch_accept.specs.Plans.{Planned}
 use Rattle.dch_accept.specs.Rooms.{HoldsTti, most_room, no_tti_room, places_below, rooms_below, tti_room, wider_tti}

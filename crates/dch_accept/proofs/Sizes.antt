@@ -3,9 +3,9 @@ use Rattle.std.proofs.Common.{ℕ, Bool, true, false, List, [], ◌∷◌, arith
 use Rattle.std.specs.Prelude.{Option, Some, None, find, filter, if◌then◌else◌, nat_le}
 use Rattle.dch_types.specs.declared.config.Uplink.{Uplink}
 use Rattle.dch_types.specs.Limits.{frame_sizes}
-use Rattle.dch_match.specs.declared.uplink_plan.Demand.{Demand}
-use Rattle.dch_match.specs.declared.uplink_plan.UplinkPlan.{UplinkPlan}
-use Rattle.dch_match.specs.Uplinks.{IsPlan, chosen, set2, in_set1, in_set2, one_code, raised, first_raised, codes}
+use Rattle.dch_frame.specs.declared.uplink_plan.Demand.{Demand}
+use Rattle.dch_frame.specs.declared.uplink_plan.UplinkPlan.{UplinkPlan}
+use Rattle.dch_frame.specs.Uplinks.{IsPlan, chosen, set2, in_set1, in_set2, one_code, raised, first_raised, codes}
 use Rattle.dch_frame.specs.Sizes.{IsFrameSize}
 
 -- a size, if there is one, is that of a frame

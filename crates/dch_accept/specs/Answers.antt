@@ -7,8 +7,8 @@ use Rattle.dch_types.specs.declared.channel.Dir.TheVariants.{Up, Down}
 use Rattle.dch_types.specs.declared.config.Config.{Config}
 use Rattle.dch_types.specs.declared.config.Uplink.{Uplink}
 use Rattle.dch_types.specs.Parts.{side_of}
-use Rattle.dch_match.specs.declared.uplink_plan.UplinkPlan.{UplinkPlan}
-use Rattle.dch_match.specs.Uplinks.{demand_of, set2}
+use Rattle.dch_frame.specs.declared.uplink_plan.UplinkPlan.{UplinkPlan}
+use Rattle.dch_frame.specs.Uplinks.{demand_of, set2}
 use Rattle.dch_collision.specs.Copies.{uplink_copies, downlink_copies}
 use Rattle.dch_collision.specs.Counted.{search_count}
 use Rattle.dch_collision.specs.Clear.{Copies, IsClear, IsClearSide}

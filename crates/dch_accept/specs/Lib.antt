@@ -11,3 +11,5 @@ pub mod Padded
 pub mod Plans
 pub mod Reports
 pub mod Rooms
+pub use Rattle.dch_collision.specs.Clear as CollisionClear
+pub use Rattle.dch_collision.specs.Collisions

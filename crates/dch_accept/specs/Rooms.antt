@@ -4,8 +4,8 @@ use Rattle.dch_types.specs.declared.channel.Dir.{Dir}
 use Rattle.dch_types.specs.declared.channel.Dir.TheVariants.{Up, Down}
 use Rattle.dch_types.specs.Parts.{channel_at, side_of}
 use Rattle.dch_coding.specs.Rooms.{Holds, channel_room, no_room, wider}
-use Rattle.dch_match.specs.declared.downlink_plan.RateMatching.{RateMatching}
-use Rattle.dch_match.specs.Downlinks.{matching_at}
+use Rattle.dch_frame.specs.declared.downlink_plan.RateMatching.{RateMatching}
+use Rattle.dch_frame.specs.Downlinks.{matching_at}
 use Rattle.dch_accept.specs.declared.room.TtiRoom.{TtiRoom}
 use Rattle.dch_accept.specs.Plans.{Planned}
 

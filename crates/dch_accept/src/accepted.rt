@@ -4,8 +4,8 @@ ghost use Rattle.dch_types.specs.Limits.{IsChannel, IsFrames, IsSide, IsUplink};
 ghost use Rattle.dch_types.specs.Parts.{channel_at, side_of};
 ghost use Rattle.dch_config.specs.Good.{IsGood};
 ghost use Rattle.dch_config.specs.Bearers.{has_ct};
-ghost use Rattle.dch_match.specs.Uplinks.{IsPlan};
-ghost use Rattle.dch_match.specs.Downlinks.{IsDownlinkPlan};
+ghost use Rattle.dch_frame.specs.Uplinks.{IsPlan};
+ghost use Rattle.dch_frame.specs.Downlinks.{IsDownlinkPlan};
 ghost use Rattle.dch_collision.specs.Clear.{IsClear};
 ghost use Rattle.dch_collision.specs.Plans.{plan_at, AreAllPlans};
 ghost use Rattle.dch_accept.specs.Answers.{Accepts, IsSearched, Plans, count_of};
@@ -15,8 +15,9 @@ use crate::refusal::Refusal;
 use dch_bits::{Bit, NoMemory};
 use dch_coding::CodingRoom;
 use dch_collision::{Direction, Found, Search, count};
-use dch_frame::{Interleaver, UplinkInterleavers};
-use dch_match::{DownlinkPlan, MatchError, UplinkPlan, downlink, uplink};
+use dch_frame::{
+    DownlinkPlan, Interleaver, MatchError, UplinkInterleavers, UplinkPlan, downlink, uplink,
+};
 use dch_types::{Config, Dir, Sequence, Side, Trch, Uplink};
 use std::alloc::Global;
 use std::marker::Model;

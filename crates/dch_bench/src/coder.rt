@@ -1,11 +1,11 @@
 ghost use Rattle.std.specs.Prelude.{◌≡◌, length};
-ghost use Rattle.dch_conv.specs.Conv.{coded_length};
+ghost use Rattle.dch_coding.specs.Conv.{coded_length};
 
 use crate::chance::Chance;
 use crate::sum::Sum;
 use crate::work::{Unit, Work};
 use dch_bits::{Bit, NoMemory};
-use dch_conv::{Rate, coded_len, encode};
+use dch_coding::{Rate, coded_len, encode};
 use std::alloc::Global;
 
 /// The bits of a code block.

@@ -30,7 +30,7 @@ use crate::parity::ParityBlock;
 use crate::rlc::Entities;
 use crate::tfci::TfciWords;
 use crate::work::{Mode, report};
-use dch_conv::Rate;
+use dch_coding::Rate;
 use dch_types::Crc;
 use std::alloc::Global;
 use std::process::ExitCode;

@@ -1,12 +1,12 @@
 ghost use Rattle.std.specs.Prelude.{◌≡◌, ◌≤◌, ◌+◌, ◌*◌, ◌<◌, ◌^◌, length, IfOk};
-ghost use Rattle.dch_conv.specs.Conv.{coded_length};
+ghost use Rattle.dch_coding.specs.Conv.{coded_length};
 ghost use Rattle.dch_trellis.specs.Nearest.{all_copies};
 
 use crate::chance::Chance;
 use crate::sum::Sum;
 use crate::work::{Unit, Work};
 use dch_bits::{Bit, NoMemory, Vote};
-use dch_conv::{Rate, coded_len, encode};
+use dch_coding::{Rate, coded_len, encode};
 use dch_trellis::Trellis;
 use std::alloc::Global;
 

@@ -5,7 +5,7 @@ use crate::chance::Chance;
 use crate::sum::Sum;
 use crate::work::{Unit, Work};
 use dch_bits::{Bit, NoMemory};
-use dch_crc::{attach, size};
+use dch_coding::{attach, size};
 use dch_types::Crc;
 use std::alloc::Global;
 

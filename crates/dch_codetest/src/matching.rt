@@ -1,12 +1,12 @@
 ghost use Rattle.std.specs.Prelude.{IfOk, IfSome};
 ghost use Rattle.dch_types.specs.Limits.{IsUplink, IsDownlink};
 ghost use Rattle.dch_config.specs.Good.{IsGood};
-ghost use Rattle.dch_match.specs.Patterns.{IsWellFormed};
+ghost use Rattle.dch_frame.specs.Patterns.{IsWellFormed};
 
 use crate::texts::{hundred_side, packets_side, reference_side, speech_side, tiny_side};
 use dch_bits::NoMemory;
 use dch_config::read;
-use dch_match::{Kind, Pattern, UplinkPlan, Walk, downlink, frame, keeps, kept, origin, uplink};
+use dch_frame::{Kind, Pattern, UplinkPlan, Walk, downlink, frame, keeps, kept, origin, uplink};
 use dch_types::{Config, Downlink, Uplink};
 use std::alloc::{AllocError, Global};
 

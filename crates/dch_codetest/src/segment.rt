@@ -1,6 +1,6 @@
 ghost use Rattle.std.specs.Prelude.{◌≤◌};
 
-use dch_segment::plan;
+use dch_coding::plan;
 use dch_types::Coding;
 
 /// Whether so many bits are cut into so many blocks of this size, the first with so much filler.

@@ -2,7 +2,7 @@ ghost use Rattle.std.specs.Prelude.{◌≡◌, ◌≤◌, length};
 ghost use Rattle.dch_trellis.specs.Nearest.{all_copies};
 
 use dch_bits::{Bit, Vote};
-use dch_conv::{Rate, coded_len};
+use dch_coding::{Rate, coded_len};
 use dch_trellis::Trellis;
 use std::test::Fail;
 

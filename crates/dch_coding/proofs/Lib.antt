@@ -2,3 +2,12 @@ pub mod Blocks
 pub mod Lengths
 pub mod Parts
 pub mod Rooms
+pub mod Sizes
+pub mod Codes
+pub mod Linear
+pub mod Steps
+pub mod Aligned
+pub mod Attached
+pub mod Products
+pub mod Registers
+pub mod Unique

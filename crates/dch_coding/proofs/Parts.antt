@@ -7,7 +7,7 @@ use Rattle.std.proofs.Math.Nat.{mul-le-mul_left}
 use Rattle.dch_bits.specs.declared.bit.Bit.{Bit}
 use Rattle.dch_types.specs.declared.channel.Crc.{Crc}
 use Rattle.dch_types.specs.Lengths.{crc_size}
-use Rattle.dch_crc.specs.Parity.{IsAttached}
+use Rattle.dch_coding.specs.Parity.{IsAttached}
 use Rattle.dch_coding.specs.Ttis.{part, ArePartsUpTo}
 
 part_between : (i w : ℕ) (xs : List Bit) → part i w xs ≡ between (i * w) (i * w + w) xs

@@ -7,7 +7,7 @@ use Rattle.dch_types.specs.declared.channel.Side.{Side}
 use Rattle.dch_types.specs.declared.channel.Trch.{Trch}
 use Rattle.dch_types.specs.Lengths.{block_count, block_size, joined_bits}
 use Rattle.dch_types.specs.Parts.{channel_at, format_at}
-use Rattle.dch_segment.proofs.Sizes.{size_short}
+use Rattle.dch_coding.proofs.Sizes.{size_short}
 use Rattle.dch_coding.specs.Rooms.{Holds, HoldsSide, channel_room, channels_room, format_room, formats_room, no_room, searched_bits, side_room, wider}
 use Rattle.dch_coding.specs.declared.room.CodingRoom.{CodingRoom}
 

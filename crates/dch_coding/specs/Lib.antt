@@ -2,3 +2,8 @@ pub mod Chain
 pub mod Cuts
 pub mod Rooms
 pub mod Ttis
+pub mod Segments
+pub mod Conv
+pub mod Inputs
+pub mod Parity
+pub mod Register

@@ -5,8 +5,8 @@ ghost use Rattle.dch_coding.specs.declared.block.TheConstants.{ATTACHED, BLOCKS,
 
 use crate::chain::code;
 use crate::memory::zeros;
+use crate::parity::{attach, size};
 use dch_bits::{Bit, NoMemory};
-use dch_crc::{attach, size};
 use dch_types::{Coding, Crc, MAX_BLOCK_BITS, block_size};
 use std::alloc::Global;
 

@@ -2,13 +2,15 @@ ghost use Rattle.std.specs.Prelude.{◌≡◌, ◌≢◌, ◌<◌, ◌≤◌, �
 ghost use Rattle.dch_bits.specs.declared.bit.Bit.{Bit};
 ghost use Rattle.dch_types.specs.declared.channel.Coding.TheVariants.{Uncoded};
 ghost use Rattle.dch_types.specs.Lengths.{block_count, block_size, coded_block, coded_bits};
-ghost use Rattle.dch_segment.specs.Segments.{plan_of};
+ghost use Rattle.dch_coding.specs.Segments.{plan_of};
 ghost use Rattle.dch_coding.specs.Chain.{coded_as, coded_blocks, coded_of};
 ghost use Rattle.dch_coding.specs.Cuts.{HoldsBlocks};
 
+use crate::convolution::encode;
+use crate::cut::Plan;
+use crate::cutting::{plan, split};
+use crate::rate::Rate;
 use dch_bits::Bit;
-use dch_conv::{Rate, encode};
-use dch_segment::{Plan, plan, split};
 use dch_types::Coding;
 
 /// Cuts joined bits into code blocks and codes each (TS 25.212 4.2.2 and 4.2.3). `blocks` is room for the code blocks with

@@ -4,8 +4,8 @@ ghost use Rattle.dch_coding.specs.Ttis.{ArePartsUpTo, IsCodedTti};
 
 use crate::chain::code;
 use crate::memory::zeros;
+use crate::parity::attach;
 use dch_bits::{Bit, NoMemory};
-use dch_crc::attach;
 use dch_types::{Crc, Format, Trch, block_size};
 use std::alloc::Global;
 use std::marker::Model;
@@ -113,7 +113,7 @@ fn attach_each(kind: Crc, format: &Format, blocks: &[Bit], out: &mut [Bit])
     ensures { ArePartsUpTo format.now.number kind format.now.size blocks.now out.new }
 {
     let size = usize::from(format.size);
-    let attached = size + dch_crc::size(kind);
+    let attached = size + crate::parity::size(kind);
     for i in 0..usize::from(format.number) {
         let from = i * size;
         let to = i * attached;

@@ -3,8 +3,8 @@ use Rattle.std.proofs.Common.{◌<◌, ◌+◌, ◌*◌, ℕ, List, arith}
 use Rattle.dch_bits.specs.declared.bit.Bit.{Bit}
 use Rattle.dch_types.specs.declared.channel.Coding.{Coding}
 use Rattle.dch_types.specs.Lengths.{coded_block}
-use Rattle.dch_segment.specs.declared.cut.Plan.{Plan}
-use Rattle.dch_segment.specs.Segments.{plan_of, filler_of}
+use Rattle.dch_coding.specs.declared.cut.Plan.{Plan}
+use Rattle.dch_coding.specs.Segments.{plan_of, filler_of}
 use Rattle.dch_collision.specs.Collisions.{IsCollision, IsFirstCollision, NoneCollide}
 use Rattle.dch_collision.specs.Clear.{block_copies, AreClearBlocks, HasNoCollision}
 use Rattle.dch_collision.specs.Found.{IsFirstBlock}

@@ -9,11 +9,11 @@ use Rattle.dch_bits.specs.declared.bit.Bit.TheVariants.{Zero, One}
 use Rattle.dch_bits.specs.declared.bit.Vote.{Vote}
 use Rattle.dch_types.specs.Lengths.{coded_block}
 use Rattle.dch_coding.specs.Chain.{coded_as}
-use Rattle.dch_conv.specs.declared.rate.Rate.{Rate}
-use Rattle.dch_conv.specs.declared.rate.Rate.TheVariants.{Half, Third}
-use Rattle.dch_conv.specs.Conv.{outputs, coded_length, encoded}
-use Rattle.dch_conv.proofs.Codes.{length-encoded}
-use Rattle.dch_conv.proofs.Linear.{sum, get_or-sum, length-sum, sum-zeros, sum-same}
+use Rattle.dch_coding.specs.declared.rate.Rate.{Rate}
+use Rattle.dch_coding.specs.declared.rate.Rate.TheVariants.{Half, Third}
+use Rattle.dch_coding.specs.Conv.{outputs, coded_length, encoded}
+use Rattle.dch_coding.proofs.Codes.{length-encoded}
+use Rattle.dch_coding.proofs.Linear.{sum, get_or-sum, length-sum, sum-zeros, sum-same}
 use Rattle.dch_trellis.specs.Nearest.{differing, disagreement, all_copies, IsBlock, IsFirst, IsNearest}
 use Rattle.dch_trellis.specs.Search.{no_votes}
 use Rattle.dch_collision.specs.Collisions.{IsCollision, IsFirstCollision, NoneCollide, copies_kept}

@@ -6,11 +6,11 @@ use Rattle.std.proofs.lemmas.Bool.Decides.{leb_tells}
 use Rattle.dch_bits.specs.declared.bit.Bit.{Bit}
 use Rattle.dch_bits.specs.declared.bit.Bit.TheVariants.{Zero, One}
 use Rattle.dch_bits.specs.Bits.{number_of, plus, bit_of_number}
-use Rattle.dch_conv.specs.declared.rate.Rate.{Rate}
-use Rattle.dch_conv.specs.declared.rate.Rate.TheVariants.{Half, Third}
-use Rattle.dch_conv.specs.Conv.{outputs, taps, input, coded, coded_length, encoded}
-use Rattle.dch_conv.proofs.Codes.{encoded-at, coded_bit-at}
-use Rattle.dch_conv.proofs.Linear.{sum, get_or-sum, encoded-sum}
+use Rattle.dch_coding.specs.declared.rate.Rate.{Rate}
+use Rattle.dch_coding.specs.declared.rate.Rate.TheVariants.{Half, Third}
+use Rattle.dch_coding.specs.Conv.{outputs, taps, input, coded, coded_length, encoded}
+use Rattle.dch_coding.proofs.Codes.{encoded-at, coded_bit-at}
+use Rattle.dch_coding.proofs.Linear.{sum, get_or-sum, encoded-sum}
 use Rattle.dch_trellis.specs.Nearest.{IsBlock}
 
 plus-self : (x : Bit) → plus x x ≡ Zero

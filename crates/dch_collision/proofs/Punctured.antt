@@ -4,11 +4,11 @@ use Rattle.std.specs.Prelude.{◌==◌, ◌&&◌, ◌||◌, nat_lt}
 use Rattle.std.proofs.lemmas.Bool.Decides.{nat_tests}
 use Rattle.dch_types.specs.declared.config.Uplink.{Uplink}
 use Rattle.dch_types.specs.Parts.{format_number}
-use Rattle.dch_match.specs.declared.pattern.Steps.{Steps}
-use Rattle.dch_match.specs.declared.pattern.Kind.{Kind}
-use Rattle.dch_match.specs.declared.pattern.Kind.TheVariants.{Same, Repeat, Puncture}
-use Rattle.dch_match.specs.Patterns.{copies, copies_below, InRange, StepsFit}
-use Rattle.dch_match.proofs.Changes.{below-same, below-repeat, below-puncture}
+use Rattle.dch_frame.specs.declared.pattern.Steps.{Steps}
+use Rattle.dch_frame.specs.declared.pattern.Kind.{Kind}
+use Rattle.dch_frame.specs.declared.pattern.Kind.TheVariants.{Same, Repeat, Puncture}
+use Rattle.dch_frame.specs.Patterns.{copies, copies_below, InRange, StepsFit}
+use Rattle.dch_frame.proofs.Changes.{below-same, below-repeat, below-puncture}
 use Rattle.dch_collision.specs.Counted.{removes, removes_below, punctures_below}
 
 pub removes-zero : (uplink : Uplink) (i f : ℕ) → removes_below uplink i f 0 ≡ false

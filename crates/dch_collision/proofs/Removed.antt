@@ -15,15 +15,15 @@ use Rattle.dch_types.specs.Parts.{channel_at, format_at, format_number}
 use Rattle.dch_inter.specs.Places.{first_column, frame_of, place_of}
 use Rattle.dch_inter.proofs.FirstColumns.{frame_of-below, place_of-below}
 use Rattle.dch_frame.proofs.Carried.{frame_of_row, place_of_row, rows_of, whole_rows}
-use Rattle.dch_match.specs.declared.pattern.Kind.{Kind}
-use Rattle.dch_match.specs.Patterns.{copies, copies_below, StepsFit}
-use Rattle.dch_match.specs.Shifts.{average_distance, column_shift}
-use Rattle.dch_match.specs.Matched.{change, remainder, frame_start, frame_pattern}
-use Rattle.dch_match.specs.Downlinks.{pattern_of, stands_below}
-use Rattle.dch_match.specs.Uplinks.{before_of, weight_of, sent_of, uplink_pattern, chosen, demand_of}
-use Rattle.dch_match.proofs.MatchedLemmas.{odd_start, matched_kept, matched_formed}
-use Rattle.dch_match.proofs.SharesLemmas.{shared_le, nothing_shared}
-use Rattle.dch_match.proofs.Sizes.{chosen_le, largest_most}
+use Rattle.dch_frame.specs.declared.pattern.Kind.{Kind}
+use Rattle.dch_frame.specs.Patterns.{copies, copies_below, StepsFit}
+use Rattle.dch_frame.specs.Shifts.{average_distance, column_shift}
+use Rattle.dch_frame.specs.Matched.{change, remainder, frame_start, frame_pattern}
+use Rattle.dch_frame.specs.Downlinks.{pattern_of, stands_below}
+use Rattle.dch_frame.specs.Uplinks.{before_of, weight_of, sent_of, uplink_pattern, chosen, demand_of}
+use Rattle.dch_frame.proofs.MatchedLemmas.{odd_start, matched_kept, matched_formed}
+use Rattle.dch_frame.proofs.SharesLemmas.{shared_le, nothing_shared}
+use Rattle.dch_frame.proofs.Sizes.{chosen_le, largest_most}
 use Rattle.dch_collision.specs.Sequences.{frames_of, IsLegal}
 use Rattle.dch_collision.specs.Copies.{frame_size, bits_in, padded_in, frame_copies, uplink_copies, downlink_copies}
 use Rattle.dch_collision.specs.Counted.{removes, removes_below, punctures_below, uplink_punctures, downlink_punctures}

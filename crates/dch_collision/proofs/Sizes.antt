@@ -11,9 +11,9 @@ use Rattle.dch_types.specs.Lengths.{block_count, block_size, coded_block, coded_
 use Rattle.dch_types.specs.Limits.{IsChannel, IsFrames, IsSide}
 use Rattle.dch_types.specs.Parts.{channel_at, format_at}
 use Rattle.dch_types.proofs.Sizes.{block_count-some}
-use Rattle.dch_segment.specs.declared.cut.Plan.{Plan}
-use Rattle.dch_segment.specs.Segments.{plan_of}
-use Rattle.dch_segment.proofs.Sizes.{size_short, filler_few}
+use Rattle.dch_coding.specs.declared.cut.Plan.{Plan}
+use Rattle.dch_coding.specs.Segments.{plan_of}
+use Rattle.dch_coding.proofs.Sizes.{size_short, filler_few}
 use Rattle.dch_coding.proofs.Lengths.{blocks_short}
 use Rattle.dch_coding.proofs.Rooms.{searched_is}
 use Rattle.dch_coding.specs.Rooms.{Holds, format_room}

@@ -10,7 +10,7 @@ use Rattle.dch_types.specs.declared.channel.Side.{Side}
 use Rattle.dch_types.specs.Lengths.{coded_block}
 use Rattle.dch_types.specs.Limits.{IsSide}
 use Rattle.dch_types.specs.Parts.{channel_at}
-use Rattle.dch_segment.specs.declared.cut.Plan.{Plan}
+use Rattle.dch_coding.specs.declared.cut.Plan.{Plan}
 use Rattle.dch_collision.specs.Collisions.{copies_kept}
 use Rattle.dch_collision.proofs.Collide.{sent-one, one-sent}
 use Rattle.dch_collision.specs.Copies.{AreSentFlags}

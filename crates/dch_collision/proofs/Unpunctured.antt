@@ -16,13 +16,13 @@ use Rattle.dch_types.specs.Parts.{channel_at, format_number}
 use Rattle.dch_inter.specs.Places.{frame_of, place_of}
 use Rattle.dch_inter.proofs.FirstColumns.{frame_of-below}
 use Rattle.dch_frame.proofs.Carried.{whole_rows}
-use Rattle.dch_segment.specs.declared.cut.Plan.{Plan}
-use Rattle.dch_segment.specs.Segments.{plan_of, filler_of}
-use Rattle.dch_match.specs.declared.pattern.Kind.{Kind}
-use Rattle.dch_match.specs.Patterns.{copies}
-use Rattle.dch_match.specs.Matched.{matched, frame_pattern}
-use Rattle.dch_match.specs.Uplinks.{before_of, sent_of}
-use Rattle.dch_match.specs.Downlinks.{pattern_of, stands_below}
+use Rattle.dch_coding.specs.declared.cut.Plan.{Plan}
+use Rattle.dch_coding.specs.Segments.{plan_of, filler_of}
+use Rattle.dch_frame.specs.declared.pattern.Kind.{Kind}
+use Rattle.dch_frame.specs.Patterns.{copies}
+use Rattle.dch_frame.specs.Matched.{matched, frame_pattern}
+use Rattle.dch_frame.specs.Uplinks.{before_of, sent_of}
+use Rattle.dch_frame.specs.Downlinks.{pattern_of, stands_below}
 use Rattle.dch_collision.specs.Sequences.{IsLegal}
 use Rattle.dch_collision.specs.Copies.{frame_size, bits_in, padded_in, frame_copies, uplink_copies, downlink_copies}
 use Rattle.dch_collision.specs.Counted.{removes, removes_below, uplink_punctures, punctures_below, downlink_punctures}

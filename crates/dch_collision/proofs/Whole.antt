@@ -5,7 +5,7 @@ use Rattle.std.proofs.lemmas.List.{get_or-replicate}
 use Rattle.dch_types.specs.declared.channel.Coding.{Coding}
 use Rattle.dch_types.specs.declared.channel.Coding.TheVariants.{Uncoded, Half, Third}
 use Rattle.dch_types.specs.Lengths.{coded_block}
-use Rattle.dch_conv.specs.declared.rate.Rate.TheVariants.{Half as HalfRate, Third as ThirdRate}
+use Rattle.dch_coding.specs.declared.rate.Rate.TheVariants.{Half as HalfRate, Third as ThirdRate}
 use Rattle.dch_collision.specs.Collisions.{NoneCollide, copies_kept}
 use Rattle.dch_collision.specs.Hidden.{is_punctured}
 use Rattle.dch_collision.proofs.Collide.{none-lost-step}

@@ -6,9 +6,9 @@ use Rattle.dch_types.specs.declared.config.Downlink.{Downlink}
 use Rattle.dch_types.specs.Lengths.{padded, tti_bits}
 use Rattle.dch_types.specs.Parts.{channel_at, format_at}
 use Rattle.dch_inter.specs.Places.{frame_of, place_of}
-use Rattle.dch_match.specs.Patterns.{copies}
-use Rattle.dch_match.specs.Uplinks.{chosen, demand_of, uplink_pattern}
-use Rattle.dch_match.specs.Downlinks.{pattern_of}
+use Rattle.dch_frame.specs.Patterns.{copies}
+use Rattle.dch_frame.specs.Uplinks.{chosen, demand_of, uplink_pattern}
+use Rattle.dch_frame.specs.Downlinks.{pattern_of}
 
 -- Ndata of uplink combination c
 abbrev pub frame_size : Uplink → ℕ → ℕ

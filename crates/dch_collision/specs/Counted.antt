@@ -5,10 +5,10 @@ use Rattle.dch_types.specs.declared.config.Uplink.{Uplink}
 use Rattle.dch_types.specs.declared.config.Downlink.{Downlink}
 use Rattle.dch_types.specs.Lengths.{joined_bits, block_count}
 use Rattle.dch_types.specs.Parts.{channel_at, format_at, format_number}
-use Rattle.dch_match.specs.declared.pattern.Kind.{Kind}
-use Rattle.dch_match.specs.Patterns.{copies}
-use Rattle.dch_match.specs.Uplinks.{before_of, sent_of}
-use Rattle.dch_match.specs.Downlinks.{pattern_of, stands_below}
+use Rattle.dch_frame.specs.declared.pattern.Kind.{Kind}
+use Rattle.dch_frame.specs.Patterns.{copies}
+use Rattle.dch_frame.specs.Uplinks.{before_of, sent_of}
+use Rattle.dch_frame.specs.Downlinks.{pattern_of, stands_below}
 use Rattle.dch_types.specs.Sums.{total}
 use Rattle.dch_collision.specs.SequenceCounts.{legal_count}
 use Rattle.dch_collision.specs.Copies.{frame_size, bits_in}

@@ -1,7 +1,7 @@
 -- A direction of a configuration with the plans of its rate matching, of which the search looks at each format.
 use Rattle.dch_types.specs.declared.channel.Side.{Side}
 use Rattle.dch_types.specs.Limits.{IsDownlink, IsUplink}
-use Rattle.dch_match.specs.Downlinks.{IsDownlinkPlan}
+use Rattle.dch_frame.specs.Downlinks.{IsDownlinkPlan}
 use Rattle.dch_collision.specs.Copies.{downlink_copies, uplink_copies}
 use Rattle.dch_collision.specs.Plans.{AreAllPlans}
 use Rattle.dch_collision.specs.declared.direction.Direction.{Direction}

@@ -4,8 +4,8 @@ use Rattle.dch_bits.specs.declared.bit.Bit.{Bit}
 use Rattle.dch_types.specs.declared.channel.Coding.{Coding}
 use Rattle.dch_types.specs.declared.channel.Side.{Side}
 use Rattle.dch_types.specs.Parts.{channel_at}
-use Rattle.dch_segment.specs.declared.cut.Plan.{Plan}
-use Rattle.dch_segment.specs.Segments.{plan_of, filler_of}
+use Rattle.dch_coding.specs.declared.cut.Plan.{Plan}
+use Rattle.dch_coding.specs.Segments.{plan_of, filler_of}
 use Rattle.dch_collision.specs.Sequences.{IsLegal, IsBefore}
 use Rattle.dch_collision.specs.Collisions.{IsFirstCollision}
 use Rattle.dch_collision.specs.declared.found.Found.{Found}

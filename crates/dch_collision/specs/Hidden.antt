@@ -5,9 +5,9 @@ use Rattle.dch_bits.specs.declared.bit.Bit.TheVariants.{Zero, One}
 use Rattle.dch_bits.specs.declared.bit.Vote.{Vote}
 use Rattle.dch_types.specs.declared.channel.Coding.{Coding}
 use Rattle.dch_types.specs.declared.channel.Coding.TheVariants.{Half, Third}
-use Rattle.dch_conv.specs.declared.rate.Rate.{Rate}
-use Rattle.dch_conv.specs.declared.rate.Rate.TheVariants.{Half as HalfRate, Third as ThirdRate}
-use Rattle.dch_conv.specs.Conv.{coded_length, encoded}
+use Rattle.dch_coding.specs.declared.rate.Rate.{Rate}
+use Rattle.dch_coding.specs.declared.rate.Rate.TheVariants.{Half as HalfRate, Third as ThirdRate}
+use Rattle.dch_coding.specs.Conv.{coded_length, encoded}
 use Rattle.dch_trellis.specs.Nearest.{IsBlock, IsFirst}
 use Rattle.dch_trellis.specs.Search.{no_votes}
 

@@ -6,7 +6,7 @@ use Rattle.dch_types.specs.declared.channel.Side.{Side}
 use Rattle.dch_types.specs.Lengths.{coded_block}
 use Rattle.dch_types.specs.Parts.{channel_at}
 use Rattle.dch_coding.specs.declared.room.CodingRoom.{CodingRoom}
-use Rattle.dch_segment.specs.Segments.{plan_of}
+use Rattle.dch_coding.specs.Segments.{plan_of}
 use Rattle.dch_collision.specs.Copies.{bits_in, padded_in}
 use Rattle.dch_collision.specs.declared.found.FormatCollision.{FormatCollision}
 use Rattle.dch_collision.specs.declared.shape.Shape.{Shape}

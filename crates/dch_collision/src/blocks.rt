@@ -8,7 +8,7 @@ ghost use Rattle.dch_collision.specs.Found.{IsFirstInBlock, IsFirstBlock};
 use crate::collider::Collider;
 use crate::shape::Shape;
 use dch_bits::Bit;
-use dch_segment::Plan;
+use dch_coding::Plan;
 use dch_types::Coding;
 
 /// The first code block of a format in whose place two blocks collide, where the flags tell which coded bits are sent. The first

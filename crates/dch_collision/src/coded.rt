@@ -1,12 +1,12 @@
 ghost use Rattle.std.specs.Prelude.{◌≡◌, ℕ, ◌<◌, ◌≤◌, ◌+◌, ◌*◌, List, false, true, length, slice_index_or};
 ghost use Rattle.dch_bits.specs.declared.bit.Bit.{Bit};
-ghost use Rattle.dch_conv.specs.Conv.{coded_length, outputs};
+ghost use Rattle.dch_coding.specs.Conv.{coded_length, outputs};
 ghost use Rattle.dch_collision.specs.Collisions.{copies_kept, IsFirstCollision, NoneCollide};
 ghost use Rattle.dch_collision.specs.Hidden.{coding_of, is_punctured, IsHidden, IsFirstHidden};
 
 use crate::votes::{fill, removed};
 use dch_bits::{Bit, Vote};
-use dch_conv::Rate;
+use dch_coding::Rate;
 use dch_trellis::Trellis;
 
 /// Whether two blocks of a rate collide. The first of them is looked for only where two quicker tests let it.

@@ -1,14 +1,14 @@
 ghost use Rattle.std.specs.Prelude.{◌≡◌, ◌≢◌, ◌≤◌, true, false, length, IfOk};
 ghost use Rattle.dch_types.specs.declared.channel.Coding.TheVariants.{Uncoded};
 ghost use Rattle.dch_types.specs.Lengths.{coded_block};
-ghost use Rattle.dch_conv.specs.Conv.{coded_length};
+ghost use Rattle.dch_coding.specs.Conv.{coded_length};
 ghost use Rattle.dch_collision.specs.Hidden.{coding_of};
 ghost use Rattle.dch_collision.specs.Collisions.{copies_kept, IsFirstCollision, NoneCollide};
 
 use crate::coded::find_coded;
 use crate::uncoded::find_uncoded;
 use dch_bits::{Bit, NoMemory, Vote};
-use dch_conv::Rate;
+use dch_coding::Rate;
 use dch_trellis::Trellis;
 use dch_types::Coding;
 use std::alloc::Global;

@@ -1,13 +1,13 @@
 ghost use Rattle.std.specs.Prelude.{◌≡◌, ◌<◌, ◌≤◌, ◌^◌, length};
 ghost use Rattle.dch_types.specs.Limits.{IsDownlink, IsSide, IsUplink};
 ghost use Rattle.dch_types.specs.Parts.{channel_at};
-ghost use Rattle.dch_match.specs.Downlinks.{IsDownlinkPlan};
+ghost use Rattle.dch_frame.specs.Downlinks.{IsDownlinkPlan};
 ghost use Rattle.dch_types.specs.Sums.{total};
 ghost use Rattle.dch_collision.specs.Plans.{AreAllPlans};
 ghost use Rattle.dch_collision.specs.Counted.{blocks_in, uplink_count, downlink_count, over_formats, search_count};
 
 use crate::puncturing::{downlink_punctures, uplink_punctures};
-use dch_match::{DownlinkPlan, UplinkPlan};
+use dch_frame::{DownlinkPlan, UplinkPlan};
 use dch_types::{Downlink, Side, Uplink};
 
 /// How many code blocks may lose bits by rate matching. A block of the uplink counts once for each legal sequence of its

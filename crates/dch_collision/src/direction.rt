@@ -11,7 +11,7 @@ use crate::found::FormatCollision;
 use crate::search::Room;
 use crate::{downlink, uplink};
 use dch_bits::Bit;
-use dch_match::{DownlinkPlan, UplinkPlan};
+use dch_frame::{DownlinkPlan, UplinkPlan};
 use dch_types::{Downlink, Side, Uplink};
 
 /// A direction of a configuration, with the plans of its rate matching.

@@ -3,7 +3,7 @@ ghost use Rattle.dch_types.specs.declared.channel.Coding.TheVariants.{Uncoded};
 ghost use Rattle.dch_types.specs.Limits.{IsDownlink};
 ghost use Rattle.dch_types.specs.Parts.{channel_at, format_at};
 ghost use Rattle.dch_coding.specs.Rooms.{Holds, format_room};
-ghost use Rattle.dch_match.specs.Downlinks.{IsDownlinkPlan};
+ghost use Rattle.dch_frame.specs.Downlinks.{IsDownlinkPlan};
 ghost use Rattle.dch_collision.specs.Sequences.{frames_of};
 ghost use Rattle.dch_collision.specs.Copies.{downlink_copies, AreSentFlags};
 ghost use Rattle.dch_collision.specs.Clear.{IsClearUnder, IsClearFormat};
@@ -18,7 +18,7 @@ use crate::puncturing::downlink_punctures;
 use crate::search::Room;
 use crate::shape::{Shape, shape_of};
 use dch_bits::Bit;
-use dch_match::DownlinkPlan;
+use dch_frame::DownlinkPlan;
 use dch_types::Downlink;
 
 /// The first collision in a format: under its first legal sequence, since the others remove the same bits.

@@ -1,15 +1,14 @@
 ghost use Rattle.std.specs.Prelude.{◌≡◌, ◌<◌, ◌≤◌, ℕ, List, length};
 ghost use Rattle.dch_types.specs.Limits.{IsUplink, IsDownlink};
 ghost use Rattle.dch_types.specs.Parts.{channel_at, format_number};
-ghost use Rattle.dch_match.specs.Patterns.{IsWellFormed, copies};
-ghost use Rattle.dch_match.specs.Uplinks.{before_of};
-ghost use Rattle.dch_match.specs.Downlinks.{IsDownlinkPlan};
+ghost use Rattle.dch_frame.specs.Patterns.{IsWellFormed, copies};
+ghost use Rattle.dch_frame.specs.Uplinks.{before_of};
+ghost use Rattle.dch_frame.specs.Downlinks.{IsDownlinkPlan};
 ghost use Rattle.dch_collision.specs.Sequences.{IsLegal};
 ghost use Rattle.dch_collision.specs.Plans.{AreAllPlans};
 ghost use Rattle.dch_collision.specs.Copies.{bits_in, padded_in, frame_copies, uplink_copies, downlink_copies, AreSentFlags};
 
-use dch_frame::put_segment;
-use dch_match::{DownlinkPlan, Pattern, UplinkPlan, Walk, frame};
+use dch_frame::{DownlinkPlan, Pattern, UplinkPlan, Walk, frame, put_segment};
 use dch_types::{Downlink, Uplink};
 
 /// Which coded bits of a TTI of an uplink channel are sent at least once under a legal sequence, and which places of padding.

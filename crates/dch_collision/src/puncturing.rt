@@ -1,12 +1,12 @@
 ghost use Rattle.std.specs.Prelude.{◌≡◌, ◌<◌, ◌≤◌, ◌==◌, ◌&&◌, length, nat_lt};
 ghost use Rattle.dch_types.specs.Limits.{IsUplink, IsDownlink};
 ghost use Rattle.dch_types.specs.Parts.{channel_at, format_number};
-ghost use Rattle.dch_match.specs.Patterns.{IsWellFormed};
-ghost use Rattle.dch_match.specs.Downlinks.{IsDownlinkPlan};
+ghost use Rattle.dch_frame.specs.Patterns.{IsWellFormed};
+ghost use Rattle.dch_frame.specs.Downlinks.{IsDownlinkPlan};
 ghost use Rattle.dch_collision.specs.Plans.{AreAllPlans};
 ghost use Rattle.dch_collision.specs.Counted.{removes, punctures_below, uplink_punctures, downlink_punctures};
 
-use dch_match::{DownlinkPlan, Pattern, UplinkPlan, is_used, kept};
+use dch_frame::{DownlinkPlan, Pattern, UplinkPlan, is_used, kept};
 use dch_types::{Downlink, Uplink};
 
 /// Whether some legal sequence of the uplink removes bits of a channel in a format: where a combination with that format sends

@@ -3,8 +3,8 @@ ghost use Rattle.dch_types.specs.Limits.{IsSide};
 ghost use Rattle.dch_types.specs.Parts.{channel_at};
 ghost use Rattle.dch_collision.specs.Shapes.{IsShape};
 
+use dch_coding::{Plan, plan};
 use dch_inter::equalise;
-use dch_segment::{Plan, plan};
 use dch_types::{Coding, Side};
 
 /// The sizes of a format of a channel: its code blocks, and the coded bits of a TTI before and after padding.

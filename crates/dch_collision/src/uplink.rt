@@ -16,7 +16,7 @@ use crate::puncturing::uplink_punctures;
 use crate::search::Room;
 use crate::shape::{Shape, shape_of};
 use dch_bits::Bit;
-use dch_match::UplinkPlan;
+use dch_frame::UplinkPlan;
 use dch_types::Uplink;
 
 /// The first collision in a format: under each legal sequence, if some of them removes bits.

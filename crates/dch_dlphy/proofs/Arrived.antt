@@ -14,10 +14,10 @@ use Rattle.dch_types.specs.Limits.{IsDownlink, IsFrames}
 use Rattle.dch_types.specs.Parts.{channel_at}
 use Rattle.dch_inter.specs.Places.{first_of, first_back_of, frame_of, place_of}
 use Rattle.dch_inter.proofs.FirstColumns.{first_of-back, first_back_of-inside, frame_of-below, frame_place}
-use Rattle.dch_match.specs.declared.pattern.Pattern.{Pattern}
-use Rattle.dch_match.specs.Downlinks.{IsDownlinkPlan}
+use Rattle.dch_frame.specs.declared.pattern.Pattern.{Pattern}
+use Rattle.dch_frame.specs.Downlinks.{IsDownlinkPlan}
 use Rattle.dch_types.specs.Lengths.{code_bits, frame_bits}
-use Rattle.dch_match.specs.Patterns.{copies_below}
+use Rattle.dch_frame.specs.Patterns.{copies_below}
 use Rattle.dch_types.proofs.Sums.{part_le}
 use Rattle.dch_frame.specs.Stages.{as_cell, code_back, origin_of}
 use Rattle.dch_frame.proofs.Carried.{place_inside, rows_of, whole_rows}

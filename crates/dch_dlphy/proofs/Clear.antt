@@ -8,9 +8,9 @@ use Rattle.dch_types.specs.declared.channel.Dir.TheVariants.{Down}
 use Rattle.dch_types.specs.declared.channel.Side.{Side}
 use Rattle.dch_types.specs.Limits.{IsDownlink, IsFrames}
 use Rattle.dch_types.specs.Parts.{channel_at, format_number}
-use Rattle.dch_match.specs.declared.pattern.Pattern.{Pattern}
-use Rattle.dch_match.specs.Downlinks.{IsDownlinkPlan}
-use Rattle.dch_match.specs.Patterns.{copies}
+use Rattle.dch_frame.specs.declared.pattern.Pattern.{Pattern}
+use Rattle.dch_frame.specs.Downlinks.{IsDownlinkPlan}
+use Rattle.dch_frame.specs.Patterns.{copies}
 use Rattle.dch_collision.specs.Sequences.{IsLegal}
 use Rattle.dch_collision.specs.Clear.{HasNoCollision, IsClear, joined_in}
 use Rattle.dch_accept.specs.Plans.{Planned}

@@ -4,8 +4,8 @@ use Rattle.std.specs.Prelude.{◌++◌}
 use Rattle.std.proofs.lemmas.List.{get_or-take, length-append, length-take, length-take-le, take-append-le, take-take}
 use Rattle.dch_bits.specs.declared.bit.Trit.{Trit}
 use Rattle.dch_bits.specs.declared.bit.Trit.TheVariants.{Off}
-use Rattle.dch_match.specs.declared.pattern.Pattern.{Pattern}
-use Rattle.dch_match.specs.Patterns.{copies_below}
+use Rattle.dch_frame.specs.declared.pattern.Pattern.{Pattern}
+use Rattle.dch_frame.specs.Patterns.{copies_below}
 use Rattle.dch_accept.specs.Plans.{Planned}
 use Rattle.dch_tti.specs.RxFrames.{RxFrames}
 use Rattle.dch_dlphy.specs.Loaded.{tti_cells}

@@ -9,10 +9,10 @@ use Rattle.dch_bits.specs.declared.bit.Bit.{Bit}
 use Rattle.dch_bits.specs.declared.bit.Bit.TheVariants.{Zero}
 use Rattle.dch_bits.specs.declared.bit.Trit.{Trit}
 use Rattle.dch_bits.specs.declared.bit.Trit.TheVariants.{Off}
-use Rattle.dch_match.specs.declared.pattern.Pattern.{Pattern}
-use Rattle.dch_match.specs.Patterns.{copies_below}
+use Rattle.dch_frame.specs.declared.pattern.Pattern.{Pattern}
+use Rattle.dch_frame.specs.Patterns.{copies_below}
 use Rattle.dch_frame.specs.Stages.{as_cell, origin_of}
-use Rattle.dch_frame.proofs.Kept.{origin_of-inside}
+use Rattle.dch_frame.proofs.KeptBits.{origin_of-inside}
 use Rattle.dch_inter.specs.Places.{first_of}
 use Rattle.dch_tti.specs.Loaded.{AreInterleaved}
 use Rattle.dch_dlphy.specs.Loaded.{AreFilled, filled_cell}

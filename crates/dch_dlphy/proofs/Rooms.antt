@@ -10,10 +10,10 @@ use Rattle.dch_types.specs.declared.config.Downlink.{Downlink}
 use Rattle.dch_types.specs.Lengths.{frame_bits, tti_bits}
 use Rattle.dch_types.specs.Limits.{IsDownlink, IsFrames, IsSide}
 use Rattle.dch_types.specs.Parts.{channel_at, format_at}
-use Rattle.dch_match.specs.Downlinks.{eighths, first_places, fixed_places, fixed_weight, flexible_weight, greatest, places_after, places_of, stands_below}
-use Rattle.dch_match.proofs.Greatest.{ceil_le, stands_le}
-use Rattle.dch_match.proofs.Lowered.{after_le}
-use Rattle.dch_match.proofs.SharesLemmas.{shared_le}
+use Rattle.dch_frame.specs.Downlinks.{eighths, first_places, fixed_places, fixed_weight, flexible_weight, greatest, places_after, places_of, stands_below}
+use Rattle.dch_frame.proofs.Greatest.{ceil_le, stands_le}
+use Rattle.dch_frame.proofs.Lowered.{after_le}
+use Rattle.dch_frame.proofs.SharesLemmas.{shared_le}
 
 -- the places of a radio frame are enough for the most of any
 frame_room : (downlink : Downlink) → IsDownlink downlink → frame_bits downlink ≤ 57240

@@ -7,9 +7,9 @@ use Rattle.dch_bits.specs.declared.bit.Vote.{Vote}
 use Rattle.dch_types.specs.declared.channel.Dir.TheVariants.{Down}
 use Rattle.dch_types.specs.Limits.{IsDownlink}
 use Rattle.dch_types.specs.Parts.{channel_at}
-use Rattle.dch_match.specs.declared.pattern.Pattern.{Pattern}
-use Rattle.dch_match.specs.Downlinks.{IsDownlinkPlan}
-use Rattle.dch_match.specs.Patterns.{copies}
+use Rattle.dch_frame.specs.declared.pattern.Pattern.{Pattern}
+use Rattle.dch_frame.specs.Downlinks.{IsDownlinkPlan}
+use Rattle.dch_frame.specs.Patterns.{copies}
 use Rattle.dch_frame.specs.Stages.{as_cell, origin_of}
 use Rattle.dch_frame.proofs.Counts.{votes_of-shown}
 use Rattle.dch_accept.specs.Plans.{Planned}

@@ -1,11 +1,10 @@
 ghost use Rattle.std.specs.Prelude.{◌≡◌, ◌<◌, ◌≤◌, ℕ, length, slice_index_or};
 ghost use Rattle.dch_bits.specs.declared.bit.Trit.TheVariants.{Off};
-ghost use Rattle.dch_match.specs.Patterns.{IsWellFormed, copies_below};
+ghost use Rattle.dch_frame.specs.Patterns.{IsWellFormed, copies_below};
 ghost use Rattle.dch_dlphy.specs.Loaded.{filled_cell};
 
 use dch_bits::{Bit, Trit};
-use dch_frame::{rate_match, show};
-use dch_match::{Pattern, kept};
+use dch_frame::{Pattern, kept, rate_match, show};
 
 /// Writes the cells of a TTI before the first interleaver: its coded bits after rate matching, and places in which nothing
 /// is sent (TS 25.212 4.2.7.5, 4.2.9.1). `shown` is room for the coded bits as cells.

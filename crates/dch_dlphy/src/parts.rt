@@ -1,12 +1,12 @@
 ghost use Rattle.std.specs.Prelude.{◌≡◌, ◌<◌, ◌≤◌, ◌+◌, ◌*◌, length};
 ghost use Rattle.dch_types.specs.Lengths.{frame_bits, tti_bits};
 ghost use Rattle.dch_types.specs.Parts.{channel_at, format_at};
-ghost use Rattle.dch_match.specs.Patterns.{IsWellFormed, copies_below};
+ghost use Rattle.dch_frame.specs.Patterns.{IsWellFormed, copies_below};
 ghost use Rattle.dch_dlphy.specs.Frames.{bits_before, bits_per_frame};
 ghost use Rattle.dch_dlphy.specs.Loaded.{matching_of};
 
 use dch_accept::Accepted;
-use dch_match::Pattern;
+use dch_frame::Pattern;
 
 /// The rate matching of a TTI of a channel in a format.
 pub fn pattern_of(accepted: &Accepted, channel: u8, format: u8) -> Pattern

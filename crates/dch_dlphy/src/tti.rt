@@ -2,7 +2,7 @@ ghost use Rattle.std.specs.Prelude.{◌≡◌, ◌≢◌, ◌<◌, ◌≤◌, �
 ghost use Rattle.dch_types.specs.Limits.{IsChannel};
 ghost use Rattle.dch_types.specs.Lengths.{tti_bits};
 ghost use Rattle.dch_types.specs.Parts.{channel_at, format_at};
-ghost use Rattle.dch_match.specs.Patterns.{IsWellFormed, copies_below};
+ghost use Rattle.dch_frame.specs.Patterns.{IsWellFormed, copies_below};
 ghost use Rattle.dch_coding.specs.Ttis.{IsCodedTti};
 ghost use Rattle.dch_accept.specs.Blocks.{bits_of};
 ghost use Rattle.dch_tti.specs.Loaded.{loaded_at};
@@ -13,7 +13,7 @@ use crate::parts::{bits_per_frame, pattern_of};
 use dch_accept::Accepted;
 use dch_bits::{Bit, NoMemory, Trit};
 use dch_coding::TtiCoder;
-use dch_match::Pattern;
+use dch_frame::Pattern;
 use dch_tti::{TtiBuffer, tti_buffers};
 use dch_types::{Dir, Format, Trch};
 use std::alloc::Global;

@@ -1,10 +1,10 @@
 -- The error counter from bit to bit.
 use Rattle.std.proofs.Common.{◌≡◌, ◌+◌, ◌-◌, ◌*◌, ◌<◌, ◌≤◌, ℕ, arith, refl}
 use Rattle.std.proofs.Math.Nat.{add-mul, one-mul, lt_of_mul-lt-mul_right}
-use Rattle.dch_match.specs.declared.pattern.Steps.{Steps}
-use Rattle.dch_match.specs.declared.pattern.Kind.TheVariants.{Repeat, Puncture}
-use Rattle.dch_match.specs.Patterns.{changes, copies, copies_below, InRange}
-use Rattle.dch_match.proofs.Changes.{below-more, below_le, changes-zero, changes_bounds, counter_bounds, next_changes, next_counter, one_more}
+use Rattle.dch_frame.specs.declared.pattern.Steps.{Steps}
+use Rattle.dch_frame.specs.declared.pattern.Kind.TheVariants.{Repeat, Puncture}
+use Rattle.dch_frame.specs.Patterns.{changes, copies, copies_below, InRange}
+use Rattle.dch_frame.proofs.Changes.{below-more, below_le, changes-zero, changes_bounds, counter_bounds, next_changes, next_counter, one_more}
 
 -- the counter before bit m
 abbrev pub counter_before : Steps → ℕ → ℕ

@@ -1,5 +1,13 @@
 pub mod Codes
-pub mod Kept
+pub mod KeptBits
 pub mod Counters
 pub mod Counts
 pub mod Carried
+pub mod Changes
+pub mod Fits
+pub mod Greatest
+pub mod Lowered
+pub mod MatchedLemmas
+pub mod SharesLemmas
+pub mod Sizes
+pub mod Turns

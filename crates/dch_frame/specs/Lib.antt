@@ -2,3 +2,11 @@ pub mod Sizes
 pub mod Stages
 pub mod Votes
 pub mod Table
+pub mod Downlinks
+pub mod Matched
+pub mod Patterns
+pub mod Places
+pub mod Shares
+pub mod Shifts
+pub mod Uplinks
+pub mod Walks

@@ -5,14 +5,14 @@ ghost use Rattle.dch_bits.specs.declared.bit.Trit.TheVariants.{Off};
 ghost use Rattle.dch_bits.specs.declared.bit.Vote.{Vote};
 ghost use Rattle.dch_inter.specs.Places.{frame_of, place_of};
 ghost use Rattle.dch_types.specs.Limits.{IsFrames};
-ghost use Rattle.dch_match.specs.Patterns.{IsWellFormed, copies, copies_below};
+ghost use Rattle.dch_frame.specs.Patterns.{IsWellFormed, copies, copies_below};
 ghost use Rattle.dch_frame.specs.Stages.{as_cell, origin_of};
 ghost use Rattle.dch_frame.specs.Votes.{votes_of, copies_as_votes};
 
+use crate::pattern::Pattern;
 use crate::segments::put_segment;
 use crate::votes::count_votes;
 use dch_bits::{Trit, Vote};
-use dch_match::Pattern;
 
 /// Counts the votes of what radio frame `frame` carried of a TTI of so many radio frames, and puts them to the places of
 /// the TTI. The other places stay. `counted` is room for the votes of one radio frame.

@@ -1,9 +1,9 @@
 ghost use Rattle.std.specs.Prelude.{◌≡◌, ◌<◌, ◌≤◌, ℕ, length, slice_index_or};
-ghost use Rattle.dch_match.specs.declared.pattern.Kind.TheVariants.{Repeat, Puncture};
-ghost use Rattle.dch_match.specs.Patterns.{InRange, IsWellFormed, copies_below};
+ghost use Rattle.dch_frame.specs.declared.pattern.Kind.TheVariants.{Repeat, Puncture};
+ghost use Rattle.dch_frame.specs.Patterns.{InRange, IsWellFormed, copies_below};
 ghost use Rattle.dch_frame.specs.Stages.{AreKept, origin_of};
 
-use dch_match::{Kind, Pattern, Steps};
+use crate::pattern::{Kind, Pattern, Steps};
 
 /// Writes each bit as often as rate matching keeps it (TS 25.212 4.2.7.5).
 pub fn rate_match<T: Copy>(pattern: &Pattern, bits: &[T], out: &mut [T])

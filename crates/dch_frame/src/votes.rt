@@ -3,13 +3,13 @@ ghost use Rattle.dch_bits.specs.declared.bit.Bit.{Bit};
 ghost use Rattle.dch_bits.specs.declared.bit.Bit.TheVariants.{Zero};
 ghost use Rattle.dch_bits.specs.declared.bit.Trit.TheVariants.{Off};
 ghost use Rattle.dch_bits.specs.declared.bit.Vote.{Vote};
-ghost use Rattle.dch_match.specs.declared.pattern.Kind.TheVariants.{Repeat, Puncture};
-ghost use Rattle.dch_match.specs.Patterns.{InRange, IsWellFormed, copies, copies_below};
+ghost use Rattle.dch_frame.specs.declared.pattern.Kind.TheVariants.{Repeat, Puncture};
+ghost use Rattle.dch_frame.specs.Patterns.{InRange, IsWellFormed, copies, copies_below};
 ghost use Rattle.dch_frame.specs.Stages.{as_cell, origin_of};
 ghost use Rattle.dch_frame.specs.Votes.{AreCounted, vote_of, votes_of, copies_as_votes};
 
+use crate::pattern::{Kind, Pattern, Steps};
 use dch_bits::{Trit, Vote};
-use dch_match::{Kind, Pattern, Steps};
 
 /// Counts the votes for each bit of a stream: the received cells that show its copies. Off is no vote.
 pub fn count_votes(pattern: &Pattern, cells: &[Trit], out: &mut [Vote])

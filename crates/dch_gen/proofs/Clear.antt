@@ -5,11 +5,11 @@ use Rattle.dch_types.specs.declared.channel.Coding.TheVariants.{Half}
 use Rattle.dch_types.specs.declared.config.Downlink.{Downlink}
 use Rattle.dch_types.specs.Lengths.{coded_block}
 use Rattle.dch_types.specs.Parts.{channel_at}
-use Rattle.dch_segment.specs.declared.cut.Plan.{Plan}
-use Rattle.dch_segment.specs.Segments.{plan_of, filler_of}
-use Rattle.dch_match.specs.Matched.{steps_of}
-use Rattle.dch_match.specs.Patterns.{copies}
-use Rattle.dch_match.specs.Downlinks.{pattern_of}
+use Rattle.dch_coding.specs.declared.cut.Plan.{Plan}
+use Rattle.dch_coding.specs.Segments.{plan_of, filler_of}
+use Rattle.dch_frame.specs.Matched.{steps_of}
+use Rattle.dch_frame.specs.Patterns.{copies}
+use Rattle.dch_frame.specs.Downlinks.{pattern_of}
 use Rattle.dch_collision.specs.Copies.{uplink_copies, downlink_copies}
 use Rattle.dch_collision.specs.Clear.{block_copies, joined_in, IsClear, IsClearFormat, IsClearSide, AreClearBlocks}
 use Rattle.dch_collision.proofs.Unpunctured.{uplink_whole}

@@ -2,12 +2,12 @@
 use Rattle.std.proofs.Common.{◌≡◌, ◌<◌, ℕ, refl, subst, sym, arith}
 use Rattle.dch_types.specs.Lengths.{tti_bits}
 use Rattle.dch_types.specs.Sums.{total}
-use Rattle.dch_match.specs.declared.pattern.Steps.{Steps}
-use Rattle.dch_match.specs.declared.pattern.Kind.{Kind}
-use Rattle.dch_match.specs.declared.pattern.Kind.TheVariants.{Repeat, Puncture}
-use Rattle.dch_match.specs.Matched.{steps_of}
-use Rattle.dch_match.specs.Patterns.{copies}
-use Rattle.dch_match.specs.Downlinks.{most_below, pattern_of}
+use Rattle.dch_frame.specs.declared.pattern.Steps.{Steps}
+use Rattle.dch_frame.specs.declared.pattern.Kind.{Kind}
+use Rattle.dch_frame.specs.declared.pattern.Kind.TheVariants.{Repeat, Puncture}
+use Rattle.dch_frame.specs.Matched.{steps_of}
+use Rattle.dch_frame.specs.Patterns.{copies}
+use Rattle.dch_frame.specs.Downlinks.{most_below, pattern_of}
 use Rattle.dch_gen.specs.Channels.{gen_channels}
 use Rattle.dch_gen.specs.Configuration.{gen_side, gen_config}
 

@@ -6,7 +6,7 @@ use Rattle.dch_types.specs.declared.config.Uplink.{Uplink}
 use Rattle.dch_types.specs.Lengths.{tti_bits}
 use Rattle.dch_types.specs.Sums.{total}
 use Rattle.dch_types.specs.Parts.{format_number}
-use Rattle.dch_match.specs.Uplinks.{least_rm, set2, chosen, demand_of}
+use Rattle.dch_frame.specs.Uplinks.{least_rm, set2, chosen, demand_of}
 use Rattle.dch_collision.specs.Steps.{all_below}
 use Rattle.dch_collision.specs.Counted.{removes, removes_below, uplink_punctures}
 use Rattle.dch_accept.specs.Answers.{HaveAllRates}

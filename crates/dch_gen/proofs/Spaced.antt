@@ -8,13 +8,13 @@ use Rattle.std.proofs.lemmas.Bool.{cases_lt}
 use Rattle.std.proofs.lemmas.Bool.Decides.{nat_tests}
 use Rattle.dch_types.specs.declared.channel.Coding.TheVariants.{Half}
 use Rattle.dch_types.specs.Lengths.{coded_block}
-use Rattle.dch_conv.specs.declared.rate.Rate.TheVariants.{Half as HalfRate}
-use Rattle.dch_segment.specs.declared.cut.Plan.{Plan}
-use Rattle.dch_segment.specs.Segments.{filler_of}
-use Rattle.dch_match.specs.declared.pattern.Steps.{Steps}
-use Rattle.dch_match.specs.declared.pattern.Kind.TheVariants.{Puncture}
-use Rattle.dch_match.specs.Patterns.{InRange, changes, copies}
-use Rattle.dch_match.proofs.Changes.{changes_bounds, one_more}
+use Rattle.dch_coding.specs.declared.rate.Rate.TheVariants.{Half as HalfRate}
+use Rattle.dch_coding.specs.declared.cut.Plan.{Plan}
+use Rattle.dch_coding.specs.Segments.{filler_of}
+use Rattle.dch_frame.specs.declared.pattern.Steps.{Steps}
+use Rattle.dch_frame.specs.declared.pattern.Kind.TheVariants.{Puncture}
+use Rattle.dch_frame.specs.Patterns.{InRange, changes, copies}
+use Rattle.dch_frame.proofs.Changes.{changes_bounds, one_more}
 use Rattle.dch_collision.specs.Collisions.{NoneCollide, copies_kept}
 use Rattle.dch_collision.specs.Clear.{AreClearBlocks, block_copies}
 use Rattle.dch_collision.specs.Hidden.{is_punctured}

@@ -2,8 +2,8 @@
 use Rattle.std.proofs.Common.{◌≡◌, ℕ, List, ◌∷◌, drop, refl, ap, sym, subst, ◌∙◌}
 use Rattle.dch_bits.specs.declared.bit.Bit.{Bit}
 use Rattle.dch_bits.specs.declared.bit.Bit.TheVariants.{One}
-use Rattle.dch_crc.specs.Parity.{IsCheck, header_polynomial, payload_polynomial, number_of_bits}
-use Rattle.dch_crc.proofs.Unique.{parity_one}
+use Rattle.dch_coding.specs.Parity.{IsCheck, header_polynomial, payload_polynomial, number_of_bits}
+use Rattle.dch_coding.proofs.Unique.{parity_one}
 
 one_check : (low a : List Bit) (x y : ℕ) → IsCheck (One ∷ low) a x → IsCheck (One ∷ low) a y → x ≡ y
 one_check low a x y first second = first.number ∙ ap number_of_bits (parity_one low a first.parity second.parity first.is second.is) ∙ sym second.number

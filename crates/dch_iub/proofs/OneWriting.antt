@@ -6,7 +6,7 @@ use Rattle.std.proofs.lemmas.Bool.{cases_lt}
 use Rattle.std.proofs.lemmas.List.{ext_get_or}
 use Rattle.dch_bits.specs.Bits.{bit_of_number}
 use Rattle.dch_bits.specs.Octets.{bit_of_octets, octet_bit}
-use Rattle.dch_crc.specs.Parity.{IsCheck, header_polynomial, payload_polynomial}
+use Rattle.dch_coding.specs.Parity.{IsCheck, header_polynomial, payload_polynomial}
 use Rattle.dch_types.specs.declared.channel.Dir.{Dir}
 use Rattle.dch_types.specs.declared.channel.Dir.TheVariants.{Up, Down}
 use Rattle.dch_types.specs.declared.channel.Side.{Side}

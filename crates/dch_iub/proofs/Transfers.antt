@@ -5,7 +5,7 @@ use Rattle.std.specs.Int.{div_ceil}
 use Rattle.dch_bits.specs.declared.bit.Bit.{Bit}
 use Rattle.dch_types.specs.declared.channel.Side.{Side}
 use Rattle.dch_types.specs.Parts.{channel_at}
-use Rattle.dch_crc.specs.Parity.{IsCheck, header_polynomial}
+use Rattle.dch_coding.specs.Parity.{IsCheck, header_polynomial}
 use Rattle.dch_accept.specs.HeldSets.{HeldSet, HasFormat, held_at}
 use Rattle.dch_accept.specs.Padded.{bits_from, format_octets}
 use Rattle.dch_iub.specs.Shape.{ForSet, sum_before, header_octets, number_place, blocks_end, blocks_place, octets_before, format_in}

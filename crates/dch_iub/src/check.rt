@@ -1,10 +1,10 @@
 ghost use Rattle.std.specs.Prelude.{◌≡◌, ◌+◌, ◌-◌, ◌*◌, ◌<◌, ◌≤◌, ◌↔◌, ℕ, length, take, true, IsTrue};
-ghost use Rattle.dch_crc.specs.Parity.{IsCheck, header_polynomial, payload_polynomial};
+ghost use Rattle.dch_coding.specs.Parity.{IsCheck, header_polynomial, payload_polynomial};
 ghost use Rattle.dch_accept.specs.Padded.{bits_from};
 ghost use Rattle.dch_iub.specs.Forms.{IsHeaderCheck, IsPayloadCheck};
 
 use dch_bits::{Bit, unpack};
-use dch_crc::{header7, payload16};
+use dch_coding::{header7, payload16};
 
 /// The check of the bits of a header after its first seven, of which `bits` takes all.
 fn check_of(frame: &[u8], bits: &mut [Bit]) -> u8

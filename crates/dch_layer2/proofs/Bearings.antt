@@ -21,7 +21,7 @@ use Rattle.dch_am.specs.Receiver.{Receiver}
 use Rattle.dch_am.specs.Rules.{Rules}
 use Rattle.dch_am.specs.Sender.{Sender, after_offer, offered}
 use Rattle.dch_am.specs.Telling.{tick_receiver}
-use Rattle.dch_select.specs.declared.head.Head.{Head}
+use Rattle.dch_mac.specs.declared.head.Head.{Head}
 use Rattle.dch_layer2.specs.Bearings.{Bearing, Transparent, Unacknowledged, Acknowledged, Sends, after_answer, answers, channel_of, head_of, pdu_octets, rules_in, sizes_on, ticked}
 use Rattle.dch_layer2.specs.Hearing.{hears, hears_um, receiver_of, sender_of}
 use Rattle.dch_layer2.specs.Octets.{AreOctets, block_of, field_for, octets_of}

@@ -17,10 +17,10 @@ use Rattle.dch_config.specs.Bearers.{names}
 use Rattle.dch_config.specs.Good.{IsGood}
 use Rattle.dch_accept.specs.Blocks.{Held, HoldsTtis, block_at, zero_blocks}
 use Rattle.dch_rlctm.specs.Waiting.{front_of}
-use Rattle.dch_select.specs.declared.head.Head.{Head}
-use Rattle.dch_select.specs.Asked.{Asked, format_in, starts}
-use Rattle.dch_select.specs.Candidates.{IsCandidate, IsServed, StartsIdle}
-use Rattle.dch_select.specs.Offered.{ahead, given, head_at, offered, waiting}
+use Rattle.dch_mac.specs.declared.head.Head.{Head}
+use Rattle.dch_mac.specs.Asked.{Asked, format_in, starts}
+use Rattle.dch_mac.specs.Candidates.{IsCandidate, IsServed, StartsIdle}
+use Rattle.dch_mac.specs.Offered.{ahead, given, head_at, offered, waiting}
 use Rattle.dch_layer2.specs.Bearings.{Acknowledged, Bearing, Transparent, Unacknowledged, channel_of, head_of}
 use Rattle.dch_layer2.specs.Building.{Gives}
 use Rattle.dch_layer2.specs.Starting.{blocks_for, in_turn, is_on, joined}

@@ -12,7 +12,7 @@ use Rattle.dch_accept.specs.Blocks.{Held, block_at}
 use Rattle.dch_accept.specs.BlockLending.{with_block}
 use Rattle.dch_accept.specs.Frames.{overwritten}
 use Rattle.dch_accept.proofs.Overwritten.{part_shown}
-use Rattle.dch_select.specs.declared.head.Head.{Head}
+use Rattle.dch_mac.specs.declared.head.Head.{Head}
 use Rattle.dch_layer2.specs.Bearings.{Bearing, head_of}
 use Rattle.dch_layer2.specs.BearerStanding.{Built, CanBuild, Represents as StandsFor}
 use Rattle.dch_layer2.specs.declared.bearer.Bearer.{Bearer}

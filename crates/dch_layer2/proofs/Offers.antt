@@ -7,7 +7,7 @@ use Rattle.std.proofs.lemmas.Bool.Decides.{nat_tests}
 use Rattle.dch_bits.specs.declared.bit.Bit.{Bit}
 use Rattle.dch_types.specs.declared.channel.Dir.{Dir}
 use Rattle.dch_types.specs.declared.config.Config.{Config}
-use Rattle.dch_select.specs.declared.head.Head.{Head}
+use Rattle.dch_mac.specs.declared.head.Head.{Head}
 use Rattle.dch_rlctm.specs.Waiting.{front_of}
 use Rattle.dch_rlcum.specs.Sending.{Units, builds, is_unsent, units_after}
 use Rattle.dch_am.specs.Building.{Again, Choice, Last, New, NoPdu, after_build, after_choice, available, builds_within, choice, gives}

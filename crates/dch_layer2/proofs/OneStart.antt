@@ -13,10 +13,10 @@ use Rattle.dch_am.specs.Sender.{Discard, Sender}
 use Rattle.dch_am.specs.Status.{Told}
 use Rattle.dch_am.specs.Telling.{tells_now}
 use Rattle.dch_am.specs.Texts.{IsMrw, IsReport}
-use Rattle.dch_select.specs.declared.head.Head.{Head}
-use Rattle.dch_select.specs.Asked.{Asked, asked_of, starts}
-use Rattle.dch_select.specs.Best.{IsBest}
-use Rattle.dch_select.proofs.One.{one_best}
+use Rattle.dch_mac.specs.declared.head.Head.{Head}
+use Rattle.dch_mac.specs.Asked.{Asked, asked_of, starts}
+use Rattle.dch_mac.specs.Best.{IsBest}
+use Rattle.dch_mac.proofs.One.{one_best}
 use Rattle.dch_layer2.specs.Bearings.{Bearing, Transparent, Unacknowledged, Acknowledged, channel_of, ct_of, head_of, rules_in}
 use Rattle.dch_layer2.specs.Building.{Builds, Gives}
 use Rattle.dch_layer2.specs.Layers.{Given, Layer}

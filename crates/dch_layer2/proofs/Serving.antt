@@ -4,9 +4,9 @@ use Rattle.dch_types.specs.declared.channel.Dir.{Dir}
 use Rattle.dch_types.specs.declared.channel.Format.{Format}
 use Rattle.dch_types.specs.Sums.{total}
 use Rattle.dch_accept.specs.Blocks.{Held}
-use Rattle.dch_select.specs.declared.head.Head.{Head}
-use Rattle.dch_select.specs.Asked.{Asked, priority_of}
-use Rattle.dch_select.specs.Offered.{given, offered}
+use Rattle.dch_mac.specs.declared.head.Head.{Head}
+use Rattle.dch_mac.specs.Asked.{Asked, priority_of}
+use Rattle.dch_mac.specs.Offered.{given, offered}
 use Rattle.dch_layer2.specs.Bearings.{Bearing}
 use Rattle.dch_layer2.specs.Starting.{in_turn, is_on, of_priority}
 use Rattle.dch_layer2.specs.declared.bearer.Bearer.{Bearer}

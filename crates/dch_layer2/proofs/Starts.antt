@@ -8,8 +8,8 @@ use Rattle.dch_types.specs.Parts.{side_of}
 use Rattle.dch_config.specs.Bearers.{names}
 use Rattle.dch_accept.specs.Blocks.{Held}
 use Rattle.dch_accept.specs.HeldSets.{held_at}
-use Rattle.dch_select.specs.Asked.{Asked, format_in, starts}
-use Rattle.dch_select.specs.Offered.{given}
+use Rattle.dch_mac.specs.Asked.{Asked, format_in, starts}
+use Rattle.dch_mac.specs.Offered.{given}
 use Rattle.dch_layer2.specs.Bearings.{Bearing, channel_of, head_of}
 use Rattle.dch_layer2.specs.Building.{Gives}
 use Rattle.dch_layer2.specs.Layers.{Given}

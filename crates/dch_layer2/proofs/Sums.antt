@@ -6,8 +6,8 @@ use Rattle.std.proofs.lemmas.Bool.Decides.{nat_tests}
 use Rattle.dch_types.specs.declared.channel.Format.{Format}
 use Rattle.dch_types.specs.Sums.{total}
 use Rattle.dch_types.proofs.Sums.{total_same}
-use Rattle.dch_select.specs.Asked.{Asked, priority_of}
-use Rattle.dch_select.specs.Offered.{ahead, given, head_at, offered, waiting}
+use Rattle.dch_mac.specs.Asked.{Asked, priority_of}
+use Rattle.dch_mac.specs.Offered.{ahead, given, head_at, offered, waiting}
 use Rattle.dch_layer2.specs.Starting.{is_on}
 use Rattle.dch_layer2.specs.Sharing.{share}
 use Rattle.dch_layer2.proofs.Serving.{before, served}

@@ -3,7 +3,7 @@ use Rattle.std.proofs.Common.{◌≡◌, ◌<◌, ◌≤◌, ◌++◌, ◌∙◌
 use Rattle.std.specs.Prelude.{◌==◌, nat_lt}
 use Rattle.std.proofs.lemmas.Bool.Decides.{nat_tests}
 use Rattle.dch_bits.specs.declared.bit.Bit.{Bit}
-use Rattle.dch_select.specs.Asked.{Asked, priority_of}
+use Rattle.dch_mac.specs.Asked.{Asked, priority_of}
 use Rattle.dch_layer2.specs.Starting.{in_turn, is_on, joined, of_priority}
 use Rattle.dch_layer2.proofs.Serving.{before, turns_to}
 use Rattle.dch_layer2.proofs.Sums.{both_true}

@@ -16,7 +16,7 @@ use Rattle.dch_types.specs.Parts.{channel_at, side_of}
 use Rattle.dch_tree.specs.Bearers.{bearer_at}
 use Rattle.dch_config.specs.Bearers.{channel_number, has_ct}
 use Rattle.dch_mac.specs.Field.{field_bits}
-use Rattle.dch_select.specs.declared.head.Head.{Head}
+use Rattle.dch_mac.specs.declared.head.Head.{Head}
 use Rattle.dch_rlctm.specs.Waiting.{Waiting, front_of, answer_of as unit_answer, after_offer as after_unit}
 use Rattle.dch_rlcum.specs.Sending.{Sending, no_units, builds, answer_of, after_offer as after_waiting}
 use Rattle.dch_rlcum.specs.History.{accepted}

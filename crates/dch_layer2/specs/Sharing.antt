@@ -6,9 +6,9 @@ use Rattle.dch_types.specs.declared.channel.Format.{Format}
 use Rattle.dch_types.specs.declared.config.Config.{Config}
 use Rattle.dch_types.specs.Parts.{side_of}
 use Rattle.dch_accept.specs.Blocks.{Held, block_at}
-use Rattle.dch_select.specs.declared.head.Head.{Head}
-use Rattle.dch_select.specs.Asked.{Asked, asked_of}
-use Rattle.dch_select.specs.Offered.{given, waiting}
+use Rattle.dch_mac.specs.declared.head.Head.{Head}
+use Rattle.dch_mac.specs.Asked.{Asked, asked_of}
+use Rattle.dch_mac.specs.Offered.{given, waiting}
 use Rattle.dch_layer2.specs.Bearings.{Acknowledged, Bearing, Transparent, Unacknowledged, head_of}
 use Rattle.dch_layer2.specs.Building.{Gives}
 use Rattle.dch_layer2.specs.Starting.{in_turn, is_on, joined}

@@ -7,10 +7,10 @@ use Rattle.dch_types.specs.declared.config.Config.{Config}
 use Rattle.dch_types.specs.Parts.{format_number}
 use Rattle.dch_tree.specs.Bearers.{bearer_at}
 use Rattle.dch_config.specs.Bearers.{channel_number, names}
-use Rattle.dch_select.specs.declared.head.Head.{Head}
-use Rattle.dch_select.specs.Asked.{Asked, asked_of, format_in, priority_of, starts}
-use Rattle.dch_select.specs.Best.{IsBest}
-use Rattle.dch_select.specs.Offered.{given}
+use Rattle.dch_mac.specs.declared.head.Head.{Head}
+use Rattle.dch_mac.specs.Asked.{Asked, asked_of, format_in, priority_of, starts}
+use Rattle.dch_mac.specs.Best.{IsBest}
+use Rattle.dch_mac.specs.Offered.{given}
 use Rattle.dch_layer2.specs.Bearings.{channel_of, head_of}
 use Rattle.dch_layer2.specs.Building.{Gives}
 use Rattle.dch_layer2.specs.Layers.{Given, Layer}

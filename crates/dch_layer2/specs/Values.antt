@@ -3,7 +3,7 @@ use Rattle.std.specs.Prelude.{ℕ, List, [], Bool, None, slice_index_or}
 use Rattle.dch_types.specs.declared.channel.Dir.{Dir}
 use Rattle.dch_types.specs.declared.channel.Dir.TheVariants.{Up}
 use Rattle.dch_accept.specs.Blocks.{Held}
-use Rattle.dch_select.specs.declared.head.Head.{Head}
+use Rattle.dch_mac.specs.declared.head.Head.{Head}
 use Rattle.dch_layer2.specs.declared.bearer.Bearer.{Bearer}
 use Rattle.dch_layer2.specs.declared.bearer.Bearer.TheVariants.{Tm}
 

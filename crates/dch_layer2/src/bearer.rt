@@ -14,7 +14,7 @@ use crate::um::UmBearer;
 use dch_accept::Accepted;
 use dch_bits::{Bit, NoMemory, Offer};
 use dch_indication::Indications;
-use dch_select::Head;
+use dch_mac::Head;
 use dch_types::{Dir, Mode};
 use std::alloc::Global;
 

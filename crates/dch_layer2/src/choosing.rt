@@ -2,14 +2,14 @@ ghost use Rattle.std.specs.Prelude.{◌≡◌, ◌<◌, ◌==◌, ◌&&◌, leng
 ghost use Rattle.dch_types.specs.Parts.{side_of};
 ghost use Rattle.dch_config.specs.Bearers.{channel_number, names};
 ghost use Rattle.dch_config.specs.Good.{IsGood};
-ghost use Rattle.dch_select.specs.Asked.{priority_of, starts};
-ghost use Rattle.dch_select.specs.Best.{IsBest};
+ghost use Rattle.dch_mac.specs.Asked.{priority_of, starts};
+ghost use Rattle.dch_mac.specs.Best.{IsBest};
 ghost use Rattle.dch_layer2.specs.Starting.{is_on};
 ghost use Rattle.dch_layer2.specs.Sharing.{AreHeads, asked_by, head_in};
 
 use crate::bearer::Bearer;
 use dch_accept::Accepted;
-use dch_select::{Head, choose};
+use dch_mac::{Head, choose};
 use dch_types::{Config, Dir, starts};
 use std::marker::Model;
 

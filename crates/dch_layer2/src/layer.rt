@@ -13,7 +13,7 @@ use crate::choosing::{Moment, take_heads};
 use crate::opening::{open_bearers, open_given, open_heads, open_unit};
 use dch_accept::{Accepted, TtiBlocks};
 use dch_bits::{Bit, NoMemory, Offer};
-use dch_select::Head;
+use dch_mac::Head;
 use dch_types::Dir;
 use std::alloc::Global;
 use std::marker::Model;

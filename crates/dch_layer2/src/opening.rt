@@ -6,7 +6,7 @@ ghost use Rattle.dch_layer2.specs.Opening.{AreIdle, AreOpened, IsIdle};
 use crate::bearer::Bearer;
 use dch_accept::{Accepted, TtiBlocks};
 use dch_bits::NoMemory;
-use dch_select::Head;
+use dch_mac::Head;
 use dch_types::{Dir, Format, Trch};
 use std::alloc::Global;
 

@@ -3,8 +3,8 @@ ghost use Rattle.dch_types.specs.declared.channel.Dir.{Dir};
 ghost use Rattle.dch_types.specs.declared.config.Config.{Config};
 ghost use Rattle.dch_types.specs.Parts.{side_of};
 ghost use Rattle.dch_accept.specs.Blocks.{HoldsTtis};
-ghost use Rattle.dch_select.specs.Asked.{starts};
-ghost use Rattle.dch_select.specs.Candidates.{IsCandidate};
+ghost use Rattle.dch_mac.specs.Asked.{starts};
+ghost use Rattle.dch_mac.specs.Candidates.{IsCandidate};
 ghost use Rattle.dch_layer2.specs.Bearings.{Bearing};
 ghost use Rattle.dch_layer2.specs.BearerStanding.{Represents as StandsFor};
 ghost use Rattle.dch_layer2.specs.Sharing.{AreAllServed, AreReady, CanShare, Fills, Offers, asked_by, share};
@@ -13,7 +13,7 @@ ghost use Rattle.dch_layer2.specs.Started.{CanStart, HaveStarted, IsChannelStart
 use crate::bearer::Bearer;
 use crate::choosing::Moment;
 use dch_accept::TtiBlocks;
-use dch_select::Head;
+use dch_mac::Head;
 use dch_types::Format;
 
 impl Moment<'_> {

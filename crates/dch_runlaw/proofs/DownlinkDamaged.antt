@@ -13,12 +13,12 @@ use Rattle.dch_types.specs.declared.channel.Side.{Side}
 use Rattle.dch_types.specs.declared.channel.Trch.{Trch}
 use Rattle.dch_types.specs.Limits.{IsFrames}
 use Rattle.dch_types.specs.Parts.{channel_at, format_at}
-use Rattle.dch_match.specs.declared.pattern.Pattern.{Pattern}
-use Rattle.dch_match.specs.Patterns.{copies, copies_below}
+use Rattle.dch_frame.specs.declared.pattern.Pattern.{Pattern}
+use Rattle.dch_frame.specs.Patterns.{copies, copies_below}
 use Rattle.dch_frame.specs.Stages.{as_cell, origin_of}
 use Rattle.dch_frame.specs.Votes.{copies_as_votes, votes_of}
 use Rattle.dch_frame.proofs.Counts.{votes_of-shown}
-use Rattle.dch_frame.proofs.Kept.{copies_inside}
+use Rattle.dch_frame.proofs.KeptBits.{copies_inside}
 use Rattle.dch_trellis.specs.Distance.{lost}
 use Rattle.dch_trellis.specs.Search.{no_votes}
 use Rattle.dch_accept.specs.Blocks.{Held}

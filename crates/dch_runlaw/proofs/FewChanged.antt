@@ -7,8 +7,8 @@ use Rattle.dch_types.specs.declared.channel.Coding.{Coding}
 use Rattle.dch_types.specs.declared.channel.Side.{Side}
 use Rattle.dch_types.specs.Lengths.{coded_block, tti_bits}
 use Rattle.dch_types.specs.Parts.{channel_at, format_at}
-use Rattle.dch_segment.specs.Segments.{filler_of, plan_of}
-use Rattle.dch_segment.specs.declared.cut.Plan.{Plan}
+use Rattle.dch_coding.specs.Segments.{filler_of, plan_of}
+use Rattle.dch_coding.specs.declared.cut.Plan.{Plan}
 use Rattle.dch_coding.specs.Chain.{coded_blocks}
 use Rattle.dch_coding.specs.Ttis.{IsCodedTti}
 use Rattle.dch_trellis.specs.Distance.{damage, lost}

@@ -9,7 +9,7 @@ use Rattle.dch_config.specs.Good.{IsGood}
 use Rattle.dch_mac.specs.declared.answer.Demux.TheVariants.{To}
 use Rattle.dch_mac.specs.Field.{field_bits}
 use Rattle.dch_mac.specs.Receivers.{receiver}
-use Rattle.dch_select.specs.Asked.{Asked, priority_of, starts}
+use Rattle.dch_mac.specs.Asked.{Asked, priority_of, starts}
 use Rattle.dch_layer2.specs.Bearings.{Bearing, channel_of, ct_of}
 use Rattle.dch_layer2.specs.Building.{Gives}
 use Rattle.dch_layer2.specs.Layers.{Given, Layer}

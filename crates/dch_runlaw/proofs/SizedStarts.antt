@@ -15,10 +15,10 @@ use Rattle.dch_config.specs.Bearers.{names}
 use Rattle.dch_config.specs.Changes.{KeepsBearer}
 use Rattle.dch_config.specs.Good.{IsGood}
 use Rattle.dch_accept.specs.Blocks.{bits_of}
-use Rattle.dch_select.specs.declared.head.Head.{Head}
-use Rattle.dch_select.specs.Asked.{Asked, format_in, priority_of, starts}
-use Rattle.dch_select.specs.Candidates.{IsCandidate, IsServed, StartsIdle}
-use Rattle.dch_select.specs.Offered.{ahead, fits, given, head_at, offered, waiting}
+use Rattle.dch_mac.specs.declared.head.Head.{Head}
+use Rattle.dch_mac.specs.Asked.{Asked, format_in, priority_of, starts}
+use Rattle.dch_mac.specs.Candidates.{IsCandidate, IsServed, StartsIdle}
+use Rattle.dch_mac.specs.Offered.{ahead, fits, given, head_at, offered, waiting}
 use Rattle.dch_layer2.specs.Bearings.{Bearing, channel_of, head_of}
 use Rattle.dch_layer2.specs.Building.{Gives}
 use Rattle.dch_layer2.specs.Layers.{Given, Layer, changed_layer, opened_layer}

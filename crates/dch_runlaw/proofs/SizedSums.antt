@@ -3,8 +3,8 @@ use Rattle.std.proofs.Common.{◌≡◌, ◌<◌, ◌≤◌, ◌+◌, ℕ, zero,
 use Rattle.std.specs.Prelude.{◌==◌, min}
 use Rattle.std.proofs.lemmas.List.{append-nil}
 use Rattle.dch_types.specs.declared.channel.Format.{Format}
-use Rattle.dch_select.specs.Asked.{Asked, priority_of}
-use Rattle.dch_select.specs.Offered.{given, waiting}
+use Rattle.dch_mac.specs.Asked.{Asked, priority_of}
+use Rattle.dch_mac.specs.Offered.{given, waiting}
 use Rattle.dch_layer2.specs.Starting.{in_turn, is_on, of_priority}
 use Rattle.dch_layer2.proofs.Serving.{served}
 use Rattle.dch_layer2.proofs.Sums.{both_true, share_all, share_first, share_given, share_more, share_next, share_same}

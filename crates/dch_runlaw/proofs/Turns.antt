@@ -6,7 +6,7 @@ use Rattle.std.proofs.lemmas.List.Elements.{filter-append}
 use Rattle.dch_bits.specs.declared.bit.Bit.{Bit}
 use Rattle.dch_types.specs.declared.channel.Dir.{Dir}
 use Rattle.dch_types.specs.declared.config.Config.{Config}
-use Rattle.dch_select.specs.Asked.{Asked, priority_of, starts}
+use Rattle.dch_mac.specs.Asked.{Asked, priority_of, starts}
 use Rattle.dch_layer2.specs.Bearings.{bearer_in, channel_of}
 use Rattle.dch_layer2.specs.Building.{Gives}
 use Rattle.dch_layer2.specs.Layers.{Layer}

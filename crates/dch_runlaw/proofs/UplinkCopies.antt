@@ -19,15 +19,15 @@ use Rattle.dch_types.specs.Parts.{channel_at, format_at, format_number}
 use Rattle.dch_types.proofs.Sums.{part_le}
 use Rattle.dch_inter.specs.Places.{first_column, frame_of, place_of}
 use Rattle.dch_inter.proofs.FirstColumns.{frame_of-below}
-use Rattle.dch_match.specs.declared.pattern.Pattern.{Pattern}
-use Rattle.dch_match.specs.declared.uplink_plan.UplinkPlan.{UplinkPlan}
-use Rattle.dch_match.specs.Matched.{change, frame_pattern, frame_start, remainder}
-use Rattle.dch_match.specs.Shifts.{average_distance, column_shift}
-use Rattle.dch_match.specs.Patterns.{copies, copies_below}
-use Rattle.dch_match.specs.Uplinks.{IsPlan, before_of, sent_of, uplink_pattern, weight_of}
-use Rattle.dch_match.proofs.MatchedLemmas.{matched_kept, odd_start}
-use Rattle.dch_match.proofs.SharesLemmas.{nothing_shared, shared_le}
-use Rattle.dch_match.proofs.Sizes.{largest_most}
+use Rattle.dch_frame.specs.declared.pattern.Pattern.{Pattern}
+use Rattle.dch_frame.specs.declared.uplink_plan.UplinkPlan.{UplinkPlan}
+use Rattle.dch_frame.specs.Matched.{change, frame_pattern, frame_start, remainder}
+use Rattle.dch_frame.specs.Shifts.{average_distance, column_shift}
+use Rattle.dch_frame.specs.Patterns.{copies, copies_below}
+use Rattle.dch_frame.specs.Uplinks.{IsPlan, before_of, sent_of, uplink_pattern, weight_of}
+use Rattle.dch_frame.proofs.MatchedLemmas.{matched_kept, odd_start}
+use Rattle.dch_frame.proofs.SharesLemmas.{nothing_shared, shared_le}
+use Rattle.dch_frame.proofs.Sizes.{largest_most}
 use Rattle.dch_collision.specs.Copies.{bits_in, frame_copies, padded_in, uplink_copies}
 use Rattle.dch_collision.specs.Plans.{plan_at}
 use Rattle.dch_collision.specs.Sequences.{IsLegal}
@@ -36,7 +36,7 @@ use Rattle.dch_frame.specs.Stages.{as_cell, origin_of}
 use Rattle.dch_frame.specs.Votes.{copies_as_votes}
 use Rattle.dch_frame.proofs.Carried.{place_inside, whole_rows}
 use Rattle.dch_frame.proofs.Counts.{votes_of-shown}
-use Rattle.dch_frame.proofs.Kept.{origin_of-inside}
+use Rattle.dch_frame.proofs.KeptBits.{origin_of-inside}
 use Rattle.dch_accept.specs.Blocks.{Held}
 use Rattle.dch_accept.specs.Plans.{IsPlanned, Planned}
 use Rattle.dch_accept.proofs.Sizes.{plan_sized}

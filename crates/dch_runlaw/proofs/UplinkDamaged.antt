@@ -13,8 +13,8 @@ use Rattle.dch_types.specs.Limits.{IsFrames}
 use Rattle.dch_types.specs.Parts.{channel_at, format_at}
 use Rattle.dch_inter.specs.Places.{frame_of, place_of}
 use Rattle.dch_inter.proofs.FirstColumns.{frame_of-below}
-use Rattle.dch_match.specs.declared.pattern.Pattern.{Pattern}
-use Rattle.dch_match.specs.Patterns.{copies, copies_below}
+use Rattle.dch_frame.specs.declared.pattern.Pattern.{Pattern}
+use Rattle.dch_frame.specs.Patterns.{copies, copies_below}
 use Rattle.dch_frame.specs.Votes.{copies_as_votes, votes_of}
 use Rattle.dch_frame.proofs.Carried.{whole_rows}
 use Rattle.dch_collision.specs.Copies.{bits_in, padded_in, uplink_copies}

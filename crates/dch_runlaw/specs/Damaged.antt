@@ -11,11 +11,11 @@ use Rattle.dch_types.specs.Lengths.{coded_block}
 use Rattle.dch_types.specs.Parts.{channel_at}
 use Rattle.dch_types.specs.Sums.{total}
 use Rattle.dch_inter.specs.Places.{frame_of, place_of}
-use Rattle.dch_match.specs.Patterns.{copies, copies_below}
+use Rattle.dch_frame.specs.Patterns.{copies, copies_below}
 use Rattle.dch_collision.specs.Copies.{padded_in, uplink_copies}
 use Rattle.dch_collision.specs.Plans.{plan_at}
-use Rattle.dch_segment.specs.Segments.{plan_of, filler_of}
-use Rattle.dch_segment.specs.declared.cut.Plan.{Plan}
+use Rattle.dch_coding.specs.Segments.{plan_of, filler_of}
+use Rattle.dch_coding.specs.declared.cut.Plan.{Plan}
 use Rattle.dch_coding.specs.Chain.{coded_as}
 use Rattle.dch_trellis.specs.Distance.{AreToldApart}
 use Rattle.dch_collision.specs.Clear.{block_copies, joined_in}

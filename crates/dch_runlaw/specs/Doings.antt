@@ -3,7 +3,7 @@ use Rattle.std.specs.Prelude.{◌≡◌, ◌++◌, ◌==◌, ℕ, List, [], ◌�
 use Rattle.dch_bits.specs.declared.bit.Bit.{Bit}
 use Rattle.dch_types.specs.declared.channel.Dir.{Dir}
 use Rattle.dch_types.specs.declared.config.Config.{Config}
-use Rattle.dch_select.specs.Asked.{starts}
+use Rattle.dch_mac.specs.Asked.{starts}
 use Rattle.dch_node.specs.Lines.{Line}
 use Rattle.dch_layer2.specs.Layers.{Came, Layer, blocks, offers, takes, ticks}
 use Rattle.dch_layer2.specs.Starting.{IsStart, asked_in}

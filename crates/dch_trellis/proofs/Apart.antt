@@ -6,11 +6,11 @@ use Rattle.dch_bits.specs.declared.bit.Bit.{Bit}
 use Rattle.dch_bits.specs.declared.bit.Bit.TheVariants.{Zero, One}
 use Rattle.dch_bits.specs.declared.bit.Vote.{Vote}
 use Rattle.dch_bits.specs.Bits.{number_of, plus, distance}
-use Rattle.dch_conv.specs.declared.rate.Rate.{Rate}
-use Rattle.dch_conv.specs.declared.rate.Rate.TheVariants.{Half, Third}
-use Rattle.dch_conv.specs.Conv.{coded_length, encoded}
-use Rattle.dch_conv.proofs.Codes.{length-encoded}
-use Rattle.dch_conv.proofs.Linear.{sum, length-sum, encoded-sum, sum-same}
+use Rattle.dch_coding.specs.declared.rate.Rate.{Rate}
+use Rattle.dch_coding.specs.declared.rate.Rate.TheVariants.{Half, Third}
+use Rattle.dch_coding.specs.Conv.{coded_length, encoded}
+use Rattle.dch_coding.proofs.Codes.{length-encoded}
+use Rattle.dch_coding.proofs.Linear.{sum, length-sum, encoded-sum, sum-same}
 use Rattle.dch_trellis.specs.Distance.{free_distance, AreApart, IsAttained}
 use Rattle.dch_trellis.specs.Nearest.{differing, disagreement}
 use Rattle.dch_trellis.specs.Windows.{output}

@@ -5,10 +5,10 @@ use Rattle.dch_bits.specs.declared.bit.Bit.{Bit}
 use Rattle.dch_bits.specs.declared.bit.Bit.TheVariants.{Zero, One}
 use Rattle.dch_bits.specs.declared.bit.Vote.{Vote}
 use Rattle.dch_bits.specs.Bits.{number_of, plus, distance}
-use Rattle.dch_conv.specs.declared.rate.Rate.{Rate}
-use Rattle.dch_conv.specs.Conv.{coded_length, encoded}
-use Rattle.dch_conv.proofs.Codes.{length-encoded}
-use Rattle.dch_conv.proofs.Linear.{same_or_not}
+use Rattle.dch_coding.specs.declared.rate.Rate.{Rate}
+use Rattle.dch_coding.specs.Conv.{coded_length, encoded}
+use Rattle.dch_coding.proofs.Codes.{length-encoded}
+use Rattle.dch_coding.proofs.Linear.{same_or_not}
 use Rattle.dch_trellis.specs.Distance.{free_distance, copies_between, AreToldApart, lost, damage, HaveCopies}
 use Rattle.dch_trellis.specs.Nearest.{differing, disagreement, copies, IsBlock, IsNearest}
 use Rattle.dch_trellis.specs.Search.{no_votes}

@@ -7,9 +7,9 @@ use Rattle.std.proofs.lemmas.Bool.{leb-true, cases_lt}
 use Rattle.dch_bits.specs.declared.bit.Bit.{Bit}
 use Rattle.dch_bits.specs.declared.bit.Bit.TheVariants.{Zero, One}
 use Rattle.dch_bits.specs.Bits.{number_of}
-use Rattle.dch_conv.specs.declared.rate.Rate.{Rate}
-use Rattle.dch_conv.specs.declared.rate.Rate.TheVariants.{Half, Third}
-use Rattle.dch_conv.specs.Conv.{outputs}
+use Rattle.dch_coding.specs.declared.rate.Rate.{Rate}
+use Rattle.dch_coding.specs.declared.rate.Rate.TheVariants.{Half, Third}
+use Rattle.dch_coding.specs.Conv.{outputs}
 use Rattle.dch_trellis.specs.Distance.{free_distance}
 use Rattle.dch_trellis.specs.Windows.{after, output}
 use Rattle.dch_trellis.specs.Search.{BranchMetrics, path_metric}

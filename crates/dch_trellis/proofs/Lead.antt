@@ -9,9 +9,9 @@ use Rattle.dch_bits.specs.declared.bit.Bit.{Bit}
 use Rattle.dch_bits.specs.declared.bit.Bit.TheVariants.{Zero, One}
 use Rattle.dch_bits.specs.declared.bit.Vote.{Vote}
 use Rattle.dch_bits.specs.Bits.{plus}
-use Rattle.dch_conv.specs.declared.rate.Rate.{Rate}
-use Rattle.dch_conv.specs.declared.rate.Rate.TheVariants.{Half, Third}
-use Rattle.dch_conv.specs.Conv.{outputs, coded_length}
+use Rattle.dch_coding.specs.declared.rate.Rate.{Rate}
+use Rattle.dch_coding.specs.declared.rate.Rate.TheVariants.{Half, Third}
+use Rattle.dch_coding.specs.Conv.{outputs, coded_length}
 use Rattle.dch_trellis.specs.Nearest.{all_copies}
 use Rattle.dch_trellis.specs.Windows.{after}
 use Rattle.dch_trellis.specs.Search.{BranchMetrics, no_votes, branch_metric, is_free, best, takes_one, choice, trace, found}

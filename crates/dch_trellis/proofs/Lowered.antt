@@ -6,7 +6,7 @@ use Rattle.std.proofs.lemmas.Bool.{cases_lt}
 use Rattle.dch_bits.specs.declared.bit.Bit.{Bit}
 use Rattle.dch_bits.specs.declared.bit.Bit.TheVariants.{Zero, One}
 use Rattle.dch_bits.specs.declared.bit.Vote.{Vote}
-use Rattle.dch_conv.specs.declared.rate.Rate.{Rate}
+use Rattle.dch_coding.specs.declared.rate.Rate.{Rate}
 use Rattle.dch_trellis.specs.Windows.{after, IsOutputs}
 use Rattle.dch_trellis.specs.Search.{branch_metric, is_free, best, takes_one, choice, trace}
 use Rattle.dch_trellis.specs.Steps.{total, near, by_zero, by_one, row_path_metric, IsStep}

@@ -4,8 +4,8 @@ use Rattle.std.specs.Prelude.{min, if◌then◌else◌}
 use Rattle.dch_bits.specs.declared.bit.Bit.{Bit}
 use Rattle.dch_bits.specs.declared.bit.Bit.TheVariants.{Zero, One}
 use Rattle.dch_bits.specs.declared.bit.Vote.{Vote}
-use Rattle.dch_conv.specs.declared.rate.Rate.{Rate}
-use Rattle.dch_conv.specs.declared.rate.Rate.TheVariants.{Half, Third}
+use Rattle.dch_coding.specs.declared.rate.Rate.{Rate}
+use Rattle.dch_coding.specs.declared.rate.Rate.TheVariants.{Half, Third}
 use Rattle.dch_trellis.specs.Nearest.{copies}
 use Rattle.dch_trellis.specs.Windows.{after}
 use Rattle.dch_trellis.specs.Search.{BranchMetrics, branch_metric, is_free, best}

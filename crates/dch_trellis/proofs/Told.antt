@@ -8,9 +8,9 @@ use Rattle.dch_bits.specs.declared.bit.Bit.{Bit}
 use Rattle.dch_bits.specs.declared.bit.Bit.TheVariants.{Zero, One}
 use Rattle.dch_bits.specs.declared.bit.Vote.{Vote}
 use Rattle.dch_bits.specs.Bits.{number_of, bit_of_number}
-use Rattle.dch_conv.specs.declared.rate.Rate.{Rate}
-use Rattle.dch_conv.specs.declared.rate.Rate.TheVariants.{Half, Third}
-use Rattle.dch_conv.specs.Conv.{outputs}
+use Rattle.dch_coding.specs.declared.rate.Rate.{Rate}
+use Rattle.dch_coding.specs.declared.rate.Rate.TheVariants.{Half, Third}
+use Rattle.dch_coding.specs.Conv.{outputs}
 use Rattle.dch_trellis.specs.Nearest.{differing}
 use Rattle.dch_trellis.specs.Windows.{output, IsOutputs}
 use Rattle.dch_trellis.specs.Search.{branch_metric}

@@ -1,8 +1,8 @@
 -- The search in 8 bits: rows of costs that are less by what was taken off them.
 use Rattle.std.specs.Prelude.{◌≡◌, ◌+◌, ◌-◌, ◌*◌, ◌<◌, ◌≤◌, ℕ, List, [], slice_index, slice_index_or}
 use Rattle.dch_bits.specs.declared.bit.Vote.{Vote}
-use Rattle.dch_conv.specs.declared.rate.Rate.{Rate}
-use Rattle.dch_conv.specs.Conv.{outputs}
+use Rattle.dch_coding.specs.declared.rate.Rate.{Rate}
+use Rattle.dch_coding.specs.Conv.{outputs}
 use Rattle.dch_trellis.specs.Nearest.{copies}
 use Rattle.dch_trellis.specs.Search.{no_votes, branch_metric, is_free, best}
 

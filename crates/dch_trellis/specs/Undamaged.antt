@@ -4,8 +4,8 @@ use Rattle.dch_bits.specs.declared.bit.Bit.{Bit}
 use Rattle.dch_bits.specs.declared.bit.Bit.TheVariants.{Zero, One}
 use Rattle.dch_bits.specs.declared.bit.Vote.{Vote}
 use Rattle.dch_bits.specs.Bits.{bit_of_number, plus}
-use Rattle.dch_conv.specs.declared.rate.Rate.{Rate}
-use Rattle.dch_conv.specs.Conv.{outputs}
+use Rattle.dch_coding.specs.declared.rate.Rate.{Rate}
+use Rattle.dch_coding.specs.Conv.{outputs}
 use Rattle.dch_trellis.specs.declared.undamaged.Front.{Front}
 use Rattle.dch_trellis.specs.Windows.{output}
 use Rattle.dch_trellis.specs.Search.{branch_metric, is_free, best, trace}

@@ -1,6 +1,6 @@
 ghost use Rattle.std.specs.Prelude.{◌*◌, ◌<◌, ◌≤◌, ℕ};
-ghost use Rattle.dch_conv.specs.declared.rate.Rate.{Rate};
-ghost use Rattle.dch_conv.specs.Conv.{coded_length, encoded};
+ghost use Rattle.dch_coding.specs.declared.rate.Rate.{Rate};
+ghost use Rattle.dch_coding.specs.Conv.{coded_length, encoded};
 ghost use Rattle.dch_trellis.specs.Distance.{free_distance, AreApart, AreToldApart, IsAttained};
 
 /// A law: the coded bits of two different blocks of one length differ in 12 places at least at rate 1/2, and in 18 at rate 1/3.

@@ -1,6 +1,6 @@
 ghost use Rattle.std.specs.Prelude.{◌≡◌, ◌≢◌, ℕ, [], ◌+◌, ◌-◌, ◌*◌, ◌/◌, ◌^◌, ◌<◌, ◌≤◌, ◌&&◌, ◌++◌, length, min, take, vec_len, IfOk, nat_lt, slice_index, slice_index_or};
 ghost use Rattle.dch_bits.specs.declared.bit.Bit.TheVariants.{Zero};
-ghost use Rattle.dch_conv.specs.Conv.{outputs, coded_length};
+ghost use Rattle.dch_coding.specs.Conv.{outputs, coded_length};
 ghost use Rattle.dch_trellis.specs.Nearest.{all_copies};
 ghost use Rattle.dch_trellis.specs.Windows.{IsOutputs};
 ghost use Rattle.dch_trellis.specs.Search.{branch_metric, is_free, best, found, choice, trace};
@@ -15,7 +15,7 @@ use crate::steps::{
 use crate::table::{Table, classes_of};
 use crate::undamaged::{Front, fewest_of};
 use dch_bits::{Bit, NoMemory, Vote};
-use dch_conv::Rate;
+use dch_coding::Rate;
 use std::alloc::Global;
 use std::simd::prelude::*;
 

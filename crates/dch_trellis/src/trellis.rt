@@ -1,6 +1,6 @@
 ghost use Rattle.std.specs.Prelude.{◌≡◌, ℕ, List, ◌+◌, ◌*◌, ◌^◌, ◌<◌, ◌≤◌, length, vec_len, IfOk};
 ghost use Rattle.dch_bits.specs.declared.bit.Bit.{Bit};
-ghost use Rattle.dch_conv.specs.Conv.{coded_length, encoded};
+ghost use Rattle.dch_coding.specs.Conv.{coded_length, encoded};
 ghost use Rattle.dch_trellis.specs.Nearest.{all_copies, disagreement, IsBlock, IsNearest};
 ghost use Rattle.dch_trellis.specs.Distance.{free_distance, damage, AreToldApart, HaveCopies};
 ghost use Rattle.dch_trellis.specs.Search.{branch_metric, is_free, best, found};
@@ -11,7 +11,7 @@ use crate::table::Tables;
 use crate::undamaged::Front;
 use crate::{narrow, tiny, undamaged, wide};
 use dch_bits::{Bit, NoMemory, Vote};
-use dch_conv::Rate;
+use dch_coding::Rate;
 use std::alloc::{AllocError, Global};
 use std::marker::Model;
 

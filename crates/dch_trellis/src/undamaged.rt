@@ -1,5 +1,5 @@
 ghost use Rattle.std.specs.Prelude.{◌≡◌, ◌↔◌, ℕ, ◌+◌, ◌^◌, ◌<◌, ◌≤◌, IsTrue, IsSome, IfSome, length, slice_index, sum_by};
-ghost use Rattle.dch_conv.specs.Conv.{outputs, coded_length};
+ghost use Rattle.dch_coding.specs.Conv.{outputs, coded_length};
 ghost use Rattle.dch_trellis.specs.Nearest.{all_copies};
 ghost use Rattle.dch_trellis.specs.Search.{branch_metric, is_free, best, found};
 ghost use Rattle.dch_trellis.specs.Undamaged.{AreOutputs, fewest, step_fewest, input_metric, more_zeros, more_ones, CostsFewest, IsTold, LeadTo, IsFront};
@@ -7,7 +7,7 @@ ghost use Rattle.dch_trellis.specs.Undamaged.{AreOutputs, fewest, step_fewest, i
 use crate::steps::{after_input, step_votes};
 use crate::table::Outputs;
 use dch_bits::{Bit, Vote};
-use dch_conv::Rate;
+use dch_coding::Rate;
 use std::simd::prelude::*;
 
 /// The steps before the first one whose input its copies don't tell, and the state before each of them and after the last.

@@ -13,11 +13,11 @@ use Rattle.dch_bits.specs.declared.bit.Vote.{Vote}
 use Rattle.dch_types.specs.declared.channel.Coding.{Coding}
 use Rattle.dch_types.specs.declared.channel.Coding.TheVariants.{Uncoded, Half, Third}
 use Rattle.dch_types.specs.Lengths.{coded_block, coded_bits}
-use Rattle.dch_conv.proofs.Codes.{length-encoded}
-use Rattle.dch_conv.specs.declared.rate.Rate.TheVariants.{Half as HalfRate, Third as ThirdRate}
-use Rattle.dch_segment.specs.Segments.{plan_of, block_bit, filler_of}
-use Rattle.dch_segment.specs.declared.cut.Plan.{Plan}
-use Rattle.dch_segment.proofs.Sizes.{filler_few}
+use Rattle.dch_coding.proofs.Codes.{length-encoded}
+use Rattle.dch_coding.specs.declared.rate.Rate.TheVariants.{Half as HalfRate, Third as ThirdRate}
+use Rattle.dch_coding.specs.Segments.{plan_of, block_bit, filler_of}
+use Rattle.dch_coding.specs.declared.cut.Plan.{Plan}
+use Rattle.dch_coding.proofs.Sizes.{filler_few}
 use Rattle.dch_coding.specs.Chain.{coded_as, code_block, coded_blocks}
 use Rattle.dch_coding.specs.Cuts.{HoldsBlocks}
 use Rattle.dch_coding.proofs.Blocks.{block_held}

@@ -4,8 +4,8 @@ use Rattle.dch_bits.specs.declared.bit.Bit.{Bit}
 use Rattle.dch_types.specs.declared.channel.Format.{Format}
 use Rattle.dch_types.specs.declared.channel.Trch.{Trch}
 use Rattle.dch_types.specs.Lengths.{coded_bits, crc_size, tti_bits}
-use Rattle.dch_segment.specs.Segments.{plan_of}
-use Rattle.dch_crc.proofs.Attached.{attached_one}
+use Rattle.dch_coding.specs.Segments.{plan_of}
+use Rattle.dch_coding.proofs.Attached.{attached_one}
 use Rattle.dch_coding.specs.Chain.{coded_of}
 use Rattle.dch_coding.specs.Ttis.{IsCodedTti, part}
 use Rattle.dch_tti.proofs.Arrived.{same_parts}

@@ -9,16 +9,16 @@ use Rattle.dch_bits.specs.Bits.{distance}
 use Rattle.dch_types.specs.declared.channel.Coding.{Coding}
 use Rattle.dch_types.specs.declared.channel.Coding.TheVariants.{Uncoded, Half, Third}
 use Rattle.dch_types.specs.Lengths.{coded_block, coded_bits}
-use Rattle.dch_conv.specs.declared.rate.Rate.TheVariants.{Half as HalfRate, Third as ThirdRate}
-use Rattle.dch_segment.specs.Segments.{plan_of, filler_of}
-use Rattle.dch_segment.specs.declared.cut.Plan.{Plan}
-use Rattle.dch_segment.proofs.Sizes.{plan_whole}
+use Rattle.dch_coding.specs.declared.rate.Rate.TheVariants.{Half as HalfRate, Third as ThirdRate}
+use Rattle.dch_coding.specs.Segments.{plan_of, filler_of}
+use Rattle.dch_coding.specs.declared.cut.Plan.{Plan}
+use Rattle.dch_coding.proofs.Sizes.{plan_whole}
 use Rattle.dch_coding.specs.Chain.{coded_as, code_block}
 use Rattle.dch_trellis.specs.Distance.{AreToldApart, HaveCopies}
 use Rattle.dch_trellis.specs.Nearest.{differing, disagreement, copies, IsBlock}
 use Rattle.dch_trellis.specs.Search.{no_votes}
 use Rattle.dch_trellis.proofs.Damage.{copies-distance, damage-received, damage-same, found-sent, received, told_by_copies}
-use Rattle.dch_collision.specs.Clear.{block_copies}
+use Rattle.dch_accept.specs.CollisionClear.{block_copies}
 use Rattle.dch_tti.specs.Corrected.{least_distance, block_votes, coded_bits_of, AreCorrectable, AreFewWrong, IsCorrectable}
 use Rattle.dch_tti.specs.JoinedBits.{majority, IsRead, AreRead}
 use Rattle.dch_tti.proofs.Blocks.{code_block-filled, filler_short, length-coded_as, same_blocks}

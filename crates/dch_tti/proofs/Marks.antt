@@ -6,7 +6,7 @@ use Rattle.std.proofs.lemmas.List.{get_or-set_other, get_or-set_same, length-set
 use Rattle.dch_bits.specs.declared.bit.Bit.{Bit}
 use Rattle.dch_types.specs.declared.channel.Crc.{Crc}
 use Rattle.dch_types.specs.Lengths.{crc_size}
-use Rattle.dch_crc.specs.Parity.{IsAttached}
+use Rattle.dch_coding.specs.Parity.{IsAttached}
 use Rattle.dch_accept.specs.Blocks.{Held}
 use Rattle.dch_coding.specs.Ttis.{part}
 

@@ -10,15 +10,15 @@ use Rattle.dch_types.specs.declared.channel.Coding.TheVariants.{Uncoded, Half, T
 use Rattle.dch_types.specs.declared.channel.Format.{Format}
 use Rattle.dch_types.specs.declared.channel.Trch.{Trch}
 use Rattle.dch_types.specs.Lengths.{coded_bits, coded_block, crc_size, tti_bits}
-use Rattle.dch_conv.specs.Conv.{encoded}
-use Rattle.dch_conv.specs.declared.rate.Rate.{Rate}
-use Rattle.dch_conv.specs.declared.rate.Rate.TheVariants.{Half as HalfRate, Third as ThirdRate}
-use Rattle.dch_segment.specs.Segments.{plan_of, filler_of}
-use Rattle.dch_segment.specs.declared.cut.Plan.{Plan}
-use Rattle.dch_segment.proofs.Sizes.{plan_whole}
+use Rattle.dch_coding.specs.Conv.{encoded}
+use Rattle.dch_coding.specs.declared.rate.Rate.{Rate}
+use Rattle.dch_coding.specs.declared.rate.Rate.TheVariants.{Half as HalfRate, Third as ThirdRate}
+use Rattle.dch_coding.specs.Segments.{plan_of, filler_of}
+use Rattle.dch_coding.specs.declared.cut.Plan.{Plan}
+use Rattle.dch_coding.proofs.Sizes.{plan_whole}
 use Rattle.dch_coding.specs.Chain.{code_block}
 use Rattle.dch_coding.specs.Ttis.{part}
-use Rattle.dch_crc.specs.Parity.{IsAttached}
+use Rattle.dch_coding.specs.Parity.{IsAttached}
 use Rattle.dch_trellis.specs.Nearest.{disagreement, IsFirst, IsNearest}
 use Rattle.dch_accept.specs.Blocks.{Held, block_at}
 use Rattle.dch_tti.specs.JoinedBits.{IsRead, AreRead}

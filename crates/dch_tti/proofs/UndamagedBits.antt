@@ -6,19 +6,19 @@ use Rattle.dch_bits.specs.declared.bit.Vote.{Vote}
 use Rattle.dch_types.specs.declared.channel.Coding.{Coding}
 use Rattle.dch_types.specs.declared.channel.Coding.TheVariants.{Uncoded, Half, Third}
 use Rattle.dch_types.specs.Lengths.{coded_block, coded_bits}
-use Rattle.dch_conv.specs.Conv.{encoded}
-use Rattle.dch_conv.proofs.Linear.{same_or_not}
-use Rattle.dch_conv.specs.declared.rate.Rate.{Rate}
-use Rattle.dch_conv.specs.declared.rate.Rate.TheVariants.{Half as HalfRate, Third as ThirdRate}
-use Rattle.dch_segment.specs.Segments.{plan_of, filler_of}
-use Rattle.dch_segment.specs.declared.cut.Plan.{Plan}
-use Rattle.dch_segment.proofs.Sizes.{plan_whole}
+use Rattle.dch_coding.specs.Conv.{encoded}
+use Rattle.dch_coding.proofs.Linear.{same_or_not}
+use Rattle.dch_coding.specs.declared.rate.Rate.{Rate}
+use Rattle.dch_coding.specs.declared.rate.Rate.TheVariants.{Half as HalfRate, Third as ThirdRate}
+use Rattle.dch_coding.specs.Segments.{plan_of, filler_of}
+use Rattle.dch_coding.specs.declared.cut.Plan.{Plan}
+use Rattle.dch_coding.proofs.Sizes.{plan_whole}
 use Rattle.dch_coding.specs.Chain.{coded_as, code_block, coded_blocks, coded_of}
 use Rattle.dch_trellis.specs.Nearest.{disagreement, IsBlock, IsNearest}
 use Rattle.dch_frame.specs.Votes.{copies_as_votes}
 use Rattle.dch_coding.specs.Ttis.{part}
-use Rattle.dch_collision.specs.Collisions.{NoneCollide}
-use Rattle.dch_collision.specs.Clear.{HasNoCollision}
+use Rattle.dch_accept.specs.Collisions.{NoneCollide}
+use Rattle.dch_accept.specs.CollisionClear.{HasNoCollision}
 use Rattle.dch_tti.specs.JoinedBits.{IsRead, AreRead}
 use Rattle.dch_tti.specs.Copies.{AreCopies}
 use Rattle.dch_tti.proofs.Parts.{part_fits, length-part, get_or-part}

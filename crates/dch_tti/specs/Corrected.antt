@@ -7,14 +7,14 @@ use Rattle.dch_types.specs.declared.channel.Coding.TheVariants.{Uncoded, Half, T
 use Rattle.dch_types.specs.declared.channel.Format.{Format}
 use Rattle.dch_types.specs.declared.channel.Trch.{Trch}
 use Rattle.dch_types.specs.Lengths.{coded_block}
-use Rattle.dch_conv.specs.declared.rate.Rate.TheVariants.{Half as HalfRate, Third as ThirdRate}
-use Rattle.dch_segment.specs.Segments.{plan_of, filler_of}
-use Rattle.dch_segment.specs.declared.cut.Plan.{Plan}
+use Rattle.dch_coding.specs.declared.rate.Rate.TheVariants.{Half as HalfRate, Third as ThirdRate}
+use Rattle.dch_coding.specs.Segments.{plan_of, filler_of}
+use Rattle.dch_coding.specs.declared.cut.Plan.{Plan}
 use Rattle.dch_coding.specs.Chain.{coded_as, code_block}
 use Rattle.dch_coding.specs.Ttis.{AreJoined, part}
 use Rattle.dch_trellis.specs.Distance.{damage, free_distance, AreToldApart}
 use Rattle.dch_trellis.specs.Nearest.{disagreement}
-use Rattle.dch_collision.specs.Clear.{block_copies}
+use Rattle.dch_accept.specs.CollisionClear.{block_copies}
 use Rattle.dch_accept.specs.Blocks.{Held, bits_of}
 use Rattle.dch_tti.specs.Received.{ArrivesAs}
 

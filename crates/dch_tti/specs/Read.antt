@@ -8,7 +8,7 @@ use Rattle.dch_types.specs.declared.channel.Side.{Side}
 use Rattle.dch_types.specs.Lengths.{joined_bits, tti_bits}
 use Rattle.dch_types.specs.Parts.{channel_at, format_at, side_of}
 use Rattle.dch_coding.specs.Ttis.{IsCodedTti}
-use Rattle.dch_collision.specs.Clear.{HasNoCollision}
+use Rattle.dch_accept.specs.CollisionClear.{HasNoCollision}
 use Rattle.dch_accept.specs.Blocks.{Held, bits_of}
 use Rattle.dch_accept.specs.Plans.{Planned}
 use Rattle.dch_tti.specs.Copies.{AreCopies}

@@ -6,10 +6,10 @@ use Rattle.dch_types.specs.declared.channel.Crc.{Crc}
 use Rattle.dch_types.specs.declared.channel.Format.{Format}
 use Rattle.dch_types.specs.declared.channel.Trch.{Trch}
 use Rattle.dch_types.specs.Lengths.{crc_size, joined_bits}
-use Rattle.dch_crc.specs.Parity.{IsAttached}
+use Rattle.dch_coding.specs.Parity.{IsAttached}
 use Rattle.dch_accept.specs.Blocks.{Held, bits_of, block_at}
 use Rattle.dch_coding.specs.Ttis.{IsCodedTti, part}
-use Rattle.dch_collision.specs.Clear.{HasNoCollision}
+use Rattle.dch_accept.specs.CollisionClear.{HasNoCollision}
 use Rattle.dch_tti.specs.Copies.{AreCopies}
 use Rattle.dch_tti.specs.JoinedBits.{AreRead}
 

@@ -5,7 +5,7 @@ ghost use Rattle.dch_types.specs.Lengths.{coded_block};
 ghost use Rattle.dch_tti.specs.JoinedBits.{majority, IsRead};
 
 use dch_bits::{Bit, Vote};
-use dch_conv::Rate;
+use dch_coding::Rate;
 use dch_trellis::Trellis;
 use dch_types::Coding;
 

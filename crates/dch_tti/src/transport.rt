@@ -1,11 +1,11 @@
 ghost use Rattle.std.specs.Prelude.{◌≡◌, ◌+◌, ◌*◌, ◌≤◌, ◌↔◌, List, length, take, IsTrue};
 ghost use Rattle.dch_bits.specs.declared.bit.Bit.{Bit};
 ghost use Rattle.dch_types.specs.Lengths.{crc_size};
-ghost use Rattle.dch_crc.specs.Parity.{IsAttached};
+ghost use Rattle.dch_coding.specs.Parity.{IsAttached};
 ghost use Rattle.dch_coding.specs.Ttis.{part};
 
 use dch_bits::Bit;
-use dch_crc::{check, size};
+use dch_coding::{check, size};
 use dch_types::Crc;
 
 /// A received transport block, and whether its parity fits.

@@ -2,7 +2,7 @@ ghost use Rattle.std.specs.Prelude.{◌≡◌, ◌+◌, ◌*◌, ◌<◌, ◌≤
 ghost use Rattle.dch_bits.specs.declared.bit.Bit.{Bit};
 ghost use Rattle.dch_bits.specs.declared.bit.Vote.{Vote};
 ghost use Rattle.dch_types.specs.Lengths.{crc_size, joined_bits, tti_bits};
-ghost use Rattle.dch_crc.specs.Parity.{IsAttached};
+ghost use Rattle.dch_coding.specs.Parity.{IsAttached};
 ghost use Rattle.dch_accept.specs.Blocks.{Held, bits_of};
 ghost use Rattle.dch_coding.specs.Rooms.{searched_bits};
 ghost use Rattle.dch_coding.specs.Ttis.{part};

@@ -8,7 +8,7 @@ use Rattle.dch_accept.specs.Frames.{Frame}
 use Rattle.dch_accept.specs.Plans.{Planned}
 use Rattle.dch_collision.specs.Plans.{plan_at}
 use Rattle.dch_frame.specs.Stages.{origin_of}
-use Rattle.dch_match.specs.declared.pattern.Pattern.{Pattern}
+use Rattle.dch_frame.specs.declared.pattern.Pattern.{Pattern}
 use Rattle.dch_tti.specs.Frames.{multiplexed_place}
 use Rattle.dch_tti.specs.Loaded.{Loaded, frame_number, loaded_at}
 use Rattle.dch_ulphy.specs.Frames.{IsFrame, bits_before, multiplexed_cell, pattern_of, sent_cell}

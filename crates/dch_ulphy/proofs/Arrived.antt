@@ -15,19 +15,19 @@ use Rattle.dch_types.specs.Limits.{IsFrames}
 use Rattle.dch_types.specs.Parts.{channel_at}
 use Rattle.dch_inter.specs.Places.{first_of, first_back_of, frame_of, place_of}
 use Rattle.dch_inter.proofs.FirstColumns.{first_of-back, frame_place}
-use Rattle.dch_match.specs.Uplinks.{IsPlan, before_of, uplink_pattern}
+use Rattle.dch_frame.specs.Uplinks.{IsPlan, before_of, uplink_pattern}
 use Rattle.dch_collision.specs.Copies.{frame_copies}
 use Rattle.dch_collision.proofs.FrameSizes.{frame_size-plan}
-use Rattle.dch_match.specs.Patterns.{copies, copies_below}
+use Rattle.dch_frame.specs.Patterns.{copies, copies_below}
 use Rattle.dch_frame.specs.Votes.{copies_as_votes}
-use Rattle.dch_match.specs.Matched.{frame_pattern}
-use Rattle.dch_match.specs.declared.pattern.Pattern.{Pattern}
-use Rattle.dch_match.specs.declared.uplink_plan.UplinkPlan.{UplinkPlan}
+use Rattle.dch_frame.specs.Matched.{frame_pattern}
+use Rattle.dch_frame.specs.declared.pattern.Pattern.{Pattern}
+use Rattle.dch_frame.specs.declared.uplink_plan.UplinkPlan.{UplinkPlan}
 use Rattle.dch_types.proofs.Sums.{part_le}
 use Rattle.dch_frame.specs.Stages.{as_cell, origin_of, code_back}
 use Rattle.dch_frame.proofs.Carried.{rows_of, whole_rows, place_inside}
 use Rattle.dch_frame.proofs.Codes.{code_back-inside, code_place-back}
-use Rattle.dch_frame.proofs.Kept.{origin_of-inside}
+use Rattle.dch_frame.proofs.KeptBits.{origin_of-inside}
 use Rattle.dch_accept.specs.Plans.{Planned}
 use Rattle.dch_collision.specs.Plans.{plan_at}
 use Rattle.dch_tti.specs.Loaded.{frame_number, loaded_at, Loaded}

@@ -5,7 +5,7 @@ ghost use Rattle.dch_bits.specs.declared.bit.Vote.{Vote};
 ghost use Rattle.dch_types.specs.declared.channel.Dir.TheVariants.{Up};
 ghost use Rattle.dch_types.specs.Parts.{channel_at};
 ghost use Rattle.dch_inter.specs.Places.{frame_of, place_of};
-ghost use Rattle.dch_match.specs.Uplinks.{before_of};
+ghost use Rattle.dch_frame.specs.Uplinks.{before_of};
 ghost use Rattle.dch_frame.specs.Votes.{copies_as_votes};
 ghost use Rattle.dch_collision.specs.Copies.{frame_copies};
 ghost use Rattle.dch_tti.specs.RxFrames.{IsKeptOf, IsReaderOf, frame_at};
@@ -17,8 +17,7 @@ ghost use Rattle.dch_ulphy.specs.Sent.{AreSentFrames, IsSentFrame, tti_copies};
 
 use dch_accept::Accepted;
 use dch_bits::{Trit, Vote};
-use dch_frame::rate_dematch;
-use dch_match::{UplinkPlan, frame};
+use dch_frame::{UplinkPlan, frame, rate_dematch};
 use dch_tti::{ReceivedFrame, ReceivedFrames};
 use dch_types::Dir;
 

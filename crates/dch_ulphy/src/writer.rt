@@ -10,8 +10,7 @@ ghost use Rattle.dch_ulphy.specs.Frames.{IsFrame, sent_cell};
 use crate::tti::UlTti;
 use dch_accept::{Accepted, PhyFrame};
 use dch_bits::Trit;
-use dch_frame::rate_match;
-use dch_match::frame;
+use dch_frame::{frame, rate_match};
 use dch_tti::{MultiplexFrame, TtiBuffer, write_frame};
 use dch_types::Dir;
 

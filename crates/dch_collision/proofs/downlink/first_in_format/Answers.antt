@@ -1,5 +1,5 @@
 use Rattle.std.proofs.Common.{arith, ap, refl, sym}
-use Rattle.dch_segment.specs.declared.cut.Plan.{Plan}
+use Rattle.dch_coding.specs.declared.cut.Plan.{Plan}
 use Rattle.dch_collision.specs.Copies.{downlink_copies}
 use Rattle.dch_collision.proofs.Sizes.{shape_fits}
 use Rattle.dch_collision.proofs.Unpunctured.{downlink_whole}

@@ -1,5 +1,5 @@
 use Rattle.std.proofs.Common.{◌≡◌}
-use Rattle.dch_match.specs.Patterns.{copies}
+use Rattle.dch_frame.specs.Patterns.{copies}
 use Rattle.dch_collision.proofs.Flags.{AreTold}
 use Rattle.dch_collision.proofs.flagging.flag.Given as goal
 

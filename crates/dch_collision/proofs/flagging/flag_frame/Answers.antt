@@ -1,7 +1,7 @@
 use Rattle.std.proofs.Common.{◌<◌, ℕ, length, get_or, arith, ap, sym, ◌∙◌, subst}
 use Rattle.std.proofs.lemmas.List.{get_or_default}
-use Rattle.dch_match.specs.declared.uplink_plan.UplinkPlan.{UplinkPlan}
-use Rattle.dch_match.specs.Uplinks.{IsPlan}
+use Rattle.dch_frame.specs.declared.uplink_plan.UplinkPlan.{UplinkPlan}
+use Rattle.dch_frame.specs.Uplinks.{IsPlan}
 use Rattle.dch_collision.specs.Plans.{no_plan}
 use Rattle.dch_collision.proofs.flagging.flag_frame.Goals as goal
 

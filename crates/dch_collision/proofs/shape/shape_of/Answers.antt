@@ -4,7 +4,7 @@ use Rattle.dch_types.specs.declared.channel.Format.{Format}
 use Rattle.dch_types.specs.declared.channel.Trch.{Trch}
 use Rattle.dch_types.specs.Lengths.{joined_bits, padded, tti_bits}
 use Rattle.dch_types.specs.Parts.{channel_at, format_at}
-use Rattle.dch_segment.specs.Segments.{plan_of}
+use Rattle.dch_coding.specs.Segments.{plan_of}
 use Rattle.dch_collision.proofs.Sizes.{shape_is}
 use Rattle.dch_collision.proofs.shape.shape_of.Goals as goal
 

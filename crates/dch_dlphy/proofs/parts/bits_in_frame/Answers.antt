@@ -2,8 +2,8 @@ use Rattle.std.proofs.Common.{◌≡◌, List, ap, ap₂, ◌∙◌, length, ari
 use Rattle.dch_types.specs.declared.config.Config.{Config}
 use Rattle.dch_types.specs.declared.config.Downlink.{Downlink}
 use Rattle.dch_types.specs.Parts.{format_number}
-use Rattle.dch_match.specs.declared.downlink_plan.RateMatching.{RateMatching}
-use Rattle.dch_match.specs.Downlinks.{IsDownlinkPlan, matching_at}
+use Rattle.dch_frame.specs.declared.downlink_plan.RateMatching.{RateMatching}
+use Rattle.dch_frame.specs.Downlinks.{IsDownlinkPlan, matching_at}
 use Rattle.dch_types.proofs.Sums.{part_le}
 use Rattle.dch_dlphy.specs.Frames.{bits_per_frame}
 use Rattle.dch_dlphy.proofs.parts.bits_in_frame.Goals as goal

@@ -1,7 +1,7 @@
 use Rattle.std.proofs.Common.{◌<◌, ℕ, length, arith, ◌∙◌}
 use Rattle.dch_inter.specs.Places.{place_of}
 use Rattle.dch_frame.proofs.Carried.{place_inside}
-use Rattle.dch_frame.proofs.Kept.{copies_inside}
+use Rattle.dch_frame.proofs.KeptBits.{copies_inside}
 use Rattle.dch_frame.proofs.dematching.rate_dematch.Goals as goal
 
 pub returns-clause-votes : goal.returns-clause-votes

@@ -1,9 +1,9 @@
 use Rattle.std.proofs.Common.{◌-◌, ◌<◌, ℕ, length, get_or, arith, rules, ap, sym, ◌∙◌}
-use Rattle.dch_match.specs.declared.pattern.Steps.{Steps}
-use Rattle.dch_match.specs.declared.pattern.Kind.TheVariants.{Puncture}
-use Rattle.dch_match.proofs.Changes.{below-more}
+use Rattle.dch_frame.specs.declared.pattern.Steps.{Steps}
+use Rattle.dch_frame.specs.declared.pattern.Kind.TheVariants.{Puncture}
+use Rattle.dch_frame.proofs.Changes.{below-more}
 use Rattle.dch_frame.proofs.Counters.{first_counter, removed, kept, kept_fits}
-use Rattle.dch_frame.proofs.Kept.{copies_below-none, kept_more}
+use Rattle.dch_frame.proofs.KeptBits.{copies_below-none, kept_more}
 use Rattle.dch_frame.proofs.matching.puncture_bits.Goals as goal
 use Rattle.dch_frame.proofs.matching.puncture_bits.Goals.{then-counter-steps, else-counter-steps}
 

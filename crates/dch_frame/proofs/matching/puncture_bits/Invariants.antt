@@ -1,6 +1,6 @@
 use Rattle.std.proofs.Common.{◌≡◌}
-use Rattle.dch_match.specs.declared.pattern.Kind.TheVariants.{Puncture}
-use Rattle.dch_match.specs.Patterns.{copies_below}
+use Rattle.dch_frame.specs.declared.pattern.Kind.TheVariants.{Puncture}
+use Rattle.dch_frame.specs.Patterns.{copies_below}
 use Rattle.dch_frame.specs.Stages.{AreKept}
 use Rattle.dch_frame.proofs.Counters.{counter_before}
 use Rattle.dch_frame.proofs.matching.puncture_bits.Given as goal

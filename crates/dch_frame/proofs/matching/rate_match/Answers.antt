@@ -1,9 +1,9 @@
 use Rattle.std.proofs.Common.{◌≡◌, length, get_or, ap, ◌∙◌, sym, arith}
-use Rattle.dch_match.specs.declared.pattern.Kind.{Kind}
-use Rattle.dch_match.specs.declared.pattern.Kind.TheVariants.{Repeat, Puncture}
-use Rattle.dch_match.specs.Patterns.{copies_below}
-use Rattle.dch_match.proofs.Changes.{below-same}
-use Rattle.dch_frame.proofs.Kept.{kept_all, origin_of-same}
+use Rattle.dch_frame.specs.declared.pattern.Kind.{Kind}
+use Rattle.dch_frame.specs.declared.pattern.Kind.TheVariants.{Repeat, Puncture}
+use Rattle.dch_frame.specs.Patterns.{copies_below}
+use Rattle.dch_frame.proofs.Changes.{below-same}
+use Rattle.dch_frame.proofs.KeptBits.{kept_all, origin_of-same}
 use Rattle.dch_frame.proofs.matching.rate_match.Goals as goal
 
 pub copy_from_slice-requires : goal.copy_from_slice-requires

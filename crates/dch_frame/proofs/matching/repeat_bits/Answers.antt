@@ -1,10 +1,10 @@
 use Rattle.std.proofs.Common.{◌<◌, ℕ, length, arith, rules, sym}
 use Rattle.std.proofs.Math.ListN.{length-set}
-use Rattle.dch_match.specs.declared.pattern.Steps.{Steps}
-use Rattle.dch_match.specs.declared.pattern.Kind.TheVariants.{Repeat}
-use Rattle.dch_match.proofs.Changes.{below-more}
+use Rattle.dch_frame.specs.declared.pattern.Steps.{Steps}
+use Rattle.dch_frame.specs.declared.pattern.Kind.TheVariants.{Repeat}
+use Rattle.dch_frame.proofs.Changes.{below-more}
 use Rattle.dch_frame.proofs.Counters.{first_counter, first_fits, again_fits, repeating_first, repeating_inside, repeating_more, repeating_last}
-use Rattle.dch_frame.proofs.Kept.{copies_below-none, kept_more}
+use Rattle.dch_frame.proofs.KeptBits.{copies_below-none, kept_more}
 use Rattle.dch_frame.proofs.matching.repeat_bits.Goals as goal
 
 pub loop-bit-init : goal.loop-bit-init

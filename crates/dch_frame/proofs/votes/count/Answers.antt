@@ -1,7 +1,7 @@
 use Rattle.std.proofs.Common.{ap, ◌∙◌, sym, length}
-use Rattle.dch_match.specs.declared.pattern.Kind.{Kind}
-use Rattle.dch_match.specs.Patterns.{copies, copies_below}
-use Rattle.dch_match.proofs.Changes.{below-same}
+use Rattle.dch_frame.specs.declared.pattern.Kind.{Kind}
+use Rattle.dch_frame.specs.Patterns.{copies, copies_below}
+use Rattle.dch_frame.proofs.Changes.{below-same}
 use Rattle.dch_frame.specs.Votes.{votes_among}
 use Rattle.dch_frame.proofs.Counts.{counted_same}
 use Rattle.dch_frame.proofs.votes.count.Goals as goal

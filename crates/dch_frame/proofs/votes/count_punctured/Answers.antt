@@ -1,14 +1,14 @@
 use Rattle.std.proofs.Common.{◌-◌, ◌<◌, ℕ, List, length, get_or, arith, rules, ap, sym, ◌∙◌}
 use Rattle.dch_bits.specs.declared.bit.Trit.{Trit}
 use Rattle.dch_bits.specs.declared.bit.Vote.{Vote}
-use Rattle.dch_match.specs.declared.pattern.Steps.{Steps}
-use Rattle.dch_match.specs.declared.pattern.Kind.TheVariants.{Puncture}
-use Rattle.dch_match.specs.Patterns.{copies_below}
-use Rattle.dch_match.proofs.Changes.{below-more}
+use Rattle.dch_frame.specs.declared.pattern.Steps.{Steps}
+use Rattle.dch_frame.specs.declared.pattern.Kind.TheVariants.{Puncture}
+use Rattle.dch_frame.specs.Patterns.{copies_below}
+use Rattle.dch_frame.proofs.Changes.{below-more}
 use Rattle.dch_frame.specs.Votes.{votes_among}
 use Rattle.dch_frame.proofs.Counters.{first_counter, removed, kept, kept_fits}
 use Rattle.dch_frame.proofs.Counts.{counted_more, none_among, one_vote}
-use Rattle.dch_frame.proofs.Kept.{copies_below-none}
+use Rattle.dch_frame.proofs.KeptBits.{copies_below-none}
 use Rattle.dch_frame.proofs.votes.count_punctured.Goals as goal
 use Rattle.dch_frame.proofs.votes.count_punctured.Goals.{then-counter-steps, else-counter-steps}
 

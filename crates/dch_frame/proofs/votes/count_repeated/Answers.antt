@@ -1,13 +1,13 @@
 use Rattle.std.proofs.Common.{◌≡◌, ◌-◌, ◌<◌, ℕ, List, length, arith, rules, ap, sym, ◌∙◌}
 use Rattle.dch_bits.specs.declared.bit.Trit.{Trit}
-use Rattle.dch_match.specs.declared.pattern.Steps.{Steps}
-use Rattle.dch_match.specs.declared.pattern.Kind.TheVariants.{Repeat}
-use Rattle.dch_match.specs.Patterns.{copies, copies_below}
-use Rattle.dch_match.proofs.Changes.{below-more}
+use Rattle.dch_frame.specs.declared.pattern.Steps.{Steps}
+use Rattle.dch_frame.specs.declared.pattern.Kind.TheVariants.{Repeat}
+use Rattle.dch_frame.specs.Patterns.{copies, copies_below}
+use Rattle.dch_frame.proofs.Changes.{below-more}
 use Rattle.dch_frame.specs.Votes.{votes_among}
 use Rattle.dch_frame.proofs.Counters.{first_counter, first_fits, again_fits, repeating_first, repeating_more, repeating_last}
 use Rattle.dch_frame.proofs.Counts.{counted_more, among_first, among_next, votes_among_are}
-use Rattle.dch_frame.proofs.Kept.{copies_below-none}
+use Rattle.dch_frame.proofs.KeptBits.{copies_below-none}
 use Rattle.dch_frame.proofs.votes.count_repeated.Goals as goal
 
 pub loop-m-init : goal.loop-m-init

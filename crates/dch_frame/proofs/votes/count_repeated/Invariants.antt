@@ -1,6 +1,6 @@
 use Rattle.std.proofs.Common.{◌≡◌, ◌-◌, ◌+◌}
-use Rattle.dch_match.specs.declared.pattern.Kind.TheVariants.{Repeat}
-use Rattle.dch_match.specs.Patterns.{copies_below}
+use Rattle.dch_frame.specs.declared.pattern.Kind.TheVariants.{Repeat}
+use Rattle.dch_frame.specs.Patterns.{copies_below}
 use Rattle.dch_frame.specs.Votes.{AreCounted}
 use Rattle.dch_frame.proofs.Counters.{counter_before, IsRepeating}
 use Rattle.dch_frame.proofs.Counts.{AreAmong}

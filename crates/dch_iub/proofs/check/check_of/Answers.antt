@@ -2,7 +2,7 @@ use Rattle.std.proofs.Common.{◌≡◌, ◌+◌, ◌-◌, ◌∙◌, ℕ, List,
 use Rattle.std.proofs.lemmas.List.{get_or-take, get_or-drop, length-take-le}
 use Rattle.dch_bits.specs.declared.bit.Bit.{Bit}
 use Rattle.dch_bits.specs.declared.bit.Bit.TheVariants.{Zero}
-use Rattle.dch_crc.specs.Parity.{IsCheck, header_polynomial}
+use Rattle.dch_coding.specs.Parity.{IsCheck, header_polynomial}
 use Rattle.dch_accept.specs.Padded.{bits_from}
 use Rattle.dch_accept.proofs.Unpacked.{bits_are}
 use Rattle.dch_iub.proofs.check.check_of.Goals as goal

@@ -1,5 +1,5 @@
 use Rattle.std.proofs.Common.{◌≡◌, ◌-◌, ◌*◌, ℕ, length, arith, subst, length-take}
-use Rattle.dch_crc.specs.Parity.{IsCheck, header_polynomial}
+use Rattle.dch_coding.specs.Parity.{IsCheck, header_polynomial}
 use Rattle.dch_accept.specs.Padded.{bits_from}
 use Rattle.dch_iub.proofs.check.header_check.Goals as goal
 

@@ -1,6 +1,6 @@
 use Rattle.std.proofs.Common.{◌-◌, ◌*◌, ◌/◌, ℕ, get_or, subst}
 use Rattle.std.proofs.lemmas.Bool.{eqb-true, eq-eqb}
-use Rattle.dch_crc.specs.Parity.{IsCheck, header_polynomial}
+use Rattle.dch_coding.specs.Parity.{IsCheck, header_polynomial}
 use Rattle.dch_accept.specs.Padded.{bits_from}
 use Rattle.dch_iub.proofs.Checks.{one_header_check}
 use Rattle.dch_iub.proofs.check.header_fits.Goals as goal

@@ -1,7 +1,7 @@
 use Rattle.std.proofs.Common.{◌≡◌, ◌-◌, ◌*◌, ◌∙◌, ℕ, List, length, take, drop, arith, ap, subst, length-drop}
 use Rattle.std.proofs.lemmas.List.{length-take-le}
 use Rattle.dch_bits.specs.declared.bit.Bit.{Bit}
-use Rattle.dch_crc.specs.Parity.{IsCheck, payload_polynomial}
+use Rattle.dch_coding.specs.Parity.{IsCheck, payload_polynomial}
 use Rattle.dch_accept.specs.Padded.{bits_from}
 use Rattle.dch_accept.proofs.Unpacked.{bits_from-part}
 use Rattle.dch_iub.proofs.check.payload_check.Goals as goal

@@ -1,6 +1,6 @@
 use Rattle.std.proofs.Common.{◌≡◌, ◌+◌, ◌-◌, ◌*◌, ◌∙◌, ℕ, List, get_or, arith, sym, subst}
 use Rattle.std.proofs.lemmas.Bool.{eqb-true, eq-eqb}
-use Rattle.dch_crc.specs.Parity.{IsCheck, payload_polynomial}
+use Rattle.dch_coding.specs.Parity.{IsCheck, payload_polynomial}
 use Rattle.dch_accept.specs.Padded.{bits_from}
 use Rattle.dch_iub.proofs.Checks.{one_payload_check}
 use Rattle.dch_iub.proofs.check.payload_fits.Goals as goal

@@ -3,7 +3,7 @@ use Rattle.std.specs.Prelude.{slice_set}
 use Rattle.std.proofs.Math.ListN.{length-set}
 use Rattle.std.proofs.lemmas.List.{take-set-le}
 use Rattle.dch_bits.specs.declared.bit.Bit.{Bit}
-use Rattle.dch_crc.specs.Parity.{IsCheck, payload_polynomial}
+use Rattle.dch_coding.specs.Parity.{IsCheck, payload_polynomial}
 use Rattle.dch_accept.specs.Padded.{bits_from}
 use Rattle.dch_iub.proofs.Fronts.{bits_from-front}
 use Rattle.dch_iub.proofs.check.write_check.Goals as goal

@@ -2,7 +2,7 @@ use Rattle.std.proofs.Common.{◌≡◌, ◌≢◌, ◌<◌, ◌≤◌, ◌-◌,
 use Rattle.std.specs.Prelude.{slice_set, slice_index}
 use Rattle.std.proofs.Math.ListN.{length-set}
 use Rattle.dch_bits.specs.declared.bit.Bit.{Bit}
-use Rattle.dch_crc.specs.Parity.{IsCheck, header_polynomial}
+use Rattle.dch_coding.specs.Parity.{IsCheck, header_polynomial}
 use Rattle.dch_types.specs.Limits.{IsChannel}
 use Rattle.dch_types.specs.Parts.{channel_at}
 use Rattle.dch_accept.specs.Padded.{bits_from}

@@ -4,8 +4,8 @@ use Rattle.dch_bits.specs.declared.bit.Bit.{Bit}
 use Rattle.dch_bits.specs.declared.bit.Vote.{Vote}
 use Rattle.dch_types.specs.declared.channel.Coding.{Coding}
 use Rattle.dch_types.specs.Lengths.{coded_block}
-use Rattle.dch_segment.specs.Segments.{plan_of, filler_of}
-use Rattle.dch_segment.specs.declared.cut.Plan.{Plan}
+use Rattle.dch_coding.specs.Segments.{plan_of, filler_of}
+use Rattle.dch_coding.specs.declared.cut.Plan.{Plan}
 use Rattle.dch_coding.specs.Chain.{code_block}
 use Rattle.dch_coding.specs.Ttis.{part}
 use Rattle.dch_tti.specs.JoinedBits.{IsRead}

@@ -3,9 +3,9 @@ use borrow.Rule.Slice.PartMut.{put_mid}
 use Rattle.dch_bits.specs.declared.bit.Bit.{Bit}
 use Rattle.dch_bits.specs.declared.bit.Vote.{Vote}
 use Rattle.dch_types.specs.declared.channel.Coding.{Coding}
-use Rattle.dch_segment.specs.declared.cut.Plan.{Plan}
+use Rattle.dch_coding.specs.declared.cut.Plan.{Plan}
 use Rattle.dch_coding.specs.Ttis.{part}
-use Rattle.dch_segment.specs.Segments.{filler_of}
+use Rattle.dch_coding.specs.Segments.{filler_of}
 use Rattle.dch_tti.specs.JoinedBits.{IsRead}
 use Rattle.dch_tti.proofs.Parts.{part_fits, length_slice}
 use Rattle.dch_tti.proofs.Blocks.{read_here, read_earlier}

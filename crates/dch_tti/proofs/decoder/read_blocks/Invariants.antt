@@ -1,6 +1,6 @@
 use Rattle.std.proofs.Common.{◌≡◌, ◌<◌, ℕ}
 use Rattle.dch_coding.specs.Ttis.{part}
-use Rattle.dch_segment.specs.Segments.{filler_of}
+use Rattle.dch_coding.specs.Segments.{filler_of}
 use Rattle.dch_tti.specs.JoinedBits.{IsRead}
 use Rattle.dch_tti.proofs.decoder.read_blocks.Given as goal
 

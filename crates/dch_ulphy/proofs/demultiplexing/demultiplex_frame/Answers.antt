@@ -8,11 +8,11 @@ use Rattle.dch_types.specs.declared.config.Config.{Config}
 use Rattle.dch_types.specs.Parts.{channel_at}
 use Rattle.dch_config.specs.Good.{IsGood}
 use Rattle.dch_inter.specs.Places.{frame_of, place_of}
-use Rattle.dch_match.specs.declared.uplink_plan.UplinkPlan.{UplinkPlan}
-use Rattle.dch_match.specs.Patterns.{copies, copies_below}
-use Rattle.dch_match.specs.Uplinks.{IsPlan, before_of, sent_of, uplink_pattern}
+use Rattle.dch_frame.specs.declared.uplink_plan.UplinkPlan.{UplinkPlan}
+use Rattle.dch_frame.specs.Patterns.{copies, copies_below}
+use Rattle.dch_frame.specs.Uplinks.{IsPlan, before_of, sent_of, uplink_pattern}
 use Rattle.dch_types.proofs.Sums.{part_le}
-use Rattle.dch_match.proofs.Sizes.{largest_most}
+use Rattle.dch_frame.proofs.Sizes.{largest_most}
 use Rattle.dch_frame.specs.Stages.{as_cell, origin_of}
 use Rattle.dch_frame.specs.Votes.{copies_as_votes}
 use Rattle.dch_collision.specs.Plans.{plan_at}

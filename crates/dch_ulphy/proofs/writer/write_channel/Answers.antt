@@ -4,12 +4,12 @@ use Rattle.std.proofs.lemmas.Nat.{mod_below}
 use Rattle.dch_types.specs.declared.config.Config.{Config}
 use Rattle.dch_types.specs.Parts.{channel_at}
 use Rattle.dch_config.specs.Good.{IsGood}
-use Rattle.dch_match.specs.declared.pattern.Pattern.{Pattern}
-use Rattle.dch_match.specs.declared.uplink_plan.UplinkPlan.{UplinkPlan}
-use Rattle.dch_match.specs.Patterns.{copies_below}
-use Rattle.dch_match.specs.Uplinks.{before_of, sent_of, uplink_pattern}
+use Rattle.dch_frame.specs.declared.pattern.Pattern.{Pattern}
+use Rattle.dch_frame.specs.declared.uplink_plan.UplinkPlan.{UplinkPlan}
+use Rattle.dch_frame.specs.Patterns.{copies_below}
+use Rattle.dch_frame.specs.Uplinks.{before_of, sent_of, uplink_pattern}
 use Rattle.dch_frame.specs.Stages.{origin_of}
-use Rattle.dch_frame.proofs.Kept.{origin_of-inside}
+use Rattle.dch_frame.proofs.KeptBits.{origin_of-inside}
 use Rattle.dch_collision.specs.Plans.{plan_at}
 use Rattle.dch_tti.specs.Loaded.{loaded_at, Loaded, frame_number}
 use Rattle.dch_ulphy.specs.Frames.{pattern_of}

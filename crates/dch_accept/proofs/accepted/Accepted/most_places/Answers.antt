@@ -1,6 +1,6 @@
 use Rattle.std.proofs.Common.{◌≡◌, ◌∙◌, ℕ, List, ap, ap₂, max, sym}
-use Rattle.dch_match.specs.declared.downlink_plan.RateMatching.{RateMatching}
-use Rattle.dch_match.specs.Downlinks.{matching_at}
+use Rattle.dch_frame.specs.declared.downlink_plan.RateMatching.{RateMatching}
+use Rattle.dch_frame.specs.Downlinks.{matching_at}
 use Rattle.dch_accept.proofs.Rooms.{places-more, places-zero}
 use Rattle.dch_accept.proofs.accepted.Accepted.most_places.Goals as goal
 

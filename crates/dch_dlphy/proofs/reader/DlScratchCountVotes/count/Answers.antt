@@ -6,11 +6,11 @@ use Rattle.dch_bits.specs.declared.bit.Vote.{Vote}
 use Rattle.dch_types.specs.declared.channel.Side.{Side}
 use Rattle.dch_types.specs.Parts.{channel_at}
 use Rattle.dch_config.specs.Good.{IsGood}
-use Rattle.dch_match.specs.declared.pattern.Pattern.{Pattern}
-use Rattle.dch_match.specs.Downlinks.{IsDownlinkPlan}
-use Rattle.dch_match.specs.Patterns.{copies_below}
+use Rattle.dch_frame.specs.declared.pattern.Pattern.{Pattern}
+use Rattle.dch_frame.specs.Downlinks.{IsDownlinkPlan}
+use Rattle.dch_frame.specs.Patterns.{copies_below}
 use Rattle.dch_frame.specs.Votes.{votes_of}
-use Rattle.dch_frame.proofs.Kept.{copies_inside}
+use Rattle.dch_frame.proofs.KeptBits.{copies_inside}
 use Rattle.dch_collision.specs.Clear.{IsClear}
 use Rattle.dch_tti.specs.Read.{coded_in, votes_in}
 use Rattle.dch_tti.proofs.Reading.{take_whole}

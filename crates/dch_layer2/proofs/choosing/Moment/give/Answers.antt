@@ -1,7 +1,7 @@
 use Rattle.std.proofs.Common.{◌≡◌, ◌<◌, ◌+◌, ◌-◌, ◌∙◌, ◌&&◌, suc, [], true, ap, arith, get_or, length, set, subst, sym}
 use Rattle.std.specs.Prelude.{◌==◌}
 use Rattle.dch_config.specs.Good.{IsGood}
-use Rattle.dch_select.specs.Asked.{priority_of}
+use Rattle.dch_mac.specs.Asked.{priority_of}
 use Rattle.dch_layer2.specs.Starting.{is_on}
 use Rattle.dch_layer2.specs.BearerStanding.{Represents as StandsFor}
 use Rattle.dch_layer2.specs.declared.bearer.Bearer.{Bearer}

@@ -2,7 +2,7 @@ use Rattle.std.proofs.Common.{◌≡◌, ◌++◌, ◌∙◌, List, ap, drop, le
 use Rattle.dch_config.specs.Good.{IsGood}
 use Rattle.dch_accept.proofs.Overwritten.{whole_written}
 use Rattle.dch_accept.specs.Blocks.{Held}
-use Rattle.dch_select.specs.declared.head.Head.{Head}
+use Rattle.dch_mac.specs.declared.head.Head.{Head}
 use Rattle.dch_layer2.specs.declared.bearer.Bearer.{Bearer}
 use Rattle.dch_layer2.specs.Sharing.{AreHeads}
 use Rattle.dch_layer2.specs.Standing.{HasStarted, IsLayerOf, Represents}

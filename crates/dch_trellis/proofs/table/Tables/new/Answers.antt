@@ -1,4 +1,4 @@
-use Rattle.dch_conv.specs.declared.rate.Rate.TheVariants.{Half, Third}
+use Rattle.dch_coding.specs.declared.rate.Rate.TheVariants.{Half, Third}
 use Rattle.dch_trellis.proofs.Told.{outputs_read}
 use Rattle.dch_trellis.proofs.table.Tables.new.Goals as goal
 

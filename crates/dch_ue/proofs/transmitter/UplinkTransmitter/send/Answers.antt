@@ -1,7 +1,7 @@
 use Rattle.std.proofs.Common.{arith, rules, ap, subst}
 use Rattle.dch_config.specs.Good.{IsGood}
-use Rattle.dch_match.specs.declared.uplink_plan.UplinkPlan.{UplinkPlan}
-use Rattle.dch_match.proofs.Sizes.{largest_most}
+use Rattle.dch_frame.specs.declared.uplink_plan.UplinkPlan.{UplinkPlan}
+use Rattle.dch_frame.proofs.Sizes.{largest_most}
 use Rattle.dch_ue.proofs.transmitter.UplinkTransmitter.send.Goals as goal
 
 pub returns : goal.returns

@@ -3,8 +3,8 @@ use Rattle.std.specs.Prelude.{slice_index}
 use Rattle.dch_bits.specs.declared.bit.Trit.{Trit}
 use Rattle.dch_types.specs.declared.config.Config.{Config}
 use Rattle.dch_types.specs.declared.config.Uplink.{Uplink}
-use Rattle.dch_match.specs.declared.uplink_plan.UplinkPlan.{UplinkPlan}
-use Rattle.dch_match.specs.Uplinks.{IsPlan}
+use Rattle.dch_frame.specs.declared.uplink_plan.UplinkPlan.{UplinkPlan}
+use Rattle.dch_frame.specs.Uplinks.{IsPlan}
 use Rattle.dch_types.proofs.Sums.{part_le}
 use Rattle.dch_frame.proofs.Codes.{length_code}
 use Rattle.dch_collision.specs.Plans.{plan_at}

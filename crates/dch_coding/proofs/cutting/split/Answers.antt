@@ -1,0 +1,6 @@
+use Rattle.std.proofs.Common.{arith}
+use Rattle.dch_coding.proofs.Sizes.{plan_whole}
+use Rattle.dch_coding.proofs.cutting.split.Goals as goal
+
+pub copy_from_slice-requires : goal.copy_from_slice-requires
+copy_from_slice-requires c = omega (arith, plan_whole c.args.plan.now c.requires.plan)

@@ -1,7 +1,0 @@
-use Rattle.dch_crc.specs.Parity.{payload_polynomial, bits_of_octets}
-use Rattle.dch_crc.proofs.Attached.{checked}
-use Rattle.dch_crc.proofs.payload16.Goals as goal
-
-pub returns : goal.returns
-returns c =
-    checked payload_polynomial c.of_payload.result.degree c.of_payload.result.terms c.parity_of_octets.result (bits_of_octets c.args.octets.now) c.of_payload.ensures.terms c.parity_of_octets.ensures

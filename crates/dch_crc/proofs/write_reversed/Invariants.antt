@@ -1,6 +1,0 @@
-use Rattle.std.proofs.Common.{◌≡◌, take, reverse}
-use Rattle.dch_crc.specs.Register.{lowest_bits}
-use Rattle.dch_crc.proofs.write_reversed.Given as goal
-
-abbrev pub invariant-loop-i : goal.invariant-loop-i
-invariant-loop-i l = take l.i l.out ≡ reverse (lowest_bits l.i l.number)

@@ -1,0 +1,8 @@
+use Rattle.std.proofs.Common.{◌≡◌, ◌<◌, ℕ, length}
+use Rattle.dch_types.specs.Parts.{channel_at}
+use Rattle.dch_frame.specs.Downlinks.{first_places}
+use Rattle.dch_frame.specs.Places.{place_at}
+use Rattle.dch_frame.proofs.flexible.first_table.Given as goal
+
+abbrev pub invariant-loop-i : goal.invariant-loop-i
+invariant-loop-i l = (j f : ℕ) → j < l.i → f < length (channel_at l.side j).formats → place_at l.table j f ≡ first_places l.side l.ndata j f

@@ -1,0 +1,10 @@
+use Rattle.std.proofs.Common.{sym, arith}
+use Rattle.dch_types.proofs.Sums.{total-zero, total-more}
+use Rattle.dch_frame.specs.Uplinks.{weight_of}
+use Rattle.dch_frame.proofs.uplink_plan.whole_weight.Goals as goal
+
+pub loop-i-init : goal.loop-i-init
+loop-i-init c = (sym (total-zero (weight_of c.args.side.now c.args.c)), omega arith)
+
+pub loop-i-preserved : goal.loop-i-preserved
+loop-i-preserved c = (omega (arith, total-more (weight_of c.args.side.now c.args.c) c.loop-i.i), omega arith)

@@ -1,6 +1,0 @@
-use Rattle.std.proofs.Common.{◌≡◌, ◌≤◌}
-use Rattle.dch_match.specs.Downlinks.{most_below}
-use Rattle.dch_match.proofs.fixed.most_of.Given as goal
-
-abbrev pub invariant-loop-f : goal.invariant-loop-f
-invariant-loop-f l = (l.most ≡ most_below l.channel l.f) × (l.most ≤ 131072)

@@ -1,6 +1,0 @@
-use Rattle.std.proofs.Common.{◌≡◌, ◌<◌, ◌^◌}
-use Rattle.dch_match.specs.Downlinks.{greatest_below}
-use Rattle.dch_match.proofs.flexible.greatest.Given as goal
-
-abbrev pub invariant-loop-c : goal.invariant-loop-c
-invariant-loop-c l = (l.most ≡ greatest_below l.side l.c) × (l.most < 2 ^ 32)

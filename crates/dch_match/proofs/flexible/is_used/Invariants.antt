@@ -1,6 +1,0 @@
-use Rattle.std.proofs.Common.{◌≡◌}
-use Rattle.dch_match.specs.Downlinks.{stands_below}
-use Rattle.dch_match.proofs.flexible.is_used.Given as goal
-
-abbrev pub invariant-loop-c : goal.invariant-loop-c
-invariant-loop-c l = l.found ≡ stands_below l.side l.i l.f l.c

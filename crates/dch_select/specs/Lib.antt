@@ -1,6 +1,0 @@
-pub mod Asked
-pub mod Best
-pub mod Candidates
-pub mod Choices
-pub mod Offered
-pub mod Table
