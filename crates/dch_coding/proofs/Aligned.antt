@@ -48,7 +48,7 @@ step_zero terms register raised x a small low is known =
     rw (sym same) (holds_zero 32 (2 ^ 32 + terms) register (2 * raised) x a first n (omega arith) known)
 
 -- ---- the parity of the polynomial from that of the one with more zeros at its end
-lowest_bits-shifted : (count k n : ℕ) → lowest_bits (count + k) (n * 2 ^ k) ≡ lowest_bits count n ++ replicate k Zero
+pub lowest_bits-shifted : (count k n : ℕ) → lowest_bits (count + k) (n * 2 ^ k) ≡ lowest_bits count n ++ replicate k Zero
 lowest_bits-shifted count zero n =
     let long : count + 0 ≡ count = omega arith in
     let same : n * 2 ^ 0 ≡ n = omega arith in
@@ -58,7 +58,7 @@ lowest_bits-shifted count (suc k) n =
     let twice : n * 2 ^ suc k ≡ 2 * (n * 2 ^ k) = rw (pow-suc 2 k) (omega arith) in
     rw (long, twice) (lowest_bits-double (count + k) (n * 2 ^ k) ∙ ap (λ xs. xs ++ Zero ∷ []) (lowest_bits-shifted count k n) ∙ rw append_assoc (rw zeros_more refl))
 
-lowest_bits-split : (count k n : ℕ) → lowest_bits (count + k) n ≡ lowest_bits count (n / 2 ^ k) ++ lowest_bits k n
+pub lowest_bits-split : (count k n : ℕ) → lowest_bits (count + k) n ≡ lowest_bits count (n / 2 ^ k) ++ lowest_bits k n
 unfolding lowest_bits
 lowest_bits-split zero k n = let same : 0 + k ≡ k = omega arith in ap (λ m. lowest_bits m n) same
 lowest_bits-split (suc count) k n =

@@ -11,3 +11,6 @@ pub mod Attached
 pub mod Products
 pub mod Registers
 pub mod Unique
+pub mod Sums
+pub mod Tables
+pub mod Gathered

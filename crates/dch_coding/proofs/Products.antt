@@ -6,7 +6,7 @@ use Rattle.dch_bits.specs.declared.bit.Bit.TheVariants.{Zero, One}
 use Rattle.dch_bits.specs.Bits.{plus}
 use Rattle.dch_coding.specs.Parity.{add, scale, times, IsParity}
 
-plus_assoc : (a b c : Bit) → plus a (plus b c) ≡ plus (plus a b) c
+pub plus_assoc : (a b c : Bit) → plus a (plus b c) ≡ plus (plus a b) c
 plus_assoc Zero b c = refl
 plus_assoc One Zero c = refl
 plus_assoc One One Zero = refl
@@ -57,7 +57,7 @@ pub add_zeros : (n : ℕ) (xs : List Bit) → n ≡ length xs → add xs (replic
 add_zeros n [] h = refl
 add_zeros n (x ∷ xs) h = rw h (rw (plus_zero x, add_zeros (length xs) xs refl) refl)
 
-zeros_add : (n : ℕ) (ys : List Bit) → n ≡ length ys → add (replicate n Zero) ys ≡ ys
+pub zeros_add : (n : ℕ) (ys : List Bit) → n ≡ length ys → add (replicate n Zero) ys ≡ ys
 zeros_add n [] h = rw h refl
 zeros_add n (y ∷ ys) h = rw h (rw (zeros_add (length ys) ys refl) refl)
 
@@ -79,7 +79,7 @@ times_first g b h =
     let right : add (replicate (length g) Zero) (scale b g) ≡ scale b g = zeros_add (length g) (scale b g) (sym (length-scale b g)) in
     rw (append-nil, zeros_more (length g - 1), zeros_of g h) (left ∙ sym right)
 
-times_more : (g q : List Bit) (b : Bit) → 1 ≤ length g → times g (q ++ b ∷ []) ≡ add (times g q ++ Zero ∷ []) (replicate (length q) Zero ++ scale b g)
+pub times_more : (g q : List Bit) (b : Bit) → 1 ≤ length g → times g (q ++ b ∷ []) ≡ add (times g q ++ Zero ∷ []) (replicate (length q) Zero ++ scale b g)
 times_more g [] b h = times_first g b h
 times_more g (c ∷ q) b h =
     let A : List Bit = scale c g ++ replicate (length q) Zero in

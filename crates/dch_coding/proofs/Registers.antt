@@ -55,7 +55,7 @@ add_back (x ∷ u) [] same = absurd (omega arith)
 add_back (x ∷ u) (y ∷ v) same = rw (plus_back x y, add_back u v (omega arith)) refl
 
 -- below a power of two all bits are zero
-lowest_bits-pow : (count k : ℕ) → count ≤ k → lowest_bits count (2 ^ k) ≡ replicate count Zero
+pub lowest_bits-pow : (count k : ℕ) → count ≤ k → lowest_bits count (2 ^ k) ≡ replicate count Zero
 unfolding lowest_bits
 lowest_bits-pow zero k below = refl
 lowest_bits-pow (suc count) k below =
@@ -65,7 +65,7 @@ pow_bits : (k : ℕ) → lowest_bits (suc k) (2 ^ k) ≡ One ∷ replicate k Zer
 unfolding lowest_bits
 pow_bits k = ap₂ (λ (m : ℕ) (xs : List Bit). bit_of_number m ∷ xs) (bit_at-pow_same k) (lowest_bits-pow k k (omega arith))
 
-lowest_bits-zero : (count : ℕ) → lowest_bits count 0 ≡ replicate count Zero
+pub lowest_bits-zero : (count : ℕ) → lowest_bits count 0 ≡ replicate count Zero
 unfolding lowest_bits
 lowest_bits-zero zero = refl
 lowest_bits-zero (suc count) = ap₂ (λ (m : ℕ) (xs : List Bit). bit_of_number m ∷ xs) (bit_at-zero count) (lowest_bits-zero count)
@@ -165,7 +165,7 @@ pub reverse-lowest_bits : (i n : ℕ) → reverse (lowest_bits (i + 1) n) ≡ re
 unfolding lowest_bits
 reverse-lowest_bits i n = rw add-one (reverse-append (bit_of_number (bit_at n i) ∷ []) (lowest_bits i n))
 
-get_or-lowest_bits : (count n i : ℕ) → i < count → get_or (lowest_bits count n) i Zero ≡ bit_of_number (bit_at n (count - 1 - i))
+pub get_or-lowest_bits : (count n i : ℕ) → i < count → get_or (lowest_bits count n) i Zero ≡ bit_of_number (bit_at n (count - 1 - i))
 unfolding lowest_bits
 get_or-lowest_bits zero n i inside = absurd (omega arith)
 get_or-lowest_bits (suc count) n zero inside = let e : suc count - 1 - 0 ≡ count = omega arith in rw e refl

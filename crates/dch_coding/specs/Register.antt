@@ -1,5 +1,5 @@
 -- The register that holds the parity of the bits so far, as a number.
-use Rattle.std.specs.Prelude.{◌^◌, ◌<◌, ℕ, zero, suc, List, [], ◌∷◌}
+use Rattle.std.specs.Prelude.{◌+◌, ◌*◌, ◌/◌, ◌%◌, ◌^◌, ◌<◌, ℕ, zero, suc, List, [], ◌∷◌, slice_index_or}
 use Rattle.std.specs.Int.{bit_at}
 use Rattle.dch_bits.specs.declared.bit.Bit.{Bit}
 use Rattle.dch_bits.specs.Bits.{bit_of_number}
@@ -14,3 +14,15 @@ lowest_bits (suc count) n = bit_of_number (bit_at n count) ∷ lowest_bits count
 pub record HoldsParity (degree terms : ℕ) (block : List Bit) (register : ℕ) : Type 0 where
   pub small : register < 2 ^ degree
   pub parity : IsParity (lowest_bits (suc degree) terms) block (lowest_bits degree register)
+
+-- a register holds the parity of a word of 32 bits, under the polynomial of degree 32 with these terms below its first one
+abbrev pub HoldsWord : ℕ → ℕ → ℕ → Type 0
+HoldsWord terms word register = HoldsParity 32 (2 ^ 32 + terms) (lowest_bits 32 word) register
+
+-- the word of place k: octet k % 256, and as many octets of zeros after it as rows of 256 places before
+abbrev pub word_at : ℕ → ℕ
+word_at k = k % 256 * 2 ^ (8 * (k / 256))
+
+-- the first places of a table hold the parities of their words
+abbrev pub AreWords : ℕ → List ℕ → ℕ → Type 0
+AreWords terms words count = (k : ℕ) → k < count → HoldsWord terms (word_at k) (slice_index_or words k 0)

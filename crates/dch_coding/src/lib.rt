@@ -13,6 +13,7 @@ mod polynomial;
 mod rate;
 mod room;
 mod tti;
+mod words;
 
 pub use block::BlockCoder;
 pub use chain::code;

@@ -1,11 +1,15 @@
-ghost use Rattle.std.specs.Prelude.{◌≡◌, ◌+◌, ◌-◌, ◌*◌, ◌/◌, ◌^◌, ◌<◌, ◌≤◌, ◌++◌, ◌∷◌, [], List, suc};
+ghost use Rattle.std.specs.Prelude.{◌≡◌, ◌+◌, ◌-◌, ◌*◌, ◌/◌, ◌%◌, ◌^◌, ◌<◌, ◌≤◌, ◌++◌, ◌∷◌, [], List, suc};
 ghost use Rattle.dch_bits.specs.declared.bit.Bit.{Bit};
 ghost use Rattle.dch_types.specs.Lengths.{crc_size};
 ghost use Rattle.dch_coding.specs.Parity.{polynomial, header_polynomial, payload_polynomial, bits_of_octets};
 ghost use Rattle.dch_coding.specs.Register.{lowest_bits, HoldsParity};
 
+use crate::words::{after_bits, after_octets};
 use dch_bits::{Bit, bit_at, number};
 use dch_types::Crc;
+
+/// The fewest bits for which parities of words are worked out.
+const SHORT: usize = 320;
 
 /// A polynomial modulo 2: its degree, and its terms as the bits of a number.
 #[derive(Clone, Copy)]
@@ -90,11 +94,12 @@ impl Polynomial {
         ensures { HoldsParity self.degree self.terms block.now result }
     {
         let terms = self.lower_terms();
+        let (front, words) = block.split_at(front_bits(block.len()));
         let mut register = 0;
-        for bit in block {
+        for bit in front {
             register = next(terms, register, *bit);
         }
-        self.parity_in(register)
+        self.parity_in(after_bits(terms, register, words))
     }
 
     /// The parity of octets, the highest bit of each first, as a number.
@@ -102,18 +107,39 @@ impl Polynomial {
         ensures { HoldsParity self.degree self.terms (bits_of_octets octets.now) result }
     {
         let terms = self.lower_terms();
+        let (front, words) = octets.split_at(front_octets(octets.len()));
         let mut register = 0;
-        for octet in octets {
+        for octet in front {
             for j in 0..8usize {
                 register = next(terms, register, bit_at(u32::from(*octet), 7 - j));
             }
         }
-        self.parity_in(register)
+        self.parity_in(after_octets(terms, register, words))
+    }
+}
+
+/// How many bits of a block are taken one by one, before its words of 32 bits. A short block has none.
+fn front_bits(bits: usize) -> usize
+    ensures inside { result ≤ bits }
+    ensures words { (bits - result) % 32 ≡ 0 }
+{
+    if bits < SHORT { bits } else { bits % 32 }
+}
+
+/// The same for octets.
+fn front_octets(octets: usize) -> usize
+    ensures inside { result ≤ octets }
+    ensures words { (octets - result) % 4 ≡ 0 }
+{
+    if octets < SHORT / 8 {
+        octets
+    } else {
+        octets % 4
     }
 }
 
 /// The register after one more bit of a block, under the polynomial of degree 32 with these terms below its first one.
-fn next(terms: u32, register: u32, bit: Bit) -> u32
+pub fn next(terms: u32, register: u32, bit: Bit) -> u32
     ensures { (a : List Bit) → HoldsParity 32 (2 ^ 32 + terms) a register → HoldsParity 32 (2 ^ 32 + terms) (a ++ bit ∷ []) result }
 {
     let raised = register ^ (u32::from(number(bit)) << 31);
