@@ -1,12 +1,12 @@
 -- Bits and octets gathered into words.
-use Rattle.std.proofs.Common.{◌≡◌, ◌+◌, ◌-◌, ◌*◌, ◌/◌, ◌%◌, ◌^◌, ◌<◌, ◌≤◌, ℕ, zero, suc, List, [], ◌∷◌, ◌++◌, length, replicate, get_or, map, take, drop, add-one, arith, refl, ap, ap₂, sym, ◌∙◌, append-nil, append_assoc}
+use Rattle.std.proofs.Common.{◌≡◌, ◌+◌, ◌-◌, ◌*◌, ◌/◌, ◌%◌, ◌^◌, ◌<◌, ◌≤◌, ℕ, zero, suc, List, [], ◌∷◌, ◌++◌, length, replicate, get_or, map, take, drop, arith, refl, ap, ap₂, sym, ◌∙◌, append-nil, append_assoc}
 use Rattle.std.specs.Int.{bit_at}
 use Rattle.std.specs.List.{range_with_len}
 use Rattle.std.proofs.lemmas.List.{ext_get_or, get_or-drop, length-drop, take_all, take_more}
 use Rattle.std.proofs.lemmas.List.FromFn.{map-range_with_len_more, get_or-map-range_with_len, length-map-range_with_len}
 use Rattle.std.proofs.lemmas.Nat.Bits.{bit_at_lowest}
 use Rattle.dch_bits.specs.declared.bit.Bit.{Bit}
-use Rattle.dch_bits.specs.declared.bit.Bit.TheVariants.{Zero, One}
+use Rattle.dch_bits.specs.declared.bit.Bit.TheVariants.{Zero}
 use Rattle.dch_bits.specs.Bits.{bit_of_number, number_of}
 use Rattle.dch_bits.specs.Octets.{bit_of_octets, octet_bit}
 use Rattle.dch_bits.proofs.Places.{bit_of_number-is, number_below}
@@ -108,7 +108,7 @@ octet_part octets i =
     let long : length (map f (range_with_len 0 8)) ≡ 8 = length-map-range_with_len f 0 8 in
     ext_get_or Zero (map f (range_with_len 0 8)) (lowest_bits 8 (get_or octets i 0)) (long ∙ sym (length-lowest_bits 8 (get_or octets i 0)))
     (λ k h. let inside : k < 8 = omega (arith, h, long) in
-      get_or-map-range_with_len f 0 8 k k Zero inside (omega arith) ∙ bit_place octets i k inside ∙ sym (get_or-lowest_bits 8 (get_or octets i 0) k inside))
+    get_or-map-range_with_len f 0 8 k k Zero inside (omega arith) ∙ bit_place octets i k inside ∙ sym (get_or-lowest_bits 8 (get_or octets i 0) k inside))
 
 octet_more : (octets : List ℕ) (n : ℕ) → map (bit_of_octets octets) (range_with_len 0 (8 * (n + 1))) ≡ map (bit_of_octets octets) (range_with_len 0 (8 * n)) ++ lowest_bits 8 (get_or octets n 0)
 octet_more octets n =
@@ -138,9 +138,9 @@ bits_of_octets-parts octets k inside =
     let n : ℕ = 8 * length (drop k octets) in
     let whole : 8 * length octets ≡ 8 * k + n = omega (arith, length-drop k octets) in
     let rest : (j : ℕ) → bit_of_octets (drop k octets) j ≡ bit_of_octets octets (8 * k + j) = λ j.
-        let octet : k + j / 8 ≡ (8 * k + j) / 8 = omega arith in
-        let place : j % 8 ≡ (8 * k + j) % 8 = omega arith in
-        ap (λ o. octet_bit o (j % 8)) (get_or-drop k octets (j / 8) 0) ∙ ap₂ (λ i j. octet_bit (get_or octets i 0) j) octet place in
+    let octet : k + j / 8 ≡ (8 * k + j) / 8 = omega arith in
+    let place : j % 8 ≡ (8 * k + j) % 8 = omega arith in
+    ap (λ o. octet_bit o (j % 8)) (get_or-drop k octets (j / 8) 0) ∙ ap₂ (λ i j. octet_bit (get_or octets i 0) j) octet place in
     ap (λ xs. map (bit_of_octets octets) (range_with_len 0 (8 * k)) ++ xs) (map-same (bit_of_octets (drop k octets)) (λ j. bit_of_octets octets (8 * k + j)) rest (range_with_len 0 n))
     ∙ sym (places_more (bit_of_octets octets) (8 * k) n) ∙ ap (λ m. map (bit_of_octets octets) (range_with_len 0 m)) (sym whole)
   where

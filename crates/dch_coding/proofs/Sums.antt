@@ -5,7 +5,7 @@ use Rattle.dch_bits.specs.declared.bit.Bit.{Bit}
 use Rattle.dch_bits.specs.declared.bit.Bit.TheVariants.{Zero, One}
 use Rattle.dch_bits.specs.Bits.{plus}
 use Rattle.dch_coding.specs.Parity.{add, scale, times, IsParity}
-use Rattle.dch_coding.proofs.Products.{plus_assoc, plus_back, add_append, add_zeros, zeros_add, length-add, length-scale, length-times, quotient_long, times_more}
+use Rattle.dch_coding.proofs.Products.{plus_assoc, add_append, add_zeros, zeros_add, length-add, length-scale, length-times, quotient_long, times_more}
 use Rattle.dch_coding.proofs.Unique.{parity_some, parity_one}
 
 plus_comm : (x y : Bit) → plus x y ≡ plus y x

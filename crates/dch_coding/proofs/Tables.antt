@@ -1,15 +1,13 @@
 -- The parities of words of 32 bits.
-use Rattle.std.proofs.Common.{◌≡◌, ◌+◌, ◌*◌, ◌/◌, ◌%◌, ◌^◌, ◌<◌, ◌≤◌, ℕ, zero, suc, List, [], ◌∷◌, ◌++◌, length, replicate, get_or, arith, refl, ap, ap₂, sym, subst, ◌∙◌, append-nil, mul-lt-mul_of_pos_right}
-use Rattle.std.specs.Int.{bit_at}
+use Rattle.std.proofs.Common.{◌≡◌, ◌+◌, ◌*◌, ◌/◌, ◌%◌, ◌^◌, ◌<◌, ◌≤◌, ℕ, zero, suc, List, [], ◌∷◌, ◌++◌, length, replicate, arith, refl, ap, ap₂, sym, subst, ◌∙◌, append-nil, mul-lt-mul_of_pos_right}
 use Rattle.std.specs.Int.Bits.{bit_xor, xor_zero_l, xor_zero_r}
-use Rattle.std.proofs.lemmas.Nat.{xor_lt, xor_block, pow-add, pow_pos, mod-pow-add, mod_below, div_below}
+use Rattle.std.proofs.lemmas.Nat.{xor_lt, xor_block, pow-add, pow_pos, mod-pow-add, mod_below}
 use Rattle.std.proofs.Math.Pow.{pow-lt}
 use Rattle.dch_bits.specs.declared.bit.Bit.{Bit}
 use Rattle.dch_bits.specs.declared.bit.Bit.TheVariants.{Zero, One}
-use Rattle.dch_bits.specs.Bits.{bit_of_number, number_of, plus}
 use Rattle.dch_coding.specs.Parity.{add, IsParity}
-use Rattle.dch_coding.specs.Register.{lowest_bits, HoldsParity, HoldsWord, word_at, AreWords}
-use Rattle.dch_coding.proofs.Registers.{length-lowest_bits, lowest_bits-xor, lowest_bits-double, lowest_bits-zero, lowest_bits-pow, terms_bits, top_one, holds_none}
+use Rattle.dch_coding.specs.Register.{lowest_bits, HoldsParity, HoldsWord, word_at}
+use Rattle.dch_coding.proofs.Registers.{length-lowest_bits, lowest_bits-xor, lowest_bits-double, lowest_bits-zero, terms_bits, top_one, holds_none}
 use Rattle.dch_coding.proofs.Sums.{parity_sum, parity_zeros, parity_less, parity_after}
 
 pub first_term : (terms : ℕ) → terms < 2 ^ 32 → (2 ^ 32 + terms) / 2 ^ 32 ≡ 1

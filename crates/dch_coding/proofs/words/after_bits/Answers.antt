@@ -1,4 +1,4 @@
-use Rattle.std.proofs.Common.{◌≡◌, ◌+◌, ◌-◌, ◌*◌, ◌^◌, ◌++◌, ℕ, List, length, take, drop, ap, ◌∙◌, sym, subst, arith, append_assoc}
+use Rattle.std.proofs.Common.{◌≡◌, ◌+◌, ◌-◌, ◌*◌, ◌^◌, ◌++◌, ℕ, List, take, drop, ap, ◌∙◌, sym, subst, arith, append_assoc}
 use Rattle.std.proofs.Math.Seq.{take-add}
 use Rattle.dch_bits.specs.declared.bit.Bit.{Bit}
 use Rattle.dch_coding.specs.Register.{HoldsParity}

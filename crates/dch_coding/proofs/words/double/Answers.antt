@@ -1,8 +1,7 @@
-use Rattle.std.proofs.Common.{◌≡◌, ◌+◌, ◌*◌, ◌/◌, ◌%◌, ◌^◌, ◌<◌, ◌≤◌, ℕ, suc, get_or, subst, sym, arith, below_more}
+use Rattle.std.proofs.Common.{◌≡◌, ◌+◌, ◌*◌, ◌%◌, ◌^◌, ◌<◌, ◌≤◌, ℕ, get_or, subst, sym, arith, below_more}
 use Rattle.std.specs.Prelude.{slice_set}
 use Rattle.std.specs.Int.Bits.{bit_xor}
 use Rattle.std.proofs.Math.Nat.{pow-suc}
-use Rattle.std.proofs.lemmas.Nat.{one_shl}
 use Rattle.std.proofs.lemmas.List.{get_or-set_other, get_or-set_same, length-set}
 use Rattle.dch_coding.specs.Register.{HoldsWord, AreWords, word_at}
 use Rattle.dch_coding.proofs.Tables.{word_sum, word_at-more, pow_few}

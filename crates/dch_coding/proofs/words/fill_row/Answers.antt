@@ -1,8 +1,8 @@
-use Rattle.std.proofs.Common.{◌≡◌, ◌+◌, ◌*◌, ◌/◌, ◌%◌, ◌^◌, ◌<◌, ◌≤◌, ℕ, suc, get_or, subst, sym, ap, ◌∙◌, arith, add-one, below_more}
+use Rattle.std.proofs.Common.{◌≡◌, ◌+◌, ◌*◌, ◌^◌, ◌<◌, ℕ, get_or, subst, sym, ap, ◌∙◌, arith, add-one, below_more}
 use Rattle.std.specs.Prelude.{slice_set}
 use Rattle.std.proofs.Math.Nat.{pow-suc}
 use Rattle.std.proofs.lemmas.List.{get_or-set_other, get_or-set_same}
-use Rattle.dch_coding.specs.Register.{HoldsWord, AreWords, word_at}
+use Rattle.dch_coding.specs.Register.{HoldsWord, word_at}
 use Rattle.dch_coding.proofs.Tables.{word_none, word_double, word_at-row, pow_high}
 use Rattle.dch_coding.proofs.words.fill_row.Goals as goal
 
@@ -15,7 +15,7 @@ loop-j-init c =
       filled = λ k below. below_more (λ k. HoldsWord terms (word_at k) (get_or (slice_set c.args.words.now n 0) k 0)) n
           (λ k less. subst (HoldsWord terms (word_at k)) (sym (get_or-set_other c.args.words.now n k 0 0 (λ same. omega arith))) (c.requires.before k less))
           (subst (HoldsWord terms (word_at n)) (sym (get_or-set_same c.args.words.now n 0 0 (omega (arith, c.told-words, c.requires.row))))
-            (subst (λ w. HoldsWord terms w 0) (sym none) (word_none terms (omega arith))))
+          (subst (λ w. HoldsWord terms w 0) (sym none) (word_none terms (omega arith))))
           k below;
       power = λ few. subst (λ e. HoldsWord terms (2 ^ e) c.args.first) (omega arith) c.requires.first;
     }

@@ -1,4 +1,4 @@
-use Rattle.std.proofs.Common.{◌≡◌, ◌*◌, ◌+◌, ◌^◌, ◌<◌, ◌≤◌, length}
+use Rattle.std.proofs.Common.{◌*◌, ◌+◌, ◌^◌, ◌<◌}
 use Rattle.dch_coding.specs.Register.{HoldsWord, AreWords}
 use Rattle.dch_coding.proofs.words.fill_row.Given as goal
 

@@ -1,4 +1,4 @@
-use Rattle.std.proofs.Common.{arith, ap, ◌∙◌}
+use Rattle.std.proofs.Common.{arith}
 use Rattle.dch_coding.proofs.Gathered.{octets_joined}
 use Rattle.dch_coding.proofs.words.joined.Goals as goal
 

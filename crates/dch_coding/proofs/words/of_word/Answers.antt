@@ -1,6 +1,6 @@
-use Rattle.std.proofs.Common.{◌≡◌, ◌+◌, ◌*◌, ◌/◌, ◌%◌, ◌^◌, ◌<◌, ℕ, get_or, subst, sym, arith}
+use Rattle.std.proofs.Common.{◌+◌, ◌*◌, ◌/◌, ◌%◌, ◌^◌, ℕ, get_or, subst, sym, arith}
 use Rattle.std.specs.Int.Bits.{bit_xor}
-use Rattle.dch_coding.specs.Register.{HoldsWord, AreWords, word_at}
+use Rattle.dch_coding.specs.Register.{HoldsWord, word_at}
 use Rattle.dch_coding.proofs.Tables.{word_none, word_sum, octet_more}
 use Rattle.dch_coding.proofs.words.of_word.Goals as goal
 

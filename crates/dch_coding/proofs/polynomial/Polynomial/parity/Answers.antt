@@ -1,5 +1,4 @@
 use Rattle.std.proofs.Common.{◌≡◌, ◌+◌, ◌-◌, ◌^◌, ◌++◌, List, take, sym, ap, ◌∙◌, arith}
-use Rattle.std.proofs.lemmas.List.{take_all}
 use Rattle.dch_bits.specs.declared.bit.Bit.{Bit}
 use Rattle.dch_coding.specs.Register.{HoldsParity}
 use Rattle.dch_coding.proofs.Registers.{holds_none}

@@ -1,11 +1,11 @@
-use Rattle.std.proofs.Common.{◌≡◌, ◌+◌, ◌-◌, ◌*◌, ◌/◌, ◌%◌, ◌^◌, ◌<◌, ◌++◌, ℕ, List, length, map, get_or, take, drop, arith, ap, ap₂, sym, ◌∙◌}
+use Rattle.std.proofs.Common.{◌≡◌, ◌+◌, ◌-◌, ◌*◌, ◌^◌, ◌++◌, ℕ, List, map, get_or, take, drop, arith, ap, sym, ◌∙◌}
 use Rattle.std.specs.Int.{bit_at}
 use Rattle.std.specs.List.{range_with_len}
 use Rattle.std.proofs.lemmas.List.FromFn.{map-range_with_len_more}
 use Rattle.std.proofs.lemmas.List.{get_or-take}
 use Rattle.dch_bits.specs.declared.bit.Bit.{Bit}
 use Rattle.dch_bits.specs.Bits.{bit_of_number}
-use Rattle.dch_bits.specs.Octets.{bit_of_octets, octet_bit}
+use Rattle.dch_bits.specs.Octets.{bit_of_octets}
 use Rattle.dch_coding.specs.Parity.{bits_of_octets}
 use Rattle.dch_coding.specs.Register.{HoldsParity}
 use Rattle.dch_coding.proofs.Registers.{holds_none}
