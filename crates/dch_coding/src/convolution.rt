@@ -1,11 +1,11 @@
-ghost use Rattle.std.specs.Prelude.{◌≡◌, ℕ, List, ◌+◌, ◌-◌, ◌%◌, ◌<◌, ◌≤◌, IsTrue, nat_le, length, sum_by, slice_index_or};
+ghost use Rattle.std.specs.Prelude.{◌≡◌, ℕ, List, ◌+◌, ◌-◌, ◌*◌, ◌%◌, ◌<◌, ◌≤◌, IsTrue, nat_le, length, sum_by, slice_index_or};
 ghost use Rattle.std.specs.List.{list_all};
 ghost use Rattle.dch_bits.specs.declared.bit.Bit.{Bit};
 ghost use Rattle.dch_bits.specs.declared.bit.Bit.TheVariants.{Zero};
 ghost use Rattle.dch_bits.specs.Bits.{bit_of_number};
 ghost use Rattle.dch_coding.specs.declared.rate.Rate.TheVariants.{Half, Third};
 ghost use Rattle.dch_coding.specs.Conv.{input, coded_length, encoded};
-ghost use Rattle.dch_coding.specs.Inputs.{Feeds};
+ghost use Rattle.dch_coding.specs.Inputs.{Feeds, IsCodedTo};
 
 use crate::rate::Rate;
 use dch_bits::{Bit, bit_at, number};
@@ -53,9 +53,31 @@ fn encode_half(inputs: &Inputs, out: &mut [Bit])
     requires { length out.old ≤ 1024 }
     ensures { (block : List Bit) → Feeds inputs.now block → length out.old ≡ coded_length Half (length block) → out.new ≡ encoded Half block }
 {
-    for k in 0..out.len() / 2 {
+    let many = out.len() / 32;
+    for c in 0..many {
+        half_steps(inputs, 16 * c, out);
+    }
+    for k in 16 * many..out.len() / 2 {
         out[2 * k] = coded_bit(inputs, k, &[0, 2, 3, 4, 8]);
         out[2 * k + 1] = coded_bit(inputs, k, &[0, 1, 2, 3, 5, 7, 8]);
+    }
+}
+
+/// Sixteen steps at rate 1/2, which are worked out side by side.
+fn half_steps(inputs: &Inputs, from: usize, out: &mut [Bit])
+    requires steps { from + 16 ≤ 512 }
+    requires room { 2 * from + 32 ≤ length out.old }
+    ensures { (block : List Bit) → Feeds inputs.now block → IsCodedTo Half block (2 * from) out.old → IsCodedTo Half block (2 * from + 32) out.new }
+{
+    let mut first = [Bit::Zero; 16];
+    let mut second = [Bit::Zero; 16];
+    for j in 0..16usize {
+        first[j] = coded_bit(inputs, from + j, &[0, 2, 3, 4, 8]);
+        second[j] = coded_bit(inputs, from + j, &[0, 1, 2, 3, 5, 7, 8]);
+    }
+    for j in 0..16usize {
+        out[2 * (from + j)] = first[j];
+        out[2 * (from + j) + 1] = second[j];
     }
 }
 

@@ -12,6 +12,16 @@ pub returns : goal.returns
 returns c = λ block feeds sized.
     encoded-by_places Half block c.loop-k.out (omega (arith, sized)) (λ i within. c.loop-k.invariant block feeds i (omega (arith, sized)))
 
+pub loop-c-init : goal.loop-c-init
+loop-c-init c = λ block feeds j below. absurd (omega arith)
+
+pub loop-c-preserved : goal.loop-c-preserved
+loop-c-preserved c = λ block feeds j below.
+    c.half_steps.ensures block feeds (λ i low. c.loop-c.invariant block feeds i (omega arith)) j (omega arith)
+
+pub loop-k-init : goal.loop-k-init
+loop-k-init c = λ block feeds j below. c.loop-c.invariant block feeds j (omega arith)
+
 pub loop-k-preserved : goal.loop-k-preserved
 loop-k-preserved c = λ block feeds j below.
     let k : ℕ = c.loop-k.k in
