@@ -15,7 +15,7 @@ pub record HoldsParity (degree terms : ℕ) (block : List Bit) (register : ℕ) 
   pub small : register < 2 ^ degree
   pub parity : IsParity (lowest_bits (suc degree) terms) block (lowest_bits degree register)
 
--- a register holds the parity of a word of 32 bits, under the polynomial of degree 32 with these terms below its first one
+-- a register holds the parity of a word of 32 bits, under the polynomial of degree 32 with these terms below its first
 abbrev pub HoldsWord : ℕ → ℕ → ℕ → Type 0
 HoldsWord terms word register = HoldsParity 32 (2 ^ 32 + terms) (lowest_bits 32 word) register
 

@@ -11,7 +11,7 @@ use dch_bits::{Bit, number};
 /// `256 * t + n` is for the octet `n` with `t` octets of zeros after it.
 type Words = [u32; 1024];
 
-/// The register after 32 more bits for each word of a block, under the polynomial of degree 32 with these terms below its
+/// The register after these bits, 32 of them at a time, under the polynomial of degree 32 with these terms below its
 /// first one.
 pub fn after_bits(terms: u32, register: u32, bits: &[Bit]) -> u32
     requires { length bits.now % 32 ≡ 0 }
@@ -56,6 +56,7 @@ fn zeros() -> Words {
     [0; 1024]
 }
 
+/// Works out the parities of all these words, under the polynomial of degree 32 with these terms below its first one.
 fn fill(terms: u32, words: &mut Words)
     ensures { AreWords terms words.new 1024 }
 {
@@ -65,8 +66,8 @@ fn fill(terms: u32, words: &mut Words)
     }
 }
 
-/// Fills the places of words in whose octet `t` from the end ones stand. `first` is the parity of the lowest bit of that
-/// octet, and the answer that of the next octet's.
+/// Fills the places of words in whose octet `t` from the end ones stand. `first` is the parity of the lowest bit of
+/// that octet, and the answer that of the next octet's.
 fn fill_row(terms: u32, t: usize, first: u32, words: &mut Words) -> u32
     requires row { t < 4 }
     requires first { HoldsWord terms (2 ^ (8 * t)) first }
@@ -125,8 +126,8 @@ fn joined(a: u8, b: u8, c: u8, d: u8) -> u32
     ((u32::from(a) * 256 + u32::from(b)) * 256 + u32::from(c)) * 256 + u32::from(d)
 }
 
-/// Eight bits as an octet, the first one the highest. The factor moves bit `j` of the eight octets to place `63 - j`, and
-/// no two of its products share a place.
+/// Eight bits as an octet, the first one the highest. The factor moves bit `j` of the eight octets to place `63 - j`,
+/// and no two of its products share a place.
 fn octet_of(bits: &[Bit]) -> u8
     requires { length bits.now ≡ 8 }
     ensures { lowest_bits 8 result ≡ bits.now }
