@@ -88,7 +88,7 @@ def script_of(it: Measuring, rate: float) -> Iterator[str]:
             for part, places in zip('dt', it.configuration.places[it.way]):
                 for place in errors(noise, rate, places):
                     flip = Flip(it.way, part, place)
-                    yield (OnLeg(leg, flip) if it.legs else flip).line
+                    yield OnLeg(leg, flip).line if it.legs else flip.line
         yield Pass().line
 
 

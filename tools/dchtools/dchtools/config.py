@@ -2,7 +2,7 @@
 from __future__ import annotations
 
 import tomllib
-from collections.abc import Iterator
+from collections.abc import Callable, Iterator
 from dataclasses import dataclass
 from pathlib import Path
 from typing import Any
@@ -72,6 +72,11 @@ class Configuration:
     def is_transparent(self, bearer: int) -> bool:
         """Whether the SDUs of a bearer are bits."""
         return bearer < len(self.bearers) and self.bearers[bearer].mode == 'tm'
+
+
+def transparency(configuration: Configuration | None) -> Callable[[int], bool]:
+    """Whether the SDUs of a bearer are bits; those of `pair`, which has no configuration, are octets."""
+    return configuration.is_transparent if configuration else lambda bearer: False
 
 
 @dataclass(frozen=True)

@@ -9,7 +9,7 @@ from dataclasses import dataclass
 from typing import Union
 
 from .faults import BadInput
-from .values import Data, letters, octets, written
+from .values import Data, letters, number, octets, written
 
 
 @dataclass(frozen=True)
@@ -210,7 +210,11 @@ def way_of(direction: str | None) -> list[str]:
 def event_of(line: str, is_transparent: Callable[[int], bool] = lambda bearer: False) -> Event:
     """The event of a well-formed line of a script. Whether a bearer is transparent tells how its SDUs are written."""
     try:
-        return event_of_words(line.split(' '), is_transparent)
+        words = line.split(' ')
+        event = event_of_words(words, is_transparent)
+        if len(event.line.split(' ')) != len(words) and words != ['frame']:
+            raise ValueError
+        return event
     except (ValueError, IndexError, KeyError, TypeError):
         raise BadInput(f'{line[:60]!r} is no line of a script') from None
 
@@ -221,13 +225,13 @@ def event_of_words(words: list[str], is_transparent: Callable[[int], bool]) -> E
         damage = event_of_words(rest[1:], is_transparent)
         if not isinstance(damage, (Flip, Lose, LoseIub, Spoil)):
             raise ValueError
-        return OnLeg(int(rest[0]), damage)
+        return OnLeg(number(rest[0]), damage)
     if word in ('unit', 'block', 'free'):
         direction = rest.pop(0) if rest[0] in WAYS else None
-        number = int(rest[0])
+        at = number(rest[0])
         if word == 'unit':
-            return Unit(number, letters(rest[1]) if is_transparent(number) else octets(rest[1]), direction)
-        return (Block if word == 'block' else Free)(number, direction)
+            return Unit(at, letters(rest[1]) if is_transparent(at) else octets(rest[1]), direction)
+        return Block(at, direction) if word == 'block' else Free(at, direction)
     return SIMPLE[word](rest)
 
 
@@ -237,18 +241,18 @@ def phy_of(rest: list[str]) -> Event:
 
 def lose_of(rest: list[str]) -> Event:
     if rest[0] in IUB_WAYS:
-        return LoseIub(IUB_WAYS[rest[0]], int(rest[1]))
+        return LoseIub(IUB_WAYS[rest[0]], number(rest[1]))
     return Lose(rest[0]) if rest[0] in WAYS else AtEnd('lose', rest[0])
 
 
 SIMPLE: dict[str, Callable[[list[str]], Event]] = {
-    'iub': lambda rest: TakeIub(int(rest[0]), octets(rest[1])), 'phy': phy_of, 'lose': lose_of,
+    'iub': lambda rest: TakeIub(number(rest[0]), octets(rest[1])), 'phy': phy_of, 'lose': lose_of,
     'tick': lambda rest: AtEnd('tick', rest[0]) if rest else Tick(),
     'down': lambda rest: Down(), 'change': lambda rest: Change(),
-    'frame': lambda rest: Pass(int(rest[0]) if rest else 1),
-    'flip': lambda rest: Flip(rest[0], rest[1], int(rest[2])),
-    'spoil': lambda rest: Spoil(IUB_WAYS[rest[0]], int(rest[1]), int(rest[2]), int(rest[3], 16)),
-    'ends': lambda rest: Ends(int(rest[0]), int(rest[1]), int(rest[2]), int(rest[3])),
+    'frame': lambda rest: Pass(number(rest[0]) if rest else 1),
+    'flip': lambda rest: Flip(rest[0], rest[1], number(rest[2])),
+    'spoil': lambda rest: Spoil(IUB_WAYS[rest[0]], number(rest[1]), number(rest[2]), int(rest[3], 16)),
+    'ends': lambda rest: Ends(number(rest[0]), number(rest[1]), number(rest[2]), number(rest[3])),
     'offer': lambda rest: Offer(rest[0], octets(rest[1])),
     'build': lambda rest: AtEnd('build', rest[0]), 'arrive': lambda rest: AtEnd('arrive', rest[0]),
     'reset': lambda rest: AtEnd('reset', rest[0])}

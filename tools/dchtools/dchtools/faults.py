@@ -21,12 +21,12 @@ class Refused(Exception):
         told = ' '.join(['refused', str(number), *words])
         super().__init__(f'{told}: {event[:80]}' if event else told)
 
-    @classmethod
-    def of_line(cls, line: str, event: str = '') -> Refused:
+    @staticmethod
+    def of_line(line: str, event: str = '') -> Refused:
         """The refusal that a line `refused N ..` tells. Of a line of a script the number of the line is left out."""
         _, number, *words = line.split(' ')
         kept = [word for word in words if not (event and word.startswith('line='))]
-        return cls(int(number), tuple(kept), event)
+        return Refused(int(number), tuple(kept), event)
 
 
 class Ended(Exception):

@@ -346,7 +346,8 @@ class Channel:
     """The transport channels of a direction: blocks of a TTI to radio frames and back (TS 25.212 4.2)."""
 
     def __init__(self, direction: str, text: str) -> None:
-        self.handle = Handle()
+        """The channels of a direction, `'up'` or `'down'`, of a configuration."""
+        self.direction, self.handle = direction, Handle()
         open_text(self.handle, 'dch_channel_open', DIRECTIONS.index(direction), text)
 
     def __enter__(self) -> Channel:
@@ -368,11 +369,11 @@ class Channel:
         call('dch_channel_load', byref(self.handle), channel, format, *letters_of(''.join(blocks)))
 
     def send(self, cfn: int, combination: int) -> Phy:
-        """The radio frame of a CFN in a combination. Its direction is left empty."""
+        """The radio frame of a CFN in a combination."""
         tfci, cells = ctypes.create_string_buffer(MOST_TFCI), ctypes.create_string_buffer(MOST_CELLS)
         size = FrameSize()
         call('dch_channel_send', byref(self.handle), cfn, combination, tfci, MOST_TFCI, cells, MOST_CELLS, byref(size))
-        return Phy('', tfci.raw[:size.tfci].decode(), cells.raw[:size.cells].decode())
+        return Phy(self.direction, tfci.raw[:size.tfci].decode(), cells.raw[:size.cells].decode())
 
     def receive(self, cfn: int, tfci: str, cells: str) -> None:
         """Takes the radio frame of the next CFN."""

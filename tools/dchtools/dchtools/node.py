@@ -12,7 +12,7 @@ from collections.abc import Iterable, Sequence
 from pathlib import Path
 from typing import Literal, overload
 
-from .config import Configuration, read_configuration
+from .config import Configuration, read_configuration, transparency
 from .events import Change, Ends, Event, Offer, Tick, Unit
 from .faults import BadInput, Ended, Refused
 from .interface import LinkCalls, NodeBCalls, PairCalls, RncCalls, Teller, UeCalls
@@ -100,10 +100,12 @@ class Piped(Teller):
     def tell(self, event: Event) -> list[Told]:
         if not self.is_open:
             raise BadInput('the node is closed')
+        if '\n' in event.line:
+            raise BadInput(f'{event.line[:60]!r} is no line')
         return [self.value(line) for line in self.answer(event)]
 
     def value(self, line: str) -> Told:
-        return value_of(line, self.configuration.is_transparent if self.configuration else lambda bearer: False)
+        return value_of(line, transparency(self.configuration))
 
     def answer(self, event: Event) -> list[str]:
         """The lines that answer an event."""
@@ -211,7 +213,10 @@ class PairNode(Piped, PairCalls):
     command = 'pair'
 
     def __init__(self, text: str | Ends, program: str | Path | None = None) -> None:
-        super().__init__((text.line if isinstance(text, Ends) else text.rstrip('\n')) + '\n', (), program)
+        line = text.line if isinstance(text, Ends) else text.rstrip('\n')
+        if not line or '\n' in line:
+            raise BadInput('pair begins with one line `ends`')
+        super().__init__(line + '\n', (), program)
 
     def probe(self, event: Event) -> tuple[list[str], list[str]]:
         return ['offer a .'], ['wrong a']

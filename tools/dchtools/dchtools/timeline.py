@@ -6,7 +6,7 @@ from dataclasses import dataclass
 from pathlib import Path
 from typing import TypeVar, Union
 
-from .config import Configuration, Line, read_configuration, split_input
+from .config import Configuration, Line, read_configuration, split_input, transparency
 from .events import Change, Event, Flip, Lose, LoseIub, MissPhy, OnLeg, Pass, Spoil, TakePhy, Tick, Unit, event_of
 from .faults import BadInput, read_text
 from .values import (Bad, BadTti, Differs, End, EndFull, EndGot, EndOutside, EndOverlong, EndPduBad, EndRestart,
@@ -48,8 +48,7 @@ def read_run(input_path: str | Path, report_path: str | Path) -> Run:
         first = lines[0][:60] if lines else ''
         raise BadInput(f'{report_path}: this is no report of a node: its first line is {first!r} and not open')
     configuration, script = read_input(input_path)
-    is_transparent = configuration.is_transparent if configuration else lambda bearer: False
-    told = list(values_of(lines, report_path, is_transparent))
+    told = list(values_of(lines, report_path, transparency(configuration)))
     return Run(configuration, script, told, command_of(told, configuration))
 
 
@@ -108,11 +107,15 @@ def moments_of(run: Run) -> list[Moment]:
     for tick, event in ticks_of_script([event for _, event in run.script]):
         # A node alone goes over to a second configuration by a line of its script.
         active = run.configuration.at(tick) if is_whole or isinstance(event, Change) else active
-        leg, what = (event.leg, event.damage) if isinstance(event, OnLeg) else (None, event)
-        found.append(Moment(tick, what, leg, True, active))
+        if isinstance(event, OnLeg):
+            found.append(Moment(tick, event.damage, event.leg, True, active))
+        else:
+            found.append(Moment(tick, event, None, True, active))
     for tick, told in ticks_of_report(run.configuration, run.command, run.told):
-        of, value = (told.leg, told.told) if isinstance(told, Leg) else (None, told)
-        found.append(Moment(tick, value, of, False, run.configuration.at(tick)))
+        if isinstance(told, Leg):
+            found.append(Moment(tick, told.told, told.leg, False, run.configuration.at(tick)))
+        else:
+            found.append(Moment(tick, told, None, False, run.configuration.at(tick)))
     for moment in found:
         check_numbers(run.command, moment)
     return sorted(found, key=lambda moment: moment.tick)

@@ -5,6 +5,7 @@ import shutil
 import unittest
 
 from dchtools import BadInput, Ended, Node, Refused
+from dchtools.config import transparency
 from dchtools.events import event_of
 from dchtools.interface import Teller
 from dchtools.node import program_of
@@ -43,8 +44,7 @@ def drive(case: Case) -> list[str]:
     try:
         with opened(case) as node:
             found.append('open')
-            configuration = getattr(node, 'configuration', None)
-            is_transparent = configuration.is_transparent if configuration else lambda bearer: False
+            is_transparent = transparency(getattr(node, 'configuration', None))
             for line in case.script:
                 found += map(line_of, node.tell(event_of(line, is_transparent)))
     except Refused as fault:
@@ -105,5 +105,9 @@ class OnTheCases(unittest.TestCase):
             rnc.tick()
         with self.assertRaises(BadInput):
             Node('rnc', speech + '---\ntick\n')
+        with Node('rnc', speech) as rnc, self.assertRaises(BadInput):
+            rnc.unit(0, '01\ntick')
+        with self.assertRaises(BadInput):
+            Node('pair', '')
         with self.assertRaises(Ended):
             Node('rnc', speech, program='missing')

@@ -5,7 +5,7 @@ import unittest
 from collections.abc import Callable
 
 from dchtools import BadInput
-from dchtools.config import read_configuration
+from dchtools.config import read_configuration, transparency
 from dchtools.events import event_of
 from dchtools.values import GotBits, Leg, Took, line_of, value_of
 
@@ -16,9 +16,7 @@ COMMANDS = ('rnc', 'ue', 'nodeb', 'link', 'soft', 'pair')
 
 def transparent_of(case: Case) -> Callable[[int], bool]:
     """Which bearers of a case are transparent."""
-    if case.command == 'pair':
-        return lambda bearer: False
-    return read_configuration(case.text, case.name).is_transparent
+    return transparency(None if case.command == 'pair' else read_configuration(case.text, case.name))
 
 
 class Lines(unittest.TestCase):
