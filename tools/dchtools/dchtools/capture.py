@@ -165,7 +165,8 @@ def as_pcapng(configuration: Configuration, found: Frames) -> bytes:
                 channels = [(identity, part.channels[way][a], part.channels[other][b])
                             for identity, a, b in zip(identities(part, way, both[way]), both[way], both[other])]
                 number = len(written)
-                message = nbap.reconfiguration(number, 1, channels, part.payload_check, CONTROLLER, port)
+                # Wireshark tells terminals apart by the context, and so the legs, each of which has all PDUs.
+                message = nbap.reconfiguration(number, 1 + leg, channels, part.payload_check, CONTROLLER, port)
                 packet = packets.sctp(CONTROLLER, node_b(leg), NBAP_PORT, number + 1, NBAP_OVER_SCTP, message)
                 written.append((number, packet, []))
     for frame in found.frames:
@@ -243,8 +244,9 @@ def entries_of(frame: Sent) -> list[str]:
 
 
 def entry_of_pdu(link: int, way: str, mode: str, bearer: int, time: int, pdu: bytes) -> str:
-    head = bytes([0xc0 if way == 'down' else 0xc1, 0x72, 0, 0, 0, 1, 0xa2, 1, bearer + 1, 0x41]) + length_of(len(pdu))
-    direction = 's' if way == 'down' else 'r'
+    terminal = 1 + link // 16  # one for each leg
+    head = bytes([0xc0 if way == 'down' else 0xc1, 0x72, 0, 0, 0, terminal, 0xa2, 1, bearer + 1, 0x41])
+    head, direction = head + length_of(len(pdu)), 's' if way == 'down' else 'r'
     return f'rlc.{link}/rlc/1,1,{MODES[mode]}/ {direction} tm {stamp(time)} l ${(head + pdu).hex()}'
 
 
