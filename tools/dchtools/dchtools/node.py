@@ -8,6 +8,7 @@ from __future__ import annotations
 import os
 import select
 import subprocess
+from collections import deque
 from collections.abc import Iterable, Sequence
 from pathlib import Path
 from typing import Literal, overload
@@ -47,7 +48,7 @@ class Piped(Teller):
                                             bufsize=0)
         except OSError as fault:
             raise Ended(None, f'{path}: {fault.strerror or fault}') from None
-        self.rest = b''
+        self.lines, self.rest = deque[bytes](), b''  # what has come: whole lines, and the front of the next one
         self.is_open = True
         self.write(text)
         line = self.read_line(text.split('\n', 1)[0] if self.command == 'pair' else '')
@@ -68,15 +69,15 @@ class Piped(Teller):
     def read_line(self, event: str, seconds: float | None = None) -> str | None:
         """The next line, or None where the program doesn't answer within so many seconds."""
         assert self.process.stdout
-        while b'\n' not in self.rest:
+        while not self.lines:
             if seconds is not None and not select.select([self.process.stdout], [], [], seconds)[0]:
                 return None
             piece = self.process.stdout.read(65536)
             if not piece:
                 raise self.ended(f'the program ended at {event[:80]!r}')
-            self.rest += piece
-        octets, self.rest = self.rest.split(b'\n', 1)
-        line = octets.decode()
+            *whole, self.rest = (self.rest + piece).split(b'\n')
+            self.lines.extend(whole)
+        line = self.lines.popleft().decode()
         if line.startswith('refused '):
             self.close()
             raise Refused.of_line(line, event)
