@@ -28,8 +28,8 @@ class Block:
 
 @dataclass
 class Frame:
-    """An Iub data frame: its CFN, a format number for each channel of its set, the transport blocks in order, and in the
-    uplink the quality estimate."""
+    """An Iub data frame: its CFN, a format number for each channel of its set, the transport blocks in order, and in
+    the uplink the quality estimate."""
     cfn: int
     tfis: list[int]
     blocks: list[Block] = field(default_factory=list)
