@@ -4,12 +4,12 @@ The header `include/dch.h` says what each call of the library takes and answers.
 from __future__ import annotations
 
 import ctypes
+import ctypes.util
 import functools
 import os
 from collections.abc import Callable, Sequence
 from ctypes import POINTER, Structure, byref, c_bool, c_char_p, c_size_t, c_uint8, c_uint16, c_uint32, c_void_p
 from dataclasses import dataclass
-from pathlib import Path
 from types import TracebackType
 from typing import Any
 
@@ -92,32 +92,36 @@ ARGUMENTS: dict[str, list[Any]] = {
 
 
 def library_path() -> str | None:
-    """The shared library: that of the variable LIBDCH, or the one of this tree; None where there is none."""
-    if os.environ.get('LIBDCH'):
-        return os.environ['LIBDCH']
-    for above in Path(__file__).resolve().parents:
-        found = above / 'crates/dch_c/out/libdch.so'
-        if found.exists():
-            return str(found)
-    return None
+    """The shared library: that of the variable LIBDCH, or the one that the system finds; None where there is none."""
+    return os.environ.get('LIBDCH') or ctypes.util.find_library('dch')
 
 
 @functools.cache
 def library() -> ctypes.CDLL:
     path = library_path()
     if path is None:
-        raise BadInput('libdch.so is not built; .ci/library builds it, and the variable LIBDCH names another one')
-    found = ctypes.CDLL(path)
-    for name, arguments in ARGUMENTS.items():
+        raise BadInput('libdch.so is not found; tools/install makes it, and the variable LIBDCH names it')
+    try:
+        found = ctypes.CDLL(path)
+    except OSError as fault:
+        raise BadInput(f'{path}: {fault}') from None
+    for name in filter(functools.partial(hasattr, found), ARGUMENTS):
         function = getattr(found, name)
-        function.argtypes, function.restype = arguments, c_uint8
+        function.argtypes, function.restype = ARGUMENTS[name], c_uint8
     found.dch_close.argtypes, found.dch_close.restype = [HANDLE], None
     return found
 
 
+def answer(name: str, *arguments: Any) -> int:
+    """Calls the library, and answers its status."""
+    if not hasattr(library(), name):
+        raise BadInput(f'the library has no call {name}')
+    return int(getattr(library(), name)(*arguments))
+
+
 def call(name: str, *arguments: Any) -> None:
     """Calls the library, and raises its status where it isn't DCH_DONE."""
-    status = getattr(library(), name)(*arguments)
+    status = answer(name, *arguments)
     if status != DONE:
         raise Status(status, name)
 
@@ -150,7 +154,7 @@ class Opened:
 def open_text(handle: Handle, name: str, number: int, text: str) -> None:
     """Opens a handle for a configuration. A refused one raises the line that the program writes."""
     line, length = ctypes.create_string_buffer(65536), c_size_t()
-    status = getattr(library(), name)(byref(handle), number, *sized(text.encode()), line, len(line), byref(length))
+    status = answer(name, byref(handle), number, *sized(text.encode()), line, len(line), byref(length))
     if status == REFUSED:
         raise Refused.of_line(line.raw[:length.value].decode().rstrip('\n'))
     if status != DONE:
@@ -217,7 +221,7 @@ class InProcess(Teller):
         found: list[Told] = []
         it = ToldRead()
         while True:
-            status = library().dch_next(byref(self.handle), byref(it), self.out, MOST_TOLD)
+            status = answer('dch_next', byref(self.handle), byref(it), self.out, MOST_TOLD)
             if status == NOTHING:
                 return found
             if status != DONE:
@@ -289,7 +293,7 @@ class Coder:
     def cut(self, code: str, joined: str) -> CodeBlocks:
         """Cuts the joined bits of a TTI into code blocks."""
         cut, none = Cut(), ctypes.create_string_buffer(1)
-        library().dch_blocks_cut(OUTPUTS[code], *letters_of(joined), none, 0, byref(cut))
+        answer('dch_blocks_cut', OUTPUTS[code], *letters_of(joined), none, 0, byref(cut))
         length = cut.blocks * cut.size
         out = ctypes.create_string_buffer(length + 1)
         call('dch_blocks_cut', OUTPUTS[code], *letters_of(joined), out, length, byref(cut))
@@ -387,7 +391,7 @@ class Channel:
         """Reads the TTI of a channel that the last radio frame ends."""
         bits, good = ctypes.create_string_buffer(MOST_BITS), ctypes.create_string_buffer(MOST_BLOCKS)
         it = TtiRead()
-        status = library().dch_channel_read(byref(self.handle), channel, byref(it), bits, MOST_BITS, good, MOST_BLOCKS)
+        status = answer('dch_channel_read', byref(self.handle), channel, byref(it), bits, MOST_BITS, good, MOST_BLOCKS)
         if status == BAD_TTI:
             return Tti(0, bad_frame=it.frame)
         if status != DONE:

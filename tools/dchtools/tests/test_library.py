@@ -75,8 +75,13 @@ def drive(case: Case) -> list[str]:
         return [' '.join(['refused', str(fault.number), *fault.words])]
 
 
-@unittest.skipUnless(library.library_path(), 'libdch.so is not built')
+def has(name: str) -> bool:
+    return library.library_path() is not None and hasattr(library.library(), name)
+
+
+@unittest.skipUnless(library.library_path(), 'libdch.so is not found')
 class OnTheCases(unittest.TestCase):
+    @unittest.skipUnless(has('dch_rnc_open'), 'libdch.so has no nodes')
     def test_nodes(self) -> None:
         for case in cases_of(*NODES):
             got = [line for line in drive(case) if not (case.is_quiet and is_frame(line))]
@@ -103,6 +108,7 @@ class OnTheCases(unittest.TestCase):
             with self.assertRaises(Status):
                 coder.attach(7, '1')
 
+    @unittest.skipUnless(has('dch_channel_open'), 'libdch.so has no transport channels')
     def test_channel(self) -> None:
         text = (top / 'examples/tiny.toml').read_text()
         configuration = read_configuration(text, 'tiny')
