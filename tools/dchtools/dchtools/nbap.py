@@ -1,28 +1,35 @@
-"""One message of NBAP (TS 25.433): a radio link reconfiguration that adds the transport channels of a frame set, from which a reader of a capture learns
-what its Iub frames hold. It is written in aligned PER (X.691) and has the mandatory parts and those that tell of the channels, and nothing else."""
+"""One message of NBAP (TS 25.433): a radio link reconfiguration that adds the transport channels of a frame set, from
+which a reader of a capture learns what its Iub frames hold. It is written in aligned PER (X.691) and has the mandatory
+parts and those that tell of the channels, and nothing else."""
+from __future__ import annotations
+
+from .config import TransportChannel
+
+# Channels that are added: an identity from 1 to 255, and the channel uplink and downlink.
+Added = list[tuple[int, TransportChannel, TransportChannel]]
 
 
 class Encoder:
     """Aligned PER: bits, and fields that start at a whole octet."""
 
-    def __init__(self):
+    def __init__(self) -> None:
         self.bits = ''
 
-    def put(self, value, width):
+    def put(self, value: int, width: int) -> None:
         self.bits += f'{value:0{width}b}' if width else ''
 
-    def align(self):
+    def align(self) -> None:
         self.bits += '0' * (-len(self.bits) % 8)
 
-    def aligned(self, value, octets):
+    def aligned(self, value: int, octets: int) -> None:
         self.align()
         self.put(value, 8 * octets)
 
-    def octets(self):
+    def octets(self) -> bytes:
         self.align()
         return int(self.bits or '0', 2).to_bytes(len(self.bits) // 8)
 
-    def open_type(self, content):
+    def open_type(self, content: bytes) -> None:
         """A value whose length goes before it."""
         if len(content) < 128:
             self.aligned(len(content), 1)
@@ -30,7 +37,7 @@ class Encoder:
             self.aligned(0x8000 | len(content), 2)
         self.bits += ''.join(f'{octet:08b}' for octet in content)
 
-    def element(self, identity, criticality, content):
+    def element(self, identity: int, criticality: int, content: bytes) -> None:
         """A field of a container of protocol elements or extensions."""
         self.aligned(identity, 2)
         self.put(criticality, 2)
@@ -39,12 +46,13 @@ class Encoder:
 
 REJECT, IGNORE = 0, 1
 PREPARATION = 31  # the procedure
-CONTEXT, CONTROLLER_CONTEXT, CHANNELS_TO_ADD, LINKS, LINK, LINK_CHANNELS = 143, 44, 48, 214, 208, 103  # the protocol elements
+# The protocol elements.
+CONTEXT, CONTROLLER_CONTEXT, CHANNELS_TO_ADD, LINKS, LINK, LINK_CHANNELS = 143, 44, 48, 214, 208, 103
 
 
-def reconfiguration(transaction, context, channels, payload_check, address, port):
-    """The message: the channels are triples of an identity from 1 to 255 and the formats with their TTI, CRC and attributes, uplink and downlink;
-    frames of this set go to and come from the UDP port at the controller's address."""
+def reconfiguration(transaction: int, context: int, channels: Added, payload_check: bool, address: bytes,
+                    port: int) -> bytes:
+    """The message. Frames of the set go to and come from the UDP port at the controller's address."""
     body = Encoder()
     body.put(0, 2)
     body.aligned(4, 2)
@@ -65,7 +73,7 @@ def reconfiguration(transaction, context, channels, payload_check, address, port
     return message.octets()
 
 
-def context_identity(number):
+def context_identity(number: int) -> bytes:
     it = Encoder()
     length = max(1, (number.bit_length() + 7) // 8)
     it.put(length - 1, 2)
@@ -73,7 +81,7 @@ def context_identity(number):
     return it.octets()
 
 
-def channels_to_add(channels, payload_check):
+def channels_to_add(channels: Added, payload_check: bool) -> bytes:
     """One item: the channels whose frames go together."""
     it = Encoder()
     it.put(0, 7)
@@ -96,7 +104,7 @@ def channels_to_add(channels, payload_check):
     return it.octets()
 
 
-def format_set(it, channel):
+def format_set(it: Encoder, channel: TransportChannel) -> None:
     it.put(0, 2)
     it.put(len(channel.formats) - 1, 5)
     for count, size in channel.formats:
@@ -116,7 +124,7 @@ def format_set(it, channel):
     it.put(0b01, 2)
 
 
-def links(first_channel, address, port):
+def links(first_channel: int, address: bytes, port: int) -> bytes:
     item = Encoder()
     item.put(0, 1)
     item.put(0b0000001, 7)
@@ -129,7 +137,7 @@ def links(first_channel, address, port):
     return it.octets()
 
 
-def link_channels(first_channel, address, port):
+def link_channels(first_channel: int, address: bytes, port: int) -> bytes:
     it = Encoder()
     it.put(0, 7)
     it.put(0b0110, 4)

@@ -1,30 +1,38 @@
-"""Packets and the files that hold them: pcap and pcapng read, pcapng written; IPv4 and IPv6 with UDP read, IPv4 with UDP and SCTP written."""
+"""Packets and the files that hold them: pcap and pcapng read, pcapng written; IPv4 and IPv6 with UDP read, IPv4 with
+UDP and SCTP written."""
+from __future__ import annotations
+
 import struct
-from dchlib import BadInput
+from collections.abc import Iterable, Iterator
+
+from .faults import BadInput
+
+Udp = tuple[bytes, int, bytes, int, bytes]  # source and its port, destination and its port, payload
 
 ETHERNET, RAW_IP, IPV4, IPV6, LINUX_COOKED = 1, 101, 228, 229, 113
 
 
 # Files.
 
-def pcapng(packets):
+def pcapng(packets: Iterable[tuple[int, bytes, list[str]]]) -> bytes:
     """A file of IP packets: pairs of the time in microseconds, the octets, and the lines of a comment."""
-    def block(kind, body):
+    def block(kind: int, body: bytes) -> bytes:
         length = 12 + len(body)
         return struct.pack('<II', kind, length) + body + struct.pack('<I', length)
 
-    def option(code, value):
+    def option(code: int, value: bytes) -> bytes:
         return struct.pack('<HH', code, len(value)) + value + bytes(-len(value) % 4)
     parts = [block(0x0a0d0d0a, struct.pack('<IHHq', 0x1a2b3c4d, 1, 0, -1)), block(1, struct.pack('<HHI', RAW_IP, 0, 0))]
     for time, octets, comment in packets:
-        body = struct.pack('<IIIII', 0, time >> 32, time & 0xffffffff, len(octets), len(octets)) + octets + bytes(-len(octets) % 4)
+        head = struct.pack('<IIIII', 0, time >> 32, time & 0xffffffff, len(octets), len(octets))
+        body = head + octets + bytes(-len(octets) % 4)
         if comment:
             body += option(1, '\n'.join(comment).encode()) + option(0, b'')
         parts.append(block(6, body))
     return b''.join(parts)
 
 
-def read_packets(octets, name):
+def read_packets(octets: bytes, name: str) -> Iterator[tuple[int, bytes]]:
     """The packets of a capture: pairs of the link type and the octets."""
     magic = octets[:4]
     if magic == b'\x0a\x0d\x0d\x0a':
@@ -35,7 +43,7 @@ def read_packets(octets, name):
     raise BadInput(f'{name}: this is neither pcap nor pcapng')
 
 
-def read_pcap(octets, order, name):
+def read_pcap(octets: bytes, order: str, name: str) -> Iterator[tuple[int, bytes]]:
     if len(octets) < 24:
         raise BadInput(f'{name}: the file header is cut')
     link = struct.unpack_from(order + 'I', octets, 20)[0] & 0xffff
@@ -48,8 +56,8 @@ def read_pcap(octets, order, name):
         at += 16 + length
 
 
-def read_pcapng(octets, name):
-    order, links, at = '<', [], 0
+def read_pcapng(octets: bytes, name: str) -> Iterator[tuple[int, bytes]]:
+    order, links, at = '<', list[int](), 0
     while at < len(octets):
         if len(octets) < at + 12:
             raise BadInput(f'{name}: the last block is cut')
@@ -75,8 +83,8 @@ def read_pcapng(octets, name):
 
 # Packets read.
 
-def udp_of(link, octets):
-    """The addresses, ports and payload of a UDP packet: (source, port, destination, port, payload); None of any other packet, and of a part of one."""
+def udp_of(link: int, octets: bytes) -> Udp | None:
+    """The addresses, ports and payload of a UDP packet; None of any other packet, and of a part of one."""
     kind, packet = network_layer(link, octets)
     try:
         if kind == 0x0800 and packet[0] >> 4 == 4:
@@ -96,7 +104,7 @@ def udp_of(link, octets):
     return None
 
 
-def network_layer(link, octets):
+def network_layer(link: int, octets: bytes) -> tuple[int, bytes]:
     """The Ethernet type and the packet of the network layer."""
     if link in (ETHERNET, LINUX_COOKED):
         at = 12 if link == ETHERNET else 14
@@ -110,7 +118,7 @@ def network_layer(link, octets):
     return 0, b''
 
 
-def udp_payload(source, destination, segment):
+def udp_payload(source: bytes, destination: bytes, segment: bytes) -> Udp | None:
     source_port, destination_port, length, _ = struct.unpack_from('>HHHH', segment)
     if length < 8 or length > len(segment):
         return None
@@ -119,13 +127,14 @@ def udp_payload(source, destination, segment):
 
 # Packets written.
 
-def ipv4(protocol, source, destination, payload):
-    header = bytearray(struct.pack('>BBHHHBBH4s4s', 0x45, 0, 20 + len(payload), 0, 0x4000, 64, protocol, 0, source, destination))
+def ipv4(protocol: int, source: bytes, destination: bytes, payload: bytes) -> bytes:
+    length = 20 + len(payload)
+    header = bytearray(struct.pack('>BBHHHBBH4s4s', 0x45, 0, length, 0, 0x4000, 64, protocol, 0, source, destination))
     header[10:12] = struct.pack('>H', internet_checksum(bytes(header)))
     return bytes(header) + payload
 
 
-def internet_checksum(octets):
+def internet_checksum(octets: bytes) -> int:
     octets += bytes(len(octets) % 2)
     total = sum(struct.unpack(f'>{len(octets) // 2}H', octets))
     while total >> 16:
@@ -133,7 +142,7 @@ def internet_checksum(octets):
     return ~total & 0xffff
 
 
-def udp(source, source_port, destination, destination_port, payload):
+def udp(source: bytes, source_port: int, destination: bytes, destination_port: int, payload: bytes) -> bytes:
     """A UDP packet over IPv4."""
     length = 8 + len(payload)
     pseudo = source + destination + struct.pack('>BBH', 0, 17, length)
@@ -142,7 +151,7 @@ def udp(source, source_port, destination, destination_port, payload):
     return ipv4(17, source, destination, head + struct.pack('>H', check) + payload)
 
 
-def sctp(source, destination, port, number, protocol, payload):
+def sctp(source: bytes, destination: bytes, port: int, number: int, protocol: int, payload: bytes) -> bytes:
     """An SCTP packet over IPv4 with one chunk of data, the number counted from 1, for an upper protocol."""
     length = 16 + len(payload)
     chunk = struct.pack('>BBHIHHI', 0, 3, length, number, 0, number - 1, protocol) + payload + bytes(-length % 4)
@@ -150,7 +159,7 @@ def sctp(source, destination, port, number, protocol, payload):
     return ipv4(132, source, destination, head + struct.pack('<I', crc32c(head + bytes(4) + chunk)) + chunk)
 
 
-def crc32c(octets):
+def crc32c(octets: bytes) -> int:
     register = 0xffffffff
     for octet in octets:
         register ^= octet
