@@ -1,5 +1,5 @@
 -- What the numbers and letters of C stand for.
-use Rattle.std.specs.Prelude.{ℕ, ◌==◌, Bool, true, false, List, map, if◌then◌else◌, Option, None, Some, position}
+use Rattle.std.specs.Prelude.{ℕ, ◌==◌, Bool, List, map, if◌then◌else◌, Option, None, Some, is_some, position}
 use Rattle.dch_bits.specs.declared.bit.Bit.{Bit}
 use Rattle.dch_bits.specs.Text.{bit_of_letter, is_no_bit}
 use Rattle.dch_types.specs.declared.channel.Crc.{Crc}
@@ -24,11 +24,6 @@ coding_of outputs = if outputs == 1 then Some Uncoded else if outputs == 2 then 
 -- the bits that a text of the letters 0 and 1 writes
 abbrev pub bits_of : List ℕ → List Bit
 bits_of text = map bit_of_letter text
-
--- whether there is a place
-abbrev pub is_some : Option ℕ → Bool
-is_some None = false
-is_some (Some place) = true
 
 -- a letter of a text is neither 0 nor 1
 abbrev pub has_bad_letter : List ℕ → Bool

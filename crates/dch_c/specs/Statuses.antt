@@ -13,9 +13,6 @@ busy = 2
 abbrev pub closed : ℕ
 closed = 3
 
-abbrev pub other_kind : ℕ
-other_kind = 4
-
 abbrev pub bad_code : ℕ
 bad_code = 5
 

@@ -1,7 +1,8 @@
-//! The library for C: the coder, the decoder, the transport channels of a direction and the nodes, behind handles of one type.
+//! The library for C: the coder, and the decoder behind a handle.
 //! `include/dch.h` has the calls as C sees them.
 #![tactic(auto)]
 
+mod coder;
 mod codes;
 mod decoder;
 mod decoding;

@@ -8,8 +8,6 @@ pub const BUSY: u8 = 2;
 
 pub const CLOSED: u8 = 3;
 
-pub const OTHER_KIND: u8 = 4;
-
 pub const BAD_CODE: u8 = 5;
 
 pub const BAD_SIZE: u8 = 6;
