@@ -1,0 +1,49 @@
+ghost use Rattle.std.specs.Prelude.{◌≡◌, None, Some, IsSomeAnd};
+ghost use Rattle.dch_c.specs.declared.held.Held.{Held};
+ghost use Rattle.dch_c.specs.Filled.{filled};
+
+use crate::held::Held;
+use crate::raw::{Raw, into_parts, nothing, of_parts};
+use dch_handle::Parts;
+use std::alloc::Global;
+use std::mem;
+
+/// A handle as C keeps it: whether it is open, and what it holds. All zero is a closed one.
+#[repr(C)]
+#[derive(Drop)]
+pub struct Handle {
+    pub is_open: bool,
+    pub raw: Raw,
+    ghost tells: { is_open ≡ filled raw.value },
+}
+
+/// Takes out what is held, and leaves the handle closed.
+pub fn take(alloc: Global, handle: &mut Handle) -> Option<Box<Held>>
+    ensures closed { handle.new.raw.value ≡ None }
+    ensures taken { (held : Held) → handle.old.raw.value ≡ Some held → IsSomeAnd result (λ boxed. boxed.value ≡ held) }
+    ensures none { handle.old.raw.value ≡ None → result ≡ None }
+{
+    let Handle { is_open, raw } = mem::replace(
+        handle,
+        Handle {
+            is_open: false,
+            raw: nothing(alloc),
+        },
+    );
+    if is_open {
+        Some(into_parts(raw).into_box())
+    } else {
+        None
+    }
+}
+
+/// Puts something into a handle that is closed.
+pub fn put(handle: &mut Handle, held: Box<Held>)
+    requires { handle.old.raw.value ≡ None }
+    ensures { handle.new.raw.value ≡ Some held.value }
+{
+    *handle = Handle {
+        is_open: true,
+        raw: of_parts(Parts::of(held)),
+    };
+}

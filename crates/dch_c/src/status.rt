@@ -1,0 +1,15 @@
+//! The statuses of a call, as `enum dch_status` of include/dch.h numbers them.
+
+pub const DONE: u8 = 0;
+
+pub const NO_MEMORY: u8 = 1;
+
+pub const BUSY: u8 = 2;
+
+pub const CLOSED: u8 = 3;
+
+pub const BAD_CODE: u8 = 5;
+
+pub const BAD_SIZE: u8 = 6;
+
+pub const BAD_LETTER: u8 = 7;

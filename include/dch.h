@@ -1,0 +1,110 @@
+/* dch: the user plane of a dedicated channel (DCH) in UTRA FDD, Release 99, as a library for C.
+
+   Units. A bit is an octet '0' or '1'. A length counts the octets of its buffer, so bits.
+
+   Statuses. Each call that can fail answers a number of enum dch_status. With another status than DCH_DONE nothing
+   changed, neither behind the handle nor in what a call writes, but for what the call itself says below.
+
+   What the caller upholds, since no call can check it:
+   - A handle is all zero (dch_handle handle = {0}) before it is first opened. After that it is as a call left it: it is
+     never copied and never written.
+   - One call at a time uses a handle. Two handles have nothing in common.
+   - A pointer is not null, also where its length is 0, and has as many octets as its length says. What a call writes
+     overlaps nothing else that it is passed.
+   - Nothing calls in from a signal handler. */
+#ifndef DCH_H
+#define DCH_H
+#include <stdbool.h>
+#include <stddef.h>
+#include <stdint.h>
+#ifdef __cplusplus
+extern "C" {
+#endif
+
+enum dch_status {
+    DCH_DONE = 0,
+    DCH_NO_MEMORY = 1,       /* memory was wanted and not found */
+    DCH_BUSY = 2,            /* a handle that is to be opened is open */
+    DCH_CLOSED = 3,          /* the handle is closed, or was never opened */
+    DCH_OTHER_KIND = 4,      /* the handle is of another kind */
+    DCH_BAD_CODE = 5,        /* a number that stands for no parity, code or TFCI */
+    DCH_BAD_SIZE = 6,        /* a length that doesn't fit the other arguments */
+    DCH_BAD_LETTER = 7       /* a bit that is neither '0' nor '1' */
+};
+
+/* A handle of any kind. A decoder is the only one so far. */
+typedef struct dch_handle {
+    bool is_open;
+    void *at;
+} dch_handle;
+
+/* Closes a handle of any kind, and gives its memory back. A closed one stays closed. */
+void dch_close(dch_handle *handle);
+
+/* ---- The coder (TS 25.212 4.2.1 to 4.2.3, 4.3.3) ---- */
+
+/* Writes a transport block and behind it its parity, last bit first (TS 25.212 4.2.1).
+   parity_bits: 0, 8, 12, 16 or 24. out_len = block_len + parity_bits.
+   DCH_BAD_CODE: no such parity. DCH_BAD_SIZE: out has another length. DCH_BAD_LETTER, DCH_NO_MEMORY. */
+uint8_t dch_parity_attach(uint8_t parity_bits, const uint8_t *block, size_t block_len, uint8_t *out, size_t out_len);
+
+/* Whether a block ends with the parity of the bits before it: *is_good becomes 1 or 0 (TS 25.212 4.2.1).
+   DCH_BAD_CODE: no such parity. DCH_BAD_SIZE: fewer bits than the parity has. DCH_BAD_LETTER, DCH_NO_MEMORY. */
+uint8_t dch_parity_check(uint8_t parity_bits, const uint8_t *attached, size_t attached_len, uint8_t *is_good);
+
+/* Into how many code blocks bits are cut, the bits of each, and how many zeros of filler the first one begins with. */
+typedef struct dch_cut {
+    size_t blocks;
+    size_t size;
+    size_t filler;
+} dch_cut;
+
+/* Cuts the joined bits of a TTI into code blocks, which follow one another in out (TS 25.212 4.2.2.2).
+   outputs: the coded bits of a bit: 1 without a code, 2 or 3. out_len = cut->blocks * cut->size.
+   *cut is written wherever the code is one and joined_len at most 2^31, also with another status than DCH_DONE. So a
+   call with out_len 0 tells how much room is wanted. DCH_BAD_CODE: no such code. DCH_BAD_LETTER, DCH_NO_MEMORY. */
+uint8_t dch_blocks_cut(uint8_t outputs, const uint8_t *joined, size_t joined_len, uint8_t *out, size_t out_len,
+                       dch_cut *cut);
+
+/* Joins such code blocks again, and leaves the filler out: out_len is the number of joined bits.
+   DCH_BAD_CODE: no such code. DCH_BAD_SIZE: so many bits are cut into blocks of another length in all, or are more than
+   2^31. DCH_BAD_LETTER, DCH_NO_MEMORY. */
+uint8_t dch_blocks_join(uint8_t outputs, const uint8_t *blocks, size_t blocks_len, uint8_t *out, size_t out_len);
+
+/* Encodes a code block of 1 to 504 bits by the convolutional code of rate 1/2 or 1/3 (TS 25.212 4.2.3.1).
+   outputs: 2 or 3. out_len = outputs * (block_len + 8).
+   DCH_BAD_CODE: no such rate. DCH_BAD_SIZE: another length. DCH_BAD_LETTER, DCH_NO_MEMORY. */
+uint8_t dch_code(uint8_t outputs, const uint8_t *block, size_t block_len, uint8_t *out, size_t out_len);
+
+/* The TFCI word of an index below 1024: bit i of *word, from the lowest, is output bit b_i (TS 25.212 4.3.3).
+   DCH_BAD_CODE: a greater index. */
+uint8_t dch_tfci_word(uint16_t index, uint32_t *word);
+
+/* The index whose 30 or 120 bits are nearest to the received ones, the least of several, and how many bits differ
+   (TS 25.212 4.3.3, 4.3.5). DCH_BAD_SIZE: another length. DCH_BAD_LETTER, DCH_NO_MEMORY. */
+uint8_t dch_tfci_nearest(const uint8_t *received, size_t received_len, uint16_t *index, uint16_t *distance);
+
+/* ---- The decoder (TS 25.212 4.2.3.1) ---- */
+
+/* The received copies of a coded bit: how many are '0', and how many '1'. */
+typedef struct dch_vote {
+    uint32_t zeros;
+    uint32_t ones;
+} dch_vote;
+
+/* Opens a decoder for code blocks of up to `most` bits, at most 504. It takes all its memory now.
+   DCH_BUSY, DCH_BAD_SIZE: most is above 504. DCH_NO_MEMORY. */
+uint8_t dch_decoder_open(dch_handle *handle, size_t most);
+
+/* The code block with so many zeros of filler in front whose coded bits disagree with the fewest copies, the first in
+   text order of several; *copies is their number.
+   outputs: 2 or 3. votes_len = outputs * (block_len + 8), in dch_vote. block_len: 1 to `most`. filler: at most
+   block_len.
+   DCH_CLOSED, DCH_OTHER_KIND, DCH_BAD_CODE: no such rate. DCH_BAD_SIZE: another length, or 2^31 copies or more. */
+uint8_t dch_decoder_nearest(dch_handle *handle, uint8_t outputs, const dch_vote *votes, size_t votes_len, size_t filler,
+                            uint8_t *block, size_t block_len, uint32_t *copies);
+
+#ifdef __cplusplus
+}
+#endif
+#endif
