@@ -2,13 +2,8 @@
 use Rattle.std.proofs.Common.{◌≡◌, ◌≤◌, ◌+◌, ◌*◌, ◌++◌, ◌∙◌, ℕ, suc, List, [], ◌∷◌, Option, Some, None, arith, refl, ap, sym, subst, append_assoc, append-nil, inl, inr, IfSome}
 use Rattle.std.proofs.lemmas.Bool.Decides.{eqb_tells}
 use Rattle.std.proofs.Math.Nat.{mul-le-mul_right}
-use Rattle.std.specs.Prelude.{codes}
 use Rattle.dch_accept.specs.Plans.{Planned}
-use Rattle.dch_script.specs.Lines.{lines_after, lines_of, rest_after, rest_of}
-use Rattle.dch_script.proofs.Lines.{lines_after-append, rest_after-append}
 use Rattle.dch_node.specs.Lines.{Line}
-use Rattle.dch_script.specs.LineText.{text_of, words_of}
-use Rattle.dch_script.proofs.Adding.{text_of-append}
 use Rattle.dch_link.specs.Events.{Event, Happens}
 use Rattle.dch_link.specs.Link.{LinkState, opened_link}
 use Rattle.dch_link.specs.Passing.{IsStage, next_stage, stages_left}
@@ -22,26 +17,10 @@ use Rattle.dch_gen.specs.declared.counts.Counts.{Counts}
 use Rattle.dch_gen.specs.Run.{Follows, HappenAll, PassFrames, PassFrom, PassesAll, PassesFrame}
 use Rattle.dch_gen.specs.Standing.{Advances, HasPassed, IsReady, MayCount, Parts, stage_bytes}
 
--- the text of lines ends with a line's end
-text_ends : (lines : List Line) → rest_of (text_of lines) ≡ []
-text_ends [] = refl
-text_ends (line ∷ lines) =
-    let parts : rest_of (words_of line ++ (codes "\n" ++ text_of lines)) ≡ rest_after (rest_of (words_of line)) (codes "\n" ++ text_of lines) = rest_after-append [] (words_of line) (codes "\n" ++ text_of lines) in
-    parts ∙ text_ends lines
-
--- so the lines of two texts are those of the first and those of the second
-pub lines_of_text : (front back : List Line) → lines_of (text_of (front ++ back)) ≡ lines_of (text_of front) ++ lines_of (text_of back)
-lines_of_text front back =
-    ap lines_of (text_of-append front back) ∙ lines_after-append [] (text_of front) (text_of back)
-    ∙ ap (λ (rest : List ℕ). lines_of (text_of front) ++ lines_after rest (text_of back)) (text_ends front)
-
--- the counts went on by two texts
-both_counted : (front back : List Line) (old mid new : Counts) (before : List (List ℕ)) → ((more : List (List ℕ)) → AreCountsOf more old → AreCountsOf (more ++ lines_of (text_of front)) mid)
-    → ((more : List (List ℕ)) → AreCountsOf more mid → AreCountsOf (more ++ lines_of (text_of back)) new) → AreCountsOf before old → AreCountsOf (before ++ lines_of (text_of (front ++ back))) new
-both_counted front back old mid new before one other is =
-    let whole : (before ++ lines_of (text_of front)) ++ lines_of (text_of back) ≡ before ++ lines_of (text_of (front ++ back)) =
-    append_assoc before (lines_of (text_of front)) (lines_of (text_of back)) ∙ ap (λ (l : List (List ℕ)). before ++ l) (sym (lines_of_text front back)) in
-    subst (λ (l : List (List ℕ)). AreCountsOf l new) whole (other (before ++ lines_of (text_of front)) (one before is))
+-- the counts went on by the lines of one thing, and by those of another
+both_counted : (front back : List Line) (old mid new : Counts) (before : List Line) → ((more : List Line) → AreCountsOf more old → AreCountsOf (more ++ front) mid) → ((more : List Line) → AreCountsOf more mid → AreCountsOf (more ++ back) new)
+    → AreCountsOf before old → AreCountsOf (before ++ (front ++ back)) new
+both_counted front back old mid new before one other is = subst (λ (l : List Line). AreCountsOf l new) (append_assoc before front back) (other (before ++ front) (one before is))
 
 -- one thing after another
 pub advances_then : (m k : ℕ) (First Then : LinkState → LinkState → List Line → Type 0) (old mid new : Parts) → Advances m First old mid → Advances k Then mid new → Advances (m + k) (Follows First Then) old new
@@ -73,7 +52,7 @@ advances_as k Does Is old new as_is one = record {
 -- nothing was done
 pub advances_none : (Is : LinkState → LinkState → List Line → Type 0) (parts : Parts) → ((link : LinkState) → Is link link []) → IsReady parts → Advances 0 Is parts parts
 advances_none Is parts is ready = record {
-  goes = λ first link stands. record { next = link; lines = []; does = is link; stands = stands; counted = λ before was. subst (λ (l : List (List ℕ)). AreCountsOf l parts.counts) (sym (append-nil before)) was };
+  goes = λ first link stands. record { next = link; lines = []; does = is link; stands = stands; counted = λ before was. subst (λ (l : List Line). AreCountsOf l parts.counts) (sym (append-nil before)) was };
   ready = ready;
   same = refl;
   counts = λ more may. let sum : 0 + more ≡ more = omega arith in subst (λ n. MayCount parts n) sum may;
@@ -168,9 +147,9 @@ passes_all old mid new passes over opened same = record {
         lines = own.lines;
         does = record { last = own.next; passes = own.does; over = refl };
         stands = subst (λ (p : Planned). Represents p p first (record own.next { damage = [] }) new.link) passes.same (over first own.next stands);
-        counted = λ before was. subst (λ (parts : Parts). AreCountsOf (before ++ lines_of (text_of own.lines)) parts.counts) (sym same) (own.counted before was);
+        counted = λ before was. subst (λ (parts : Parts). AreCountsOf (before ++ own.lines) parts.counts) (sym same) (own.counted before was);
       };
-  ready = subst (λ (parts : Parts). IsReady parts) (sym same) (record { opened = opened; bearers = passes.ready.bearers; empty = passes.ready.empty; enough = passes.ready.enough });
+  ready = subst (λ (parts : Parts). IsReady parts) (sym same) (record { opened = opened; bearers = passes.ready.bearers; exact = passes.ready.exact });
   same = ap (λ (parts : Parts). parts.accepted) same ∙ passes.same;
   counts = λ more may. subst (λ (parts : Parts). MayCount parts more) (sym same) (record { room = (passes.counts more may).room });
 }
@@ -184,7 +163,7 @@ passed_next first n f old new frame was =
       lines = was.lines ++ own.lines;
       passed = subst (λ (p : Planned). PassFrames n (suc f) (opened_link p first) own.next (was.lines ++ own.lines)) (sym frame.same) (record { mid = was.link; front = was.lines; back = own.lines; first = was.passed; then = own.does; all = refl });
       stands = subst (λ (p : Planned). Represents p p first own.next new.link) (sym frame.same) own.stands;
-      counted = subst (λ (l : List (List ℕ)). AreCountsOf l new.counts) (sym (lines_of_text was.lines own.lines)) (own.counted (lines_of (text_of was.lines)) was.counted);
+      counted = own.counted was.lines was.counted;
     }
 
 -- counts that may grow by the bytes of some steps may grow by those of fewer

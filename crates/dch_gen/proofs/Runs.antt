@@ -3,8 +3,6 @@ use Rattle.std.proofs.Common.{◌≡◌, ◌*◌, ◌++◌, ◌∙◌, ℕ, List
 use Rattle.std.specs.Io.KnownBytes.{Appends}
 use Rattle.dch_io.specs.Ends.{End, Breaks}
 use Rattle.dch_script.specs.Held.{Held}
-use Rattle.dch_script.specs.Lines.{lines_of}
-use Rattle.dch_script.specs.LineText.{text_of}
 use Rattle.dch_link.specs.NodebValues.{Node as NodeB}
 use Rattle.dch_link.specs.RncValues.{Node as Rnc}
 use Rattle.dch_link.specs.UeValues.{Node as Ue}
@@ -18,7 +16,7 @@ abbrev run_of : (start frames : ℕ) (parts : Parts) → IsConfigured parts.acce
 run_of start frames parts is passed = record { accepted = parts.accepted; is = is; link = passed.link; lines = passed.lines; runs = passed.passed }
 
 -- its summary was written
-pub written : (start frames : ℕ) (sink : End) (parts : Parts) (text : List ℕ) (ue : Ue) (node_b : NodeB) (rnc : Rnc) → IsConfigured parts.accepted → (passed : HasPassed (8 * start) frames frames parts) → text ≡ summary frames (lines_of (text_of passed.lines))
+pub written : (start frames : ℕ) (sink : End) (parts : Parts) (text : List ℕ) (ue : Ue) (node_b : NodeB) (rnc : Rnc) → IsConfigured parts.accepted → (passed : HasPassed (8 * start) frames frames parts) → text ≡ summary frames passed.lines
     → Appends sink.before sink.now text → HaveHistories parts.accepted parts.accepted (8 * start) passed.link ue node_b rnc → WritesSummary start frames sink ue node_b rnc
 written start frames sink parts text ue node_b rnc is passed same writes histories = record {
   run = run_of start frames parts is passed;
@@ -27,7 +25,7 @@ written start frames sink parts text ue node_b rnc is passed same writes histori
 }
 
 -- or a front of it
-pub cut : (start frames : ℕ) (sink : End) (parts : Parts) (text : List ℕ) → IsConfigured parts.accepted → (passed : HasPassed (8 * start) frames frames parts) → text ≡ summary frames (lines_of (text_of passed.lines))
+pub cut : (start frames : ℕ) (sink : End) (parts : Parts) (text : List ℕ) → IsConfigured parts.accepted → (passed : HasPassed (8 * start) frames frames parts) → text ≡ summary frames passed.lines
     → Breaks sink text → CutsSummary start frames sink
 cut start frames sink parts text is passed same breaks = record {
   run = run_of start frames parts is passed;

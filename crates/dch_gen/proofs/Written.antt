@@ -6,6 +6,7 @@ use Rattle.dch_types.specs.declared.channel.Dir.TheVariants.{Up, Down}
 use Rattle.dch_script.specs.Held.{Held}
 use Rattle.dch_script.specs.Report.{line_text}
 use Rattle.dch_script.specs.declared.report.Line.TheVariants.{EndFrames}
+use Rattle.dch_node.specs.Lines.{Line}
 use Rattle.dch_gen.specs.Counting.{AreCountsOf, IsCountOf}
 use Rattle.dch_gen.specs.Counts.{cells_sent, units_handed_up, units_taken}
 use Rattle.dch_gen.specs.Summary.{dir_cells, dir_sums, end_line, phy_line, sum_line, sum_lines, summary}
@@ -30,17 +31,17 @@ sums_same dir took got taken handed (suc b) one other =
 abbrev pub sums_of : Dir → DirCounts → List ℕ
 sums_of dir counts = sum_lines dir (λ b. slice_index counts.took b) (λ b. slice_index counts.got b) 6
 
-sums_are : (dir : Dir) (lines : List (List ℕ)) (counts : DirCounts) → IsCountOf dir lines counts → sums_of dir counts ≡ dir_sums dir lines
+sums_are : (dir : Dir) (lines : List Line) (counts : DirCounts) → IsCountOf dir lines counts → sums_of dir counts ≡ dir_sums dir lines
 sums_are dir lines counts is = sums_same dir (λ b. slice_index counts.took b) (λ b. slice_index counts.got b) (λ b. units_taken dir b lines) (λ b. units_handed_up dir b lines) 6 is.took is.got
 
-cells_are : (dir : Dir) (lines : List (List ℕ)) (counts : DirCounts) → IsCountOf dir lines counts → phy_line dir counts.cells counts.ones ≡ dir_cells dir lines
+cells_are : (dir : Dir) (lines : List Line) (counts : DirCounts) → IsCountOf dir lines counts → phy_line dir counts.cells counts.ones ≡ dir_cells dir lines
 cells_are dir lines counts is = ap (λ n. phy_line dir n counts.ones) is.cells ∙ ap (λ n. phy_line dir (cells_sent dir lines) n) is.ones
 
 -- five texts one after another
 five : (before a b c d e : List ℕ) → ((((before ++ a) ++ b) ++ c) ++ d) ++ e ≡ before ++ (a ++ b ++ c ++ d ++ e)
 five before a b c d e = simp append_assoc
 
-pub written : (frames n : ℕ) (lines : List (List ℕ)) (counts : Counts) (before one two three four five : Held) → AreCountsOf lines counts → n ≡ frames
+pub written : (frames n : ℕ) (lines : List Line) (counts : Counts) (before one two three four five : Held) → AreCountsOf lines counts → n ≡ frames
     → one ≡ record before { text = before.text ++ sums_of Up counts.up } → two ≡ record one { text = one.text ++ sums_of Down counts.down }
     → three ≡ record two { text = two.text ++ phy_line Up counts.up.cells counts.up.ones } → four ≡ record three { text = three.text ++ phy_line Down counts.down.cells counts.down.ones }
     → five ≡ record four { text = four.text ++ line_text (EndFrames n) } → five ≡ record before { text = before.text ++ summary frames lines }

@@ -1,49 +1,47 @@
--- What the lines of a report show of the units of bearers, and of the cells of radio frames.
-use Rattle.std.specs.Prelude.{◌==◌, ◌&&◌, ℕ, List, [], Bool, codes, decimal, length, count_by, sum_by, if◌then◌else◌}
-use Rattle.std.specs.Str.{bytes_eq}
+-- What nodes tell of the SDUs of bearers, and of the cells of radio frames.
+use Rattle.std.specs.Prelude.{◌==◌, ◌&&◌, ℕ, List, [], Bool, true, false, length, count_by, sum_by, if◌then◌else◌}
+use Rattle.dch_bits.specs.declared.bit.Trit.{Trit}
+use Rattle.dch_bits.specs.declared.bit.Trit.TheVariants.{Zero, One, Off}
 use Rattle.dch_types.specs.declared.channel.Dir.{Dir}
 use Rattle.dch_types.specs.declared.channel.Dir.TheVariants.{Up, Down}
-use Rattle.dch_script.specs.Report.{dir_word}
-use Rattle.dch_gen.specs.LineWords.{word_at}
+use Rattle.dch_node.specs.Lines.{Line, Took, Got, GotBits, Phy}
 
--- three words are this word, a direction and a bearer
-abbrev pub names : List ℕ → Dir → ℕ → List ℕ → List ℕ → List ℕ → Bool
-names word dir b first second third = bytes_eq first word && (bytes_eq second (dir_word dir) && bytes_eq third (decimal b))
+abbrev pub same_dir : Dir → Dir → Bool
+same_dir Up Up = true
+same_dir Up Down = false
+same_dir Down Up = false
+same_dir Down Down = true
 
--- a line begins with this word, a direction and a bearer
-abbrev pub is_of : List ℕ → Dir → ℕ → List ℕ → Bool
-is_of word dir b line = names word dir b (word_at line 0) (word_at line 1) (word_at line 2)
+-- a line tells that a bearer accepted a unit of this direction, or that one was handed up
+abbrev pub is_took : Dir → ℕ → Line → Bool
+is_took dir b (Took of c) = same_dir of dir && (c == b)
+is_took dir b line = false
 
--- the first word of a line that shows a radio frame
-abbrev pub phy_word : Dir → List ℕ
-phy_word Up = codes "phyup"
-phy_word Down = codes "phydown"
+abbrev pub is_got : Dir → ℕ → Line → Bool
+is_got dir b (Got of c octets) = same_dir of dir && (c == b)
+is_got dir b (GotBits of c bits) = same_dir of dir && (c == b)
+is_got dir b line = false
 
--- the letters of cells in a text, in which a dot stands for none
-abbrev pub cells_in : List ℕ → List ℕ
-cells_in text = if bytes_eq text (codes ".") then [] else text
+-- the cells of the radio frame of a direction of which a line tells, if it tells of one
+abbrev pub cells_of : Dir → Line → List Trit
+cells_of dir (Phy of tfci cells) = if same_dir of dir then cells else []
+cells_of dir line = []
 
--- the cells of a radio frame of a direction: the third word of its line
-abbrev pub phy_cells : Dir → List ℕ → List ℕ → List ℕ
-phy_cells dir first third = if bytes_eq first (phy_word dir) then cells_in third else []
-
-abbrev pub cells_on : Dir → List ℕ → List ℕ
-cells_on dir line = phy_cells dir (word_at line 0) (word_at line 2)
-
--- the letter of a one
-abbrev pub is_one : ℕ → Bool
-is_one c = c == 49
+abbrev pub is_one : Trit → Bool
+is_one Zero = false
+is_one One = true
+is_one Off = false
 
 -- how many units a bearer accepted, and how many were handed up
-abbrev pub units_taken : Dir → ℕ → List (List ℕ) → ℕ
-units_taken dir b lines = count_by (is_of (codes "took") dir b) lines
+abbrev pub units_taken : Dir → ℕ → List Line → ℕ
+units_taken dir b lines = count_by (is_took dir b) lines
 
-abbrev pub units_handed_up : Dir → ℕ → List (List ℕ) → ℕ
-units_handed_up dir b lines = count_by (is_of (codes "got") dir b) lines
+abbrev pub units_handed_up : Dir → ℕ → List Line → ℕ
+units_handed_up dir b lines = count_by (is_got dir b) lines
 
 -- how many cells the radio frames of a direction have, and how many of them are ones
-abbrev pub cells_sent : Dir → List (List ℕ) → ℕ
-cells_sent dir lines = sum_by (λ line. length (cells_on dir line)) lines
+abbrev pub cells_sent : Dir → List Line → ℕ
+cells_sent dir lines = sum_by (λ line. length (cells_of dir line)) lines
 
-abbrev pub ones_sent : Dir → List (List ℕ) → ℕ
-ones_sent dir lines = sum_by (λ line. count_by is_one (cells_on dir line)) lines
+abbrev pub ones_sent : Dir → List Line → ℕ
+ones_sent dir lines = sum_by (λ line. count_by is_one (cells_of dir line)) lines

@@ -4,9 +4,7 @@ use Rattle.std.specs.Io.KnownBytes.{Appends}
 use Rattle.dch_io.specs.Ends.{End, Breaks}
 use Rattle.dch_accept.specs.Answers.{IsAccepted}
 use Rattle.dch_accept.specs.Plans.{IsPlanned, Planned}
-use Rattle.dch_script.specs.Lines.{lines_of}
 use Rattle.dch_node.specs.Lines.{Line}
-use Rattle.dch_script.specs.LineText.{text_of}
 use Rattle.dch_link.specs.NodebValues.{Node as NodeB}
 use Rattle.dch_link.specs.RncValues.{Node as Rnc}
 use Rattle.dch_link.specs.UeValues.{Node as Ue}
@@ -33,7 +31,7 @@ pub record GenRun (start frames : ℕ) : Type 0 where
 
 -- the summary of a run
 abbrev pub summary_of : {start frames : ℕ} → GenRun start frames → List ℕ
-summary_of {start} {frames} run = summary frames (lines_of (text_of run.lines))
+summary_of {start} {frames} run = summary frames run.lines
 
 -- the sink took the summary of a run, and each of three nodes stands for just what happened at it in this run
 pub record WritesSummary (start frames : ℕ) (sink : End) (ue : Ue) (node_b : NodeB) (rnc : Rnc) : Type 0 where

@@ -10,7 +10,6 @@ pub mod Refused
 pub mod GenRuns
 pub mod Counts
 pub mod Counting
-pub mod LineWords
 pub mod Summary
 pub use Rattle.dch_link.specs.SoftValues
 pub use Rattle.dch_link.specs.SoftEvents

@@ -1,13 +1,10 @@
 -- What a generator has, and what it stands for.
-use Rattle.std.specs.Prelude.{◌≡◌, ◌<◌, ◌≤◌, ◌+◌, ◌*◌, ◌++◌, ℕ, List, []}
+use Rattle.std.specs.Prelude.{◌≡◌, ◌<◌, ◌+◌, ◌*◌, ◌++◌, ℕ, List, true}
 use Rattle.dch_types.specs.declared.channel.Dir.{Dir}
 use Rattle.dch_types.specs.declared.config.Config.{Config}
 use Rattle.dch_accept.specs.Plans.{Planned}
 use Rattle.dch_accept.specs.Reports.{step_bytes}
-use Rattle.dch_script.specs.Held.{Held}
-use Rattle.dch_script.specs.Lines.{lines_of}
 use Rattle.dch_node.specs.Lines.{Line}
-use Rattle.dch_script.specs.LineText.{text_of}
 use Rattle.dch_link.specs.Link.{LinkState, opened_link}
 use Rattle.dch_link.specs.Standing.{IsLinkOf, Represents, SendsTo}
 use Rattle.dch_link.specs.Values.{Nodes}
@@ -15,14 +12,13 @@ use Rattle.dch_gen.specs.Counting.{AreCountsOf, HasRoom}
 use Rattle.dch_gen.specs.declared.counts.Counts.{Counts}
 use Rattle.dch_gen.specs.Run.{PassFrames}
 
--- the configuration, the nodes, room for the text of a step, and what was counted
+-- the configuration, the nodes, and what was counted
 pub record Parts : Type 0 where
   pub accepted : Planned
   pub link : Nodes
-  pub step : Held
   pub counts : Counts
 
--- the most bytes of a step
+-- a step tells of lines with less text than so many bytes
 abbrev pub stage_bytes : Config → ℕ
 stage_bytes config = step_bytes config + 2400
 
@@ -34,28 +30,27 @@ HasBearers planned = (dir : Dir) (b : ℕ) → b < 6 → SendsTo planned dir b
 pub record IsReady (parts : Parts) : Type 0 where
   pub opened : IsLinkOf parts.accepted parts.link
   pub bearers : HasBearers parts.accepted
-  pub empty : parts.step.text ≡ []
-  pub enough : stage_bytes parts.accepted.config ≤ parts.step.most
+  pub exact : parts.counts.is_exact ≡ true
 
 -- its counts may grow by the bytes of so many steps
 pub record MayCount (parts : Parts) (steps : ℕ) : Type 0 where
   pub room : HasRoom parts.counts (steps * stage_bytes parts.accepted.config)
 
--- a generator has gone through the first f frames of n: its nodes stand for them, and its counts for the lines of their text
+-- a generator has gone through the first f frames of n: its nodes stand for them, and its counts for what they told
 pub record HasPassed (first n f : ℕ) (parts : Parts) : Type 0 where
   pub link : LinkState
   pub lines : List Line
   pub passed : PassFrames n f (opened_link parts.accepted first) link lines
   pub stands : Represents parts.accepted parts.accepted first link parts.link
-  pub counted : AreCountsOf (lines_of (text_of lines)) parts.counts
+  pub counted : AreCountsOf lines parts.counts
 
--- something was done from a state of the nodes, and the lines of its text were counted
+-- something was done from a state of the nodes, and the lines that it told were counted
 pub record GoesOn (first : ℕ) (Does : LinkState → List Line → Type 0) (old new : Parts) : Type 0 where
   pub next : LinkState
   pub lines : List Line
   pub does : Does next lines
   pub stands : Represents old.accepted old.accepted first next new.link
-  pub counted : (before : List (List ℕ)) → AreCountsOf before old.counts → AreCountsOf (before ++ lines_of (text_of lines)) new.counts
+  pub counted : (before : List Line) → AreCountsOf before old.counts → AreCountsOf (before ++ lines) new.counts
 
 -- the same from any state that the nodes stand for, with the text of so many steps at most
 pub record Advances (steps : ℕ) (Does : LinkState → LinkState → List Line → Type 0) (old new : Parts) : Type 0 where

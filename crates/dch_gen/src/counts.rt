@@ -1,15 +1,12 @@
-ghost use Rattle.std.specs.Prelude.{◌≡◌, ◌<◌, ◌≤◌, ◌+◌, ◌++◌, ◌^◌, ℕ, List, [], codes, count_by, decimal, length, slice_index};
-ghost use Rattle.std.specs.Str.{bytes_eq};
-ghost use Rattle.dch_script.specs.Lines.{lines_of};
-ghost use Rattle.dch_script.specs.Report.{dir_word};
-ghost use Rattle.dch_gen.specs.Counts.{is_one, names, phy_cells, phy_word};
-ghost use Rattle.dch_gen.specs.Counting.{AreCountsOf, CountsLine, HasDirRoom, HasRoom, one_if};
+ghost use Rattle.std.specs.Prelude.{◌≡◌, ◌<◌, ◌≤◌, ◌+◌, ◌==◌, ◌&&◌, ◌^◌, ◌∷◌, ℕ, [], true, count_by, length, slice_index};
+ghost use Rattle.dch_indication.specs.Told.{line_of};
+ghost use Rattle.dch_script.specs.LineText.{text_of};
+ghost use Rattle.dch_gen.specs.Counts.{is_one, same_dir};
+ghost use Rattle.dch_gen.specs.Counting.{AreCountsOf, CountsLine, HasDirRoom, HasRoom, ShowsCounts, one_if};
 
-use crate::words::{LineWords, line_words};
-use dch_script::dir_word;
+use dch_bits::Trit;
+use dch_indication::{Indication, Indications};
 use dch_types::Dir;
-use itoa::Buffer;
-use memchr::memchr;
 
 /// How many bearers are counted, from bearer 0 on.
 pub const BEARERS: usize = 6;
@@ -27,17 +24,20 @@ pub struct DirCounts {
     pub ones: u64,
 }
 
-/// What is counted of both directions.
+/// What is counted of both directions, by what nodes tell.
 #[derive(Clone, Copy)]
 pub struct Counts {
     pub up: DirCounts,
     pub down: DirCounts,
+    /// Whether no count has become too large.
+    pub is_exact: bool,
 }
 
 impl Counts {
-    /// No line is counted yet.
+    /// Nothing is counted yet.
     pub fn new() -> Self
         ensures none { AreCountsOf [] result }
+        ensures exact { result.is_exact ≡ true }
         ensures room { (more : ℕ) → more < 2 ^ 64 → HasRoom result more }
     {
         let none = DirCounts {
@@ -49,97 +49,106 @@ impl Counts {
         Counts {
             up: none,
             down: none,
+            is_exact: true,
         }
     }
+}
 
-    /// Counts the lines of a text of a report.
-    pub fn count(&mut self, text: &[u8])
-        requires { HasRoom self.old (length text.now) }
-        ensures counted { (lines : List (List ℕ)) → AreCountsOf lines self.old → AreCountsOf (lines ++ lines_of text.now) self.new }
-        ensures room { (more : ℕ) → HasRoom self.old (length text.now + more) → HasRoom self.new more }
-    {
-        let mut remaining = text;
-        while let Some(at) = memchr(b'\n', remaining) {
-            let (line, later) = remaining.split_at(at + 1);
-            self.up.count_line(line, Dir::Up);
-            self.down.count_line(line, Dir::Down);
-            remaining = later;
-        }
+impl Indications for Counts {
+    ghost shows = { ShowsCounts };
+
+    fn indicate(&mut self, it: Indication<'_>) {
+        let up = self.up.count(Dir::Up, &it);
+        let down = self.down.count(Dir::Down, &it);
+        self.is_exact = self.is_exact && up && down;
     }
 }
 
 impl DirCounts {
-    /// Counts a line, where it is one of this direction.
-    fn count_line(&mut self, line: &[u8], dir: Dir)
-        requires some { 0 < length line.now }
-        requires room { HasDirRoom self.old (length line.now) }
-        ensures { CountsLine dir line.now self.old self.new }
+    /// Counts an indication, where it is one of this direction. Answers whether no count has become too large.
+    fn count(&mut self, dir: Dir, it: &Indication<'_>) -> bool
+        ensures counts { result ≡ true → CountsLine dir (line_of it.now) self.old self.new }
+        ensures exact { HasDirRoom self.old (length (text_of (line_of it.now ∷ []))) → result ≡ true }
     {
-        let words = line_words(line);
-        count_bearer(&mut self.took, &words, b"took", dir);
-        count_bearer(&mut self.got, &words, b"got", dir);
-        let cells = cells_of(&words, dir);
-        self.cells += cells.len() as u64;
-        self.ones += count_ones(cells) as u64;
+        match *it {
+            Indication::Took { dir: of, bearer } => {
+                count_one(&mut self.took, is_same(of, dir), bearer)
+            }
+            Indication::Got {
+                dir: of,
+                bearer,
+                ..
+            } => count_one(&mut self.got, is_same(of, dir), bearer),
+            Indication::GotBits {
+                dir: of,
+                bearer,
+                ..
+            } => count_one(&mut self.got, is_same(of, dir), bearer),
+            Indication::Phy { dir: of, cells, .. } if is_same(of, dir) => self.count_cells(cells),
+            _ => true,
+        }
     }
-}
 
-/// Counts a line at the bearer that it names, where its words are this word, a direction and a bearer.
-fn count_bearer(counts: &mut [u64], words: &LineWords<'_>, word: &[u8], dir: Dir)
-    requires bearers { length counts.old ≡ 6 }
-    requires room { (b : ℕ) → b < 6 → slice_index counts.old b + 1 < 2 ^ 64 }
-    ensures { (b : ℕ) → b < 6 → slice_index counts.new b ≡ slice_index counts.old b + one_if (names word.now dir b words.now.first.now words.now.second.now words.now.third.now) }
-{
-    if words.first == word && words.second == dir_word(dir).as_bytes() {
-        count_number(counts, words.third);
-    }
-}
-
-/// Counts one more at the place that a number names.
-fn count_number(counts: &mut [u64], number: &[u8])
-    requires bearers { length counts.old ≡ 6 }
-    requires room { (b : ℕ) → b < 6 → slice_index counts.old b + 1 < 2 ^ 64 }
-    ensures { (b : ℕ) → b < 6 → slice_index counts.new b ≡ slice_index counts.old b + one_if (bytes_eq number.now (decimal b)) }
-{
-    for (b, count) in counts.iter_mut().enumerate() {
-        if is_number(number, b) {
-            *count += 1;
+    /// Counts the cells of a radio frame. Answers whether no count has become too large.
+    fn count_cells(&mut self, cells: &[Trit]) -> bool
+        ensures cells { result ≡ true → self.new ≡ record self.old { cells = self.old.cells + length cells.now; ones = self.old.ones + count_by is_one cells.now } }
+        ensures exact { self.old.cells + length cells.now < 2 ^ 64 → self.old.ones + length cells.now < 2 ^ 64 → result ≡ true }
+    {
+        let ones = count_ones(cells) as u64;
+        match (
+            self.cells.checked_add(cells.len() as u64),
+            self.ones.checked_add(ones),
+        ) {
+            (Some(all), Some(ones)) => {
+                self.cells = all;
+                self.ones = ones;
+                true
+            }
+            _ => false,
         }
     }
 }
 
-/// Whether a text is a number in decimal.
-fn is_number(text: &[u8], number: usize) -> bool
-    ensures { result ≡ bytes_eq text.now (decimal number) }
+/// Counts one more for a bearer, where it is one that is counted and the direction is this one. Answers whether the count has not
+/// become too large.
+fn count_one(counts: &mut [u64], is_same: bool, bearer: u8) -> bool
+    requires { length counts.old ≡ 6 }
+    ensures counts { result ≡ true → (b : ℕ) → b < 6 → slice_index counts.new b ≡ slice_index counts.old b + one_if (is_same && (bearer == b)) }
+    ensures exact { ((b : ℕ) → b < 6 → slice_index counts.old b + 1 < 2 ^ 64) → result ≡ true }
 {
-    text == Buffer::new().format(number).as_bytes()
-}
-
-/// The letters of the cells of a radio frame of a direction, of the line with these words.
-fn cells_of<'a>(words: &LineWords<'a>, dir: Dir) -> &'a [u8]
-    ensures { result.now ≡ phy_cells dir words.now.first.now words.now.third.now }
-{
-    if words.first != phy_word(dir) || words.third == b".".as_slice() {
-        &[]
-    } else {
-        words.third
+    let place = usize::from(bearer);
+    if !is_same || place >= counts.len() {
+        return true;
+    }
+    match counts[place].checked_add(1) {
+        Some(count) => {
+            counts[place] = count;
+            true
+        }
+        None => false,
     }
 }
 
-/// The first word of a line that shows a radio frame.
-fn phy_word(dir: Dir) -> &'static [u8]
-    ensures { result.now ≡ phy_word dir }
+/// Whether two directions are the same.
+fn is_same(a: Dir, b: Dir) -> bool
+    ensures { result ≡ same_dir a b }
 {
-    match dir {
-        Dir::Up => b"phyup",
-        Dir::Down => b"phydown",
+    match a {
+        Dir::Up => match b {
+            Dir::Up => true,
+            Dir::Down => false,
+        },
+        Dir::Down => match b {
+            Dir::Up => false,
+            Dir::Down => true,
+        },
     }
 }
 
-/// How many letters are ones.
-fn count_ones(cells: &[u8]) -> usize
+/// How many cells are ones.
+fn count_ones(cells: &[Trit]) -> usize
     ensures value { result ≡ count_by is_one cells.now }
     ensures few { result ≤ length cells.now }
 {
-    cells.iter().filter(|cell| **cell == b'1').count()
+    cells.iter().filter(|cell| **cell == Trit::One).count()
 }

@@ -1,8 +1,6 @@
 ghost use Rattle.std.specs.Prelude.{◌≡◌, ◌<◌, ◌≤◌, ◌+◌, ◌%◌, ◌++◌, ℕ, List, Some, length, IfOk};
 ghost use Rattle.dch_accept.specs.Plans.{IsPlanned};
-ghost use Rattle.dch_script.specs.Lines.{lines_of};
 ghost use Rattle.dch_node.specs.Lines.{Line};
-ghost use Rattle.dch_script.specs.LineText.{text_of};
 ghost use Rattle.dch_link.specs.Events.{Happens};
 ghost use Rattle.dch_link.specs.Link.{LinkState, opened_link};
 ghost use Rattle.dch_link.specs.Passing.{IsStage};
@@ -18,18 +16,17 @@ use crate::counts::{BEARERS, Counts};
 use crate::units::{MOST_BITS, MOST_OCTETS, UnitSize, fill_bits, fill_octets, unit_size};
 use dch_accept::Accepted;
 use dch_bits::{Bit, NoMemory};
-use dch_link::{CHECKS, Link, LinkEvent, NodeB, Rnc, Stage, Ue};
+use dch_link::{Link, LinkEvent, NodeB, Rnc, Stage, Ue};
 use dch_script::Report;
 use dch_types::Dir;
 use std::alloc::Global;
 use std::marker::Model;
 
-/// Three nodes that run together, to whose bearers units are offered before each radio frame, and what is counted of their report.
+/// Three nodes that run together, to whose bearers units are offered before each radio frame, and what is counted of what they tell.
 /// All memory is taken at opening.
 pub struct Generator {
     accepted: Accepted,
     link: Link,
-    step: Report,
     counts: Counts,
 }
 
@@ -39,7 +36,6 @@ impl Drop for Generator {
         let Generator {
             accepted: _accepted,
             link: _link,
-            step: _step,
             counts: _counts,
         } = self;
     }
@@ -50,7 +46,7 @@ impl Model for Generator {
 
     ghost Value = { Parts };
 
-    ghost view = { λ g. record { accepted = g.accepted; link = g.link; step = g.step; counts = g.counts } };
+    ghost view = { λ g. record { accepted = g.accepted; link = g.link; counts = g.counts } };
 }
 
 impl Generator {
@@ -66,12 +62,10 @@ impl Generator {
     {
         // A good configuration has at most 16 bearers.
         let _config = accepted.config();
-        let step = Report::open(alloc, accepted.step_bytes() + CHECKS)?;
         let link = Link::open(alloc, &accepted, first_cfn)?;
         Ok(Generator {
             accepted,
             link,
-            step,
             counts: Counts::new(),
         })
     }
@@ -92,7 +86,7 @@ impl Generator {
     /// Writes the summary of a run through so many radio frames.
     pub fn put_summary(&self, frames: u32, report: &mut Report)
         requires { length report.old.text + 1500 ≤ report.old.most }
-        ensures { (first : ℕ) (is : HasPassed first frames frames self.now) → report.new ≡ record report.old { text = report.old.text ++ summary frames (lines_of (text_of is.lines)) } }
+        ensures { (first : ℕ) (is : HasPassed first frames frames self.now) → report.new ≡ record report.old { text = report.old.text ++ summary frames is.lines } }
     {
         self.counts.put_summary(frames, report);
     }
@@ -104,7 +98,6 @@ impl Generator {
         let Generator {
             accepted: _accepted,
             link,
-            step: _step,
             counts: _counts,
         } = self;
         link.into_nodes()
@@ -194,9 +187,7 @@ impl Generator {
         requires room { MayCount self.old 1 }
         ensures { Advances 1 (λ link next lines. Happens link (event_of event.entry) next lines) self.old self.new }
     {
-        self.link.happen(&self.accepted, event, &mut self.step);
-        self.counts.count(self.step.bytes());
-        self.step.clear();
+        self.link.happen(&self.accepted, event, &mut self.counts);
     }
 
     /// The nodes pass all stages of a radio frame.
@@ -220,8 +211,6 @@ impl Generator {
         requires room { MayCount self.old 1 }
         ensures { Advances 1 (AtStage stage) self.old self.new }
     {
-        self.link.pass(&self.accepted, stage, &mut self.step);
-        self.counts.count(self.step.bytes());
-        self.step.clear();
+        self.link.pass(&self.accepted, stage, &mut self.counts);
     }
 }

@@ -1,5 +1,5 @@
 //! The command `gen`: a configuration of the program's own, three nodes that run while units are offered to six bearers
-//! in both directions, and a summary of what they report.
+//! in both directions, and a summary of what they tell.
 #![tactic(auto)]
 
 mod accepting;
@@ -13,7 +13,6 @@ mod open;
 mod run;
 mod summary;
 mod units;
-mod words;
 
 pub use accepting::accept_gen;
 pub use dch_link::Leg;

@@ -1,4 +1,5 @@
 ghost use Rattle.std.specs.Prelude.{◌≡◌, ◌<◌, ◌≤◌, ◌+◌, ◌++◌, ◌^◌, ℕ, List, decimal, length, slice_index};
+ghost use Rattle.dch_node.specs.Lines.{Line as NodeLine};
 ghost use Rattle.dch_gen.specs.Counting.{AreCountsOf};
 ghost use Rattle.dch_gen.specs.Summary.{phy_line, sum_line, sum_lines, summary};
 
@@ -14,7 +15,7 @@ impl Counts {
     /// and handed up, one for the cells of each direction, and the count of radio frames.
     pub fn put_summary(&self, frames: u32, report: &mut Report)
         requires { length report.old.text + 1500 ≤ report.old.most }
-        ensures { (lines : List (List ℕ)) → AreCountsOf lines self.now → report.new ≡ record report.old { text = report.old.text ++ summary frames lines } }
+        ensures { (lines : List NodeLine) → AreCountsOf lines self.now → report.new ≡ record report.old { text = report.old.text ++ summary frames lines } }
     {
         self.up.put_sums(Dir::Up, report);
         self.down.put_sums(Dir::Down, report);

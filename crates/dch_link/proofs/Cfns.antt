@@ -2,7 +2,6 @@
 use Rattle.std.proofs.Common.{◌≡◌, ◌+◌, ◌%◌, ◌∙◌, ℕ, List, Option, Some, None, ap, sym}
 use Rattle.dch_types.specs.declared.channel.Dir.TheVariants.{Up, Down}
 use Rattle.dch_accept.specs.Plans.{Planned}
-use Rattle.dch_script.specs.Held.{Held as Text}
 use Rattle.dch_node.specs.Lines.{Line}
 use Rattle.dch_node.specs.Values.{Output}
 use Rattle.dch_damage.specs.Damage.{iub_after}
@@ -78,15 +77,15 @@ change_cfn : (second : Planned) (old new : LinkState) → Changes second old new
 change_cfn second old new changes = ue_goes changes.node_b_new new (UeChange second) changes.ue_changes ∙ node_b_goes changes.rnc_new changes.node_b_new _ changes.node_b_changes ∙ rnc_goes old changes.rnc_new _ changes.rnc_changes
 
 -- and that of the terminal itself
-pub happen_cfn : (planned : Planned) (event : Event) (old new : Nodes) (before after : Text) → IsLinkOf planned old
-    → ((began : Planned) (first : ℕ) (link : LinkState) → Represents began planned first link old → LeadsTo began planned first (Happens link event) new before after) → new.ue.cfn ≡ old.ue.cfn
-happen_cfn planned event old new before after is leads =
+pub happen_cfn : (planned : Planned) (event : Event) (old new : Nodes) (Says : List Line → Type 0) → IsLinkOf planned old
+    → ((began : Planned) (first : ℕ) (link : LinkState) → Represents began planned first link old → LeadsTo began planned first (Happens link event) new Says) → new.ue.cfn ≡ old.ue.cfn
+happen_cfn planned event old new Says is leads =
     let led = leads is.began is.first is.link is.stands in
     led.stands.ue.stands.at.cfn ∙ event_cfn event is.link led.next led.lines led.does ∙ sym is.stands.ue.stands.at.cfn
 
-pub pass_cfn : (planned : Planned) (stage : Stage) (old new : Nodes) (before after : Text) → IsLinkOf planned old
-    → ((began : Planned) (first : ℕ) (link : LinkState) → Represents began planned first link old → LeadsTo began planned first (AtStage stage link) new before after) → new.ue.cfn ≡ cfn_after stage old.ue.cfn
-pass_cfn planned stage old new before after is leads =
+pub pass_cfn : (planned : Planned) (stage : Stage) (old new : Nodes) (Says : List Line → Type 0) → IsLinkOf planned old
+    → ((began : Planned) (first : ℕ) (link : LinkState) → Represents began planned first link old → LeadsTo began planned first (AtStage stage link) new Says) → new.ue.cfn ≡ cfn_after stage old.ue.cfn
+pass_cfn planned stage old new Says is leads =
     let led = leads is.began is.first is.link is.stands in
     led.stands.ue.stands.at.cfn ∙ stage_cfn stage is.link led.next led.lines led.does ∙ ap (cfn_after stage) (sym is.stands.ue.stands.at.cfn)
 

@@ -1,9 +1,9 @@
 -- A second configuration that becomes active at each node.
-use Rattle.std.proofs.Common.{◌≡◌, ◌++◌, ◌∙◌, ℕ, List, [], refl, subst, sym}
+use Rattle.std.proofs.Common.{◌≡◌, ℕ, List, [], refl, subst}
 use Rattle.dch_types.specs.declared.channel.Dir.TheVariants.{Up, Down}
 use Rattle.dch_accept.specs.Plans.{Planned}
-use Rattle.dch_script.specs.Held.{Held as Text}
-use Rattle.dch_script.specs.LineText.{text_of}
+use Rattle.dch_node.specs.Lines.{Line}
+use Rattle.dch_node.specs.Standing.{Tells}
 use Rattle.dch_node.specs.Values.{Output, no_output}
 use Rattle.dch_ue.specs.Standing.{Represents as UeStands, Shows as UeShows, Stepped as UeStepped}
 use Rattle.dch_ue.specs.State.{Change as UeChange, Event as UeEvent, State as UeState, opened_state as opened_ue}
@@ -17,33 +17,31 @@ use Rattle.dch_rnc.specs.Standing.{Represents as RncStands, Shows as RncShows, S
 use Rattle.dch_rnc.specs.State.{Change as RncChange, Event as RncEvent, State as RncState, opened_state as opened_rnc}
 use Rattle.dch_rnc.specs.Steps.{Steps as RncSteps}
 use Rattle.dch_rnc.specs.Values.{Node as Rnc}
-use Rattle.dch_script.specs.Adding.{AddsLines}
 use Rattle.dch_link.specs.Courses.{Course, course_after}
 use Rattle.dch_link.specs.Link.{LinkState}
 use Rattle.dch_link.specs.Standing.{ChangesTo, Represents}
 use Rattle.dch_link.specs.Values.{Nodes}
 use Rattle.dch_link.proofs.Coursing.{course_changes}
 use Rattle.dch_link.proofs.Fits.{says_fits}
-use Rattle.dch_link.proofs.Reporting.{added-none, went_on}
 
--- nothing is reported
-unsaid : (before after : Text) (output : Output) → output ≡ no_output → after.text ≡ before.text ++ text_of output.lines → after.most ≡ before.most → after ≡ before
-unsaid before after output quiet text most = went_on before after [] (subst (λ (o : Output). after.text ≡ before.text ++ text_of o.lines) quiet text) most ∙ sym (added-none before)
+-- nothing is told
+unsaid : {U : Type 0} (shows : U → Line → U → Type 0) (before after : U) (output : Output) → output ≡ no_output → Tells shows before after output.lines → after ≡ before
+unsaid shows before after output quiet told = subst (λ (o : Output). Tells shows before after o.lines) quiet told
 
-pub rnc_unsaid : (second : Planned) (state : RncState) (rnc : Rnc) (before after : Text) → RncStepped second state (RncChange second) rnc (AddsLines before.text after.text) → after.most ≡ before.most → after ≡ before
-rnc_unsaid second state rnc before after step most = unsaid before after step.output step.step.quiet step.tells most
+pub rnc_unsaid : {U : Type 0} (shows : U → Line → U → Type 0) (second : Planned) (state : RncState) (rnc : Rnc) (before after : U) → RncStepped second state (RncChange second) rnc (Tells shows before after) → after ≡ before
+rnc_unsaid shows second state rnc before after step = unsaid shows before after step.output step.step.quiet step.tells
 
-pub node_b_unsaid : (second : Planned) (state : NodeBState) (node_b : NodeB) (before after : Text) → NodeBStepped second state (NodeBChange second) node_b (AddsLines before.text after.text) → after.most ≡ before.most → after ≡ before
-node_b_unsaid second state node_b before after step most = unsaid before after step.output step.step.quiet step.tells most
+pub node_b_unsaid : {U : Type 0} (shows : U → Line → U → Type 0) (second : Planned) (state : NodeBState) (node_b : NodeB) (before after : U) → NodeBStepped second state (NodeBChange second) node_b (Tells shows before after) → after ≡ before
+node_b_unsaid shows second state node_b before after step = unsaid shows before after step.output step.step.quiet step.tells
 
-pub ue_unsaid : (second : Planned) (state : UeState) (ue : Ue) (before after : Text) → UeStepped second state (UeChange second) ue (AddsLines before.text after.text) → after.most ≡ before.most → after ≡ before
-ue_unsaid second state ue before after step most = unsaid before after step.output step.step.quiet step.tells most
+pub ue_unsaid : {U : Type 0} (shows : U → Line → U → Type 0) (second : Planned) (state : UeState) (ue : Ue) (before after : U) → UeStepped second state (UeChange second) ue (Tells shows before after) → after ≡ before
+ue_unsaid shows second state ue before after step = unsaid shows before after step.output step.step.quiet step.tells
 
 -- and the nodes stand for the states behind
-pub nodes_change : (began before second : Planned) (first : ℕ) (link : LinkState) (nodes : Nodes) (rnc : Rnc) (node_b : NodeB) (ue : Ue) (old mid late new : List ℕ) → Represents began before first link nodes
-    → RncStepped second link.rnc.state (RncChange second) rnc (AddsLines old mid) → NodeBStepped second link.node_b.state (NodeBChange second) node_b (AddsLines mid late) → UeStepped second link.ue.state (UeChange second) ue (AddsLines late new)
+pub nodes_change : (began before second : Planned) (first : ℕ) (link : LinkState) (nodes : Nodes) (rnc : Rnc) (node_b : NodeB) (ue : Ue) (Front Mid Back : List Line → Type 0) → Represents began before first link nodes
+    → RncStepped second link.rnc.state (RncChange second) rnc Front → NodeBStepped second link.node_b.state (NodeBChange second) node_b Mid → UeStepped second link.ue.state (UeChange second) ue Back
     → ChangesTo began second first link (record nodes { rnc = rnc; node_b = node_b; ue = ue })
-nodes_change began before second first link nodes rnc node_b ue old mid late new was rnc_step node_b_step ue_step =
+nodes_change began before second first link nodes rnc node_b ue Front Mid Back was rnc_step node_b_step ue_step =
     let rnc_now : Course RncState RncEvent = course_after link.rnc (RncChange second) rnc_step.next rnc_step.output in
     let node_b_now : Course NodeBState NodeBEvent = course_after link.node_b (NodeBChange second) node_b_step.next node_b_step.output in
     let ue_now : Course UeState UeEvent = course_after link.ue (UeChange second) ue_step.next ue_step.output in
@@ -57,9 +55,9 @@ nodes_change began before second first link nodes rnc node_b ue old mid late new
         ue_changes = record { ue = ue_now; goes = record { state = ue_step.next; output = ue_step.output; step = ue_step.step; is = refl }; is = refl };
       };
       stands = record {
-        ue = course_changes UeSteps (UeStands before) (UeStands second) UeShows (opened_ue began first) link.ue (UeChange second) nodes.ue ue (AddsLines late new) was.ue ue_step;
-        node_b = course_changes NodeBSteps (NodeBStands before) (NodeBStands second) NodeBShows (opened_node_b began first) link.node_b (NodeBChange second) nodes.node_b node_b (AddsLines mid late) was.node_b node_b_step;
-        rnc = course_changes RncSteps (RncStands before) (RncStands second) RncShows (opened_rnc began first) link.rnc (RncChange second) nodes.rnc rnc (AddsLines old mid) was.rnc rnc_step;
+        ue = course_changes UeSteps (UeStands before) (UeStands second) UeShows (opened_ue began first) link.ue (UeChange second) nodes.ue ue Back was.ue ue_step;
+        node_b = course_changes NodeBSteps (NodeBStands before) (NodeBStands second) NodeBShows (opened_node_b began first) link.node_b (NodeBChange second) nodes.node_b node_b Mid was.node_b node_b_step;
+        rnc = course_changes RncSteps (RncStands before) (RncStands second) RncShows (opened_rnc began first) link.rnc (RncChange second) nodes.rnc rnc Front was.rnc rnc_step;
         ue_sends = says_fits second Up Up ue_step.output [] ue_step.step.quiet;
         node_b_sends = says_fits second Down Up node_b_step.output [] node_b_step.step.quiet;
         rnc_sends = says_fits second Down Down rnc_step.output [] rnc_step.step.quiet;

@@ -1,11 +1,11 @@
 -- What is compared of the nodes is what they stand for.
-use Rattle.std.proofs.Common.{◌≡◌, ◌<◌, ◌∙◌, ℕ, length, refl, ap, sym, subst}
+use Rattle.std.proofs.Common.{◌≡◌, ◌<◌, ◌∙◌, ℕ, length, refl, ap, sym, subst, List}
 use Rattle.dch_types.specs.declared.channel.Dir.{Dir}
 use Rattle.dch_types.specs.declared.channel.Dir.TheVariants.{Up, Down}
 use Rattle.dch_types.specs.Parts.{side_of}
 use Rattle.dch_accept.specs.HeldSets.{held_at}
 use Rattle.dch_accept.specs.Plans.{Planned}
-use Rattle.dch_script.specs.Held.{Held as Text}
+use Rattle.dch_node.specs.Lines.{Line}
 use Rattle.dch_layer2.specs.Layers.{Layer}
 use Rattle.dch_layer2.specs.Opening.{blocks_in}
 use Rattle.dch_layer2.specs.Reading.{Bad, Nothing, Read, Reading}
@@ -35,22 +35,22 @@ rnc_good (Bad frame) = refl
 given_is : (planned : Planned) (out : Dir) (layer : Layer) (running : LayerRunning) (i : ℕ) → running.out ≡ out → LayerStands planned.config layer running → i < length (side_of planned.config out).channels → blocks_in (held_at running.given i) ≡ (layer.given i).blocks
 given_is planned out layer running i sends is inside = (is.given i (subst (λ (d : Dir). i < length (side_of planned.config d).channels) (sym sends) inside)).blocks
 
-pub compared_down : (began planned : Planned) (first : ℕ) (link : LinkState) (nodes : Nodes) (before after : Text) → AreNodesOf planned nodes → Represents began planned first link nodes
-    → ComparesAll Down (λ i. good_of (ue_taken nodes.ue i)) (λ i. blocks_in (held_at nodes.rnc.layer.given i)) (length planned.config.downlink.side.channels) before after
-    → ComparesAll Down (λ i. good_in (link.ue.state.readings i)) (λ i. (link.rnc.state.layer.given i).blocks) (length planned.config.downlink.side.channels) before after
-compared_down began planned first link nodes before after opened is all = record {
+pub compared_down : (began planned : Planned) (first : ℕ) (link : LinkState) (nodes : Nodes) (Says : List Line → Type 0) → AreNodesOf planned nodes → Represents began planned first link nodes
+    → ComparesAll Down (λ i. good_of (ue_taken nodes.ue i)) (λ i. blocks_in (held_at nodes.rnc.layer.given i)) (length planned.config.downlink.side.channels) Says
+    → ComparesAll Down (λ i. good_in (link.ue.state.readings i)) (λ i. (link.rnc.state.layer.given i).blocks) (length planned.config.downlink.side.channels) Says
+compared_down began planned first link nodes Says opened is all = record {
   lines = all.lines;
   checked = checked-same Down (λ i. good_of (ue_taken nodes.ue i)) (λ i. blocks_in (held_at nodes.rnc.layer.given i)) (λ i. good_in (link.ue.state.readings i)) (λ i. (link.rnc.state.layer.given i).blocks) (length planned.config.downlink.side.channels) all.lines
       (λ i inside. ap good_of (is.ue.stands.readings i inside) ∙ ue_good (link.ue.state.readings i)) (λ i inside. given_is planned Down link.rnc.state.layer nodes.rnc.layer i opened.rnc.sends is.rnc.stands.at.layer inside) all.checked;
-  reported = all.reported;
+  tells = all.tells;
 }
 
-pub compared_up : (began planned : Planned) (first : ℕ) (link : LinkState) (nodes : Nodes) (before after : Text) → AreNodesOf planned nodes → Represents began planned first link nodes
-    → ComparesAll Up (λ i. good_of (rnc_taken nodes.rnc i)) (λ i. blocks_in (held_at nodes.ue.layer.given i)) (length planned.config.uplink.side.channels) before after
-    → ComparesAll Up (λ i. good_in (link.rnc.state.readings i)) (λ i. (link.ue.state.layer.given i).blocks) (length planned.config.uplink.side.channels) before after
-compared_up began planned first link nodes before after opened is all = record {
+pub compared_up : (began planned : Planned) (first : ℕ) (link : LinkState) (nodes : Nodes) (Says : List Line → Type 0) → AreNodesOf planned nodes → Represents began planned first link nodes
+    → ComparesAll Up (λ i. good_of (rnc_taken nodes.rnc i)) (λ i. blocks_in (held_at nodes.ue.layer.given i)) (length planned.config.uplink.side.channels) Says
+    → ComparesAll Up (λ i. good_in (link.rnc.state.readings i)) (λ i. (link.ue.state.layer.given i).blocks) (length planned.config.uplink.side.channels) Says
+compared_up began planned first link nodes Says opened is all = record {
   lines = all.lines;
   checked = checked-same Up (λ i. good_of (rnc_taken nodes.rnc i)) (λ i. blocks_in (held_at nodes.ue.layer.given i)) (λ i. good_in (link.rnc.state.readings i)) (λ i. (link.ue.state.layer.given i).blocks) (length planned.config.uplink.side.channels) all.lines
       (λ i inside. ap good_of (is.rnc.stands.readings i inside) ∙ rnc_good (link.rnc.state.readings i)) (λ i inside. given_is planned Up link.ue.state.layer nodes.ue.layer i opened.ue.sends is.ue.stands.at.layer inside) all.checked;
-  reported = all.reported;
+  tells = all.tells;
 }

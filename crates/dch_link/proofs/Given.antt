@@ -2,15 +2,19 @@
 use Rattle.std.proofs.Common.{◌≡◌, ◌≢◌, ◌<◌, ◌≤◌, ◌+◌, ◌∙◌, ◌&&◌, ◌==◌, ℕ, List, [], ◌∷◌, Option, Some, None, length, if◌then◌else◌, arith, refl, ap, sym, subst, inl, inr}
 use Rattle.std.proofs.lemmas.Bool.Decides.{eqb_tells}
 use Rattle.std.proofs.Math.Path.{fun_ext}
+use Rattle.dch_types.specs.declared.channel.Dir.{Dir}
 use Rattle.dch_types.specs.declared.channel.Dir.TheVariants.{Up}
 use Rattle.dch_types.specs.declared.config.Config.{Config}
 use Rattle.dch_types.specs.Limits.{IsSide}
 use Rattle.dch_accept.specs.Plans.{Planned}
-use Rattle.dch_script.specs.Held.{Held as Text}
 use Rattle.dch_node.specs.Lines.{Iub, IubBad, Line}
-use Rattle.dch_steptext.specs.Reports.{added}
+use Rattle.dch_node.specs.Standing.{Tells}
 use Rattle.dch_txframes.proofs.Lengths.{read_octets-le}
 use Rattle.dch_combine.specs.declared.error.CombineError.{CombineError}
+use Rattle.dch_combine.specs.declared.error.CombineError.TheVariants.{Cfn, Frame}
+use Rattle.dch_node.proofs.IubFrames.{refusal_small}
+use Rattle.dch_script.specs.LineText.{text_of}
+use Rattle.dch_steptext.proofs.Texts.{short_line}
 use Rattle.dch_combine.specs.Combined.{IsCombinedFrame}
 use Rattle.dch_combine.specs.Legs.{LegFrame}
 use Rattle.dch_combine.specs.Opened.{HoldsLongest, IsCombinerOf}
@@ -21,8 +25,6 @@ use Rattle.dch_iub.specs.Longest.{IsLongest}
 use Rattle.dch_rnc.specs.Standing.{Stepped as RncStepped}
 use Rattle.dch_rnc.specs.State.{IubFrame}
 use Rattle.dch_rnc.specs.Values.{Node as Rnc}
-use Rattle.dch_script.specs.Adding.{AddsLines}
-use Rattle.dch_link.proofs.Reporting.{added-added, added-none}
 use Rattle.dch_link.specs.Errors.{error_number}
 use Rattle.dch_link.specs.Soft.{SoftState, given, with_frame}
 use Rattle.dch_link.specs.SoftStages.{GivesFrame, IsRefused, IsTaken}
@@ -84,10 +86,10 @@ parts_with_combiner planned parts combiner room are is legs same = record {
 }
 
 -- the frame of a leg is taken
-pub took_frame : (planned : Planned) (first : ℕ) (soft : SoftState) (parts : Parts) (cfn set leg : ℕ) (octets : List ℕ) (combiner : Combiner) (report : Text) → Represents planned first soft parts
+pub took_frame : (planned : Planned) (first : ℕ) (soft : SoftState) (parts : Parts) (cfn set leg : ℕ) (octets : List ℕ) (combiner : Combiner) (Says : List Line → Type 0) → Says [] → Represents planned first soft parts
     → TakesLeg planned.config set leg cfn octets (frames_of parts.combiner set) (frames_of combiner set) → ((s k : ℕ) → s ≢ set → frames_of combiner s k ≡ frames_of parts.combiner s k)
-    → LeadsTo planned first (λ next lines. IsTaken cfn set leg octets soft next lines) (record parts { combiner = combiner }) report report
-took_frame planned first soft parts cfn set leg octets combiner report was takes others =
+    → LeadsTo planned first (λ next lines. IsTaken cfn set leg octets soft next lines) (record parts { combiner = combiner }) Says
+took_frame planned first soft parts cfn set leg octets combiner Says none was takes others =
     let frame = takes.taken.frame in
     let had : (s k : ℕ) → frames_of parts.combiner s k ≡ soft.frames s k = λ s k. ap (λ (f : ℕ → ℕ → Option LegFrame). f s k) (sym was.frames) in
     record {
@@ -96,20 +98,20 @@ took_frame planned first soft parts cfn set leg octets combiner report was takes
       does = record { frame = frame; read = subst (λ (p : Planned). IsReadForm p.config Up set octets cfn frame.qe frame.held) (sym was.rnc.stands.at.active) takes.taken.read; is = refl; quiet = refl };
       stands = with_frames planned first soft parts (with_frame soft set leg frame).frames combiner parts.room was
           (taken_same soft.frames (frames_of combiner) set leg frame takes.taken.is (λ k other. takes.others k other ∙ had set k) (λ s k apart. others s k apart ∙ had s k));
-      reported = added-none report;
+      tells = none;
     }
 
 -- it is refused, which is reported
-pub refused_frame : (planned : Planned) (first : ℕ) (soft : SoftState) (parts : Parts) (cfn set : ℕ) (octets : List ℕ) (error : CombineError) (combiner : Combiner) (before after : Text) → Represents planned first soft parts
+pub refused_frame : (planned : Planned) (first : ℕ) (soft : SoftState) (parts : Parts) (cfn set : ℕ) (octets : List ℕ) (error : CombineError) (combiner : Combiner) (Says : List Line → Type 0) → Represents planned first soft parts
     → IsRefusal planned.config set cfn octets error → ((k : ℕ) → frames_of combiner set k ≡ frames_of parts.combiner set k) → ((s k : ℕ) → s ≢ set → frames_of combiner s k ≡ frames_of parts.combiner s k)
-    → after ≡ added before (IubBad Up set (error_number error) ∷ []) → LeadsTo planned first (λ next lines. IsRefused cfn set octets soft next lines) (record parts { combiner = combiner }) before after
-refused_frame planned first soft parts cfn set octets error combiner before after was cause own others reported =
+    → Says (IubBad Up set (error_number error) ∷ []) → LeadsTo planned first (λ next lines. IsRefused cfn set octets soft next lines) (record parts { combiner = combiner }) Says
+refused_frame planned first soft parts cfn set octets error combiner Says was cause own others told =
     record {
       next = soft;
       lines = IubBad Up set (error_number error) ∷ [];
       does = record { error = error; cause = subst (λ (p : Planned). IsRefusal p.config set cfn octets error) (sym was.rnc.stands.at.active) cause; same = refl; reported = refl };
       stands = with_frames planned first soft parts soft.frames combiner parts.room was (was.frames ∙ still_same (frames_of parts.combiner) (frames_of combiner) set own others);
-      reported = reported;
+      tells = told;
     }
 
 -- the frames of a set were given, or there was none
@@ -125,13 +127,13 @@ gave_none planned first soft parts set combiner room was had none others =
     with_frames planned first soft parts soft.frames combiner room was (was.frames ∙ still_same (frames_of parts.combiner) (frames_of combiner) set (λ k. none k ∙ sym (had k)) others)
 
 -- the frames of a set are combined to one, which is reported, and which the network controller takes
-pub gives_frame : (planned : Planned) (first : ℕ) (soft : SoftState) (parts : Parts) (cfn set : ℕ) (octets : List ℕ) (combiner : Combiner) (room : ℕ) (rnc : Rnc) (before mid after : Text) → Represents planned first soft parts
+pub gives_frame : {U : Type 0} (shows : U → Line → U → Type 0) (planned : Planned) (first : ℕ) (soft : SoftState) (parts : Parts) (cfn set : ℕ) (octets : List ℕ) (combiner : Combiner) (room : ℕ) (rnc : Rnc) (before mid after : U) → Represents planned first soft parts
     → IsCombinedFrame planned.config set (frames_of parts.combiner set) cfn octets → ((k : ℕ) → frames_of combiner set k ≡ None) → ((s k : ℕ) → s ≢ set → frames_of combiner s k ≡ frames_of parts.combiner s k)
-    → mid ≡ added before (Iub Up set octets ∷ []) → RncStepped planned soft.rnc.state (IubFrame set octets) rnc (AddsLines mid.text after.text) → after.most ≡ mid.most
-    → LeadsTo planned first (GivesFrame cfn set soft) (record parts { rnc = rnc; combiner = combiner; room = room }) before after
-gives_frame planned first soft parts cfn set octets combiner room rnc before mid after was combined none others put step most =
+    → shows before (Iub Up set octets) mid → RncStepped planned soft.rnc.state (IubFrame set octets) rnc (Tells shows mid after)
+    → LeadsTo planned first (GivesFrame cfn set soft) (record parts { rnc = rnc; combiner = combiner; room = room }) (Tells shows before after)
+gives_frame shows planned first soft parts cfn set octets combiner room rnc before mid after was combined none others told step =
     let stood : Represents planned first (given soft set) (record parts { combiner = combiner; room = room }) = gave_frames planned first soft parts set combiner room was none others in
-    let led = rnc_next planned first (given soft set) (record parts { combiner = combiner; room = room }) (IubFrame set octets) rnc mid after stood step most in
+    let led = rnc_next planned first (given soft set) (record parts { combiner = combiner; room = room }) (IubFrame set octets) rnc (Tells shows mid after) stood step in
     record {
       next = led.next;
       lines = Iub Up set octets ∷ led.lines;
@@ -143,18 +145,18 @@ gives_frame planned first soft parts cfn set octets combiner room rnc before mid
         all = ap (λ (l : List Line). Iub Up set octets ∷ l) led.does.1;
       });
       stands = led.stands;
-      reported = led.reported ∙ ap (λ (t : Text). added t led.lines) put ∙ added-added before (Iub Up set octets ∷ []) led.lines;
+      tells = (mid, (told, led.tells));
     }
 
 -- there is none
-pub gives_none : (planned : Planned) (first : ℕ) (soft : SoftState) (parts : Parts) (cfn set : ℕ) (combiner : Combiner) (room : ℕ) (report : Text) → Represents planned first soft parts → ((k : ℕ) → frames_of parts.combiner set k ≡ None)
-    → ((k : ℕ) → frames_of combiner set k ≡ None) → ((s k : ℕ) → s ≢ set → frames_of combiner s k ≡ frames_of parts.combiner s k) → LeadsTo planned first (GivesFrame cfn set soft) (record parts { combiner = combiner; room = room }) report report
-gives_none planned first soft parts cfn set combiner room report was had none others = record {
+pub gives_none : (planned : Planned) (first : ℕ) (soft : SoftState) (parts : Parts) (cfn set : ℕ) (combiner : Combiner) (room : ℕ) (Says : List Line → Type 0) → Says [] → Represents planned first soft parts → ((k : ℕ) → frames_of parts.combiner set k ≡ None)
+    → ((k : ℕ) → frames_of combiner set k ≡ None) → ((s k : ℕ) → s ≢ set → frames_of combiner s k ≡ frames_of parts.combiner s k) → LeadsTo planned first (GivesFrame cfn set soft) (record parts { combiner = combiner; room = room }) Says
+gives_none planned first soft parts cfn set combiner room Says untold was had none others = record {
   next = soft;
   lines = [];
   does = inl (record { none = λ k. ap (λ (f : ℕ → ℕ → Option LegFrame). f set k) was.frames ∙ had k; stays = (refl, refl) });
   stands = gave_none planned first soft parts set combiner room was had none others;
-  reported = added-none report;
+  tells = untold;
 }
 
 -- a combined frame is no longer than one that is reported
@@ -172,3 +174,11 @@ holds_next config sets octets own most holds is more fits = λ s early. elim (eq
   | inl same ↦ subst (λ n. HoldsLongest config n most) (sym same.1) (record { longest = own; is = is; fits = fits })
   | inr other ↦ holds_more config s octets most (holds s (omega (arith, early, other.1))) more
 ]
+
+-- the line that refuses the frame of a leg is short
+error_small : (error : CombineError) → error_number error < 1000
+error_small (Frame error) = refusal_small error
+error_small (Cfn cfn) = omega arith
+
+pub refusal_line : (dir : Dir) (set : ℕ) (error : CombineError) → set < 1000 → length (text_of (IubBad dir set (error_number error) ∷ [])) ≤ 40
+refusal_line dir set error small = short_line (IubBad dir set (error_number error)) (small, error_small error)

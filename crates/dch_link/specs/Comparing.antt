@@ -4,9 +4,7 @@ use Rattle.std.specs.List.{range_with_len}
 use Rattle.dch_bits.specs.declared.bit.Bit.{Bit}
 use Rattle.dch_types.specs.declared.channel.Dir.{Dir}
 use Rattle.dch_accept.specs.Blocks.{Held, block_at}
-use Rattle.dch_script.specs.Held.{Held as Text}
 use Rattle.dch_node.specs.Lines.{Line}
-use Rattle.dch_steptext.specs.Reports.{added}
 use Rattle.dch_link.specs.Checks.{AreChecked, IsChecked, good_blocks}
 
 -- the good blocks of a channel that may have been read
@@ -29,14 +27,14 @@ pub record IsNextGood (held : Held) (i next : ℕ) : Type 0 where
 abbrev pub FindsNext : Held → ℕ → List Bit → ℕ → Type 0
 FindsNext held i block next = ((i < length held.good) × (block_at held i ≡ block) × IsNextGood held (i + 1) next) ⊎ ((i < length held.good → ¬ (block_at held i ≡ block)) × (next ≡ i))
 
--- a channel is compared, and the line on it is reported
-pub record Compares (dir : Dir) (channel : ℕ) (taken given : List (List Bit)) (before after : Text) : Type 0 where
+-- a channel is compared, and whoever is told is told of the line on it
+pub record Compares (dir : Dir) (channel : ℕ) (taken given : List (List Bit)) (Says : List Line → Type 0) : Type 0 where
   pub lines : List Line
   pub checked : IsChecked dir channel taken given lines
-  pub reported : after ≡ added before lines
+  pub tells : Says lines
 
 -- and so are the first channels
-pub record ComparesAll (dir : Dir) (taken given : ℕ → List (List Bit)) (channels : ℕ) (before after : Text) : Type 0 where
+pub record ComparesAll (dir : Dir) (taken given : ℕ → List (List Bit)) (channels : ℕ) (Says : List Line → Type 0) : Type 0 where
   pub lines : List Line
   pub checked : AreChecked dir taken given channels lines
-  pub reported : after ≡ added before lines
+  pub tells : Says lines

@@ -4,9 +4,7 @@ use Rattle.dch_types.specs.declared.channel.Dir.TheVariants.{Up, Down}
 use Rattle.dch_types.specs.Parts.{side_of}
 use Rattle.dch_types.specs.Timing.{has_set}
 use Rattle.dch_accept.specs.Plans.{Planned}
-use Rattle.dch_script.specs.Held.{Held as Text}
 use Rattle.dch_node.specs.Lines.{Line}
-use Rattle.dch_steptext.specs.Reports.{added}
 use Rattle.dch_combine.specs.Opened.{HoldsLongest, IsCombinerOf}
 use Rattle.dch_combine.specs.Values.{frames_of}
 use Rattle.dch_damage.specs.Damage.{Damage, Flip, Lose, LoseIub, Spoil}
@@ -119,21 +117,21 @@ pub record IsStandingLeg (planned : Planned) (leg : LegParts) : Type 0 where
   pub state : LegState
   pub stands : RepresentsLeg planned first state leg
 
--- something happened, with the lines by whose text a report went on
-pub record LeadsTo (planned : Planned) (first : ℕ) (Does : SoftState → List Line → Type 0) (parts : Parts) (before after : Text) : Type 0 where
+-- something happened, and whoever is told is told of its lines
+pub record LeadsTo (planned : Planned) (first : ℕ) (Does : SoftState → List Line → Type 0) (parts : Parts) (Says : List Line → Type 0) : Type 0 where
   pub next : SoftState
   pub lines : List Line
   pub does : Does next lines
   pub stands : Represents planned first next parts
-  pub reported : after ≡ added before lines
+  pub tells : Says lines
 
 -- and at a leg
-pub record LegLeadsTo (planned : Planned) (first : ℕ) (Does : LegState → List Line → Type 0) (leg : LegParts) (before after : Text) : Type 0 where
+pub record LegLeadsTo (planned : Planned) (first : ℕ) (Does : LegState → List Line → Type 0) (leg : LegParts) (Says : List Line → Type 0) : Type 0 where
   pub next : LegState
   pub lines : List Line
   pub does : Does next lines
   pub stands : RepresentsLeg planned first next leg
-  pub reported : after ≡ added before lines
+  pub tells : Says lines
 
 -- legs that were just opened
 pub record AreNewLegs (planned : Planned) (first count : ℕ) (legs : List LegParts) : Type 0 where

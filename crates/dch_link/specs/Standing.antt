@@ -5,9 +5,7 @@ use Rattle.dch_types.specs.declared.channel.Dir.TheVariants.{Up, Down}
 use Rattle.dch_types.specs.Parts.{side_of}
 use Rattle.dch_types.specs.Timing.{has_set}
 use Rattle.dch_accept.specs.Plans.{Planned}
-use Rattle.dch_script.specs.Held.{Held as Text}
 use Rattle.dch_node.specs.Lines.{Line}
-use Rattle.dch_steptext.specs.Reports.{added}
 use Rattle.dch_damage.specs.Damage.{Flip, Lose, LoseIub, Spoil}
 use Rattle.dch_damage.specs.Opened.{IsDamageOf}
 use Rattle.dch_damage.specs.Waiting.{Waits}
@@ -98,13 +96,13 @@ pub record CanChange (second : Planned) (nodes : Nodes) : Type 0 where
   pub next : HasNext before second nodes
   pub whole : nodes.ue.cfn % 8 ≡ 0
 
--- something happened, with the lines by whose text a report went on
-pub record LeadsTo (began planned : Planned) (first : ℕ) (Does : LinkState → List Line → Type 0) (nodes : Nodes) (before after : Text) : Type 0 where
+-- something happened, and whoever is told is told of its lines
+pub record LeadsTo (began planned : Planned) (first : ℕ) (Does : LinkState → List Line → Type 0) (nodes : Nodes) (Says : List Line → Type 0) : Type 0 where
   pub next : LinkState
   pub lines : List Line
   pub does : Does next lines
   pub stands : Represents began planned first next nodes
-  pub reported : after ≡ added before lines
+  pub tells : Says lines
 
 -- a second configuration became active
 pub record ChangesTo (began second : Planned) (first : ℕ) (link : LinkState) (nodes : Nodes) : Type 0 where

@@ -1,46 +1,34 @@
-ghost use Rattle.std.specs.Prelude.{◌≡◌, ◌<◌, ◌≤◌, ◌+◌, ◌*◌, ◌↔◌, IsTrue, [], ◌∷◌, length};
-ghost use Rattle.dch_node.specs.Lines.{Differs};
-ghost use Rattle.dch_script.specs.LineText.{text_of};
+ghost use Rattle.std.specs.Prelude.{◌≤◌, ◌≡◌, ◌↔◌, IsTrue, length};
+ghost use Rattle.dch_node.specs.Standing.{Tells};
 ghost use Rattle.dch_layer2.specs.Opening.{blocks_in};
-ghost use Rattle.dch_steptext.specs.Reports.{HasRoomFor, added};
+ghost use Rattle.dch_steptext.specs.Reports.{TellsFew};
 ghost use Rattle.dch_link.specs.Checks.{IsSublist, good_blocks, good_from};
 ghost use Rattle.dch_link.specs.Comparing.{Compares, FindsNext, IsNextGood, blocks_from, good_of};
 ghost use Rattle.dch_ue.specs.Lending.{held_of};
 
 use dch_accept::TtiBlocks;
 use dch_bits::Bit;
-use dch_script::{Line, Report};
+use dch_indication::{Indication, Indications};
 use dch_types::Dir;
 
-/// Reports a channel of a direction whose good blocks, as they were taken in a TTI, are not some of those that it was given, in order.
+/// Tells a channel of a direction whose good blocks, as they were taken in a TTI, are not some of those that it was given, in order.
 /// Blocks without bits don't count.
-pub fn compare(
-    report: &mut Report,
+pub fn compare<U: Indications>(
+    user: &mut U,
     dir: Dir,
     channel: u8,
     taken: Option<&TtiBlocks>,
     given: &TtiBlocks,
 )
-    requires { HasRoomFor report.old 300 }
-    ensures compared { Compares dir channel (good_of (held_of taken.entry)) (blocks_in given.now) report.old report.new }
-    ensures few { length report.new.text ≤ length report.old.text + 300 }
-    ensures most { report.new.most ≡ report.old.most }
+    ensures compared { Compares dir channel (good_of (held_of taken.entry)) (blocks_in given.now) (Tells U.shows user.old user.new) }
+    ensures few { TellsFew U.shows 301 user.old user.new }
 {
     let Some(taken) = taken else {
         return;
     };
     if !is_sublist(taken, given) {
-        put_differs(report, dir, channel);
+        user.indicate(Indication::Differs { dir, channel });
     }
-}
-
-/// Reports that the blocks of a channel differ.
-fn put_differs(report: &mut Report, dir: Dir, channel: u8)
-    requires { HasRoomFor report.old 300 }
-    ensures reported { report.new ≡ added report.old (Differs dir channel ∷ []) }
-    ensures few { length (text_of (Differs dir channel ∷ [])) ≤ 300 }
-{
-    report.put(&Line::Differs { dir, channel });
 }
 
 /// Whether the good blocks of a TTI are some of those that were given, in order.

@@ -1,12 +1,12 @@
 ghost use Rattle.std.specs.Prelude.{◌≡◌, ◌<◌, ◌≤◌, ◌+◌, ◌%◌, ℕ, Option, List, length, IfOk};
 ghost use Rattle.dch_types.specs.declared.channel.Dir.TheVariants.{Down, Up};
 ghost use Rattle.dch_accept.specs.Plans.{Planned};
-ghost use Rattle.dch_accept.specs.Reports.{step_bytes};
 ghost use Rattle.dch_damage.specs.Opened.{HasIubRoom, HasRadioRoom};
 ghost use Rattle.dch_damage.specs.Tables.{iub_arrived, radio_arrived};
 ghost use Rattle.dch_nodeb.specs.Values.{iub_shown, radio_shown};
 ghost use Rattle.dch_txframes.specs.Lending.{octets_of, radio_of};
-ghost use Rattle.dch_steptext.specs.Reports.{HasRoomFor};
+ghost use Rattle.dch_node.specs.Standing.{Tells};
+ghost use Rattle.dch_steptext.specs.Reports.{TellsFew};
 ghost use Rattle.dch_link.specs.Fitting.{MayFitIub, MayFitRadio};
 ghost use Rattle.dch_link.specs.SoftEvents.{damaged};
 ghost use Rattle.dch_link.specs.Legs.{LegState, ReceivesIub, ReceivesRadio, Transmits, iub_from, opened_leg, radio_from, undamaged};
@@ -16,8 +16,8 @@ use crate::soft_event::LegDamage;
 use dch_accept::{Accepted, FrameView};
 use dch_bits::NoMemory;
 use dch_damage::Damage;
+use dch_indication::Indications;
 use dch_nodeb::{NodeB, NodeBEvent};
-use dch_script::Report;
 use dch_types::Dir;
 use std::alloc::Global;
 use std::marker::Model;
@@ -94,63 +94,57 @@ impl Leg {
     }
 
     /// The downlink Iub frame of a set arrives at the Node B, if one was sent and isn't lost.
-    pub(crate) fn receive_iub(
+    pub(crate) fn receive_iub<U: Indications>(
         &mut self,
         accepted: &Accepted,
         set: u8,
         sent: Option<&[u8]>,
-        report: &mut Report,
+        user: &mut U,
     )
         requires opened { IsStandingLeg accepted.now self.old }
         requires set { set < 8 }
         requires fits { MayFitIub accepted.now Down set (octets_of sent) }
-        requires room { HasRoomFor report.old (step_bytes accepted.now.config) }
         ensures opened { IsLegOf accepted.now self.new }
         ensures receives { (first : ℕ) (leg : LegState) → RepresentsLeg accepted.now first leg self.old →
-            LegLeadsTo accepted.now first (ReceivesIub set (octets_of sent.entry) leg) self.new report.old report.new }
-        ensures few { length report.new.text ≤ length report.old.text + 4000000 }
-        ensures most { report.new.most ≡ report.old.most }
+            LegLeadsTo accepted.now first (ReceivesIub set (octets_of sent.entry) leg) self.new (Tells U.shows user.old user.new) }
+        ensures few { TellsFew U.shows 4000000 user.old user.new }
     {
         self.damage.hit_iub(Dir::Down, set, sent);
         if let Some(frame) = self.damage.iub() {
             self.node_b
-                .step(accepted, NodeBEvent::Iub { set, frame }, report);
+                .step_with(accepted, NodeBEvent::Iub { set, frame }, user);
         }
     }
 
     /// The Node B sends its downlink radio frame.
-    pub(crate) fn transmit(&mut self, accepted: &Accepted, report: &mut Report)
+    pub(crate) fn transmit<U: Indications>(&mut self, accepted: &Accepted, user: &mut U)
         requires opened { IsStandingLeg accepted.now self.old }
-        requires room { HasRoomFor report.old (step_bytes accepted.now.config) }
         ensures opened { IsLegOf accepted.now self.new }
         ensures transmits { (first : ℕ) (leg : LegState) → RepresentsLeg accepted.now first leg self.old →
-            LegLeadsTo accepted.now first (Transmits leg) self.new report.old report.new }
-        ensures few { length report.new.text ≤ length report.old.text + 4000000 }
-        ensures most { report.new.most ≡ report.old.most }
+            LegLeadsTo accepted.now first (Transmits leg) self.new (Tells U.shows user.old user.new) }
+        ensures few { TellsFew U.shows 4000000 user.old user.new }
     {
-        self.node_b.step(accepted, NodeBEvent::Down, report);
+        self.node_b.step_with(accepted, NodeBEvent::Down, user);
     }
 
     /// The uplink radio frame arrives at the Node B, if one was sent and isn't lost.
-    pub(crate) fn receive_radio(
+    pub(crate) fn receive_radio<U: Indications>(
         &mut self,
         accepted: &Accepted,
         sent: Option<FrameView<'_>>,
-        report: &mut Report,
+        user: &mut U,
     )
         requires opened { IsStandingLeg accepted.now self.old }
         requires fits { MayFitRadio accepted.now Up (radio_of sent) }
-        requires room { HasRoomFor report.old (step_bytes accepted.now.config) }
         ensures opened { IsLegOf accepted.now self.new }
         ensures receives { (first : ℕ) (leg : LegState) → RepresentsLeg accepted.now first leg self.old →
-            LegLeadsTo accepted.now first (ReceivesRadio (radio_of sent.entry) leg) self.new report.old report.new }
-        ensures few { length report.new.text ≤ length report.old.text + 4000000 }
-        ensures most { report.new.most ≡ report.old.most }
+            LegLeadsTo accepted.now first (ReceivesRadio (radio_of sent.entry) leg) self.new (Tells U.shows user.old user.new) }
+        ensures few { TellsFew U.shows 4000000 user.old user.new }
     {
         self.damage.hit_radio(Dir::Up, sent);
         let frame = self.damage.radio();
         self.node_b
-            .step(accepted, NodeBEvent::Phy { frame }, report);
+            .step_with(accepted, NodeBEvent::Phy { frame }, user);
     }
 
     /// Hits the downlink radio frame that the Node B sent last, if it sent one. `radio` then shows what arrives.

@@ -8,7 +8,7 @@ mod hearing;
 mod laws;
 mod leg;
 mod link;
-mod report;
+mod refusal;
 mod soft;
 mod soft_event;
 pub mod soft_stage;

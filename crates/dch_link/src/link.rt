@@ -5,7 +5,8 @@ ghost use Rattle.dch_accept.specs.HeldSets.{held_at};
 ghost use Rattle.dch_accept.specs.Plans.{Planned};
 ghost use Rattle.dch_accept.specs.Reports.{step_bytes};
 ghost use Rattle.dch_layer2.specs.Opening.{blocks_in};
-ghost use Rattle.dch_steptext.specs.Reports.{HasRoomFor};
+ghost use Rattle.dch_node.specs.Standing.{Tells};
+ghost use Rattle.dch_steptext.specs.Reports.{TellsFew};
 ghost use Rattle.dch_damage.specs.Damage.{radio_after};
 ghost use Rattle.dch_ue.specs.State.{DownlinkFrame};
 ghost use Rattle.dch_ue.specs.Values.{taken_shown as ue_taken};
@@ -24,9 +25,9 @@ use crate::stage::Stage;
 use dch_accept::Accepted;
 use dch_bits::NoMemory;
 use dch_damage::Damage;
+use dch_indication::Indications;
 use dch_nodeb::{NodeB, NodeBEvent};
 use dch_rnc::{Rnc, RncEvent};
-use dch_script::Report;
 use dch_types::Dir;
 use dch_ue::{Ue, UeEvent};
 use std::alloc::Global;
@@ -115,34 +116,35 @@ impl Link {
         (ue, node_b, rnc)
     }
 
-    /// Takes what a script does between two radio frames, and reports what the node says that takes it.
-    pub fn happen(&mut self, accepted: &Accepted, event: LinkEvent<'_>, report: &mut Report)
+    /// Takes what a script does between two radio frames, and tells what the node says that takes it.
+    pub fn happen<U: Indications>(
+        &mut self,
+        accepted: &Accepted,
+        event: LinkEvent<'_>,
+        user: &mut U,
+    )
         requires opened { IsLinkOf accepted.now self.old }
         requires event { MayCome accepted.now event }
-        requires room { HasRoomFor report.old (step_bytes accepted.now.config) }
         ensures opened { IsLinkOf accepted.now self.new }
-        ensures happens { (began : Planned) (first : ℕ) (link : LinkState) → Represents began accepted.now first link self.old → LeadsTo began accepted.now first (Happens link (event_of event.entry)) self.new report.old report.new }
+        ensures happens { (began : Planned) (first : ℕ) (link : LinkState) → Represents began accepted.now first link self.old → LeadsTo began accepted.now first (Happens link (event_of event.entry)) self.new (Tells U.shows user.old user.new) }
         ensures next { (second : Planned) → HasNext accepted.now second self.old → HasNext accepted.now second self.new }
-        ensures few { length report.new.text ≤ length report.old.text + step_bytes accepted.now.config }
-        ensures most { report.new.most ≡ report.old.most }
+        ensures few { TellsFew U.shows (step_bytes accepted.now.config) user.old user.new }
         ensures cfn { self.new.ue.cfn ≡ self.old.ue.cfn }
     {
-        self.take_event(accepted, event, report);
+        self.take_event(accepted, event, user);
     }
 
-    /// Passes a stage of a radio frame, and reports what the nodes say, and where blocks that were taken aren't those that were given.
-    pub fn pass(&mut self, accepted: &Accepted, stage: Stage, report: &mut Report)
+    /// Passes a stage of a radio frame, and tells what the nodes say, and where blocks that were taken aren't those that were given.
+    pub fn pass<U: Indications>(&mut self, accepted: &Accepted, stage: Stage, user: &mut U)
         requires opened { IsLinkOf accepted.now self.old }
         requires stage { IsStage stage }
-        requires room { HasRoomFor report.old (step_bytes accepted.now.config + 2400) }
         ensures opened { IsLinkOf accepted.now self.new }
-        ensures passes { (began : Planned) (first : ℕ) (link : LinkState) → Represents began accepted.now first link self.old → LeadsTo began accepted.now first (AtStage stage link) self.new report.old report.new }
+        ensures passes { (began : Planned) (first : ℕ) (link : LinkState) → Represents began accepted.now first link self.old → LeadsTo began accepted.now first (AtStage stage link) self.new (Tells U.shows user.old user.new) }
         ensures next { (second : Planned) → HasNext accepted.now second self.old → HasNext accepted.now second self.new }
-        ensures few { length report.new.text ≤ length report.old.text + (step_bytes accepted.now.config + 2400) }
-        ensures most { report.new.most ≡ report.old.most }
+        ensures few { TellsFew U.shows (step_bytes accepted.now.config + 2400) user.old user.new }
         ensures cfn { self.new.ue.cfn ≡ cfn_after stage self.old.ue.cfn }
     {
-        self.run_stage(accepted, stage, report);
+        self.run_stage(accepted, stage, user);
     }
 
     /// A radio frame is over: no damage waits any more.
@@ -157,41 +159,42 @@ impl Link {
     }
 
     /// A second configuration becomes active at the network controller, the Node B and the terminal, after the last radio frame of all TTIs.
-    /// Nothing is reported of it, and the damage that waits stays for the next radio frame.
-    pub fn change(&mut self, accepted: &Accepted, report: &mut Report)
+    /// Nothing is told of it, and the damage that waits stays for the next radio frame.
+    pub fn change<U: Indications>(&mut self, accepted: &Accepted, user: &mut U)
         requires opened { CanChange accepted.now self.old }
-        requires room { HasRoomFor report.old (step_bytes accepted.now.config) }
         ensures opened { IsLinkOf accepted.now self.new }
         ensures changes { (began before : Planned) (first : ℕ) (link : LinkState) → Represents began before first link self.old → HasNext before accepted.now self.old → ChangesTo began accepted.now first link self.new }
-        ensures same { report.new ≡ report.old }
+        ensures same { user.new ≡ user.old }
         ensures cfn { self.new.ue.cfn ≡ self.old.ue.cfn }
     {
-        self.change_nodes(accepted, report);
+        self.change_nodes(accepted, user);
     }
 
     /// The second configuration becomes active at each node.
-    fn change_nodes(&mut self, accepted: &Accepted, report: &mut Report)
+    fn change_nodes<U: Indications>(&mut self, accepted: &Accepted, user: &mut U)
         requires opened { CanChange accepted.now self.old }
-        requires room { HasRoomFor report.old (step_bytes accepted.now.config) }
         ensures opened { AreNodesOf accepted.now self.new }
         ensures changes { (began before : Planned) (first : ℕ) (link : LinkState) → Represents began before first link self.old → HasNext before accepted.now self.old → ChangesTo began accepted.now first link self.new }
-        ensures same { report.new ≡ report.old }
+        ensures same { user.new ≡ user.old }
     {
-        self.rnc.step(accepted, RncEvent::Change, report);
-        self.node_b.step(accepted, NodeBEvent::Change, report);
-        self.ue.step(accepted, UeEvent::Change, report);
+        self.rnc.step_with(accepted, RncEvent::Change, user);
+        self.node_b.step_with(accepted, NodeBEvent::Change, user);
+        self.ue.step_with(accepted, UeEvent::Change, user);
     }
 
     /// Takes an event at the node where it happens, or as damage that waits.
-    fn take_event(&mut self, accepted: &Accepted, event: LinkEvent<'_>, report: &mut Report)
+    fn take_event<U: Indications>(
+        &mut self,
+        accepted: &Accepted,
+        event: LinkEvent<'_>,
+        user: &mut U,
+    )
         requires opened { IsLinkOf accepted.now self.old }
         requires event { MayCome accepted.now event }
-        requires room { HasRoomFor report.old (step_bytes accepted.now.config) }
         ensures opened { AreNodesOf accepted.now self.new }
-        ensures happens { (began : Planned) (first : ℕ) (link : LinkState) → Represents began accepted.now first link self.old → LeadsTo began accepted.now first (Happens link (event_of event.entry)) self.new report.old report.new }
+        ensures happens { (began : Planned) (first : ℕ) (link : LinkState) → Represents began accepted.now first link self.old → LeadsTo began accepted.now first (Happens link (event_of event.entry)) self.new (Tells U.shows user.old user.new) }
         ensures next { (second : Planned) → HasNext accepted.now second self.old → HasNext accepted.now second self.new }
-        ensures few { length report.new.text ≤ length report.old.text + step_bytes accepted.now.config }
-        ensures most { report.new.most ≡ report.old.most }
+        ensures few { TellsFew U.shows (step_bytes accepted.now.config) user.old user.new }
     {
         match event {
             LinkEvent::Unit {
@@ -200,23 +203,23 @@ impl Link {
                 octets,
                 bits,
             } => match dir {
-                Dir::Up => self.ue.step(
+                Dir::Up => self.ue.step_with(
                     accepted,
                     UeEvent::Unit {
                         bearer,
                         octets,
                         bits,
                     },
-                    report,
+                    user,
                 ),
-                Dir::Down => self.rnc.step(
+                Dir::Down => self.rnc.step_with(
                     accepted,
                     RncEvent::Unit {
                         bearer,
                         octets,
                         bits,
                     },
-                    report,
+                    user,
                 ),
             },
             LinkEvent::Block {
@@ -226,10 +229,10 @@ impl Link {
             } => match dir {
                 Dir::Up => self
                     .ue
-                    .step(accepted, UeEvent::Block { combination, on }, report),
+                    .step_with(accepted, UeEvent::Block { combination, on }, user),
                 Dir::Down => self
                     .rnc
-                    .step(accepted, RncEvent::Block { combination, on }, report),
+                    .step_with(accepted, RncEvent::Block { combination, on }, user),
             },
             LinkEvent::Flip { dir, tfci, place } => self.damage.flip(dir, tfci, place),
             LinkEvent::Lose { dir } => self.damage.lose(dir),
@@ -252,135 +255,120 @@ impl Link {
     }
 
     /// Does what a stage says, at the nodes where it is done.
-    fn run_stage(&mut self, accepted: &Accepted, stage: Stage, report: &mut Report)
+    fn run_stage<U: Indications>(&mut self, accepted: &Accepted, stage: Stage, user: &mut U)
         requires opened { IsLinkOf accepted.now self.old }
         requires stage { IsStage stage }
-        requires room { HasRoomFor report.old (step_bytes accepted.now.config + 2400) }
         ensures opened { AreNodesOf accepted.now self.new }
-        ensures passes { (began : Planned) (first : ℕ) (link : LinkState) → Represents began accepted.now first link self.old → LeadsTo began accepted.now first (AtStage stage link) self.new report.old report.new }
+        ensures passes { (began : Planned) (first : ℕ) (link : LinkState) → Represents began accepted.now first link self.old → LeadsTo began accepted.now first (AtStage stage link) self.new (Tells U.shows user.old user.new) }
         ensures next { (second : Planned) → HasNext accepted.now second self.old → HasNext accepted.now second self.new }
-        ensures few { length report.new.text ≤ length report.old.text + (step_bytes accepted.now.config + 2400) }
-        ensures most { report.new.most ≡ report.old.most }
+        ensures few { TellsFew U.shows (step_bytes accepted.now.config + 2400) user.old user.new }
     {
         match stage {
-            Stage::RncTick => self.rnc.step(accepted, RncEvent::Tick, report),
-            Stage::IubDown(set) => self.iub_down(accepted, set, report),
-            Stage::RadioDown => self.node_b.step(accepted, NodeBEvent::Down, report),
-            Stage::UeTick => self.tick_ue(accepted, report),
-            Stage::RadioUp => self.radio_up(accepted, report),
-            Stage::IubUp(set) => self.iub_up(accepted, set, report),
+            Stage::RncTick => self.rnc.step_with(accepted, RncEvent::Tick, user),
+            Stage::IubDown(set) => self.iub_down(accepted, set, user),
+            Stage::RadioDown => self.node_b.step_with(accepted, NodeBEvent::Down, user),
+            Stage::UeTick => self.tick_ue(accepted, user),
+            Stage::RadioUp => self.radio_up(accepted, user),
+            Stage::IubUp(set) => self.iub_up(accepted, set, user),
         }
     }
 
     /// The downlink Iub frame of a set arrives at the Node B, if one was sent and isn't lost.
-    fn iub_down(&mut self, accepted: &Accepted, set: u8, report: &mut Report)
+    fn iub_down<U: Indications>(&mut self, accepted: &Accepted, set: u8, user: &mut U)
         requires opened { IsLinkOf accepted.now self.old }
         requires set { set < 8 }
-        requires room { HasRoomFor report.old (step_bytes accepted.now.config) }
         ensures opened { AreNodesOf accepted.now self.new }
-        ensures passes { (began : Planned) (first : ℕ) (link : LinkState) → Represents began accepted.now first link self.old → LeadsTo began accepted.now first (AtStage (Stage.IubDown set) link) self.new report.old report.new }
+        ensures passes { (began : Planned) (first : ℕ) (link : LinkState) → Represents began accepted.now first link self.old → LeadsTo began accepted.now first (AtStage (Stage.IubDown set) link) self.new (Tells U.shows user.old user.new) }
         ensures next { (second : Planned) → HasNext accepted.now second self.old → HasNext accepted.now second self.new }
-        ensures few { length report.new.text ≤ length report.old.text + step_bytes accepted.now.config }
-        ensures most { report.new.most ≡ report.old.most }
+        ensures few { TellsFew U.shows (step_bytes accepted.now.config) user.old user.new }
     {
         self.damage.hit_iub(Dir::Down, set, self.rnc.iub(set));
         if let Some(frame) = self.damage.iub() {
             self.node_b
-                .step(accepted, NodeBEvent::Iub { set, frame }, report);
+                .step_with(accepted, NodeBEvent::Iub { set, frame }, user);
         }
     }
 
     /// The downlink radio frame arrives at the terminal, if one was sent and isn't lost, and 10 ms pass there.
-    fn tick_ue(&mut self, accepted: &Accepted, report: &mut Report)
+    fn tick_ue<U: Indications>(&mut self, accepted: &Accepted, user: &mut U)
         requires opened { IsLinkOf accepted.now self.old }
-        requires room { HasRoomFor report.old (step_bytes accepted.now.config + 2400) }
         ensures opened { AreNodesOf accepted.now self.new }
-        ensures passes { (began : Planned) (first : ℕ) (link : LinkState) → Represents began accepted.now first link self.old → LeadsTo began accepted.now first (AtStage Stage.UeTick link) self.new report.old report.new }
+        ensures passes { (began : Planned) (first : ℕ) (link : LinkState) → Represents began accepted.now first link self.old → LeadsTo began accepted.now first (AtStage Stage.UeTick link) self.new (Tells U.shows user.old user.new) }
         ensures next { (second : Planned) → HasNext accepted.now second self.old → HasNext accepted.now second self.new }
-        ensures few { length report.new.text ≤ length report.old.text + (step_bytes accepted.now.config + 2400) }
-        ensures most { report.new.most ≡ report.old.most }
+        ensures few { TellsFew U.shows (step_bytes accepted.now.config + 2400) user.old user.new }
     {
-        self.radio_down(accepted, report);
-        self.ue.step(accepted, UeEvent::Tick, report);
-        self.compare_down(accepted, report);
+        self.radio_down(accepted, user);
+        self.ue.step_with(accepted, UeEvent::Tick, user);
+        self.compare_down(accepted, user);
     }
 
-    /// The downlink radio frame arrives at the terminal, if one was sent and isn't lost. Nothing is reported of it.
-    fn radio_down(&mut self, accepted: &Accepted, report: &mut Report)
+    /// The downlink radio frame arrives at the terminal, if one was sent and isn't lost. Nothing is told of it.
+    fn radio_down<U: Indications>(&mut self, accepted: &Accepted, user: &mut U)
         requires opened { IsLinkOf accepted.now self.old }
-        requires room { HasRoomFor report.old (step_bytes accepted.now.config) }
         ensures opened { AreNodesOf accepted.now self.new }
         ensures comes { (began : Planned) (first : ℕ) (link : LinkState) → Represents began accepted.now first link self.old → (mid : LinkState) × (UeGoes link (DownlinkFrame (radio_after link.damage Down link.node_b.last.sent)) mid × Represents began accepted.now first mid self.new) }
         ensures next { (second : Planned) → HasNext accepted.now second self.old → HasNext accepted.now second self.new }
-        ensures same { report.new ≡ report.old }
+        ensures same { user.new ≡ user.old }
     {
         self.damage.hit_radio(Dir::Down, self.node_b.sent());
         let frame = self.damage.radio();
-        self.ue.step(accepted, UeEvent::Phy { frame }, report);
+        self.ue.step_with(accepted, UeEvent::Phy { frame }, user);
     }
 
     /// The uplink radio frame arrives at the Node B, if one was sent and isn't lost.
-    fn radio_up(&mut self, accepted: &Accepted, report: &mut Report)
+    fn radio_up<U: Indications>(&mut self, accepted: &Accepted, user: &mut U)
         requires opened { IsLinkOf accepted.now self.old }
-        requires room { HasRoomFor report.old (step_bytes accepted.now.config) }
         ensures opened { AreNodesOf accepted.now self.new }
-        ensures passes { (began : Planned) (first : ℕ) (link : LinkState) → Represents began accepted.now first link self.old → LeadsTo began accepted.now first (AtStage Stage.RadioUp link) self.new report.old report.new }
+        ensures passes { (began : Planned) (first : ℕ) (link : LinkState) → Represents began accepted.now first link self.old → LeadsTo began accepted.now first (AtStage Stage.RadioUp link) self.new (Tells U.shows user.old user.new) }
         ensures next { (second : Planned) → HasNext accepted.now second self.old → HasNext accepted.now second self.new }
-        ensures few { length report.new.text ≤ length report.old.text + step_bytes accepted.now.config }
-        ensures most { report.new.most ≡ report.old.most }
+        ensures few { TellsFew U.shows (step_bytes accepted.now.config) user.old user.new }
     {
         self.damage.hit_radio(Dir::Up, self.ue.sent());
         let frame = self.damage.radio();
         self.node_b
-            .step(accepted, NodeBEvent::Phy { frame }, report);
+            .step_with(accepted, NodeBEvent::Phy { frame }, user);
     }
 
     /// The uplink Iub frame of a set arrives at the network controller, if one was sent and isn't lost.
-    fn iub_up(&mut self, accepted: &Accepted, set: u8, report: &mut Report)
+    fn iub_up<U: Indications>(&mut self, accepted: &Accepted, set: u8, user: &mut U)
         requires opened { IsLinkOf accepted.now self.old }
         requires set { set < 8 }
-        requires room { HasRoomFor report.old (step_bytes accepted.now.config + 2400) }
         ensures opened { AreNodesOf accepted.now self.new }
-        ensures passes { (began : Planned) (first : ℕ) (link : LinkState) → Represents began accepted.now first link self.old → LeadsTo began accepted.now first (AtStage (Stage.IubUp set) link) self.new report.old report.new }
+        ensures passes { (began : Planned) (first : ℕ) (link : LinkState) → Represents began accepted.now first link self.old → LeadsTo began accepted.now first (AtStage (Stage.IubUp set) link) self.new (Tells U.shows user.old user.new) }
         ensures next { (second : Planned) → HasNext accepted.now second self.old → HasNext accepted.now second self.new }
-        ensures few { length report.new.text ≤ length report.old.text + (step_bytes accepted.now.config + 2400) }
-        ensures most { report.new.most ≡ report.old.most }
+        ensures few { TellsFew U.shows (step_bytes accepted.now.config + 2400) user.old user.new }
     {
         self.damage.hit_iub(Dir::Up, set, self.node_b.iub(set));
         if let Some(frame) = self.damage.iub() {
             self.rnc
-                .step(accepted, RncEvent::Iub { set, frame }, report);
-            self.compare_up(accepted, report);
+                .step_with(accepted, RncEvent::Iub { set, frame }, user);
+            self.compare_up(accepted, user);
         }
     }
 
-    /// Reports the downlink channels whose blocks, as the terminal took them, aren't some of those that the network controller gave.
-    fn compare_down(&self, accepted: &Accepted, report: &mut Report)
+    /// Tells the downlink channels whose blocks, as the terminal took them, aren't some of those that the network controller gave.
+    fn compare_down<U: Indications>(&self, accepted: &Accepted, user: &mut U)
         requires opened { AreNodesOf accepted.now self.now }
-        requires room { HasRoomFor report.old 2400 }
-        ensures compared { ComparesAll Down (λ i. good_of (ue_taken self.now.ue i)) (λ i. blocks_in (held_at self.now.rnc.layer.given i)) (length accepted.now.config.downlink.side.channels) report.old report.new }
-        ensures few { length report.new.text ≤ length report.old.text + 2400 }
-        ensures most { report.new.most ≡ report.old.most }
+        ensures compared { ComparesAll Down (λ i. good_of (ue_taken self.now.ue i)) (λ i. blocks_in (held_at self.now.rnc.layer.given i)) (length accepted.now.config.downlink.side.channels) (Tells U.shows user.old user.new) }
+        ensures few { TellsFew U.shows 2401 user.old user.new }
     {
         let channels = accepted.side(Dir::Down).channels.len() as u8;
         'channels: for channel in 0..channels {
             let taken = self.ue.taken(channel);
-            compare(report, Dir::Down, channel, taken, self.rnc.given(channel));
+            compare(user, Dir::Down, channel, taken, self.rnc.given(channel));
         }
     }
 
-    /// Reports the uplink channels whose blocks, as the network controller took them, aren't some of those that the terminal gave.
-    fn compare_up(&self, accepted: &Accepted, report: &mut Report)
+    /// Tells the uplink channels whose blocks, as the network controller took them, aren't some of those that the terminal gave.
+    fn compare_up<U: Indications>(&self, accepted: &Accepted, user: &mut U)
         requires opened { AreNodesOf accepted.now self.now }
-        requires room { HasRoomFor report.old 2400 }
-        ensures compared { ComparesAll Up (λ i. good_of (rnc_taken self.now.rnc i)) (λ i. blocks_in (held_at self.now.ue.layer.given i)) (length accepted.now.config.uplink.side.channels) report.old report.new }
-        ensures few { length report.new.text ≤ length report.old.text + 2400 }
-        ensures most { report.new.most ≡ report.old.most }
+        ensures compared { ComparesAll Up (λ i. good_of (rnc_taken self.now.rnc i)) (λ i. blocks_in (held_at self.now.ue.layer.given i)) (length accepted.now.config.uplink.side.channels) (Tells U.shows user.old user.new) }
+        ensures few { TellsFew U.shows 2401 user.old user.new }
     {
         let channels = accepted.side(Dir::Up).channels.len() as u8;
         'channels: for channel in 0..channels {
             let taken = self.rnc.taken(channel);
-            compare(report, Dir::Up, channel, taken, self.ue.given(channel));
+            compare(user, Dir::Up, channel, taken, self.ue.given(channel));
         }
     }
 }

@@ -4,7 +4,8 @@ ghost use Rattle.dch_accept.specs.Plans.{Planned};
 ghost use Rattle.dch_accept.specs.Reports.{step_bytes};
 ghost use Rattle.dch_combine.specs.Opened.{HoldsLongest, IsCombinerOf};
 ghost use Rattle.dch_combine.specs.Values.{frames_of};
-ghost use Rattle.dch_steptext.specs.Reports.{HasRoomFor};
+ghost use Rattle.dch_node.specs.Standing.{Tells};
+ghost use Rattle.dch_steptext.specs.Reports.{TellsFew};
 ghost use Rattle.dch_link.specs.SoftEvents.{Happens};
 ghost use Rattle.dch_link.specs.Hearing.{IsHeard};
 ghost use Rattle.dch_link.specs.Legs.{radio_from};
@@ -17,15 +18,16 @@ ghost use Rattle.dch_link.specs.declared.soft_stage.Stage.TheVariants.{Combine, 
 
 use crate::hearing::{clear_damage, hit_radios, lowest_radio, open_legs};
 use crate::leg::Leg;
-use crate::report::{put_combined, put_error};
+use crate::refusal::tell_error;
 use crate::soft_event::SoftEvent;
 use crate::soft_stage::Stage;
 use dch_accept::Accepted;
 use dch_bits::NoMemory;
 use dch_combine::Combiner;
+use dch_indication::Indications;
 use dch_iub::longest;
 use dch_rnc::{Rnc, RncEvent};
-use dch_script::Report;
+use dch_txframes::tell_iub;
 use dch_types::{Dir, ends, started};
 use dch_ue::{Ue, UeEvent};
 use std::alloc::Global;
@@ -125,33 +127,34 @@ impl Soft {
         self.legs.len() as u8
     }
 
-    /// Takes what a script does between two radio frames, and reports what the node says that takes it.
-    pub fn happen(&mut self, accepted: &Accepted, event: SoftEvent<'_>, report: &mut Report)
+    /// Takes what a script does between two radio frames, and tells what the node says that takes it.
+    pub fn happen<U: Indications>(
+        &mut self,
+        accepted: &Accepted,
+        event: SoftEvent<'_>,
+        user: &mut U,
+    )
         requires opened { IsSoftOf accepted.now self.old }
         requires event { MayCome accepted.now (length self.old.legs) event }
-        requires room { HasRoomFor report.old (step_bytes accepted.now.config) }
         ensures opened { IsSoftOf accepted.now self.new }
-        ensures happens { (first : ℕ) (soft : SoftState) → Represents accepted.now first soft self.old → LeadsTo accepted.now first (Happens soft (event_of event.entry)) self.new report.old report.new }
+        ensures happens { (first : ℕ) (soft : SoftState) → Represents accepted.now first soft self.old → LeadsTo accepted.now first (Happens soft (event_of event.entry)) self.new (Tells U.shows user.old user.new) }
         ensures legs { length self.new.legs ≡ length self.old.legs }
-        ensures few { length report.new.text ≤ length report.old.text + step_bytes accepted.now.config }
-        ensures most { report.new.most ≡ report.old.most }
+        ensures few { TellsFew U.shows (step_bytes accepted.now.config) user.old user.new }
     {
-        self.take_event(accepted, event, report);
+        self.take_event(accepted, event, user);
     }
 
-    /// Passes a stage of a radio frame, and reports what the nodes say, what is refused of a leg, and what the frames of the legs are
+    /// Passes a stage of a radio frame, and tells what the nodes say, what is refused of a leg, and what the frames of the legs are
     /// combined to.
-    pub fn pass(&mut self, accepted: &Accepted, stage: Stage, report: &mut Report)
+    pub fn pass<U: Indications>(&mut self, accepted: &Accepted, stage: Stage, user: &mut U)
         requires opened { IsSoftOf accepted.now self.old }
         requires stage { IsStage (length self.old.legs) stage }
-        requires room { HasRoomFor report.old (step_bytes accepted.now.config + 300000) }
         ensures opened { IsSoftOf accepted.now self.new }
-        ensures passes { (first : ℕ) (soft : SoftState) → Represents accepted.now first soft self.old → LeadsTo accepted.now first (AtStage stage soft) self.new report.old report.new }
+        ensures passes { (first : ℕ) (soft : SoftState) → Represents accepted.now first soft self.old → LeadsTo accepted.now first (AtStage stage soft) self.new (Tells U.shows user.old user.new) }
         ensures legs { length self.new.legs ≡ length self.old.legs }
-        ensures few { length report.new.text ≤ length report.old.text + stage_bytes accepted.now.config stage }
-        ensures most { report.new.most ≡ report.old.most }
+        ensures few { TellsFew U.shows (stage_bytes accepted.now.config stage) user.old user.new }
     {
-        self.run_stage(accepted, stage, report);
+        self.run_stage(accepted, stage, user);
     }
 
     /// A radio frame is over: no damage waits any more, and the CFN goes on.
@@ -166,15 +169,18 @@ impl Soft {
     }
 
     /// Takes an event at the node where it happens, or as damage that waits on a leg.
-    fn take_event(&mut self, accepted: &Accepted, event: SoftEvent<'_>, report: &mut Report)
+    fn take_event<U: Indications>(
+        &mut self,
+        accepted: &Accepted,
+        event: SoftEvent<'_>,
+        user: &mut U,
+    )
         requires opened { IsSoftOf accepted.now self.old }
         requires event { MayCome accepted.now (length self.old.legs) event }
-        requires room { HasRoomFor report.old (step_bytes accepted.now.config) }
         ensures opened { ArePartsOf accepted.now self.new }
-        ensures happens { (first : ℕ) (soft : SoftState) → Represents accepted.now first soft self.old → LeadsTo accepted.now first (Happens soft (event_of event.entry)) self.new report.old report.new }
+        ensures happens { (first : ℕ) (soft : SoftState) → Represents accepted.now first soft self.old → LeadsTo accepted.now first (Happens soft (event_of event.entry)) self.new (Tells U.shows user.old user.new) }
         ensures legs { length self.new.legs ≡ length self.old.legs }
-        ensures few { length report.new.text ≤ length report.old.text + step_bytes accepted.now.config }
-        ensures most { report.new.most ≡ report.old.most }
+        ensures few { TellsFew U.shows (step_bytes accepted.now.config) user.old user.new }
     {
         match event {
             SoftEvent::Unit {
@@ -183,23 +189,23 @@ impl Soft {
                 octets,
                 bits,
             } => match dir {
-                Dir::Up => self.ue.step(
+                Dir::Up => self.ue.step_with(
                     accepted,
                     UeEvent::Unit {
                         bearer,
                         octets,
                         bits,
                     },
-                    report,
+                    user,
                 ),
-                Dir::Down => self.rnc.step(
+                Dir::Down => self.rnc.step_with(
                     accepted,
                     RncEvent::Unit {
                         bearer,
                         octets,
                         bits,
                     },
-                    report,
+                    user,
                 ),
             },
             SoftEvent::Block {
@@ -209,10 +215,10 @@ impl Soft {
             } => match dir {
                 Dir::Up => self
                     .ue
-                    .step(accepted, UeEvent::Block { combination, on }, report),
+                    .step_with(accepted, UeEvent::Block { combination, on }, user),
                 Dir::Down => self
                     .rnc
-                    .step(accepted, RncEvent::Block { combination, on }, report),
+                    .step_with(accepted, RncEvent::Block { combination, on }, user),
             },
             SoftEvent::Damage { leg, damage } => {
                 self.legs[leg as usize].take_damage(accepted, damage);
@@ -221,172 +227,160 @@ impl Soft {
     }
 
     /// Does what a stage says, at the nodes where it is done.
-    fn run_stage(&mut self, accepted: &Accepted, stage: Stage, report: &mut Report)
+    fn run_stage<U: Indications>(&mut self, accepted: &Accepted, stage: Stage, user: &mut U)
         requires opened { IsSoftOf accepted.now self.old }
         requires stage { IsStage (length self.old.legs) stage }
-        requires room { HasRoomFor report.old (step_bytes accepted.now.config + 300000) }
         ensures opened { ArePartsOf accepted.now self.new }
-        ensures passes { (first : ℕ) (soft : SoftState) → Represents accepted.now first soft self.old → LeadsTo accepted.now first (AtStage stage soft) self.new report.old report.new }
+        ensures passes { (first : ℕ) (soft : SoftState) → Represents accepted.now first soft self.old → LeadsTo accepted.now first (AtStage stage soft) self.new (Tells U.shows user.old user.new) }
         ensures legs { length self.new.legs ≡ length self.old.legs }
-        ensures few { length report.new.text ≤ length report.old.text + stage_bytes accepted.now.config stage }
-        ensures most { report.new.most ≡ report.old.most }
+        ensures few { TellsFew U.shows (stage_bytes accepted.now.config stage) user.old user.new }
     {
         match stage {
-            Stage::RncTick => self.rnc.step(accepted, RncEvent::Tick, report),
-            Stage::IubDown { leg, set } => self.iub_down(accepted, leg, set, report),
-            Stage::RadioDown(leg) => self.radio_down(accepted, leg, report),
-            Stage::UeTick => self.tick_ue(accepted, report),
-            Stage::RadioUp(leg) => self.radio_up(accepted, leg, report),
-            Stage::IubUp { set, leg } => self.iub_up(accepted, set, leg, report),
-            Stage::Combine(set) => self.combine(accepted, set, report),
+            Stage::RncTick => self.rnc.step_with(accepted, RncEvent::Tick, user),
+            Stage::IubDown { leg, set } => self.iub_down(accepted, leg, set, user),
+            Stage::RadioDown(leg) => self.radio_down(accepted, leg, user),
+            Stage::UeTick => self.tick_ue(accepted, user),
+            Stage::RadioUp(leg) => self.radio_up(accepted, leg, user),
+            Stage::IubUp { set, leg } => self.iub_up(accepted, set, leg, user),
+            Stage::Combine(set) => self.combine(accepted, set, user),
         }
     }
 
     /// The downlink Iub frame of a set arrives at the Node B of a leg, if one was sent and isn't lost.
-    fn iub_down(&mut self, accepted: &Accepted, leg: u8, set: u8, report: &mut Report)
+    fn iub_down<U: Indications>(&mut self, accepted: &Accepted, leg: u8, set: u8, user: &mut U)
         requires opened { IsSoftOf accepted.now self.old }
         requires leg { leg < length self.old.legs }
         requires set { set < 8 }
-        requires room { HasRoomFor report.old (step_bytes accepted.now.config) }
         ensures opened { ArePartsOf accepted.now self.new }
-        ensures passes { (first : ℕ) (soft : SoftState) → Represents accepted.now first soft self.old → LeadsTo accepted.now first (AtStage (IubDown leg set) soft) self.new report.old report.new }
+        ensures passes { (first : ℕ) (soft : SoftState) → Represents accepted.now first soft self.old → LeadsTo accepted.now first (AtStage (IubDown leg set) soft) self.new (Tells U.shows user.old user.new) }
         ensures legs { length self.new.legs ≡ length self.old.legs }
-        ensures few { length report.new.text ≤ length report.old.text + 4000000 }
-        ensures most { report.new.most ≡ report.old.most }
+        ensures few { TellsFew U.shows 4000000 user.old user.new }
     {
-        self.legs[leg as usize].receive_iub(accepted, set, self.rnc.iub(set), report);
+        self.legs[leg as usize].receive_iub(accepted, set, self.rnc.iub(set), user);
     }
 
     /// The Node B of a leg sends its downlink radio frame.
-    fn radio_down(&mut self, accepted: &Accepted, leg: u8, report: &mut Report)
+    fn radio_down<U: Indications>(&mut self, accepted: &Accepted, leg: u8, user: &mut U)
         requires opened { IsSoftOf accepted.now self.old }
         requires leg { leg < length self.old.legs }
-        requires room { HasRoomFor report.old (step_bytes accepted.now.config) }
         ensures opened { ArePartsOf accepted.now self.new }
-        ensures passes { (first : ℕ) (soft : SoftState) → Represents accepted.now first soft self.old → LeadsTo accepted.now first (AtStage (RadioDown leg) soft) self.new report.old report.new }
+        ensures passes { (first : ℕ) (soft : SoftState) → Represents accepted.now first soft self.old → LeadsTo accepted.now first (AtStage (RadioDown leg) soft) self.new (Tells U.shows user.old user.new) }
         ensures legs { length self.new.legs ≡ length self.old.legs }
-        ensures few { length report.new.text ≤ length report.old.text + 4000000 }
-        ensures most { report.new.most ≡ report.old.most }
+        ensures few { TellsFew U.shows 4000000 user.old user.new }
     {
-        self.legs[leg as usize].transmit(accepted, report);
+        self.legs[leg as usize].transmit(accepted, user);
     }
 
     /// The downlink radio frame of the lowest leg of which one arrives comes to the terminal, and 10 ms pass there.
-    fn tick_ue(&mut self, accepted: &Accepted, report: &mut Report)
+    fn tick_ue<U: Indications>(&mut self, accepted: &Accepted, user: &mut U)
         requires opened { IsSoftOf accepted.now self.old }
-        requires room { HasRoomFor report.old (step_bytes accepted.now.config) }
         ensures opened { ArePartsOf accepted.now self.new }
-        ensures passes { (first : ℕ) (soft : SoftState) → Represents accepted.now first soft self.old → LeadsTo accepted.now first (AtStage UeTick soft) self.new report.old report.new }
+        ensures passes { (first : ℕ) (soft : SoftState) → Represents accepted.now first soft self.old → LeadsTo accepted.now first (AtStage UeTick soft) self.new (Tells U.shows user.old user.new) }
         ensures legs { length self.new.legs ≡ length self.old.legs }
-        ensures few { length report.new.text ≤ length report.old.text + step_bytes accepted.now.config }
-        ensures most { report.new.most ≡ report.old.most }
+        ensures few { TellsFew U.shows (step_bytes accepted.now.config) user.old user.new }
     {
-        self.hear(accepted, report);
-        self.ue.step(accepted, UeEvent::Tick, report);
+        self.hear(accepted, user);
+        self.ue.step_with(accepted, UeEvent::Tick, user);
     }
 
-    /// The downlink radio frame of the lowest leg of which one arrives comes to the terminal. Nothing is reported of it.
-    fn hear(&mut self, accepted: &Accepted, report: &mut Report)
+    /// The downlink radio frame of the lowest leg of which one arrives comes to the terminal. Nothing is told of it.
+    fn hear<U: Indications>(&mut self, accepted: &Accepted, user: &mut U)
         requires opened { IsSoftOf accepted.now self.old }
-        requires room { HasRoomFor report.old (step_bytes accepted.now.config) }
         ensures opened { ArePartsOf accepted.now self.new }
         ensures hears { (first : ℕ) (soft : SoftState) → Represents accepted.now first soft self.old → (mid : SoftState) × (Hears soft mid × Represents accepted.now first mid self.new) }
         ensures legs { length self.new.legs ≡ length self.old.legs }
-        ensures same { report.new ≡ report.old }
+        ensures same { user.new ≡ user.old }
     {
         hit_radios(&mut self.legs);
         let frame = lowest_radio(&self.legs);
-        self.ue.step(accepted, UeEvent::Phy { frame }, report);
+        self.ue.step_with(accepted, UeEvent::Phy { frame }, user);
     }
 
     /// The uplink radio frame arrives at the Node B of a leg, if one was sent and isn't lost.
-    fn radio_up(&mut self, accepted: &Accepted, leg: u8, report: &mut Report)
+    fn radio_up<U: Indications>(&mut self, accepted: &Accepted, leg: u8, user: &mut U)
         requires opened { IsSoftOf accepted.now self.old }
         requires leg { leg < length self.old.legs }
-        requires room { HasRoomFor report.old (step_bytes accepted.now.config) }
         ensures opened { ArePartsOf accepted.now self.new }
-        ensures passes { (first : ℕ) (soft : SoftState) → Represents accepted.now first soft self.old → LeadsTo accepted.now first (AtStage (RadioUp leg) soft) self.new report.old report.new }
+        ensures passes { (first : ℕ) (soft : SoftState) → Represents accepted.now first soft self.old → LeadsTo accepted.now first (AtStage (RadioUp leg) soft) self.new (Tells U.shows user.old user.new) }
         ensures legs { length self.new.legs ≡ length self.old.legs }
-        ensures few { length report.new.text ≤ length report.old.text + 4000000 }
-        ensures most { report.new.most ≡ report.old.most }
+        ensures few { TellsFew U.shows 4000000 user.old user.new }
     {
-        self.legs[leg as usize].receive_radio(accepted, self.ue.sent(), report);
+        self.legs[leg as usize].receive_radio(accepted, self.ue.sent(), user);
     }
 
     /// The uplink Iub frame of a set from a leg is taken to be combined, where the TTI of the set is over.
-    fn iub_up(&mut self, accepted: &Accepted, set: u8, leg: u8, report: &mut Report)
+    fn iub_up<U: Indications>(&mut self, accepted: &Accepted, set: u8, leg: u8, user: &mut U)
         requires opened { IsSoftOf accepted.now self.old }
         requires set { set < 8 }
         requires leg { leg < length self.old.legs }
-        requires room { HasRoomFor report.old (step_bytes accepted.now.config) }
         ensures opened { ArePartsOf accepted.now self.new }
-        ensures passes { (first : ℕ) (soft : SoftState) → Represents accepted.now first soft self.old → LeadsTo accepted.now first (AtStage (IubUp set leg) soft) self.new report.old report.new }
+        ensures passes { (first : ℕ) (soft : SoftState) → Represents accepted.now first soft self.old → LeadsTo accepted.now first (AtStage (IubUp set leg) soft) self.new (Tells U.shows user.old user.new) }
         ensures legs { length self.new.legs ≡ length self.old.legs }
-        ensures few { length report.new.text ≤ length report.old.text + 4000000 }
-        ensures most { report.new.most ≡ report.old.most }
+        ensures few { TellsFew U.shows 4000000 user.old user.new }
     {
         if let Some(cfn) = self.ended(accepted, set) {
-            self.take_frame(accepted, set, leg, cfn, report);
+            self.take_frame(accepted, set, leg, cfn, user);
         }
     }
 
     /// The uplink Iub frame of a set from a leg is taken in the TTI that started at a CFN, if one was sent and isn't lost.
-    fn take_frame(&mut self, accepted: &Accepted, set: u8, leg: u8, cfn: u8, report: &mut Report)
+    fn take_frame<U: Indications>(
+        &mut self,
+        accepted: &Accepted,
+        set: u8,
+        leg: u8,
+        cfn: u8,
+        user: &mut U,
+    )
         requires opened { IsSoftOf accepted.now self.old }
         requires set { set < 8 }
         requires there { has_set accepted.now.config.uplink.side set ≡ true }
         requires leg { leg < length self.old.legs }
-        requires room { HasRoomFor report.old (step_bytes accepted.now.config) }
         ensures opened { ArePartsOf accepted.now self.new }
-        ensures takes { (first : ℕ) (soft : SoftState) → Represents accepted.now first soft self.old → LeadsTo accepted.now first (TakesFrame cfn set leg soft) self.new report.old report.new }
+        ensures takes { (first : ℕ) (soft : SoftState) → Represents accepted.now first soft self.old → LeadsTo accepted.now first (TakesFrame cfn set leg soft) self.new (Tells U.shows user.old user.new) }
         ensures legs { length self.new.legs ≡ length self.old.legs }
-        ensures few { length report.new.text ≤ length report.old.text + 4000000 }
-        ensures most { report.new.most ≡ report.old.most }
+        ensures few { TellsFew U.shows 4000000 user.old user.new }
     {
         self.legs[leg as usize].hit_iub(set);
         if let Some(frame) = self.legs[leg as usize].iub() {
             if let Err(error) = self.combiner.take(accepted, set, leg, cfn, frame) {
-                put_error(report, set, error);
+                tell_error(user, set, error);
             }
         }
     }
 
     /// The frames of a set are combined to one, which the network controller takes, where the TTI of the set is over.
-    fn combine(&mut self, accepted: &Accepted, set: u8, report: &mut Report)
+    fn combine<U: Indications>(&mut self, accepted: &Accepted, set: u8, user: &mut U)
         requires opened { IsSoftOf accepted.now self.old }
         requires set { set < 8 }
-        requires room { HasRoomFor report.old (step_bytes accepted.now.config + 300000) }
         ensures opened { ArePartsOf accepted.now self.new }
-        ensures passes { (first : ℕ) (soft : SoftState) → Represents accepted.now first soft self.old → LeadsTo accepted.now first (AtStage (Combine set) soft) self.new report.old report.new }
+        ensures passes { (first : ℕ) (soft : SoftState) → Represents accepted.now first soft self.old → LeadsTo accepted.now first (AtStage (Combine set) soft) self.new (Tells U.shows user.old user.new) }
         ensures legs { length self.new.legs ≡ length self.old.legs }
-        ensures few { length report.new.text ≤ length report.old.text + (step_bytes accepted.now.config + 300000) }
-        ensures most { report.new.most ≡ report.old.most }
+        ensures few { TellsFew U.shows (step_bytes accepted.now.config + 300000) user.old user.new }
     {
         if let Some(cfn) = self.ended(accepted, set) {
-            self.give_frame(accepted, set, cfn, report);
+            self.give_frame(accepted, set, cfn, user);
         }
     }
 
-    /// The frames of a set are combined to one in the TTI that started at a CFN, if there is one. It is reported, and the network
+    /// The frames of a set are combined to one in the TTI that started at a CFN, if there is one. It is told, and the network
     /// controller takes it.
-    fn give_frame(&mut self, accepted: &Accepted, set: u8, cfn: u8, report: &mut Report)
+    fn give_frame<U: Indications>(&mut self, accepted: &Accepted, set: u8, cfn: u8, user: &mut U)
         requires opened { IsSoftOf accepted.now self.old }
         requires set { set < 8 }
         requires there { has_set accepted.now.config.uplink.side set ≡ true }
-        requires room { HasRoomFor report.old (step_bytes accepted.now.config + 300000) }
         ensures opened { ArePartsOf accepted.now self.new }
-        ensures gives { (first : ℕ) (soft : SoftState) → Represents accepted.now first soft self.old → LeadsTo accepted.now first (GivesFrame cfn set soft) self.new report.old report.new }
+        ensures gives { (first : ℕ) (soft : SoftState) → Represents accepted.now first soft self.old → LeadsTo accepted.now first (GivesFrame cfn set soft) self.new (Tells U.shows user.old user.new) }
         ensures legs { length self.new.legs ≡ length self.old.legs }
-        ensures few { length report.new.text ≤ length report.old.text + (step_bytes accepted.now.config + 300000) }
-        ensures most { report.new.most ≡ report.old.most }
+        ensures few { TellsFew U.shows (step_bytes accepted.now.config + 300000) user.old user.new }
     {
         if let Some(len) = self.combiner.give(accepted, set, cfn, &mut self.out) {
             // The blocks of a format are limited in a good configuration.
             let _side = accepted.side(Dir::Up);
             let frame = &self.out[..len];
-            put_combined(report, set, frame);
+            tell_iub(user, Dir::Up, set, frame);
             self.rnc
-                .step(accepted, RncEvent::Iub { set, frame }, report);
+                .step_with(accepted, RncEvent::Iub { set, frame }, user);
         }
     }
 

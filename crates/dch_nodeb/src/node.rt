@@ -9,7 +9,7 @@ ghost use Rattle.dch_tti.specs.RxFrames.{HasTfci};
 ghost use Rattle.dch_node.specs.Lines.{Line};
 ghost use Rattle.dch_node.specs.Standing.{AreNone, Tells, TellsSuch};
 ghost use Rattle.dch_steptext.specs.Limits.{AreLimited};
-ghost use Rattle.dch_steptext.specs.Reports.{HasRoomFor};
+ghost use Rattle.dch_steptext.specs.Reports.{HasRoomFor, TellsFew};
 ghost use Rattle.dch_txframes.specs.Lending.{octets_of, radio_of};
 ghost use Rattle.dch_nodeb.specs.Opened.{CanChange, HasNext, IsNodeOf};
 ghost use Rattle.dch_nodeb.specs.Standing.{ExtendsHistory, IsActiveBefore, IsReadyFor, KeepsNext, MayCome, NothingSent, Represents, RepresentsHistory, Stepped, event_of};
@@ -111,6 +111,7 @@ impl NodeB {
         ensures history { (began before : Planned) (first : ℕ) (events : List Event) (lines : List Line) → IsActiveBefore accepted.now event.entry before self.old →
             RepresentsHistory began before first events lines self.old → ExtendsHistory began accepted.now first events lines (event_of accepted.now event.entry) self.new (Tells U.shows user.old user.new) }
         ensures next { KeepsNext accepted.now event.entry self.old self.new }
+        ensures few { TellsFew U.shows 4000000 user.old user.new }
     {
         self.happen(accepted, event, user);
     }
@@ -130,7 +131,7 @@ impl NodeB {
         ensures few { length report.new.text ≤ length report.old.text + 4000000 }
         ensures most { report.new.most ≡ report.old.most }
     {
-        self.happen(accepted, event, report);
+        self.step_with(accepted, event, report);
     }
 
     /// Gives all memory back.

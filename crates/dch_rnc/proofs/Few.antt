@@ -12,8 +12,6 @@ use Rattle.dch_accept.specs.HeldSets.{HeldSet}
 use Rattle.dch_accept.specs.Plans.{Planned}
 use Rattle.dch_accept.specs.Reports.{step_bytes}
 use Rattle.dch_iub.specs.Forms.{IsReadForm}
-use Rattle.dch_script.specs.Adding.{ShowsLine}
-use Rattle.dch_script.specs.Held.{Held as Text}
 use Rattle.dch_script.proofs.Adding.{text_of-append}
 use Rattle.dch_node.specs.IubFrames.{refusal_number}
 use Rattle.dch_node.specs.Lines.{IubBad, Line}
@@ -22,7 +20,7 @@ use Rattle.dch_node.specs.Standing.{Tells}
 use Rattle.dch_node.specs.Values.{Output}
 use Rattle.dch_node.proofs.IubFrames.{refusal_small}
 use Rattle.dch_txframes.proofs.Lengths.{read_octets-le}
-use Rattle.dch_steptext.specs.Reports.{IsToldFew}
+use Rattle.dch_steptext.specs.Reports.{TellsFew}
 use Rattle.dch_steptext.proofs.LayerBytes.{offer_line}
 use Rattle.dch_steptext.proofs.ReadingBytes.{readings_room}
 use Rattle.dch_steptext.proofs.Texts.{iub_line, short_line}
@@ -102,30 +100,31 @@ bounded_stands planned node opened = record {
   readings = λ i inside. shown_again (taken_shown node i);
 }
 
--- so a report is told of lines with less text than it has room for
-abbrev StepsFrom : Planned → RncEvent → Node → Node → Text → Text → Type 0
-StepsFrom planned event old new before after =
-    (was : Planned) (state : State) → IsActiveBefore planned event was old → Represents was state old → Stepped planned state (event_of planned event) new (Tells ShowsLine before after)
+-- so a user is told of lines with less text than a report has room for
+abbrev StepsFrom : {U : Type 0} → (U → Line → U → Type 0) → Planned → RncEvent → Node → Node → U → U → Type 0
+StepsFrom shows planned event old new before after =
+    (was : Planned) (state : State) → IsActiveBefore planned event was old → Represents was state old → Stepped planned state (event_of planned event) new (Tells shows before after)
 
-pub told_few : (planned : Planned) (event : RncEvent) (old new : Node) (before after : Text) → IsGood planned.config → IsReadyFor planned event old → MayCome planned event → StepsFrom planned event old new before after → IsToldFew (step_bytes planned.config) before after
-told_few planned (Offered b octets bits) old new before after good opened may steps =
+pub told_few : {U : Type 0} (shows : U → Line → U → Type 0) (planned : Planned) (event : RncEvent) (old new : Node) (before after : U) → IsGood planned.config → IsReadyFor planned event old → MayCome planned event
+    → StepsFrom shows planned event old new before after → TellsFew shows (step_bytes planned.config) before after
+told_few shows planned (Offered b octets bits) old new before after good opened may steps =
     let state : State = bounded_state planned old opened in
     let is = steps planned state refl (bounded_stands planned old opened) in
     record { lines = is.output.lines; told = is.tells; few = offer_few planned state is.next b octets.now bits.now is.output (omega (arith, may.there, good.few)) is.step }
-told_few planned (Block c on) old new before after good opened may steps =
+told_few shows planned (Block c on) old new before after good opened may steps =
     let state : State = bounded_state planned old opened in
     let is = steps planned state refl (bounded_stands planned old opened) in
     record { lines = is.output.lines; told = is.tells; few = subst (λ (o : Output). length (text_of o.lines) < step_bytes planned.config) (sym is.step.1) (omega arith) }
-told_few planned (Iub set frame) old new before after good opened may steps =
+told_few shows planned (Iub set frame) old new before after good opened may steps =
     let state : State = bounded_state planned old opened in
     let is = steps planned state refl (bounded_stands planned old opened) in
     let small : set < 256 = omega (arith, set_small planned.config.uplink.side set (side_good planned.config Up good) may) in
     record { lines = is.output.lines; told = is.tells; few = arrival_few planned state is.next set frame.now is.output good opened.layer.bounded small is.step }
-told_few planned Ticks old new before after good opened may steps =
+told_few shows planned Ticks old new before after good opened may steps =
     let state : State = bounded_state planned old opened in
     let is = steps planned state refl (bounded_stands planned old opened) in
     record { lines = is.output.lines; told = is.tells; few = tick_few planned state is.next is.output good is.step }
-told_few planned Changes old new before after good ready may steps =
+told_few shows planned Changes old new before after good ready may steps =
     let state : State = bounded_state ready.first old ready.opened in
     let is = steps ready.first state ready.next (bounded_stands ready.first old ready.opened) in
     record { lines = is.output.lines; told = is.tells; few = subst (λ (o : Output). length (text_of o.lines) < step_bytes planned.config) (sym is.step.quiet) (omega arith) }

@@ -14,7 +14,7 @@ ghost use Rattle.dch_rnc.specs.State.{BlockedCombination, Change, Event, IubFram
 ghost use Rattle.dch_rnc.specs.Values.{iub_shown, taken_shown};
 ghost use Rattle.dch_script.specs.Adding.{AddsLines};
 ghost use Rattle.dch_txframes.specs.Lending.{octets_of};
-ghost use Rattle.dch_steptext.specs.Reports.{HasRoomFor};
+ghost use Rattle.dch_steptext.specs.Reports.{HasRoomFor, TellsFew};
 
 use crate::downlink::send_sets;
 use crate::event::RncEvent;
@@ -120,7 +120,10 @@ impl Rnc {
         ensures history { (began before : Planned) (first : ℕ) (events : List Event) (lines : List Line) → IsActiveBefore accepted.now event.entry before self.old →
             RepresentsHistory began before first events lines self.old → ExtendsHistory began accepted.now first events lines (event_of accepted.now event.entry) self.new (Tells U.shows user.old user.new) }
         ensures next { KeepsNext accepted.now event.entry self.old self.new }
+        ensures few { TellsFew U.shows (step_bytes accepted.now.config) user.old user.new }
     {
+        // What is told of an event is limited in a good configuration.
+        let _config = accepted.config();
         self.happen(accepted, event, user);
     }
 
@@ -139,8 +142,6 @@ impl Rnc {
         ensures few { length report.new.text ≤ length report.old.text + step_bytes accepted.now.config }
         ensures most { report.new.most ≡ report.old.most }
     {
-        // What is told of an event is limited in a good configuration.
-        let _config = accepted.config();
         self.step_with(accepted, event, report);
     }
 

@@ -9,7 +9,7 @@ ghost use Rattle.dch_script.specs.Adding.{AddsLines};
 ghost use Rattle.dch_node.specs.Lines.{Line};
 ghost use Rattle.dch_node.specs.Standing.{AreNone, Tells, TellsSuch};
 ghost use Rattle.dch_txframes.specs.Lending.{radio_of};
-ghost use Rattle.dch_steptext.specs.Reports.{HasRoomFor};
+ghost use Rattle.dch_steptext.specs.Reports.{HasRoomFor, TellsFew};
 ghost use Rattle.dch_ue.specs.Lending.{held_of};
 ghost use Rattle.dch_ue.specs.Moves.{AreLimitedLines};
 ghost use Rattle.dch_ue.specs.Opened.{CanChange, HasChannel, HasNext, IsNodeOf};
@@ -114,7 +114,10 @@ impl Ue {
         ensures history { (began before : Planned) (first : ℕ) (events : List Event) (lines : List Line) → IsActiveBefore accepted.now event.entry before self.old → RepresentsHistory began before first events lines self.old →
             ExtendsHistory began accepted.now first events lines (event_of accepted.now event.entry) self.new (Tells U.shows user.old user.new) }
         ensures next { KeepsNext accepted.now event.entry self.old self.new }
+        ensures few { TellsFew U.shows (step_bytes accepted.now.config) user.old user.new }
     {
+        // What layer 2 holds stays limited in a good configuration.
+        let _config = accepted.config();
         self.happen(accepted, event, user);
     }
 
@@ -133,9 +136,7 @@ impl Ue {
         ensures few { length report.new.text ≤ length report.old.text + step_bytes accepted.now.config }
         ensures most { report.new.most ≡ report.old.most }
     {
-        // What layer 2 holds stays limited in a good configuration.
-        let _config = accepted.config();
-        self.happen(accepted, event, report);
+        self.step_with(accepted, event, report);
     }
 
     /// Gives all memory back.

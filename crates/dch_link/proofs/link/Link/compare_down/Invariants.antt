@@ -1,13 +1,14 @@
-use Rattle.std.proofs.Common.{◌≡◌, ◌≤◌, ◌+◌, ◌*◌, length}
+use Rattle.std.proofs.Common.{◌+◌, ◌*◌}
 use Rattle.dch_types.specs.declared.channel.Dir.TheVariants.{Down}
 use Rattle.dch_accept.specs.HeldSets.{held_at}
 use Rattle.dch_layer2.specs.Opening.{blocks_in}
 use Rattle.dch_ue.specs.Values.{taken_shown}
+use Rattle.dch_node.specs.Standing.{Tells}
+use Rattle.dch_steptext.specs.Reports.{TellsFew}
 use Rattle.dch_link.specs.Comparing.{ComparesAll, good_of}
 use Rattle.dch_link.proofs.link.Link.compare_down.Given as goal
 
 abbrev pub invariant-channels : goal.invariant-channels
-invariant-channels l =
-    ComparesAll Down (λ i. good_of (taken_shown l.self.ue i)) (λ i. blocks_in (held_at l.self.rnc.layer.given i)) l.channel l.fn.report l.report
-    × (length l.report.text ≤ length l.fn.report.text + 300 * l.channel)
-    × (l.report.most ≡ l.fn.report.most)
+invariant-channels g l =
+    ComparesAll Down (λ i. good_of (taken_shown l.self.ue i)) (λ i. blocks_in (held_at l.self.rnc.layer.given i)) l.channel (Tells g.U.Indications.shows l.fn.user l.user)
+    × TellsFew g.U.Indications.shows (1 + 300 * l.channel) l.fn.user l.user

@@ -1,11 +1,10 @@
-use Rattle.std.proofs.Common.{◌≡◌, ◌∙◌, [], Option, refl, ap, sym, subst}
+use Rattle.std.proofs.Common.{◌≡◌, ◌∙◌, Option, refl, ap, sym, subst}
 use Rattle.dch_types.specs.declared.channel.Dir.TheVariants.{Down}
+use Rattle.dch_node.specs.Standing.{Tells}
 use Rattle.dch_link.specs.Standing.{HasNext, IsLinkOf, Represents}
 use Rattle.dch_link.specs.Values.{Nodes}
 use Rattle.dch_link.specs.contracts.link.Link.{the_view}
-use Rattle.std.proofs.Common.{◌++◌}
 use Rattle.dch_ue.specs.State.{DownlinkFrame}
-use Rattle.dch_script.specs.LineText.{text_of}
 use Rattle.dch_node.specs.Values.{Output, Radio}
 use Rattle.dch_txframes.specs.Lending.{radio_of}
 use Rattle.dch_damage.specs.Damage.{radio_after}
@@ -14,11 +13,10 @@ use Rattle.dch_link.specs.Stages.{UeGoes}
 use Rattle.dch_link.proofs.Following.{damage_follows, ue_follows}
 use Rattle.dch_link.proofs.Arriving.{radio_room, radio_same, tfci_kept}
 use Rattle.dch_link.proofs.Nexts.{ue_next, with_damage}
-use Rattle.dch_link.proofs.Reporting.{added-none, went_on}
 use Rattle.dch_link.proofs.link.Link.radio_down.Goals as goal
 
 pub hit_radio-requires : goal.hit_radio-requires
-hit_radio-requires c =
+hit_radio-requires g c =
     let planned = c.args.accepted.now in
     let nodes : Nodes = the_view c.self.inside in
     let opened : IsLinkOf planned nodes = subst (λ (n : Nodes). IsLinkOf planned n) (sym c.self.view_is) c.requires.opened in
@@ -27,8 +25,8 @@ hit_radio-requires c =
           (radio_room planned nodes.damage Down opened.link.node_b.last.sent opened.opened.damage opened.stands.node_b_sends.radio_is);
     }
 
-pub step-requires-clause-event : goal.step-requires-clause-event
-step-requires-clause-event c =
+pub step_with-requires-clause-event : goal.step_with-requires-clause-event
+step_with-requires-clause-event g c =
     let planned = c.args.accepted.now in
     let nodes : Nodes = the_view c.self.inside in
     let opened : IsLinkOf planned nodes = subst (λ (n : Nodes). IsLinkOf planned n) (sym c.self.view_is) c.requires.opened in
@@ -37,7 +35,7 @@ step-requires-clause-event c =
     ∙ ap (radio_after opened.link.damage Down) (radio_same c.sent.result ∙ c.sent.ensures ∙ opened.stands.node_b.shows.radio))
 
 pub returns-clause-comes : goal.returns-clause-comes
-returns-clause-comes c = λ began first link was.
+returns-clause-comes g c = λ began first link was.
     let planned = c.args.accepted.now in
     let nodes : Nodes = the_view c.self.inside in
     let is : Represents began planned first link nodes = subst (λ (n : Nodes). Represents began planned first link n) (sym c.self.view_is) was in
@@ -46,21 +44,21 @@ returns-clause-comes c = λ began first link was.
     sym (radio_same c.radio-frame.result) ∙ c.radio-frame.ensures ∙ waits.1 ∙ ap (radio_after link.damage Down) (radio_same c.sent.result ∙ c.sent.ensures ∙ is.node_b.shows.radio) in
     let hit : Nodes = record nodes { damage = c.hit_radio.new.self } in
     let stood : Represents began planned first link hit = with_damage began planned first link nodes link.damage c.hit_radio.new.self is waits.0 in
-    let led = ue_next began planned first link hit (DownlinkFrame (radio_of c.radio-frame.result)) c.step.new.self c.args.report.now c.step.new.report stood c.step.ensures.opened (c.step.ensures.step planned link.ue.state refl is.ue.stands) c.step.ensures.most in
+    let led = ue_next began planned first link hit (DownlinkFrame (radio_of c.radio-frame.result)) c.step_with.new.self (Tells g.U.Indications.shows c.args.user.now c.step_with.new.user) stood c.step_with.ensures.opened (c.step_with.ensures.step planned link.ue.state refl is.ue.stands) in
     (led.next, (subst (λ (r : Option Radio). UeGoes link (DownlinkFrame r) led.next) arrives led.does.0, led.stands))
 
 pub returns-clause-same : goal.returns-clause-same
-returns-clause-same c =
+returns-clause-same g c =
     let planned = c.args.accepted.now in
     let nodes : Nodes = the_view c.self.inside in
     let opened : IsLinkOf planned nodes = subst (λ (n : Nodes). IsLinkOf planned n) (sym c.self.view_is) c.requires.opened in
-    let stepped = c.step.ensures.step planned opened.link.ue.state refl opened.stands.ue.stands in
-    went_on c.args.report.now c.step.new.report [] (subst (λ (o : Output). c.step.new.report.text ≡ c.args.report.now.text ++ text_of o.lines) stepped.step.1 stepped.tells) c.step.ensures.most ∙ sym (added-none c.args.report.now)
+    let stepped = c.step_with.ensures.step planned opened.link.ue.state refl opened.stands.ue.stands in
+    subst (λ (o : Output). Tells g.U.Indications.shows c.args.user.now c.step_with.new.user o.lines) stepped.step.1 stepped.tells
 
 pub returns-clause-next : goal.returns-clause-next
-returns-clause-next c = λ second was.
+returns-clause-next g c = λ second was.
     let planned = c.args.accepted.now in
     let nodes : Nodes = the_view c.self.inside in
     let has : HasNext planned second nodes = subst (λ (n : Nodes). HasNext planned second n) (sym c.self.view_is) was in
     let hit : Nodes = record nodes { damage = c.hit_radio.new.self } in
-    ue_follows planned second hit c.step.new.self c.step.ensures.next (damage_follows planned second nodes c.hit_radio.new.self c.hit_radio.ensures.opened has)
+    ue_follows planned second hit c.step_with.new.self c.step_with.ensures.next (damage_follows planned second nodes c.hit_radio.new.self c.hit_radio.ensures.opened has)

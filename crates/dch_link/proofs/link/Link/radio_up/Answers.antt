@@ -1,5 +1,8 @@
-use Rattle.std.proofs.Common.{◌≡◌, ◌∙◌, Option, refl, ap, sym, subst}
+use Rattle.dch_steptext.proofs.Reporting.{few_less}
+use Rattle.dch_accept.specs.Reports.{step_bytes}
+use Rattle.std.proofs.Common.{◌≡◌, ◌∙◌, Option, refl, ap, sym, subst, arith}
 use Rattle.dch_types.specs.declared.channel.Dir.TheVariants.{Up}
+use Rattle.dch_node.specs.Standing.{Tells}
 use Rattle.dch_link.specs.Standing.{HasNext, IsLinkOf, LeadsTo, Represents}
 use Rattle.dch_link.specs.Values.{Nodes}
 use Rattle.dch_link.specs.contracts.link.Link.{the_view}
@@ -15,7 +18,7 @@ use Rattle.dch_link.proofs.Nexts.{node_b_next, with_damage}
 use Rattle.dch_link.proofs.link.Link.radio_up.Goals as goal
 
 pub hit_radio-requires : goal.hit_radio-requires
-hit_radio-requires c =
+hit_radio-requires g c =
     let planned = c.args.accepted.now in
     let nodes : Nodes = the_view c.self.inside in
     let opened : IsLinkOf planned nodes = subst (λ (n : Nodes). IsLinkOf planned n) (sym c.self.view_is) c.requires.opened in
@@ -24,8 +27,8 @@ hit_radio-requires c =
           (radio_room planned nodes.damage Up opened.link.ue.last.sent opened.opened.damage opened.stands.ue_sends.radio_is);
     }
 
-pub step-requires-clause-event : goal.step-requires-clause-event
-step-requires-clause-event c =
+pub step_with-requires-clause-event : goal.step_with-requires-clause-event
+step_with-requires-clause-event g c =
     let planned = c.args.accepted.now in
     let nodes : Nodes = the_view c.self.inside in
     let opened : IsLinkOf planned nodes = subst (λ (n : Nodes). IsLinkOf planned n) (sym c.self.view_is) c.requires.opened in
@@ -34,7 +37,7 @@ step-requires-clause-event c =
     ∙ ap (radio_after opened.link.damage Up) (radio_same c.sent.result ∙ c.sent.ensures ∙ opened.stands.ue.shows.radio))
 
 pub returns-clause-passes : goal.returns-clause-passes
-returns-clause-passes c = λ began first link was.
+returns-clause-passes g c = λ began first link was.
     let planned = c.args.accepted.now in
     let nodes : Nodes = the_view c.self.inside in
     let is : Represents began planned first link nodes = subst (λ (n : Nodes). Represents began planned first link n) (sym c.self.view_is) was in
@@ -43,13 +46,16 @@ returns-clause-passes c = λ began first link was.
     sym (radio_same c.radio-frame.result) ∙ c.radio-frame.ensures ∙ waits.1 ∙ ap (radio_after link.damage Up) (radio_same c.sent.result ∙ c.sent.ensures ∙ is.ue.shows.radio) in
     let hit : Nodes = record nodes { damage = c.hit_radio.new.self } in
     let stood : Represents began planned first link hit = with_damage began planned first link nodes link.damage c.hit_radio.new.self is waits.0 in
-    subst (λ (r : Option Radio). LeadsTo began planned first (NodeBReports link (UplinkFrame r)) (record hit { node_b = c.step.new.self }) c.args.report.now c.step.new.report) arrives
-    (node_b_next began planned first link hit (UplinkFrame (radio_of c.radio-frame.result)) c.step.new.self c.args.report.now c.step.new.report stood (c.step.ensures.step planned link.node_b.state refl is.node_b.stands) c.step.ensures.most)
+    subst (λ (r : Option Radio). LeadsTo began planned first (NodeBReports link (UplinkFrame r)) (record hit { node_b = c.step_with.new.self }) (Tells g.U.Indications.shows c.args.user.now c.step_with.new.user)) arrives
+    (node_b_next began planned first link hit (UplinkFrame (radio_of c.radio-frame.result)) c.step_with.new.self (Tells g.U.Indications.shows c.args.user.now c.step_with.new.user) stood (c.step_with.ensures.step planned link.node_b.state refl is.node_b.stands))
 
 pub returns-clause-next : goal.returns-clause-next
-returns-clause-next c = λ second was.
+returns-clause-next g c = λ second was.
     let planned = c.args.accepted.now in
     let nodes : Nodes = the_view c.self.inside in
     let has : HasNext planned second nodes = subst (λ (n : Nodes). HasNext planned second n) (sym c.self.view_is) was in
     let hit : Nodes = record nodes { damage = c.hit_radio.new.self } in
-    node_b_follows planned second hit c.step.new.self c.step.ensures.next (damage_follows planned second nodes c.hit_radio.new.self c.hit_radio.ensures.opened has)
+    node_b_follows planned second hit c.step_with.new.self c.step_with.ensures.next (damage_follows planned second nodes c.hit_radio.new.self c.hit_radio.ensures.opened has)
+
+pub returns-clause-few : goal.returns-clause-few
+returns-clause-few g c = few_less g.U.Indications.shows 4000000 (step_bytes c.args.accepted.now.config) c.args.user.now c.step_with.new.user (omega arith) c.step_with.ensures.few

@@ -1,5 +1,6 @@
 use Rattle.std.proofs.Common.{refl, sym, subst}
 use Rattle.dch_rnc.specs.State.{Tick}
+use Rattle.dch_node.specs.Standing.{Tells}
 use Rattle.dch_link.specs.SoftStages.{AtStage}
 use Rattle.dch_link.specs.declared.soft_stage.Stage.{Stage}
 use Rattle.dch_link.specs.SoftStanding.{IsSoftOf, LeadsTo, Represents}
@@ -9,17 +10,17 @@ use Rattle.dch_link.proofs.SoftNexts.{rnc_next}
 use Rattle.dch_link.proofs.soft.Soft.run_stage.Goals as goal
 
 pub returns-in-RncTick-clause-passes : goal.returns-in-RncTick-clause-passes
-returns-in-RncTick-clause-passes c = λ first soft was.
+returns-in-RncTick-clause-passes g c = λ first soft was.
     let planned = c.args.accepted.now in
     let parts : Parts = the_view c.self.inside in
     let is : Represents planned first soft parts = subst (λ (p : Parts). Represents planned first soft p) (sym c.self.view_is) was in
-    subst (λ (s : Stage). LeadsTo planned first (AtStage s soft) (record parts { rnc = c.step.new.self }) c.args.report.now c.step.new.report) (sym c.in-RncTick.is)
-    (rnc_next planned first soft parts Tick c.step.new.self c.args.report.now c.step.new.report is (c.step.ensures.step planned soft.rnc.state refl is.rnc.stands) c.step.ensures.most)
+    subst (λ (s : Stage). LeadsTo planned first (AtStage s soft) (record parts { rnc = c.step_with.new.self }) (Tells g.U.Indications.shows c.args.user.now c.step_with.new.user)) (sym c.in-RncTick.is)
+    (rnc_next planned first soft parts Tick c.step_with.new.self (Tells g.U.Indications.shows c.args.user.now c.step_with.new.user) is (c.step_with.ensures.step planned soft.rnc.state refl is.rnc.stands))
 
 pub returns-in-RncTick-clause-opened : goal.returns-in-RncTick-clause-opened
-returns-in-RncTick-clause-opened c =
+returns-in-RncTick-clause-opened g c =
     let planned = c.args.accepted.now in
     let parts : Parts = the_view c.self.inside in
     let opened : IsSoftOf planned parts = subst (λ (p : Parts). IsSoftOf planned p) (sym c.self.view_is) c.requires.opened in
     let were = opened.opened in
-    record { ue = were.ue; rnc = c.step.ensures.opened; legs = were.legs; combiner = were.combiner; all = were.all; some = were.some; few = were.few; room = were.room }
+    record { ue = were.ue; rnc = c.step_with.ensures.opened; legs = were.legs; combiner = were.combiner; all = were.all; some = were.some; few = were.few; room = were.room }

@@ -2,44 +2,32 @@ use Rattle.std.proofs.Common.{arith}
 use Rattle.dch_script.specs.Adding.{AddsLines, ShowsLine}
 use Rattle.dch_node.specs.Standing.{Tells}
 use Rattle.dch_node.proofs.Traces.{says_history, says_step}
-use Rattle.dch_steptext.specs.Reports.{HasRoomFor, IsToldFew}
+use Rattle.dch_steptext.specs.Reports.{HasRoomFor}
 use Rattle.dch_steptext.proofs.Reporting.{few_adds, few_more, few_most}
-use Rattle.dch_steptext.proofs.Texts.{limited_lines}
 use Rattle.dch_nodeb.specs.Standing.{Represents, Shows, event_of}
 use Rattle.dch_nodeb.specs.State.{opened_state}
 use Rattle.dch_nodeb.specs.Steps.{Steps}
-use Rattle.dch_nodeb.proofs.Going.{went_on}
 use Rattle.dch_nodeb.proofs.node.NodeB.step.Goals as goal
 
-room : (c : goal.After-happen) → HasRoomFor c.args.report.now 4000000
+room : (c : goal.After-step_with) → HasRoomFor c.args.report.now 4000000
 room c = omega (arith, c.requires.room)
-
--- eight lines that are limited leave room
-told : (c : goal.After-happen) → IsToldFew 4000000 c.args.report.now c.happen.new.user
-told c = record {
-  lines = c.happen.ensures.limited.lines;
-  told = c.happen.ensures.limited.told;
-  few = omega (arith, limited_lines 8 c.happen.ensures.limited.lines c.happen.ensures.limited.such);
-}
 
 pub returns-clause-step : goal.returns-clause-step
 returns-clause-step c = λ before state active stands.
     let planned = c.args.accepted.now in
-    says_step Steps (Represents planned) Shows state (event_of planned c.args.event) c.happen.new.self
-    (Tells ShowsLine c.args.report.now c.happen.new.user) (AddsLines c.args.report.now.text c.happen.new.user.text)
-    (few_adds 4000000 c.args.report.now c.happen.new.user (room c) (told c)) (c.happen.ensures.step before state active stands)
+    says_step Steps (Represents planned) Shows state (event_of planned c.args.event) c.step_with.new.self
+    (Tells ShowsLine c.args.report.now c.step_with.new.user) (AddsLines c.args.report.now.text c.step_with.new.user.text)
+    (few_adds 4000000 c.args.report.now c.step_with.new.user (room c) c.step_with.ensures.few) (c.step_with.ensures.step before state active stands)
 
 pub returns-clause-history : goal.returns-clause-history
 returns-clause-history c = λ began before first events lines active was.
     let planned = c.args.accepted.now in
-    says_history Steps (Represents planned) Shows (opened_state began first) events lines (event_of planned c.args.event) c.happen.new.self
-    (Tells ShowsLine c.args.report.now c.happen.new.user) (AddsLines c.args.report.now.text c.happen.new.user.text)
-    (few_adds 4000000 c.args.report.now c.happen.new.user (room c) (told c))
-    (went_on began before planned c.args.self.now c.happen.new.self (event_of planned c.args.event) (Tells ShowsLine c.args.report.now c.happen.new.user) first events lines was
-    (λ state stands. c.happen.ensures.step before state active stands))
+    says_history Steps (Represents planned) Shows (opened_state began first) events lines (event_of planned c.args.event) c.step_with.new.self
+    (Tells ShowsLine c.args.report.now c.step_with.new.user) (AddsLines c.args.report.now.text c.step_with.new.user.text)
+    (few_adds 4000000 c.args.report.now c.step_with.new.user (room c) c.step_with.ensures.few) (c.step_with.ensures.history began before first events lines active was)
 
 pub returns-clause-few : goal.returns-clause-few
-returns-clause-few c = few_more 4000000 c.args.report.now c.happen.new.user (room c) (told c)
+returns-clause-few c = few_more 4000000 c.args.report.now c.step_with.new.user (room c) c.step_with.ensures.few
 
 pub returns-clause-most : goal.returns-clause-most
-returns-clause-most c = few_most 4000000 c.args.report.now c.happen.new.user (room c) (told c)
+returns-clause-most c = few_most 4000000 c.args.report.now c.step_with.new.user (room c) c.step_with.ensures.few
