@@ -1,19 +1,18 @@
-"""Tools around `dch`, the user plane of the UMTS dedicated channel (UTRA FDD): its nodes driven from Python, over the
-program's pipes (`Node`) or in process (`Rnc`, `Ue`, `NodeB`, `Channel`, `Coder`), and the codecs and commands that work
-on its inputs, reports and recorded frames."""
+"""Tools around `dch`, the user plane of the UMTS dedicated channel (UTRA FDD): its nodes driven from Python over the
+program's pipes (`Node`), its coder and decoder in process (`Coder`), and the codecs and commands that work on its
+inputs, reports and recorded frames."""
 from .config import Configuration, read_configuration
 from .faults import BadInput, Ended, Refused
 from .iub import BadFrame, read_frame, write_frame
-from .library import Channel, CodeBlocks, Coder, NodeB, Rnc, Status, Tti, Ue
+from .library import CodeBlocks, Coder, Status
 from .node import LinkNode, Node, NodeBNode, PairNode, RncNode, SoftNode, UeNode
 from .values import (Bad, BadTti, Differs, End, EndFull, EndGot, EndOutside, EndOverlong, EndPduBad, EndRestart,
                      EndSent, EndTook, EndWrong, Full, Got, GotBits, Iub, IubBad, Leg, NoBearer, Nobody, Open, Outside,
                      Overlong, PduBad, Phy, PhyNone, Reserved, Told, Took, Wrong)
 
 __all__ = [
-    'Bad', 'BadFrame', 'BadInput', 'BadTti', 'Channel', 'CodeBlocks', 'Coder', 'Configuration', 'Differs', 'End',
-    'EndFull', 'EndGot', 'EndOutside', 'EndOverlong', 'EndPduBad', 'EndRestart', 'EndSent', 'EndTook', 'EndWrong',
-    'Ended', 'Full', 'Got', 'GotBits', 'Iub', 'IubBad', 'Leg', 'LinkNode', 'NoBearer', 'Node', 'NodeB', 'NodeBNode',
-    'Nobody', 'Open', 'Outside', 'Overlong', 'PairNode', 'PduBad', 'Phy', 'PhyNone', 'Refused', 'Reserved', 'Rnc',
-    'RncNode', 'SoftNode', 'Status', 'Told', 'Took', 'Tti', 'Ue', 'UeNode', 'Wrong', 'read_configuration', 'read_frame',
-    'write_frame']
+    'Bad', 'BadFrame', 'BadInput', 'BadTti', 'CodeBlocks', 'Coder', 'Configuration', 'Differs', 'End', 'EndFull',
+    'EndGot', 'EndOutside', 'EndOverlong', 'EndPduBad', 'EndRestart', 'EndSent', 'EndTook', 'EndWrong', 'Ended',
+    'Full', 'Got', 'GotBits', 'Iub', 'IubBad', 'Leg', 'LinkNode', 'NoBearer', 'Nobody', 'Node', 'NodeBNode', 'Open',
+    'Outside', 'Overlong', 'PairNode', 'PduBad', 'Phy', 'PhyNone', 'Refused', 'Reserved', 'RncNode', 'SoftNode',
+    'Status', 'Told', 'Took', 'UeNode', 'Wrong', 'read_configuration', 'read_frame', 'write_frame']

@@ -1,5 +1,4 @@
-"""The calls of a node, which are the same whether the program's command is driven over pipes (`node`) or the library
-in process (`library`)."""
+"""The calls of a node, by which the command of the program is driven over pipes (`node`)."""
 from __future__ import annotations
 
 from abc import ABC, abstractmethod
