@@ -251,7 +251,7 @@ SIMPLE: dict[str, Callable[[list[str]], Event]] = {
     'down': lambda rest: Down(), 'change': lambda rest: Change(),
     'frame': lambda rest: Pass(number(rest[0]) if rest else 1),
     'flip': lambda rest: Flip(rest[0], rest[1], number(rest[2])),
-    'spoil': lambda rest: Spoil(IUB_WAYS[rest[0]], number(rest[1]), number(rest[2]), int(rest[3], 16)),
+    'spoil': lambda rest: Spoil(IUB_WAYS[rest[0]], number(rest[1]), number(rest[2]), bytes.fromhex(rest[3])[0]),
     'ends': lambda rest: Ends(number(rest[0]), number(rest[1]), number(rest[2]), number(rest[3])),
     'offer': lambda rest: Offer(rest[0], octets(rest[1])),
     'build': lambda rest: AtEnd('build', rest[0]), 'arrive': lambda rest: AtEnd('arrive', rest[0]),

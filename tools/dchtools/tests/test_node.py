@@ -65,6 +65,8 @@ class OnTheCases(unittest.TestCase):
     def check(self, *commands: str) -> None:
         count = 0
         for case in cases_of(*commands):
+            if case.answer and case.answer[-1].endswith(' why=cut'):
+                continue  # The input ends within a line, and an event is a whole one.
             got, wanted = drive(case), wanted_of(case)
             if case.is_quiet:
                 got = [line for line in got if not is_frame(line)]
