@@ -1,6 +1,6 @@
 -- What arrives by the tables is what arrives after the damage that waits in them.
-use Rattle.std.proofs.Common.{◌≡◌, ◌∙◌, ℕ, zero, suc, List, true, false, get_or, arith, ap, refl}
-use Rattle.std.specs.Prelude.{Option, Some, None, bit_xor, slice_index}
+use Rattle.std.proofs.Common.{◌≡◌, ◌∙◌, ℕ, zero, suc, List, true, false, get_or, length, arith, ap, refl}
+use Rattle.std.specs.Prelude.{Option, Some, None, bit_xor, replicate, slice_index}
 use Rattle.dch_bits.specs.declared.bit.Bit.{Bit}
 use Rattle.dch_bits.specs.declared.bit.Bit.TheVariants.{Zero, One}
 use Rattle.dch_bits.specs.declared.bit.Trit.{Trit}
@@ -14,7 +14,7 @@ use Rattle.dch_damage.specs.Turns.{bit_after, cell_after, next_turned, other_bit
 use Rattle.dch_damage.specs.Waiting.{IubWaits, RadioWaits}
 use Rattle.dch_damage.specs.declared.turned.Turned.{Turned}
 use Rattle.dch_damage.specs.declared.turned.Turned.TheVariants.{Not, Odd, Even}
-use Rattle.dch_damage.proofs.Changed.{changed_same}
+use Rattle.dch_damage.proofs.Changed.{changed_same, untouched_masks, untouched_turns}
 
 bit_once_more : (turned : Turned) (bit : Bit) → bit_after (next_turned turned) bit ≡ other_bit (bit_after turned bit)
 bit_once_more Not bit = refl
@@ -38,6 +38,21 @@ cell_once_more Even Off = refl
 cell_turned : (n : ℕ) (cell : Trit) → cell_after (turned_of n) cell ≡ turned_cell n cell
 cell_turned zero cell = refl
 cell_turned (suc n) cell = cell_once_more (turned_of n) cell ∙ ap other_cell (cell_turned n cell)
+
+-- a radio frame arrives as it was sent where no turn is kept
+pub radio_as_sent : (tables : RadioTables) (radio : Option Radio) → tables.lost ≡ false → tables.tfci ≡ replicate (length tables.tfci) Not
+    → tables.cells ≡ replicate (length tables.cells) Not → IsWithinIf tables radio → radio ≡ radio_through tables radio
+radio_as_sent tables None kept no_tfci no_cells within = refl
+radio_as_sent tables (Some radio) kept no_tfci no_cells within =
+    let tfci = untouched_turns bit_after tables.tfci radio.tfci (λ x. refl) no_tfci within.tfci in
+    let cells = untouched_turns cell_after tables.cells radio.cells (λ x. refl) no_cells within.cells in
+    rw (kept, ← tfci, ← cells) refl
+
+-- and an Iub frame where no mask is
+pub iub_as_sent : (tables : IubTables) (octets : Option (List ℕ)) → tables.lost ≡ false → tables.masks ≡ replicate (length tables.masks) 0 → IsIubWithin tables octets
+    → octets ≡ iub_through tables octets
+iub_as_sent tables None kept none within = refl
+iub_as_sent tables (Some octets) kept none within = rw (kept) (ap Some (untouched_masks tables.masks octets none within))
 
 -- a radio frame arrives as the damage says
 pub radio_arrives : (damage : List Damage) (dir : Dir) (tables : RadioTables) (radio : Option Radio) → RadioWaits damage dir tables → IsWithinIf tables radio

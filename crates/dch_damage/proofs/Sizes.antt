@@ -95,7 +95,7 @@ spoil_set_as_long tables dir s octet mask inside =
     set_as_long tables dir s (λ set. record set { masks = masked set.masks octet mask }) inside (λ set. length-set set.masks octet _)
 
 -- nor what arrives
-pub arrived_as_long : (tables : Tables) (radio : Option Radio) (iub : Option (List ℕ)) → AreAsLong tables (record tables { radio = radio; iub = iub })
+pub arrived_as_long : (tables : Tables) (radio : Option (Option Radio)) (iub : Option (Option (List ℕ))) → AreAsLong tables (record tables { radio = radio; iub = iub })
 arrived_as_long tables radio iub = record {
   tfci = λ dir. elim dir as (λ d. length (radio_at (record tables { radio = radio; iub = iub }) d).tfci ≡ length (radio_at tables d).tfci) [ Up ↦ refl | Down ↦ refl ];
   cells = λ dir. elim dir as (λ d. length (radio_at (record tables { radio = radio; iub = iub }) d).cells ≡ length (radio_at tables d).cells) [ Up ↦ refl | Down ↦ refl ];

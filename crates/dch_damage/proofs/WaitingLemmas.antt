@@ -208,7 +208,7 @@ waits_spoil dir s octet mask damage tables few inside waits =
     waits
 
 -- what waits doesn't depend on what arrived
-pub waits_arrived : (damage : List Damage) (tables : Tables) (radio : Option Radio) (iub : Option (List ℕ)) → Waits damage tables → Waits damage (record tables { radio = radio; iub = iub })
+pub waits_arrived : (damage : List Damage) (tables : Tables) (radio : Option (Option Radio)) (iub : Option (Option (List ℕ))) → Waits damage tables → Waits damage (record tables { radio = radio; iub = iub })
 waits_arrived damage tables radio iub waits = record {
   radio = λ dir. elim dir as (λ d. RadioWaits damage d (radio_at (record tables { radio = radio; iub = iub }) d)) [ Up ↦ waits.radio Up | Down ↦ waits.radio Down ];
   iub = λ dir set few. elim dir as (λ d. IubWaits damage d set (set_at (record tables { radio = radio; iub = iub }) d set)) [ Up ↦ waits.iub Up set few | Down ↦ waits.iub Down set few ];

@@ -3,15 +3,15 @@ use Rattle.std.specs.Prelude.{◌≡◌, ◌<◌, ◌≤◌, ℕ, List, Option, 
 use Rattle.dch_node.specs.Values.{Radio}
 use Rattle.dch_damage.specs.Tables.{IubTables, RadioTables, set_in}
 
--- what arrived of a radio frame, and how many TFCI bits and cells there is memory for
+-- what arrived in place of a radio frame, and how many TFCI bits and cells there is memory for
 pub record RadioArrival : Type 0 where
-  pub arrived : Option Radio
+  pub instead : Option (Option Radio)
   pub tfci_room : ℕ
   pub cells_room : ℕ
 
--- what arrived of an Iub frame, and how many octets there is memory for
+-- what arrived in place of an Iub frame, and how many octets there is memory for
 pub record IubArrival : Type 0 where
-  pub arrived : Option (List ℕ)
+  pub instead : Option (Option (List ℕ))
   pub room : ℕ
 
 -- there is memory for as many bits and cells as a direction's tables have

@@ -5,6 +5,8 @@ use Rattle.dch_types.specs.declared.channel.Dir.TheVariants.{Up, Down}
 use Rattle.dch_node.specs.Values.{Radio}
 use Rattle.dch_damage.specs.Damage.{each_changed}
 use Rattle.dch_damage.specs.Turns.{bit_after, cell_after, next_turned}
+use Rattle.dch_damage.specs.declared.arrival.Arrival.{Arrival}
+use Rattle.dch_damage.specs.declared.arrival.Arrival.TheVariants.{AsSent, Lost, Damaged}
 use Rattle.dch_damage.specs.declared.turned.Turned.{Turned}
 use Rattle.dch_damage.specs.declared.turned.Turned.TheVariants.{Not}
 
@@ -19,14 +21,14 @@ pub record IubTables : Type 0 where
   pub lost : Bool
   pub masks : List ℕ
 
--- those of both directions and their sets, and what arrived of the radio frame and of the Iub frame that were hit last
+-- those of both directions and their sets, and what arrived in place of the radio frame and of the Iub frame that were hit last
 pub record Tables : Type 0 where
   pub up : RadioTables
   pub down : RadioTables
   pub up_sets : List IubTables
   pub down_sets : List IubTables
-  pub radio : Option Radio
-  pub iub : Option (List ℕ)
+  pub radio : Option (Option Radio)
+  pub iub : Option (Option (List ℕ))
 
 abbrev pub radio_at : Tables → Dir → RadioTables
 radio_at tables Up = tables.up
@@ -53,18 +55,24 @@ set_in sets s = slice_index_or sets s (record { lost = false; masks = [] })
 abbrev pub set_at : Tables → Dir → ℕ → IubTables
 set_at tables dir s = set_in (sets_at tables dir) s
 
--- what arrived of the radio frame that was hit last
-abbrev pub radio_arrived : Tables → Option Radio
-radio_arrived tables = tables.radio
+-- what is received of a frame that was sent: what arrives in place of it, or else the frame itself
+abbrev pub received : {X : Type 0} → Option (Option X) → Option X → Option X
+received None sent = sent
+received (Some instead) sent = instead
 
--- what arrived of the Iub frame that was hit last
-abbrev pub iub_arrived : Tables → Option (List ℕ)
-iub_arrived tables = tables.iub
+-- what arrives of a radio frame that was hit
+abbrev pub radio_arrived : Tables → Option Radio → Option Radio
+radio_arrived tables sent = received tables.radio sent
 
--- what arrived is shown, where a frame came
-abbrev pub came_if : {X : Type 0} → Bool → X → Option X
-came_if true x = Some x
-came_if false x = None
+-- and of an Iub frame
+abbrev pub iub_arrived : Tables → Option (List ℕ) → Option (List ℕ)
+iub_arrived tables sent = received tables.iub sent
+
+-- what arrives in place of a frame, if anything else than the frame itself
+abbrev pub instead_of : {X : Type 0} → Arrival → X → Option (Option X)
+instead_of AsSent x = None
+instead_of Lost x = Some None
+instead_of Damaged x = Some (Some x)
 
 -- one turn more of a place
 abbrev pub turned_at : List Turned → ℕ → List Turned

@@ -16,7 +16,7 @@ use dch_types::Dir;
 use std::alloc::Global;
 use std::marker::Model;
 
-/// The damage that waits for the frames of the next radio frame (10 ms), and what arrives of those that it hits.
+/// The damage that waits for the frames of the next radio frame (10 ms), and what arrives in place of those that it hits.
 pub struct Damage {
     up: RadioDamage,
     down: RadioDamage,
@@ -46,7 +46,7 @@ impl Model for Damage {
 
     ghost Value = { Tables };
 
-    ghost view = { λ d. record { up = d.up; down = d.down; up_sets = d.up_sets.items; down_sets = d.down_sets.items; radio = d.radio.arrived; iub = d.iub.arrived } };
+    ghost view = { λ d. record { up = d.up; down = d.down; up_sets = d.up_sets.items; down_sets = d.down_sets.items; radio = d.radio.instead; iub = d.iub.instead } };
 
     ghost invariant = { λ d. HoldsAll d.up d.down d.up_sets.items d.down_sets.items d.radio d.iub };
 }
@@ -131,43 +131,43 @@ impl Damage {
         }
     }
 
-    /// Hits a radio frame of a direction, if there is one, with the damage that waits. `radio` then shows what arrives.
-    pub fn hit_radio(&mut self, dir: Dir, frame: Option<FrameView<'_>>)
-        requires room { HasRadioRoom self.old dir (radio_of frame) }
+    /// Hits a radio frame of a direction, if one is sent, with the damage that waits. `radio` then shows what arrives of it.
+    pub fn hit_radio(&mut self, dir: Dir, sent: Option<FrameView<'_>>)
+        requires room { HasRadioRoom self.old dir (radio_of sent) }
         ensures opened { (planned : Planned) → IsDamageOf planned self.old → IsDamageOf planned self.new }
-        ensures arrives { (damage : List OneDamage) → Waits damage self.old → Waits damage self.new × (radio_arrived self.new ≡ radio_after damage dir (radio_of frame.entry)) }
+        ensures arrives { (damage : List OneDamage) → Waits damage self.old → Waits damage self.new × (radio_arrived self.new (radio_of sent.entry) ≡ radio_after damage dir (radio_of sent.entry)) }
     {
         match dir {
-            Dir::Up => self.radio.receive(&self.up, frame),
-            Dir::Down => self.radio.receive(&self.down, frame),
+            Dir::Up => self.radio.receive(&self.up, sent),
+            Dir::Down => self.radio.receive(&self.down, sent),
         }
     }
 
-    /// What arrives of the radio frame that was hit last, if anything does.
-    pub fn radio(&self) -> Option<FrameView<'_>>
-        ensures { radio_of result ≡ radio_arrived self.now }
+    /// What arrives of the radio frame that was hit last, given once more: it is lent on where no damage waited for it.
+    pub fn radio<'a>(&'a self, sent: Option<FrameView<'a>>) -> Option<FrameView<'a>>
+        ensures { radio_of result ≡ radio_arrived self.now (radio_of sent.entry) }
     {
-        self.radio.view()
+        self.radio.arriving(sent)
     }
 
-    /// Hits the Iub frame of a direction's set, if there is one, with the damage that waits. `iub` then shows what arrives.
-    pub fn hit_iub(&mut self, dir: Dir, set: u8, octets: Option<&[u8]>)
+    /// Hits the Iub frame of a direction's set, if one is sent, with the damage that waits. `iub` then shows what arrives of it.
+    pub fn hit_iub(&mut self, dir: Dir, set: u8, sent: Option<&[u8]>)
         requires set { set < 8 }
-        requires room { HasIubRoom self.old dir set (octets_of octets) }
+        requires room { HasIubRoom self.old dir set (octets_of sent) }
         ensures opened { (planned : Planned) → IsDamageOf planned self.old → IsDamageOf planned self.new }
-        ensures arrives { (damage : List OneDamage) → Waits damage self.old → Waits damage self.new × (iub_arrived self.new ≡ iub_after damage dir set (octets_of octets.entry)) }
+        ensures arrives { (damage : List OneDamage) → Waits damage self.old → Waits damage self.new × (iub_arrived self.new (octets_of sent.entry) ≡ iub_after damage dir set (octets_of sent.entry)) }
     {
         match dir {
-            Dir::Up => self.iub.receive(&self.up_sets[set as usize], octets),
-            Dir::Down => self.iub.receive(&self.down_sets[set as usize], octets),
+            Dir::Up => self.iub.receive(&self.up_sets[set as usize], sent),
+            Dir::Down => self.iub.receive(&self.down_sets[set as usize], sent),
         }
     }
 
-    /// What arrives of the Iub frame that was hit last, if anything does.
-    pub fn iub(&self) -> Option<&[u8]>
-        ensures { octets_of result ≡ iub_arrived self.now }
+    /// What arrives of the Iub frame that was hit last, given once more: it is lent on where no damage waited for it.
+    pub fn iub<'a>(&'a self, sent: Option<&'a [u8]>) -> Option<&'a [u8]>
+        ensures { octets_of result ≡ iub_arrived self.now (octets_of sent.entry) }
     {
-        self.iub.view()
+        self.iub.arriving(sent)
     }
 
     /// The radio frame is over: nothing waits any more.

@@ -2,9 +2,9 @@ ghost use Rattle.std.specs.Prelude.{◌≡◌, ◌≤◌, ◌<◌, ℕ, None, tr
 ghost use Rattle.dch_damage.specs.Damage.{each_changed};
 ghost use Rattle.dch_damage.specs.Lending.{octets_of};
 ghost use Rattle.dch_damage.specs.Opened.{AreClearedTo, AreNewSets, IsIubDamageOf, IsIubWithin, IsQuietSet};
-ghost use Rattle.dch_damage.specs.Tables.{iub_cleared, iub_through, masked, set_in, with_set};
+ghost use Rattle.dch_damage.specs.Tables.{iub_cleared, iub_through, masked, received, set_in, with_set};
 
-use crate::fronts::{clear, copy};
+use crate::arrival::{Arrival, clear};
 use dch_accept::Accepted;
 use dch_bits::NoMemory;
 use dch_iub::longest;
@@ -87,19 +87,6 @@ impl IubDamage {
             self.touched = false;
         }
     }
-
-    /// Writes octets to the front of `out` as they arrive.
-    fn mask(&self, octets: &[u8], out: &mut [u8])
-        requires table { length octets.now ≤ length self.now.masks }
-        requires room { length octets.now ≤ length out.old }
-        ensures { take (length octets.now) out.new ≡ each_changed (λ k octet. bit_xor octet (slice_index self.now.masks k)) octets.now }
-    {
-        if self.touched {
-            mask_octets(&self.masks, octets, out);
-        } else {
-            copy(octets, out);
-        }
-    }
 }
 
 /// Joins a mask to that of an octet by exclusive or.
@@ -176,63 +163,65 @@ pub fn clear_sets(sets: &mut [IubDamage])
     }
 }
 
-/// What arrived of the Iub frame that was hit last, in memory for the longest one.
+/// What became of the Iub frame that was hit last, with memory for the longest one.
 #[derive(Drop)]
 pub struct IubBuffer {
+    arrival: Arrival,
     octets: Vec<u8>,
     len: usize,
-    came: bool,
 }
 
 impl Model for IubBuffer {
     ghost use Rattle.std.specs.Prelude.{◌≤◌, length, take};
     ghost use Rattle.dch_damage.specs.Buffers.{IubArrival};
-    ghost use Rattle.dch_damage.specs.Tables.{came_if};
+    ghost use Rattle.dch_damage.specs.Tables.{instead_of};
 
     ghost Value = { IubArrival };
 
-    ghost view = { λ b. record { arrived = came_if b.came (take b.len b.octets.items); room = length b.octets.items } };
+    ghost view = { λ b. record { instead = instead_of b.arrival (take b.len b.octets.items); room = length b.octets.items } };
 
     ghost invariant = { λ b. b.len ≤ length b.octets.items };
 }
 
 impl IubBuffer {
-    /// Takes the memory for so many octets. Nothing has arrived.
+    /// Takes the memory for so many octets. Nothing was hit.
     pub fn open(alloc: Global, octets: usize) -> Result<IubBuffer, NoMemory>
-        ensures { IfOk result (λ buffer. buffer ≡ record { arrived = None; room = octets }) }
+        ensures { IfOk result (λ buffer. buffer ≡ record { instead = None; room = octets }) }
     {
         Ok(IubBuffer {
+            arrival: Arrival::AsSent,
             octets: vec![in alloc; 0; octets]?,
             len: 0,
-            came: false,
         })
     }
 
-    /// What arrived, if anything did.
-    pub fn view(&self) -> Option<&[u8]>
-        ensures { octets_of result ≡ self.now.arrived }
+    /// What arrives of the Iub frame that was hit last and is given once more: it is lent on where no damage waited for it.
+    pub fn arriving<'a>(&'a self, sent: Option<&'a [u8]>) -> Option<&'a [u8]>
+        ensures { octets_of result ≡ received self.now.instead (octets_of sent.entry) }
     {
-        if self.came {
-            Some(&self.octets[..self.len])
-        } else {
-            None
+        match self.arrival {
+            Arrival::AsSent => sent,
+            Arrival::Lost => None,
+            Arrival::Damaged => Some(&self.octets[..self.len]),
         }
     }
 
-    /// Takes what arrives of an Iub frame that is hit by the damage.
-    pub fn receive(&mut self, damage: &IubDamage, octets: Option<&[u8]>)
-        requires table { IsIubWithin damage.now (octets_of octets) }
+    /// Takes what becomes of an Iub frame that is hit by the damage. It is copied only where an octet may be masked.
+    pub fn receive(&mut self, damage: &IubDamage, sent: Option<&[u8]>)
+        requires table { IsIubWithin damage.now (octets_of sent) }
         requires room { length damage.now.masks ≤ self.old.room }
-        ensures { self.new ≡ record self.old { arrived = iub_through damage.now (octets_of octets.entry) } }
+        ensures room { self.new.room ≡ self.old.room }
+        ensures arrives { received self.new.instead (octets_of sent.entry) ≡ iub_through damage.now (octets_of sent.entry) }
     {
-        self.came = false;
+        self.arrival = Arrival::AsSent;
         if damage.lost {
-            return;
-        }
-        if let Some(octets) = octets {
-            damage.mask(octets, &mut self.octets);
-            self.len = octets.len();
-            self.came = true;
+            self.arrival = Arrival::Lost;
+        } else if damage.touched {
+            if let Some(octets) = sent {
+                mask_octets(&damage.masks, octets, &mut self.octets);
+                self.len = octets.len();
+                self.arrival = Arrival::Damaged;
+            }
         }
     }
 }

@@ -1,13 +1,11 @@
-ghost use Rattle.std.specs.Prelude.{◌≡◌, ◌≤◌, None, true, length, take, slice_index_or, IfOk};
+ghost use Rattle.std.specs.Prelude.{◌≡◌, ◌≤◌, None, true, length, IfOk};
 ghost use Rattle.dch_accept.specs.Frames.{most_cells, tfci_bits};
 ghost use Rattle.dch_damage.specs.Buffers.{RadioArrival};
-ghost use Rattle.dch_damage.specs.Damage.{each_changed};
 ghost use Rattle.dch_damage.specs.Lending.{radio_of};
 ghost use Rattle.dch_damage.specs.Opened.{HoldsCells, IsQuietRadio, IsRadioDamageOf, IsWithinIf};
-ghost use Rattle.dch_damage.specs.Tables.{flipped, radio_cleared, radio_through};
-ghost use Rattle.dch_damage.specs.Turns.{bit_after, cell_after};
+ghost use Rattle.dch_damage.specs.Tables.{flipped, radio_cleared, radio_through, received};
 
-use crate::fronts::{clear, copy};
+use crate::arrival::{Arrival, clear};
 use crate::turned::{Turned, turn, turn_bits, turn_cells};
 use dch_accept::{Accepted, FrameView};
 use dch_bits::{Bit, NoMemory, Trit};
@@ -101,32 +99,6 @@ impl RadioDamage {
             self.touched = false;
         }
     }
-
-    /// Writes TFCI bits to the front of `out` as they arrive.
-    fn turn_tfci(&self, tfci: &[Bit], out: &mut [Bit])
-        requires table { length tfci.now ≤ length self.now.tfci }
-        requires room { length tfci.now ≤ length out.old }
-        ensures { take (length tfci.now) out.new ≡ each_changed (λ place. bit_after (slice_index_or self.now.tfci place Turned.Not)) tfci.now }
-    {
-        if self.touched {
-            turn_bits(&self.tfci, tfci, out);
-        } else {
-            copy(tfci, out);
-        }
-    }
-
-    /// Writes cells to the front of `out` as they arrive.
-    fn turn_cells(&self, cells: &[Trit], out: &mut [Trit])
-        requires table { length cells.now ≤ length self.now.cells }
-        requires room { length cells.now ≤ length out.old }
-        ensures { take (length cells.now) out.new ≡ each_changed (λ place. cell_after (slice_index_or self.now.cells place Turned.Not)) cells.now }
-    {
-        if self.touched {
-            turn_cells(&self.cells, cells, out);
-        } else {
-            copy(cells, out);
-        }
-    }
 }
 
 /// The TFCI bits of a radio frame of a direction (TS 25.212 4.3.5).
@@ -151,73 +123,75 @@ fn longest_frame(accepted: &Accepted, dir: Dir) -> usize
     longest
 }
 
-/// What arrived of the radio frame that was hit last, in memory for the longest one.
+/// What became of the radio frame that was hit last, with memory for the longest one.
 #[derive(Drop)]
 pub struct RadioBuffer {
+    arrival: Arrival,
     tfci: Vec<Bit>,
     bits: usize,
     cells: Vec<Trit>,
     len: usize,
-    came: bool,
 }
 
 impl Model for RadioBuffer {
     ghost use Rattle.std.specs.Prelude.{◌≤◌, length, take};
     ghost use Rattle.dch_damage.specs.Buffers.{RadioArrival};
-    ghost use Rattle.dch_damage.specs.Tables.{came_if};
+    ghost use Rattle.dch_damage.specs.Tables.{instead_of};
 
     ghost Value = { RadioArrival };
 
-    ghost view = { λ b. record { arrived = came_if b.came (record { tfci = take b.bits b.tfci.items; cells = take b.len b.cells.items }); tfci_room = length b.tfci.items; cells_room = length b.cells.items } };
+    ghost view = { λ b. record { instead = instead_of b.arrival (record { tfci = take b.bits b.tfci.items; cells = take b.len b.cells.items }); tfci_room = length b.tfci.items; cells_room = length b.cells.items } };
 
     ghost invariant = { λ b. (b.bits ≤ length b.tfci.items) × (b.len ≤ length b.cells.items) };
 }
 
 impl RadioBuffer {
-    /// Takes the memory for so many TFCI bits and cells. Nothing has arrived.
+    /// Takes the memory for so many TFCI bits and cells. Nothing was hit.
     pub fn open(alloc: Global, bits: usize, cells: usize) -> Result<RadioBuffer, NoMemory>
-        ensures { IfOk result (λ buffer. buffer ≡ record { arrived = None; tfci_room = bits; cells_room = cells }) }
+        ensures { IfOk result (λ buffer. buffer ≡ record { instead = None; tfci_room = bits; cells_room = cells }) }
     {
         Ok(RadioBuffer {
+            arrival: Arrival::AsSent,
             tfci: vec![in alloc; Bit::Zero; bits]?,
             bits: 0,
             cells: vec![in alloc; Trit::Zero; cells]?,
             len: 0,
-            came: false,
         })
     }
 
-    /// What arrived, if anything did.
-    pub fn view(&self) -> Option<FrameView<'_>>
-        ensures { radio_of result ≡ self.now.arrived }
+    /// What arrives of the radio frame that was hit last and is given once more: it is lent on where no damage waited for it.
+    pub fn arriving<'a>(&'a self, sent: Option<FrameView<'a>>) -> Option<FrameView<'a>>
+        ensures { radio_of result ≡ received self.now.instead (radio_of sent.entry) }
     {
-        if self.came {
-            Some(FrameView {
+        match self.arrival {
+            Arrival::AsSent => sent,
+            Arrival::Lost => None,
+            Arrival::Damaged => Some(FrameView {
                 tfci: &self.tfci[..self.bits],
                 cells: &self.cells[..self.len],
-            })
-        } else {
-            None
+            }),
         }
     }
 
-    /// Takes what arrives of a radio frame that is hit by the damage.
-    pub fn receive(&mut self, damage: &RadioDamage, frame: Option<FrameView<'_>>)
-        requires table { IsWithinIf damage.now (radio_of frame) }
+    /// Takes what becomes of a radio frame that is hit by the damage. It is copied only where a bit or a cell may be turned over.
+    pub fn receive(&mut self, damage: &RadioDamage, sent: Option<FrameView<'_>>)
+        requires table { IsWithinIf damage.now (radio_of sent) }
         requires tfci { length damage.now.tfci ≤ self.old.tfci_room }
         requires cells { length damage.now.cells ≤ self.old.cells_room }
-        ensures { self.new ≡ record self.old { arrived = radio_through damage.now (radio_of frame.entry) } }
+        ensures rooms { (self.new.tfci_room ≡ self.old.tfci_room) × (self.new.cells_room ≡ self.old.cells_room) }
+        ensures arrives { received self.new.instead (radio_of sent.entry) ≡ radio_through damage.now (radio_of sent.entry) }
     {
-        self.came = false;
+        self.arrival = Arrival::AsSent;
         if damage.lost {
-            return;
-        }
-        if let Some(frame) = frame {
-            damage.turn_tfci(frame.tfci, &mut self.tfci);
-            damage.turn_cells(frame.cells, &mut self.cells);
-            self.bits = frame.tfci.len();
-            self.len = frame.cells.len();
-            self.came = true;
+            self.arrival = Arrival::Lost;
+        } else if damage.touched {
+            if let Some(frame) = sent {
+                turn_bits(&damage.tfci, frame.tfci, &mut self.tfci);
+                turn_cells(&damage.cells, frame.cells, &mut self.cells);
+                self.bits = frame.tfci.len();
+                self.len = frame.cells.len();
+                self.arrival = Arrival::Damaged;
+            }
         }
     }
 }

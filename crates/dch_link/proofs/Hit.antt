@@ -5,9 +5,8 @@ use Rattle.std.proofs.lemmas.List.{length-set}
 use Rattle.dch_types.specs.declared.channel.Dir.TheVariants.{Down}
 use Rattle.dch_accept.specs.Plans.{Planned}
 use Rattle.dch_damage.specs.Opened.{HasRadioRoom}
-use Rattle.dch_damage.specs.Tables.{radio_arrived}
 use Rattle.dch_nodeb.specs.Values.{radio_shown}
-use Rattle.dch_link.specs.Hearing.{Arrive}
+use Rattle.dch_link.specs.Hearing.{Arrive, radio_heard}
 use Rattle.dch_link.specs.Legs.{LegState, opened_leg, radio_from, undamaged}
 use Rattle.dch_link.specs.Soft.{SoftState, framed}
 use Rattle.dch_link.specs.SoftStanding.{AreLegsOf, AreNewLegs, ArePartsOf, IsLegOf, RepresentLegs, Represents, RepresentsLeg}
@@ -26,10 +25,10 @@ pub record HitTo (count : ℕ) (old new : List LegParts) : Type 0 where
   pub rooms : EachLeg (λ k leg. count ≤ k → HasRadioRoom leg.damage Down (radio_shown leg.node_b)) new
   pub opened : (planned : Planned) → AreLegsOf planned old → AreLegsOf planned new
   pub stand : (planned : Planned) (first : ℕ) (states : ℕ → LegState) → RepresentLegs planned first states old → RepresentLegs planned first states new
-  pub arrive : (planned : Planned) (first : ℕ) (states : ℕ → LegState) → RepresentLegs planned first states old → EachLeg (λ k leg. k < count → radio_arrived leg.damage ≡ radio_from (states k)) new
+  pub arrive : (planned : Planned) (first : ℕ) (states : ℕ → LegState) → RepresentLegs planned first states old → EachLeg (λ k leg. k < count → radio_heard leg ≡ radio_from (states k)) new
 
 pub hit_next : (count : ℕ) (old mid : List LegParts) (it hit : LegParts) → HitTo count old mid → IsLeg mid count it → ((planned : Planned) → IsLegOf planned it → IsLegOf planned hit)
-    → ((planned : Planned) (first : ℕ) (leg : LegState) → RepresentsLeg planned first leg it → RepresentsLeg planned first leg hit × (radio_arrived hit.damage ≡ radio_from leg)) → HitTo (count + 1) old (slice_set mid count hit)
+    → ((planned : Planned) (first : ℕ) (leg : LegState) → RepresentsLeg planned first leg it → RepresentsLeg planned first leg hit × (radio_heard hit ≡ radio_from leg)) → HitTo (count + 1) old (slice_set mid count hit)
 hit_next count old mid it hit was is opened arrives = record {
   all = length-set mid count hit ∙ was.all;
   rooms = set_leg (λ k leg. count + 1 ≤ k → HasRadioRoom leg.damage Down (radio_shown leg.node_b)) mid count hit is.0 (λ later. absurd (omega (arith, later))) (λ k leg other here later. was.rooms k leg here (omega (arith, later)));
@@ -37,7 +36,7 @@ hit_next count old mid it hit was is opened arrives = record {
   stand = λ planned first states are.
       set_leg (λ k leg. RepresentsLeg planned first (states k) leg) mid count hit is.0 (arrives planned first (states count) (was.stand planned first states are count it is)).0 (λ k leg other here. was.stand planned first states are k leg here);
   arrive = λ planned first states are.
-      set_leg (λ k leg. k < count + 1 → radio_arrived leg.damage ≡ radio_from (states k)) mid count hit is.0 (λ early. (arrives planned first (states count) (was.stand planned first states are count it is)).1)
+      set_leg (λ k leg. k < count + 1 → radio_heard leg ≡ radio_from (states k)) mid count hit is.0 (λ early. (arrives planned first (states count) (was.stand planned first states are count it is)).1)
       (λ k leg other here early. was.arrive planned first states are k leg here (omega (arith, early, other)));
 }
 

@@ -2,13 +2,13 @@ ghost use Rattle.std.specs.Prelude.{◌≡◌, ◌<◌, ◌≤◌, ◌+◌, ◌%
 ghost use Rattle.dch_types.specs.declared.channel.Dir.TheVariants.{Down, Up};
 ghost use Rattle.dch_accept.specs.Plans.{Planned};
 ghost use Rattle.dch_damage.specs.Opened.{HasIubRoom, HasRadioRoom};
-ghost use Rattle.dch_damage.specs.Tables.{iub_arrived, radio_arrived};
 ghost use Rattle.dch_nodeb.specs.Values.{iub_shown, radio_shown};
 ghost use Rattle.dch_txframes.specs.Lending.{octets_of, radio_of};
 ghost use Rattle.dch_node.specs.Standing.{Tells};
 ghost use Rattle.dch_steptext.specs.Reports.{TellsFew};
 ghost use Rattle.dch_link.specs.Fitting.{MayFitIub, MayFitRadio};
 ghost use Rattle.dch_link.specs.SoftEvents.{damaged};
+ghost use Rattle.dch_link.specs.Hearing.{iub_heard, radio_heard};
 ghost use Rattle.dch_link.specs.Legs.{LegState, ReceivesIub, ReceivesRadio, Transmits, iub_from, opened_leg, radio_from, undamaged};
 ghost use Rattle.dch_link.specs.SoftStanding.{IsLegOf, IsStandingLeg, LegLeadsTo, MayHit, RepresentsLeg, damage_of};
 
@@ -110,7 +110,7 @@ impl Leg {
         ensures few { TellsFew U.shows 4000000 user.old user.new }
     {
         self.damage.hit_iub(Dir::Down, set, sent);
-        if let Some(frame) = self.damage.iub() {
+        if let Some(frame) = self.damage.iub(sent) {
             self.node_b
                 .step_with(accepted, NodeBEvent::Iub { set, frame }, user);
         }
@@ -142,7 +142,7 @@ impl Leg {
         ensures few { TellsFew U.shows 4000000 user.old user.new }
     {
         self.damage.hit_radio(Dir::Up, sent);
-        let frame = self.damage.radio();
+        let frame = self.damage.radio(sent);
         self.node_b
             .step_with(accepted, NodeBEvent::Phy { frame }, user);
     }
@@ -152,16 +152,16 @@ impl Leg {
         requires room { HasRadioRoom self.old.damage Down (radio_shown self.old.node_b) }
         ensures opened { (planned : Planned) → IsLegOf planned self.old → IsLegOf planned self.new }
         ensures arrives { (planned : Planned) (first : ℕ) (leg : LegState) → RepresentsLeg planned first leg self.old →
-            RepresentsLeg planned first leg self.new × (radio_arrived self.new.damage ≡ radio_from leg) }
+            RepresentsLeg planned first leg self.new × (radio_heard self.new ≡ radio_from leg) }
     {
         self.damage.hit_radio(Dir::Down, self.node_b.sent());
     }
 
     /// What arrives of the downlink radio frame, if anything does.
     pub(crate) fn radio(&self) -> Option<FrameView<'_>>
-        ensures { radio_of result ≡ radio_arrived self.now.damage }
+        ensures { radio_of result ≡ radio_heard self.now }
     {
-        self.damage.radio()
+        self.damage.radio(self.node_b.sent())
     }
 
     /// Hits the uplink Iub frame of a set that the Node B sent last, if it sent one. `iub` then shows what arrives.
@@ -170,16 +170,17 @@ impl Leg {
         requires room { HasIubRoom self.old.damage Up set (iub_shown self.old.node_b set) }
         ensures opened { (planned : Planned) → IsLegOf planned self.old → IsLegOf planned self.new }
         ensures arrives { (planned : Planned) (first : ℕ) (leg : LegState) → RepresentsLeg planned first leg self.old →
-            RepresentsLeg planned first leg self.new × (iub_arrived self.new.damage ≡ iub_from leg set) }
+            RepresentsLeg planned first leg self.new × (iub_heard self.new set ≡ iub_from leg set) }
     {
         self.damage.hit_iub(Dir::Up, set, self.node_b.iub(set));
     }
 
-    /// What arrives of the uplink Iub frame, if anything does.
-    pub(crate) fn iub(&self) -> Option<&[u8]>
-        ensures { octets_of result ≡ iub_arrived self.now.damage }
+    /// What arrives of the uplink Iub frame of a set that was hit last, if anything does.
+    pub(crate) fn iub(&self, set: u8) -> Option<&[u8]>
+        requires { set < 8 }
+        ensures { octets_of result ≡ iub_heard self.now set }
     {
-        self.damage.iub()
+        self.damage.iub(self.node_b.iub(set))
     }
 
     /// The radio frame is over: no damage waits any more.

@@ -282,8 +282,9 @@ impl Link {
         ensures next { (second : Planned) → HasNext accepted.now second self.old → HasNext accepted.now second self.new }
         ensures few { TellsFew U.shows (step_bytes accepted.now.config) user.old user.new }
     {
-        self.damage.hit_iub(Dir::Down, set, self.rnc.iub(set));
-        if let Some(frame) = self.damage.iub() {
+        let sent = self.rnc.iub(set);
+        self.damage.hit_iub(Dir::Down, set, sent);
+        if let Some(frame) = self.damage.iub(sent) {
             self.node_b
                 .step_with(accepted, NodeBEvent::Iub { set, frame }, user);
         }
@@ -310,8 +311,9 @@ impl Link {
         ensures next { (second : Planned) → HasNext accepted.now second self.old → HasNext accepted.now second self.new }
         ensures same { user.new ≡ user.old }
     {
-        self.damage.hit_radio(Dir::Down, self.node_b.sent());
-        let frame = self.damage.radio();
+        let sent = self.node_b.sent();
+        self.damage.hit_radio(Dir::Down, sent);
+        let frame = self.damage.radio(sent);
         self.ue.step_with(accepted, UeEvent::Phy { frame }, user);
     }
 
@@ -323,8 +325,9 @@ impl Link {
         ensures next { (second : Planned) → HasNext accepted.now second self.old → HasNext accepted.now second self.new }
         ensures few { TellsFew U.shows (step_bytes accepted.now.config) user.old user.new }
     {
-        self.damage.hit_radio(Dir::Up, self.ue.sent());
-        let frame = self.damage.radio();
+        let sent = self.ue.sent();
+        self.damage.hit_radio(Dir::Up, sent);
+        let frame = self.damage.radio(sent);
         self.node_b
             .step_with(accepted, NodeBEvent::Phy { frame }, user);
     }
@@ -338,8 +341,9 @@ impl Link {
         ensures next { (second : Planned) → HasNext accepted.now second self.old → HasNext accepted.now second self.new }
         ensures few { TellsFew U.shows (step_bytes accepted.now.config + 2400) user.old user.new }
     {
-        self.damage.hit_iub(Dir::Up, set, self.node_b.iub(set));
-        if let Some(frame) = self.damage.iub() {
+        let sent = self.node_b.iub(set);
+        self.damage.hit_iub(Dir::Up, set, sent);
+        if let Some(frame) = self.damage.iub(sent) {
             self.rnc
                 .step_with(accepted, RncEvent::Iub { set, frame }, user);
             self.compare_up(accepted, user);

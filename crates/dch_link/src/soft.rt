@@ -342,7 +342,7 @@ impl Soft {
         ensures few { TellsFew U.shows 4000000 user.old user.new }
     {
         self.legs[leg as usize].hit_iub(set);
-        if let Some(frame) = self.legs[leg as usize].iub() {
+        if let Some(frame) = self.legs[leg as usize].iub(set) {
             if let Err(error) = self.combiner.take(accepted, set, leg, cfn, frame) {
                 tell_error(user, set, error);
             }

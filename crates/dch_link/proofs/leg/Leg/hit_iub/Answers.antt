@@ -1,8 +1,10 @@
-use Rattle.std.proofs.Common.{◌∙◌, ℕ, List, Option, ap, sym, subst}
+use Rattle.std.proofs.Common.{◌≡◌, ◌∙◌, ℕ, List, Option, ap, sym, subst}
 use Rattle.dch_types.specs.declared.channel.Dir.TheVariants.{Up}
 use Rattle.dch_nodeb.specs.Values.{iub_shown}
 use Rattle.dch_damage.specs.Damage.{iub_after}
+use Rattle.dch_damage.specs.Lending.{octets_of as octets_hit}
 use Rattle.dch_damage.specs.Opened.{HasIubRoom}
+use Rattle.dch_damage.specs.Tables.{iub_arrived}
 use Rattle.dch_link.proofs.Arriving.{octets_same}
 use Rattle.dch_link.specs.SoftStanding.{IsLegOf, RepresentsLeg}
 use Rattle.dch_link.specs.SoftValues.{LegParts}
@@ -29,4 +31,5 @@ returns-clause-arrives c = λ planned first leg was.
     let it : LegParts = the_view c.self.inside in
     let is : RepresentsLeg planned first leg it = subst (λ (l : LegParts). RepresentsLeg planned first leg l) (sym c.self.view_is) was in
     let waits = c.hit_iub.ensures.arrives leg.damage is.damage in
-    (with_damage planned first leg it leg.damage c.hit_iub.new.self is waits.0, waits.1 ∙ ap (iub_after leg.damage Up set) (octets_same c.iub.result ∙ c.iub.ensures ∙ is.node_b.shows.iub set c.requires.set))
+    let sent : octets_hit c.iub.result ≡ iub_shown it.node_b set = octets_same c.iub.result ∙ c.iub.ensures in
+    (with_damage planned first leg it leg.damage c.hit_iub.new.self is waits.0, ap (iub_arrived c.hit_iub.new.self) (sym sent) ∙ waits.1 ∙ ap (iub_after leg.damage Up set) (sent ∙ is.node_b.shows.iub set c.requires.set))

@@ -1,9 +1,11 @@
-use Rattle.std.proofs.Common.{◌∙◌, Option, ap, sym, subst}
+use Rattle.std.proofs.Common.{◌≡◌, ◌∙◌, Option, ap, sym, subst}
 use Rattle.dch_types.specs.declared.channel.Dir.TheVariants.{Down}
 use Rattle.dch_node.specs.Values.{Radio}
 use Rattle.dch_nodeb.specs.Values.{radio_shown}
 use Rattle.dch_damage.specs.Damage.{radio_after}
+use Rattle.dch_damage.specs.Lending.{radio_of as radio_hit}
 use Rattle.dch_damage.specs.Opened.{HasRadioRoom}
+use Rattle.dch_damage.specs.Tables.{radio_arrived}
 use Rattle.dch_link.proofs.Arriving.{radio_same}
 use Rattle.dch_link.specs.SoftStanding.{IsLegOf, RepresentsLeg}
 use Rattle.dch_link.specs.SoftValues.{LegParts}
@@ -28,4 +30,5 @@ returns-clause-arrives c = λ planned first leg was.
     let it : LegParts = the_view c.self.inside in
     let is : RepresentsLeg planned first leg it = subst (λ (l : LegParts). RepresentsLeg planned first leg l) (sym c.self.view_is) was in
     let waits = c.hit_radio.ensures.arrives leg.damage is.damage in
-    (with_damage planned first leg it leg.damage c.hit_radio.new.self is waits.0, waits.1 ∙ ap (radio_after leg.damage Down) (radio_same c.sent.result ∙ c.sent.ensures ∙ is.node_b.shows.radio))
+    let sent : radio_hit c.sent.result ≡ radio_shown it.node_b = radio_same c.sent.result ∙ c.sent.ensures in
+    (with_damage planned first leg it leg.damage c.hit_radio.new.self is waits.0, ap (radio_arrived c.hit_radio.new.self) (sym sent) ∙ waits.1 ∙ ap (radio_after leg.damage Down) (sent ∙ is.node_b.shows.radio))

@@ -21,7 +21,7 @@ hit_iub-requires-clause-room g c =
     let planned = c.args.accepted.now in
     let nodes : Nodes = the_view c.self.inside in
     let opened : IsLinkOf planned nodes = subst (λ (n : Nodes). IsLinkOf planned n) (sym c.self.view_is) c.requires.opened in
-    subst (λ (o : Option (List ℕ)). HasIubRoom nodes.damage Down c.args.set o) (sym (octets_same c.iub.result ∙ c.iub.ensures ∙ opened.stands.rnc.shows.iub c.args.set c.requires.set))
+    subst (λ (o : Option (List ℕ)). HasIubRoom nodes.damage Down c.args.set o) (sym (octets_same c.iub-sent.result ∙ c.iub-sent.ensures ∙ opened.stands.rnc.shows.iub c.args.set c.requires.set))
     (iub_room planned nodes.damage Down c.args.set (opened.link.rnc.last.iub c.args.set) opened.opened.damage c.requires.set (opened.stands.rnc_sends.iub_is c.args.set c.requires.set))
 
 pub step_with-requires-clause-event : goal.step_with-requires-clause-event
@@ -30,8 +30,8 @@ step_with-requires-clause-event g c =
     let nodes : Nodes = the_view c.self.inside in
     let opened : IsLinkOf planned nodes = subst (λ (n : Nodes). IsLinkOf planned n) (sym c.self.view_is) c.requires.opened in
     set_there planned Down c.args.set opened.link.damage (opened.link.rnc.last.iub c.args.set) c.in-Some.frame.now (opened.stands.rnc_sends.iub_is c.args.set c.requires.set)
-    (ap octets_hit (sym c.in-Some.is) ∙ c.iub-2.ensures ∙ (c.hit_iub.ensures.arrives opened.link.damage opened.stands.damage).1
-    ∙ ap (iub_after opened.link.damage Down c.args.set) (octets_same c.iub.result ∙ c.iub.ensures ∙ opened.stands.rnc.shows.iub c.args.set c.requires.set))
+    (ap octets_hit (sym c.in-Some.is) ∙ c.iub.ensures ∙ (c.hit_iub.ensures.arrives opened.link.damage opened.stands.damage).1
+    ∙ ap (iub_after opened.link.damage Down c.args.set) (octets_same c.iub-sent.result ∙ c.iub-sent.ensures ∙ opened.stands.rnc.shows.iub c.args.set c.requires.set))
 
 pub returns-in-Some-clause-passes : goal.returns-in-Some-clause-passes
 returns-in-Some-clause-passes g c = λ began first link was.
@@ -41,7 +41,7 @@ returns-in-Some-clause-passes g c = λ began first link was.
     let is : Represents began planned first link nodes = subst (λ (n : Nodes). Represents began planned first link n) (sym c.self.view_is) was in
     let waits = c.hit_iub.ensures.arrives link.damage is.damage in
     let arrives : Some c.in-Some.frame.now ≡ iub_after link.damage Down set (link.rnc.last.iub set) =
-    ap octets_hit (sym c.in-Some.is) ∙ c.iub-2.ensures ∙ waits.1 ∙ ap (iub_after link.damage Down set) (octets_same c.iub.result ∙ c.iub.ensures ∙ is.rnc.shows.iub set c.requires.set) in
+    ap octets_hit (sym c.in-Some.is) ∙ c.iub.ensures ∙ waits.1 ∙ ap (iub_after link.damage Down set) (octets_same c.iub-sent.result ∙ c.iub-sent.ensures ∙ is.rnc.shows.iub set c.requires.set) in
     let hit : Nodes = record nodes { damage = c.hit_iub.new.self } in
     let stood : Represents began planned first link hit = with_damage began planned first link nodes link.damage c.hit_iub.new.self is waits.0 in
     subst (λ (o : Option (List ℕ)). LeadsTo began planned first (λ next lines. MayGoDown set o link next lines) (record hit { node_b = c.step_with.new.self }) (Tells g.U.Indications.shows c.args.user.now c.step_with.new.user)) arrives
@@ -63,7 +63,7 @@ returns-in_default-clause-passes g c = λ began first link was.
     let is : Represents began planned first link nodes = subst (λ (n : Nodes). Represents began planned first link n) (sym c.self.view_is) was in
     let waits = c.hit_iub.ensures.arrives link.damage is.damage in
     let none : None ≡ iub_after link.damage Down set (link.rnc.last.iub set) =
-    ap octets_hit (sym c.in_default.is) ∙ c.iub-2.ensures ∙ waits.1 ∙ ap (iub_after link.damage Down set) (octets_same c.iub.result ∙ c.iub.ensures ∙ is.rnc.shows.iub set c.requires.set) in
+    ap octets_hit (sym c.in_default.is) ∙ c.iub.ensures ∙ waits.1 ∙ ap (iub_after link.damage Down set) (octets_same c.iub-sent.result ∙ c.iub-sent.ensures ∙ is.rnc.shows.iub set c.requires.set) in
     let hit : Nodes = record nodes { damage = c.hit_iub.new.self } in
     subst (λ (o : Option (List ℕ)). LeadsTo began planned first (λ next lines. MayGoDown set o link next lines) hit (Tells g.U.Indications.shows c.args.user.now c.args.user.now)) none (record {
       next = link;

@@ -21,7 +21,7 @@ hit_radio-requires g c =
     let nodes : Nodes = the_view c.self.inside in
     let opened : IsLinkOf planned nodes = subst (λ (n : Nodes). IsLinkOf planned n) (sym c.self.view_is) c.requires.opened in
     record {
-      room = subst (λ (r : Option Radio). HasRadioRoom nodes.damage Down r) (sym (radio_same c.sent.result ∙ c.sent.ensures ∙ opened.stands.node_b.shows.radio))
+      room = subst (λ (r : Option Radio). HasRadioRoom nodes.damage Down r) (sym (radio_same c.sent-sent.result ∙ c.sent-sent.ensures ∙ opened.stands.node_b.shows.radio))
           (radio_room planned nodes.damage Down opened.link.node_b.last.sent opened.opened.damage opened.stands.node_b_sends.radio_is);
     }
 
@@ -32,7 +32,7 @@ step_with-requires-clause-event g c =
     let opened : IsLinkOf planned nodes = subst (λ (n : Nodes). IsLinkOf planned n) (sym c.self.view_is) c.requires.opened in
     tfci_kept planned Down opened.link.damage opened.link.node_b.last.sent c.radio-frame.result opened.stands.node_b_sends.radio_is
     (sym (radio_same c.radio-frame.result) ∙ c.radio-frame.ensures ∙ (c.hit_radio.ensures.arrives opened.link.damage opened.stands.damage).1
-    ∙ ap (radio_after opened.link.damage Down) (radio_same c.sent.result ∙ c.sent.ensures ∙ opened.stands.node_b.shows.radio))
+    ∙ ap (radio_after opened.link.damage Down) (radio_same c.sent-sent.result ∙ c.sent-sent.ensures ∙ opened.stands.node_b.shows.radio))
 
 pub returns-clause-comes : goal.returns-clause-comes
 returns-clause-comes g c = λ began first link was.
@@ -41,7 +41,7 @@ returns-clause-comes g c = λ began first link was.
     let is : Represents began planned first link nodes = subst (λ (n : Nodes). Represents began planned first link n) (sym c.self.view_is) was in
     let waits = c.hit_radio.ensures.arrives link.damage is.damage in
     let arrives : radio_of c.radio-frame.result ≡ radio_after link.damage Down link.node_b.last.sent =
-    sym (radio_same c.radio-frame.result) ∙ c.radio-frame.ensures ∙ waits.1 ∙ ap (radio_after link.damage Down) (radio_same c.sent.result ∙ c.sent.ensures ∙ is.node_b.shows.radio) in
+    sym (radio_same c.radio-frame.result) ∙ c.radio-frame.ensures ∙ waits.1 ∙ ap (radio_after link.damage Down) (radio_same c.sent-sent.result ∙ c.sent-sent.ensures ∙ is.node_b.shows.radio) in
     let hit : Nodes = record nodes { damage = c.hit_radio.new.self } in
     let stood : Represents began planned first link hit = with_damage began planned first link nodes link.damage c.hit_radio.new.self is waits.0 in
     let led = ue_next began planned first link hit (DownlinkFrame (radio_of c.radio-frame.result)) c.step_with.new.self (Tells g.U.Indications.shows c.args.user.now c.step_with.new.user) stood c.step_with.ensures.opened (c.step_with.ensures.step planned link.ue.state refl is.ue.stands) in

@@ -23,7 +23,7 @@ hit_radio-requires g c =
     let nodes : Nodes = the_view c.self.inside in
     let opened : IsLinkOf planned nodes = subst (λ (n : Nodes). IsLinkOf planned n) (sym c.self.view_is) c.requires.opened in
     record {
-      room = subst (λ (r : Option Radio). HasRadioRoom nodes.damage Up r) (sym (radio_same c.sent.result ∙ c.sent.ensures ∙ opened.stands.ue.shows.radio))
+      room = subst (λ (r : Option Radio). HasRadioRoom nodes.damage Up r) (sym (radio_same c.sent-sent.result ∙ c.sent-sent.ensures ∙ opened.stands.ue.shows.radio))
           (radio_room planned nodes.damage Up opened.link.ue.last.sent opened.opened.damage opened.stands.ue_sends.radio_is);
     }
 
@@ -34,7 +34,7 @@ step_with-requires-clause-event g c =
     let opened : IsLinkOf planned nodes = subst (λ (n : Nodes). IsLinkOf planned n) (sym c.self.view_is) c.requires.opened in
     tfci_kept planned Up opened.link.damage opened.link.ue.last.sent c.radio-frame.result opened.stands.ue_sends.radio_is
     (sym (radio_same c.radio-frame.result) ∙ c.radio-frame.ensures ∙ (c.hit_radio.ensures.arrives opened.link.damage opened.stands.damage).1
-    ∙ ap (radio_after opened.link.damage Up) (radio_same c.sent.result ∙ c.sent.ensures ∙ opened.stands.ue.shows.radio))
+    ∙ ap (radio_after opened.link.damage Up) (radio_same c.sent-sent.result ∙ c.sent-sent.ensures ∙ opened.stands.ue.shows.radio))
 
 pub returns-clause-passes : goal.returns-clause-passes
 returns-clause-passes g c = λ began first link was.
@@ -43,7 +43,7 @@ returns-clause-passes g c = λ began first link was.
     let is : Represents began planned first link nodes = subst (λ (n : Nodes). Represents began planned first link n) (sym c.self.view_is) was in
     let waits = c.hit_radio.ensures.arrives link.damage is.damage in
     let arrives : radio_of c.radio-frame.result ≡ radio_after link.damage Up link.ue.last.sent =
-    sym (radio_same c.radio-frame.result) ∙ c.radio-frame.ensures ∙ waits.1 ∙ ap (radio_after link.damage Up) (radio_same c.sent.result ∙ c.sent.ensures ∙ is.ue.shows.radio) in
+    sym (radio_same c.radio-frame.result) ∙ c.radio-frame.ensures ∙ waits.1 ∙ ap (radio_after link.damage Up) (radio_same c.sent-sent.result ∙ c.sent-sent.ensures ∙ is.ue.shows.radio) in
     let hit : Nodes = record nodes { damage = c.hit_radio.new.self } in
     let stood : Represents began planned first link hit = with_damage began planned first link nodes link.damage c.hit_radio.new.self is waits.0 in
     subst (λ (r : Option Radio). LeadsTo began planned first (NodeBReports link (UplinkFrame r)) (record hit { node_b = c.step_with.new.self }) (Tells g.U.Indications.shows c.args.user.now c.step_with.new.user)) arrives

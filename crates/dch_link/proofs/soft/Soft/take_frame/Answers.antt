@@ -1,7 +1,6 @@
 use Rattle.dch_steptext.proofs.Reporting.{few_none, few_one}
 use Rattle.std.proofs.Common.{◌≡◌, ◌<◌, ◌∙◌, ℕ, List, Option, Some, None, length, refl, ap, sym, subst, inl, inr, get_or-set_same, arith}
 use Rattle.std.specs.Prelude.{slice_set}
-use Rattle.dch_damage.specs.Tables.{iub_arrived}
 use Rattle.dch_txframes.specs.Lending.{octets_of}
 use Rattle.dch_node.specs.Standing.{Tells}
 use Rattle.dch_types.specs.declared.channel.Dir.TheVariants.{Up}
@@ -10,6 +9,7 @@ use Rattle.dch_node.specs.Lines.{IubBad}
 use Rattle.dch_link.specs.Errors.{error_number}
 use Rattle.dch_link.specs.Legs.{iub_from}
 use Rattle.dch_link.specs.SoftStages.{IsRefused, IsTaken, MayTake}
+use Rattle.dch_link.specs.Hearing.{iub_heard}
 use Rattle.dch_link.specs.SoftStanding.{ArePartsOf, IsSoftOf, LeadsTo, Represents}
 use Rattle.dch_link.specs.SoftValues.{LegParts, Parts}
 use Rattle.dch_link.specs.contracts.soft.Soft.{the_view}
@@ -50,7 +50,7 @@ returns-in-Err-clause-takes g c = λ first soft was.
     let arrive = c.hit_iub.ensures.arrives planned first (soft.legs c.args.leg) (is.legs c.args.leg it (inside, c.index_mut.ensures.value)) in
     let stood : Represents planned first soft hits = stands_with_hit planned first soft parts c.args.leg hit is inside arrive.0 in
     let here : c.index.result.now ≡ hit = c.index.ensures ∙ get_or-set_same parts.legs c.args.leg hit c.index.result.now inside in
-    let came : Some c.in-Some.frame.now ≡ iub_from (soft.legs c.args.leg) c.args.set = ap octets_of (sym c.in-Some.is) ∙ c.iub.ensures ∙ ap (λ (l : LegParts). iub_arrived l.damage) here ∙ arrive.1 in
+    let came : Some c.in-Some.frame.now ≡ iub_from (soft.legs c.args.leg) c.args.set = ap octets_of (sym c.in-Some.is) ∙ c.iub.ensures ∙ ap (λ (l : LegParts). iub_heard l c.args.set) here ∙ arrive.1 in
     subst (λ (o : Option (List ℕ)). LeadsTo planned first (λ next lines. MayTake c.args.cfn c.args.set c.args.leg o soft next lines) (record hits { combiner = c.take.new.self }) (Tells g.U.Indications.shows c.args.user.now c.tell_error.new.user)) came
     (led_by planned first (IsRefused c.args.cfn c.args.set c.in-Some.frame.now soft) (λ next lines. MayTake c.args.cfn c.args.set c.args.leg (Some c.in-Some.frame.now) soft next lines) (record hits { combiner = c.take.new.self }) (Tells g.U.Indications.shows c.args.user.now c.tell_error.new.user) (λ next lines does. inr does)
     (refused_frame planned first soft hits c.args.cfn c.args.set c.in-Some.frame.now c.in-Err.error c.take.new.self (Tells g.U.Indications.shows c.args.user.now c.tell_error.new.user) stood c.in-Err.ensures.err c.in-Err.ensures.same c.take.ensures.others (told_one g.U.Indications.shows c.args.user.now c.tell_error.new.user (IubBad Up c.args.set (error_number c.in-Err.error)) c.tell_error.ensures)))
@@ -79,7 +79,7 @@ returns-in_default-take-clause-takes g c = λ first soft was.
     let arrive = c.hit_iub.ensures.arrives planned first (soft.legs c.args.leg) (is.legs c.args.leg it (inside, c.index_mut.ensures.value)) in
     let stood : Represents planned first soft hits = stands_with_hit planned first soft parts c.args.leg hit is inside arrive.0 in
     let here : c.index.result.now ≡ hit = c.index.ensures ∙ get_or-set_same parts.legs c.args.leg hit c.index.result.now inside in
-    let came : Some c.in-Some.frame.now ≡ iub_from (soft.legs c.args.leg) c.args.set = ap octets_of (sym c.in-Some.is) ∙ c.iub.ensures ∙ ap (λ (l : LegParts). iub_arrived l.damage) here ∙ arrive.1 in
+    let came : Some c.in-Some.frame.now ≡ iub_from (soft.legs c.args.leg) c.args.set = ap octets_of (sym c.in-Some.is) ∙ c.iub.ensures ∙ ap (λ (l : LegParts). iub_heard l c.args.set) here ∙ arrive.1 in
     subst (λ (o : Option (List ℕ)). LeadsTo planned first (λ next lines. MayTake c.args.cfn c.args.set c.args.leg o soft next lines) (record hits { combiner = c.take.new.self }) (Tells g.U.Indications.shows c.args.user.now c.args.user.now)) came
     (led_by planned first (IsTaken c.args.cfn c.args.set c.args.leg c.in-Some.frame.now soft) (λ next lines. MayTake c.args.cfn c.args.set c.args.leg (Some c.in-Some.frame.now) soft next lines) (record hits { combiner = c.take.new.self }) (Tells g.U.Indications.shows c.args.user.now c.args.user.now) (λ next lines does. inl does)
     (took_frame planned first soft hits c.args.cfn c.args.set c.args.leg c.in-Some.frame.now c.take.new.self (Tells g.U.Indications.shows c.args.user.now c.args.user.now) refl stood c.in_default-take.ensures.ok c.take.ensures.others))
@@ -108,7 +108,7 @@ returns-in_default-clause-takes g c = λ first soft was.
     let arrive = c.hit_iub.ensures.arrives planned first (soft.legs c.args.leg) (is.legs c.args.leg it (inside, c.index_mut.ensures.value)) in
     let stood : Represents planned first soft hits = stands_with_hit planned first soft parts c.args.leg hit is inside arrive.0 in
     let here : c.index.result.now ≡ hit = c.index.ensures ∙ get_or-set_same parts.legs c.args.leg hit c.index.result.now inside in
-    let came : None ≡ iub_from (soft.legs c.args.leg) c.args.set = ap octets_of (sym c.in_default.is) ∙ c.iub.ensures ∙ ap (λ (l : LegParts). iub_arrived l.damage) here ∙ arrive.1 in
+    let came : None ≡ iub_from (soft.legs c.args.leg) c.args.set = ap octets_of (sym c.in_default.is) ∙ c.iub.ensures ∙ ap (λ (l : LegParts). iub_heard l c.args.set) here ∙ arrive.1 in
     subst (λ (o : Option (List ℕ)). LeadsTo planned first (λ next lines. MayTake c.args.cfn c.args.set c.args.leg o soft next lines) hits (Tells g.U.Indications.shows c.args.user.now c.args.user.now)) came
     (soft_stays planned first soft hits (Tells g.U.Indications.shows c.args.user.now c.args.user.now) refl stood)
 
