@@ -10,10 +10,10 @@ use Rattle.dch_iub.specs.declared.error.IubError.{IubError}
 use Rattle.dch_node.specs.IubFrames.{refusal_number}
 use Rattle.dch_node.specs.Lines.{IubBad, Line}
 use Rattle.dch_node.specs.Values.{Output}
-use Rattle.dch_nodeb.specs.State.{Event as NodeBEvent, IubFrame as IubFrameDown, State as NodeBState}
-use Rattle.dch_nodeb.specs.Steps.{Steps as NodeBSteps}
-use Rattle.dch_rnc.specs.State.{Event as RncEvent, IubFrame as IubFrameUp, State as RncState}
-use Rattle.dch_rnc.specs.Steps.{Steps as RncSteps}
+use Rattle.dch_nodecmd.specs.NodebState.{Event as NodeBEvent, IubFrame as IubFrameDown, State as NodeBState}
+use Rattle.dch_nodecmd.specs.NodebSteps.{Steps as NodeBSteps}
+use Rattle.dch_nodecmd.specs.RncState.{Event as RncEvent, IubFrame as IubFrameUp, State as RncState}
+use Rattle.dch_nodecmd.specs.RncSteps.{Steps as RncSteps}
 use Rattle.dch_nodecmd.specs.NodeBLasting.{node_b_lasting}
 use Rattle.dch_nodecmd.specs.NodeBNoTrace.{BringsRefusedAfter as BringsDown}
 use Rattle.dch_nodecmd.specs.NodeBRules.{node_b_rules}

@@ -5,7 +5,7 @@ use Rattle.dch_io.specs.Ends.{End}
 use Rattle.dch_check.specs.declared.both.Configurations.{Configurations}
 use Rattle.dch_script.specs.Lines.{lines_of}
 use Rattle.dch_lines.specs.declared.stop.Outcome.TheVariants.{Ok as Done}
-use Rattle.dch_rnc.specs.Values.{Node as Rnc}
+use Rattle.dch_nodecmd.specs.RncValues.{Node as Rnc}
 use Rattle.dch_gen.specs.SoftValues.{LegParts}
 use Rattle.dch_runlaw.specs.SoftRules.{soft_lines}
 use Rattle.dch_runlaw.specs.SoftRun.{Run, opened_run}

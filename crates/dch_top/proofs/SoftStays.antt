@@ -7,7 +7,7 @@ use Rattle.dch_lines.specs.Semantics.{LineSteps, Resumes}
 use Rattle.dch_node.specs.Lines.{Line}
 use Rattle.dch_types.specs.declared.channel.Dir.TheVariants.{Up, Down}
 use Rattle.dch_nodecmd.specs.UeState.{Event as UeEvent}
-use Rattle.dch_rnc.specs.State.{BlockedCombination, Change, Event as RncEvent, IubFrame, OfferedUnit, Tick}
+use Rattle.dch_nodecmd.specs.RncState.{BlockedCombination, Change, Event as RncEvent, IubFrame, OfferedUnit, Tick}
 use Rattle.dch_nodecmd.specs.RncLasting.{rnc_lasting}
 use Rattle.dch_gen.specs.SoftEvents.{BlockedCombination as Blocks, Damages, Event, Happens, OfferedUnit as Offers}
 use Rattle.dch_gen.specs.LinkLegs.{LegState, iub_from}

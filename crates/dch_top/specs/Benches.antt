@@ -1,7 +1,7 @@
 -- The nodes that a bench holds.
 use Rattle.std.specs.Prelude.{List, [], ◌∷◌, Option, None, map}
-use Rattle.dch_nodeb.specs.Values.{Node as NodeB}
-use Rattle.dch_rnc.specs.Values.{Node as Rnc}
+use Rattle.dch_nodecmd.specs.NodebValues.{Node as NodeB}
+use Rattle.dch_nodecmd.specs.RncValues.{Node as Rnc}
 use Rattle.dch_gen.specs.SoftValues.{LegParts}
 use Rattle.dch_nodecmd.specs.UeValues.{Node as Ue}
 use Rattle.dch_top.specs.declared.bench.NodeBs.{NodeBs}

@@ -2,8 +2,8 @@
 use Rattle.std.specs.Prelude.{◌≡◌, ℕ, [], ◌∷◌, Some}
 use Rattle.std.specs.Io.KnownBytes.{Appends}
 use Rattle.dch_io.specs.Ends.{End}
-use Rattle.dch_nodeb.specs.Values.{Node as NodeB}
-use Rattle.dch_rnc.specs.Values.{Node as Rnc}
+use Rattle.dch_nodecmd.specs.NodebValues.{Node as NodeB}
+use Rattle.dch_nodecmd.specs.RncValues.{Node as Rnc}
 use Rattle.dch_nodecmd.specs.UeValues.{Node as Ue}
 use Rattle.dch_gen.specs.GenRuns.{CutsSummary, WritesSummary}
 use Rattle.dch_top.specs.Benches.{Nodes, no_nodes}

@@ -8,8 +8,8 @@ use Rattle.dch_runlaw.specs.LinkcmdRules.{link_lines}
 use Rattle.dch_runlaw.specs.LinkcmdRun.{Run, opened_run}
 use Rattle.dch_runlaw.specs.LinkcmdRunLines.{AreRunLines}
 use Rattle.dch_nodecmd.specs.RunLines.{coming}
-use Rattle.dch_nodeb.specs.Values.{Node as NodeB}
-use Rattle.dch_rnc.specs.Values.{Node as Rnc}
+use Rattle.dch_nodecmd.specs.NodebValues.{Node as NodeB}
+use Rattle.dch_nodecmd.specs.RncValues.{Node as Rnc}
 use Rattle.dch_nodecmd.specs.UeValues.{Node as Ue}
 use Rattle.dch_top.specs.Benches.{Nodes}
 use Rattle.dch_top.specs.Configured.{RunsConfigured}

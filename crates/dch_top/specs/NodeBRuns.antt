@@ -1,9 +1,9 @@
 -- What a run of the command `nodeb` does.
 use Rattle.std.specs.Prelude.{◌≡◌, ℕ, [], ◌∷◌, Bool}
 use Rattle.dch_io.specs.Ends.{End}
-use Rattle.dch_nodeb.specs.Standing.{Represents, Shows}
-use Rattle.dch_nodeb.specs.State.{Event, State}
-use Rattle.dch_nodeb.specs.Values.{Node}
+use Rattle.dch_nodecmd.specs.NodebStanding.{Represents, Shows}
+use Rattle.dch_nodecmd.specs.NodebState.{Event, State}
+use Rattle.dch_nodecmd.specs.NodebValues.{Node}
 use Rattle.dch_nodecmd.specs.NodeBRules.{node_b_rules}
 use Rattle.dch_nodecmd.specs.Run.{Run}
 use Rattle.dch_top.specs.Benches.{Nodes, no_nodes}

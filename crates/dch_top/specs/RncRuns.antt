@@ -1,9 +1,9 @@
 -- What a run of the command `rnc` does.
 use Rattle.std.specs.Prelude.{◌≡◌, ℕ, Bool, Some}
 use Rattle.dch_io.specs.Ends.{End}
-use Rattle.dch_rnc.specs.Standing.{Represents, Shows}
-use Rattle.dch_rnc.specs.State.{Event, State}
-use Rattle.dch_rnc.specs.Values.{Node}
+use Rattle.dch_nodecmd.specs.RncStanding.{Represents, Shows}
+use Rattle.dch_nodecmd.specs.RncState.{Event, State}
+use Rattle.dch_nodecmd.specs.RncValues.{Node}
 use Rattle.dch_nodecmd.specs.RncRules.{rnc_rules}
 use Rattle.dch_nodecmd.specs.Run.{Run}
 use Rattle.dch_top.specs.Benches.{Nodes, no_nodes}

@@ -11,7 +11,7 @@ use Rattle.dch_gen.specs.SoftValues.{LegParts}
 use Rattle.dch_runlaw.specs.SoftLineEvents.{Said, Says}
 use Rattle.dch_runlaw.specs.SoftRules.{soft_lines}
 use Rattle.dch_runlaw.specs.SoftRun.{Run, opened_run}
-use Rattle.dch_rnc.specs.Values.{Node as Rnc}
+use Rattle.dch_nodecmd.specs.RncValues.{Node as Rnc}
 use Rattle.dch_nodecmd.specs.UeValues.{Node as Ue}
 use Rattle.dch_top.specs.Benches.{Nodes, node_bs_of}
 use Rattle.dch_top.specs.Configured.{RunsConfigured}

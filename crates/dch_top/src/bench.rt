@@ -2,9 +2,9 @@ ghost use Rattle.std.specs.Prelude.{◌≡◌, [], ◌∷◌, Some, option_map, 
 ghost use Rattle.dch_top.specs.Benches.{no_nodes, node_bs_of};
 
 use dch_gen::Leg;
-use dch_nodeb::NodeB;
+use dch_nodecmd::NodeB;
+use dch_nodecmd::dch_rnc::Rnc;
 use dch_nodecmd::dch_ue::Ue;
-use dch_rnc::Rnc;
 use std::marker::Model;
 
 /// The Node Bs of a run.

@@ -11,9 +11,9 @@ use crate::node_run::later_of;
 use crate::status::Status;
 use dch_check::Configurations;
 use dch_io::{Sink, Source, new_piece};
-use dch_nodeb::NodeB;
+use dch_nodecmd::NodeB;
+use dch_nodecmd::dch_rnc::Rnc;
 use dch_nodecmd::dch_ue::Ue;
-use dch_rnc::Rnc;
 use dch_runlaw::LinkHandler;
 use std::alloc::Global;
 

@@ -13,8 +13,8 @@ use crate::status::Status;
 use dch_check::Configurations;
 use dch_gen::Leg;
 use dch_io::{Sink, Source, new_piece};
+use dch_nodecmd::dch_rnc::Rnc;
 use dch_nodecmd::dch_ue::Ue;
-use dch_rnc::Rnc;
 use dch_runlaw::SoftHandler;
 use std::alloc::Global;
 

@@ -1,5 +1,5 @@
 use Rattle.std.proofs.Common.{◌∙◌, [], ◌∷◌, ap, refl}
-use Rattle.dch_nodeb.specs.Standing.{Represents, Shows}
+use Rattle.dch_nodecmd.specs.NodebStanding.{Represents, Shows}
 use Rattle.dch_nodecmd.specs.NodeBRules.{node_b_rules}
 use Rattle.dch_nodecmd.specs.Rules.{node_lines}
 use Rattle.dch_top.specs.Benches.{Nodes}

@@ -1,5 +1,5 @@
 use Rattle.std.proofs.Common.{◌∙◌, Some, ap, refl}
-use Rattle.dch_rnc.specs.Standing.{Represents, Shows}
+use Rattle.dch_nodecmd.specs.RncStanding.{Represents, Shows}
 use Rattle.dch_nodecmd.specs.RncRules.{rnc_rules}
 use Rattle.dch_nodecmd.specs.Rules.{node_lines}
 use Rattle.dch_top.specs.Benches.{Nodes}
