@@ -1,6 +1,7 @@
 pub mod Advancing
 pub mod Filling
 pub mod Stepping
+pub mod CountedCells
 pub mod Counting
 pub mod GoodSides
 pub mod GoodBearers
