@@ -4,67 +4,11 @@
  *     /tmp/peers            checksums, as crates/dch_bench/stdout has them
  *     /tmp/peers measure    how much is done in a second
  */
-#include <stdint.h>
-#include <stdio.h>
-#include <string.h>
-#include <time.h>
-
-enum { SIZE = 504, STEPS = SIZE + 8, STATES = 256, BLOCKS = 4, CODED_BLOCKS = 16, WORDS = 256, BITS = 5000 };
-
-struct vote { uint32_t zeros, ones; };
-
-/* Numbers that look like chance. */
-static uint32_t state;
-
-static uint32_t number(void)
-{
-    state = state * 1664525u + 1013904223u;
-    return state >> 16;
-}
-
-static void fill(uint8_t *bits, int count)
-{
-    for (int k = 0; k < count; k++)
-        bits[k] = number() >= 32768;
-}
-
-/* FNV-1a of 32 bits. */
-static uint32_t add(uint32_t sum, const uint8_t *octets, int count)
-{
-    for (int k = 0; k < count; k++)
-        sum = (sum ^ octets[k]) * 0x01000193u;
-    return sum;
-}
-
-static uint32_t add_number(uint32_t sum, uint32_t value)
-{
-    uint8_t octets[4] = { value, value >> 8, value >> 16, value >> 24 };
-    return add(sum, octets, 4);
-}
-
-/* The convolutional codes of TS 25.212 4.2.3.1: rate 1/2 and rate 1/3. */
-static void encode(int rate, const uint8_t *restrict block, uint8_t *restrict out)
-{
-    uint8_t inputs[8 + STEPS] = { 0 };
-    memcpy(inputs + 8, block, SIZE);
-    const uint8_t *x = inputs + 8;
-    if (rate == 2)
-        for (int k = 0; k < STEPS; k++) {
-            out[2 * k] = x[k] ^ x[k - 2] ^ x[k - 3] ^ x[k - 4] ^ x[k - 8];
-            out[2 * k + 1] = x[k] ^ x[k - 1] ^ x[k - 2] ^ x[k - 3] ^ x[k - 5] ^ x[k - 7] ^ x[k - 8];
-        }
-    else
-        for (int k = 0; k < STEPS; k++) {
-            out[3 * k] = x[k] ^ x[k - 2] ^ x[k - 3] ^ x[k - 5] ^ x[k - 6] ^ x[k - 7] ^ x[k - 8];
-            out[3 * k + 1] = x[k] ^ x[k - 1] ^ x[k - 3] ^ x[k - 4] ^ x[k - 7] ^ x[k - 8];
-            out[3 * k + 2] = x[k] ^ x[k - 1] ^ x[k - 2] ^ x[k - 5] ^ x[k - 8];
-        }
-}
+#include "work.h"
 
 /* The Viterbi search in costs of 16 bits, back from the end of the tail, so that of several nearest blocks the first in text order is found. The least cost is
  * taken off at times. States 2i and 2i + 1 lead to i by input 0 and to i + 128 by input 1; all generators have their first and last tap, so that two costs serve
  * the four branches. */
-static const unsigned generators[2][3] = { { 0561, 0753, 0 }, { 0557, 0663, 0711 } };
 static uint16_t ones_at[2][3][STATES / 2]; /* all bits set where input 0 in state 2i gives output 1 */
 static uint16_t rows[STEPS + 1][STATES];
 
@@ -176,7 +120,6 @@ static void find(const uint8_t *received, uint32_t *index, uint32_t *distance)
 }
 
 /* The parity of TS 25.212 4.2.1, eight bits at a time by a table over a register whose highest bit is the next to leave. */
-static const uint32_t polynomials[4][2] = { { 8, 0x9b }, { 12, 0x80f }, { 16, 0x1021 }, { 24, 0x800063 } };
 static uint32_t crc_tables[4][256];
 
 static void make_tables(void)
@@ -204,25 +147,6 @@ static void attach(int kind, const uint8_t *block, uint8_t *out)
         out[BITS + k] = crc >> (32 - size + k) & 1;
 }
 
-/* The inputs, and what is made of them. */
-static struct vote votes[BLOCKS][3 * STEPS];
-static uint8_t found[BLOCKS][SIZE], blocks[CODED_BLOCKS][SIZE], coded[CODED_BLOCKS][3 * STEPS], words[WORDS][30], block[BITS], attached[BITS + 24];
-static uint32_t differing[BLOCKS], index_of[WORDS], distance_of[WORDS];
-static int rate, kind;
-
-static void open_nearest(int copies, int damaged)
-{
-    for (int b = 0; b < BLOCKS; b++) {
-        state = b;
-        fill(found[b], SIZE);
-        encode(rate, found[b], coded[0]);
-        for (int k = 0; k < rate * STEPS; k++) {
-            uint32_t n = number(), wrong = !damaged ? 0 : n < 4096 ? (uint32_t)copies : n % (copies / 2 + 1);
-            votes[b][k] = coded[0][k] ? (struct vote){ wrong, copies - wrong } : (struct vote){ copies - wrong, wrong };
-        }
-    }
-}
-
 static void run_nearest(void)
 {
     for (int b = 0; b < BLOCKS; b++)
@@ -244,35 +168,6 @@ static void run_coder(void)
 static void run_parity(void)
 {
     attach(kind, block, attached);
-}
-
-static double seconds(void)
-{
-    struct timespec now;
-    clock_gettime(CLOCK_MONOTONIC, &now);
-    return now.tv_sec + now.tv_nsec / 1e9;
-}
-
-static void report(int measured, const char *name, const char *unit, int amount, void (*run)(void), uint32_t sum)
-{
-    if (!measured) {
-        printf("%s %s=%d sum=%08x\n", name, unit, amount, sum);
-        return;
-    }
-    double best = 0;
-    for (int i = 0; i < 3; i++) {
-        double start = seconds(), time = 0, done = 0;
-        while (time < 0.3) {
-            run();
-            done += amount;
-            time = seconds() - start;
-        }
-        best = done / time > best ? done / time : best;
-    }
-    if (strcmp(unit, "bits") == 0)
-        printf("%s %.1f Mbit/s\n", name, best / 1e6);
-    else
-        printf("%s %.0f %s/s\n", name, best, unit);
 }
 
 int main(int count, char **args)
