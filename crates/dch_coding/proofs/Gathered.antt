@@ -4,6 +4,7 @@ use Rattle.std.specs.Int.{bit_at}
 use Rattle.std.specs.List.{range_with_len}
 use Rattle.std.proofs.lemmas.List.{ext_get_or, get_or-drop, length-drop, take_all, take_more}
 use Rattle.std.proofs.lemmas.List.FromFn.{map-range_with_len_more, get_or-map-range_with_len, length-map-range_with_len}
+use Rattle.std.proofs.lemmas.Nat.{div_below, pow_pos}
 use Rattle.std.proofs.lemmas.Nat.Bits.{bit_at_lowest}
 use Rattle.dch_bits.specs.declared.bit.Bit.{Bit}
 use Rattle.dch_bits.specs.declared.bit.Bit.TheVariants.{Zero}
@@ -12,7 +13,7 @@ use Rattle.dch_bits.specs.Octets.{bit_of_octets, octet_bit}
 use Rattle.dch_bits.proofs.Places.{bit_of_number-is, number_below}
 use Rattle.dch_coding.specs.Parity.{add, bits_of_octets}
 use Rattle.dch_coding.specs.Register.{lowest_bits}
-use Rattle.dch_coding.proofs.Registers.{length-lowest_bits, get_or-lowest_bits, lowest_bits-xor}
+use Rattle.dch_coding.proofs.Registers.{length-lowest_bits, get_or-lowest_bits, lowest_bits-xor, lowest_bits-zero}
 use Rattle.dch_coding.proofs.Products.{add_zeros}
 use Rattle.dch_coding.proofs.Aligned.{lowest_bits-shifted, lowest_bits-split}
 use Rattle.dch_coding.proofs.Tables.{xor_high}
@@ -29,7 +30,7 @@ lowest_bits-behind count v d low =
     ap (lowest_bits count) (sym (xor_high d v count low)) ∙ lowest_bits-xor count d (v * 2 ^ count)
     ∙ ap (add (lowest_bits count d)) none ∙ add_zeros count (lowest_bits count d) (sym (length-lowest_bits count d))
 
-octet_behind : (count v d : ℕ) → d < 256 → lowest_bits (count + 8) (v * 256 + d) ≡ lowest_bits count v ++ lowest_bits 8 d
+pub octet_behind : (count v d : ℕ) → d < 256 → lowest_bits (count + 8) (v * 256 + d) ≡ lowest_bits count v ++ lowest_bits 8 d
 octet_behind count v d low =
     let front : (v * 256 + d) / 256 ≡ v = omega arith in
     lowest_bits-split count 8 (v * 256 + d) ∙ ap₂ (λ n xs. lowest_bits count n ++ xs) front (lowest_bits-behind 8 v d low)
@@ -39,9 +40,15 @@ octets_joined a b c d first second third fourth =
     octet_behind 24 ((a * 256 + b) * 256 + c) d fourth
     ∙ ap (λ xs. xs ++ lowest_bits 8 d) (octet_behind 16 (a * 256 + b) c third ∙ ap (λ xs. xs ++ lowest_bits 8 c) (octet_behind 8 a b second))
 
-lowest_bits-first : (n : ℕ) → lowest_bits 1 n ≡ bit_of_number (n % 2) ∷ []
+pub lowest_bits-first : (n : ℕ) → lowest_bits 1 n ≡ bit_of_number (n % 2) ∷ []
 unfolding lowest_bits
 lowest_bits-first n = ap (λ m. bit_of_number m ∷ []) (bit_at_lowest n)
+
+-- the bits of a number, by those of its half
+pub bits_behind : (count n : ℕ) → lowest_bits (suc count) n ≡ lowest_bits count (n / 2) ++ bit_of_number (n % 2) ∷ []
+bits_behind count n =
+    let one : suc count ≡ count + 1 = omega arith in
+    ap (λ k. lowest_bits k n) one ∙ lowest_bits-split count 1 n ∙ ap (λ xs. lowest_bits count (n / 2) ++ xs) (lowest_bits-first n)
 
 -- a number with one bit more
 bit_behind : (bits : List Bit) (i v : ℕ) → i < length bits → lowest_bits i v ≡ take i bits → lowest_bits (i + 1) (v * 2 + number_of (get_or bits i Zero)) ≡ take (i + 1) bits
@@ -110,7 +117,8 @@ octet_part octets i =
     (λ k h. let inside : k < 8 = omega (arith, h, long) in
     get_or-map-range_with_len f 0 8 k k Zero inside (omega arith) ∙ bit_place octets i k inside ∙ sym (get_or-lowest_bits 8 (get_or octets i 0) k inside))
 
-octet_more : (octets : List ℕ) (n : ℕ) → map (bit_of_octets octets) (range_with_len 0 (8 * (n + 1))) ≡ map (bit_of_octets octets) (range_with_len 0 (8 * n)) ++ lowest_bits 8 (get_or octets n 0)
+-- the bits with one octet more
+pub octet_more : (octets : List ℕ) (n : ℕ) → map (bit_of_octets octets) (range_with_len 0 (8 * (n + 1))) ≡ map (bit_of_octets octets) (range_with_len 0 (8 * n)) ++ lowest_bits 8 (get_or octets n 0)
 octet_more octets n =
     let next : 8 * (n + 1) ≡ 8 * n + 8 = omega arith in
     ap (λ k. map (bit_of_octets octets) (range_with_len 0 k)) next ∙ places_more (bit_of_octets octets) (8 * n) 8 ∙ ap (λ xs. map (bit_of_octets octets) (range_with_len 0 (8 * n)) ++ xs) (octet_part octets n)
@@ -147,3 +155,19 @@ bits_of_octets-parts octets k inside =
     map-same : (f g : ℕ → Bit) → ((j : ℕ) → f j ≡ g j) → (js : List ℕ) → map f js ≡ map g js
     map-same f g same [] = refl
     map-same f g same (j ∷ js) = ap₂ (λ (b : Bit) (bs : List Bit). b ∷ bs) (same j) (map-same f g same js)
+
+-- the bits of octets whose first ones are the same
+pub octets_same : (xs ys : List ℕ) (m : ℕ) → ((n : ℕ) → n < m → get_or xs n 0 ≡ get_or ys n 0) → map (bit_of_octets xs) (range_with_len 0 (8 * m)) ≡ map (bit_of_octets ys) (range_with_len 0 (8 * m))
+octets_same xs ys zero same = refl
+octets_same xs ys (suc m) same =
+    let one : 8 * suc m ≡ 8 * (m + 1) = omega arith in
+    let F : List ℕ → List Bit = λ zs. map (bit_of_octets zs) (range_with_len 0 (8 * suc m)) in
+    ap (λ k. map (bit_of_octets xs) (range_with_len 0 k)) one ∙ octet_more xs m
+    ∙ ap₂ (λ bits o. bits ++ lowest_bits 8 o) (octets_same xs ys m (λ n below. same n (omega arith))) (same m (omega arith))
+    ∙ sym (ap (λ k. map (bit_of_octets ys) (range_with_len 0 k)) one ∙ octet_more ys m)
+
+-- a number below a power of two has zeros before its bits
+pub lowest_bits-padded : (more count n : ℕ) → n < 2 ^ count → lowest_bits (more + count) n ≡ replicate more Zero ++ lowest_bits count n
+lowest_bits-padded more count n small =
+    let none : n / 2 ^ count ≡ 0 = omega (arith, div_below n (2 ^ count) 1 (pow_pos count) (omega (arith, small))) in
+    lowest_bits-split more count n ∙ ap (λ m. lowest_bits more m ++ lowest_bits count n) none ∙ ap (λ xs. xs ++ lowest_bits count n) (lowest_bits-zero more)

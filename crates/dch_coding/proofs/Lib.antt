@@ -14,3 +14,4 @@ pub mod Unique
 pub mod Sums
 pub mod Tables
 pub mod Gathered
+pub mod Computed

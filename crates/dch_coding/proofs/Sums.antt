@@ -109,6 +109,10 @@ parity_less low b s known =
     let same : some.0 ≡ s = parity_one low (Zero ∷ b) some.0 s (parity_zero (One ∷ low) b some.0 (omega arith) some.1) known in
     rw same at some.1
 
+pub parity_fewer : (low b s : List Bit) (n : ℕ) → IsParity (One ∷ low) (replicate n Zero ++ b) s → IsParity (One ∷ low) b s
+parity_fewer low b s zero known = known
+parity_fewer low b s (suc n) known = parity_fewer low b s n (parity_less low (replicate n Zero ++ b) s known)
+
 times-zero : (g q : List Bit) → 1 ≤ length g → times g (q ++ Zero ∷ []) ≡ times g q ++ Zero ∷ []
 times-zero g q some =
     let none : replicate (length q) Zero ++ scale Zero g ≡ replicate (length q + length g) Zero = replicate-append-replicate (length q) (length g) Zero in

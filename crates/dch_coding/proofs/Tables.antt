@@ -8,7 +8,7 @@ use Rattle.dch_bits.specs.declared.bit.Bit.TheVariants.{Zero, One}
 use Rattle.dch_coding.specs.Parity.{add, IsParity}
 use Rattle.dch_coding.specs.Register.{lowest_bits, HoldsParity, HoldsWord, word_at}
 use Rattle.dch_coding.proofs.Registers.{length-lowest_bits, lowest_bits-xor, lowest_bits-double, lowest_bits-zero, terms_bits, top_one, holds_none}
-use Rattle.dch_coding.proofs.Sums.{parity_sum, parity_zeros, parity_less, parity_after}
+use Rattle.dch_coding.proofs.Sums.{parity_sum, parity_zeros, parity_fewer, parity_less, parity_after}
 
 pub first_term : (terms : ℕ) → terms < 2 ^ 32 → (2 ^ 32 + terms) / 2 ^ 32 ≡ 1
 first_term terms small = top_one (2 ^ 32 + terms) (2 ^ 32) (omega arith) (omega arith) (omega arith)
@@ -34,6 +34,18 @@ zeros_before terms n r a b whole known = record {
   parity = subst (λ block. IsParity (lowest_bits (suc 32) (2 ^ 32 + terms)) block (lowest_bits 32 r)) whole
       (parity_zeros (lowest_bits (suc 32) (2 ^ 32 + terms)) a (lowest_bits 32 r) n (some_terms terms) known.parity);
 }
+
+-- a block without the zeros before it
+pub fewer_zeros : (terms n r : ℕ) (a b : List Bit) → terms < 2 ^ 32 → a ≡ replicate n Zero ++ b → HoldsParity 32 (2 ^ 32 + terms) a r → HoldsParity 32 (2 ^ 32 + terms) b r
+fewer_zeros terms n r a b small is known =
+    let low : List Bit = lowest_bits 32 (2 ^ 32 + terms) in
+    let first : lowest_bits (suc 32) (2 ^ 32 + terms) ≡ One ∷ low = terms_bits 32 (2 ^ 32 + terms) (first_term terms small) in
+    let whole : IsParity (One ∷ low) (replicate n Zero ++ b) (lowest_bits 32 r) =
+    subst (λ g. IsParity g (replicate n Zero ++ b) (lowest_bits 32 r)) first (subst (λ block. IsParity (lowest_bits (suc 32) (2 ^ 32 + terms)) block (lowest_bits 32 r)) is known.parity) in
+    record {
+      small = known.small;
+      parity = subst (λ g. IsParity g b (lowest_bits 32 r)) (sym first) (parity_fewer low b (lowest_bits 32 r) n whole);
+    }
 
 pub word_none : (terms : ℕ) → terms < 2 ^ 32 → HoldsWord terms 0 0
 word_none terms small =

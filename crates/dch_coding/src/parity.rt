@@ -1,4 +1,4 @@
-ghost use Rattle.std.specs.Prelude.{◌≡◌, ◌+◌, ◌-◌, ◌^◌, ◌<◌, ◌≤◌, ◌↔◌, ◌∷◌, List, length, take, reverse, IsTrue};
+ghost use Rattle.std.specs.Prelude.{◌≡◌, ◌+◌, ◌-◌, ◌^◌, ◌<◌, ◌≤◌, ◌↔◌, ◌∷◌, List, length, take, drop, reverse, IsTrue};
 ghost use Rattle.dch_bits.specs.declared.bit.Bit.{Bit};
 ghost use Rattle.dch_bits.specs.declared.bit.Bit.TheVariants.{One};
 ghost use Rattle.dch_types.specs.declared.channel.Crc.{Crc};
@@ -6,7 +6,9 @@ ghost use Rattle.dch_types.specs.Lengths.{crc_size};
 ghost use Rattle.dch_coding.specs.Parity.{IsParity, IsAttached, IsCheck, header_polynomial, payload_polynomial, bits_of_octets};
 ghost use Rattle.dch_coding.specs.Register.{lowest_bits};
 
+use crate::parities::{header_words, payload_words};
 use crate::polynomial::Polynomial;
+use crate::words::parity_of_octets;
 use dch_bits::{Bit, bit_at};
 use dch_types::Crc;
 
@@ -44,11 +46,20 @@ pub fn header7(bits: &[Bit]) -> u8
     Polynomial::of_header().parity(bits) as u8
 }
 
+/// The seven check bits of an Iub frame's header in octets, over all its bits after the first seven (TS 25.427).
+pub fn header_check(octets: &[u8]) -> u8
+    requires { 1 ≤ length octets.now }
+    ensures check { IsCheck header_polynomial (drop 7 (bits_of_octets octets.now)) result }
+    ensures small { result < 2 ^ 7 }
+{
+    (parity_of_octets(header_words(), octets[0] % 2, &octets[1..]) >> 25) as u8
+}
+
 /// The check of an Iub frame's payload, over the octets between the header and the check (TS 25.427).
 pub fn payload16(octets: &[u8]) -> u16
     ensures { IsCheck payload_polynomial (bits_of_octets octets.now) result }
 {
-    Polynomial::of_payload().parity_of_octets(octets) as u16
+    (parity_of_octets(payload_words(), 0, octets) >> 16) as u16
 }
 
 /// Writes the lowest bits of a number, the lowest first.

@@ -1,11 +1,11 @@
 ghost use Rattle.std.specs.Prelude.{◌≡◌, ◌+◌, ◌-◌, ◌*◌, ◌/◌, ◌%◌, ◌^◌, ◌<◌, ◌≤◌, ◌++◌, ◌∷◌, [], List, suc};
 ghost use Rattle.dch_bits.specs.declared.bit.Bit.{Bit};
 ghost use Rattle.dch_types.specs.Lengths.{crc_size};
-ghost use Rattle.dch_coding.specs.Parity.{polynomial, header_polynomial, payload_polynomial, bits_of_octets};
+ghost use Rattle.dch_coding.specs.Parity.{polynomial, header_polynomial};
 ghost use Rattle.dch_coding.specs.Register.{lowest_bits, HoldsParity};
 
-use crate::words::{after_bits, after_octets};
-use dch_bits::{Bit, bit_at, number};
+use crate::words::after_bits;
+use dch_bits::{Bit, number};
 use dch_types::Crc;
 
 /// The fewest bits for which parities of words are worked out.
@@ -63,18 +63,6 @@ impl Polynomial {
         }
     }
 
-    /// The polynomial of the check of an Iub frame's payload.
-    #[tactic(auto, unfolding(crate::specs::Parity::payload_polynomial, crate::specs::Register::lowest_bits))]
-    pub fn of_payload() -> Self
-        ensures degree { result.degree ≡ 16 }
-        ensures terms { lowest_bits (suc result.degree) result.terms ≡ payload_polynomial }
-    {
-        Polynomial {
-            degree: 16,
-            terms: 0x1_8005,
-        }
-    }
-
     /// The terms below the first one, the highest of them at bit 31, as those of a polynomial of degree 32.
     fn lower_terms(self) -> u32
         ensures { 2 ^ 32 + result ≡ self.terms * 2 ^ (32 - self.degree) }
@@ -101,21 +89,6 @@ impl Polynomial {
         }
         self.parity_in(after_bits(terms, register, words))
     }
-
-    /// The parity of octets, the highest bit of each first, as a number.
-    pub fn parity_of_octets(self, octets: &[u8]) -> u32
-        ensures { HoldsParity self.degree self.terms (bits_of_octets octets.now) result }
-    {
-        let terms = self.lower_terms();
-        let (front, words) = octets.split_at(front_octets(octets.len()));
-        let mut register = 0;
-        for octet in front {
-            for j in 0..8usize {
-                register = next(terms, register, bit_at(u32::from(*octet), 7 - j));
-            }
-        }
-        self.parity_in(after_octets(terms, register, words))
-    }
 }
 
 /// How many bits of a block are taken one by one, before its words of 32 bits. A short block has none.
@@ -124,18 +97,6 @@ fn front_bits(bits: usize) -> usize
     ensures words { (bits - result) % 32 ≡ 0 }
 {
     if bits < SHORT { bits } else { bits % 32 }
-}
-
-/// The same for octets.
-fn front_octets(octets: usize) -> usize
-    ensures inside { result ≤ octets }
-    ensures words { (octets - result) % 4 ≡ 0 }
-{
-    if octets < SHORT / 8 {
-        octets
-    } else {
-        octets % 4
-    }
 }
 
 /// The register after one more bit of a block, under the polynomial of degree 32 with these terms below its first one.

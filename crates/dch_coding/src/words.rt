@@ -9,7 +9,7 @@ use dch_bits::{Bit, number};
 
 /// The parities, under a polynomial of degree 32, of words of 32 bits in which at most one octet is not zero. Place
 /// `256 * t + n` is for the octet `n` with `t` octets of zeros after it.
-type Words = [u32; 1024];
+pub type Words = [u32; 1024];
 
 /// The register after these bits, 32 of them at a time, under the polynomial of degree 32 with these terms below its
 /// first one.
@@ -29,16 +29,19 @@ pub fn after_bits(terms: u32, register: u32, bits: &[Bit]) -> u32
     register
 }
 
-/// The same for octets, the highest bit of each first.
-pub fn after_octets(terms: u32, register: u32, octets: &[u8]) -> u32
-    requires { length octets.now % 4 ≡ 0 }
-    ensures { (a : List Bit) → HoldsParity 32 (2 ^ 32 + terms) a register → HoldsParity 32 (2 ^ 32 + terms) (a ++ bits_of_octets octets.now) result }
+/// The parity of octets, the highest bit of each first, after the octet `first`.
+pub fn parity_of_octets(words: &Words, first: u8, octets: &[u8]) -> u32
+    ensures { (terms : ℕ) → terms < 2 ^ 32 → AreWords terms words.now 1024 → HoldsParity 32 (2 ^ 32 + terms) (lowest_bits 8 first ++ bits_of_octets octets.now) result }
 {
-    if octets.is_empty() {
-        return register;
-    }
-    let mut words = zeros();
-    fill(terms, &mut words);
+    let (front, rest) = octets.split_at(octets.len() % 4);
+    after_octets(words, of_word(words, few_octets(first, front)), rest)
+}
+
+/// The register after these octets, four of them at a time.
+fn after_octets(words: &Words, register: u32, octets: &[u8]) -> u32
+    requires { length octets.now % 4 ≡ 0 }
+    ensures { (terms : ℕ) (a : List Bit) → terms < 2 ^ 32 → AreWords terms words.now 1024 → HoldsParity 32 (2 ^ 32 + terms) a register → HoldsParity 32 (2 ^ 32 + terms) (a ++ bits_of_octets octets.now) result }
+{
     let mut register = register;
     for i in 0..octets.len() / 4 {
         let word = joined(
@@ -47,9 +50,22 @@ pub fn after_octets(terms: u32, register: u32, octets: &[u8]) -> u32
             octets[4 * i + 2],
             octets[4 * i + 3],
         );
-        register = of_word(&words, register ^ word);
+        register = of_word(words, register ^ word);
     }
     register
+}
+
+/// At most four octets as one number, the highest first.
+fn few_octets(first: u8, octets: &[u8]) -> u32
+    requires { length octets.now < 4 }
+    ensures small { result < 2 ^ (8 + 8 * length octets.now) }
+    ensures bits { lowest_bits (8 + 8 * length octets.now) result ≡ lowest_bits 8 first ++ bits_of_octets octets.now }
+{
+    let mut number = u32::from(first);
+    for octet in octets {
+        number = number * 256 + u32::from(*octet);
+    }
+    number
 }
 
 fn zeros() -> Words {

@@ -1,0 +1,5 @@
+use Rattle.dch_coding.proofs.Computed.{header_words}
+use Rattle.dch_coding.proofs.parities.header_words.Goals as goal
+
+pub returns : goal.returns
+returns c = header_words
