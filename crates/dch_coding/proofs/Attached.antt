@@ -1,15 +1,61 @@
 -- A register that holds a block's parity, as the parity that is attached and as a check.
-use Rattle.std.proofs.Common.{◌≡◌, ◌+◌, ◌/◌, ◌^◌, ◌++◌, ◌∷◌, ℕ, suc, List, length, drop, reverse, arith, refl, ap, sym, ◌∙◌, length-append}
+use Rattle.std.proofs.Common.{◌≡◌, ◌+◌, ◌-◌, ◌*◌, ◌/◌, ◌^◌, ◌<◌, ◌≤◌, ◌++◌, ◌∷◌, ℕ, suc, List, length, drop, reverse, arith, refl, ap, sym, ◌∙◌, length-append}
 use Rattle.std.proofs.lemmas.List.{length-reverse}
 use Rattle.dch_bits.specs.declared.bit.Bit.{Bit}
 use Rattle.dch_bits.specs.declared.bit.Bit.TheVariants.{One}
 use Rattle.dch_types.specs.declared.channel.Crc.{Crc}
 use Rattle.dch_types.specs.declared.channel.Crc.TheVariants.{C0, C8, C12, C16, C24}
 use Rattle.dch_types.specs.Lengths.{crc_size}
-use Rattle.dch_coding.specs.Parity.{polynomial, IsAttached, IsCheck}
-use Rattle.dch_coding.specs.Register.{lowest_bits, HoldsParity}
+use Rattle.dch_coding.specs.Parity.{polynomial, header_polynomial, payload_polynomial, IsAttached, IsCheck}
+use Rattle.dch_coding.specs.Register.{lowest_bits, HoldsParity, aligned_terms, terms_of}
 use Rattle.dch_coding.proofs.Registers.{terms_bits, number_of-lowest_bits}
 use Rattle.dch_coding.proofs.Unique.{parity_one}
+
+-- the terms of each polynomial
+pub terms_are : (kind : Crc) → lowest_bits (suc (crc_size kind)) (terms_of kind) ≡ polynomial kind
+unfolding lowest_bits polynomial
+terms_are C0 = refl
+terms_are C8 = refl
+terms_are C12 = refl
+terms_are C16 = refl
+terms_are C24 = refl
+
+pub terms_first : (kind : Crc) → terms_of kind / 2 ^ crc_size kind ≡ 1
+terms_first C0 = refl
+terms_first C8 = refl
+terms_first C12 = refl
+terms_first C16 = refl
+terms_first C24 = refl
+
+pub header_terms : lowest_bits 8 197 ≡ header_polynomial
+unfolding lowest_bits header_polynomial
+header_terms = refl
+
+pub payload_terms : lowest_bits 17 98309 ≡ payload_polynomial
+unfolding lowest_bits payload_polynomial
+payload_terms = refl
+
+-- and where they stand in a register of 32 bits
+pub terms_aligned : (kind : Crc) → 2 ^ 32 + aligned_terms kind ≡ terms_of kind * 2 ^ (32 - crc_size kind)
+terms_aligned C0 = refl
+terms_aligned C8 = refl
+terms_aligned C12 = refl
+terms_aligned C16 = refl
+terms_aligned C24 = refl
+
+pub aligned_small : (kind : Crc) → aligned_terms kind < 2 ^ 32
+aligned_small C0 = omega arith
+aligned_small C8 = omega arith
+aligned_small C12 = omega arith
+aligned_small C16 = omega arith
+aligned_small C24 = omega arith
+
+pub crc_small : (kind : Crc) → crc_size kind ≤ 24
+crc_small C0 = omega arith
+crc_small C8 = omega arith
+crc_small C12 = omega arith
+crc_small C16 = omega arith
+crc_small C24 = omega arith
 
 pub attached : (kind : Crc) (degree terms n : ℕ) (block out : List Bit) → lowest_bits (suc degree) terms ≡ polynomial kind → HoldsParity degree terms block n → out ≡ block ++ reverse (lowest_bits degree n) → IsAttached kind block out
 attached kind degree terms n block out is holds whole = record {

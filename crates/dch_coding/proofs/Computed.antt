@@ -5,10 +5,12 @@ use Rattle.std.specs.List.{range_with_len}
 use Rattle.std.proofs.lemmas.List.FromFn.{get_or-map-range_with_len}
 use Rattle.std.proofs.lemmas.Nat.{xor_lt}
 use Rattle.dch_bits.specs.declared.bit.Bit.{Bit}
+use Rattle.dch_types.specs.declared.channel.Crc.TheVariants.{C0, C8, C12, C16, C24}
 use Rattle.dch_bits.specs.Bits.{bit_of_number}
 use Rattle.dch_bits.proofs.Places.{number_of-bit_of_number}
-use Rattle.dch_coding.specs.Register.{lowest_bits, HoldsParity, HoldsWord, AreWords, word_at}
-use Rattle.dch_coding.specs.declared.parities.TheConstants.{HEADER, PAYLOAD}
+use Rattle.dch_coding.specs.Register.{lowest_bits, HoldsParity, HoldsWord, AreWords, aligned_terms, word_at}
+use Rattle.dch_coding.specs.declared.crc_words.TheConstants.{NO_CRC, CRC8, CRC12, CRC16, CRC24}
+use Rattle.dch_coding.specs.declared.iub_words.TheConstants.{HEADER, PAYLOAD}
 use Rattle.dch_coding.proofs.Aligned.{step_one, step_zero}
 use Rattle.dch_coding.proofs.Gathered.{bits_behind}
 use Rattle.dch_coding.proofs.Registers.{holds_none}
@@ -62,3 +64,18 @@ header_words = are_words 2315255808 HEADER (omega arith) refl
 
 pub payload_words : AreWords 2147811328 PAYLOAD 1024
 payload_words = are_words 2147811328 PAYLOAD (omega arith) refl
+
+pub no_crc_words : AreWords (aligned_terms C0) NO_CRC 1024
+no_crc_words = are_words (aligned_terms C0) NO_CRC (omega arith) refl
+
+pub crc8_words : AreWords (aligned_terms C8) CRC8 1024
+crc8_words = are_words (aligned_terms C8) CRC8 (omega arith) refl
+
+pub crc12_words : AreWords (aligned_terms C12) CRC12 1024
+crc12_words = are_words (aligned_terms C12) CRC12 (omega arith) refl
+
+pub crc16_words : AreWords (aligned_terms C16) CRC16 1024
+crc16_words = are_words (aligned_terms C16) CRC16 (omega arith) refl
+
+pub crc24_words : AreWords (aligned_terms C24) CRC24 1024
+crc24_words = are_words (aligned_terms C24) CRC24 (omega arith) refl

@@ -18,7 +18,7 @@ use Rattle.dch_coding.proofs.Products.{add_zeros}
 use Rattle.dch_coding.proofs.Aligned.{lowest_bits-shifted, lowest_bits-split}
 use Rattle.dch_coding.proofs.Tables.{xor_high}
 
-lowest_bits-none : (n : ℕ) → lowest_bits 0 n ≡ []
+pub lowest_bits-none : (n : ℕ) → lowest_bits 0 n ≡ []
 unfolding lowest_bits
 lowest_bits-none n = refl
 
@@ -51,7 +51,7 @@ bits_behind count n =
     ap (λ k. lowest_bits k n) one ∙ lowest_bits-split count 1 n ∙ ap (λ xs. lowest_bits count (n / 2) ++ xs) (lowest_bits-first n)
 
 -- a number with one bit more
-bit_behind : (bits : List Bit) (i v : ℕ) → i < length bits → lowest_bits i v ≡ take i bits → lowest_bits (i + 1) (v * 2 + number_of (get_or bits i Zero)) ≡ take (i + 1) bits
+pub bit_behind : (bits : List Bit) (i v : ℕ) → i < length bits → lowest_bits i v ≡ take i bits → lowest_bits (i + 1) (v * 2 + number_of (get_or bits i Zero)) ≡ take (i + 1) bits
 bit_behind bits i v inside before =
     let b : Bit = get_or bits i Zero in
     let n : ℕ = v * 2 + number_of b in

@@ -16,6 +16,14 @@ few_blocks x Uncoded short = grind (arith, nat_tests)
 few_blocks x Half short = omega arith
 few_blocks x Third short = omega arith
 
+-- and few filler bits
+pub few_filled : (x : ℕ) (coding : Coding) → x ≤ 5024 → block_count x coding * block_size x (block_count x coding) ≤ 5034
+few_filled x coding short =
+    let count : ℕ = block_count x coding in
+    let few : count ≤ 10 = few_blocks x coding short in
+    let filled : count * block_size x count ≤ x + count = block_size-times x count (block_count-le x coding) (block_count-some x coding) in
+    omega (arith, few, filled)
+
 pub few_coded : (x : ℕ) (coding : Coding) → x ≤ 5024 → coded_bits coding x ≤ 15342
 few_coded x coding short =
     let count : ℕ = block_count x coding in

@@ -1,13 +1,16 @@
-ghost use Rattle.std.specs.Prelude.{◌≡◌, ◌≤◌, ◌*◌, length, take};
-ghost use Rattle.dch_types.specs.Lengths.{block_count, block_size, coded_bits};
+ghost use Rattle.std.specs.Prelude.{◌≡◌, ◌≤◌, ◌+◌, ◌*◌, length, take};
+ghost use Rattle.dch_types.specs.Lengths.{coded_block};
 ghost use Rattle.dch_coding.specs.Chain.{IsCoded};
+ghost use Rattle.dch_coding.specs.Segments.{plan_of};
 ghost use Rattle.dch_coding.specs.declared.block.TheConstants.{ATTACHED, BLOCKS, CODED};
 
-use crate::chain::code;
+use crate::chain::{code_filled, coded_length};
+use crate::cut::Plan;
+use crate::cutting::plan;
 use crate::memory::zeros;
 use crate::parity::{attach, size};
 use dch_bits::{Bit, NoMemory};
-use dch_types::{Coding, Crc, MAX_BLOCK_BITS, block_size};
+use dch_types::{Coding, Crc, MAX_BLOCK_BITS};
 use std::alloc::Global;
 
 /// The most bits of a transport block with its parity.
@@ -22,10 +25,8 @@ pub const CODED: usize = 3 * (BLOCKS + 8 * 10);
 /// The room to code one transport block of at most 5,000 bits at a time.
 #[derive(Drop)]
 pub struct BlockCoder {
-    attached: Vec<Bit>,
     blocks: Vec<Bit>,
     coded: Vec<Bit>,
-    ghost attached_room: { length attached.items ≡ ATTACHED },
     ghost blocks_room: { length blocks.items ≡ BLOCKS },
     ghost coded_room: { length coded.items ≡ CODED },
 }
@@ -34,7 +35,6 @@ impl BlockCoder {
     /// Takes all memory that coding wants.
     pub fn open(alloc: Global) -> Result<BlockCoder, NoMemory> {
         Ok(BlockCoder {
-            attached: zeros(alloc, ATTACHED)?,
             blocks: zeros(alloc, BLOCKS)?,
             coded: zeros(alloc, CODED)?,
         })
@@ -46,61 +46,37 @@ impl BlockCoder {
         ensures coded { IsCoded coding crc bits.now result.now }
         ensures short { length result.now ≤ CODED }
     {
-        let coded = code_into(
-            coding,
-            crc,
-            bits,
-            &mut self.attached,
-            &mut self.blocks,
-            &mut self.coded,
-        );
+        let coded = code_into(coding, crc, bits, &mut self.blocks, &mut self.coded);
         &self.coded[..coded]
     }
 }
 
-/// Codes a transport block to the front of `out`, and answers how many coded bits there are.
-fn code_into(
-    coding: Coding,
-    crc: Crc,
-    bits: &[Bit],
-    attached: &mut [Bit],
-    blocks: &mut [Bit],
-    out: &mut [Bit],
-) -> usize
+/// Codes a transport block to the front of `out`, and answers how many coded bits there are. The block and its parity
+/// are written straight behind the filler of their code blocks.
+fn code_into(coding: Coding, crc: Crc, bits: &[Bit], blocks: &mut [Bit], out: &mut [Bit]) -> usize
     requires bits { length bits.now ≤ 5000 }
-    requires attached { length attached.old ≡ ATTACHED }
     requires blocks { length blocks.old ≡ BLOCKS }
     requires room { length out.old ≡ CODED }
     ensures fits { result ≤ CODED }
     ensures coded { IsCoded coding crc bits.now (take result out.new) }
 {
-    let joined = bits.len() + size(crc);
-    let lengths = lengths_of(coding, joined);
-    let attached = &mut attached[..joined];
-    attach(crc, bits, attached);
-    let blocks = &mut blocks[..lengths.blocks];
-    code(coding, attached, blocks, &mut out[..lengths.coded]);
-    lengths.coded
+    let plan = plan_of_block(coding, bits.len() + size(crc));
+    let coded = plan.blocks * coded_length(coding, plan.size);
+    let blocks = &mut blocks[..plan.blocks * plan.size];
+    let (filler, joined) = blocks.split_at_mut(plan.filler);
+    filler.fill(Bit::Zero);
+    attach(crc, bits, joined);
+    code_filled(coding, &plan, blocks, &mut out[..coded]);
+    coded
 }
 
-/// How many bits the code blocks of a transport block have together, and how many coded bits.
-#[derive(Clone, Copy)]
-struct Lengths {
-    blocks: usize,
-    coded: usize,
-}
-
-fn lengths_of(coding: Coding, joined: usize) -> Lengths
+/// How a transport block with its parity is cut.
+fn plan_of_block(coding: Coding, joined: usize) -> Plan
     requires { joined ≤ ATTACHED }
-    ensures blocks { result.blocks ≡ block_count joined coding * block_size joined (block_count joined coding) }
-    ensures coded { result.coded ≡ coded_bits coding joined }
-    ensures few_blocks { result.blocks ≤ BLOCKS }
-    ensures few_coded { result.coded ≤ CODED }
+    ensures value { result ≡ plan_of joined coding }
+    ensures whole { result.filler + joined ≡ result.blocks * result.size }
+    ensures few_blocks { result.blocks * result.size ≤ BLOCKS }
+    ensures few_coded { result.blocks * coded_block coding result.size ≤ CODED }
 {
-    let count = coding.block_count(joined as u64);
-    let size = block_size(joined as u64, count);
-    Lengths {
-        blocks: (count * size) as usize,
-        coded: coding.coded_bits(joined as u64) as usize,
-    }
+    plan(joined, coding)
 }

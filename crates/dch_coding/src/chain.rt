@@ -1,5 +1,6 @@
-ghost use Rattle.std.specs.Prelude.{◌≡◌, ◌≢◌, ◌<◌, ◌≤◌, ◌*◌, ◌^◌, List, length};
+ghost use Rattle.std.specs.Prelude.{◌≡◌, ◌≢◌, ◌<◌, ◌≤◌, ◌*◌, ◌^◌, ◌++◌, List, length, replicate};
 ghost use Rattle.dch_bits.specs.declared.bit.Bit.{Bit};
+ghost use Rattle.dch_bits.specs.declared.bit.Bit.TheVariants.{Zero};
 ghost use Rattle.dch_types.specs.declared.channel.Coding.TheVariants.{Uncoded};
 ghost use Rattle.dch_types.specs.Lengths.{block_count, block_size, coded_block, coded_bits};
 ghost use Rattle.dch_coding.specs.Segments.{plan_of};
@@ -23,7 +24,18 @@ pub fn code(coding: Coding, joined: &[Bit], blocks: &mut [Bit], out: &mut [Bit])
 {
     let plan = plan(joined.len(), coding);
     split(&plan, joined, blocks);
-    code_blocks(coding, &plan, blocks, out);
+    code_filled(coding, &plan, blocks, out);
+}
+
+/// Codes the code blocks of joined bits, which stand in `blocks` behind their filler zeros.
+pub fn code_filled(coding: Coding, plan: &Plan, blocks: &[Bit], out: &mut [Bit])
+    requires plan { plan.now ≡ plan_of plan.now.bits coding }
+    requires short { plan.now.bits ≤ 2 ^ 31 }
+    requires blocks { length blocks.now ≡ plan.now.blocks * plan.now.size }
+    requires room { length out.old ≡ plan.now.blocks * coded_block coding plan.now.size }
+    ensures { (joined : List Bit) → length joined ≡ plan.now.bits → blocks.now ≡ replicate plan.now.filler Zero ++ joined → out.new ≡ coded_of coding joined }
+{
+    code_blocks(coding, plan, blocks, out);
 }
 
 fn code_blocks(coding: Coding, plan: &Plan, blocks: &[Bit], out: &mut [Bit])
@@ -43,7 +55,8 @@ fn code_blocks(coding: Coding, plan: &Plan, blocks: &[Bit], out: &mut [Bit])
     }
 }
 
-fn coded_length(coding: Coding, size: usize) -> usize
+/// The coded bits of a code block.
+pub fn coded_length(coding: Coding, size: usize) -> usize
     requires { size ≤ 2 ^ 32 }
     ensures { result ≡ coded_block coding size }
 {

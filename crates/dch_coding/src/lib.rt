@@ -5,12 +5,12 @@
 mod block;
 mod chain;
 mod convolution;
+mod crc_words;
 mod cut;
 mod cutting;
+mod iub_words;
 mod memory;
-mod parities;
 mod parity;
-mod polynomial;
 mod rate;
 mod room;
 mod tti;

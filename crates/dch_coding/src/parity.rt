@@ -4,11 +4,11 @@ ghost use Rattle.dch_bits.specs.declared.bit.Bit.TheVariants.{One};
 ghost use Rattle.dch_types.specs.declared.channel.Crc.{Crc};
 ghost use Rattle.dch_types.specs.Lengths.{crc_size};
 ghost use Rattle.dch_coding.specs.Parity.{IsParity, IsAttached, IsCheck, header_polynomial, payload_polynomial, bits_of_octets};
-ghost use Rattle.dch_coding.specs.Register.{lowest_bits};
+ghost use Rattle.dch_coding.specs.Register.{lowest_bits, terms_of, HoldsParity};
 
-use crate::parities::{header_words, payload_words};
-use crate::polynomial::Polynomial;
-use crate::words::parity_of_octets;
+use crate::crc_words::crc_words;
+use crate::iub_words::{header_words, payload_words};
+use crate::words::{parity_of_bits, parity_of_octets};
 use dch_bits::{Bit, bit_at};
 use dch_types::Crc;
 
@@ -20,13 +20,14 @@ pub fn size(kind: Crc) -> usize
 }
 
 /// Writes a block, and after it its parity bits, the last one first (TS 25.212 4.2.1.2).
+#[tactic(auto, using(crate::proofs::Attached::terms_are))]
 pub fn attach(kind: Crc, block: &[Bit], out: &mut [Bit])
     requires { length out.old ≡ length block.now + crc_size kind }
     ensures { IsAttached kind block.now out.new }
 {
     let (front, back) = out.split_at_mut(block.len());
     front.copy_from_slice(block);
-    write_reversed(Polynomial::of(kind).parity(block), back);
+    write_reversed(parity_of(kind, block), back);
 }
 
 /// Whether the bits end with the parity bits of the block before them.
@@ -35,7 +36,7 @@ pub fn check(kind: Crc, bits: &[Bit]) -> bool
     ensures { IsTrue result ↔ IsAttached kind (take (length bits.now - crc_size kind) bits.now) bits.now }
 {
     let (block, parity) = bits.split_at(bits.len() - size(kind));
-    is_reversed(Polynomial::of(kind).parity(block), parity)
+    is_reversed(parity_of(kind, block), parity)
 }
 
 /// The seven check bits of an Iub frame's header, over the header's bits after them (TS 25.427).
@@ -43,7 +44,7 @@ pub fn header7(bits: &[Bit]) -> u8
     ensures check { IsCheck header_polynomial bits.now result }
     ensures small { result < 2 ^ 7 }
 {
-    Polynomial::of_header().parity(bits) as u8
+    (parity_of_bits(header_words(), bits) >> 25) as u8
 }
 
 /// The seven check bits of an Iub frame's header in octets, over all its bits after the first seven (TS 25.427).
@@ -60,6 +61,13 @@ pub fn payload16(octets: &[u8]) -> u16
     ensures { IsCheck payload_polynomial (bits_of_octets octets.now) result }
 {
     (parity_of_octets(payload_words(), 0, octets) >> 16) as u16
+}
+
+/// The parity of a block, as a number.
+fn parity_of(kind: Crc, block: &[Bit]) -> u32
+    ensures { HoldsParity (crc_size kind) (terms_of kind) block.now result }
+{
+    parity_of_bits(crc_words(kind), block) >> (31 - kind.size()) >> 1
 }
 
 /// Writes the lowest bits of a number, the lowest first.

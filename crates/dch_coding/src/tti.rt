@@ -1,31 +1,31 @@
 ghost use Rattle.std.specs.Prelude.{◌≡◌, ◌+◌, ◌*◌, ◌≤◌, length, IfOk};
-ghost use Rattle.dch_types.specs.Lengths.{crc_size, joined_bits, block_count, block_size, coded_bits, tti_bits};
+ghost use Rattle.dch_types.specs.Lengths.{crc_size, joined_bits, coded_block, tti_bits};
+ghost use Rattle.dch_coding.specs.Segments.{plan_of};
 ghost use Rattle.dch_coding.specs.Ttis.{ArePartsUpTo, IsCodedTti};
 
-use crate::chain::code;
+use crate::chain::code_filled;
+use crate::cut::Plan;
+use crate::cutting::plan;
 use crate::memory::zeros;
 use crate::parity::attach;
 use dch_bits::{Bit, NoMemory};
-use dch_types::{Crc, Format, Trch, block_size};
+use dch_types::{Crc, Format, Trch};
 use std::alloc::Global;
 use std::marker::Model;
 
-/// The room to code all transport blocks of a TTI of up to so many coded bits. Contracts see that number. The joined bits of
-/// a TTI and its code blocks with their filler are no more than its coded bits.
+/// The room to code all transport blocks of a TTI of up to so many coded bits. Contracts see that number. The code
+/// blocks of a TTI with their filler are no more than its coded bits.
 #[derive(Drop)]
 pub struct TtiCoder {
-    joined: Vec<Bit>,
     blocks: Vec<Bit>,
 }
 
 impl Model for TtiCoder {
-    ghost use Rattle.std.specs.Prelude.{◌≡◌, ℕ, length};
+    ghost use Rattle.std.specs.Prelude.{ℕ, length};
 
     ghost Value = { ℕ };
 
-    ghost view = { λ c. length c.joined.items };
-
-    ghost invariant = { λ c. length c.blocks.items ≡ length c.joined.items };
+    ghost view = { λ c. length c.blocks.items };
 }
 
 impl TtiCoder {
@@ -34,7 +34,6 @@ impl TtiCoder {
         ensures { IfOk result (λ coder. coder ≡ most) }
     {
         Ok(TtiCoder {
-            joined: zeros(alloc, most)?,
             blocks: zeros(alloc, most)?,
         })
     }
@@ -49,61 +48,36 @@ impl TtiCoder {
         ensures coded { IsCodedTti channel.now format.now blocks.now out.new }
         ensures kept { self.new ≡ self.old }
     {
-        code_into(
-            channel,
-            format,
-            blocks,
-            &mut self.joined,
-            &mut self.blocks,
-            out,
-        );
+        code_into(channel, format, blocks, &mut self.blocks, out);
     }
 }
 
-/// Codes the blocks of a TTI by way of their joined bits and code blocks.
-fn code_into(
-    channel: &Trch,
-    format: &Format,
-    blocks: &[Bit],
-    joined: &mut [Bit],
-    cut: &mut [Bit],
-    out: &mut [Bit],
-)
+/// Codes the blocks of a TTI, which are written with their parity straight behind the filler of its code blocks.
+fn code_into(channel: &Trch, format: &Format, blocks: &[Bit], cut: &mut [Bit], out: &mut [Bit])
     requires limit { tti_bits channel.now format.now ≤ 131072 }
     requires blocks { length blocks.now ≡ format.now.number * format.now.size }
-    requires joined { tti_bits channel.now format.now ≤ length joined.old }
     requires cut { tti_bits channel.now format.now ≤ length cut.old }
     requires room { length out.old ≡ tti_bits channel.now format.now }
     ensures { IsCodedTti channel.now format.now blocks.now out.new }
 {
-    let lengths = lengths_of(channel, format);
-    let joined = &mut joined[..lengths.joined];
+    let plan = plan_of_tti(channel, format);
+    let cut = &mut cut[..plan.blocks * plan.size];
+    let (filler, joined) = cut.split_at_mut(plan.filler);
+    filler.fill(Bit::Zero);
     attach_each(channel.crc, format, blocks, joined);
-    code(channel.coding, joined, &mut cut[..lengths.blocks], out);
+    code_filled(channel.coding, &plan, cut, out);
 }
 
-/// How many bits the blocks of a TTI have with their parity, and its code blocks with their filler.
-#[derive(Clone, Copy)]
-struct Lengths {
-    joined: usize,
-    blocks: usize,
-}
-
+/// How the joined bits of a TTI are cut.
 #[tactic(auto, unfolding(dch_types::specs::Lengths::tti_bits))]
-fn lengths_of(channel: &Trch, format: &Format) -> Lengths
+fn plan_of_tti(channel: &Trch, format: &Format) -> Plan
     requires { tti_bits channel.now format.now ≤ 131072 }
-    ensures joined { result.joined ≡ joined_bits channel.now format.now }
-    ensures blocks { result.blocks ≡ block_count result.joined channel.now.coding * block_size result.joined (block_count result.joined channel.now.coding) }
-    ensures coded { tti_bits channel.now format.now ≡ coded_bits channel.now.coding result.joined }
-    ensures few_joined { result.joined ≤ tti_bits channel.now format.now }
-    ensures few_blocks { result.blocks ≤ tti_bits channel.now format.now }
+    ensures value { result ≡ plan_of (joined_bits channel.now format.now) channel.now.coding }
+    ensures whole { result.filler + joined_bits channel.now format.now ≡ result.blocks * result.size }
+    ensures coded { tti_bits channel.now format.now ≡ result.blocks * coded_block channel.now.coding result.size }
+    ensures few { result.blocks * result.size ≤ tti_bits channel.now format.now }
 {
-    let joined = channel.joined_bits(format);
-    let count = channel.coding.block_count(joined);
-    Lengths {
-        joined: joined as usize,
-        blocks: (count * block_size(joined, count)) as usize,
-    }
+    plan(channel.joined_bits(format) as usize, channel.coding)
 }
 
 /// Writes each block with its parity.

@@ -4,29 +4,43 @@ ghost use Rattle.dch_bits.specs.Bits.{number_of};
 ghost use Rattle.dch_coding.specs.Parity.{bits_of_octets};
 ghost use Rattle.dch_coding.specs.Register.{lowest_bits, HoldsParity, HoldsWord, AreWords};
 
-use crate::polynomial::next;
 use dch_bits::{Bit, number};
 
 /// The parities, under a polynomial of degree 32, of words of 32 bits in which at most one octet is not zero. Place
 /// `256 * t + n` is for the octet `n` with `t` octets of zeros after it.
 pub type Words = [u32; 1024];
 
-/// The register after these bits, 32 of them at a time, under the polynomial of degree 32 with these terms below its
-/// first one.
-pub fn after_bits(terms: u32, register: u32, bits: &[Bit]) -> u32
-    requires { length bits.now % 32 ≡ 0 }
-    ensures { (a : List Bit) → HoldsParity 32 (2 ^ 32 + terms) a register → HoldsParity 32 (2 ^ 32 + terms) (a ++ bits.now) result }
+/// The parity of a block.
+pub fn parity_of_bits(words: &Words, bits: &[Bit]) -> u32
+    ensures { (terms : ℕ) → terms < 2 ^ 32 → AreWords terms words.now 1024 → HoldsParity 32 (2 ^ 32 + terms) bits.now result }
 {
-    if bits.is_empty() {
-        return register;
-    }
-    let mut words = zeros();
-    fill(terms, &mut words);
+    let (front, rest) = bits.split_at(bits.len() % 32);
+    after_bits(words, of_word(words, few_bits(front)), rest)
+}
+
+/// The register after these bits, 32 of them at a time.
+fn after_bits(words: &Words, register: u32, bits: &[Bit]) -> u32
+    requires { length bits.now % 32 ≡ 0 }
+    ensures { (terms : ℕ) (a : List Bit) → terms < 2 ^ 32 → AreWords terms words.now 1024 → HoldsParity 32 (2 ^ 32 + terms) a register → HoldsParity 32 (2 ^ 32 + terms) (a ++ bits.now) result }
+{
     let mut register = register;
     for i in 0..bits.len() / 32 {
-        register = of_word(&words, register ^ word_of(&bits[32 * i..32 * i + 32]));
+        register = of_word(words, register ^ word_of(&bits[32 * i..32 * i + 32]));
     }
     register
+}
+
+/// Fewer than 32 bits as one number, the first the highest.
+fn few_bits(bits: &[Bit]) -> u32
+    requires { length bits.now < 32 }
+    ensures small { result < 2 ^ length bits.now }
+    ensures bits { lowest_bits (length bits.now) result ≡ bits.now }
+{
+    let mut value = 0;
+    for bit in bits {
+        value = value * 2 + u32::from(number(*bit));
+    }
+    value
 }
 
 /// The parity of octets, the highest bit of each first, after the octet `first`.
@@ -66,50 +80,6 @@ fn few_octets(first: u8, octets: &[u8]) -> u32
         number = number * 256 + u32::from(*octet);
     }
     number
-}
-
-fn zeros() -> Words {
-    [0; 1024]
-}
-
-/// Works out the parities of all these words, under the polynomial of degree 32 with these terms below its first one.
-fn fill(terms: u32, words: &mut Words)
-    ensures { AreWords terms words.new 1024 }
-{
-    let mut power = next(terms, 0, Bit::One);
-    for t in 0..4usize {
-        power = fill_row(terms, t, power, words);
-    }
-}
-
-/// Fills the places of words in whose octet `t` from the end ones stand. `first` is the parity of the lowest bit of
-/// that octet, and the answer that of the next octet's.
-fn fill_row(terms: u32, t: usize, first: u32, words: &mut Words) -> u32
-    requires row { t < 4 }
-    requires first { HoldsWord terms (2 ^ (8 * t)) first }
-    requires before { AreWords terms words.old (256 * t) }
-    ensures filled { AreWords terms words.new (256 * t + 256) }
-    ensures next { t < 3 → HoldsWord terms (2 ^ (8 * t + 8)) result }
-{
-    words[256 * t] = 0;
-    let mut power = first;
-    for j in 0..8usize {
-        double(t, j, power, words);
-        power = next(terms, power, Bit::Zero);
-    }
-    power
-}
-
-/// Fills the places of the words in which bit `j` of octet `t` is the highest one.
-fn double(t: usize, j: usize, power: u32, words: &mut Words)
-    requires row { t < 4 }
-    requires bit { j < 8 }
-    ensures { (terms : ℕ) → terms < 2 ^ 32 → HoldsWord terms (2 ^ (8 * t + j)) power → AreWords terms words.old (256 * t + 2 ^ j) → AreWords terms words.new (256 * t + 2 ^ suc j) }
-{
-    let count = 1 << j;
-    for m in 0..count {
-        words[256 * t + count + m] = words[256 * t + m] ^ power;
-    }
 }
 
 /// The parity of a word.

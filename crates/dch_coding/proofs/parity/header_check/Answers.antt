@@ -9,16 +9,11 @@ use Rattle.dch_bits.specs.Octets.{bit_of_octets}
 use Rattle.dch_coding.specs.Parity.{header_polynomial, bits_of_octets}
 use Rattle.dch_coding.specs.Register.{lowest_bits, HoldsParity}
 use Rattle.dch_coding.proofs.Aligned.{narrowed}
-use Rattle.dch_coding.proofs.Attached.{checked}
+use Rattle.dch_coding.proofs.Attached.{checked, header_terms}
 use Rattle.dch_coding.proofs.Gathered.{bits_behind, bits_of_octets-parts, octet_more}
 use Rattle.dch_coding.proofs.Registers.{length-lowest_bits, lowest_bits-zero}
 use Rattle.dch_coding.proofs.Tables.{fewer_zeros}
 use Rattle.dch_coding.proofs.parity.header_check.Goals as goal
-
--- x^7 + x^6 + x^2 + 1
-header_terms : lowest_bits 8 197 ≡ header_polynomial
-unfolding lowest_bits header_polynomial
-header_terms = refl
 
 -- the bits of octets after the first seven
 behind_seven : (octets : List ℕ) → 1 ≤ length octets → drop 7 (bits_of_octets octets) ≡ bit_of_number (get_or octets 0 0 % 2) ∷ bits_of_octets (drop 1 octets)

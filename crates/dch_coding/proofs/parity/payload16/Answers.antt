@@ -4,15 +4,10 @@ use Rattle.dch_bits.specs.declared.bit.Bit.TheVariants.{Zero}
 use Rattle.dch_coding.specs.Parity.{payload_polynomial, bits_of_octets}
 use Rattle.dch_coding.specs.Register.{lowest_bits, HoldsParity}
 use Rattle.dch_coding.proofs.Aligned.{narrowed}
-use Rattle.dch_coding.proofs.Attached.{checked}
+use Rattle.dch_coding.proofs.Attached.{checked, payload_terms}
 use Rattle.dch_coding.proofs.Registers.{lowest_bits-zero}
 use Rattle.dch_coding.proofs.Tables.{fewer_zeros}
 use Rattle.dch_coding.proofs.parity.payload16.Goals as goal
-
--- x^16 + x^15 + x^2 + 1
-payload_terms : lowest_bits 17 98309 ≡ payload_polynomial
-unfolding lowest_bits payload_polynomial
-payload_terms = refl
 
 pub returns : goal.returns
 returns c =

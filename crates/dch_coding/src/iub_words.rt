@@ -1,5 +1,3 @@
-// Parities of words, under each polynomial with its first term at degree 32 and zeros behind its last one.
-ghost use Rattle.std.specs.Prelude.{◌≡◌};
 ghost use Rattle.dch_coding.specs.Register.{AreWords};
 
 use crate::words::Words;
