@@ -3,36 +3,21 @@ ghost use Rattle.dch_coding.specs.Parity.{IsCheck, header_polynomial, payload_po
 ghost use Rattle.dch_accept.specs.Padded.{bits_from};
 ghost use Rattle.dch_iub.specs.Forms.{IsHeaderCheck, IsPayloadCheck};
 
-use dch_bits::{Bit, unpack};
-use dch_coding::{header7, payload16};
-
-/// The check of the bits of a header after its first seven, of which `bits` takes all.
-fn check_of(frame: &[u8], bits: &mut [Bit]) -> u8
-    requires some { 7 ≤ length bits.old }
-    requires inside { length bits.old ≤ 8 * length frame.now }
-    ensures check { IsCheck header_polynomial (bits_from frame.now 7 (length bits.new - 7)) result }
-    ensures small { result < 128 }
-{
-    unpack(frame, bits);
-    header7(&bits[7..])
-}
+use dch_coding::payload16;
 
 /// The check of a header of so many octets (TS 25.427 7.2).
 pub fn header_check(frame: &[u8], header: usize) -> u8
     requires some { 1 ≤ header }
-    requires few { header ≤ 10 }
     requires inside { header ≤ length frame.now }
     ensures check { IsCheck header_polynomial (bits_from frame.now 7 (8 * header - 7)) result }
     ensures small { result < 128 }
 {
-    let mut bits = [Bit::Zero; 80];
-    check_of(frame, &mut bits[..8 * header])
+    dch_coding::header_check(&frame[..header])
 }
 
 /// Whether the first seven bits of a header are its check.
 pub fn header_fits(frame: &[u8], header: usize) -> bool
     requires some { 1 ≤ header }
-    requires few { header ≤ 10 }
     requires inside { header ≤ length frame.now }
     ensures { IsTrue result ↔ IsHeaderCheck frame.now header }
 {
