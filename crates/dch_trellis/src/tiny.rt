@@ -1,4 +1,4 @@
-ghost use Rattle.std.specs.Prelude.{◌≡◌, ◌≢◌, ℕ, [], ◌+◌, ◌-◌, ◌*◌, ◌/◌, ◌^◌, ◌<◌, ◌≤◌, ◌&&◌, ◌++◌, length, min, take, vec_len, IfOk, nat_lt, slice_index, slice_index_or};
+ghost use Rattle.std.specs.Prelude.{◌≡◌, ◌≢◌, ℕ, [], ◌+◌, ◌-◌, ◌*◌, ◌/◌, ◌^◌, ◌<◌, ◌≤◌, ◌&&◌, ◌++◌, length, min, take, nat_lt, slice_index, slice_index_or};
 ghost use Rattle.dch_bits.specs.declared.bit.Bit.TheVariants.{Zero};
 ghost use Rattle.dch_coding.specs.Conv.{outputs, coded_length};
 ghost use Rattle.dch_trellis.specs.Nearest.{all_copies};
@@ -14,20 +14,12 @@ use crate::steps::{
 };
 use crate::table::{Table, classes_of};
 use crate::undamaged::{Front, fewest_of};
-use dch_bits::{Bit, NoMemory, Vote};
+use dch_bits::{Bit, Vote};
 use dch_coding::Rate;
-use std::alloc::Global;
 use std::simd::prelude::*;
 
 /// The least cost from each state on, less what was taken off the row.
 pub type PathMetrics = [u8; 256];
-
-/// Memory for so many rows.
-pub fn rows(alloc: Global, count: usize) -> Result<Vec<PathMetrics>, NoMemory>
-    ensures { IfOk result (λ rows. vec_len rows ≡ count) }
-{
-    Ok(vec![in alloc; no_metrics(); count]?)
-}
 
 /// Finds the nearest block, which begins with inputs of `front`, and answers how many copies it disagrees with. A step has
 /// at most 15 copies: any two states can meet after eight steps, so their costs are at most 120 apart, and eight steps more
@@ -116,7 +108,8 @@ fn fill(
     Filled { from: 0, taken }
 }
 
-fn no_metrics() -> PathMetrics
+/// A row before it is filled.
+pub fn no_metrics() -> PathMetrics
     ensures { (s : ℕ) → slice_index result s ≡ 0 }
 {
     [0; 256]

@@ -1,4 +1,4 @@
-ghost use Rattle.std.specs.Prelude.{◌≡◌, ℕ, List, ◌+◌, ◌*◌, ◌^◌, ◌<◌, ◌≤◌, length, vec_len, IfOk};
+ghost use Rattle.std.specs.Prelude.{◌≡◌, ℕ, List, ◌+◌, ◌*◌, ◌^◌, ◌<◌, ◌≤◌, length, vec_capacity, vec_len, IfOk};
 ghost use Rattle.dch_bits.specs.declared.bit.Bit.{Bit};
 ghost use Rattle.dch_coding.specs.Conv.{coded_length, encoded};
 ghost use Rattle.dch_trellis.specs.Nearest.{all_copies, disagreement, IsBlock, IsNearest};
@@ -15,7 +15,8 @@ use dch_coding::Rate;
 use std::alloc::{AllocError, Global};
 use std::marker::Model;
 
-/// The memory of the search for the nearest block, for blocks of up to so many bits. Contracts see that number.
+/// The memory of the search for the nearest block, for blocks of up to so many bits. Contracts see that number. A row of
+/// costs stands for each step of the longest block and one past the last, once a search has needed so many.
 #[derive(Drop)]
 pub struct Trellis {
     most: usize,
@@ -43,15 +44,12 @@ impl Trellis {
         requires { most ≤ 504 }
         ensures { IfOk result (λ trellis. trellis ≡ most) }
     {
-        let tiny = tiny::rows(alloc, most + 9)?;
-        let narrow = narrow::rows(alloc, most + 9)?;
-        let wide = wide::rows(alloc, most + 9)?;
         Ok(Trellis {
             most,
             tables: Tables::new(),
-            tiny,
-            narrow,
-            wide,
+            tiny: Vec::with_capacity(alloc, most + 9)?,
+            narrow: Vec::with_capacity(alloc, most + 9)?,
+            wide: Vec::with_capacity(alloc, most + 9)?,
         })
     }
 
@@ -114,12 +112,30 @@ impl Trellis {
         ensures kept { self.new ≡ self.old }
     {
         let table = self.tables.of(rate);
+        let count = out.len() + 9;
         if is_light(rate, votes) {
+            lengthen(&mut self.tiny, count, tiny::no_metrics());
             tiny::nearest(rate, table, votes, filler, front, &mut self.tiny, out)
         } else if copies_of(votes) < 65_536 {
+            lengthen(&mut self.narrow, count, narrow::no_metrics());
             narrow::nearest(rate, table, votes, filler, front, &mut self.narrow, out)
         } else {
+            lengthen(&mut self.wide, count, wide::no_metrics());
             wide::nearest(rate, table, votes, filler, front, &mut self.wide, out)
         }
+    }
+}
+
+/// Makes at least so many rows. Memory that was taken at opening is first touched here, so kinds of rows that no search
+/// needs cost no more than their addresses.
+fn lengthen<T: Copy>(rows: &mut Vec<T>, count: usize, row: T)
+    requires { count ≤ vec_capacity rows.old }
+    ensures long { count ≤ vec_len rows.new }
+    ensures capacity { vec_capacity rows.old ≤ vec_capacity rows.new }
+{
+    for made in rows.len()..count {
+        let Ok(()) = rows.push(row) else {
+            unreachable!();
+        };
     }
 }
