@@ -2,9 +2,9 @@
 use Rattle.std.proofs.Common.{◌≡◌, ◌+◌, ◌-◌, ◌*◌, ◌/◌, ◌%◌, ◌^◌, ◌<◌, ◌≤◌, ℕ, zero, suc, List, [], ◌∷◌, ◌++◌, length, replicate, take, arith, refl, ap, ap₂, sym, ◌∙◌, append_assoc, append-nil, length-append}
 use Rattle.std.specs.Int.{bit_at}
 use Rattle.std.specs.Int.Bits.{bit_xor, xor_zero_r}
-use Rattle.std.proofs.Math.Nat.{pow-suc, mul-lt-mul_of_pos_right}
+use Rattle.std.proofs.Math.Nat.{pow-suc}
 use Rattle.std.proofs.Math.Seq.{take-append_seam}
-use Rattle.std.proofs.lemmas.Nat.{xor_block, shr-shr, shr_below, pow-add, pow_pos, mod_below, div-add-mod'}
+use Rattle.std.proofs.lemmas.Nat.{xor_block, shr-shr, shr_below}
 use Rattle.std.proofs.lemmas.List.{length-replicate, replicate-append-replicate}
 use Rattle.dch_bits.specs.declared.bit.Bit.{Bit}
 use Rattle.dch_bits.specs.declared.bit.Bit.TheVariants.{Zero, One}
@@ -121,28 +121,3 @@ narrowed degree k terms lower register a width shifted known =
         product = fronts (a ++ lowest_bits degree high) (times g q) (lowest_bits k register) (replicate k Zero) product (omega (arith, length-lowest_bits k register, length-replicate k Zero));
       };
     }
-
--- ---- where the terms and the register stand
-pub lower : (degree terms : ℕ) → degree ≤ 24 → terms / 2 ^ degree ≡ 1 → 2 ^ 32 + terms * 2 ^ (31 - degree) % 2 ^ 32 * 2 % 2 ^ 32 ≡ terms * 2 ^ (32 - degree)
-lower degree terms small first =
-    let p : ℕ = 2 ^ degree in
-    let q : ℕ = 2 ^ (31 - degree) in
-    let rest : ℕ = terms % p in
-    let width : degree + (31 - degree) ≡ 31 = omega arith in
-    let one : p * q ≡ 2 ^ 31 = sym (pow-add 2 degree (31 - degree)) ∙ ap (λ e. 2 ^ e) width in
-    let more : 32 - degree ≡ suc (31 - degree) = omega arith in
-    let twice : 2 ^ (32 - degree) ≡ q * 2 = ap (λ e. 2 ^ e) more ∙ pow-suc 2 (31 - degree) in
-    let split : p + rest ≡ terms = split_of terms p first in
-    let few : rest * q < p * q = mul-lt-mul_of_pos_right (mod_below terms p (pow_pos degree)) (pow_pos (31 - degree)) in
-    let moved : terms * q ≡ p * q + rest * q = apart terms p rest q split in
-    let doubled : terms * (q * 2) ≡ terms * q * 2 = omega arith in
-    rw (twice, doubled) (wrapped (terms * q) (rest * q) (moved ∙ ap (λ n. n + rest * q) one) (rw one at few))
-  where
-    apart : (n p m q : ℕ) → p + m ≡ n → n * q ≡ p * q + m * q
-    apart n p m q e = rw (sym e) (omega arith)
-
-    split_of : (n p : ℕ) → n / p ≡ 1 → p + n % p ≡ n
-    split_of n p one = omega (arith, rw one at (div-add-mod' n p))
-
-    wrapped : (n m : ℕ) → n ≡ 2 ^ 31 + m → m < 2 ^ 31 → 2 ^ 32 + n % 2 ^ 32 * 2 % 2 ^ 32 ≡ n * 2
-    wrapped n m is small = omega arith

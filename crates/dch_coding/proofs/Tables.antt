@@ -1,14 +1,13 @@
 -- The parities of words of 32 bits.
-use Rattle.std.proofs.Common.{◌≡◌, ◌+◌, ◌*◌, ◌/◌, ◌%◌, ◌^◌, ◌<◌, ◌≤◌, ℕ, zero, suc, List, [], ◌∷◌, ◌++◌, length, replicate, arith, refl, ap, ap₂, sym, subst, ◌∙◌, append-nil, mul-lt-mul_of_pos_right}
+use Rattle.std.proofs.Common.{◌≡◌, ◌+◌, ◌*◌, ◌/◌, ◌%◌, ◌^◌, ◌<◌, ◌≤◌, ℕ, suc, List, [], ◌∷◌, ◌++◌, length, replicate, arith, ap, ap₂, sym, subst, ◌∙◌, append-nil}
 use Rattle.std.specs.Int.Bits.{bit_xor, xor_zero_l, xor_zero_r}
-use Rattle.std.proofs.lemmas.Nat.{xor_lt, xor_block, pow-add, pow_pos, mod-pow-add, mod_below}
-use Rattle.std.proofs.Math.Pow.{pow-lt}
+use Rattle.std.proofs.lemmas.Nat.{xor_lt, xor_block, pow_pos, mod-pow-add, mod_below}
 use Rattle.dch_bits.specs.declared.bit.Bit.{Bit}
 use Rattle.dch_bits.specs.declared.bit.Bit.TheVariants.{Zero, One}
 use Rattle.dch_coding.specs.Parity.{add, IsParity}
 use Rattle.dch_coding.specs.Register.{lowest_bits, HoldsParity, HoldsWord, word_at}
-use Rattle.dch_coding.proofs.Registers.{length-lowest_bits, lowest_bits-xor, lowest_bits-double, lowest_bits-zero, terms_bits, top_one, holds_none}
-use Rattle.dch_coding.proofs.Sums.{parity_sum, parity_zeros, parity_fewer, parity_less, parity_after}
+use Rattle.dch_coding.proofs.Registers.{length-lowest_bits, lowest_bits-xor, lowest_bits-zero, terms_bits, top_one, holds_none}
+use Rattle.dch_coding.proofs.Sums.{parity_sum, parity_zeros, parity_fewer, parity_after}
 
 pub first_term : (terms : ℕ) → terms < 2 ^ 32 → (2 ^ 32 + terms) / 2 ^ 32 ≡ 1
 first_term terms small = top_one (2 ^ 32 + terms) (2 ^ 32) (omega arith) (omega arith) (omega arith)
@@ -51,29 +50,6 @@ pub word_none : (terms : ℕ) → terms < 2 ^ 32 → HoldsWord terms 0 0
 word_none terms small =
     zeros_before terms 32 0 [] (lowest_bits 32 0) (append-nil (replicate 32 Zero) ∙ sym (lowest_bits-zero 32)) (holds_none 32 (2 ^ 32 + terms) (first_term terms small))
 
-lowest_bits-one : replicate 31 Zero ++ One ∷ [] ≡ lowest_bits 32 1
-unfolding lowest_bits
-lowest_bits-one = refl
-
-pub word_one : (terms r : ℕ) → HoldsParity 32 (2 ^ 32 + terms) (One ∷ []) r → HoldsWord terms 1 r
-word_one terms r known = zeros_before terms 31 r (One ∷ []) (lowest_bits 32 1) lowest_bits-one known
-
-lowest_bits-first : (n : ℕ) → n / 2 ^ 32 ≡ 0 → lowest_bits (suc 32) n ≡ Zero ∷ lowest_bits 32 n
-unfolding lowest_bits
-lowest_bits-first n below = rw below refl
-
-pub word_double : (terms w r : ℕ) → terms < 2 ^ 32 → w < 2 ^ 31 → HoldsParity 32 (2 ^ 32 + terms) (lowest_bits 32 w ++ Zero ∷ []) r → HoldsWord terms (2 * w) r
-word_double terms w r small low known =
-    let g : List Bit = lowest_bits (suc 32) (2 ^ 32 + terms) in
-    let g_first : g ≡ One ∷ lowest_bits 32 (2 ^ 32 + terms) = terms_bits 32 (2 ^ 32 + terms) (first_term terms small) in
-    let moved : lowest_bits 32 w ++ Zero ∷ [] ≡ Zero ∷ lowest_bits 32 (2 * w) = sym (lowest_bits-double 32 w) ∙ lowest_bits-first (2 * w) (omega arith) in
-    let before : IsParity (One ∷ lowest_bits 32 (2 ^ 32 + terms)) (Zero ∷ lowest_bits 32 (2 * w)) (lowest_bits 32 r) =
-    subst (λ g. IsParity g (Zero ∷ lowest_bits 32 (2 * w)) (lowest_bits 32 r)) g_first (subst (λ block. IsParity g block (lowest_bits 32 r)) moved known.parity) in
-    record {
-      small = known.small;
-      parity = subst (λ g. IsParity g (lowest_bits 32 (2 * w)) (lowest_bits 32 r)) (sym g_first) (parity_less (lowest_bits 32 (2 ^ 32 + terms)) (lowest_bits 32 (2 * w)) (lowest_bits 32 r) before);
-    }
-
 -- the register after a word
 pub word_after : (terms register word r : ℕ) (a b : List Bit) → lowest_bits 32 word ≡ b → HoldsParity 32 (2 ^ 32 + terms) a register → HoldsWord terms (bit_xor register word) r → HoldsParity 32 (2 ^ 32 + terms) (a ++ b) r
 word_after terms register word r a b is known next =
@@ -94,40 +70,11 @@ xor_high x d e low =
     let right : d * 2 ^ e + 0 ≡ d * 2 ^ e = omega arith in
     sym (ap₂ bit_xor left right) ∙ block ∙ ap₂ (λ x y. x * 2 ^ e + y) (xor_zero_l d) (xor_zero_r x)
 
-pub pow_few : (j : ℕ) → j < 8 → 2 ^ j ≤ 128
-pow_few zero h = omega arith
-pow_few (suc zero) h = omega arith
-pow_few (suc (suc zero)) h = omega arith
-pow_few (suc (suc (suc zero))) h = omega arith
-pow_few (suc (suc (suc (suc zero)))) h = omega arith
-pow_few (suc (suc (suc (suc (suc zero))))) h = omega arith
-pow_few (suc (suc (suc (suc (suc (suc zero)))))) h = omega arith
-pow_few (suc (suc (suc (suc (suc (suc (suc zero))))))) h = omega arith
-pow_few (suc (suc (suc (suc (suc (suc (suc (suc j)))))))) h = absurd (omega arith)
-
 pub word_at-row : (t n : ℕ) → n < 256 → word_at (256 * t + n) ≡ n * 2 ^ (8 * t)
 word_at-row t n low =
     let octet : (256 * t + n) % 256 ≡ n = omega arith in
     let row : (256 * t + n) / 256 ≡ t = omega arith in
     ap₂ (λ n t. n * 2 ^ (8 * t)) octet row
-
--- the word of a place in the second half of the places so far
-pub word_at-more : (t j m : ℕ) → j < 8 → m < 2 ^ j → bit_xor (word_at (256 * t + m)) (2 ^ (8 * t + j)) ≡ word_at (256 * t + (2 ^ j + m))
-word_at-more t j m few low =
-    let p : ℕ = 2 ^ (8 * t) in
-    let q : ℕ = 2 ^ j in
-    let most : q ≤ 128 = pow_few j few in
-    let power : 2 ^ (8 * t + j) ≡ p * q = pow-add 2 (8 * t) j in
-    let first : word_at (256 * t + m) ≡ m * p = word_at-row t m (omega arith) in
-    let second : word_at (256 * t + (q + m)) ≡ (q + m) * p = word_at-row t (q + m) (omega arith) in
-    let below : m * p < q * p = mul-lt-mul_of_pos_right low (pow_pos (8 * t)) in
-    let less : m * p < 2 ^ (8 * t + j) = omega (arith, below, power) in
-    let one : 1 * 2 ^ (8 * t + j) ≡ 2 ^ (8 * t + j) = omega arith in
-    let sum : bit_xor (m * p) (1 * 2 ^ (8 * t + j)) ≡ 1 * 2 ^ (8 * t + j) + m * p = xor_high (m * p) 1 (8 * t + j) less in
-    ap₂ bit_xor first (sym one) ∙ sum ∙ ap (λ x. x + m * p) (one ∙ power) ∙ apart p q m ∙ sym second
-  where
-    apart : (p q m : ℕ) → p * q + m * p ≡ (q + m) * p
-    apart p q m = omega arith
 
 -- a number with one octet more
 pub octet_more : (w t : ℕ) → w % 2 ^ (8 * (t + 1)) ≡ bit_xor (w % 2 ^ (8 * t)) (word_at (256 * t + w / 2 ^ (8 * t) % 256))
@@ -139,6 +86,3 @@ octet_more w t =
     let low : x < 2 ^ (8 * t) = mod_below w (2 ^ (8 * t)) (pow_pos (8 * t)) in
     let octet : d < 256 = omega arith in
     ap (λ e. w % 2 ^ e) more ∙ split ∙ sym (xor_high x d (8 * t) low) ∙ ap (bit_xor x) (sym (word_at-row t d octet))
-
-pub pow_high : (e : ℕ) → e < 31 → 2 ^ e < 2 ^ 31
-pow_high e low = pow-lt low

@@ -1,6 +1,6 @@
-use Rattle.std.proofs.Common.{◌≡◌, ◌+◌, ◌*◌, ◌/◌, ◌^◌, ℕ, suc, arith, refl}
+use Rattle.std.proofs.Common.{◌+◌, ◌/◌, ◌^◌, ℕ, arith}
 use Rattle.dch_coding.specs.Parity.{header_polynomial}
-use Rattle.dch_coding.specs.Register.{lowest_bits, HoldsParity}
+use Rattle.dch_coding.specs.Register.{HoldsParity}
 use Rattle.dch_coding.proofs.Aligned.{narrowed}
 use Rattle.dch_coding.proofs.Attached.{checked, header_terms}
 use Rattle.dch_coding.proofs.parity.header7.Goals as goal

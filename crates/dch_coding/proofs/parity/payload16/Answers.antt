@@ -1,6 +1,5 @@
-use Rattle.std.proofs.Common.{◌≡◌, ◌+◌, ◌*◌, ◌/◌, ◌^◌, ◌++◌, ℕ, suc, List, replicate, arith, refl, ap, sym}
+use Rattle.std.proofs.Common.{◌+◌, ◌/◌, ◌^◌, ◌++◌, ℕ, List, arith, ap}
 use Rattle.dch_bits.specs.declared.bit.Bit.{Bit}
-use Rattle.dch_bits.specs.declared.bit.Bit.TheVariants.{Zero}
 use Rattle.dch_coding.specs.Parity.{payload_polynomial, bits_of_octets}
 use Rattle.dch_coding.specs.Register.{lowest_bits, HoldsParity}
 use Rattle.dch_coding.proofs.Aligned.{narrowed}

@@ -1,4 +1,4 @@
-use Rattle.std.proofs.Common.{◌+◌, ◌*◌, ◌^◌, ◌++◌, ℕ, List, get_or, map, ap, ◌∙◌, sym, subst, arith, append_assoc}
+use Rattle.std.proofs.Common.{◌+◌, ◌*◌, ◌^◌, ◌++◌, ℕ, List, get_or, map, ap, ◌∙◌, sym, subst, append_assoc}
 use Rattle.std.specs.List.{range_with_len}
 use Rattle.dch_bits.specs.declared.bit.Bit.{Bit}
 use Rattle.dch_bits.specs.Octets.{bit_of_octets}
