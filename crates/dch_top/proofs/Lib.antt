@@ -17,7 +17,6 @@ pub mod SoftRows
 pub mod SoftStays
 pub mod SoftUnits
 pub mod Traces
-pub mod Blocks
 pub mod Checks
 pub mod Complete
 pub mod Judging

@@ -1,11 +1,12 @@
-ghost use Rattle.std.specs.Prelude.{◌≡◌, ◌≤◌, ◌+◌, ◌++◌, true, false, length, refl, OnOk, IfErr};
+ghost use Rattle.std.specs.Prelude.{◌≡◌, ◌≤◌, ◌+◌, ◌++◌, true, false, length, map, refl, OnOk, IfErr};
+ghost use Rattle.dch_bits.specs.Text.{bit_of_letter};
 ghost use Rattle.dch_script.specs.Code.{meaning, is_bits};
 ghost use Rattle.dch_lines.specs.Semantics.{Adds};
 ghost use Rattle.dch_top.specs.Overlong.{encoding_refuses_long};
 ghost use Rattle.dch_top.specs.EncodeText.{Answers, block_of, closing, encoding};
 ghost use Rattle.dch_top.specs.declared.encode_handler.TheConstants.{LONGEST_TEXT};
 
-use dch_bits::{Bit, NoMemory, read_bits_text};
+use dch_bits::{Bit, NoMemory};
 use dch_coding::BlockCoder;
 use dch_lines::{LineFault, LineHandler};
 use dch_script::{Command, Event, Line, LineError, Report, parse};
@@ -123,9 +124,21 @@ fn read_block<'a>(text: &[u8], block: &'a mut [Bit]) -> &'a [Bit]
 {
     match text {
         b"." => &block[..0],
-        _ => match read_bits_text(text, block) {
-            Ok(count) => &block[..count],
-            Err(_) => &block[..0],
-        },
+        _ => read_letters(text, &mut block[..text.len()]),
     }
+}
+
+/// The bits of letters, each of which is `0` or `1`.
+fn read_letters<'a>(letters: &[u8], bits: &'a mut [Bit]) -> &'a [Bit]
+    requires { length bits.old ≡ length letters.now }
+    ensures { result.now ≡ map bit_of_letter letters.now }
+{
+    for i in 0..letters.len() {
+        bits[i] = if letters[i] == b'1' {
+            Bit::One
+        } else {
+            Bit::Zero
+        };
+    }
+    bits
 }
