@@ -24,22 +24,23 @@ pub fn encode(rate: Rate, block: &[Bit], out: &mut [Bit])
     requires room { length out.old ≡ coded_length rate (length block.now) }
     ensures { out.new ≡ encoded rate block.now }
 {
-    let inputs = inputs_of(block);
+    let mut inputs = zeros();
+    place(block, &mut inputs);
     match rate {
         Rate::Half => encode_half(&inputs, out),
         Rate::Third => encode_third(&inputs, out),
     }
 }
 
-fn inputs_of(block: &[Bit]) -> Inputs
-    requires { length block.now ≤ 504 }
-    ensures { Feeds result block.now }
+/// Writes a block behind the eight zeros by which the encoder starts.
+fn place(block: &[Bit], inputs: &mut Inputs)
+    requires short { length block.now ≤ 504 }
+    requires zeros { (i : ℕ) → slice_index_or inputs.old i Zero ≡ Zero }
+    ensures { Feeds inputs.new block.now }
 {
-    let mut inputs = zeros();
     for (i, bit) in block.iter().enumerate() {
         inputs[8 + i] = *bit;
     }
-    inputs
 }
 
 fn zeros() -> Inputs
