@@ -27,13 +27,13 @@ zero_everywhere (One ∷ bits) i all = cc
 pub place_more : (f : ℕ → Bit) (out : List Bit) (i : ℕ) (b : Bit) → i < length out → b ≡ f i → ((j : ℕ) → j < i → get_or out j Zero ≡ f j) → (j : ℕ) → j < i + 1 → get_or (slice_set out i b) j Zero ≡ f j
 place_more f out i b within same before j below = rw same (fill_by_more f out i Zero within before j below)
 
--- each of the distances is at most eight
-pub near_at : (taps : List ℕ) (i : ℕ) → list_all (λ d. nat_le d 8) taps ≡ true → i < length taps → get_or taps i 0 ≤ 8
-near_at taps i near within =
+-- each of the distances is at most so many
+pub near_at : (most : ℕ) (taps : List ℕ) (i : ℕ) → list_all (λ d. nat_le d most) taps ≡ true → i < length taps → get_or taps i 0 ≤ most
+near_at most taps i near within =
     ⊎_elim
-    (λ (below : (nat_le (get_or taps i 0) 8 ≡ true) × (get_or taps i 0 ≤ 8)). below.1)
-    (λ (above : (nat_le (get_or taps i 0) 8 ≡ false) × (8 < get_or taps i 0)). let far : list_all (λ d. nat_le d 8) taps ≡ false = list_all_at (λ d. nat_le d 8) taps i 0 within above.0 in cc)
-    (leb_tells (get_or taps i 0) 8)
+    (λ (below : (nat_le (get_or taps i 0) most ≡ true) × (get_or taps i 0 ≤ most)). below.1)
+    (λ (above : (nat_le (get_or taps i 0) most ≡ false) × (most < get_or taps i 0)). let far : list_all (λ d. nat_le d most) taps ≡ false = list_all_at (λ d. nat_le d most) taps i 0 within above.0 in cc)
+    (leb_tells (get_or taps i 0) most)
 
 pub number_le : (b : Bit) → number_of b ≤ 1
 number_le Zero = omega arith

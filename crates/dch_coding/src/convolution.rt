@@ -25,15 +25,15 @@ pub fn encode(rate: Rate, block: &[Bit], out: &mut [Bit])
     ensures { out.new ≡ encoded rate block.now }
 {
     let mut inputs = zeros();
-    place(block, &mut inputs);
+    feed(block, &mut inputs);
     match rate {
         Rate::Half => encode_half(&inputs, out),
         Rate::Third => encode_third(&inputs, out),
     }
 }
 
-/// Writes a block behind the eight zeros by which the encoder starts.
-fn place(block: &[Bit], inputs: &mut Inputs)
+/// Writes the block that the encoder takes in, behind the eight zeros by which it starts.
+fn feed(block: &[Bit], inputs: &mut Inputs)
     requires short { length block.now ≤ 504 }
     requires zeros { (i : ℕ) → slice_index_or inputs.old i Zero ≡ Zero }
     ensures { Feeds inputs.new block.now }

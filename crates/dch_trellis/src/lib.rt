@@ -2,6 +2,7 @@
 //! opening.
 #![tactic(auto)]
 
+mod inverse;
 mod laws;
 mod narrow;
 mod steps;

@@ -9,7 +9,7 @@ ghost use Rattle.dch_trellis.specs.Undamaged.{IsFront};
 use crate::steps::{copies_of, is_light};
 use crate::table::Tables;
 use crate::undamaged::Front;
-use crate::{narrow, tiny, undamaged, wide};
+use crate::{inverse, narrow, tiny, undamaged, wide};
 use dch_bits::{Bit, NoMemory, Vote};
 use dch_coding::Rate;
 use std::alloc::{AllocError, Global};
@@ -85,8 +85,11 @@ impl Trellis {
         ensures cost { result ≡ best (branch_metric rate votes.now) (is_free (length out.old) filler) (length out.old + 8) 0 0 }
         ensures kept { self.new ≡ self.old }
     {
-        let mut front = Front::new();
         let outputs = self.tables.outputs(rate);
+        if let Some(copies) = inverse::nearest(rate, votes, filler, out) {
+            return copies;
+        }
+        let mut front = Front::new();
         if let Some(copies) = undamaged::nearest(rate, outputs, votes, filler, &mut front, out) {
             return copies;
         }

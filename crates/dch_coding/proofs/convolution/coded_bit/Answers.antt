@@ -12,7 +12,7 @@ pub loop-d-preserved : goal.loop-d-preserved
 loop-d-preserved c =
     let i : ℕ = c.loop-d.d-index in
     let d : ℕ = get_or c.args.taps.now i 0 in
-    let near : d ≤ 8 = near_at c.args.taps.now i c.requires.near (omega arith) in
+    let near : d ≤ 8 = near_at 8 c.args.taps.now i c.requires.near (omega arith) in
     record {
       summed = λ block feeds. omega (arith, c.loop-d.invariant.summed block feeds, sum_by_more (input block c.args.k) c.args.taps.now i 0 (omega arith), feeds.at c.args.k d c.requires.step near, c.number.ensures, c.from-sum.ensures);
       small = omega (arith, number_le (get_or c.args.inputs.now (c.args.k + 8 - d) Zero), c.number.ensures, c.from-sum.ensures);

@@ -4,7 +4,7 @@ use Rattle.std.proofs.lemmas.List.{get_or-set_other, get_or-set_same, length-set
 use Rattle.dch_bits.specs.declared.bit.Bit.{Bit}
 use Rattle.dch_bits.specs.declared.bit.Bit.TheVariants.{Zero}
 use Rattle.dch_coding.proofs.Steps.{feeds_placed}
-use Rattle.dch_coding.proofs.convolution.place.Goals as goal
+use Rattle.dch_coding.proofs.convolution.feed.Goals as goal
 
 pub loop-i-preserved : goal.loop-i-preserved
 loop-i-preserved c =

@@ -1,6 +1,6 @@
 use Rattle.std.proofs.Common.{◌≡◌, ◌<◌, ◌≤◌, ◌+◌, ℕ, get_or, length}
 use Rattle.dch_bits.specs.declared.bit.Bit.TheVariants.{Zero}
-use Rattle.dch_coding.proofs.convolution.place.Given as goal
+use Rattle.dch_coding.proofs.convolution.feed.Given as goal
 
 abbrev pub invariant-loop-i : goal.invariant-loop-i
 invariant-loop-i l = record {
