@@ -40,7 +40,7 @@ fn begins(rate: Rate, votes: &[Vote], out: &mut [Bit]) -> bool
     requires some { 1 ≤ length out.old }
     requires size { length out.old ≤ 504 }
     requires coded { length votes.now ≡ coded_length rate (length out.old) }
-    ensures { IsTrue result → AreDecided (take (outputs rate * min (length out.old) 32) votes.now) (encoded rate (take (min (length out.old) 32) out.new)) }
+    ensures { IsTrue result ↔ AreDecided (take (outputs rate * min (length out.old) 32) votes.now) (encoded rate (take (min (length out.old) 32) out.new)) }
 {
     let steps = out.len().min(FIRST);
     let first = &votes[..coded_before(rate, steps)];
@@ -53,7 +53,7 @@ fn read(rate: Rate, votes: &[Vote], compared: &[Vote], block: &mut [Bit]) -> boo
     requires size { length block.old ≤ 504 }
     requires coded { coded_length rate (length block.old) ≤ length votes.now }
     requires compared { length compared.now ≤ coded_length rate (length block.old) }
-    ensures { IsTrue result → AreDecided compared.now (encoded rate block.new) }
+    ensures { IsTrue result ↔ AreDecided compared.now (encoded rate block.new) }
 {
     let coded = coded_len(rate, block.len());
     let mut received = zeros();
@@ -74,7 +74,7 @@ fn zeros() -> CodedBits {
 
 /// Whether a block begins with so many zeros.
 fn is_filled(block: &[Bit], filler: usize) -> bool
-    ensures { IsTrue result → (k : ℕ) → k < filler → slice_index_or block.now k Zero ≡ Zero }
+    ensures { IsTrue result ↔ ((k : ℕ) → k < filler → slice_index_or block.now k Zero ≡ Zero) }
 {
     for k in 0..block.len() {
         if k < filler && block[k] == Bit::One {
@@ -194,7 +194,7 @@ fn sum_from(bits: &CodedBits, from: usize, distances: &[usize]) -> Bit
 /// Whether more copies speak for each bit than against it.
 fn are_decided(votes: &[Vote], bits: &[Bit]) -> bool
     requires { length votes.now ≤ length bits.now }
-    ensures { IsTrue result → AreDecided votes.now bits.now }
+    ensures { IsTrue result ↔ AreDecided votes.now bits.now }
 {
     let many = votes.len() / 16;
     for c in 0..many {
@@ -214,7 +214,7 @@ fn are_decided(votes: &[Vote], bits: &[Bit]) -> bool
 fn some_decided(votes: &[Vote], from: usize, bits: &[Bit]) -> bool
     requires inside { from + 16 ≤ length votes.now }
     requires room { length votes.now ≤ length bits.now }
-    ensures { IsTrue result → (j : ℕ) → from ≤ j → j < from + 16 → IsDecided (slice_index_or votes.now j no_votes) (slice_index_or bits.now j Zero) }
+    ensures { IsTrue result ↔ ((j : ℕ) → from ≤ j → j < from + 16 → IsDecided (slice_index_or votes.now j no_votes) (slice_index_or bits.now j Zero)) }
 {
     let mut decided = true;
     for j in 0..16usize {
