@@ -8,6 +8,7 @@ pub mod Found
 pub mod FreeDistance
 pub mod Held
 pub mod Lead
+pub mod Inverted
 pub mod Least
 pub mod Link
 pub mod Lowered

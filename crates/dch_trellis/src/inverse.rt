@@ -1,9 +1,10 @@
-ghost use Rattle.std.specs.Prelude.{◌≡◌, ◌↔◌, ℕ, ◌+◌, ◌*◌, ◌^◌, ◌<◌, ◌≤◌, IsTrue, IsSome, IfSome, length, min, nat_le, take, slice_index_or};
+ghost use Rattle.std.specs.Prelude.{◌≡◌, ◌↔◌, ℕ, List, ◌+◌, ◌*◌, ◌^◌, ◌<◌, ◌≤◌, IsTrue, IsSome, IfSome, length, min, nat_le, take, slice_index_or};
 ghost use Rattle.std.specs.List.{list_all};
+ghost use Rattle.dch_bits.specs.declared.bit.Bit.{Bit};
 ghost use Rattle.dch_bits.specs.declared.bit.Bit.TheVariants.{Zero};
 ghost use Rattle.dch_coding.specs.declared.rate.Rate.TheVariants.{Half, Third};
 ghost use Rattle.dch_coding.specs.Conv.{outputs, coded_length, encoded};
-ghost use Rattle.dch_trellis.specs.Nearest.{all_copies};
+ghost use Rattle.dch_trellis.specs.Nearest.{all_copies, IsBlock};
 ghost use Rattle.dch_trellis.specs.Search.{branch_metric, is_free, best, found, no_votes};
 ghost use Rattle.dch_trellis.specs.Inverse.{majority, sum_from, AreMajorities, AreInverse, IsDecided, AreDecided};
 
@@ -26,6 +27,7 @@ pub fn nearest(rate: Rate, votes: &[Vote], filler: usize, out: &mut [Bit]) -> Op
     requires coded { length votes.now ≡ coded_length rate (length out.old) }
     requires few { all_copies votes.now < 2 ^ 31 }
     ensures found { IsSome result → out.new ≡ found rate votes.now (length out.old) filler }
+    ensures read { (block : List Bit) → IsBlock (length out.old) filler block → AreDecided votes.now (encoded rate block) → IsSome result }
     ensures cost { IfSome result (λ copies. copies ≡ best (branch_metric rate votes.now) (is_free (length out.old) filler) (length out.old + 8) 0 0) }
 {
     if begins(rate, votes, out) && read(rate, votes, votes, out) && is_filled(out, filler) {
@@ -40,7 +42,8 @@ fn begins(rate: Rate, votes: &[Vote], out: &mut [Bit]) -> bool
     requires some { 1 ≤ length out.old }
     requires size { length out.old ≤ 504 }
     requires coded { length votes.now ≡ coded_length rate (length out.old) }
-    ensures { IsTrue result ↔ AreDecided (take (outputs rate * min (length out.old) 32) votes.now) (encoded rate (take (min (length out.old) 32) out.new)) }
+    ensures decided { IsTrue result ↔ AreDecided (take (outputs rate * min (length out.old) 32) votes.now) (encoded rate (take (min (length out.old) 32) out.new)) }
+    ensures read { (source : List Bit) → length source ≡ length out.old → AreDecided votes.now (encoded rate source) → IsTrue result }
 {
     let steps = out.len().min(FIRST);
     let first = &votes[..coded_before(rate, steps)];
@@ -53,15 +56,13 @@ fn read(rate: Rate, votes: &[Vote], compared: &[Vote], block: &mut [Bit]) -> boo
     requires size { length block.old ≤ 504 }
     requires coded { coded_length rate (length block.old) ≤ length votes.now }
     requires compared { length compared.now ≤ coded_length rate (length block.old) }
-    ensures { IsTrue result ↔ AreDecided compared.now (encoded rate block.new) }
+    ensures decided { IsTrue result ↔ AreDecided compared.now (encoded rate block.new) }
+    ensures inverse { (source : List Bit) → length block.old ≤ length source → AreDecided votes.now (encoded rate source) → block.new ≡ take (length block.old) source }
 {
     let coded = coded_len(rate, block.len());
     let mut received = zeros();
     majorities(&votes[..coded], &mut received);
-    match rate {
-        Rate::Half => invert_half(&received, block),
-        Rate::Third => invert_third(&received, block),
-    }
+    invert(rate, &received, block);
     let mut again = zeros();
     let again = &mut again[..coded];
     encode(rate, block, again);
@@ -116,6 +117,17 @@ fn majority(vote: Vote) -> Bit
         Bit::One
     } else {
         Bit::Zero
+    }
+}
+
+/// Inputs from their coded bits.
+fn invert(rate: Rate, coded: &CodedBits, block: &mut [Bit])
+    requires { length block.old ≤ 504 }
+    ensures { AreInverse rate (length block.old) coded.now block.new }
+{
+    match rate {
+        Rate::Half => invert_half(coded, block),
+        Rate::Third => invert_third(coded, block),
     }
 }
 

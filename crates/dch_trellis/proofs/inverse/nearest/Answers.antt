@@ -7,10 +7,10 @@ pub returns-then-is_filled-clause-found : goal.returns-then-is_filled-clause-fou
 returns-then-is_filled-clause-found c = λ some.
     let size : ℕ = length c.args.out.now in
     let shape : IsBlock size c.args.filler c.read.new.block = record { sized = omega arith; filled = c.if-is_filled.ensures.0 refl } in
-    found-decided c.args.rate c.args.votes.now size c.args.filler c.read.new.block c.requires.coded shape (c.if-read.ensures.0 refl)
+    found-decided c.args.rate c.args.votes.now size c.args.filler c.read.new.block c.requires.coded shape (c.if-read.ensures.decided.0 refl)
 
 pub returns-then-is_filled-clause-cost : goal.returns-then-is_filled-clause-cost
 returns-then-is_filled-clause-cost c =
     let size : ℕ = length c.args.out.now in
     let shape : IsBlock size c.args.filler c.read.new.block = record { sized = omega arith; filled = c.if-is_filled.ensures.0 refl } in
-    c.fewest_of.ensures ∙ best-decided c.args.rate c.args.votes.now size c.args.filler c.read.new.block c.requires.coded shape (c.if-read.ensures.0 refl)
+    c.fewest_of.ensures ∙ best-decided c.args.rate c.args.votes.now size c.args.filler c.read.new.block c.requires.coded shape (c.if-read.ensures.decided.0 refl)
