@@ -1,7 +1,7 @@
 -- The CFN of the terminal goes on by the radio frames.
 use Rattle.std.proofs.Common.{◌≡◌, ◌+◌, ◌%◌, ℕ, arith, subst, inl, inr, Some, None}
 use Rattle.std.proofs.lemmas.Bool.Decides.{eqb_tells}
-use Rattle.dch_link.specs.Passing.{IsStage, cfn_after, next_stage}
+use Rattle.dch_link.specs.Passing.{cfn_after, next_stage}
 use Rattle.dch_link.specs.declared.stage.Stage.{Stage}
 use Rattle.dch_link.specs.declared.stage.Stage.TheVariants.{RncTick, IubDown, RadioDown, UeTick, RadioUp, IubUp}
 use Rattle.dch_linkcmd.specs.Standing.{ticked}

@@ -1,14 +1,13 @@
 -- What a handler keeps.
-use Rattle.std.proofs.Common.{◌≡◌, ◌≤◌, ◌+◌, ◌*◌, ◌%◌, ℕ, Bool, subst, sym}
+use Rattle.std.proofs.Common.{◌≡◌, ◌≤◌, ◌+◌, ◌*◌, ◌%◌, ℕ}
 use Rattle.std.specs.Prelude.{IfSome, Option, Some, None}
 use Rattle.dch_accept.specs.Plans.{Planned}
 use Rattle.dch_io.specs.Pieces.{LIMIT}
-use Rattle.dch_script.specs.Held.{Held}
 use Rattle.dch_link.specs.Passing.{IsStage}
 use Rattle.dch_link.specs.Standing.{HasNext, IsLinkOf}
 use Rattle.dch_link.specs.Values.{Nodes}
 use Rattle.dch_link.specs.declared.stage.Stage.{Stage}
-use Rattle.dch_linkcmd.specs.Standing.{HasStageRoom, Handler, IsPrepared, IsReady, ticked}
+use Rattle.dch_linkcmd.specs.Standing.{Handler, IsPrepared, IsReady, ticked}
 use Rattle.dch_nodecmd.specs.declared.later.Later.{Later}
 
 -- the nodes stay prepared for the second configuration
@@ -17,10 +16,9 @@ prepared_on None accepted old new keeps was = tt
 prepared_on (Some later) accepted old new keeps was = record { next = keeps later.accepted was.next; whole = was.whole }
 
 -- a handler whose configuration stays is still ready
-pub ready_on : (old : Handler) (nodes : Nodes) (quiet : Bool) (stage : Stage) (left frames lines : ℕ) (step : Held) → IsReady old → IsLinkOf old.accepted nodes → ((second : Planned) → HasNext old.accepted second old.link → HasNext old.accepted second nodes)
-    → quiet ≡ old.quiet → step ≡ old.step → IsStage stage → nodes.ue.cfn % 8 ≡ (frames + ticked stage) % 8 → left ≤ 100000 → lines ≤ LIMIT → frames + left ≤ 100000 * lines
-    → IsReady (record old { link = nodes; quiet = quiet; stage = stage; left = left; frames = frames; lines = lines; step = step })
-ready_on old nodes quiet stage left frames lines step ready opened keeps same_quiet same_step at cfn few_left few_lines few = record {
+pub ready_on : (old : Handler) (nodes : Nodes) (stage : Stage) (left frames lines : ℕ) → IsReady old → IsLinkOf old.accepted nodes → ((second : Planned) → HasNext old.accepted second old.link → HasNext old.accepted second nodes)
+    → IsStage stage → nodes.ue.cfn % 8 ≡ (frames + ticked stage) % 8 → left ≤ 100000 → lines ≤ LIMIT → frames + left ≤ 100000 * lines → IsReady (record old { link = nodes; stage = stage; left = left; frames = frames; lines = lines })
+ready_on old nodes stage left frames lines ready opened keeps at cfn few_left few_lines few = record {
   opened = opened;
   next = prepared_on old.later old.accepted old.link nodes keeps ready.next;
   stage = at;
@@ -29,5 +27,4 @@ ready_on old nodes quiet stage left frames lines step ready opened keeps same_qu
   lines = few_lines;
   few = few;
   enough = ready.enough;
-  room = subst (λ (q : Bool). HasStageRoom old.most q step) (sym same_quiet) (subst (λ (s : Held). HasStageRoom old.most old.quiet s) (sym same_step) ready.room);
 }

@@ -1,6 +1,6 @@
 -- Lines of `link` of which none is refused where those before it lead.
 use Rattle.std.proofs.Common.{◌≡◌, ◌<◌, ◌≤◌, ◌+◌, ◌∙◌, ◌++◌, ℕ, List, [], ◌∷◌, Bool, true, false, arith, ap, inl, inr, refl, subst, sym, Option, Some, None}
-use Rattle.std.specs.Prelude.{◌⊎◌, Err, Ok, nat_le}
+use Rattle.std.specs.Prelude.{◌⊎◌}
 use Rattle.std.proofs.lemmas.Bool.Decides.{leb_tells}
 use Rattle.dch_accept.specs.Plans.{Planned}
 use Rattle.dch_types.specs.declared.config.Config.{Config}

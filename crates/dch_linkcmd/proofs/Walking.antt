@@ -1,16 +1,16 @@
 -- The radio frames of a line, stage by stage: how many have begun, and which configuration is active.
-use Rattle.std.proofs.Common.{◌≡◌, ◌<◌, ◌≤◌, ◌+◌, ◌-◌, ◌*◌, ◌∙◌, ◌++◌, ℕ, zero, suc, List, [], Bool, true, false, arith, ap, inl, inr, refl, subst, sym, Option, Some, None}
-use Rattle.std.specs.Prelude.{◌⊎◌, if◌then◌else◌}
+use Rattle.std.proofs.Common.{◌≡◌, ◌<◌, ◌≤◌, ◌+◌, ◌-◌, ◌*◌, ◌∙◌, ℕ, zero, suc, List, [], arith, ap, inl, inr, refl, subst, sym, Option, Some, None}
+use Rattle.std.specs.Prelude.{◌⊎◌}
 use Rattle.std.proofs.lemmas.Bool.Decides.{eqb_tells}
 use Rattle.dch_accept.specs.Plans.{Planned}
 use Rattle.dch_lines.specs.Semantics.{Resumes}
-use Rattle.dch_nodecmd.specs.RncState.{Change as RncChange, State as RncState}
+use Rattle.dch_nodecmd.specs.RncState.{State as RncState}
 use Rattle.dch_link.specs.Changing.{Changes}
 use Rattle.dch_link.specs.Link.{LinkState, active}
-use Rattle.dch_link.specs.Passing.{IsStage, is_first, next_stage, stages_left}
+use Rattle.dch_link.specs.Passing.{IsStage, next_stage, stages_left}
 use Rattle.dch_link.specs.declared.stage.Stage.{Stage}
 use Rattle.dch_link.specs.declared.stage.Stage.TheVariants.{RncTick, IubDown, RadioDown, UeTick, RadioUp, IubUp}
-use Rattle.dch_linkcmd.specs.Rules.{Begins, MakesChange, MayChange, PassesNext, PassesStage, Waits, link_lines}
+use Rattle.dch_linkcmd.specs.Rules.{Begins, MayChange, PassesNext, PassesStage, Waits, link_lines}
 use Rattle.dch_linkcmd.specs.Run.{Run, config_of, passed, passed_by, steps_left}
 use Rattle.dch_linkcmd.proofs.Stages.{some_same, steps_next}
 use Rattle.dch_linkcmd.proofs.Staying.{pass_second, pass_stays}

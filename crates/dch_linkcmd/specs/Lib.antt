@@ -9,6 +9,7 @@ pub mod Same
 pub mod Standing
 pub mod Taking
 pub mod SoftCounting
+pub mod Filtering
 pub mod Led
 pub mod SoftLineEvents
 pub mod SoftOverlong
@@ -17,6 +18,7 @@ pub mod SoftRules
 pub mod SoftRun
 pub mod SoftStanding
 pub mod SoftTaking
+pub mod TextRows
 pub use Rattle.dch_nodecmd.specs.Shown
 pub use Rattle.dch_nodecmd.specs.declared.later
 pub use Rattle.dch_nodecmd.specs.RunLines as NodecmdRunLines

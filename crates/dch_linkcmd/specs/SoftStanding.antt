@@ -1,5 +1,5 @@
 -- What the handler of `soft` has, and the runs that it stands for.
-use Rattle.std.specs.Prelude.{◌≡◌, ◌≤◌, ◌+◌, ◌*◌, ◌++◌, ℕ, List, [], Bool, length}
+use Rattle.std.specs.Prelude.{◌≡◌, ◌≤◌, ◌+◌, ◌*◌, ◌++◌, ℕ, List, Bool, length}
 use Rattle.dch_types.specs.declared.config.Config.{Config}
 use Rattle.dch_accept.specs.Plans.{Planned}
 use Rattle.dch_accept.specs.Reports.{step_bytes}
@@ -15,7 +15,7 @@ use Rattle.dch_link.specs.declared.soft_stage.Stage.{Stage}
 use Rattle.dch_linkcmd.specs.SoftRun.{Run}
 
 -- the configuration, the nodes, whether the lines of frames are left out, the next stage, how many radio frames are left of a line and how
--- many have passed, how many lines asked for radio frames, and room for the text of a stage, as it is reported and as it is shown
+-- many have passed, and how many lines asked for radio frames
 pub record Handler : Type 0 where
   pub accepted : Planned
   pub soft : Parts
@@ -24,20 +24,10 @@ pub record Handler : Type 0 where
   pub left : ℕ
   pub frames : ℕ
   pub lines : ℕ
-  pub step : Held
-  pub kept : Held
 
--- the most bytes of a stage as it is reported, and with the words that lead its lines
-abbrev pub stage_bytes : Config → ℕ
-stage_bytes config = step_bytes config + 300000
-
+-- the most bytes of a stage, with the words that lead its lines
 abbrev pub led_bytes : Config → ℕ
 led_bytes config = step_bytes config + 24000000
-
--- empty room for the text of a stage
-pub record HasStageRoom (config : Config) (step : Held) : Type 0 where
-  pub empty : step.text ≡ []
-  pub enough : stage_bytes config ≤ step.most
 
 -- what a handler keeps at any time
 pub record IsReady (handler : Handler) : Type 0 where
@@ -46,8 +36,6 @@ pub record IsReady (handler : Handler) : Type 0 where
   pub left : handler.left ≤ 100000
   pub lines : handler.lines ≤ LIMIT
   pub few : handler.frames + handler.left ≤ 100000 * handler.lines
-  pub step : HasStageRoom handler.accepted.config handler.step
-  pub kept : HasStageRoom handler.accepted.config handler.kept
 
 -- a handler stands for a run
 pub record RepresentsRun (run : Run) (handler : Handler) : Type 0 where

@@ -1,5 +1,5 @@
 -- What the handler of `link` has, and the runs that it stands for.
-use Rattle.std.specs.Prelude.{◌≡◌, ◌≤◌, ◌+◌, ◌*◌, ◌%◌, ◌++◌, ℕ, List, [], Bool, true, Option, Some, None, IfSome, max}
+use Rattle.std.specs.Prelude.{◌≡◌, ◌≤◌, ◌+◌, ◌*◌, ◌%◌, ◌++◌, ℕ, List, Bool, Option, Some, None, IfSome, max}
 use Rattle.dch_types.specs.declared.config.Config.{Config}
 use Rattle.dch_accept.specs.Plans.{Planned}
 use Rattle.dch_accept.specs.Reports.{step_bytes}
@@ -18,8 +18,8 @@ use Rattle.dch_nodecmd.specs.Shown.{shown}
 use Rattle.dch_nodecmd.specs.declared.later.Later.{Later}
 
 -- the configuration that is active, the second one where it is still to come, the nodes, whether the lines of frames are left out, the next
--- stage, how many radio frames are left of a line and how many have passed, how many lines asked for radio frames, the most bytes of the text of
--- a stage, and room for the text of a stage, of which not all is shown
+-- stage, how many radio frames are left of a line and how many have passed, how many lines asked for radio frames, and the most bytes of the text
+-- of a stage
 pub record Handler : Type 0 where
   pub accepted : Planned
   pub later : Option Later
@@ -30,7 +30,6 @@ pub record Handler : Type 0 where
   pub frames : ℕ
   pub lines : ℕ
   pub most : ℕ
-  pub step : Held
 
 -- the most bytes of a stage
 abbrev pub stage_bytes : Config → ℕ
@@ -45,11 +44,6 @@ most_bytes first (Some later) = max (stage_bytes first.config) (stage_bytes late
 pub record IsEnough (accepted : Planned) (later : Option Later) (most : ℕ) : Type 0 where
   pub now : stage_bytes accepted.config ≤ most
   pub then : IfSome later (λ later. stage_bytes later.accepted.config ≤ most)
-
--- the room for the text of a stage, where one is wanted
-pub record HasStageRoom (most : ℕ) (quiet : Bool) (step : Held) : Type 0 where
-  pub empty : step.text ≡ []
-  pub enough : quiet ≡ true → most ≤ step.most
 
 -- whether 10 ms have passed at the terminal in the radio frame that is on
 abbrev pub ticked : Stage → ℕ
@@ -75,7 +69,6 @@ pub record IsReady (handler : Handler) : Type 0 where
   pub lines : handler.lines ≤ LIMIT
   pub few : handler.frames + handler.left ≤ 100000 * handler.lines
   pub enough : IsEnough handler.accepted handler.later handler.most
-  pub room : HasStageRoom handler.most handler.quiet handler.step
 
 -- a handler stands for a run
 pub record RepresentsRun (run : Run) (handler : Handler) : Type 0 where

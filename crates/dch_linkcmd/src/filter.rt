@@ -1,88 +1,99 @@
-ghost use Rattle.std.specs.Prelude.{◌≡◌, ◌≤◌, ◌+◌, ℕ, [], length, IfOk};
+ghost use Rattle.std.specs.Prelude.{◌≡◌, ◌≤◌, ◌+◌, ℕ, [], length};
 ghost use Rattle.dch_accept.specs.Plans.{Planned};
+ghost use Rattle.dch_indication.specs.Told.{line_of};
 ghost use Rattle.dch_link.specs.Events.{Happens};
 ghost use Rattle.dch_link.specs.Link.{LinkState};
 ghost use Rattle.dch_link.specs.Passing.{IsStage, cfn_after};
 ghost use Rattle.dch_link.specs.Stages.{AtStage};
 ghost use Rattle.dch_link.specs.Standing.{HasNext, IsLinkOf, MayCome, Represents, event_of};
-ghost use Rattle.dch_linkcmd.specs.Standing.{HasStageRoom, Shows, stage_bytes};
+ghost use Rattle.dch_script.specs.Putting.{Puts};
+ghost use Rattle.dch_linkcmd.specs.Filtering.{ShowsSeen, is_frame};
+ghost use Rattle.dch_linkcmd.specs.Standing.{Shows, stage_bytes};
 
 use dch_accept::Accepted;
-use dch_bits::NoMemory;
+use dch_indication::{Indication, Indications};
 use dch_link::{Link, LinkEvent, Stage};
-use dch_nodecmd::put_other_lines;
 use dch_script::Report;
-use std::alloc::Global;
 
-/// What is shown of the lines of a step: with `quiet` not those of frames, and else all. With `quiet` the text of a step is made in room
-/// of its own first.
+/// What stands between nodes that run together and a report: with `quiet` no frame is shown, and each line is led by
+/// the same words.
 #[derive(Drop)]
-pub struct Filter {
+pub struct Filter<'a> {
     pub quiet: bool,
-    pub step: Report,
+    /// The words before each line: those of the leg that the lines are of, or none.
+    pub lead: &'a [u8],
+    pub report: &'a mut Report,
 }
 
-impl Filter {
-    /// Takes the room for the text of a step, of so many bytes at most, where it is wanted.
-    pub fn open(alloc: Global, most: usize, quiet: bool) -> Result<Filter, NoMemory>
-        ensures quiet { IfOk result (λ filter. filter.quiet ≡ quiet) }
-        ensures room { IfOk result (λ filter. HasStageRoom most quiet filter.step) }
-    {
-        match Report::open(alloc, if quiet { most } else { 0 }) {
-            Ok(step) => Ok(Filter { quiet, step }),
-            Err(NoMemory) => Err(NoMemory),
+impl Indications for Filter<'_> {
+    ghost shows = { ShowsSeen };
+
+    fn indicate(&mut self, it: Indication<'_>) {
+        if !(self.quiet && is_frame(&it)) {
+            add_words(self.lead, self.report);
+            self.report.indicate(it);
         }
     }
+}
 
+impl Filter<'_> {
     /// Something happens at the nodes between two radio frames.
-    pub fn happen(
-        &mut self,
-        accepted: &Accepted,
-        event: LinkEvent<'_>,
-        link: &mut Link,
-        report: &mut Report,
-    )
+    pub fn happen(&mut self, accepted: &Accepted, event: LinkEvent<'_>, link: &mut Link)
         requires opened { IsLinkOf accepted.now link.old }
         requires event { MayCome accepted.now event }
-        requires step { HasStageRoom (stage_bytes accepted.now.config) self.old.quiet self.old.step }
-        requires room { length report.old.text + stage_bytes accepted.now.config ≤ report.old.most }
-        ensures shows { (began : Planned) (first : ℕ) (nodes : LinkState) → Represents began accepted.now first nodes link.old → Shows began accepted.now first self.old.quiet (Happens nodes (event_of event.entry)) link.new report.old report.new }
+        requires lead { self.old.lead.now ≡ [] }
+        requires room { length self.old.report.now.text + stage_bytes accepted.now.config ≤ self.old.report.now.most }
+        ensures shows { (began : Planned) (first : ℕ) (nodes : LinkState) →
+            Represents began accepted.now first nodes link.old →
+            Shows began accepted.now first self.old.quiet (Happens nodes (event_of event.entry)) link.new
+            self.old.report.now self.new.report.now }
         ensures opened { IsLinkOf accepted.now link.new }
-        ensures next { (second : Planned) → HasNext accepted.now second link.old → HasNext accepted.now second link.new }
+        ensures next { (second : Planned) →
+            HasNext accepted.now second link.old → HasNext accepted.now second link.new }
         ensures cfn { link.new.ue.cfn ≡ link.old.ue.cfn }
-        ensures filter { self.new ≡ self.old }
-        ensures most { report.new.most ≡ report.old.most }
-        ensures fits { length report.new.text ≤ report.new.most }
+        ensures same { self.new.report.ghost_name ≡ self.old.report.ghost_name }
+        ensures most { self.new.report.now.most ≡ self.old.report.now.most }
+        ensures fits { length self.new.report.now.text ≤ self.new.report.now.most }
     {
-        if self.quiet {
-            link.happen(accepted, event, &mut self.step);
-            put_other_lines(self.step.bytes(), report);
-            self.step.clear();
-        } else {
-            link.happen(accepted, event, report);
-        }
+        link.happen(accepted, event, self);
     }
 
     /// The nodes pass a stage of a radio frame.
-    pub fn pass(&mut self, accepted: &Accepted, stage: Stage, link: &mut Link, report: &mut Report)
+    pub fn pass(&mut self, accepted: &Accepted, stage: Stage, link: &mut Link)
         requires opened { IsLinkOf accepted.now link.old }
         requires stage { IsStage stage }
-        requires step { HasStageRoom (stage_bytes accepted.now.config) self.old.quiet self.old.step }
-        requires room { length report.old.text + stage_bytes accepted.now.config ≤ report.old.most }
-        ensures shows { (began : Planned) (first : ℕ) (nodes : LinkState) → Represents began accepted.now first nodes link.old → Shows began accepted.now first self.old.quiet (AtStage stage nodes) link.new report.old report.new }
+        requires lead { self.old.lead.now ≡ [] }
+        requires room { length self.old.report.now.text + stage_bytes accepted.now.config ≤ self.old.report.now.most }
+        ensures shows { (began : Planned) (first : ℕ) (nodes : LinkState) →
+            Represents began accepted.now first nodes link.old →
+            Shows began accepted.now first self.old.quiet (AtStage stage nodes) link.new
+            self.old.report.now self.new.report.now }
         ensures opened { IsLinkOf accepted.now link.new }
-        ensures next { (second : Planned) → HasNext accepted.now second link.old → HasNext accepted.now second link.new }
+        ensures next { (second : Planned) →
+            HasNext accepted.now second link.old → HasNext accepted.now second link.new }
         ensures cfn { link.new.ue.cfn ≡ cfn_after stage link.old.ue.cfn }
-        ensures filter { self.new ≡ self.old }
-        ensures most { report.new.most ≡ report.old.most }
-        ensures fits { length report.new.text ≤ report.new.most }
+        ensures same { self.new.report.ghost_name ≡ self.old.report.ghost_name }
+        ensures most { self.new.report.now.most ≡ self.old.report.now.most }
+        ensures fits { length self.new.report.now.text ≤ self.new.report.now.most }
     {
-        if self.quiet {
-            link.pass(accepted, stage, &mut self.step);
-            put_other_lines(self.step.bytes(), report);
-            self.step.clear();
-        } else {
-            link.pass(accepted, stage, report);
-        }
+        link.pass(accepted, stage, self);
+    }
+}
+
+/// Adds words to a report, as far as there is room.
+fn add_words(words: &[u8], report: &mut Report)
+    ensures { Puts report.old words.now report.new }
+{
+    let count = words.len().min(report.spare());
+    report.put_text(&words[..count]);
+}
+
+/// Whether an Iub frame or a radio frame is sent, or no radio frame is.
+fn is_frame(it: &Indication<'_>) -> bool
+    ensures { result ≡ is_frame (line_of it.now) }
+{
+    match it {
+        Indication::Iub { .. } | Indication::Phy { .. } | Indication::PhyNone => true,
+        _ => false,
     }
 }

@@ -12,7 +12,7 @@ ghost use Rattle.dch_linkcmd.specs.Counting.{counts_of};
 ghost use Rattle.dch_linkcmd.specs.Overlong.{link_refuses_long};
 ghost use Rattle.dch_linkcmd.specs.Rules.{Begins, MayChange, PassesNext, PassesStage, link_lines};
 ghost use Rattle.dch_linkcmd.specs.Run.{Run, opened_run, steps_left};
-ghost use Rattle.dch_linkcmd.specs.Standing.{HasStageRoom, IsEnough, IsPrepared, IsReady, RepresentsRun, most_bytes, stage_bytes};
+ghost use Rattle.dch_linkcmd.specs.Standing.{IsEnough, IsPrepared, IsReady, RepresentsRun, most_bytes, stage_bytes};
 ghost use Rattle.dch_linkcmd.specs.Taking.{Tells};
 
 use crate::filter::Filter;
@@ -36,7 +36,7 @@ pub struct LinkHandler {
     later: Option<Later>,
     link: Link,
     octets: Vec<u8>,
-    filter: Filter,
+    quiet: bool,
     stage: Stage,
     left: u32,
     frames: u64,
@@ -52,7 +52,7 @@ impl Drop for LinkHandler {
             later: _later,
             link: _link,
             octets: _octets,
-            filter: _filter,
+            quiet: _quiet,
             stage: _stage,
             left: _left,
             frames: _frames,
@@ -69,7 +69,7 @@ impl Model for LinkHandler {
 
     ghost Value = { Handler };
 
-    ghost view = { λ h. record { accepted = h.accepted; later = h.later; link = h.link; quiet = h.filter.quiet; stage = h.stage; left = h.left; frames = h.frames; lines = h.lines; most = h.most; step = h.filter.step } };
+    ghost view = { λ h. record { accepted = h.accepted; later = h.later; link = h.link; quiet = h.quiet; stage = h.stage; left = h.left; frames = h.frames; lines = h.lines; most = h.most } };
 
     ghost invariant = { λ h. length h.octets.items ≡ OCTETS };
 }
@@ -95,9 +95,6 @@ impl LinkHandler {
         let Ok(octets) = vec![in alloc; 0; OCTETS] else {
             return Err(NoMemory);
         };
-        let Ok(filter) = Filter::open(alloc, most, quiet) else {
-            return Err(NoMemory);
-        };
         let Ok(link) = open_link(alloc, &accepted, &later, first_cfn) else {
             return Err(NoMemory);
         };
@@ -106,7 +103,7 @@ impl LinkHandler {
             later,
             link,
             octets,
-            filter,
+            quiet,
             stage: Stage::RncTick,
             left: 0,
             frames: 0,
@@ -124,7 +121,7 @@ impl LinkHandler {
             later: _later,
             link,
             octets: _octets,
-            filter: _filter,
+            quiet: _quiet,
             stage: _stage,
             left: _left,
             frames: _frames,
@@ -185,8 +182,12 @@ impl LinkHandler {
         ensures most { report.new.most ≡ report.old.most }
         ensures fits { length report.new.text ≤ report.new.most }
     {
-        self.filter
-            .pass(&self.accepted, self.stage, &mut self.link, report);
+        Filter {
+            quiet: self.quiet,
+            lead: &[],
+            report,
+        }
+        .pass(&self.accepted, self.stage, &mut self.link);
         match self.stage.next() {
             Some(stage) => self.stage = stage,
             None => {
@@ -253,27 +254,30 @@ fn take(
     line: &[u8],
     octets: &mut [u8],
     link: &mut Link,
-    filter: &mut Filter,
+    quiet: bool,
     report: &mut Report,
 ) -> Result<Option<u32>, LineError>
     requires octets { length octets.old ≡ OCTETS }
     requires opened { IsLinkOf accepted.now link.old }
-    requires step { HasStageRoom (stage_bytes accepted.now.config) filter.old.quiet filter.old.step }
     requires room { length report.old.text + stage_bytes accepted.now.config ≤ report.old.most }
-    ensures ok { IfOk result (λ count. Tells accepted.now line.now count filter.old.quiet link.old link.new report.old report.new) }
+    ensures ok { IfOk result (λ count. Tells accepted.now line.now count quiet link.old link.new report.old report.new) }
     ensures err { IfErr result (λ why. meaning_in LinkLines accepted.now.config line.now ≡ Err why) }
     ensures same { IfErr result (λ _. (link.new ≡ link.old) × (report.new ≡ report.old)) }
     ensures opened { IsLinkOf accepted.now link.new }
     ensures next { (second : Planned) → HasNext accepted.now second link.old → HasNext accepted.now second link.new }
     ensures cfn { link.new.ue.cfn ≡ link.old.ue.cfn }
-    ensures filter { filter.new ≡ filter.old }
     ensures most { report.new.most ≡ report.old.most }
     ensures fits { length report.new.text ≤ report.new.most }
 {
     let mut bits = [Bit::Zero; UNIT_BITS];
     match read_line(accepted, line, octets, &mut bits) {
         Ok(LinkLine::Happens(event)) => {
-            filter.happen(accepted, event, link, report);
+            Filter {
+                quiet,
+                lead: &[],
+                report,
+            }
+            .happen(accepted, event, link);
             Ok(None)
         }
         Ok(LinkLine::Frames(count)) => Ok(Some(count)),
@@ -302,7 +306,7 @@ impl LineHandler for LinkHandler {
             line,
             &mut self.octets,
             &mut self.link,
-            &mut self.filter,
+            self.quiet,
             report,
         ) {
             Ok(None) => Ok(()),

@@ -5,7 +5,6 @@
 mod filter;
 mod handler;
 mod laws;
-mod led;
 mod reading;
 mod soft_filter;
 mod soft_handler;

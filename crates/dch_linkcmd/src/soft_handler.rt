@@ -7,10 +7,11 @@ ghost use Rattle.dch_linkcmd.specs.SoftCounting.{counts_of};
 ghost use Rattle.dch_linkcmd.specs.SoftOverlong.{soft_refuses_long};
 ghost use Rattle.dch_linkcmd.specs.SoftRules.{PassesStage, soft_lines};
 ghost use Rattle.dch_linkcmd.specs.SoftRun.{Run, opened_run, steps_left};
-ghost use Rattle.dch_linkcmd.specs.SoftStanding.{HasStageRoom, IsReady, RepresentsRun, led_bytes};
+ghost use Rattle.dch_linkcmd.specs.SoftStanding.{IsReady, RepresentsRun, led_bytes};
 ghost use Rattle.dch_linkcmd.specs.SoftTaking.{Tells};
 
-use crate::soft_filter::Filter;
+use crate::filter::Filter;
+use crate::soft_filter::lead;
 use crate::soft_reading::{SoftLine, read_line};
 use dch_accept::Accepted;
 use dch_bits::{Bit, NoMemory};
@@ -32,7 +33,7 @@ pub struct SoftHandler {
     accepted: Accepted,
     soft: Soft,
     octets: Vec<u8>,
-    filter: Filter,
+    quiet: bool,
     stage: Stage,
     left: u32,
     frames: u64,
@@ -46,7 +47,7 @@ impl Drop for SoftHandler {
             accepted: _accepted,
             soft: _soft,
             octets: _octets,
-            filter: _filter,
+            quiet: _quiet,
             stage: _stage,
             left: _left,
             frames: _frames,
@@ -62,7 +63,7 @@ impl Model for SoftHandler {
 
     ghost Value = { Handler };
 
-    ghost view = { λ h. record { accepted = h.accepted; soft = h.soft; quiet = h.filter.quiet; step = h.filter.step; kept = h.filter.kept; stage = h.stage; left = h.left; frames = h.frames; lines = h.lines } };
+    ghost view = { λ h. record { accepted = h.accepted; soft = h.soft; quiet = h.quiet; stage = h.stage; left = h.left; frames = h.frames; lines = h.lines } };
 
     ghost invariant = { λ h. length h.octets.items ≡ OCTETS };
 }
@@ -87,9 +88,6 @@ impl SoftHandler {
         let Ok(octets) = vec![in alloc; 0; OCTETS] else {
             return Err(NoMemory);
         };
-        let Ok(filter) = Filter::open(alloc, &accepted, quiet) else {
-            return Err(NoMemory);
-        };
         let Ok(soft) = Soft::open(alloc, &accepted, first_cfn, legs) else {
             return Err(NoMemory);
         };
@@ -97,7 +95,7 @@ impl SoftHandler {
             accepted,
             soft,
             octets,
-            filter,
+            quiet,
             stage: Stage::RncTick,
             left: 0,
             frames: 0,
@@ -113,7 +111,7 @@ impl SoftHandler {
             accepted: _accepted,
             soft,
             octets: _octets,
-            filter: _filter,
+            quiet: _quiet,
             stage: _stage,
             left: _left,
             frames: _frames,
@@ -135,8 +133,12 @@ impl SoftHandler {
         ensures most { report.new.most ≡ report.old.most }
         ensures fits { length report.new.text ≤ report.new.most }
     {
-        self.filter
-            .pass(&self.accepted, self.stage, &mut self.soft, report);
+        Filter {
+            quiet: self.quiet,
+            lead: lead(self.stage.leg()),
+            report,
+        }
+        .pass_soft(&self.accepted, self.stage, &mut self.soft);
         match self.stage.next(self.soft.legs()) {
             Some(stage) => self.stage = stage,
             None => {
@@ -156,27 +158,29 @@ fn take(
     line: &[u8],
     octets: &mut [u8],
     soft: &mut Soft,
-    filter: &mut Filter,
+    quiet: bool,
     report: &mut Report,
 ) -> Result<Option<u32>, LineError>
     requires octets { length octets.old ≡ OCTETS }
     requires opened { IsSoftOf accepted.now soft.old }
-    requires step { HasStageRoom accepted.now.config filter.old.step }
-    requires kept { HasStageRoom accepted.now.config filter.old.kept }
     requires room { length report.old.text + led_bytes accepted.now.config ≤ report.old.most }
-    ensures ok { IfOk result (λ count. Tells accepted.now line.now count filter.old.quiet soft.old soft.new report.old report.new) }
+    ensures ok { IfOk result (λ count. Tells accepted.now line.now count quiet soft.old soft.new report.old report.new) }
     ensures err { IfErr result (λ why. soft_meaning (length soft.old.legs) accepted.now.config line.now ≡ Err why) }
     ensures same { IfErr result (λ _. (soft.new ≡ soft.old) × (report.new ≡ report.old)) }
     ensures opened { IsSoftOf accepted.now soft.new }
     ensures legs { length soft.new.legs ≡ length soft.old.legs }
-    ensures filter { filter.new ≡ filter.old }
     ensures most { report.new.most ≡ report.old.most }
     ensures fits { length report.new.text ≤ report.new.most }
 {
     let mut bits = [Bit::Zero; UNIT_BITS];
     match read_line(accepted, soft.legs(), line, octets, &mut bits) {
         Ok(SoftLine::Happens(event)) => {
-            filter.happen(accepted, event, soft, report);
+            Filter {
+                quiet,
+                lead: &[],
+                report,
+            }
+            .happen_soft(accepted, event, soft);
             Ok(None)
         }
         Ok(SoftLine::Frames(count)) => Ok(Some(count)),
@@ -205,7 +209,7 @@ impl LineHandler for SoftHandler {
             line,
             &mut self.octets,
             &mut self.soft,
-            &mut self.filter,
+            self.quiet,
             report,
         ) {
             Ok(None) => Ok(()),

@@ -49,6 +49,7 @@ pub mod Directions
 pub mod Rows
 pub mod Damaged
 pub mod SentRead
+pub use Rattle.dch_linkcmd.specs.Filtering
 pub use Rattle.dch_linkcmd.specs.Led
 pub use Rattle.dch_layer2.specs.Bearings
 pub use Rattle.dch_layer2.specs.UnitLines

@@ -3,16 +3,8 @@ use Rattle.std.specs.Prelude.{◌<◌, ◌^◌, ◌++◌, ◌&&◌, ◌==◌, �
 use Rattle.dch_types.specs.declared.channel.Dir.{Dir}
 use Rattle.dch_script.specs.Report.{place_text}
 use Rattle.dch_node.specs.Lines.{Line, Took, Full, Wrong, Bad, Reserved, NoBearer, Nobody, PduBad, Outside, Overlong, Got, GotBits, Iub, IubBad, Phy, PhyNone, BadTti, Differs}
-use Rattle.dch_script.specs.LineText.{words_of}
+pub use Rattle.dch_linkcmd.specs.TextRows.{row_of, rows_of}
 use Rattle.dch_runlaw.specs.Directions.{same_dir}
-
--- the row of a line, with its line feed, and those of lines
-abbrev pub row_of : Line → List ℕ
-row_of line = words_of line ++ codes "\n"
-
-abbrev pub rows_of : List Line → List (List ℕ)
-rows_of [] = []
-rows_of (line ∷ lines) = row_of line ∷ rows_of lines
 
 -- a text begins with another
 abbrev pub starts_with : List ℕ → List ℕ → Bool

@@ -7,7 +7,7 @@ use Rattle.dch_script.proofs.Lines.{lines_after-append, rest_after-append}
 use Rattle.dch_types.specs.declared.channel.Dir.{Dir}
 use Rattle.dch_script.specs.Report.{place_text}
 use Rattle.dch_runlaw.specs.Rows.{got_rows}
-use Rattle.dch_runlaw.proofs.Rows.{Lacks, decimal_lacks}
+use Rattle.dch_runlaw.proofs.TextRows.{Lacks, decimal_lacks, lacks_append}
 use Rattle.dch_runlaw.proofs.Sublists.{either}
 
 -- one whole row
@@ -20,10 +20,6 @@ AreRows [] = Unit {0}
 AreRows (row ∷ rows) = IsRow row × AreRows rows
 
 -- the words that lead a row have no line feed
-lacks_append : (k : ℕ) (xs ys : List ℕ) → Lacks k xs → Lacks k ys → Lacks k (xs ++ ys)
-lacks_append k [] ys h g = g
-lacks_append k (x ∷ xs) ys h g = (h.0, lacks_append k xs ys h.1 g)
-
 lead_lacks : (k : ℕ) → Lacks 10 (lead k)
 unfolding lead
 lead_lacks k = lacks_append 10 (codes "leg ") (decimal k ++ codes " ") (refl, (refl, (refl, (refl, tt)))) (lacks_append 10 (decimal k) (codes " ") (decimal_lacks 10 k (omega arith)) (refl, tt))

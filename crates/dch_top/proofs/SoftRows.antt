@@ -23,12 +23,14 @@ use Rattle.dch_runlaw.specs.SoftRuns.{Between, HappensBetween, Move, Next, Passe
 use Rattle.dch_runlaw.specs.SoftScripts.{shown_in}
 use Rattle.dch_runlaw.specs.Told.{IsTold}
 use Rattle.dch_runlaw.proofs.Changes.{between_stays, rnc_step, set_change, stage_steady, ue_step, up_change}
-use Rattle.dch_runlaw.proofs.Rows.{rows_got, text_rows}
+use Rattle.dch_runlaw.proofs.Rows.{rows_got}
 use Rattle.dch_runlaw.proofs.Small.{gots_on}
 use Rattle.dch_runlaw.proofs.Sublists.{either}
 use Rattle.dch_runlaw.proofs.Telling.{run_told}
 use Rattle.dch_runlaw.proofs.TextEnds.{rnc_own, ue_own, ue_stays}
-use Rattle.dch_runlaw.proofs.TextShowing.{seen, seen_got, shown_rows}
+use Rattle.dch_runlaw.proofs.TextRows.{text_rows}
+use Rattle.dch_runlaw.proofs.TextShowing.{seen_got, shown_rows}
+use Rattle.dch_runlaw.specs.Filtering.{seen}
 use Rattle.dch_top.proofs.LedRows.{AreRows, led_are, led_none, rows_on}
 
 -- a text consists of whole rows, and those that hand up units of a bearer are those of these lines

@@ -1,10 +1,12 @@
-use Rattle.std.proofs.Common.{◌≡◌, ◌<◌, ◌+◌, ◌-◌, ◌%◌, ◌∙◌, arith, refl, ap, sym, subst}
+use Rattle.std.proofs.Common.{◌≡◌, ◌<◌, ◌+◌, ◌-◌, ◌%◌, ◌∙◌, arith, refl, rules, ap, sym, subst}
+use Rattle.dch_script.specs.Held.{Held}
+use Rattle.dch_lines.specs.Semantics.{Adds}
 use Rattle.dch_link.specs.Passing.{IsStage}
 use Rattle.dch_link.specs.declared.stage.Stage.TheVariants.{RncTick}
-use Rattle.dch_linkcmd.specs.Run.{steps_left}
+use Rattle.dch_linkcmd.specs.Rules.{PassesStage}
+use Rattle.dch_linkcmd.specs.Run.{Run, steps_left}
 use Rattle.dch_linkcmd.specs.Standing.{Handler, IsReady, RepresentsRun}
 use Rattle.dch_linkcmd.specs.contracts.handler.LinkHandler.{the_view}
-use Rattle.dch_linkcmd.specs.declared.filter.Filter.{Filter}
 use Rattle.dch_linkcmd.proofs.Cfns.{cfn_none, cfn_some}
 use Rattle.dch_linkcmd.proofs.Passing.{passes_none, passes_some}
 use Rattle.dch_linkcmd.proofs.Ready.{ready_on}
@@ -15,8 +17,10 @@ pub returns-in-Some-clause-passes : goal.returns-in-Some-clause-passes
 returns-in-Some-clause-passes c = λ run was.
     let old : Handler = the_view c.self.inside in
     let is : RepresentsRun run old = subst (λ (h : Handler). RepresentsRun run h) (sym c.self.view_is) was in
-    let new : Handler = record old { link = c.pass.new.link; quiet = c.pass.new.self.quiet; step = c.pass.new.self.step; stage = c.in-Some.stage } in
-    passes_some run old new c.in-Some.stage c.args.report.now c.pass.new.report is (c.pass.ensures.shows run.began run.first run.link is.stands) (sym c.next.ensures.value ∙ c.in-Some.is) refl refl (ap (λ (f : Filter). f.quiet) c.pass.ensures.filter) refl refl refl
+    let new : Handler = record old { link = c.pass.new.link; stage = c.in-Some.stage } in
+    let same : c.pass.new.self.report.now ≡ _ = search rules in
+    subst (λ (r : Held). (next : Run) × RepresentsRun next new × Adds (PassesStage run next) c.args.report.now r) same
+    (passes_some run old new c.in-Some.stage c.args.report.now c.pass.new.self.report.now is (c.pass.ensures.shows run.began run.first run.link is.stands) (sym c.next.ensures.value ∙ c.in-Some.is) refl refl refl refl refl refl)
 
 pub returns-in-Some-clause-remaining : goal.returns-in-Some-clause-remaining
 returns-in-Some-clause-remaining c =
@@ -29,16 +33,18 @@ pub returns-in-None-clause-passes : goal.returns-in-None-clause-passes
 returns-in-None-clause-passes c = λ run was.
     let old : Handler = the_view c.self.inside in
     let is : RepresentsRun run old = subst (λ (h : Handler). RepresentsRun run h) (sym c.self.view_is) was in
-    let new : Handler = record old { link = c.end_frame.new.self; quiet = c.pass.new.self.quiet; step = c.pass.new.self.step; stage = RncTick; left = old.left - 1; frames = old.frames + 1 } in
-    passes_none run old new c.pass.new.link c.args.report.now c.pass.new.report is (c.pass.ensures.shows run.began run.first run.link is.stands) (sym c.next.ensures.value ∙ c.in-None.is) c.end_frame.ensures.clear refl refl (ap (λ (f : Filter). f.quiet) c.pass.ensures.filter) refl refl refl
+    let new : Handler = record old { link = c.end_frame.new.self; stage = RncTick; left = old.left - 1; frames = old.frames + 1 } in
+    let same : c.pass.new.self.report.now ≡ _ = search rules in
+    subst (λ (r : Held). (next : Run) × RepresentsRun next new × Adds (PassesStage run next) c.args.report.now r) same
+    (passes_none run old new c.pass.new.link c.args.report.now c.pass.new.self.report.now is (c.pass.ensures.shows run.began run.first run.link is.stands) (sym c.next.ensures.value ∙ c.in-None.is) c.end_frame.ensures.clear refl refl refl refl refl refl)
 
 pub returns-in-Some-clause-ready : goal.returns-in-Some-clause-ready
 returns-in-Some-clause-ready c =
     let old : Handler = the_view c.self.inside in
     let ready : IsReady old = subst IsReady (sym c.self.view_is) c.requires.ready in
     let cfn = ap (λ n. n % 8) c.pass.ensures.cfn ∙ cfn_some old.stage c.in-Some.stage old.link.ue.cfn old.frames (sym c.next.ensures.value ∙ c.in-Some.is) ready.cfn in
-    ready_on old c.pass.new.link c.pass.new.self.quiet c.in-Some.stage old.left old.frames old.lines c.pass.new.self.step ready c.pass.ensures.opened c.pass.ensures.next
-    (ap (λ (f : Filter). f.quiet) c.pass.ensures.filter) (ap (λ (f : Filter). f.step) c.pass.ensures.filter) c.in-Some.ensures.stage cfn ready.left ready.lines ready.few
+    ready_on old c.pass.new.link c.in-Some.stage old.left old.frames old.lines ready c.pass.ensures.opened c.pass.ensures.next
+    c.in-Some.ensures.stage cfn ready.left ready.lines ready.few
 
 pub returns-in-None-clause-ready : goal.returns-in-None-clause-ready
 returns-in-None-clause-ready c =
@@ -46,6 +52,6 @@ returns-in-None-clause-ready c =
     let ready : IsReady old = subst IsReady (sym c.self.view_is) c.requires.ready in
     let left : 0 < old.left = subst (λ (h : Handler). 0 < h.left) (sym c.self.view_is) c.requires.left in
     let cfn = ap (λ n. n % 8) (c.end_frame.ensures.cfn ∙ c.pass.ensures.cfn) ∙ cfn_none old.stage old.link.ue.cfn old.frames (sym c.next.ensures.value ∙ c.in-None.is) ready.cfn in
-    ready_on old c.end_frame.new.self c.pass.new.self.quiet RncTick (old.left - 1) (old.frames + 1) old.lines c.pass.new.self.step ready c.end_frame.ensures.opened
+    ready_on old c.end_frame.new.self RncTick (old.left - 1) (old.frames + 1) old.lines ready c.end_frame.ensures.opened
     (λ second has. c.end_frame.ensures.next second (c.pass.ensures.next second has))
-    (ap (λ (f : Filter). f.quiet) c.pass.ensures.filter) (ap (λ (f : Filter). f.step) c.pass.ensures.filter) tt cfn (omega (arith, ready.left)) ready.lines (omega (arith, ready.few, left))
+    tt cfn (omega (arith, ready.left)) ready.lines (omega (arith, ready.few, left))
