@@ -1,15 +1,10 @@
 -- Rows that hand up units, or tell of channels whose blocks differ, show no frame, so that they are always shown.
-use Rattle.std.proofs.Common.{◌≡◌, ◌+◌, ◌-◌, ℕ, zero, suc, List, [], ◌∷◌, ◌++◌, Bool, true, false, length, take, arith, refl, ap, ◌∙◌, append_assoc, length-append}
-use Rattle.std.specs.Prelude.{codes, decimal, if◌then◌else◌}
-use Rattle.std.proofs.lemmas.Bool.{cond_both}
+use Rattle.std.proofs.Common.{◌≡◌, ℕ, List, [], ◌∷◌, Bool, true, false, refl, ap, ◌∙◌}
 use Rattle.dch_types.specs.declared.channel.Dir.{Dir}
-use Rattle.dch_types.specs.declared.channel.Dir.TheVariants.{Up, Down}
-use Rattle.dch_script.specs.Code.{content, is_ended}
 use Rattle.dch_script.specs.Lines.{lines_of as rows, rest_of}
-use Rattle.dch_script.specs.LineWords.{words_of as words_in}
-use Rattle.dch_script.specs.Report.{bits_shown, iub_text, octets_shown, pair_text, phy_text, place_text, unit_text}
+use Rattle.dch_script.specs.Report.{iub_text, pair_text, phy_text, place_text, unit_text}
 use Rattle.dch_node.specs.Lines.{Line, Took, Full, Wrong, Bad, Reserved, NoBearer, Nobody, PduBad, Outside, Overlong, Got, GotBits, Iub, IubBad, Phy, PhyNone, BadTti, Differs}
-use Rattle.dch_script.specs.LineText.{text_of, words_of}
+use Rattle.dch_script.specs.LineText.{text_of}
 use Rattle.dch_linkcmd.specs.Shown.{shown}
 use Rattle.dch_linkcmd.specs.Filtering.{is_frame, seen}
 use Rattle.dch_runlaw.specs.TextDiffering.{false_rows, false_words}
