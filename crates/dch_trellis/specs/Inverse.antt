@@ -16,7 +16,8 @@ majority vote = choice (nat_lt vote.zeros vote.ones)
 
 -- the first bits of a list are those of which there are more copies
 abbrev pub AreMajorities : ℕ → List Vote → List Bit → Type 0
-AreMajorities count votes bits = (j : ℕ) → j < count → slice_index_or bits j Zero ≡ majority (slice_index_or votes j no_votes)
+AreMajorities count votes bits =
+    (j : ℕ) → j < count → slice_index_or bits j Zero ≡ majority (slice_index_or votes j no_votes)
 
 -- the coded bits whose sum is an input, as distances from the first one of its step
 abbrev pub places : Rate → List ℕ
@@ -33,7 +34,8 @@ sum_from bits from distances = bit_of_number (sum_by (bit_from bits from) distan
 
 -- the first inputs are the sums of their coded bits
 abbrev pub AreInverse : Rate → ℕ → List Bit → List Bit → Type 0
-AreInverse rate count coded block = (k : ℕ) → k < count → slice_index_or block k Zero ≡ sum_from coded (outputs rate * k) (places rate)
+AreInverse rate count coded block =
+    (k : ℕ) → k < count → slice_index_or block k Zero ≡ sum_from coded (outputs rate * k) (places rate)
 
 -- more copies speak for a bit than against it
 abbrev pub IsDecided : Vote → Bit → Type 0
@@ -41,4 +43,5 @@ IsDecided vote bit = differing vote bit < differing vote (plus One bit)
 
 -- and so do the copies of all bits
 abbrev pub AreDecided : List Vote → List Bit → Type 0
-AreDecided votes bits = (j : ℕ) → j < length votes → IsDecided (slice_index_or votes j no_votes) (slice_index_or bits j Zero)
+AreDecided votes bits =
+    (j : ℕ) → j < length votes → IsDecided (slice_index_or votes j no_votes) (slice_index_or bits j Zero)

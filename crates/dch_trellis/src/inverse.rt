@@ -19,16 +19,18 @@ type CodedBits = [Bit; 3 * 512];
 /// How many steps are read before the whole block is.
 const FIRST: usize = 32;
 
-/// Finds the nearest block where the copies decide on all coded bits, and a block has these: no other block disagrees with
-/// as few copies. Its inputs are sums of the coded bits. The answer is how many copies it disagrees with, or None.
+/// Finds the nearest block where the copies decide on all coded bits, and a block has these: no other block disagrees
+/// with as few copies. Its inputs are sums of the coded bits. The answer is how many copies it disagrees with, or None.
 pub fn nearest(rate: Rate, votes: &[Vote], filler: usize, out: &mut [Bit]) -> Option<u32>
     requires some { 1 ≤ length out.old }
     requires size { length out.old ≤ 504 }
     requires coded { length votes.now ≡ coded_length rate (length out.old) }
     requires few { all_copies votes.now < 2 ^ 31 }
     ensures found { IsSome result → out.new ≡ found rate votes.now (length out.old) filler }
-    ensures read { (block : List Bit) → IsBlock (length out.old) filler block → AreDecided votes.now (encoded rate block) → IsSome result }
-    ensures cost { IfSome result (λ copies. copies ≡ best (branch_metric rate votes.now) (is_free (length out.old) filler) (length out.old + 8) 0 0) }
+    ensures read { (block : List Bit) → IsBlock (length out.old) filler block →
+        AreDecided votes.now (encoded rate block) → IsSome result }
+    ensures cost { IfSome result (λ copies.
+        copies ≡ best (branch_metric rate votes.now) (is_free (length out.old) filler) (length out.old + 8) 0 0) }
 {
     if begins(rate, votes, out) && read(rate, votes, votes, out) && is_filled(out, filler) {
         Some(fewest_of(votes))
@@ -37,27 +39,33 @@ pub fn nearest(rate: Rate, votes: &[Vote], filler: usize, out: &mut [Bit]) -> Op
     }
 }
 
-/// Whether the copies decide on the coded bits of the first steps. Where they don't, the whole block isn't read in vain.
+/// Whether the copies decide on the coded bits of the first steps. Where they don't, the whole block isn't read in
+/// vain.
 fn begins(rate: Rate, votes: &[Vote], out: &mut [Bit]) -> bool
     requires some { 1 ≤ length out.old }
     requires size { length out.old ≤ 504 }
     requires coded { length votes.now ≡ coded_length rate (length out.old) }
-    ensures decided { IsTrue result ↔ AreDecided (take (outputs rate * min (length out.old) 32) votes.now) (encoded rate (take (min (length out.old) 32) out.new)) }
-    ensures read { (source : List Bit) → length source ≡ length out.old → AreDecided votes.now (encoded rate source) → IsTrue result }
+    ensures decided { IsTrue result ↔ AreDecided
+        (take (outputs rate * min (length out.old) 32) votes.now)
+        (encoded rate (take (min (length out.old) 32) out.new)) }
+    ensures read { (source : List Bit) → length source ≡ length out.old →
+        AreDecided votes.now (encoded rate source) → IsTrue result }
 {
     let steps = out.len().min(FIRST);
     let first = &votes[..coded_before(rate, steps)];
     read(rate, votes, first, &mut out[..steps])
 }
 
-/// Reads a block by the inverse of the code, codes it again, and tells whether the copies to compare decide on its coded bits.
+/// Reads a block by the inverse of the code, codes it again, and tells whether the copies to compare decide on its coded
+/// bits.
 fn read(rate: Rate, votes: &[Vote], compared: &[Vote], block: &mut [Bit]) -> bool
     requires some { 1 ≤ length block.old }
     requires size { length block.old ≤ 504 }
     requires coded { coded_length rate (length block.old) ≤ length votes.now }
     requires compared { length compared.now ≤ coded_length rate (length block.old) }
     ensures decided { IsTrue result ↔ AreDecided compared.now (encoded rate block.new) }
-    ensures inverse { (source : List Bit) → length block.old ≤ length source → AreDecided votes.now (encoded rate source) → block.new ≡ take (length block.old) source }
+    ensures inverse { (source : List Bit) → length block.old ≤ length source →
+        AreDecided votes.now (encoded rate source) → block.new ≡ take (length block.old) source }
 {
     let coded = coded_len(rate, block.len());
     let mut received = zeros();
@@ -226,7 +234,8 @@ fn are_decided(votes: &[Vote], bits: &[Bit]) -> bool
 fn some_decided(votes: &[Vote], from: usize, bits: &[Bit]) -> bool
     requires inside { from + 16 ≤ length votes.now }
     requires room { length votes.now ≤ length bits.now }
-    ensures { IsTrue result ↔ ((j : ℕ) → from ≤ j → j < from + 16 → IsDecided (slice_index_or votes.now j no_votes) (slice_index_or bits.now j Zero)) }
+    ensures { IsTrue result ↔ ((j : ℕ) → from ≤ j → j < from + 16 →
+        IsDecided (slice_index_or votes.now j no_votes) (slice_index_or bits.now j Zero)) }
 {
     let mut decided = true;
     for j in 0..16usize {
