@@ -104,8 +104,8 @@ abbrev pub Plans : Uplink → Result (List UplinkPlan) Refusal → Type 0
 Plans uplink (Ok plans) = HavePlans uplink (length uplink.side.combinations) plans
 Plans uplink (Err refusal) = IsWithoutPlans uplink refusal
 
--- what is accepted is the configuration: each of its uplink combinations has a rate, not too many code blocks may lose bits,
--- and no two collide
+-- what is accepted is the configuration: each of its uplink combinations has a rate, not too many code blocks may lose
+-- bits, and no two collide
 pub record IsAccepted (config : Config) (accepted : Planned) : Type 0 where
   pub same : accepted.config ≡ config
   pub rates : HaveAllRates config

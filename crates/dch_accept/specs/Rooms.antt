@@ -17,8 +17,8 @@ places_below plan i (suc f) = max (places_below plan i f) (matching_at plan i f)
 abbrev pub most_places : Planned → ℕ → ℕ
 most_places planned i = places_below planned.downlink i (length (channel_at planned.config.downlink.side i).formats)
 
--- the most cells of a TTI of channel i: in the uplink one for each coded bit, padded to whole radio frames, and in the downlink one for
--- each place in its radio frames
+-- the most cells of a TTI of channel i: in the uplink one for each coded bit, padded to whole radio frames, and in the
+-- downlink one for each place in its radio frames
 abbrev pub most_tti_cells : Planned → Dir → ℕ → ℕ
 most_tti_cells planned Up i = (channel_room (channel_at planned.config.uplink.side i)).bits
 most_tti_cells planned Down i = (channel_at planned.config.downlink.side i).frames * most_places planned i

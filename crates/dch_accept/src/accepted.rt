@@ -56,14 +56,16 @@ impl Model for Accepted {
 
     ghost view = { λ a. record { config = a.config; uplink = a.uplink; downlink = a.downlink } };
 
-    ghost invariant = { λ a. IsPlanned (record { config = a.config; uplink = a.uplink; downlink = a.downlink }) × (a.downlink_interleaver ≡ code_bits a.config.downlink) × (a.count ≡ count_of a.config) };
+    ghost invariant = { λ a. IsPlanned (record { config = a.config; uplink = a.uplink; downlink = a.downlink }) ×
+        (a.downlink_interleaver ≡ code_bits a.config.downlink) × (a.count ≡ count_of a.config) };
 }
 
 /// The most code blocks that are looked at for collisions, each under all legal sequences.
 const MOST_SEARCHES: u128 = 2048;
 
-/// Plans the rate matching of a configuration, and keeps it. Refuses it where an uplink combination has no rate, where too many
-/// code blocks may lose bits to be looked at, or where two of them are made one under a legal sequence of combinations.
+/// Plans the rate matching of a configuration, and keeps it. Refuses it where an uplink combination has no rate, where
+/// too many code blocks may lose bits to be looked at, or where two of them are made one under a legal sequence of
+/// combinations.
 pub fn accept(alloc: Global, config: Config) -> Result<Accepted, Refusal>
     requires { IsGood config }
     ensures { Accepts config result }
@@ -147,7 +149,8 @@ fn look_for_collisions(
 
 /// A collision as a refusal: `first` is the block of zeros.
 fn collision(alloc: Global, dir: Dir, found: Found) -> Result<Refusal, NoMemory>
-    ensures { IfOk result (λ refusal. refusal ≡ Refusal.Collision dir found.channel found.format found.block found.sequence (replicate (length found.second) Zero) found.second) }
+    ensures { IfOk result (λ refusal. refusal ≡
+        Refusal.Collision dir found.channel found.format found.block found.sequence (replicate (length found.second) Zero) found.second) }
 {
     let first = zeros(alloc, found.second.len())?;
     Ok(Refusal::Collision {
@@ -225,8 +228,8 @@ impl Accepted {
         &self.downlink
     }
 
-    /// How many code blocks were looked at for collisions: those that may lose bits, each as often as there are legal sequences
-    /// of combinations for its channel and format, and in the downlink once.
+    /// How many code blocks were looked at for collisions: those that may lose bits, each as often as there are legal
+    /// sequences of combinations for its channel and format, and in the downlink once.
     pub fn count(&self) -> u128
         ensures { result ≡ count_of self.now.config }
     {

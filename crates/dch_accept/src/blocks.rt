@@ -223,7 +223,8 @@ impl TtiBlocks {
 fn unpack_blocks(octets: &[u8], size: usize, count: usize, out: &mut [Bit])
     requires octets { length octets.now ≡ count * div_ceil size 8 }
     requires room { count * size ≤ length out.old }
-    ensures { (b : ℕ) → b < count → take size (drop (b * size) out.new) ≡ bits_from octets.now (8 * (b * div_ceil size 8)) size }
+    ensures { (b : ℕ) → b < count → take size (drop (b * size) out.new) ≡
+        bits_from octets.now (8 * (b * div_ceil size 8)) size }
 {
     let width = size.div_ceil(8);
     for b in 0..count {

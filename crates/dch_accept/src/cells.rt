@@ -37,7 +37,8 @@ impl Accepted {
         requires { combination < length (side_of self.now.config dir).combinations }
         ensures some { 0 < result.now }
         ensures codes { frame_cells self.now dir combination % result.now ≡ 0 }
-        ensures value { 0 < frame_cells self.now dir combination → result.now ≡ code_cells self.now dir (frame_cells self.now dir combination) }
+        ensures value { 0 < frame_cells self.now dir combination →
+            result.now ≡ code_cells self.now dir (frame_cells self.now dir combination) }
     {
         match dir {
             Dir::Up => {

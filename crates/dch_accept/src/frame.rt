@@ -78,7 +78,10 @@ impl PhyFrame {
     /// Gives the frame so many cells, which are Off. Its TFCI bits become zeros.
     pub fn shape(&mut self, cells: usize)
         requires { cells ≤ self.old.room }
-        ensures { self.new ≡ record self.old { tfci = replicate (length self.old.tfci) Zero; cells = replicate cells Off } }
+        ensures { self.new ≡ record self.old {
+          tfci = replicate (length self.old.tfci) Zero;
+          cells = replicate cells Off;
+        } }
     {
         clear(&mut self.tfci, self.bits, Bit::Zero);
         clear(&mut self.cells, cells, Trit::Off);

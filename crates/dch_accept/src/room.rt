@@ -13,8 +13,8 @@ pub struct TtiRoom {
     pub coding: CodingRoom,
     /// The coded bits of a radio frame before rate matching (TS 25.212 4.2.6).
     pub frame_bits: usize,
-    /// The cells of a TTI, all of its radio frames together: in the uplink those before rate matching, and in the downlink its
-    /// places, also those in which nothing is sent (TS 25.212 4.2.9.1).
+    /// The cells of a TTI, all of its radio frames together: in the uplink those before rate matching, and in the
+    /// downlink its places, also those in which nothing is sent (TS 25.212 4.2.9.1).
     pub cells: usize,
 }
 

@@ -78,7 +78,8 @@ impl SetBlocks {
     /// Gives each channel its idle format, whose blocks are zeros and good.
     pub fn clear(&mut self)
         ensures cleared { IsCleared self.old self.new }
-        ensures idle { (config : Config) (dir : Dir) (set : ℕ) → IsSetOf config dir set self.old → IsIdleSet config dir set self.new }
+        ensures idle { (config : Config) (dir : Dir) (set : ℕ) → IsSetOf config dir set self.old →
+            IsIdleSet config dir set self.new }
     {
         clear_all(&self.idle, &mut self.blocks);
     }
@@ -87,8 +88,12 @@ impl SetBlocks {
     pub fn add(&mut self, channel: u8, blocks: &TtiBlocks)
         requires channel { channel < length self.old.blocks }
         requires room { length blocks.now.bits ≤ (held_at self.old.blocks channel).room }
-        ensures added { self.new ≡ record self.old { blocks = slice_set self.old.blocks channel (record blocks.now { room = (held_at self.old.blocks channel).room }) } }
-        ensures set { (config : Config) (dir : Dir) (set : ℕ) → HasFormat (channel_at (side_of config dir) channel) blocks.now →
+        ensures added { self.new ≡ record self.old {
+          blocks =
+              slice_set self.old.blocks channel (record blocks.now { room = (held_at self.old.blocks channel).room });
+        } }
+        ensures set { (config : Config) (dir : Dir) (set : ℕ) →
+            HasFormat (channel_at (side_of config dir) channel) blocks.now →
             IsSetOf config dir set self.old → IsSetOf config dir set self.new }
     {
         self.blocks[channel as usize].copy_from(blocks);
@@ -111,7 +116,10 @@ impl SetBlocks {
         requires long { length octets.now ≡ format_octets format.now }
         ensures unpacked { IsUnpacked number format.now octets.now (held_at self.new.blocks channel) }
         ensures room { (held_at self.new.blocks channel).room ≡ (held_at self.old.blocks channel).room }
-        ensures others { self.new ≡ record self.old { blocks = slice_set self.old.blocks channel (held_at self.new.blocks channel) } }
+        ensures others { self.new ≡ record self.old {
+          blocks =
+              slice_set self.old.blocks channel (held_at self.new.blocks channel);
+        } }
     {
         self.blocks[channel as usize].unpack(number, format, octets);
     }
@@ -120,7 +128,11 @@ impl SetBlocks {
     pub fn mark(&mut self, channel: u8, i: usize, good: bool)
         requires channel { channel < length self.old.blocks }
         requires block { i < length (held_at self.old.blocks channel).good }
-        ensures { self.new ≡ record self.old { blocks = slice_set self.old.blocks channel (record (held_at self.old.blocks channel) { good = slice_set (held_at self.old.blocks channel).good i good }) } }
+        ensures { self.new ≡ record self.old {
+          blocks =
+              slice_set self.old.blocks channel (record (held_at self.old.blocks channel)
+              { good = slice_set (held_at self.old.blocks channel).good i good });
+        } }
     {
         self.blocks[channel as usize].mark(i, good);
     }

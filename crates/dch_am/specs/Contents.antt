@@ -17,4 +17,8 @@ last_of (p ∷ q ∷ ps) = last_of (q ∷ ps)
 
 -- what a PDU with these indicators and octets holds
 abbrev pub body_in : Content → Body
-body_in c = record { full = begins_with 0 c.indicators; pieces = all_but_last (parts_of c); rest = last_of (parts_of c) }
+body_in c = record {
+  full = begins_with 0 c.indicators;
+  pieces = all_but_last (parts_of c);
+  rest = last_of (parts_of c);
+}

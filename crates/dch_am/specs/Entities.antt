@@ -1,5 +1,5 @@
--- An entity of the acknowledged mode (TS 25.322 4.2.1.3), which sends and receives: what it writes when it may write a PDU, how much it offers
--- to send, and what each event makes of it.
+-- An entity of the acknowledged mode (TS 25.322 4.2.1.3), which sends and receives: what it writes when it may write a
+-- PDU, how much it offers to send, and what each event makes of it.
 use Rattle.std.specs.Prelude.{◌≡◌, ◌+◌, ◌-◌, ◌*◌, ◌<◌, ◌≤◌, ℕ, List, [], ◌∷◌, length, Bool, true, false, nat_lt, Option, Some, None, if◌then◌else◌}
 use Rattle.dch_rlcpdu.specs.Fields.{Field}
 use Rattle.dch_rlcpdu.specs.declared.am.AmView.{AmView}
@@ -44,7 +44,8 @@ pub data Turn : Type 0 where
 
 -- a status goes before an MRW, and that before a data PDU
 abbrev pub turn : Rules → Sender → Receiver → Turn
-turn rules s r = if is_due r then Tells else (if mrw_due s.discard then Moves else (if gives rules s then Sends else Rests))
+turn rules s r = if is_due r then Tells else (if mrw_due s.discard then Moves
+    else (if gives rules s then Sends else Rests))
 
 -- something is written
 abbrev pub writes : Turn → Bool
@@ -57,7 +58,8 @@ writes Rests = false
 abbrev pub IsWritten : Turn → Rules → ℕ → List ℕ → Sender → Receiver → Type 0
 IsWritten Tells rules size out s r = IsReport out (tells_now (8 * size) r)
 IsWritten Moves rules size out s r = IsMrw out s.discard
-IsWritten Sends rules size out s r = (out ≡ next_pdu rules (size - 2) s) × IsShort (size - 2) (body_of_choice (choice rules s) (size - 2) s)
+IsWritten Sends rules size out s r = (out ≡ next_pdu rules (size - 2) s)
+    × IsShort (size - 2) (body_of_choice (choice rules s) (size - 2) s)
 IsWritten Rests rules size out s r = Unit {0}
 
 -- the sender and the receiver after it is written
@@ -78,7 +80,8 @@ abbrev pub one_if : Bool → ℕ
 one_if true = 1
 one_if false = 0
 
--- how many PDUs of so many octets it offers to send: a due status, a due MRW, and the data PDUs that could follow one another
+-- how many PDUs of so many octets it offers to send: a due status, a due MRW, and the data PDUs that could follow one
+-- another
 abbrev pub offers_to_send : Rules → ℕ → Entity → ℕ
 offers_to_send rules size e = one_if (is_due e.receiver) + one_if (mrw_due e.sender.discard) + available rules (size - 2) e.sender
 
@@ -132,9 +135,14 @@ pub data Event : Type 0 where
 abbrev pub step : Rules → ℕ → Entity → Event → Entity
 step rules size e (Offer unit) = with_sender e (after_offer (offered rules e.sender unit) e.sender unit)
 step rules size e Tick = with_sides e (tick_sender rules e.sender) (tick_receiver rules e.receiver)
-step rules size e Build = with_sides e (sender_after (turn rules e.sender e.receiver) rules size e.sender) (receiver_after (turn rules e.sender e.receiver) rules e.receiver)
+step rules size e Build = with_sides e (sender_after (turn rules e.sender e.receiver) rules size e.sender)
+    (receiver_after (turn rules e.sender e.receiver) rules e.receiver)
 step rules size e (Come pdu) = with_sides e (sender_by rules pdu e.sender) (receiver_by rules pdu e.receiver)
-step rules size e HandUp = record { sender = e.sender; receiver = e.receiver; handed = if nat_lt e.handed (length e.receiver.reading.units) then e.handed + 1 else e.handed }
+step rules size e HandUp = record {
+  sender = e.sender;
+  receiver = e.receiver;
+  handed = if nat_lt e.handed (length e.receiver.reading.units) then e.handed + 1 else e.handed;
+}
 
 -- and after a list of events
 abbrev pub steps : Rules → ℕ → Entity → List Event → Entity

@@ -1,4 +1,5 @@
--- What an end of a bearer writes (TS 25.322 9.2.1.4, 9.2.1.5, 9.2.2.11): a status of its receiver, an MRW or a data PDU of its sender.
+-- What an end of a bearer writes (TS 25.322 9.2.1.4, 9.2.1.5, 9.2.2.11): a status of its receiver, an MRW or a data PDU
+-- of its sender.
 use Rattle.std.specs.Prelude.{◌≡◌, ◌+◌, ℕ, List, ◌∷◌, ◌++◌, map, Option, Some, None, Ok}
 use Rattle.dch_rlcpdu.specs.declared.am.AmView.TheVariants.{Status}
 use Rattle.dch_rlcpdu.specs.Am.{am_pdu, am_reading}
@@ -15,7 +16,8 @@ use Rattle.dch_am.specs.Status.{Told, OnlyAck, OnlyStatus, AckAndStatus, fields_
 abbrev pub told_text : Told → List ℕ
 told_text (OnlyAck a) = mrw_ack_text a.n (wrapped a.number)
 told_text (OnlyStatus t) = status_text (map wrapped_pair t.pairs) (wrapped t.lsn)
-told_text (AckAndStatus a t) = mrw_ack_text a.n (wrapped a.number) ++ status_text (map wrapped_pair t.pairs) (wrapped t.lsn)
+told_text (AckAndStatus a t) = mrw_ack_text a.n (wrapped a.number)
+    ++ status_text (map wrapped_pair t.pairs) (wrapped t.lsn)
 
 -- something is told, and these octets are just that, with zeros behind it
 abbrev pub IsTold : List ℕ → Option Told → Type 0
@@ -43,7 +45,8 @@ IsMrw out (Some x) = IsMoved out x
 
 -- the next data PDU: its number in 12 bits, its poll bit, its indicators and its octets
 abbrev pub pdu_of_choice : Rules → ℕ → Sender → Choice → List ℕ
-pdu_of_choice rules d s c = am_pdu (wrapped (number_of c s)) (polls_at c rules d s) (indicators_of d (body_of_choice c d s)) (carried (body_of_choice c d s)) (d + 2)
+pdu_of_choice rules d s c = am_pdu (wrapped (number_of c s)) (polls_at c rules d s)
+    (indicators_of d (body_of_choice c d s)) (carried (body_of_choice c d s)) (d + 2)
 
 abbrev pub next_pdu : Rules → ℕ → Sender → List ℕ
 next_pdu rules d s = pdu_of_choice rules d s (choice rules s)

@@ -1,5 +1,5 @@
--- What a receiver of the acknowledged mode holds is limited (TS 25.322 11.3.3): each PDU that came had at most 126 octets, and none lies
--- beyond the window.
+-- What a receiver of the acknowledged mode holds is limited (TS 25.322 11.3.3): each PDU that came had at most 126
+-- octets, and none lies beyond the window.
 use Rattle.std.specs.Prelude.{◌+◌, ◌≤◌, ℕ, List, [], ◌∷◌, length}
 use Rattle.std.specs.List.{All}
 use Rattle.dch_am.specs.Bodies.{Body}
@@ -7,8 +7,8 @@ use Rattle.dch_am.specs.Entities.{one_if}
 use Rattle.dch_am.specs.Numbers.{top}
 use Rattle.dch_am.specs.Receiver.{Receiver, vr_r, numbers}
 
--- the octets of a PDU behind its header of two octets: those of its pieces, each with its length indicator, and those of its rest; and the
--- indicator that tells of the PDU before
+-- the octets of a PDU behind its header of two octets: those of its pieces, each with its length indicator, and those
+-- of its rest; and the indicator that tells of the PDU before
 abbrev pub pieces_octets : List (List ℕ) → ℕ
 pieces_octets [] = 0
 pieces_octets (p ∷ ps) = length p + 1 + pieces_octets ps

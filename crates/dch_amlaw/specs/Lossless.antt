@@ -21,18 +21,20 @@ abbrev pub NoneLost : List At → Type 0
 NoneLost [] = Unit {0}
 NoneLost (e ∷ es) = (is_loss e ≡ false) × NoneLost es
 
--- the new PDUs of a line are numbered from one number on up to another, and all that is repeated stands behind its first time
+-- the new PDUs of a line are numbered from one number on up to another, and all that is repeated stands behind its
+-- first time
 abbrev pub Continues : ℕ → List Block → ℕ → Type 0
 Continues g [] n = g ≡ n
 Continues g (Payload k poll body ∷ line) n = (k ≤ g) × Continues (max g (k + 1)) line n
 Continues g (Mrw k place end_of_discard ∷ line) n = (k < g) × Continues g line n
 Continues g (Report t ∷ line) n = Continues g line n
 
--- the PDUs that have arrived are those below a number; those from it on are in flight; handed up are the accepted units, in order, whose length
--- indicator lies in the PDUs that arrived
+-- the PDUs that have arrived are those below a number; those from it on are in flight; handed up are the accepted
+-- units, in order, whose length indicator lies in the PDUs that arrived
 pub record IsWhole (from to : End) (line : List Block) : Type 0 where
   pub numbers : Continues (gap_free to) line (vt_s from.entity.sender)
-  pub units : to.entity.receiver.reading.units ≡ take (ends (take (gap_free to) from.entity.sender.bodies)) from.entity.sender.accepted
+  pub units : to.entity.receiver.reading.units
+      ≡ take (ends (take (gap_free to) from.entity.sender.bodies)) from.entity.sender.accepted
 
 -- in both directions: the PDUs that have arrived are those below a number, those from it on are in flight, and
 -- delivered are the accepted SDUs, in order, whose length indicator lies in the PDUs that arrived

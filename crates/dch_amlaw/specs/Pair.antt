@@ -44,7 +44,14 @@ abbrev pub turned : Pair → Pair
 turned p = record { near = p.far; far = p.near; out = p.back; back = p.out }
 
 abbrev pub opened_end : Rules → ℕ → End
-opened_end rules octets = record { octets = octets; entity = opened_entity rules; came = []; moved_to = 0; moved_past = 0; spans = [] }
+opened_end rules octets = record {
+  octets = octets;
+  entity = opened_entity rules;
+  came = [];
+  moved_to = 0;
+  moved_past = 0;
+  spans = [];
+}
 
 abbrev pub opened : Rules → ℕ → ℕ → Pair
 opened rules first second = record { near = opened_end rules first; far = opened_end rules second; out = []; back = [] }
@@ -59,7 +66,14 @@ pub data Event : Type 0 where
 
 -- an end whose entity is this, and the pair whose near end is this
 abbrev pub with_entity : End → Entity → End
-with_entity e entity = record { octets = e.octets; entity = entity; came = e.came; moved_to = e.moved_to; moved_past = e.moved_past; spans = e.spans }
+with_entity e entity = record {
+  octets = e.octets;
+  entity = entity;
+  came = e.came;
+  moved_to = e.moved_to;
+  moved_past = e.moved_past;
+  spans = e.spans;
+}
 
 abbrev pub with_near : Pair → End → Pair
 with_near p e = record { near = e; far = p.far; out = p.out; back = p.back }
@@ -78,9 +92,12 @@ mrw_of None = None
 mrw_of (Some d) = Some (Mrw d.k d.n d.end_of_discard)
 
 abbrev pub payload_of : Choice → Rules → End → Option Block
-payload_of (Again k) rules e = Some (Payload k (polls_at (Again k) rules (e.octets - 2) e.entity.sender) (body_of_choice (Again k) (e.octets - 2) e.entity.sender))
-payload_of New rules e = Some (Payload (vt_s e.entity.sender) (polls_at New rules (e.octets - 2) e.entity.sender) (body_of_choice New (e.octets - 2) e.entity.sender))
-payload_of (Last k) rules e = Some (Payload k (polls_at (Last k) rules (e.octets - 2) e.entity.sender) (body_of_choice (Last k) (e.octets - 2) e.entity.sender))
+payload_of (Again k) rules e = Some (Payload k (polls_at (Again k) rules (e.octets - 2) e.entity.sender)
+    (body_of_choice (Again k) (e.octets - 2) e.entity.sender))
+payload_of New rules e = Some (Payload (vt_s e.entity.sender) (polls_at New rules (e.octets - 2) e.entity.sender)
+    (body_of_choice New (e.octets - 2) e.entity.sender))
+payload_of (Last k) rules e = Some (Payload k (polls_at (Last k) rules (e.octets - 2) e.entity.sender)
+    (body_of_choice (Last k) (e.octets - 2) e.entity.sender))
 payload_of NoPdu rules e = None
 
 -- the block that an end builds at its turn
@@ -99,7 +116,12 @@ sent_on line None = line
 sent_on line (Some block) = line ++ block ∷ []
 
 abbrev pub builds_one : Rules → Pair → Pair
-builds_one rules p = record { near = stepped rules p.near Builds; far = p.far; out = sent_on p.out (built rules p.near); back = p.back }
+builds_one rules p = record {
+  near = stepped rules p.near Builds;
+  far = p.far;
+  out = sent_on p.out (built rules p.near);
+  back = p.back;
+}
 
 -- the lowest number that has not arrived and was not passed
 abbrev pub run_over : List ℕ → ℕ → ℕ
@@ -120,8 +142,22 @@ abbrev pub taken_in : Rules → End → Block → Entity
 taken_in rules e block = all_handed (step rules e.octets e.entity (Come (pdu_in block)))
 
 abbrev pub takes : Rules → End → Block → End
-takes rules e (Payload k poll body) = record { octets = e.octets; entity = taken_in rules e (Payload k poll body); came = k ∷ e.came; moved_to = e.moved_to; moved_past = e.moved_past; spans = (run_over (k ∷ e.came) e.moved_to, e.moved_past) ∷ e.spans }
-takes rules e (Mrw k n end_of_discard) = record { octets = e.octets; entity = taken_in rules e (Mrw k n end_of_discard); came = e.came; moved_to = max e.moved_to k; moved_past = max e.moved_past end_of_discard; spans = (run_over e.came (max e.moved_to k), max e.moved_past end_of_discard) ∷ e.spans }
+takes rules e (Payload k poll body) = record {
+  octets = e.octets;
+  entity = taken_in rules e (Payload k poll body);
+  came = k ∷ e.came;
+  moved_to = e.moved_to;
+  moved_past = e.moved_past;
+  spans = (run_over (k ∷ e.came) e.moved_to, e.moved_past) ∷ e.spans;
+}
+takes rules e (Mrw k n end_of_discard) = record {
+  octets = e.octets;
+  entity = taken_in rules e (Mrw k n end_of_discard);
+  came = e.came;
+  moved_to = max e.moved_to k;
+  moved_past = max e.moved_past end_of_discard;
+  spans = (run_over e.came (max e.moved_to k), max e.moved_past end_of_discard) ∷ e.spans;
+}
 takes rules e (Report t) = with_entity e (taken_in rules e (Report t))
 
 abbrev pub arrives : Rules → Pair → List Block → Pair
@@ -194,7 +230,8 @@ in_span bodies (p ∷ ps) i = (nat_le p.1 i && nat_lt i (ends (take p.0 bodies))
 -- those units, in order. The first of these is unit i
 abbrev pub picked : List Body → List (ℕ × ℕ) → ℕ → List (List ℕ) → List (List ℕ)
 picked bodies spans i [] = []
-picked bodies spans i (u ∷ us) = if in_span bodies spans i then (u ∷ picked bodies spans (i + 1) us) else picked bodies spans (i + 1) us
+picked bodies spans i (u ∷ us) = if in_span bodies spans i then (u ∷ picked bodies spans (i + 1) us)
+    else picked bodies spans (i + 1) us
 
 -- what holds of one direction: of its sender and of its receiver at the other end
 pub record IsKept (rules : Rules) (from to : End) : Type 0 where
@@ -203,8 +240,10 @@ pub record IsKept (rules : Rules) (from to : End) : Type 0 where
   pub next_le_window : vt_s from.entity.sender ≤ vt_a from.entity.sender + rules.window
   pub acked_arrived : (k : ℕ) → has k from.entity.sender.acked ≡ true → has k (arrived_or_passed to) ≡ true
   pub expected_is : vr_r to.entity.receiver ≡ gap_free to
-  pub none_lost : (i : ℕ) → i < ends (take (gap_free to) from.entity.sender.bodies) → (in_span from.entity.sender.bodies to.spans i ≡ true) ⊎ (has i from.entity.sender.discarded_units ≡ true)
-  pub in_order : to.entity.receiver.reading.units ≡ picked from.entity.sender.bodies to.spans 0 from.entity.sender.accepted
+  pub none_lost : (i : ℕ) → i < ends (take (gap_free to) from.entity.sender.bodies)
+      → (in_span from.entity.sender.bodies to.spans i ≡ true) ⊎ (has i from.entity.sender.discarded_units ≡ true)
+  pub in_order : to.entity.receiver.reading.units
+      ≡ picked from.entity.sender.bodies to.spans 0 from.entity.sender.accepted
 
 -- what holds of two ends after every history, in both directions: SDUs are delivered in order, each once, and none that
 -- came without a gap is lost but those discarded; the next PDU in flight is not outside the window

@@ -1,4 +1,5 @@
--- What a running receiver of acknowledged mode holds, with numbers of 12 bits (TS 25.322 9.4, 11.3.3, 11.6.3), and what each call makes of it.
+-- What a running receiver of acknowledged mode holds, with numbers of 12 bits (TS 25.322 9.4, 11.3.3, 11.6.3), and what
+-- each call makes of it.
 use Rattle.std.specs.Prelude.{◌+◌, ◌-◌, ◌%◌, ℕ, List, Bool, true, false, not, length, map, take, Option, Some, None, ◌&&◌, ◌||◌, nat_lt, nat_le, ◌==◌, if◌then◌else◌}
 use Rattle.dch_types.specs.declared.bearer.AmRules.{AmRules}
 use Rattle.dch_am.specs.declared.answers.Taken.{Taken}
@@ -12,8 +13,9 @@ use Rattle.dch_rlcpdu.specs.Fields.{Field, mrw_ack_fields, mrw_status_fields, st
 use Rattle.dch_amrecv.specs.Lines.{Kept, nothing, passed, run_on, with_body, handed}
 use Rattle.dch_amrecv.specs.Places.{front, is_kept, put, vacant}
 
--- the rules, the octets of the PDUs that come and go, the expected number, what is kept, an MRW_ACK that is owed (its number and its place),
--- whether a status is owed, and the ticks until one may be written and until the next one is owed
+-- the rules, the octets of the PDUs that come and go, the expected number, what is kept, an MRW_ACK that is owed (its
+-- number and its place), whether a status is owed, and the ticks until one may be written and until the next one is
+-- owed
 pub record Holding : Type 0 where
   pub rules : AmRules
   pub pdu : ℕ
@@ -27,7 +29,17 @@ pub record Holding : Type 0 where
 
 -- at opening
 abbrev pub opened : AmRules → ℕ → ℕ → Holding
-opened rules pdu reply = record { rules = rules; pdu = pdu; reply = reply; next = 0; kept = nothing rules.window; ack = None; owed = false; status_prohibit_timer = 0; period = rules.status_period }
+opened rules pdu reply = record {
+  rules = rules;
+  pdu = pdu;
+  reply = reply;
+  next = 0;
+  kept = nothing rules.window;
+  ack = None;
+  owed = false;
+  status_prohibit_timer = 0;
+  period = rules.status_period;
+}
 
 -- no unit that ended waits
 abbrev pub is_settled : Holding → Bool
@@ -71,7 +83,8 @@ with_ack sn n h = record h { ack = Some (h.next, if h.next == sn then n else 0) 
 -- after that answer
 abbrev pub after_move : MrwTaken → ℕ → ℕ → Holding → Holding
 after_move Obeyed sn n h =
-    with_ack sn n (advanced_to (ahead h.next sn + front (passed (ahead h.next sn) n h.kept).places) (run_on (passed (ahead h.next sn) n h.kept)) h)
+    with_ack sn n (advanced_to (ahead h.next sn + front (passed (ahead h.next sn) n h.kept).places)
+    (run_on (passed (ahead h.next sn) n h.kept)) h)
 after_move Old sn n h = with_ack sn n h
 after_move (OutsideMove i) sn n h = h
 after_move Nothing sn n h = h
@@ -132,7 +145,8 @@ abbrev pub pairs_told : ℕ → Holding → List (ℕ × ℕ)
 pairs_told bits h = map (numbered h.next) (take (most bits (length (missing_runs h))) (missing_runs h))
 
 abbrev pub lsn_told : ℕ → Holding → ℕ
-lsn_told bits h = (h.next + (if most bits (length (missing_runs h)) == length (missing_runs h) then length h.kept.places else 0)) % 4096
+lsn_told bits h = (h.next + (if most bits (length (missing_runs h)) == length (missing_runs h) then length h.kept.places
+    else 0)) % 4096
 
 -- the fields that are written where an MRW_ACK, or a status, is due
 abbrev pub fields_told : Option (ℕ × ℕ) → Bool → ℕ → Holding → List Field

@@ -6,7 +6,8 @@ use Rattle.dch_sar.specs.Taking.{Waiting, after_unit, dropped, no_units}
 use Rattle.dch_amrecv.specs.Reading.{took_one}
 use Rattle.dch_amrecv.specs.Places.{front, put}
 
--- the places from the expected number on and how many there may be, the place up to which indicators of the next PDU end no unit, and the units
+-- the places from the expected number on and how many there may be, the place up to which indicators of the next PDU
+-- end no unit, and the units
 pub record Kept : Type 0 where
   pub places : List (Option Body)
   pub capacity : ℕ
@@ -38,7 +39,12 @@ trim_left trim (p ∷ ps) = None
 
 -- so many PDUs in front are read
 abbrev pub read_front : ℕ → Kept → Kept
-read_front n k = record { places = drop n k.places; capacity = k.capacity; trim = trim_left k.trim (take n k.places); units = took_run k.trim (take n k.places) k.units }
+read_front n k = record {
+  places = drop n k.places;
+  capacity = k.capacity;
+  trim = trim_left k.trim (take n k.places);
+  units = took_run k.trim (take n k.places) k.units;
+}
 
 -- all in front are read, up to the first gap
 abbrev pub run_on : Kept → Kept
@@ -55,7 +61,12 @@ greater (Some m) n = max m n
 
 -- so many places are passed, and the unit in progress is dropped
 abbrev pub passed : ℕ → ℕ → Kept → Kept
-passed count n k = record { places = drop count k.places; capacity = k.capacity; trim = Some (if count == 0 then greater k.trim n else n); units = dropped k.units }
+passed count n k = record {
+  places = drop count k.places;
+  capacity = k.capacity;
+  trim = Some (if count == 0 then greater k.trim n else n);
+  units = dropped k.units;
+}
 
 -- the first unit that waits is handed up
 abbrev pub handed : Kept → Kept

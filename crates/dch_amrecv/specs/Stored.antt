@@ -1,4 +1,5 @@
--- How a PDU is kept in a block: the number of its indicators, that of its octets, the indicators as they stand in the PDU, and the octets.
+-- How a PDU is kept in a block: the number of its indicators, that of its octets, the indicators as they stand in the
+-- PDU, and the octets.
 use Rattle.std.specs.Prelude.{◌≡◌, ◌+◌, ◌<◌, ◌≤◌, ℕ, List, length, map, take, drop, None, slice_index, slice_index_or}
 use Rattle.dch_rlcpdu.specs.Indicators.{AreIndicators, indicator_of}
 use Rattle.dch_rlcpdu.specs.Parts.{Content}
@@ -6,7 +7,10 @@ use Rattle.dch_pool.specs.Blocks.{Blocks, octets_of, with_octets}
 
 -- what the octets of a block hold
 abbrev pub content_of : List ℕ → Content
-content_of text = record { indicators = map indicator_of (take (slice_index text 0) (drop 2 text)); octets = take (slice_index text 1) (drop (slice_index text 0) (drop 2 text)) }
+content_of text = record {
+  indicators = map indicator_of (take (slice_index text 0) (drop 2 text));
+  octets = take (slice_index text 1) (drop (slice_index text 0) (drop 2 text));
+}
 
 -- they hold a PDU
 pub record IsStored (text : List ℕ) : Type 0 where

@@ -13,8 +13,8 @@ use dch_sar::Reassembler;
 use std::alloc::Global;
 use std::marker::Model;
 
-/// The PDUs that are kept from the expected one on, and the units of those before it. Of these, `todo` are still to be read, and
-/// stand in front of the window.
+/// The PDUs that are kept from the expected one on, and the units of those before it. Of these, `todo` are still to be
+/// read, and stand in front of the window.
 #[derive(Drop)]
 pub struct RxBuffer {
     todo: usize,
@@ -32,7 +32,8 @@ impl Model for RxBuffer {
 
     ghost view = { λ l. record { kept = read_front l.todo (line l.window.ring l.trim l.units); pdu = l.window.pdu } };
 
-    ghost invariant = { λ l. (l.todo ≤ front l.window.ring.items) × (l.units.waiting ≡ [] → l.todo ≡ 0) × (front (drop l.todo l.window.ring.items) ≡ 0) };
+    ghost invariant = { λ l. (l.todo ≤ front l.window.ring.items) × (l.units.waiting ≡ [] → l.todo ≡ 0) ×
+        (front (drop l.todo l.window.ring.items) ≡ 0) };
 }
 
 impl RxBuffer {
@@ -72,8 +73,8 @@ impl RxBuffer {
         self.window.has(i)
     }
 
-    /// Takes the PDU of a place that has none, and reads the PDUs before the first gap. Answers how many they are. With its header the
-    /// PDU has at most `pdu` octets.
+    /// Takes the PDU of a place that has none, and reads the PDUs before the first gap. Answers how many they are. With
+    /// its header the PDU has at most `pdu` octets.
     pub fn keep(&mut self, i: usize, body: &Body<'_>) -> usize
         requires settled { self.old.kept.units.waiting ≡ [] }
         requires place { i < self.old.kept.capacity }
@@ -95,8 +96,8 @@ impl RxBuffer {
         run + 1
     }
 
-    /// Passes so many places, drops the unit in progress, and reads the PDUs before the first gap, of which the first has indicators up to
-    /// a place that end no unit. Answers how many they are.
+    /// Passes so many places, drops the unit in progress, and reads the PDUs before the first gap, of which the first
+    /// has indicators up to a place that end no unit. Answers how many they are.
     pub fn pass(&mut self, count: usize, n: u8) -> usize
         requires settled { self.old.kept.units.waiting ≡ [] }
         ensures count { result ≡ front (passed count n self.old.kept).places }
@@ -135,8 +136,8 @@ impl RxBuffer {
         handed
     }
 
-    /// The missing PDUs as runs of at most 16: the place of the first of each run, and how many follow it. As many are written as find
-    /// room. Answers how many runs there are.
+    /// The missing PDUs as runs of at most 16: the place of the first of each run, and how many follow it. As many are
+    /// written as find room. Answers how many runs there are.
     pub fn missing_runs(&self, out: &mut [(u16, u8)]) -> usize
         requires { self.now.kept.capacity ≤ 2048 }
         ensures count { result ≡ length (runs (vacant 0 self.now.kept.places)) }

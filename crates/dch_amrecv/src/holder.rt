@@ -36,9 +36,21 @@ impl Model for Holder {
 
     ghost Value = { Holding };
 
-    ghost view = { λ h. record { rules = h.rules; pdu = h.pdu; reply = h.reply; next = h.next; kept = h.buffer.kept; ack = h.ack; owed = h.owed; status_prohibit_timer = h.status_prohibit_timer; period = h.period } };
+    ghost view = { λ h. record {
+      rules = h.rules;
+      pdu = h.pdu;
+      reply = h.reply;
+      next = h.next;
+      kept = h.buffer.kept;
+      ack = h.ack;
+      owed = h.owed;
+      status_prohibit_timer = h.status_prohibit_timer;
+      period = h.period;
+    } };
 
-    ghost invariant = { λ h. (h.next < 4096) × (h.buffer.kept.capacity ≡ h.rules.window) × (h.rules.window ≤ 2048) × (h.pdu ≤ 126) × (6 ≤ h.reply) × (h.reply ≤ 126) × IfSome h.ack (λ a. (a.0 < 4096) × (a.1 < 16)) × (h.buffer.pdu ≡ h.pdu) };
+    ghost invariant = { λ h. (h.next < 4096) × (h.buffer.kept.capacity ≡ h.rules.window) × (h.rules.window ≤ 2048) ×
+        (h.pdu ≤ 126) × (6 ≤ h.reply) × (h.reply ≤ 126) × IfSome h.ack (λ a. (a.0 < 4096) × (a.1 < 16)) ×
+        (h.buffer.pdu ≡ h.pdu) };
 }
 
 impl Holder {
@@ -167,7 +179,8 @@ impl Holder {
     pub fn tell(&mut self, out: &mut [u8])
         requires due { is_due self.old ≡ true }
         requires size { length out.old ≡ self.old.reply }
-        ensures fields { status_of out.new ≡ Some (fields_told self.old.ack (plain_due self.old) (8 * self.old.reply) self.old) }
+        ensures fields { status_of out.new ≡ Some (fields_told self.old.ack (plain_due self.old)
+            (8 * self.old.reply) self.old) }
         ensures text { IsText out.new (0 ∷ text_told self.old.ack (plain_due self.old) (8 * self.old.reply) self.old) }
         ensures after { self.new ≡ after_telling self.old }
     {
@@ -184,7 +197,8 @@ impl Holder {
     fn write(&self, out: &mut [u8])
         requires due { is_due self.now ≡ true }
         requires size { length out.old ≡ self.now.reply }
-        ensures fields { status_of out.new ≡ Some (fields_told self.now.ack (plain_due self.now) (8 * self.now.reply) self.now) }
+        ensures fields { status_of out.new ≡ Some (fields_told self.now.ack (plain_due self.now)
+            (8 * self.now.reply) self.now) }
         ensures text { IsText out.new (0 ∷ text_told self.now.ack (plain_due self.now) (8 * self.now.reply) self.now) }
     {
         match self.ack {

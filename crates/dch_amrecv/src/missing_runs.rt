@@ -6,8 +6,8 @@ use crate::places::is_taken;
 use circular_buffer::HeapCircularBuffer;
 use dch_pool::Block;
 
-/// The vacant places as runs of at most 16, of which as many are written as find room: the first place, and how many follow it.
-/// Answers how many runs there are. Places are counted from one on, which is vacant.
+/// The vacant places as runs of at most 16, of which as many are written as find room: the first place, and how many
+/// follow it. Answers how many runs there are. Places are counted from one on, which is vacant.
 pub fn write_missing_runs(
     ring: &HeapCircularBuffer<Option<Block>>,
     from: usize,

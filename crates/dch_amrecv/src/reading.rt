@@ -16,7 +16,8 @@ pub fn read_on(
     todo: usize,
 ) -> (usize, Option<u8>)
     requires { todo ≤ front window.old.ring.items }
-    ensures same { read_front result.0 (line window.new.ring result.1 units.new) ≡ read_front todo (line window.old.ring trim units.old) }
+    ensures same { read_front result.0 (line window.new.ring result.1 units.new) ≡
+        read_front todo (line window.old.ring trim units.old) }
     ensures within { result.0 ≤ front window.new.ring.items }
     ensures idle { units.new.waiting ≡ [] → result.0 ≡ 0 }
     ensures capacity { (window.new.ring.capacity ≡ window.old.ring.capacity) × (window.new.pdu ≡ window.old.pdu) }
@@ -33,14 +34,16 @@ pub fn read_on(
     (0, next)
 }
 
-/// Reads the PDUs before the first gap, until a unit waits. Answers how many they are, how many are left, and the trim of the next one.
+/// Reads the PDUs before the first gap, until a unit waits. Answers how many they are, how many are left, and the trim
+/// of the next one.
 pub fn run_on(
     window: &mut RxWindow,
     units: &mut Reassembler,
     trim: Option<u8>,
 ) -> (usize, usize, Option<u8>)
     ensures count { result.0 ≡ front window.old.ring.items }
-    ensures same { read_front result.1 (line window.new.ring result.2 units.new) ≡ read_front (front window.old.ring.items) (line window.old.ring trim units.old) }
+    ensures same { read_front result.1 (line window.new.ring result.2 units.new) ≡
+        read_front (front window.old.ring.items) (line window.old.ring trim units.old) }
     ensures within { result.1 ≤ front window.new.ring.items }
     ensures idle { units.new.waiting ≡ [] → result.1 ≡ 0 }
     ensures gap { front (drop result.1 window.new.ring.items) ≡ 0 }
@@ -61,8 +64,8 @@ pub fn greater_trim(trim: Option<u8>, count: usize, n: u8) -> u8
     }
 }
 
-/// Reads the next PDU, which has at most 124 indicators and octets. Indicators up to a place may end no unit: octets before the last of them
-/// are then dropped.
+/// Reads the next PDU, which has at most 124 indicators and octets. Indicators up to a place may end no unit: octets
+/// before the last of them are then dropped.
 pub fn read(units: &mut Reassembler, trim: Option<u8>, body: &Body<'_>)
     requires settled { units.old.waiting ≡ [] }
     requires small { length body.now.indicators + length body.now.octets ≤ 124 }

@@ -58,15 +58,17 @@ impl AmRecv {
         Ok(AmRecv { holder })
     }
 
-    /// Takes a PDU (TS 25.322 11.3.3). All units that ended before it have been handed up. Indicators and octets of the body are together
-    /// at most two fewer than the octets of a PDU.
+    /// Takes a PDU (TS 25.322 11.3.3). All units that ended before it have been handed up. Indicators and octets of the
+    /// body are together at most two fewer than the octets of a PDU.
     pub fn pdu(&mut self, sn: u16, poll: bool, body: &Body<'_>) -> Taken
         requires settled { is_settled self.old ≡ true }
         requires number { sn < 4096 }
         requires small { length body.now.indicators + length body.now.octets + 2 ≤ self.old.pdu }
-        ensures answer { (buffer given : ℕ) (r : Receiver) → Stands self.old given r → result ≡ taken (rules_of buffer self.old.rules) r sn }
+        ensures answer { (buffer given : ℕ) (r : Receiver) → Stands self.old given r →
+            result ≡ taken (rules_of buffer self.old.rules) r sn }
         ensures stands { (buffer given : ℕ) (r : Receiver) → Stands self.old given r →
-            Stands self.new given (after_pdu (rules_of buffer self.old.rules) (taken (rules_of buffer self.old.rules) r sn) r sn poll (body_in body.now)) }
+            Stands self.new given (after_pdu (rules_of buffer self.old.rules)
+            (taken (rules_of buffer self.old.rules) r sn) r sn poll (body_in body.now)) }
         ensures history { (rules : Rules) (events : List ReceiverEvent) → IsReceiverOf rules events self.old →
             IsReceiverOf rules (events ++ Arrive sn poll (body_in body.now) ∷ []) self.new }
         // a duplicate with the poll bit has a status owed, and nothing else
@@ -80,12 +82,14 @@ impl AmRecv {
     /// No unit that ended waits.
     pub fn settled(&self) -> bool
         ensures value { result ≡ is_settled self.now }
-        ensures history { (given : ℕ) (r : Receiver) → Stands self.now given r → result ≡ (given == length r.reading.units) }
+        ensures history { (given : ℕ) (r : Receiver) → Stands self.now given r →
+            result ≡ (given == length r.reading.units) }
     {
         self.holder.settled()
     }
 
-    /// Hands up the first unit that waits, at the front of `out`, which has 1,500 octets. A unit of more octets is overlong.
+    /// Hands up the first unit that waits, at the front of `out`, which has 1,500 octets. A unit of more octets is
+    /// overlong.
     pub fn next_unit(&mut self, out: &mut [u8]) -> Option<Handed>
         requires { length out.old ≡ 1500 }
         ensures answer { result ≡ handed_of self.old.kept.units.waiting }
@@ -93,9 +97,12 @@ impl AmRecv {
         ensures rest { self.new ≡ after_unit self.old }
         ensures none { IfNone result (self.new ≡ self.old) }
         // it is the next of the receiver's units
-        ensures next { (given : ℕ) (r : Receiver) → Stands self.old given r → result ≡ handed_of (drop given r.reading.units) }
-        ensures octets { (given : ℕ) (r : Receiver) → Stands self.old given r → out.new ≡ written (drop given r.reading.units) out.old }
-        ensures stands { (given : ℕ) (r : Receiver) → Stands self.old given r → Stands self.new (given_after result given) r }
+        ensures next { (given : ℕ) (r : Receiver) → Stands self.old given r →
+            result ≡ handed_of (drop given r.reading.units) }
+        ensures octets { (given : ℕ) (r : Receiver) → Stands self.old given r →
+            out.new ≡ written (drop given r.reading.units) out.old }
+        ensures stands { (given : ℕ) (r : Receiver) → Stands self.old given r →
+            Stands self.new (given_after result given) r }
         ensures history { (rules : Rules) (events : List ReceiverEvent) → IsReceiverOf rules events self.old →
             IsReceiverOf rules (events ++ HandUp ∷ []) self.new }
         ensures same { IsSame self.old self.new }
@@ -115,12 +122,16 @@ impl AmRecv {
     pub fn write_status(&mut self, out: &mut [u8])
         requires due { is_due self.old ≡ true }
         requires size { length out.old ≡ self.old.reply }
-        ensures fields { (given : ℕ) (r : Receiver) → Stands self.old given r → status_of out.new ≡ said (tells_now (8 * self.old.reply) r) }
+        ensures fields { (given : ℕ) (r : Receiver) → Stands self.old given r →
+            status_of out.new ≡ said (tells_now (8 * self.old.reply) r) }
         // just that, and zeros behind it
-        ensures text { (given : ℕ) (r : Receiver) → Stands self.old given r → IsTold out.new (tells_now (8 * self.old.reply) r) }
+        ensures text { (given : ℕ) (r : Receiver) → Stands self.old given r →
+            IsTold out.new (tells_now (8 * self.old.reply) r) }
         // the other end reads that
-        ensures read { (given : ℕ) (r : Receiver) → Stands self.old given r → IsHeard out.new (tells_now (8 * self.old.reply) r) }
-        ensures stands { (buffer given : ℕ) (r : Receiver) → Stands self.old given r → Stands self.new given (after_told (rules_of buffer self.old.rules) r) }
+        ensures read { (given : ℕ) (r : Receiver) → Stands self.old given r →
+            IsHeard out.new (tells_now (8 * self.old.reply) r) }
+        ensures stands { (buffer given : ℕ) (r : Receiver) → Stands self.old given r →
+            Stands self.new given (after_told (rules_of buffer self.old.rules) r) }
         ensures history { (rules : Rules) (events : List ReceiverEvent) → IsReceiverOf rules events self.old →
             IsReceiverOf rules (events ++ Tell ∷ []) self.new }
         ensures same { IsSame self.old self.new }
@@ -132,8 +143,10 @@ impl AmRecv {
     /// Obeys the last MRW of a status (TS 25.322 11.6.3). All units that ended before it have been handed up.
     pub fn control(&mut self, status: &StatusView<'_>) -> MrwTaken
         requires settled { is_settled self.old ≡ true }
-        ensures answer { (buffer given : ℕ) (r : Receiver) → Stands self.old given r → result ≡ moves_answer (rules_of buffer self.old.rules) r status.now }
-        ensures stands { (buffer given : ℕ) (r : Receiver) → Stands self.old given r → Stands self.new given (after_moves (rules_of buffer self.old.rules) r status.now) }
+        ensures answer { (buffer given : ℕ) (r : Receiver) → Stands self.old given r →
+            result ≡ moves_answer (rules_of buffer self.old.rules) r status.now }
+        ensures stands { (buffer given : ℕ) (r : Receiver) → Stands self.old given r →
+            Stands self.new given (after_moves (rules_of buffer self.old.rules) r status.now) }
         ensures history { (rules : Rules) (events : List ReceiverEvent) → IsReceiverOf rules events self.old →
             IsReceiverOf rules (events ++ Obey status.now ∷ []) self.new }
         // an old MRW is answered, and nothing else
@@ -147,8 +160,8 @@ impl AmRecv {
         }
     }
 
-    /// Begins anew, as after a reset (TS 25.322 11.4): the state is that at opening, and what was kept of PDUs and of the unit in progress is
-    /// dropped. All units that ended have been handed up.
+    /// Begins anew, as after a reset (TS 25.322 11.4): the state is that at opening, and what was kept of PDUs and of
+    /// the unit in progress is dropped. All units that ended have been handed up.
     pub fn restart(&mut self)
         requires settled { is_settled self.old ≡ true }
         ensures value { self.new ≡ opened self.old.rules self.old.pdu self.old.reply }
@@ -162,7 +175,8 @@ impl AmRecv {
 
     /// One tick of the timers.
     pub fn tick(&mut self)
-        ensures stands { (buffer given : ℕ) (r : Receiver) → Stands self.old given r → Stands self.new given (tick_receiver (rules_of buffer self.old.rules) r) }
+        ensures stands { (buffer given : ℕ) (r : Receiver) → Stands self.old given r →
+            Stands self.new given (tick_receiver (rules_of buffer self.old.rules) r) }
         ensures history { (rules : Rules) (events : List ReceiverEvent) → IsReceiverOf rules events self.old →
             IsReceiverOf rules (events ++ Tick ∷ []) self.new }
         ensures same { IsSame self.old self.new }

@@ -5,7 +5,8 @@ ghost use Rattle.dch_amrecv.specs.Stored.{IsStored, Stores, content_of};
 use dch_pool::{Block, Pool};
 use dch_rlcpdu::Body;
 
-/// Copies the indicators and octets of a PDU to a block of a pool, behind their two numbers. There is none where no block is spare.
+/// Copies the indicators and octets of a PDU to a block of a pool, behind their two numbers. There is none where no
+/// block is spare.
 pub fn store(pool: &mut Pool, body: &Body<'_>) -> Option<Block>
     requires room { length body.now.indicators + length body.now.octets + 2 ≤ pool.old.size }
     requires small { length body.now.indicators + length body.now.octets ≤ 124 }

@@ -14,8 +14,8 @@ use dch_rlcpdu::Body;
 use std::alloc::Global;
 use std::marker::Model;
 
-/// The PDUs from the next expected one on, of which some have come. The last one has, or there is none. Each stands in a block of a
-/// pool that has one for each place.
+/// The PDUs from the next expected one on, of which some have come. The last one has, or there is none. Each stands in
+/// a block of a pool that has one for each place.
 pub struct RxWindow {
     pool: Pool,
     ring: HeapCircularBuffer<Option<Block>>,
@@ -120,8 +120,8 @@ impl RxWindow {
         give_front(&mut self.pool, &mut self.ring, count);
     }
 
-    /// The places without a PDU as runs of at most 16, from a place on that has none: the first of each run, counted from there, and
-    /// how many follow it. As many are written as find room. Answers how many runs there are.
+    /// The places without a PDU as runs of at most 16, from a place on that has none: the first of each run, counted
+    /// from there, and how many follow it. As many are written as find room. Answers how many runs there are.
     pub fn missing_runs(&self, from: usize, out: &mut [(u16, u8)]) -> usize
         requires from { from ≤ length self.now.ring.items }
         requires first { front (drop from self.now.ring.items) ≡ 0 }

@@ -1,4 +1,5 @@
--- The SDUs that are kept, and the PDUs in flight, stand for a sender over lists and numbers without wrap (TS 25.322 9.4).
+-- The SDUs that are kept, and the PDUs in flight, stand for a sender over lists and numbers without wrap (TS 25.322
+-- 9.4).
 use Rattle.std.specs.Prelude.{◌≡◌, ◌+◌, ◌%◌, ◌≤◌, ℕ, zero, suc, false, not, take, if◌then◌else◌}
 use Rattle.dch_am.specs.Bodies.{Body, TxQueue, after_body, ends, ends_of, is_empty, is_left}
 use Rattle.dch_am.specs.Building.{body_at}
@@ -43,7 +44,8 @@ pub record Takes (s : Sender) (k : ℕ) (x : Extent) : Type 0 where
   pub sdu : x.sdu ≡ first_in s k % 65536
   pub start : IsStart s.accepted (start_of s k x)
   pub there : IsThere (taken_by x false) (left_at (start_of s k x) s.accepted)
-  pub body : body_of (body_at s.bodies k).full (taken_by x false) (left_at (start_of s k x) s.accepted) ≡ body_at s.bodies k
+  pub body : body_of (body_at s.bodies k).full (taken_by x false) (left_at (start_of s k x) s.accepted)
+      ≡ body_at s.bodies k
 
 -- how many PDUs could be filled one after another, at most so many
 unfoldable pub fills : ℕ → ℕ → TxQueue → ℕ

@@ -12,7 +12,8 @@ released s = ends (take (vt_a s) s.bodies)
 -- they stand for this sender. Ages are kept where SDUs are discarded by age
 pub record DiscardStands (rules : Rules) (h : SduDiscard) (s : Sender) : Type 0 where
   pub count : length h.ages ≡ length (held s)
-  pub ages : (i : ℕ) → i < length h.ages → 0 < rules.discard_age → age_at h i ≡ min 65535 (s.ticks - slice_index s.accepted_at (released s + i))
+  pub ages : (i : ℕ) → i < length h.ages → 0 < rules.discard_age → age_at h i
+      ≡ min 65535 (s.ticks - slice_index s.accepted_at (released s + i))
   pub early : (i : ℕ) → slice_index s.accepted_at i ≤ s.ticks
   pub times : length s.accepted_at ≡ length s.accepted
   pub passed : h.passed ≡ s.dropped - released s

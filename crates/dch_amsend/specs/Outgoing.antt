@@ -1,5 +1,5 @@
--- What a sender of the acknowledged mode has sent and has still to send (TS 25.322 9.4), and when it stands for a sender over numbers
--- without wrap.
+-- What a sender of the acknowledged mode has sent and has still to send (TS 25.322 9.4), and when it stands for a
+-- sender over numbers without wrap.
 use Rattle.std.specs.Prelude.{◌≡◌, ◌+◌, ◌-◌, ◌<◌, ◌≤◌, ℕ, List, [], ◌∷◌, Bool, length, min, nat_lt, Option, Some, None}
 use Rattle.dch_retx.specs.declared.sent_pdu.SentPdu.{SentPdu}
 use Rattle.dch_retx.specs.Flights.{at, first_requested, requested_in}
@@ -26,7 +26,9 @@ with_line l v = record { size = v.size; line = l; tx_buffer = v.tx_buffer }
 
 -- how many PDUs could be built one after another, at most 64
 abbrev pub available_of : Outgoing → ℕ
-available_of v = min 64 (builds_of (min 64 (requested_in v.line.in_flight)) (min (v.line.window - length v.line.in_flight) (fills 64 (v.tx_buffer.size - 2) (unsent_of v.tx_buffer))) v.line.owed (length v.line.in_flight))
+available_of v = min 64 (builds_of (min 64 (requested_in v.line.in_flight))
+    (min (v.line.window - length v.line.in_flight)
+    (fills 64 (v.tx_buffer.size - 2) (unsent_of v.tx_buffer))) v.line.owed (length v.line.in_flight))
 
 -- a PDU can be built
 abbrev pub can_build : Outgoing → Bool
@@ -34,7 +36,8 @@ can_build v = nat_lt 0 (available_of v)
 
 -- the octets of a PDU in flight, with its number and its poll bit
 abbrev pub pdu_in : ℕ → Bool → SentPdu → Outgoing → List ℕ
-pdu_in number poll f v = am_pdu number poll (indicators_of (v.tx_buffer.size - 2) (body_in v.tx_buffer f)) (carried (body_in v.tx_buffer f)) v.tx_buffer.size
+pdu_in number poll f v = am_pdu number poll (indicators_of (v.tx_buffer.size - 2) (body_in v.tx_buffer f))
+    (carried (body_in v.tx_buffer f)) v.tx_buffer.size
 
 -- the first PDU in flight
 abbrev pub first_in_flight : List SentPdu → Option SentPdu
@@ -54,7 +57,8 @@ pub record IsOutgoing (rules : Rules) (d : ℕ) (v : Outgoing) (s : Sender) : Ty
   pub tx_buffer : BufferStands d v.tx_buffer s
   pub room : v.tx_buffer.blocks ≡ rules.buffer
   pub cut : IsCut s.accepted s.unsent s.bodies
-  pub in_flight : (i : ℕ) → i < length v.line.in_flight → HasBody d (at v.line.in_flight i) (body_at s.bodies (vt_a s + i))
+  pub in_flight : (i : ℕ) → i < length v.line.in_flight
+      → HasBody d (at v.line.in_flight i) (body_at s.bodies (vt_a s + i))
   pub taken : (i : ℕ) → i < length v.line.in_flight → Takes s (vt_a s + i) (at v.line.in_flight i).extent
 
 -- it stands for a sender

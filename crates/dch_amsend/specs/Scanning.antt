@@ -1,4 +1,5 @@
--- Which SDU is discarded at a tick (TS 25.322 9.7.3), by one pass over the PDUs in flight: the SDUs that end in them, one after another.
+-- Which SDU is discarded at a tick (TS 25.322 9.7.3), by one pass over the PDUs in flight: the SDUs that end in them,
+-- one after another.
 use Rattle.std.specs.Prelude.{◌+◌, ℕ, zero, suc, List, [], ◌∷◌, Bool, false, ◌&&◌, ◌||◌, drop, length, nat_lt, nat_le, ◌==◌, if◌then◌else◌, Option, Some, None}
 use Rattle.dch_types.specs.declared.bearer.AmRules.{AmRules}
 use Rattle.dch_retx.specs.declared.sent_pdu.SentPdu.{SentPdu}
@@ -29,7 +30,11 @@ can_discard rules h f scan j =
 abbrev pub last_in : AmRules → SduDiscard → ℕ → SentPdu → Scan → ℕ → Option Overdue
 last_in rules h place f scan zero = scan.found
 last_in rules h place f scan (suc j) =
-    if can_discard rules h f scan j then Some (record { sdu = scan.sdu + j; place = place; indicator = indicator_of f j })
+    if can_discard rules h f scan j then Some (record {
+      sdu = scan.sdu + j;
+      place = place;
+      indicator = indicator_of f j;
+    })
     else last_in rules h place f scan j
 
 -- after one more PDU. An SDU that began before goes on where none ends
@@ -53,7 +58,8 @@ ends_below (suc n) (f ∷ in_flight) = ends_in f + ends_below n in_flight
 
 -- what a pass finds that goes on at a place, where an SDU that began before goes on and one was found before
 abbrev pub found_from : AmRules → SduDiscard → ℕ → List SentPdu → Scan → Option Overdue
-found_from rules h place in_flight scan = (after_pdus rules h place (drop place in_flight) (record scan { sdu = ends_below place in_flight })).found
+found_from rules h place in_flight scan = (after_pdus rules h place (drop place in_flight)
+    (record scan { sdu = ends_below place in_flight })).found
 
 -- the SDU behind so many others is held and old enough
 abbrev pub is_next_old : AmRules → SduDiscard → ℕ → Bool
@@ -63,9 +69,11 @@ is_next_old rules h sdu = nat_lt sdu (length h.ages) && is_old rules h sdu
 abbrev pub requested_place : AmRules → ℕ → List SentPdu → ℕ
 requested_place rules place in_flight = if nat_lt 0 rules.discard_sent then place + first_requested (drop place in_flight) else length in_flight
 
--- the next PDU that is looked at: the one at the place while an SDU goes on that began in one that was built often enough, or where the next SDU is old enough
+-- the next PDU that is looked at: the one at the place while an SDU goes on that began in one that was built often
+-- enough, or where the next SDU is old enough
 abbrev pub next_place : AmRules → SduDiscard → ℕ → List SentPdu → Scan → ℕ
-next_place rules h place in_flight scan = if scan.begun || is_next_old rules h scan.sdu then place else requested_place rules place in_flight
+next_place rules h place in_flight scan = if scan.begun || is_next_old rules h scan.sdu then place
+    else requested_place rules place in_flight
 
 -- the first one
 abbrev pub first_place : AmRules → SduDiscard → List SentPdu → ℕ

@@ -1,4 +1,5 @@
--- What a running sender of the acknowledged mode keeps (TS 25.322 9.4), and when it stands for a sender over numbers without wrap.
+-- What a running sender of the acknowledged mode keeps (TS 25.322 9.4), and when it stands for a sender over numbers
+-- without wrap.
 use Rattle.std.specs.Prelude.{◌≡◌, ◌-◌, ℕ, Bool}
 use Rattle.dch_types.specs.declared.bearer.AmRules.{AmRules}
 use Rattle.dch_am.specs.Rules.{Rules, rules_of}

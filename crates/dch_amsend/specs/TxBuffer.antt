@@ -14,8 +14,9 @@ use Rattle.dch_retx.specs.Flights.{sent_once}
 use Rattle.dch_txbuf.specs.Chunks.{blocks_for}
 use Rattle.dch_txbuf.specs.Sdus.{blocks_in}
 
--- the SDUs that are held, the oldest first, and how many blocks of 64 octets they may take; where the next PDU begins; whether the length
--- indicator of the SDU before is owed; how many SDUs left before, counted up to 65,536; and the octets of a PDU
+-- the SDUs that are held, the oldest first, and how many blocks of 64 octets they may take; where the next PDU begins;
+-- whether the length indicator of the SDU before is owed; how many SDUs left before, counted up to 65,536; and the
+-- octets of a PDU
 pub record TxBuffer : Type 0 where
   pub sdus : List (List ℕ)
   pub blocks : ℕ
@@ -41,7 +42,8 @@ unsent_of w = unsent_at w.start w.owed w.sdus
 
 -- what an offer is answered: a wrong size comes before want of room
 abbrev pub answer_of : List ℕ → TxBuffer → Offer
-answer_of sdu w = if is_empty sdu || nat_lt 1500 (length sdu) then WrongSize else (if nat_le (blocks_in w.sdus + blocks_for (length sdu)) w.blocks then Accepted else Full)
+answer_of sdu w = if is_empty sdu || nat_lt 1500 (length sdu) then WrongSize
+    else (if nat_le (blocks_in w.sdus + blocks_for (length sdu)) w.blocks then Accepted else Full)
 
 abbrev pub buffer_after_offer : Offer → List ℕ → TxBuffer → TxBuffer
 buffer_after_offer Accepted sdu w = record w { sdus = w.sdus ++ sdu ∷ [] }
@@ -57,7 +59,12 @@ buffer_after_build w = record w { start = next_start w.start (cut_next w); owed 
 
 -- where its octets stand, and what is kept of it
 abbrev pub next_extent : TxBuffer → Extent
-next_extent w = record { sdu = (w.freed + w.start.sdu) % 65536; used = w.start.used; pieces = (cut_next w).pieces; rest = (cut_next w).rest }
+next_extent w = record {
+  sdu = (w.freed + w.start.sdu) % 65536;
+  used = w.start.used;
+  pieces = (cut_next w).pieces;
+  rest = (cut_next w).rest;
+}
 
 abbrev pub next_in_flight : TxBuffer → SentPdu
 next_in_flight w = sent_once (next_extent w) w.owed (cut_next w).padded
@@ -73,7 +80,8 @@ taken_by x padded = record { pieces = x.pieces; rest = x.rest; owed = false; pad
 abbrev pub body_in : TxBuffer → SentPdu → Body
 body_in w f = body_of f.full (taken_by f.extent f.padded) (left_at (start_in w f.extent) w.sdus)
 
--- its octets are in the buffer, its length indicators find room with them, and that of padding is told where octets are left
+-- its octets are in the buffer, its length indicators find room with them, and that of padding is told where octets are
+-- left
 pub record IsHere (w : TxBuffer) (f : SentPdu) : Type 0 where
   pub start : IsStart w.sdus (start_in w f.extent)
   pub there : IsThere (taken_by f.extent f.padded) (left_at (start_in w f.extent) w.sdus)
@@ -87,7 +95,11 @@ ended_before (Some f) w = (start_in w f.extent).sdu - (if f.full then 1 else 0)
 
 -- so many leave
 abbrev pub released_by : ℕ → TxBuffer → TxBuffer
-released_by n w = record w { sdus = drop n w.sdus; start = record { sdu = w.start.sdu - n; used = w.start.used }; freed = (w.freed + n) % 65536 }
+released_by n w = record w {
+  sdus = drop n w.sdus;
+  start = record { sdu = w.start.sdu - n; used = w.start.used };
+  freed = (w.freed + n) % 65536;
+}
 
 -- how many SDUs have an octet in a PDU that was built
 abbrev pub begun_in : TxBuffer → ℕ

@@ -7,8 +7,8 @@ use dch_bits::NoMemory;
 use std::alloc::Global;
 use std::marker::Model;
 
-/// The ages of SDUs in ticks, at most 65,535, the oldest first. Kept is the tick at which each was accepted, counted up to 65,536, and how
-/// many in front are 65,535 ticks old.
+/// The ages of SDUs in ticks, at most 65,535, the oldest first. Kept is the tick at which each was accepted, counted up
+/// to 65,536, and how many in front are 65,535 ticks old.
 #[derive(Drop)]
 pub struct Ages {
     kept: HeapCircularBuffer<u16>,

@@ -13,7 +13,8 @@ use dch_bits::NoMemory;
 use std::alloc::Global;
 use std::marker::Model;
 
-/// Of the SDUs that a sender holds, the oldest first: their ages, how many in front are discarded, and how many were since opening.
+/// Of the SDUs that a sender holds, the oldest first: their ages, how many in front are discarded, and how many were
+/// since opening.
 #[derive(Drop)]
 pub struct SduDiscard {
     ages: Ages,
@@ -27,7 +28,12 @@ impl Model for SduDiscard {
 
     ghost Value = { SduDiscard };
 
-    ghost view = { λ h. record { ages = h.ages.items; most = h.ages.capacity; passed = h.passed; discarded = h.discarded } };
+    ghost view = { λ h. record {
+      ages = h.ages.items;
+      most = h.ages.capacity;
+      passed = h.passed;
+      discarded = h.discarded;
+    } };
 
     ghost invariant = { λ h. h.ages.capacity ≤ 65535 };
 }
@@ -57,7 +63,8 @@ impl SduDiscard {
     pub fn accept(&mut self)
         requires room { length self.old.ages < self.old.most }
         ensures after { self.new ≡ with_sdu self.old }
-        ensures history { (rules : Rules) (s : Sender) (unit : List ℕ) → IsCut s.accepted s.unsent s.bodies → DiscardStands rules self.old s → DiscardStands rules self.new (after_offer Accepted s unit) }
+        ensures history { (rules : Rules) (s : Sender) (unit : List ℕ) → IsCut s.accepted s.unsent s.bodies →
+            DiscardStands rules self.old s → DiscardStands rules self.new (after_offer Accepted s unit) }
     {
         self.push();
     }
@@ -74,7 +81,8 @@ impl SduDiscard {
     pub fn release(&mut self, sdus: usize)
         requires { sdus ≤ length self.old.ages }
         ensures after { self.new ≡ without_front sdus self.old }
-        ensures history { (rules : Rules) (s now : Sender) → AreReleased sdus s now → DiscardStands rules self.old s → DiscardStands rules self.new now }
+        ensures history { (rules : Rules) (s now : Sender) → AreReleased sdus s now → DiscardStands rules self.old s →
+            DiscardStands rules self.new now }
     {
         self.leave(sdus);
     }
@@ -92,7 +100,8 @@ impl SduDiscard {
     /// Every SDU is one tick older.
     pub fn tick(&mut self)
         ensures after { self.new ≡ one_tick_older self.old }
-        ensures history { (rules : Rules) (s now : Sender) → IsTicked s now → DiscardStands rules self.old s → DiscardStands rules self.new now }
+        ensures history { (rules : Rules) (s now : Sender) → IsTicked s now → DiscardStands rules self.old s →
+            DiscardStands rules self.new now }
     {
         self.grow_older();
     }
@@ -109,7 +118,8 @@ impl SduDiscard {
         requires held { to ≤ length self.old.ages }
         requires forward { self.old.passed ≤ to }
         ensures after { self.new ≡ discarded_to to self.old }
-        ensures history { (rules : Rules) (s : Sender) (r : ℕ) (p : ℕ × ℕ) → to ≡ r + 1 → DiscardStands rules self.old s → DiscardStands rules self.new (discards_at s (released s + r) (Some p)) }
+        ensures history { (rules : Rules) (s : Sender) (r : ℕ) (p : ℕ × ℕ) → to ≡ r + 1 →
+            DiscardStands rules self.old s → DiscardStands rules self.new (discards_at s (released s + r) (Some p)) }
     {
         self.pass(to);
     }
@@ -126,7 +136,9 @@ impl SduDiscard {
     /// The sender begins anew: the last SDUs stay, so many, and none of them is discarded. Their ages go on.
     pub fn restart(&mut self, kept: usize)
         ensures after { self.new ≡ restarted_discards kept self.old }
-        ensures history { (rules : Rules) (s : Sender) → kept ≡ length (restarted_sender s).accepted → IsCut s.accepted s.unsent s.bodies → DiscardStands rules self.old s → DiscardStands rules self.new (restarted_sender s) }
+        ensures history { (rules : Rules) (s : Sender) → kept ≡ length (restarted_sender s).accepted →
+            IsCut s.accepted s.unsent s.bodies → DiscardStands rules self.old s →
+            DiscardStands rules self.new (restarted_sender s) }
     {
         self.keep(kept);
     }

@@ -83,7 +83,8 @@ impl Outgoing {
         ensures refused { result ≢ Accepted → self.new ≡ self.old }
         ensures accepted { result ≡ Accepted → length self.new.tx_buffer.sdus ≡ length self.old.tx_buffer.sdus + 1 }
         ensures room { result ≡ Accepted → length self.old.tx_buffer.sdus < self.old.tx_buffer.blocks }
-        ensures history { (rules : Rules) (d : ℕ) (s : Sender) → IsOutgoing rules d self.old s → (result ≡ offered rules s unit.now) × IsOutgoing rules d self.new (after_offer result s unit.now) }
+        ensures history { (rules : Rules) (d : ℕ) (s : Sender) → IsOutgoing rules d self.old s →
+            (result ≡ offered rules s unit.now) × IsOutgoing rules d self.new (after_offer result s unit.now) }
     {
         self.tx_buffer.offer(unit)
     }
@@ -91,7 +92,8 @@ impl Outgoing {
     /// How many PDUs could be built one after another, at most 64.
     pub fn available(&self) -> u16
         ensures value { result ≡ available_of self.now }
-        ensures history { (rules : Rules) (d : ℕ) (s : Sender) → IsOutgoing rules d self.now s → result ≡ available rules d s }
+        ensures history { (rules : Rules) (d : ℕ) (s : Sender) → IsOutgoing rules d self.now s →
+            result ≡ available rules d s }
     {
         self.count()
     }
@@ -115,7 +117,8 @@ impl Outgoing {
     /// A PDU can be built.
     pub fn is_due(&self) -> bool
         ensures value { result ≡ can_build self.now }
-        ensures history { (rules : Rules) (d : ℕ) (s : Sender) → IsOutgoing rules d self.now s → result ≡ gives rules s }
+        ensures history { (rules : Rules) (d : ℕ) (s : Sender) → IsOutgoing rules d self.now s →
+            result ≡ gives rules s }
     {
         self.can_build()
     }
@@ -184,7 +187,8 @@ impl Outgoing {
         ensures size { self.new.size ≡ self.old.size }
         ensures same { HoldsSame self.old.tx_buffer self.new.tx_buffer }
         ensures history { (rules : Rules) (d : ℕ) (s : Sender) → IsOutgoing rules d self.old s →
-            (out.new ≡ next_pdu rules d s) × IsOutgoing rules d self.new (after_build rules d s) × IsShort d (body_of_choice (choice rules s) d s) }
+            (out.new ≡ next_pdu rules d s) × IsOutgoing rules d self.new (after_build rules d s) ×
+            IsShort d (body_of_choice (choice rules s) d s) }
     {
         match self.line.pick(self.tx_buffer.is_left()) {
             Pick::Again(place) => self.again(place, out),
@@ -199,7 +203,8 @@ impl Outgoing {
         requires place { place < length self.old.line.in_flight }
         requires size { length out.old ≡ self.old.size }
         ensures after { self.new ≡ with_line (again_line place self.old.line) self.old }
-        ensures text { out.new ≡ pdu_in (number_at place self.old.line) (again_poll place self.old.line) (at self.old.line.in_flight place) self.old }
+        ensures text { out.new ≡ pdu_in (number_at place self.old.line) (again_poll place self.old.line)
+            (at self.old.line.in_flight place) self.old }
     {
         let number = self.line.number_at(place);
         let pdu = self.line.at(place);
@@ -212,7 +217,8 @@ impl Outgoing {
         requires last { IsLast self.old.line place }
         requires size { length out.old ≡ self.old.size }
         ensures after { self.new ≡ with_line (last_line place self.old.line) self.old }
-        ensures text { out.new ≡ pdu_in (number_at place self.old.line) (last_poll place self.old.line) (at self.old.line.in_flight place) self.old }
+        ensures text { out.new ≡ pdu_in (number_at place self.old.line) (last_poll place self.old.line)
+            (at self.old.line.in_flight place) self.old }
     {
         let number = self.line.number_at(place);
         let pdu = self.line.at(place);
@@ -227,7 +233,8 @@ impl Outgoing {
         ensures size { self.new.size ≡ self.old.size }
         ensures same { HoldsSame self.old.tx_buffer self.new.tx_buffer }
         ensures history { (rules : Rules) (d : ℕ) (s : Sender) → IsOutgoing rules d self.old s →
-            (out.new ≡ pdu_of_choice rules d s New) × IsOutgoing rules d self.new (after_choice New rules d s) × IsShort d (next_body d s.unsent) }
+            (out.new ≡ pdu_of_choice rules d s New) × IsOutgoing rules d self.new (after_choice New rules d s) ×
+            IsShort d (next_body d s.unsent) }
     {
         let number = self.line.number_at(self.line.len() as u16);
         let pdu = self.tx_buffer.build();
@@ -243,7 +250,8 @@ impl Outgoing {
         ensures fewer { length self.new.tx_buffer.sdus ≤ length self.old.tx_buffer.sdus }
         ensures outside { result ≢ Taken → self.new ≡ self.old }
         ensures history { (rules : Rules) (d : ℕ) (s : Sender) → IsOutgoing rules d self.old s →
-            (result ≡ status_answer rules s status.now) × IsOutgoing rules d self.new (after_fields rules s status.now) }
+            (result ≡ status_answer rules s status.now) ×
+            IsOutgoing rules d self.new (after_fields rules s status.now) }
     {
         let taken = self.line.hear(status);
         let first = first_in_flight(&self.line);
@@ -255,7 +263,8 @@ impl Outgoing {
     pub fn tick(&mut self)
         ensures size { self.new.size ≡ self.old.size }
         ensures same { self.new.tx_buffer ≡ self.old.tx_buffer }
-        ensures history { (rules : Rules) (d : ℕ) (s : Sender) → IsOutgoing rules d self.old s → IsOutgoing rules d self.new (timed s) }
+        ensures history { (rules : Rules) (d : ℕ) (s : Sender) → IsOutgoing rules d self.old s →
+            IsOutgoing rules d self.new (timed s) }
     {
         self.line.tick()
     }
@@ -266,7 +275,8 @@ impl Outgoing {
         requires indicator { indicator < 16 }
         ensures size { self.new.size ≡ self.old.size }
         ensures same { self.new.tx_buffer ≡ self.old.tx_buffer }
-        ensures history { (rules : Rules) (d : ℕ) (s : Sender) (i : ℕ) → IsOutgoing rules d self.old s → IsOutgoing rules d self.new (discards_at s i (Some (vt_a s + place, indicator))) }
+        ensures history { (rules : Rules) (d : ℕ) (s : Sender) (i : ℕ) → IsOutgoing rules d self.old s →
+            IsOutgoing rules d self.new (discards_at s i (Some (vt_a s + place, indicator))) }
     {
         self.line.discard(place, indicator)
     }
@@ -281,7 +291,8 @@ impl Outgoing {
     /// An MRW is due.
     pub fn mrw_due(&self) -> bool
         ensures value { result ≡ is_due self.now.line.running }
-        ensures history { (rules : Rules) (d : ℕ) (s : Sender) → IsOutgoing rules d self.now s → result ≡ mrw_due s.discard }
+        ensures history { (rules : Rules) (d : ℕ) (s : Sender) → IsOutgoing rules d self.now s →
+            result ≡ mrw_due s.discard }
     {
         self.line.mrw_due()
     }
@@ -292,8 +303,11 @@ impl Outgoing {
         requires size { length out.old ≡ self.old.size }
         ensures size { self.new.size ≡ self.old.size }
         ensures same { self.new.tx_buffer ≡ self.old.tx_buffer }
-        ensures history { (rules : Rules) (d : ℕ) (s : Sender) (x : Discard) → IsOutgoing rules d self.old s → s.discard ≡ Some x →
-            IsText out.new (0 ∷ mrw_text (wrapped x.k) x.n) × (status_of out.new ≡ Some (mrw_fields (wrapped x.k) x.n)) × IsOutgoing rules d self.new (after_mrw rules s x) }
+        ensures history { (rules : Rules) (d : ℕ) (s : Sender) (x : Discard) → IsOutgoing rules d self.old s →
+            s.discard ≡ Some x →
+            IsText out.new (0 ∷ mrw_text (wrapped x.k) x.n) ×
+            (status_of out.new ≡ Some (mrw_fields (wrapped x.k) x.n)) ×
+            IsOutgoing rules d self.new (after_mrw rules s x) }
     {
         let place = self.line.mrw();
         write_mrw(place.sn, place.n, out);
@@ -306,7 +320,8 @@ impl Outgoing {
         ensures blocks { self.new.tx_buffer.blocks ≡ self.old.tx_buffer.blocks }
         ensures last { result ≡ length self.new.tx_buffer.sdus }
         ensures few { length self.new.tx_buffer.sdus ≤ length self.old.tx_buffer.sdus }
-        ensures history { (rules : Rules) (d : ℕ) (s : Sender) → IsOutgoing rules d self.old s → (result ≡ length (restarted_sender s).accepted) × IsOutgoing rules d self.new (restarted_sender s) }
+        ensures history { (rules : Rules) (d : ℕ) (s : Sender) → IsOutgoing rules d self.old s →
+            (result ≡ length (restarted_sender s).accepted) × IsOutgoing rules d self.new (restarted_sender s) }
     {
         self.line.restart();
         self.tx_buffer.restart()

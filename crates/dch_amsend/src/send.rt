@@ -53,11 +53,13 @@ impl Model for AmSend {
 
     ghost view = { λ v. record { outgoing = v.outgoing; sdu_discard = v.discard; rules = v.rules } };
 
-    ghost invariant = { λ v. (length v.discard.ages ≡ length v.outgoing.tx_buffer.sdus) × (v.discard.most ≡ v.outgoing.tx_buffer.blocks) };
+    ghost invariant = { λ v. (length v.discard.ages ≡ length v.outgoing.tx_buffer.sdus) ×
+        (v.discard.most ≡ v.outgoing.tx_buffer.blocks) };
 }
 
 impl AmSend {
-    /// A sender that has accepted no unit. PDUs have `pdu` octets, 6 to 126, and units hold at most `buffer` blocks of 64 octets, 1 to 4,096.
+    /// A sender that has accepted no unit. PDUs have `pdu` octets, 6 to 126, and units hold at most `buffer` blocks of
+    /// 64 octets, 1 to 4,096.
     pub fn open(alloc: Global, pdu: usize, buffer: u16, rules: AmRules) -> Result<AmSend, NoMemory>
         requires from { 6 ≤ pdu }
         requires most { pdu ≤ 126 }
@@ -75,12 +77,14 @@ impl AmSend {
         })
     }
 
-    /// Offers a unit. One that hasn't 1 to 1,500 octets has a wrong size; otherwise it is accepted where its blocks of 64 octets find room
-    /// beside those of the units that are held, which are all units that aren't acknowledged with all PDUs before their ends.
+    /// Offers a unit. One that hasn't 1 to 1,500 octets has a wrong size; otherwise it is accepted where its blocks of
+    /// 64 octets find room beside those of the units that are held, which are all units that aren't acknowledged with
+    /// all PDUs before their ends.
     pub fn offer(&mut self, unit: &[u8]) -> Offer
         ensures answer { (rules : Rules) (s : Sender) → Stands rules self.old s → result ≡ offered rules s unit.now }
         ensures refused { result ≢ Accepted → self.new ≡ self.old }
-        ensures stands { (rules : Rules) (s : Sender) → Stands rules self.old s → Stands rules self.new (after_offer (offered rules s unit.now) s unit.now) }
+        ensures stands { (rules : Rules) (s : Sender) → Stands rules self.old s →
+            Stands rules self.new (after_offer (offered rules s unit.now) s unit.now) }
         ensures history { (rules : Rules) (events : List SenderEvent) → IsSenderOf rules events self.old →
             IsSenderOf rules (events ++ Offers unit.now ∷ []) self.new }
         ensures same { IsSame self.old self.new }
@@ -106,7 +110,8 @@ impl AmSend {
     pub fn available(&self) -> u16
         ensures value { result ≡ available_of self.now.outgoing }
         ensures due { nat_lt 0 result ≡ is_due self.now }
-        ensures available { (rules : Rules) (s : Sender) → Stands rules self.now s → result ≡ available rules (room_in self.now) s }
+        ensures available { (rules : Rules) (s : Sender) → Stands rules self.now s →
+            result ≡ available rules (room_in self.now) s }
     {
         self.outgoing.available()
     }
@@ -115,10 +120,13 @@ impl AmSend {
     pub fn build(&mut self, out: &mut [u8])
         requires due { is_due self.old ≡ true }
         requires size { length out.old ≡ pdu_octets self.old }
-        ensures pdu { (rules : Rules) (s : Sender) → Stands rules self.old s → out.new ≡ next_pdu rules (room_in self.old) s }
+        ensures pdu { (rules : Rules) (s : Sender) → Stands rules self.old s →
+            out.new ≡ next_pdu rules (room_in self.old) s }
         // it says all that it holds
-        ensures short { (rules : Rules) (s : Sender) → Stands rules self.old s → IsShort (room_in self.old) (body_of_choice (choice rules s) (room_in self.old) s) }
-        ensures stands { (rules : Rules) (s : Sender) → Stands rules self.old s → Stands rules self.new (after_build rules (room_in self.old) s) }
+        ensures short { (rules : Rules) (s : Sender) → Stands rules self.old s →
+            IsShort (room_in self.old) (body_of_choice (choice rules s) (room_in self.old) s) }
+        ensures stands { (rules : Rules) (s : Sender) → Stands rules self.old s →
+            Stands rules self.new (after_build rules (room_in self.old) s) }
         // it is the PDU of its number in the list of PDUs of the accepted units, for the first time or again
         ensures listed { (rules : Rules) (s : Sender) → Stands rules self.old s → IsListed (room_in self.old) s →
             out.new ≡ listed_text (room_in self.old) (after_build rules (room_in self.old) s)
@@ -130,11 +138,14 @@ impl AmSend {
         self.outgoing.build(out)
     }
 
-    /// Hears a status (TS 25.322 11.5.3): its MRW_ACKs act first; then the first number that isn't in the window refuses it whole.
+    /// Hears a status (TS 25.322 11.5.3): its MRW_ACKs act first; then the first number that isn't in the window
+    /// refuses it whole.
     pub fn status(&mut self, status: &StatusView<'_>) -> StatusTaken
-        ensures answer { (rules : Rules) (s : Sender) → Stands rules self.old s → result ≡ status_answer rules s status.now }
+        ensures answer { (rules : Rules) (s : Sender) → Stands rules self.old s →
+            result ≡ status_answer rules s status.now }
         ensures outside { result ≢ Taken → self.new ≡ self.old }
-        ensures stands { (rules : Rules) (s : Sender) → Stands rules self.old s → Stands rules self.new (after_fields rules s status.now) }
+        ensures stands { (rules : Rules) (s : Sender) → Stands rules self.old s →
+            Stands rules self.new (after_fields rules s status.now) }
         ensures history { (rules : Rules) (events : List SenderEvent) → IsSenderOf rules events self.old →
             IsSenderOf rules (events ++ Hear status.now ∷ []) self.new }
         ensures same { IsSame self.old self.new }
@@ -145,10 +156,11 @@ impl AmSend {
         taken
     }
 
-    /// One tick of 10 ms: of the poll timer, the ages of units and a running discard's timer. Where no discard runs, the last unit that is
-    /// due is discarded with all before it.
+    /// One tick of 10 ms: of the poll timer, the ages of units and a running discard's timer. Where no discard runs,
+    /// the last unit that is due is discarded with all before it.
     pub fn tick(&mut self)
-        ensures stands { (rules : Rules) (s : Sender) → Stands rules self.old s → Stands rules self.new (tick_sender rules s) }
+        ensures stands { (rules : Rules) (s : Sender) → Stands rules self.old s →
+            Stands rules self.new (tick_sender rules s) }
         ensures history { (rules : Rules) (events : List SenderEvent) → IsSenderOf rules events self.old →
             IsSenderOf rules (events ++ Tick ∷ []) self.new }
         ensures same { IsSame self.old self.new }
@@ -180,7 +192,8 @@ impl AmSend {
 
     /// The last unit that is due is discarded with all before it.
     fn discard(&mut self)
-        ensures stands { (rules : Rules) (s : Sender) → Stands rules self.old s → Stands rules self.new (discards rules s (length s.accepted)) }
+        ensures stands { (rules : Rules) (s : Sender) → Stands rules self.old s →
+            Stands rules self.new (discards rules s (length s.accepted)) }
         ensures same { IsSame self.old self.new }
     {
         if let Some(found) = overdue(&self.outgoing, &self.discard, &self.rules) {
@@ -209,7 +222,8 @@ impl AmSend {
         requires due { is_control_due self.old ≡ true }
         requires size { length out.old ≡ pdu_octets self.old }
         ensures mrw { (rules : Rules) (s : Sender) → Stands rules self.old s → IsMrw out.new s.discard }
-        ensures stands { (rules : Rules) (s : Sender) → Stands rules self.old s → Stands rules self.new (after_moving rules s s.discard) }
+        ensures stands { (rules : Rules) (s : Sender) → Stands rules self.old s →
+            Stands rules self.new (after_moving rules s s.discard) }
         ensures history { (rules : Rules) (events : List SenderEvent) → IsSenderOf rules events self.old →
             IsSenderOf rules (events ++ Move ∷ []) self.new }
         ensures same { IsSame self.old self.new }
@@ -217,10 +231,12 @@ impl AmSend {
         self.outgoing.write_mrw(out)
     }
 
-    /// Begins anew, as after a reset (TS 25.322 11.4): every unit of which an octet was built is dropped, with all numbers, timers and discards.
-    /// The others stay in order, with their ages, and begin with PDU 0. How many units were discarded since opening stays.
+    /// Begins anew, as after a reset (TS 25.322 11.4): every unit of which an octet was built is dropped, with all
+    /// numbers, timers and discards. The others stay in order, with their ages, and begin with PDU 0. How many units
+    /// were discarded since opening stays.
     pub fn restart(&mut self)
-        ensures stands { (rules : Rules) (s : Sender) → Stands rules self.old s → Stands rules self.new (restarted_sender s) }
+        ensures stands { (rules : Rules) (s : Sender) → Stands rules self.old s →
+            Stands rules self.new (restarted_sender s) }
         ensures history { (rules : Rules) (events : List SenderEvent) → IsSenderOf rules events self.old →
             IsSenderOf rules (events ++ Restart ∷ []) self.new }
         ensures same { IsSame self.old self.new }

@@ -18,7 +18,8 @@ use dch_txbuf::{Cut, Header, LONGEST_SDU, SduBuffer, Start, next_cut, next_start
 use std::alloc::Global;
 use std::marker::Model;
 
-/// The SDUs that are held, from the first that isn't acknowledged with all PDUs before its end, and where the next PDU begins.
+/// The SDUs that are held, from the first that isn't acknowledged with all PDUs before its end, and where the next PDU
+/// begins.
 #[derive(Drop)]
 pub struct TxBuffer {
     sdus: SduBuffer,
@@ -33,13 +34,21 @@ impl Model for TxBuffer {
 
     ghost Value = { TxBuffer };
 
-    ghost view = { λ u. record { sdus = u.sdus.items; blocks = u.sdus.capacity; start = u.start; owed = u.owed; freed = u.freed; size = u.size } };
+    ghost view = { λ u. record {
+      sdus = u.sdus.items;
+      blocks = u.sdus.capacity;
+      start = u.start;
+      owed = u.owed;
+      freed = u.freed;
+      size = u.size;
+    } };
 
     ghost invariant = { λ u. IsBuffer u.sdus u.start u.freed u.size };
 }
 
 impl TxBuffer {
-    /// No SDU is held. PDUs have `pdu` octets, 6 to 126, and SDUs at most `buffer` blocks of 64 octets. All memory is taken here.
+    /// No SDU is held. PDUs have `pdu` octets, 6 to 126, and SDUs at most `buffer` blocks of 64 octets. All memory is
+    /// taken here.
     pub fn open(alloc: Global, pdu: usize, buffer: u16) -> Result<TxBuffer, NoMemory>
         requires from { 6 ≤ pdu }
         requires most { pdu ≤ 126 }
@@ -56,11 +65,14 @@ impl TxBuffer {
         })
     }
 
-    /// Offers an SDU of 1 to 1,500 octets, which is accepted where its blocks find room beside those of the SDUs that are held.
+    /// Offers an SDU of 1 to 1,500 octets, which is accepted where its blocks find room beside those of the SDUs that
+    /// are held.
     pub fn offer(&mut self, sdu: &[u8]) -> Offer
         ensures answer { result ≡ answer_of sdu.now self.old }
         ensures after { self.new ≡ buffer_after_offer result sdu.now self.old }
-        ensures history { (rules : Rules) (d : ℕ) (s : Sender) → BufferStands d self.old s → IsCut s.accepted s.unsent s.bodies → self.old.blocks ≡ rules.buffer → (result ≡ offered rules s sdu.now) × BufferStands d self.new (after_offer result s sdu.now) }
+        ensures history { (rules : Rules) (d : ℕ) (s : Sender) → BufferStands d self.old s →
+            IsCut s.accepted s.unsent s.bodies → self.old.blocks ≡ rules.buffer → (result ≡ offered rules s sdu.now) ×
+            BufferStands d self.new (after_offer result s sdu.now) }
     {
         self.store(sdu)
     }
@@ -107,8 +119,10 @@ impl TxBuffer {
     pub fn build(&mut self) -> SentPdu
         ensures after { self.new ≡ buffer_after_build self.old }
         ensures taken { result ≡ next_in_flight self.old }
-        ensures history { (d : ℕ) (s : Sender) → BufferStands d self.old s → IsCut s.accepted s.unsent s.bodies → vt_a (anew d s) ≡ vt_a s →
-            HasBody d result (next_body d s.unsent) × Takes (anew d s) (vt_s s) result.extent × BufferStands d self.new (anew d s) }
+        ensures history { (d : ℕ) (s : Sender) → BufferStands d self.old s → IsCut s.accepted s.unsent s.bodies →
+            vt_a (anew d s) ≡ vt_a s →
+            HasBody d result (next_body d s.unsent) × Takes (anew d s) (vt_s s) result.extent ×
+            BufferStands d self.new (anew d s) }
     {
         self.take()
     }
@@ -137,7 +151,8 @@ impl TxBuffer {
         requires here { IsHere self.now pdu.now }
         requires number { number < 4096 }
         requires size { length out.old ≡ self.now.size }
-        ensures { out.new ≡ am_pdu number poll (indicators_of (self.now.size - 2) (body_in self.now pdu.now)) (carried (body_in self.now pdu.now)) self.now.size }
+        ensures { out.new ≡ am_pdu number poll (indicators_of (self.now.size - 2) (body_in self.now pdu.now))
+            (carried (body_in self.now pdu.now)) self.now.size }
     {
         let start = Start {
             sdu: pdu.extent.sdu.wrapping_sub(self.freed),
@@ -172,7 +187,8 @@ impl TxBuffer {
         sdu.saturating_sub(u16::from(pdu.full))
     }
 
-    /// The SDUs that end before the first PDU in flight leave, or, where none is in flight, those that end in the PDUs that were built.
+    /// The SDUs that end before the first PDU in flight leave, or, where none is in flight, those that end in the PDUs
+    /// that were built.
     pub fn release(&mut self, first: Option<SentPdu>)
         requires { ended_before first self.old ≤ self.old.start.sdu }
         ensures after { self.new ≡ released_by (ended_before first self.old) self.old }
@@ -190,7 +206,8 @@ impl TxBuffer {
     pub fn restart(&mut self) -> usize
         ensures after { self.new ≡ restarted_buffer self.old }
         ensures count { result ≡ length self.new.sdus }
-        ensures history { (d : ℕ) (s : Sender) → BufferStands d self.old s → IsCut s.accepted s.unsent s.bodies → (result ≡ length (restarted_sender s).accepted) × BufferStands d self.new (restarted_sender s) }
+        ensures history { (d : ℕ) (s : Sender) → BufferStands d self.old s → IsCut s.accepted s.unsent s.bodies →
+            (result ≡ length (restarted_sender s).accepted) × BufferStands d self.new (restarted_sender s) }
     {
         self.begin()
     }

@@ -3,7 +3,8 @@ ghost use Rattle.std.specs.Prelude.{◌≡◌, ◌≤◌, length};
 use dch_accept::PhyFrame;
 use dch_bits::Trit;
 
-/// Copies a frame, in which one cell in so many is inverted, from the first on; none for 0. A cell that is Off stays Off.
+/// Copies a frame, in which one cell in so many is inverted, from the first on; none for 0. A cell that is Off stays
+/// Off.
 pub fn carry(sent: &PhyFrame, every: usize, received: &mut PhyFrame)
     requires room { sent.now.room ≡ received.old.room }
     requires fits { length sent.now.cells ≤ sent.now.room }

@@ -30,7 +30,8 @@ pub trait Ends {
         requires opened { opened accepted.now self.old }
         requires channel { channel < length (side_of accepted.now.config dir).channels }
         requires format { format < length (channel_at (side_of accepted.now.config dir) channel).formats }
-        requires blocks { length blocks.now ≡ bits_of (format_at (channel_at (side_of accepted.now.config dir) channel) format) }
+        requires blocks { length blocks.now ≡
+            bits_of (format_at (channel_at (side_of accepted.now.config dir) channel) format) }
         ensures opened { opened accepted.now self.new }
         ensures loaded { (loaded_at (loaded self.new) channel).format ≡ Some format }
         ensures same { (i : ℕ) → i ≢ channel → loaded_at (loaded self.new) i ≡ loaded_at (loaded self.old) i };

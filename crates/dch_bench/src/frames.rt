@@ -109,8 +109,8 @@ fn report_trip<R: Print + Clock, E: Ends + Drop>(
     Ok(())
 }
 
-/// Sends so many radio frames from one end to the other, with one cell in so many inverted (none for 0), and reads each TTI
-/// that ends.
+/// Sends so many radio frames from one end to the other, with one cell in so many inverted (none for 0), and reads each
+/// TTI that ends.
 fn pass<C: Clock, E: Ends + Drop>(
     clock: &C,
     accepted: &Accepted,
@@ -140,8 +140,8 @@ fn pass<C: Clock, E: Ends + Drop>(
     Ok(passed)
 }
 
-/// The radio frames with which each TTI that ended was read as it was sent: how many there are and how many cells they have, and how long they took to send and to
-/// read, in nanoseconds.
+/// The radio frames with which each TTI that ended was read as it was sent: how many there are and how many cells they
+/// have, and how long they took to send and to read, in nanoseconds.
 #[derive(Clone, Copy)]
 struct Passed {
     frames: u64,

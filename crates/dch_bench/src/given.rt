@@ -30,7 +30,8 @@ pub fn fits(side: &Side, combination: u16, noted: &[Option<u8>]) -> bool
     requires side { IsSide side.now }
     requires combination { combination < length side.now.combinations }
     requires eight { length noted.now ≡ 8 }
-    ensures { result ≡ true → (i : ℕ) → i < length side.now.channels → slice_index_or noted.now i None ≡ Some (format_number side.now combination i) }
+    ensures { result ≡ true → (i : ℕ) → i < length side.now.channels →
+        slice_index_or noted.now i None ≡ Some (format_number side.now combination i) }
 {
     for i in 0..side.channels.len() {
         if noted[i] != Some(side.tfi(combination as usize, i)) {
@@ -53,7 +54,8 @@ pub fn give(
     requires channel { channel < length (side_of accepted.now.config dir).channels }
     requires format { format < length (channel_at (side_of accepted.now.config dir) channel).formats }
     ensures room { given.new.room ≡ given.old.room }
-    ensures long { length given.new.good * given.new.size ≡ bits_of (format_at (channel_at (side_of accepted.now.config dir) channel) format) }
+    ensures long { length given.new.good * given.new.size ≡
+        bits_of (format_at (channel_at (side_of accepted.now.config dir) channel) format) }
 {
     given.shape(accepted, dir, channel, format);
     Chance::new(u32::from(start) * 8 + u32::from(channel)).fill(given.bits_mut());

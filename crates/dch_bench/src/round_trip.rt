@@ -40,8 +40,8 @@ impl<E: Ends + Drop> RoundTrip<E> {
         })
     }
 
-    /// Loads the channels whose TTI starts at a CFN in the formats of a combination, and writes its frame. Answers how many
-    /// cells it has; none where the combination is not in the list, or a TTI that is on runs in another format.
+    /// Loads the channels whose TTI starts at a CFN in the formats of a combination, and writes its frame. Answers how
+    /// many cells it has; none where the combination is not in the list, or a TTI that is on runs in another format.
     pub fn send(&mut self, accepted: &Accepted, cfn: u8, combination: u16) -> Option<usize>
         requires opened { IsTripOf E.dir E.opened E.loaded accepted.now self.old }
         ensures opened { IsTripOf E.dir E.opened E.loaded accepted.now self.new }

@@ -11,7 +11,8 @@ use Rattle.dch_coding.specs.declared.rate.Rate.TheVariants.{Half as RateHalf, Th
 
 -- the parity of so many bits
 abbrev pub crc_of : ℕ → Option Crc
-crc_of bits = if bits == 0 then Some C0 else if bits == 8 then Some C8 else if bits == 12 then Some C12 else if bits == 16 then Some C16 else if bits == 24 then Some C24 else None
+crc_of bits = if bits == 0 then Some C0 else if bits == 8 then Some C8 else if bits == 12 then Some C12
+    else if bits == 16 then Some C16 else if bits == 24 then Some C24 else None
 
 -- the rate of so many coded bits for a bit
 abbrev pub rate_of : ℕ → Option Rate
@@ -19,7 +20,8 @@ rate_of outputs = if outputs == 2 then Some RateHalf else if outputs == 3 then S
 
 -- the coding of so many coded bits for a bit
 abbrev pub coding_of : ℕ → Option Coding
-coding_of outputs = if outputs == 1 then Some Uncoded else if outputs == 2 then Some Half else if outputs == 3 then Some Third else None
+coding_of outputs = if outputs == 1 then Some Uncoded else if outputs == 2 then Some Half
+    else if outputs == 3 then Some Third else None
 
 -- the bits that a text of the letters 0 and 1 writes
 abbrev pub bits_of : List ℕ → List Bit

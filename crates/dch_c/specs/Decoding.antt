@@ -23,7 +23,8 @@ pub record Suits (most : ℕ) (rate : Rate) (copies : List Copies) (filler size 
   pub coded : length copies ≡ coded_length rate size
   pub few : all_copies (votes_of copies) < 2 ^ 31
 
--- a text writes the block of so many bits, with so much filler, that is nearest to the copies; so many of them disagree with it
+-- a text writes the block of so many bits, with so much filler, that is nearest to the copies; so many of them disagree
+-- with it
 pub record IsRead (rate : Rate) (copies : List Copies) (size filler : ℕ) (text : List ℕ) (disagreeing : ℕ) : Type 0 where
   pub bits : List Bit
   pub written : text ≡ map letter_of bits

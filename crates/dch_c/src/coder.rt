@@ -39,10 +39,12 @@ pub extern "C" fn dch_parity_attach(
     out: &mut [u8],
 ) -> u8
     ensures code { crc_of parity_bits ≡ None → result ≡ bad_code }
-    ensures size { (crc : TheCrc) → crc_of parity_bits ≡ Some crc → length out.old ≢ length block.now + crc_size crc → result ≡ bad_size }
+    ensures size { (crc : TheCrc) → crc_of parity_bits ≡ Some crc → length out.old ≢ length block.now + crc_size crc →
+        result ≡ bad_size }
     ensures status { (crc : TheCrc) → crc_of parity_bits ≡ Some crc → length out.old ≡ length block.now + crc_size crc →
         IsUnlessMemory (if has_bad_letter block.now then bad_letter else done) result }
-    ensures done { (crc : TheCrc) → crc_of parity_bits ≡ Some crc → result ≡ done → IsAttachedText crc block.now out.new }
+    ensures done { (crc : TheCrc) → crc_of parity_bits ≡ Some crc → result ≡ done →
+        IsAttachedText crc block.now out.new }
     ensures same { IsRefused result → out.new ≡ out.old }
 {
     let Some(crc) = crc_of(parity_bits) else {
@@ -73,10 +75,12 @@ pub extern "C" fn dch_parity_check(
     is_good: &mut u8,
 ) -> u8
     ensures code { crc_of parity_bits ≡ None → result ≡ bad_code }
-    ensures size { (crc : TheCrc) → crc_of parity_bits ≡ Some crc → length attached.now < crc_size crc → result ≡ bad_size }
+    ensures size { (crc : TheCrc) → crc_of parity_bits ≡ Some crc → length attached.now < crc_size crc →
+        result ≡ bad_size }
     ensures status { (crc : TheCrc) → crc_of parity_bits ≡ Some crc → crc_size crc ≤ length attached.now →
         IsUnlessMemory (if has_bad_letter attached.now then bad_letter else done) result }
-    ensures done { (crc : TheCrc) → crc_of parity_bits ≡ Some crc → result ≡ done → IsCheckedAs crc (bits_of attached.now) is_good.new }
+    ensures done { (crc : TheCrc) → crc_of parity_bits ≡ Some crc → result ≡ done →
+        IsCheckedAs crc (bits_of attached.now) is_good.new }
     ensures same { IsRefused result → is_good.new ≡ is_good.old }
 {
     let Some(crc) = crc_of(parity_bits) else {
@@ -99,10 +103,13 @@ pub extern "C" fn dch_code(alloc: Global, outputs: u8, block: &[u8], out: &mut [
     ensures code { rate_of outputs ≡ None → result ≡ bad_code }
     ensures empty { (rate : TheRate) → rate_of outputs ≡ Some rate → length block.now ≡ 0 → result ≡ bad_size }
     ensures long { (rate : TheRate) → rate_of outputs ≡ Some rate → 504 < length block.now → result ≡ bad_size }
-    ensures size { (rate : TheRate) → rate_of outputs ≡ Some rate → length out.old ≢ coded_length rate (length block.now) → result ≡ bad_size }
-    ensures status { (rate : TheRate) → rate_of outputs ≡ Some rate → 0 < length block.now → length block.now ≤ 504 → length out.old ≡ coded_length rate (length block.now) →
+    ensures size { (rate : TheRate) → rate_of outputs ≡ Some rate →
+        length out.old ≢ coded_length rate (length block.now) → result ≡ bad_size }
+    ensures status { (rate : TheRate) → rate_of outputs ≡ Some rate → 0 < length block.now → length block.now ≤ 504 →
+        length out.old ≡ coded_length rate (length block.now) →
         IsUnlessMemory (if has_bad_letter block.now then bad_letter else done) result }
-    ensures done { (rate : TheRate) → rate_of outputs ≡ Some rate → result ≡ done → out.new ≡ map letter_of (encoded rate (bits_of block.now)) }
+    ensures done { (rate : TheRate) → rate_of outputs ≡ Some rate → result ≡ done →
+        out.new ≡ map letter_of (encoded rate (bits_of block.now)) }
     ensures same { IsRefused result → out.new ≡ out.old }
 {
     let Some(rate) = rate_of(outputs) else {
@@ -134,13 +141,17 @@ pub extern "C" fn dch_blocks_cut(
     cut: &mut Cut,
 ) -> u8
     ensures code { coding_of outputs ≡ None → (result ≡ bad_code) × (cut.new ≡ cut.old) }
-    ensures long { (coding : TheCoding) → coding_of outputs ≡ Some coding → 2 ^ 31 < length joined.now → (result ≡ bad_size) × (cut.new ≡ cut.old) }
-    ensures cut { (coding : TheCoding) → coding_of outputs ≡ Some coding → length joined.now ≤ 2 ^ 31 → cut.new ≡ cut_of (plan_of (length joined.now) coding) }
+    ensures long { (coding : TheCoding) → coding_of outputs ≡ Some coding → 2 ^ 31 < length joined.now →
+        (result ≡ bad_size) × (cut.new ≡ cut.old) }
+    ensures cut { (coding : TheCoding) → coding_of outputs ≡ Some coding → length joined.now ≤ 2 ^ 31 →
+        cut.new ≡ cut_of (plan_of (length joined.now) coding) }
     ensures size { (coding : TheCoding) → coding_of outputs ≡ Some coding → length joined.now ≤ 2 ^ 31 →
         length out.old ≢ (plan_of (length joined.now) coding).filler + length joined.now → result ≡ bad_size }
     ensures status { (coding : TheCoding) → coding_of outputs ≡ Some coding → length joined.now ≤ 2 ^ 31 →
-        length out.old ≡ (plan_of (length joined.now) coding).filler + length joined.now → IsUnlessMemory (if has_bad_letter joined.now then bad_letter else done) result }
-    ensures done { (coding : TheCoding) → coding_of outputs ≡ Some coding → result ≡ done → out.new ≡ map letter_of (replicate cut.new.filler Zero ++ bits_of joined.now) }
+        length out.old ≡ (plan_of (length joined.now) coding).filler + length joined.now →
+        IsUnlessMemory (if has_bad_letter joined.now then bad_letter else done) result }
+    ensures done { (coding : TheCoding) → coding_of outputs ≡ Some coding → result ≡ done →
+        out.new ≡ map letter_of (replicate cut.new.filler Zero ++ bits_of joined.now) }
     ensures same { IsRefused result → out.new ≡ out.old }
 {
     let Some(coding) = coding_of(outputs) else {
@@ -171,11 +182,13 @@ pub extern "C" fn dch_blocks_cut(
 #[unsafe(no_mangle)]
 pub extern "C" fn dch_blocks_join(alloc: Global, outputs: u8, blocks: &[u8], out: &mut [u8]) -> u8
     ensures code { coding_of outputs ≡ None → result ≡ bad_code }
-    ensures long { (coding : TheCoding) → coding_of outputs ≡ Some coding → 2 ^ 31 < length out.old → result ≡ bad_size }
+    ensures long { (coding : TheCoding) → coding_of outputs ≡ Some coding → 2 ^ 31 < length out.old →
+        result ≡ bad_size }
     ensures size { (coding : TheCoding) → coding_of outputs ≡ Some coding → length out.old ≤ 2 ^ 31 →
         length blocks.now ≢ (plan_of (length out.old) coding).filler + length out.old → result ≡ bad_size }
     ensures status { (coding : TheCoding) → coding_of outputs ≡ Some coding → length out.old ≤ 2 ^ 31 →
-        length blocks.now ≡ (plan_of (length out.old) coding).filler + length out.old → IsUnlessMemory (if has_bad_letter blocks.now then bad_letter else done) result }
+        length blocks.now ≡ (plan_of (length out.old) coding).filler + length out.old →
+        IsUnlessMemory (if has_bad_letter blocks.now then bad_letter else done) result }
     ensures done { (coding : TheCoding) → coding_of outputs ≡ Some coding → result ≡ done →
         out.new ≡ map letter_of (drop (plan_of (length out.old) coding).filler (bits_of blocks.now)) }
     ensures same { IsRefused result → out.new ≡ out.old }
@@ -236,8 +249,10 @@ pub extern "C" fn dch_tfci_nearest(
     distance: &mut u16,
 ) -> u8
     ensures size { length received.now ≢ 30 → length received.now ≢ 120 → result ≡ bad_size }
-    ensures short { length received.now ≡ 30 → IsUnlessMemory (if has_bad_letter received.now then bad_letter else done) result }
-    ensures long { length received.now ≡ 120 → IsUnlessMemory (if has_bad_letter received.now then bad_letter else done) result }
+    ensures short { length received.now ≡ 30 →
+        IsUnlessMemory (if has_bad_letter received.now then bad_letter else done) result }
+    ensures long { length received.now ≡ 120 →
+        IsUnlessMemory (if has_bad_letter received.now then bad_letter else done) result }
     ensures done { result ≡ done → IsNearest (bits_of received.now) index.new distance.new }
     ensures same { IsRefused result → (index.new ≡ index.old) × (distance.new ≡ distance.old) }
 {

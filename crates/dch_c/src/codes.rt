@@ -60,7 +60,8 @@ pub fn zeros(alloc: Global, count: usize) -> Result<Vec<Bit>, u8>
 /// The bits of a text of `0` and `1`.
 pub fn read(alloc: Global, text: &[u8]) -> Result<Vec<Bit>, u8>
     ensures ok { IfOk result (λ bits. (bits.items ≡ bits_of text.now) × (has_bad_letter text.now ≡ false)) }
-    ensures err { IfErr result (λ status. (status ≡ no_memory) ⊎ ((status ≡ bad_letter) × (has_bad_letter text.now ≡ true))) }
+    ensures err { IfErr result (λ status. (status ≡ no_memory) ⊎
+        ((status ≡ bad_letter) × (has_bad_letter text.now ≡ true))) }
 {
     let mut bits = zeros(alloc, text.len())?;
     read_into(text, &mut bits)?;

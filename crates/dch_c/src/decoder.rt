@@ -63,8 +63,8 @@ impl Decoder {
             && are_few(copies)
     }
 
-    /// Reads a block from the received copies of its coded bits (TS 25.212 4.2.3.1), and writes its letters. The answer is how
-    /// many copies disagree with it.
+    /// Reads a block from the received copies of its coded bits (TS 25.212 4.2.3.1), and writes its letters. The answer
+    /// is how many copies disagree with it.
     pub fn nearest(&mut self, rate: Rate, copies: &[Copies], filler: usize, block: &mut [u8]) -> u32
         requires { Suits self.old rate copies.now filler (length block.old) }
         ensures read { IsRead rate copies.now (length block.old) filler block.new result }

@@ -47,11 +47,15 @@ pub extern "C" fn dch_decoder_nearest(
     copies: &mut u32,
 ) -> u8
     ensures closed { handle.old.raw.value ≡ None → result ≡ closed }
-    ensures code { (most : ℕ) → handle.old.raw.value ≡ Some (HeldDecoder most) → rate_of outputs ≡ None → result ≡ bad_code }
-    ensures size { (most : ℕ) (rate : TheRate) → handle.old.raw.value ≡ Some (HeldDecoder most) → rate_of outputs ≡ Some rate →
+    ensures code { (most : ℕ) → handle.old.raw.value ≡ Some (HeldDecoder most) → rate_of outputs ≡ None →
+        result ≡ bad_code }
+    ensures size { (most : ℕ) (rate : TheRate) → handle.old.raw.value ≡ Some (HeldDecoder most) →
+        rate_of outputs ≡ Some rate →
         ¬ Suits most rate votes.now filler (length block.old) → result ≡ bad_size }
-    ensures read { (most : ℕ) (rate : TheRate) → handle.old.raw.value ≡ Some (HeldDecoder most) → rate_of outputs ≡ Some rate →
-        Suits most rate votes.now filler (length block.old) → (result ≡ done) × IsRead rate votes.now (length block.old) filler block.new copies.new }
+    ensures read { (most : ℕ) (rate : TheRate) → handle.old.raw.value ≡ Some (HeldDecoder most) →
+        rate_of outputs ≡ Some rate →
+        Suits most rate votes.now filler (length block.old) → (result ≡ done) ×
+        IsRead rate votes.now (length block.old) filler block.new copies.new }
     ensures same { IsRefused result → (block.new ≡ block.old) × (copies.new ≡ copies.old) }
     ensures kept { handle.new.raw.value ≡ handle.old.raw.value }
 {
@@ -75,8 +79,10 @@ fn nearest(
     copies: &mut u32,
 ) -> u8
     ensures code { rate_of outputs ≡ None → result ≡ bad_code }
-    ensures size { (rate : TheRate) → rate_of outputs ≡ Some rate → ¬ Suits decoder.old rate votes.now filler (length block.old) → result ≡ bad_size }
-    ensures read { (rate : TheRate) → rate_of outputs ≡ Some rate → Suits decoder.old rate votes.now filler (length block.old) →
+    ensures size { (rate : TheRate) → rate_of outputs ≡ Some rate →
+        ¬ Suits decoder.old rate votes.now filler (length block.old) → result ≡ bad_size }
+    ensures read { (rate : TheRate) → rate_of outputs ≡ Some rate →
+        Suits decoder.old rate votes.now filler (length block.old) →
         (result ≡ done) × IsRead rate votes.now (length block.old) filler block.new copies.new }
     ensures same { IsRefused result → (block.new ≡ block.old) × (copies.new ≡ copies.old) }
     ensures kept { decoder.new ≡ decoder.old }

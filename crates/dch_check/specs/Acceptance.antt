@@ -47,11 +47,14 @@ of_count which n = codes "refused 27" ++ which_word which ++ codes " count=" ++ 
 
 -- where two code blocks collide
 abbrev pub of_block : Which → Dir → ℕ → ℕ → ℕ → List ℕ
-of_block which dir channel format block = codes "refused 40" ++ which_word which ++ codes " " ++ dir_word dir ++ (codes " channel=" ++ decimal channel) ++ (codes " format=" ++ decimal format) ++ (codes " block=" ++ decimal block)
+of_block which dir channel format block = codes "refused 40" ++ which_word which ++ codes " " ++ dir_word dir
+    ++ (codes " channel=" ++ decimal channel) ++ (codes " format=" ++ decimal format)
+    ++ (codes " block=" ++ decimal block)
 
 -- the sequence under which they collide, and the two blocks
 abbrev pub of_collision : List ℕ → List Bit → List Bit → List ℕ
-of_collision sequence first second = codes " sequence=" ++ numbers_text sequence ++ codes " first=" ++ letters first ++ codes " second=" ++ letters second ++ codes "\n"
+of_collision sequence first second = codes " sequence=" ++ numbers_text sequence ++ codes " first=" ++ letters first
+    ++ codes " second=" ++ letters second ++ codes "\n"
 
 -- the line of a refusal; want of memory has none
 abbrev pub acceptance_refusal : Which → Refusal → Option (List ℕ)

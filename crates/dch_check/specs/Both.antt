@@ -60,7 +60,8 @@ pub record AreAcceptedAs (text : List ℕ) (accepted : Configurations) : Type 0 
 pub record AreAccepted (text lines : List ℕ) : Type 0 where
   pub configurations : Configurations
   pub accepted : AreAcceptedAs text configurations
-  pub shown : lines ≡ accepted_lines (count_of configurations.first.config) (option_map (λ second. count_of second.accepted.config) configurations.second)
+  pub shown : lines ≡ accepted_lines (count_of configurations.first.config)
+      (option_map (λ second. count_of second.accepted.config) configurations.second)
 
 -- a text is accepted as a configuration in which a bearer doesn't go on, and this line names the first one
 pub record IsChangeRefused (text : List ℕ) (first : Planned) (line : List ℕ) : Type 0 where
@@ -103,5 +104,7 @@ JudgesBoth text (Refused line) = RefusesBoth text (string_bytes line)
 
 -- the judgement of the text of a second configuration, behind a first one that is accepted
 abbrev pub JudgesSecond : List ℕ → Planned → ℕ → Judgement → Type 0
-JudgesSecond text first frame (Accepted accepted) = (second : Planned) × (accepted ≡ record { first = first; second = Some (record { frame = frame; accepted = second }) }) × CanFollow text first second
+JudgesSecond text first frame (Accepted accepted) = (second : Planned)
+    × (accepted ≡ record { first = first; second = Some (record { frame = frame; accepted = second }) })
+    × CanFollow text first second
 JudgesSecond text first frame (Refused line) = RefusesSecond text first (string_bytes line)

@@ -18,19 +18,23 @@ plain which = codes "refused 10" ++ which_word which ++ codes "\n"
 
 -- the line of a refusal that names a key
 abbrev pub of_key : Which → ℕ → List ℕ → List ℕ → List ℕ
-of_key which number what path = codes "refused " ++ decimal number ++ which_word which ++ codes " " ++ what ++ codes "=" ++ path ++ codes "\n"
+of_key which number what path = codes "refused " ++ decimal number ++ which_word which ++ codes " " ++ what ++ codes "="
+    ++ path ++ codes "\n"
 
 -- the line of a refusal that names a direction
 abbrev pub of_direction : Which → ℕ → Dir → List ℕ
-of_direction which number dir = codes "refused " ++ decimal number ++ which_word which ++ codes " " ++ dir_word dir ++ codes "\n"
+of_direction which number dir = codes "refused " ++ decimal number ++ which_word which ++ codes " " ++ dir_word dir
+    ++ codes "\n"
 
 -- the line of a refusal that names a channel or a combination of a direction
 abbrev pub of_place : Which → ℕ → Dir → List ℕ → ℕ → List ℕ
-of_place which number dir what i = codes "refused " ++ decimal number ++ which_word which ++ codes " " ++ dir_word dir ++ codes " " ++ what ++ codes "=" ++ decimal i ++ codes "\n"
+of_place which number dir what i = codes "refused " ++ decimal number ++ which_word which ++ codes " " ++ dir_word dir
+    ++ codes " " ++ what ++ codes "=" ++ decimal i ++ codes "\n"
 
 -- the line of a refusal that names a bearer
 abbrev pub of_bearer : Which → ℕ → ℕ → List ℕ
-of_bearer which number b = codes "refused " ++ decimal number ++ which_word which ++ codes " bearer=" ++ decimal b ++ codes "\n"
+of_bearer which number b = codes "refused " ++ decimal number ++ which_word which ++ codes " bearer=" ++ decimal b
+    ++ codes "\n"
 
 -- the line of a refusal; want of memory has none
 abbrev pub refusal : Which → ConfigError → Option (List ℕ)

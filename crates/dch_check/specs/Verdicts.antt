@@ -14,8 +14,8 @@ use Rattle.dch_check.specs.declared.which.Which.TheVariants.{First}
 use Rattle.dch_check.specs.declared.verdict.Verdict.{Verdict}
 use Rattle.dch_check.specs.declared.verdict.Verdict.TheVariants.{Accepted, Refused}
 
--- a configuration is accepted, and this is the line that says so: each uplink combination has a rate, not too many code blocks
--- may lose bits, and no two of them collide
+-- a configuration is accepted, and this is the line that says so: each uplink combination has a rate, not too many code
+-- blocks may lose bits, and no two of them collide
 pub record IsAcceptedBy (config : Config) (line : List ℕ) : Type 0 where
   pub rates : HaveAllRates config
   pub few : count_of config ≤ 2048

@@ -17,7 +17,8 @@ pub fn accepted_line(alloc: Global, count: u128) -> Result<String, NoMemory>
     Ok(line)
 }
 
-/// The lines of the configurations that are accepted, of which there may be a second one, with their counts of what may collide.
+/// The lines of the configurations that are accepted, of which there may be a second one, with their counts of what may
+/// collide.
 pub fn accepted_lines(alloc: Global, first: u128, second: Option<u128>) -> Result<String, NoMemory>
     ensures { IfOk result (λ lines. string_bytes lines ≡ accepted_lines first second) }
 {
@@ -117,7 +118,8 @@ fn push_collision(
     first: &[Bit],
     second: &[Bit],
 ) -> Result<(), NoMemory>
-    ensures { OnOk result (string_bytes line.new ≡ string_bytes line.old ++ of_collision sequence.now first.now second.now) }
+    ensures { OnOk result (string_bytes line.new ≡
+        string_bytes line.old ++ of_collision sequence.now first.now second.now) }
 {
     line.push_str(" sequence=")?;
     push_numbers(alloc, line, sequence)?;

@@ -38,8 +38,9 @@ pub enum Judgement {
     Refused(String),
 }
 
-/// Judges a text with a configuration and, behind a line `--- N`, maybe a second one that is active from radio frame N on and in which
-/// every bearer goes on. The first one is judged before N, N before the second one, and that before its bearers.
+/// Judges a text with a configuration and, behind a line `--- N`, maybe a second one that is active from radio frame N
+/// on and in which every bearer goes on. The first one is judged before N, N before the second one, and that before its
+/// bearers.
 pub fn judge_both(alloc: Global, text: &[u8]) -> Result<Judgement, NoMemory>
     ensures { IfOk result (JudgesBoth text.now) }
 {

@@ -21,7 +21,11 @@ impl Model for ConfigSection {
 
     ghost Value = { Gathered };
 
-    ghost view = { λ f. record { text = take f.begun f.bytes.items; line = drop f.begun f.bytes.items; complete = f.complete } };
+    ghost view = { λ f. record {
+      text = take f.begun f.bytes.items;
+      line = drop f.begun f.bytes.items;
+      complete = f.complete;
+    } };
 
     ghost invariant = { λ f. f.begun ≤ length f.bytes.items };
 }
@@ -56,7 +60,8 @@ impl ConfigSection {
         }
     }
 
-    /// Goes on by the next piece of the input. Answers what follows the line `---` in it: nothing where that line hasn't come.
+    /// Goes on by the next piece of the input. Answers what follows the line `---` in it: nothing where that line
+    /// hasn't come.
     pub fn take_section<'a>(&mut self, piece: &'a [u8]) -> Result<&'a [u8], NoMemory>
         ensures section { OnOk result (self.new ≡ gathered self.old piece.entry.now) }
         ensures left { IfOk result (λ left. left.now ≡ behind self.old piece.entry.now) }

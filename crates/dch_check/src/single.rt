@@ -6,8 +6,8 @@ use crate::verdict::{Verdict, judge};
 use dch_bits::NoMemory;
 use std::alloc::Global;
 
-/// Judges a text in which no second configuration may stand, behind a line that begins with `--- `: the first one is judged, and a second one
-/// is refused.
+/// Judges a text in which no second configuration may stand, behind a line that begins with `--- `: the first one is
+/// judged, and a second one is refused.
 pub fn judge_single(alloc: Global, text: &[u8]) -> Result<Verdict, NoMemory>
     ensures { IfOk result (JudgesSingle text.now) }
 {

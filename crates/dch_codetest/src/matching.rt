@@ -174,8 +174,8 @@ fn are_copies(pattern: &Pattern, copies: u32) -> bool
     kept(pattern) as u64 == copies as u64 * pattern.len as u64
 }
 
-/// Whether a walk and the counted form give the same copies of each bit, and the places show the bits with copies in their
-/// order.
+/// Whether a walk and the counted form give the same copies of each bit, and the places show the bits with copies in
+/// their order.
 fn is_walked(pattern: &Pattern) -> bool
     requires { IsWellFormed pattern.now }
 {
@@ -312,7 +312,8 @@ fn downlink_is_right(alloc: Global, sample: Sample, config: &Downlink) -> Result
     }
 }
 
-/// The greatest uplink frame, the channels of both directions, and the bits of a slot, the codes and the positions of the downlink.
+/// The greatest uplink frame, the channels of both directions, and the bits of a slot, the codes and the positions of
+/// the downlink.
 fn parts(sample: Sample) -> (u16, &'static str, u16, u8, &'static str) {
     match sample {
         Sample::Reference => (600, reference_side(), 28, 1, "fixed"),
@@ -342,7 +343,8 @@ fn is_right(alloc: Global, sample: Sample, config: &Config) -> bool
         && matches!(downlink_is_right(alloc, sample, &config.downlink), Ok(true))
 }
 
-/// Whether a text is a configuration, and that is right. No error is answered while it is held, which would be dear to prove.
+/// Whether a text is a configuration, and that is right. No error is answered while it is held, which would be dear to
+/// prove.
 fn reads(alloc: Global, sample: Sample, text: &str) -> bool {
     match read(alloc, text.as_bytes()) {
         Ok(config) => is_right(alloc, sample, &config),

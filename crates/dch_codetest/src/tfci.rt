@@ -14,7 +14,8 @@ fn is_sent(index: u16, text: &[u8; 30]) -> bool
     letters == *text
 }
 
-/// The index that is found where four bits of its word, each `step` behind the one before it, are turned, and the distance.
+/// The index that is found where four bits of its word, each `step` behind the one before it, are turned, and the
+/// distance.
 fn found(index: u16, step: usize) -> Tfci
     requires { index < 1024 }
 {

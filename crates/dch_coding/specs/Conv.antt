@@ -15,7 +15,8 @@ outputs Third = 3
 -- the taps of generator t, as distances back from the current input: octal 561, 753 and 557, 663, 711
 abbrev pub taps : Rate → ℕ → List ℕ
 taps Half t = if nat_le t 0 then 0 ∷ 2 ∷ 3 ∷ 4 ∷ 8 ∷ [] else 0 ∷ 1 ∷ 2 ∷ 3 ∷ 5 ∷ 7 ∷ 8 ∷ []
-taps Third t = if nat_le t 0 then 0 ∷ 2 ∷ 3 ∷ 5 ∷ 6 ∷ 7 ∷ 8 ∷ [] else (if nat_le t 1 then 0 ∷ 1 ∷ 3 ∷ 4 ∷ 7 ∷ 8 ∷ [] else 0 ∷ 1 ∷ 2 ∷ 5 ∷ 8 ∷ [])
+taps Third t = if nat_le t 0 then 0 ∷ 2 ∷ 3 ∷ 5 ∷ 6 ∷ 7 ∷ 8 ∷ []
+    else (if nat_le t 1 then 0 ∷ 1 ∷ 3 ∷ 4 ∷ 7 ∷ 8 ∷ [] else 0 ∷ 1 ∷ 2 ∷ 5 ∷ 8 ∷ [])
 
 -- the bit at a place of the block as a number; 0 past its end, where the tail stands
 abbrev pub bit_at : List Bit → ℕ → ℕ

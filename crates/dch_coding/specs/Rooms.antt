@@ -53,4 +53,5 @@ pub record Holds (room wanted : CodingRoom) : Type 0 where
 -- and for each TTI of a direction
 abbrev pub HoldsSide : CodingRoom → Side → Type 0
 HoldsSide room side =
-    (i f : ℕ) → i < length side.channels → f < length (channel_at side i).formats → Holds room (format_room (channel_at side i) (format_at (channel_at side i) f))
+    (i f : ℕ) → i < length side.channels → f < length (channel_at side i).formats
+    → Holds room (format_room (channel_at side i) (format_at (channel_at side i) f))

@@ -24,8 +24,10 @@ filler_of plan r = if r == 0 then plan.filler else 0
 
 -- bit k of code block r: a filler zero, or a joined bit
 abbrev pub block_bit : Plan → List Bit → ℕ → ℕ → Bit
-block_bit plan joined r k = if nat_lt (r * plan.size + k) plan.filler then Zero else slice_index_or joined (r * plan.size + k - plan.filler) Zero
+block_bit plan joined r k = if nat_lt (r * plan.size + k) plan.filler then Zero
+    else slice_index_or joined (r * plan.size + k - plan.filler) Zero
 
 -- the code block of joined bit i, and the place in it
 abbrev pub place_of : Plan → ℕ → Option (ℕ × ℕ)
-place_of plan i = if nat_lt i plan.bits then Some ((i + plan.filler) / plan.size, (i + plan.filler) % plan.size) else None
+place_of plan i = if nat_lt i plan.bits then Some ((i + plan.filler) / plan.size, (i + plan.filler) % plan.size)
+    else None

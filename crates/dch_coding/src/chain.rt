@@ -14,11 +14,12 @@ use crate::rate::Rate;
 use dch_bits::Bit;
 use dch_types::Coding;
 
-/// Cuts joined bits into code blocks and codes each (TS 25.212 4.2.2 and 4.2.3). `blocks` is room for the code blocks with
-/// their filler, and `out` gets the coded bits of all blocks, one block after another.
+/// Cuts joined bits into code blocks and codes each (TS 25.212 4.2.2 and 4.2.3). `blocks` is room for the code blocks
+/// with their filler, and `out` gets the coded bits of all blocks, one block after another.
 pub fn code(coding: Coding, joined: &[Bit], blocks: &mut [Bit], out: &mut [Bit])
     requires short { length joined.now ≤ 2 ^ 31 }
-    requires blocks { length blocks.old ≡ block_count (length joined.now) coding * block_size (length joined.now) (block_count (length joined.now) coding) }
+    requires blocks { length blocks.old ≡ block_count (length joined.now) coding * block_size (length joined.now)
+        (block_count (length joined.now) coding) }
     requires room { length out.old ≡ coded_bits coding (length joined.now) }
     ensures { out.new ≡ coded_of coding joined.now }
 {
@@ -33,7 +34,8 @@ pub fn code_filled(coding: Coding, plan: &Plan, blocks: &[Bit], out: &mut [Bit])
     requires short { plan.now.bits ≤ 2 ^ 31 }
     requires blocks { length blocks.now ≡ plan.now.blocks * plan.now.size }
     requires room { length out.old ≡ plan.now.blocks * coded_block coding plan.now.size }
-    ensures { (joined : List Bit) → length joined ≡ plan.now.bits → blocks.now ≡ replicate plan.now.filler Zero ++ joined → out.new ≡ coded_of coding joined }
+    ensures { (joined : List Bit) → length joined ≡ plan.now.bits →
+        blocks.now ≡ replicate plan.now.filler Zero ++ joined → out.new ≡ coded_of coding joined }
 {
     code_blocks(coding, plan, blocks, out);
 }
@@ -44,7 +46,8 @@ fn code_blocks(coding: Coding, plan: &Plan, blocks: &[Bit], out: &mut [Bit])
     requires coded { coding ≢ Uncoded → plan.now.size ≤ 504 }
     requires some { 0 < plan.now.blocks → 0 < plan.now.size }
     requires room { length out.old ≡ plan.now.blocks * coded_block coding plan.now.size }
-    ensures { (joined : List Bit) → HoldsBlocks plan.now joined blocks.now → out.new ≡ coded_blocks coding plan.now joined plan.now.blocks }
+    ensures { (joined : List Bit) → HoldsBlocks plan.now joined blocks.now →
+        out.new ≡ coded_blocks coding plan.now joined plan.now.blocks }
 {
     let size = plan.size;
     let coded = coded_length(coding, size);

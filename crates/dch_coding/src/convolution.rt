@@ -52,7 +52,8 @@ fn zeros() -> Inputs
 /// Rate 1/2, by the generators 561 and 753 (octal).
 fn encode_half(inputs: &Inputs, out: &mut [Bit])
     requires { length out.old ≤ 1024 }
-    ensures { (block : List Bit) → Feeds inputs.now block → length out.old ≡ coded_length Half (length block) → out.new ≡ encoded Half block }
+    ensures { (block : List Bit) → Feeds inputs.now block → length out.old ≡ coded_length Half (length block) →
+        out.new ≡ encoded Half block }
 {
     let many = out.len() / 32;
     for c in 0..many {
@@ -68,7 +69,8 @@ fn encode_half(inputs: &Inputs, out: &mut [Bit])
 fn half_steps(inputs: &Inputs, from: usize, out: &mut [Bit])
     requires steps { from + 16 ≤ 512 }
     requires room { 2 * from + 32 ≤ length out.old }
-    ensures { (block : List Bit) → Feeds inputs.now block → IsCodedTo Half block (2 * from) out.old → IsCodedTo Half block (2 * from + 32) out.new }
+    ensures { (block : List Bit) → Feeds inputs.now block → IsCodedTo Half block (2 * from) out.old →
+        IsCodedTo Half block (2 * from + 32) out.new }
 {
     let mut first = [Bit::Zero; 16];
     let mut second = [Bit::Zero; 16];
@@ -85,7 +87,8 @@ fn half_steps(inputs: &Inputs, from: usize, out: &mut [Bit])
 /// Rate 1/3, by the generators 557, 663 and 711 (octal).
 fn encode_third(inputs: &Inputs, out: &mut [Bit])
     requires { length out.old ≤ 1536 }
-    ensures { (block : List Bit) → Feeds inputs.now block → length out.old ≡ coded_length Third (length block) → out.new ≡ encoded Third block }
+    ensures { (block : List Bit) → Feeds inputs.now block → length out.old ≡ coded_length Third (length block) →
+        out.new ≡ encoded Third block }
 {
     for k in 0..out.len() / 3 {
         out[3 * k] = coded_bit(inputs, k, &[0, 2, 3, 5, 6, 7, 8]);
@@ -99,7 +102,8 @@ fn coded_bit(inputs: &Inputs, k: usize, taps: &[usize]) -> Bit
     requires step { k < 512 }
     requires few { length taps.now ≤ 9 }
     requires near { IsTrue (list_all (λ d. nat_le d 8) taps.now) }
-    ensures { (block : List Bit) → Feeds inputs.now block → result ≡ bit_of_number (sum_by (input block k) taps.now % 2) }
+    ensures { (block : List Bit) → Feeds inputs.now block →
+        result ≡ bit_of_number (sum_by (input block k) taps.now % 2) }
 {
     let mut sum = 0;
     for d in taps {

@@ -38,7 +38,8 @@ pub fn place(plan: &Plan, i: usize) -> Option<(usize, usize)>
     Some(((i + plan.filler) / plan.size, (i + plan.filler) % plan.size))
 }
 
-/// Cuts the joined bits into code blocks, which follow one another in `out`. The first one begins with the filler zeros.
+/// Cuts the joined bits into code blocks, which follow one another in `out`. The first one begins with the filler
+/// zeros.
 pub fn split(plan: &Plan, joined: &[Bit], out: &mut [Bit])
     requires plan { IsPlan plan.now }
     requires joined { length joined.now ≡ plan.now.bits }
@@ -58,7 +59,8 @@ pub fn join(plan: &Plan, blocks: &[Bit], out: &mut [Bit])
     requires blocks { length blocks.now ≡ plan.now.blocks * plan.now.size }
     requires room { length out.old ≡ plan.now.bits }
     ensures bits { out.new ≡ drop plan.now.filler blocks.now }
-    ensures undoes_split { (joined : List Bit) → blocks.now ≡ replicate plan.now.filler Zero ++ joined → out.new ≡ joined }
+    ensures undoes_split { (joined : List Bit) → blocks.now ≡ replicate plan.now.filler Zero ++ joined →
+        out.new ≡ joined }
 {
     out.copy_from_slice(&blocks[plan.filler..]);
 }

@@ -93,11 +93,14 @@ fn is_reversed(number: u32, bits: &[Bit]) -> bool
     true
 }
 
-/// A law: under a polynomial with a first term, each block has one parity and no other, and so it has one attached form,
-/// which is longer by the number of parity bits.
+/// A law: under a polynomial with a first term, each block has one parity and no other, and so it has one attached
+/// form, which is longer by the number of parity bits.
 pub fn one_parity()
     ensures some { (low block : List Bit) → (parity : List Bit) × IsParity (One ∷ low) block parity }
-    ensures one { (low block parity other : List Bit) → IsParity (One ∷ low) block parity → IsParity (One ∷ low) block other → parity ≡ other }
-    ensures attached { (kind : Crc) (block out other : List Bit) → IsAttached kind block out → IsAttached kind block other → out ≡ other }
-    ensures length { (kind : Crc) (block out : List Bit) → IsAttached kind block out → length out ≡ length block + crc_size kind }
+    ensures one { (low block parity other : List Bit) → IsParity (One ∷ low) block parity →
+        IsParity (One ∷ low) block other → parity ≡ other }
+    ensures attached { (kind : Crc) (block out other : List Bit) → IsAttached kind block out →
+        IsAttached kind block other → out ≡ other }
+    ensures length { (kind : Crc) (block out : List Bit) → IsAttached kind block out →
+        length out ≡ length block + crc_size kind }
 {}

@@ -38,8 +38,8 @@ impl TtiCoder {
         })
     }
 
-    /// The coded bits of the transport blocks of a TTI, which stand one after another. Each gets its parity, and all are
-    /// joined, cut and coded (TS 25.212 4.2.1 to 4.2.3).
+    /// The coded bits of the transport blocks of a TTI, which stand one after another. Each gets its parity, and all
+    /// are joined, cut and coded (TS 25.212 4.2.1 to 4.2.3).
     pub fn code(&mut self, channel: &Trch, format: &Format, blocks: &[Bit], out: &mut [Bit])
         requires limit { tti_bits channel.now format.now ≤ 131072 }
         requires fits { tti_bits channel.now format.now ≤ self.old }

@@ -12,7 +12,8 @@ pub type Words = [u32; 1024];
 
 /// The parity of a block.
 pub fn parity_of_bits(words: &Words, bits: &[Bit]) -> u32
-    ensures { (terms : ℕ) → terms < 2 ^ 32 → AreWords terms words.now 1024 → HoldsParity 32 (2 ^ 32 + terms) bits.now result }
+    ensures { (terms : ℕ) → terms < 2 ^ 32 → AreWords terms words.now 1024 →
+        HoldsParity 32 (2 ^ 32 + terms) bits.now result }
 {
     let (front, rest) = bits.split_at(bits.len() % 32);
     after_bits(words, of_word(words, few_bits(front)), rest)
@@ -21,7 +22,8 @@ pub fn parity_of_bits(words: &Words, bits: &[Bit]) -> u32
 /// The register after these bits, 32 of them at a time.
 fn after_bits(words: &Words, register: u32, bits: &[Bit]) -> u32
     requires { length bits.now % 32 ≡ 0 }
-    ensures { (terms : ℕ) (a : List Bit) → terms < 2 ^ 32 → AreWords terms words.now 1024 → HoldsParity 32 (2 ^ 32 + terms) a register → HoldsParity 32 (2 ^ 32 + terms) (a ++ bits.now) result }
+    ensures { (terms : ℕ) (a : List Bit) → terms < 2 ^ 32 → AreWords terms words.now 1024 →
+        HoldsParity 32 (2 ^ 32 + terms) a register → HoldsParity 32 (2 ^ 32 + terms) (a ++ bits.now) result }
 {
     let mut register = register;
     for i in 0..bits.len() / 32 {
@@ -45,7 +47,8 @@ fn few_bits(bits: &[Bit]) -> u32
 
 /// The parity of octets, the highest bit of each first, after the octet `first`.
 pub fn parity_of_octets(words: &Words, first: u8, octets: &[u8]) -> u32
-    ensures { (terms : ℕ) → terms < 2 ^ 32 → AreWords terms words.now 1024 → HoldsParity 32 (2 ^ 32 + terms) (lowest_bits 8 first ++ bits_of_octets octets.now) result }
+    ensures { (terms : ℕ) → terms < 2 ^ 32 → AreWords terms words.now 1024 →
+        HoldsParity 32 (2 ^ 32 + terms) (lowest_bits 8 first ++ bits_of_octets octets.now) result }
 {
     let (front, rest) = octets.split_at(octets.len() % 4);
     after_octets(words, of_word(words, few_octets(first, front)), rest)
@@ -54,7 +57,9 @@ pub fn parity_of_octets(words: &Words, first: u8, octets: &[u8]) -> u32
 /// The register after these octets, four of them at a time.
 fn after_octets(words: &Words, register: u32, octets: &[u8]) -> u32
     requires { length octets.now % 4 ≡ 0 }
-    ensures { (terms : ℕ) (a : List Bit) → terms < 2 ^ 32 → AreWords terms words.now 1024 → HoldsParity 32 (2 ^ 32 + terms) a register → HoldsParity 32 (2 ^ 32 + terms) (a ++ bits_of_octets octets.now) result }
+    ensures { (terms : ℕ) (a : List Bit) → terms < 2 ^ 32 → AreWords terms words.now 1024 →
+        HoldsParity 32 (2 ^ 32 + terms) a register →
+        HoldsParity 32 (2 ^ 32 + terms) (a ++ bits_of_octets octets.now) result }
 {
     let mut register = register;
     for i in 0..octets.len() / 4 {

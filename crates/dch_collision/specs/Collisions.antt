@@ -12,7 +12,8 @@ pub record IsCollision (coding : Coding) (size filler : ℕ) (sent_flags : ℕ �
   pub first : IsBlock size filler a
   pub second : IsBlock size filler b
   pub differ : a ≢ b
-  pub agree : (t : ℕ) → t < coded_block coding size → 0 < sent_flags t → slice_index_or (coded_as coding a) t Zero ≡ slice_index_or (coded_as coding b) t Zero
+  pub agree : (t : ℕ) → t < coded_block coding size → 0 < sent_flags t → slice_index_or (coded_as coding a) t Zero
+      ≡ slice_index_or (coded_as coding b) t Zero
 
 -- no two blocks collide
 abbrev pub NoneCollide : Coding → ℕ → ℕ → (ℕ → ℕ) → Type 0
@@ -21,7 +22,8 @@ NoneCollide coding size filler sent_flags = (a b : List Bit) → IsCollision cod
 -- of the blocks that collide with the block of zeros, the first in text order
 pub record IsFirstCollision (coding : Coding) (size filler : ℕ) (sent_flags : ℕ → ℕ) (block : List Bit) : Type 0 where
   pub collides : IsCollision coding size filler sent_flags (replicate size Zero) block
-  pub first : (other : List Bit) → IsCollision coding size filler sent_flags (replicate size Zero) other → IsFirst block other
+  pub first : (other : List Bit) → IsCollision coding size filler sent_flags (replicate size Zero) other
+      → IsFirst block other
 
 -- one copy of each coded bit that is sent, and none of the others
 abbrev pub copies_kept : List Bool → ℕ → ℕ

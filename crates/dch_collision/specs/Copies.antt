@@ -26,8 +26,8 @@ padded_in side i f = padded (bits_in side i f) (channel_at side i).frames
 abbrev pub frame_copies : Uplink → ℕ → ℕ → ℕ → ℕ → ℕ
 frame_copies uplink i n c m = copies (uplink_pattern uplink.side c (frame_size uplink c) i n).kind m
 
--- the copies of coded bit j that the uplink sends, where radio frame n of the TTI is sent in combination n of a sequence: the
--- bit goes by padding and the first interleaver to a place of a radio frame
+-- the copies of coded bit j that the uplink sends, where radio frame n of the TTI is sent in combination n of a
+-- sequence: the bit goes by padding and the first interleaver to a place of a radio frame
 unfoldable pub uplink_copies : Uplink → ℕ → ℕ → List ℕ → ℕ → ℕ
 uplink_copies uplink i f sequence j =
     let frames = (channel_at uplink.side i).frames in

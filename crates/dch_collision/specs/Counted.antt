@@ -15,7 +15,8 @@ use Rattle.dch_collision.specs.Copies.{frame_size, bits_in}
 
 -- the code blocks of channel i in format f
 abbrev pub blocks_in : Side → ℕ → ℕ → ℕ
-blocks_in side i f = block_count (joined_bits (channel_at side i) (format_at (channel_at side i) f)) (channel_at side i).coding
+blocks_in side i f = block_count (joined_bits (channel_at side i) (format_at (channel_at side i) f))
+    (channel_at side i).coding
 
 -- uplink combination c removes bits of channel i: a radio frame sends fewer than there are
 abbrev pub removes : Uplink → ℕ → ℕ → Bool
@@ -40,10 +41,11 @@ abbrev pub downlink_punctures : Downlink → ℕ → ℕ → Bool
 downlink_punctures downlink i f =
     stands_below downlink.side i f (length downlink.side.combinations) && punctures_below (pattern_of downlink i f).kind (bits_in downlink.side i f)
 
--- the code blocks of an uplink format that are looked at for collisions, under each legal sequence: those of a format that
--- may lose bits
+-- the code blocks of an uplink format that are looked at for collisions, under each legal sequence: those of a format
+-- that may lose bits
 abbrev pub uplink_count : Uplink → ℕ → ℕ → ℕ
-uplink_count uplink i f = if uplink_punctures uplink i f then legal_count uplink.side i f * blocks_in uplink.side i f else 0
+uplink_count uplink i f = if uplink_punctures uplink i f then legal_count uplink.side i f * blocks_in uplink.side i f
+    else 0
 
 -- and of a downlink format, once for all sequences
 abbrev pub downlink_count : Downlink → ℕ → ℕ → ℕ

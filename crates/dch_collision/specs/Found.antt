@@ -13,7 +13,8 @@ use Rattle.dch_collision.specs.Clear.{block_copies, joined_in, Copies, IsClearBl
 
 -- a block is the first in text order that collides with the block of zeros in the place of code block r
 abbrev pub IsFirstInBlock : Coding → Plan → (ℕ → ℕ) → ℕ → List Bit → Type 0
-IsFirstInBlock coding plan sent r block = IsFirstCollision coding plan.size (filler_of plan r) (block_copies coding plan sent r) block
+IsFirstInBlock coding plan sent r block = IsFirstCollision coding plan.size (filler_of plan r)
+    (block_copies coding plan sent r) block
 
 -- and code block r is the first in which two blocks collide
 pub record IsFirstBlock (coding : Coding) (plan : Plan) (sent : ℕ → ℕ) (r : ℕ) (block : List Bit) : Type 0 where
@@ -24,7 +25,8 @@ pub record IsFirstBlock (coding : Coding) (plan : Plan) (sent : ℕ → ℕ) (r 
 -- and the sequence is the first legal one of channel i and format f under which two blocks collide
 pub record IsFirstInFormat (side : Side) (sent : Copies) (i f : ℕ) (sequence : List ℕ) (r : ℕ) (block : List Bit) : Type 0 where
   pub legal : IsLegal side i f sequence
-  pub here : IsFirstBlock (channel_at side i).coding (plan_of (joined_in side i f) (channel_at side i).coding) (sent i f sequence) r block
+  pub here : IsFirstBlock (channel_at side i).coding (plan_of (joined_in side i f) (channel_at side i).coding)
+      (sent i f sequence) r block
   pub before : (other : List ℕ) → IsLegal side i f other → IsBefore other sequence → IsClearUnder side sent i f other
 
 -- and f is the first such format of channel i

@@ -20,7 +20,8 @@ coding_of ThirdRate = Third
 pub record IsHidden (rate : Rate) (sent_flags : List Bool) (size k : ℕ) (block : List Bit) : Type 0 where
   pub shape : IsBlock size k block
   pub one : slice_index_or block k Zero ≡ One
-  pub silent : (t : ℕ) → t < coded_length rate size → slice_index_or sent_flags t false ≡ true → slice_index_or (encoded rate block) t Zero ≡ Zero
+  pub silent : (t : ℕ) → t < coded_length rate size → slice_index_or sent_flags t false ≡ true
+      → slice_index_or (encoded rate block) t Zero ≡ Zero
 
 -- and of those the first in text order
 pub record IsFirstHidden (rate : Rate) (sent_flags : List Bool) (size k : ℕ) (block : List Bit) : Type 0 where
@@ -39,7 +40,8 @@ vote_for low high false = record { zeros = 0; ones = high }
 
 -- such a vote for each coded bit
 abbrev pub AreVotes : ℕ → ℕ → List Bool → List Vote → Type 0
-AreVotes low high sent_flags votes = (t : ℕ) → t < length sent_flags → slice_index_or votes t no_votes ≡ vote_for low high (slice_index_or sent_flags t false)
+AreVotes low high sent_flags votes = (t : ℕ) → t < length sent_flags → slice_index_or votes t no_votes
+    ≡ vote_for low high (slice_index_or sent_flags t false)
 
 -- how many coded bits are not sent
 abbrev pub missing : Bool → ℕ

@@ -4,8 +4,8 @@ use Rattle.dch_types.specs.declared.channel.Side.{Side}
 use Rattle.dch_collision.specs.Sequences.{IsLegal}
 use Rattle.dch_collision.specs.Copies.{bits_in}
 
--- under some legal sequence of combinations a coded bit of channel i in format f has no copy, where `sent` tells the copies of
--- each bit in a direction; the padding of a TTI is no coded bit
+-- under some legal sequence of combinations a coded bit of channel i in format f has no copy, where `sent` tells the
+-- copies of each bit in a direction; the padding of a TTI is no coded bit
 pub record IsPunctured (side : Side) (sent : ℕ → ℕ → List ℕ → ℕ → ℕ) (i f : ℕ) : Type 0 where
   pub sequence : List ℕ
   pub legal : IsLegal side i f sequence

@@ -26,7 +26,8 @@ pub record IsList (side : Side) (i : ℕ) (sequence : List ℕ) : Type 0 where
 
 -- the test tells the legal sequences
 abbrev pub TellsLegal : Side → ℕ → ℕ → Type 0
-TellsLegal side i f = (sequence : List ℕ) → IsList side i sequence → IsTrue (is_legal side i f sequence) ↔ IsLegal side i f sequence
+TellsLegal side i f = (sequence : List ℕ) → IsList side i sequence
+    → IsTrue (is_legal side i f sequence) ↔ IsLegal side i f sequence
 
 -- the number of legal sequences of channel i and format f
 abbrev pub legal_count : Side → ℕ → ℕ → ℕ

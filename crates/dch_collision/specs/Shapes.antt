@@ -38,7 +38,8 @@ block_of hit room = take hit.size room
 
 -- a collision in channel i and format f under a sequence, in the first code block that has one
 abbrev pub IsFirstUnder : Side → Copies → ℕ → ℕ → List ℕ → ℕ → List Bit → Type 0
-IsFirstUnder side sent i f sequence r block = IsFirstBlock (channel_at side i).coding (plan_of (joined_in side i f) (channel_at side i).coding) (sent i f sequence) r block
+IsFirstUnder side sent i f sequence r block = IsFirstBlock (channel_at side i).coding (plan_of (joined_in side i f)
+    (channel_at side i).coding) (sent i f sequence) r block
 
 -- and under the first legal sequence that has one
 pub record IsCollisionInFormat (side : Side) (sent : Copies) (i f : ℕ) (sequence : List ℕ) (room : List Bit) (hit : FormatCollision) : Type 0 where

@@ -11,8 +11,8 @@ use dch_bits::Bit;
 use dch_coding::Plan;
 use dch_types::Coding;
 
-/// The first code block of a format in whose place two blocks collide, where the flags tell which coded bits are sent. The first
-/// block in text order that collides with zeros is left at the front of `block`.
+/// The first code block of a format in whose place two blocks collide, where the flags tell which coded bits are sent.
+/// The first block in text order that collides with zeros is left at the front of `block`.
 pub(crate) fn first_collision(
     collider: &mut Collider,
     shape: &Shape,
@@ -33,8 +33,8 @@ pub(crate) fn first_collision(
     first_block(collider, shape.coding, &shape.plan, sent_flags, block)
 }
 
-/// The first code block of a TTI in whose place two blocks collide, where the flags tell which coded bits are sent. The first
-/// block in text order that collides with zeros is left at the front of `block`.
+/// The first code block of a TTI in whose place two blocks collide, where the flags tell which coded bits are sent. The
+/// first block in text order that collides with zeros is left at the front of `block`.
 fn first_block(
     collider: &mut Collider,
     coding: Coding,

@@ -23,7 +23,8 @@ pub fn find_coded(
     requires filler { filler ≤ length out.old }
     requires coded { length sent_flags.now ≡ coded_length rate (length out.old) }
     requires votes { length sent_flags.now ≤ length votes.old }
-    ensures found { result ≡ true → IsFirstCollision (coding_of rate) (length out.old) filler (copies_kept sent_flags.now) out.new }
+    ensures found { result ≡ true → IsFirstCollision (coding_of rate)
+        (length out.old) filler (copies_kept sent_flags.now) out.new }
     ensures none { result ≡ false → NoneCollide (coding_of rate) (length out.old) filler (copies_kept sent_flags.now) }
     ensures same { trellis.new ≡ trellis.old }
 {
@@ -38,7 +39,8 @@ pub fn find_coded(
 }
 
 /// Whether some block may look like zeros. A sent bit votes for Zero with more weight than all lost bits have together,
-/// and a lost bit votes for One. Zeros cost as much as there are lost bits, and a block that looks like them costs less.
+/// and a lost bit votes for One. Zeros cost as much as there are lost bits, and a block that looks like them costs
+/// less.
 fn may_collide(
     trellis: &mut Trellis,
     rate: Rate,
@@ -102,7 +104,8 @@ fn last_start(
     requires filler { filler ≤ length out.old }
     requires coded { length sent_flags.now ≡ coded_length rate (length out.old) }
     requires votes { length votes.old ≡ length sent_flags.now }
-    ensures found { result ≡ true → IsFirstCollision (coding_of rate) (length out.old) filler (copies_kept sent_flags.now) out.new }
+    ensures found { result ≡ true → IsFirstCollision (coding_of rate)
+        (length out.old) filler (copies_kept sent_flags.now) out.new }
     ensures none { result ≡ false → NoneCollide (coding_of rate) (length out.old) filler (copies_kept sent_flags.now) }
     ensures same { trellis.new ≡ trellis.old }
 {
@@ -115,8 +118,8 @@ fn last_start(
     false
 }
 
-/// Whether a block with its first One at bit `k` is not shown from zeros; `out` becomes the first such block. All outputs
-/// of that step are the bit itself, so none is sent, and a vote asks for a One in the first.
+/// Whether a block with its first One at bit `k` is not shown from zeros; `out` becomes the first such block. All
+/// outputs of that step are the bit itself, so none is sent, and a vote asks for a One in the first.
 fn starts(
     trellis: &mut Trellis,
     rate: Rate,

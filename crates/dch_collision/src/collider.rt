@@ -14,8 +14,8 @@ use dch_types::Coding;
 use std::alloc::Global;
 use std::marker::Model;
 
-/// The memory of the search for code blocks that no receiver can tell apart, for blocks that are coded and have up to so many
-/// bits. Contracts see that number.
+/// The memory of the search for code blocks that no receiver can tell apart, for blocks that are coded and have up to
+/// so many bits. Contracts see that number.
 #[derive(Drop)]
 pub struct Collider {
     trellis: Trellis,
@@ -44,9 +44,9 @@ impl Collider {
         })
     }
 
-    /// Whether two different code blocks of the length of `out`, with so many zeros of filler in front, have equal coded
-    /// bits wherever `sent_flags` tells that a copy is sent (TS 25.212 4.2.3 and 4.2.7). If so, `out` becomes the first block
-    /// in text order, 0 before 1, that collides with the block of zeros; otherwise it holds no answer.
+    /// Whether two different code blocks of the length of `out`, with so many zeros of filler in front, have equal
+    /// coded bits wherever `sent_flags` tells that a copy is sent (TS 25.212 4.2.3 and 4.2.7). If so, `out` becomes the
+    /// first block in text order, 0 before 1, that collides with the block of zeros; otherwise it holds no answer.
     pub fn find(
         &mut self,
         coding: Coding,
@@ -58,7 +58,8 @@ impl Collider {
         requires fits { coding ≢ Uncoded → length out.old ≤ self.old }
         requires filler { filler ≤ length out.old }
         requires coded { length sent_flags.now ≡ coded_block coding (length out.old) }
-        ensures found { result ≡ true → IsFirstCollision coding (length out.old) filler (copies_kept sent_flags.now) out.new }
+        ensures found { result ≡ true →
+            IsFirstCollision coding (length out.old) filler (copies_kept sent_flags.now) out.new }
         ensures none { result ≡ false → NoneCollide coding (length out.old) filler (copies_kept sent_flags.now) }
         ensures kept { self.new ≡ self.old }
     {
@@ -75,8 +76,10 @@ impl Collider {
         requires fits { length out.old ≤ self.old }
         requires filler { filler ≤ length out.old }
         requires coded { length sent_flags.now ≡ coded_length rate (length out.old) }
-        ensures found { result ≡ true → IsFirstCollision (coding_of rate) (length out.old) filler (copies_kept sent_flags.now) out.new }
-        ensures none { result ≡ false → NoneCollide (coding_of rate) (length out.old) filler (copies_kept sent_flags.now) }
+        ensures found { result ≡ true → IsFirstCollision (coding_of rate)
+            (length out.old) filler (copies_kept sent_flags.now) out.new }
+        ensures none { result ≡ false → NoneCollide (coding_of rate)
+            (length out.old) filler (copies_kept sent_flags.now) }
         ensures kept { self.new ≡ self.old }
     {
         find_coded(

@@ -10,8 +10,8 @@ use crate::puncturing::{downlink_punctures, uplink_punctures};
 use dch_frame::{DownlinkPlan, UplinkPlan};
 use dch_types::{Downlink, Side, Uplink};
 
-/// How many code blocks may lose bits by rate matching. A block of the uplink counts once for each legal sequence of its
-/// channel and format, which are not listed for that; a block of the downlink counts once.
+/// How many code blocks may lose bits by rate matching. A block of the uplink counts once for each legal sequence of
+/// its channel and format, which are not listed for that; a block of the downlink counts once.
 pub fn count(
     uplink: &Uplink,
     plans: &[UplinkPlan],

@@ -53,9 +53,11 @@ impl<'a> Direction<'a> {
         requires channel { i < length (side_in self).channels }
         requires format { f < length (channel_at (side_in self) i).formats }
         requires room { length sequence.old ≡ frames_of (side_in self) i }
-        requires fits { Holds room.old (format_room (channel_at (side_in self) i) (format_at (channel_at (side_in self) i) f)) }
+        requires fits { Holds room.old (format_room (channel_at (side_in self) i)
+            (format_at (channel_at (side_in self) i) f)) }
         requires block { length block.old ≡ room.old.bits }
-        ensures some { IfSome result (λ hit. IsCollisionInFormat (side_in self.entry) (copies_in self.entry) i f sequence.new block.new hit) }
+        ensures some { IfSome result (λ hit. IsCollisionInFormat (side_in self.entry)
+            (copies_in self.entry) i f sequence.new block.new hit) }
         ensures none { result ≡ None → IsClearFormat (side_in self.entry) (copies_in self.entry) i f }
         ensures kept { room.new ≡ room.old }
     {

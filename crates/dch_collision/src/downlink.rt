@@ -36,7 +36,8 @@ pub(crate) fn first_in_format(
     requires channel { i < length config.now.side.channels }
     requires format { f < length (channel_at config.now.side i).formats }
     requires room { length sequence.old ≡ frames_of config.now.side i }
-    requires fits { Holds room.old (format_room (channel_at config.now.side i) (format_at (channel_at config.now.side i) f)) }
+    requires fits { Holds room.old (format_room (channel_at config.now.side i)
+        (format_at (channel_at config.now.side i) f)) }
     requires block { length block.old ≡ room.old.bits }
     ensures some { IfSome result (λ hit. IsCollisionInFormat config.now.side (downlink_copies config.now) i f sequence.new block.new hit) }
     ensures none { result ≡ None → IsClearFormat config.now.side (downlink_copies config.now) i f }
@@ -83,8 +84,10 @@ fn removed(
     requires fits { shape.now.coding ≢ Uncoded → shape.now.plan.size ≤ collider.old }
     requires sent_flags { shape.now.padded ≤ length sent_flags.old }
     requires block { shape.now.padded ≤ length block.old }
-    ensures some { IfSome result (λ r. (sequence : List ℕ) → IsFirstUnder config.now.side (downlink_copies config.now) i f sequence r (take shape.now.plan.size block.new)) }
-    ensures none { result ≡ None → (sequence : List ℕ) → IsClearUnder config.now.side (downlink_copies config.now) i f sequence }
+    ensures some { IfSome result (λ r. (sequence : List ℕ) →
+        IsFirstUnder config.now.side (downlink_copies config.now) i f sequence r (take shape.now.plan.size block.new)) }
+    ensures none { result ≡ None → (sequence : List ℕ) →
+        IsClearUnder config.now.side (downlink_copies config.now) i f sequence }
     ensures kept { collider.new ≡ collider.old }
 {
     flag(config, plan, i, f, shape, sent_flags);
@@ -105,7 +108,8 @@ fn flag(
     requires format { f < length (channel_at config.now.side i).formats }
     requires shape { IsShape config.now.side i f shape.now }
     requires room { shape.now.padded ≤ length sent_flags.old }
-    ensures { (sequence : List ℕ) → AreSentFlags (downlink_copies config.now i f sequence) (take shape.now.bits sent_flags.new) }
+    ensures { (sequence : List ℕ) → AreSentFlags (downlink_copies config.now i f sequence)
+        (take shape.now.bits sent_flags.new) }
 {
     let sent_flags = &mut sent_flags[..shape.bits];
     downlink_sent_flags(config, plan, i, f, sent_flags);

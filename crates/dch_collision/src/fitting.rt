@@ -26,7 +26,8 @@ pub(crate) fn frames(side: &Side, i: usize) -> usize
     usize::from(side.channels.as_slice()[i].frames)
 }
 
-/// Whether channel `i` may have its format of a combination in a radio frame: a TTI of the channel starts, or the format stays.
+/// Whether channel `i` may have its format of a combination in a radio frame: a TTI of the channel starts, or the
+/// format stays.
 fn stays(side: &Side, frame: usize, previous: usize, combination: usize, i: usize) -> bool
     requires good { IsSide side.now }
     requires previous { previous < length side.now.combinations }

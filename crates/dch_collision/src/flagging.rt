@@ -11,7 +11,8 @@ ghost use Rattle.dch_collision.specs.Copies.{bits_in, padded_in, frame_copies, u
 use dch_frame::{DownlinkPlan, Pattern, UplinkPlan, Walk, frame, put_segment};
 use dch_types::{Downlink, Uplink};
 
-/// Which coded bits of a TTI of an uplink channel are sent at least once under a legal sequence, and which places of padding.
+/// Which coded bits of a TTI of an uplink channel are sent at least once under a legal sequence, and which places of
+/// padding.
 /// `segment` is room for the bits of a radio frame.
 pub fn uplink_sent_flags(
     config: &Uplink,

@@ -6,8 +6,8 @@ use dch_bits::{Bit, NoMemory};
 use dch_types::Sequence;
 use std::alloc::Global;
 
-/// A collision of code blocks: that of the block of zeros and `second`, in a format of a channel, under a legal sequence of
-/// combinations, in the place of a code block of the TTI.
+/// A collision of code blocks: that of the block of zeros and `second`, in a format of a channel, under a legal
+/// sequence of combinations, in the place of a code block of the TTI.
 #[derive(Drop)]
 pub struct Found {
     pub channel: u8,

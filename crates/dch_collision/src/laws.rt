@@ -6,7 +6,8 @@ ghost use Rattle.dch_collision.specs.Copies.{uplink_copies, downlink_copies};
 ghost use Rattle.dch_collision.specs.Counted.{uplink_punctures, downlink_punctures};
 ghost use Rattle.dch_collision.specs.Removed.{IsPunctured};
 
-/// A law: the formats whose code blocks are counted are those of which some legal sequence of combinations removes a coded bit.
+/// A law: the formats whose code blocks are counted are those of which some legal sequence of combinations removes a
+/// coded bit.
 pub fn counted_formats()
     ensures uplink { (uplink : Uplink) (i f : ℕ) → IsUplink uplink → i < length uplink.side.channels →
         IsTrue (uplink_punctures uplink i f) ↔ IsPunctured uplink.side (uplink_copies uplink) i f }

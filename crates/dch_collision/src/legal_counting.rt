@@ -6,8 +6,8 @@ ghost use Rattle.dch_collision.specs.SequenceCounts.{legal_count, TellsLegal, Ar
 use crate::fitting::{fits, frames};
 use dch_types::Side;
 
-/// How many legal sequences a channel and format have, at most 2^56. They are counted without a list: from the last radio frame
-/// to the first, each combination gets the number of ways in which a sequence may go on after it.
+/// How many legal sequences a channel and format have, at most 2^56. They are counted without a list: from the last
+/// radio frame to the first, each combination gets the number of ways in which a sequence may go on after it.
 pub fn count(side: &Side, channel: u8, format: u8) -> u64
     requires good { IsSide side.now }
     requires channel { channel < length side.now.channels }

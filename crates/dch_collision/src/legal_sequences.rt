@@ -7,8 +7,9 @@ ghost use Rattle.dch_collision.specs.Steps.{NoneFits, IsLeastFit, previous_of, L
 use crate::fitting::{least, least_after};
 use dch_types::Side;
 
-/// The first legal sequence of a channel and format, in the order of lists of numbers. It is written to `out`, which has a place
-/// for each radio frame of 10 ms of the channel's TTI. Where there is no legal sequence the answer is false, and `out` stays.
+/// The first legal sequence of a channel and format, in the order of lists of numbers. It is written to `out`, which
+/// has a place for each radio frame of 10 ms of the channel's TTI. Where there is no legal sequence the answer is
+/// false, and `out` stays.
 pub fn first(side: &Side, channel: u8, format: u8, out: &mut [u16]) -> bool
     requires good { IsSide side.now }
     requires channel { channel < length side.now.channels }
@@ -27,13 +28,15 @@ pub fn first(side: &Side, channel: u8, format: u8, out: &mut [u16]) -> bool
     }
 }
 
-/// The next legal sequence after this one, in its place. After the last one the answer is false, and the sequence stays.
+/// The next legal sequence after this one, in its place. After the last one the answer is false, and the sequence
+/// stays.
 pub fn next(side: &Side, channel: u8, format: u8, sequence: &mut [u16]) -> bool
     requires good { IsSide side.now }
     requires channel { channel < length side.now.channels }
     requires legal { IsLegal side.now channel format sequence.old }
     ensures found { IsTrue result → IsNext side.now channel format sequence.old sequence.new }
-    ensures last { result ≡ false → (other : List ℕ) → IsLegal side.now channel format other → ¬ IsBefore sequence.old other }
+    ensures last { result ≡ false → (other : List ℕ) → IsLegal side.now channel format other →
+        ¬ IsBefore sequence.old other }
     ensures same { result ≡ false → sequence.new ≡ sequence.old }
 {
     match find_turn(side, channel, format, sequence) {
@@ -79,8 +82,10 @@ fn greater(side: &Side, channel: u8, format: u8, sequence: &[u16], frame: usize)
     requires channel { channel < length side.now.channels }
     requires legal { IsLegal side.now channel format sequence.now }
     requires frame { frame < length sequence.now }
-    ensures some { IfSome result (λ c. IsLeastFit side.now channel format frame (previous_of sequence.now frame) (slice_index sequence.now frame + 1) c) }
-    ensures none { result ≡ None → NoneFits side.now channel format frame (previous_of sequence.now frame) (slice_index sequence.now frame + 1) }
+    ensures some { IfSome result (λ c. IsLeastFit side.now channel format frame (previous_of sequence.now frame)
+        (slice_index sequence.now frame + 1) c) }
+    ensures none { result ≡ None → NoneFits side.now channel format frame (previous_of sequence.now frame)
+        (slice_index sequence.now frame + 1) }
 {
     let previous = match frame {
         0 => 0,

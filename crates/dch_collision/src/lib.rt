@@ -1,6 +1,6 @@
-//! What rate matching leaves of code blocks (TS 25.212 4.2.7) under the legal sequences of combinations (TS 25.302 7.1): which coded bits are sent at
-//! least once, how many code blocks may lose bits, and the first two code blocks of a direction that are sent alike. All memory but that of the
-//! answer is taken at opening.
+//! What rate matching leaves of code blocks (TS 25.212 4.2.7) under the legal sequences of combinations (TS 25.302
+//! 7.1): which coded bits are sent at least once, how many code blocks may lose bits, and the first two code blocks of
+//! a direction that are sent alike. All memory but that of the answer is taken at opening.
 #![tactic(auto)]
 
 mod blocks;

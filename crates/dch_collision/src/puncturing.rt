@@ -9,8 +9,8 @@ ghost use Rattle.dch_collision.specs.Counted.{removes, punctures_below, uplink_p
 use dch_frame::{DownlinkPlan, Pattern, UplinkPlan, is_used, kept};
 use dch_types::{Downlink, Uplink};
 
-/// Whether some legal sequence of the uplink removes bits of a channel in a format: where a combination with that format sends
-/// fewer bits in a radio frame than there are.
+/// Whether some legal sequence of the uplink removes bits of a channel in a format: where a combination with that
+/// format sends fewer bits in a radio frame than there are.
 pub fn uplink_punctures(config: &Uplink, plans: &[UplinkPlan], i: u8, f: u8) -> bool
     requires good { IsUplink config.now }
     requires plans { AreAllPlans config.now plans.now }

@@ -66,8 +66,9 @@ impl Search {
         Ok(Search { room, block })
     }
 
-    /// The first collision in a direction: by channel, format, legal sequence of combinations, and code block. `None` where no
-    /// two code blocks collide under any legal sequence. In the downlink all legal sequences of a format remove the same bits.
+    /// The first collision in a direction: by channel, format, legal sequence of combinations, and code block. `None`
+    /// where no two code blocks collide under any legal sequence. In the downlink all legal sequences of a format
+    /// remove the same bits.
     pub fn find(
         &mut self,
         alloc: Global,
@@ -119,7 +120,8 @@ fn first_in_channel(
     requires channel { i < length (side_in direction).channels }
     requires room { length sequence.old ≡ frames_of (side_in direction) i }
     requires block { length block.old ≡ room.old.bits }
-    ensures some { IfSome result (λ hit. IsCollisionInChannel (side_in direction.entry) (copies_in direction.entry) i sequence.new block.new hit) }
+    ensures some { IfSome result (λ hit. IsCollisionInChannel (side_in direction.entry)
+        (copies_in direction.entry) i sequence.new block.new hit) }
     ensures none { result ≡ None → IsClearChannel (side_in direction.entry) (copies_in direction.entry) i }
     ensures kept { room.new ≡ room.old }
 {

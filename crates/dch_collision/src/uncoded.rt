@@ -10,7 +10,8 @@ use dch_bits::Bit;
 pub fn find_uncoded(filler: usize, sent_flags: &[bool], out: &mut [Bit]) -> bool
     requires filler { filler ≤ length out.old }
     requires coded { length sent_flags.now ≡ length out.old }
-    ensures found { result ≡ true → IsFirstCollision Uncoded (length out.old) filler (copies_kept sent_flags.now) out.new }
+    ensures found { result ≡ true →
+        IsFirstCollision Uncoded (length out.old) filler (copies_kept sent_flags.now) out.new }
     ensures none { result ≡ false → NoneCollide Uncoded (length out.old) filler (copies_kept sent_flags.now) }
 {
     let size = out.len();

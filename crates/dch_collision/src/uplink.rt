@@ -34,7 +34,8 @@ pub(crate) fn first_in_format(
     requires channel { i < length config.now.side.channels }
     requires format { f < length (channel_at config.now.side i).formats }
     requires room { length sequence.old ≡ frames_of config.now.side i }
-    requires fits { Holds room.old (format_room (channel_at config.now.side i) (format_at (channel_at config.now.side i) f)) }
+    requires fits { Holds room.old (format_room (channel_at config.now.side i)
+        (format_at (channel_at config.now.side i) f)) }
     requires block { length block.old ≡ room.old.bits }
     ensures some { IfSome result (λ hit. IsCollisionInFormat config.now.side (uplink_copies config.now) i f sequence.new block.new hit) }
     ensures none { result ≡ None → IsClearFormat config.now.side (uplink_copies config.now) i f }

@@ -1,4 +1,5 @@
--- How the frames of the legs become one frame in soft handover: channel by channel, and there block by block, by the marks of the blocks.
+-- How the frames of the legs become one frame in soft handover: channel by channel, and there block by block, by the
+-- marks of the blocks.
 use Rattle.std.specs.Prelude.{◌≡◌, ◌<◌, ◌≤◌, ◌⊎◌, ℕ, List, Option, Some, IsSome, true, false, length, slice_index, slice_index_or}
 use Rattle.dch_types.specs.declared.channel.Dir.TheVariants.{Up}
 use Rattle.dch_types.specs.declared.config.Config.{Config}
@@ -52,7 +53,8 @@ pub record IsBadOne (legs : ℕ → Option LegFrame) (i lead b : ℕ) (new : Hel
 abbrev pub IsCombinedBlock : (ℕ → Option LegFrame) → ℕ → ℕ → ℕ → Held → Type 0
 IsCombinedBlock legs i lead b new = IsGoodOne legs i b new ⊎ IsBadOne legs i lead b new
 
--- the combined blocks of channel i: their format, which says how many they are and of which size, is that of the leading leg
+-- the combined blocks of channel i: their format, which says how many they are and of which size, is that of the
+-- leading leg
 pub record IsCombinedTti (legs : ℕ → Option LegFrame) (i : ℕ) (new : Held) : Type 0 where
   pub lead : ℕ
   pub leading : IsLeading legs i lead
@@ -67,7 +69,8 @@ pub record IsBest (legs : ℕ → Option LegFrame) (qe : ℕ) : Type 0 where
   pub reached : frame.qe ≡ qe
   pub least : (k : ℕ) (other : LegFrame) → legs k ≡ Some other → qe ≤ other.qe
 
--- the combined frame of a set: the Iub frame that is written of the combined blocks, their marks, the best quality estimate and a CFN
+-- the combined frame of a set: the Iub frame that is written of the combined blocks, their marks, the best quality
+-- estimate and a CFN
 pub record IsCombinedFrame (config : Config) (set : ℕ) (legs : ℕ → Option LegFrame) (cfn : ℕ) (frame : List ℕ) : Type 0 where
   pub held : HeldSet
   pub qe : ℕ

@@ -3,7 +3,8 @@ use Rattle.std.specs.Prelude.{ℕ, [], Option, Some, None}
 use Rattle.dch_accept.specs.Blocks.{Held}
 use Rattle.dch_accept.specs.HeldSets.{HeldSet, held_at}
 
--- what a frame carries: the blocks of each channel of the set with their marks, and the quality estimate, of which less is better
+-- what a frame carries: the blocks of each channel of the set with their marks, and the quality estimate, of which less
+-- is better
 pub record LegFrame : Type 0 where
   pub held : HeldSet
   pub qe : ℕ

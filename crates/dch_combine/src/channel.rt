@@ -15,8 +15,8 @@ use crate::legs::{first_good_block, leading};
 use dch_accept::{Accepted, SetBlocks, TtiBlocks};
 use dch_types::Dir;
 
-/// Combines block `b` of a channel: it is that of the lowest leg in the format of the leading leg whose block `b` is good, and else
-/// that of the leading leg, and bad.
+/// Combines block `b` of a channel: it is that of the lowest leg in the format of the leading leg whose block `b` is
+/// good, and else that of the leading leg, and bad.
 fn combine_block(
     accepted: &Accepted,
     legs: &[LegBuffer],

@@ -16,8 +16,8 @@ use std::marker::Model;
 /// How many sets there may be in a direction.
 const SETS: u8 = 8;
 
-/// What combines the uplink Iub frames of the legs of a soft handover, its Node Bs, to one frame of each set and TTI. All its memory
-/// is taken at opening.
+/// What combines the uplink Iub frames of the legs of a soft handover, its Node Bs, to one frame of each set and TTI.
+/// All its memory is taken at opening.
 #[derive(Drop)]
 pub struct Combiner {
     legs: u8,
@@ -49,8 +49,8 @@ impl Combiner {
         })
     }
 
-    /// Takes the frame of a leg for a set, in the TTI that starts at a CFN. A later frame of the leg replaces the earlier one. One
-    /// that is refused changes nothing (TS 25.427 6.2).
+    /// Takes the frame of a leg for a set, in the TTI that starts at a CFN. A later frame of the leg replaces the
+    /// earlier one. One that is refused changes nothing (TS 25.427 6.2).
     pub fn take(
         &mut self,
         accepted: &Accepted,
@@ -62,7 +62,8 @@ impl Combiner {
         requires opened { IsCombinerOf accepted.now self.old }
         requires set { has_set accepted.now.config.uplink.side set ≡ true }
         requires leg { leg < self.old.legs }
-        ensures ok { OnOk result (TakesLeg accepted.now.config set leg cfn frame.now (frames_of self.old set) (frames_of self.new set)) }
+        ensures ok { OnOk result (TakesLeg accepted.now.config set leg cfn frame.now (frames_of self.old set)
+            (frames_of self.new set)) }
         ensures err { IfErr result (IsRefusal accepted.now.config set cfn frame.now) }
         ensures same { OnErr result ((k : ℕ) → frames_of self.new set k ≡ frames_of self.old set k) }
         ensures others { (s k : ℕ) → s ≢ set → frames_of self.new s k ≡ frames_of self.old s k }
@@ -72,9 +73,9 @@ impl Combiner {
         self.sets[index_of(accepted, set)].take(accepted, set, leg, cfn, frame)
     }
 
-    /// Writes the frame that the frames taken for a set become to the front of `out`, with the CFN at which their TTI starts, and
-    /// answers how many octets it has. It is none where no frame was taken since the set was given the last time. No leg has a frame
-    /// of the set any more (TS 25.427 6.2).
+    /// Writes the frame that the frames taken for a set become to the front of `out`, with the CFN at which their TTI
+    /// starts, and answers how many octets it has. It is none where no frame was taken since the set was given the last
+    /// time. No leg has a frame of the set any more (TS 25.427 6.2).
     pub fn give(&mut self, accepted: &Accepted, set: u8, cfn: u8, out: &mut [u8]) -> Option<usize>
         requires opened { IsCombinerOf accepted.now self.old }
         requires set { has_set accepted.now.config.uplink.side set ≡ true }

@@ -13,9 +13,10 @@ pub fn one_frame_law()
         IsCombinedFrame config set legs cfn frame → IsCombinedFrame config set legs cfn other → other ≡ frame }
 {}
 
-/// A law: where one leg has all blocks of a channel that were sent, and each good block of any leg is the one that was sent at its
-/// place and in its format, the good blocks of the combined frame are just those that were sent.
+/// A law: where one leg has all blocks of a channel that were sent, and each good block of any leg is the one that was
+/// sent at its place and in its format, the good blocks of the combined frame are just those that were sent.
 pub fn sent_blocks_law()
-    ensures { (channel : Trch) (legs : ℕ → Option LegFrame) (i leg : ℕ) (sent new : Held) → HasFormat channel sent → HasFormat channel new →
+    ensures { (channel : Trch) (legs : ℕ → Option LegFrame) (i leg : ℕ) (sent new : Held) → HasFormat channel sent →
+        HasFormat channel new →
         IsCombinedTti legs i new → AreSent legs i sent → HasAll sent (blocks_in (legs leg) i) → TakesSent sent new }
 {}

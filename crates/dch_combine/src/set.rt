@@ -60,7 +60,8 @@ impl SetCombiner {
     ) -> Result<(), CombineError>
         requires opened { IsSetCombinerOf accepted.now.config set (length self.old.legs) self.old }
         requires leg { leg < length self.old.legs }
-        ensures ok { OnOk result (TakesLeg accepted.now.config set leg cfn frame.now (frames_in self.old.legs) (frames_in self.new.legs)) }
+        ensures ok { OnOk result (TakesLeg accepted.now.config set leg cfn frame.now (frames_in self.old.legs)
+            (frames_in self.new.legs)) }
         ensures err { IfErr result (IsRefusal accepted.now.config set cfn frame.now) }
         ensures same { OnErr result (self.new.legs ≡ self.old.legs) }
         ensures opened { IsSetCombinerOf accepted.now.config set (length self.old.legs) self.new }
@@ -76,8 +77,8 @@ impl SetCombiner {
         Ok(())
     }
 
-    /// Writes the frame that the legs' frames become to the front of `out`, with a CFN, and answers how many octets it has, or that
-    /// no leg has a frame. No leg has one any more.
+    /// Writes the frame that the legs' frames become to the front of `out`, with a CFN, and answers how many octets it
+    /// has, or that no leg has a frame. No leg has one any more.
     pub fn give(
         &mut self,
         accepted: &Accepted,

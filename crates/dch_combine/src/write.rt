@@ -8,7 +8,8 @@ use dch_accept::{Accepted, SetBlocks};
 use dch_iub::{frame_len, write_ul};
 use dch_types::Dir;
 
-/// Writes the uplink Iub frame of a set's blocks to the front of `out`, and answers how many octets it has (TS 25.427 6.2).
+/// Writes the uplink Iub frame of a set's blocks to the front of `out`, and answers how many octets it has (TS 25.427
+/// 6.2).
 pub fn write_frame(
     accepted: &Accepted,
     set: u8,

@@ -1,4 +1,5 @@
--- Whether a configuration can follow another one while the channel runs: each bearer goes on as it is, over whatever channels.
+-- Whether a configuration can follow another one while the channel runs: each bearer goes on as it is, over whatever
+-- channels.
 use Rattle.std.specs.Prelude.{◌≡◌, ◌<◌, ◌↔◌, ◌-◌, ◌/◌, ◌==◌, ◌&&◌, ℕ, List, [], Bool, not, if◌then◌else◌, length, Option, Some, None, is_some, Result, Ok, Err}
 use Rattle.std.specs.List.{list_any}
 use Rattle.std.specs.Option.{option_map_or}
@@ -33,7 +34,8 @@ bearer_formats config dir bearer = formats_on config dir (channel_number dir bea
 -- the octets of its PDUs, each of which is a block behind the C/T field; 0 where it sends no block
 abbrev pub pdu_octets : Config → Dir → Bearer → ℕ
 pdu_octets config dir bearer =
-    option_map_or (λ size. (size - ct_bits config dir (channel_number dir bearer)) / 8) (first_size (bearer_formats config dir bearer)) 0
+    option_map_or (λ size. (size - ct_bits config dir (channel_number dir bearer)) / 8)
+    (first_size (bearer_formats config dir bearer)) 0
 
 -- blocks of this size are sent in some format
 abbrev pub sends_size : List Format → ℕ → Bool
@@ -43,9 +45,11 @@ sends_size formats size = list_any (λ format. not (is_idle format) && format.si
 abbrev pub HaveSameSizes : List Format → List Format → Type 0
 HaveSameSizes formats others = (size : ℕ) → sends_size formats size ≡ sends_size others size
 
--- what a bearer of a mode sends in a direction is alike: blocks of the same sizes in transparent mode, and otherwise PDUs of the same octets
+-- what a bearer of a mode sends in a direction is alike: blocks of the same sizes in transparent mode, and otherwise
+-- PDUs of the same octets
 abbrev pub SendsAlike : Mode → Config → Config → Dir → Bearer → Bearer → Type 0
-SendsAlike Tm first second dir one other = HaveSameSizes (bearer_formats first dir one) (bearer_formats second dir other)
+SendsAlike Tm first second dir one other = HaveSameSizes (bearer_formats first dir one)
+    (bearer_formats second dir other)
 SendsAlike Um first second dir one other = pdu_octets first dir one ≡ pdu_octets second dir other
 SendsAlike Am first second dir one other = pdu_octets first dir one ≡ pdu_octets second dir other
 
@@ -57,8 +61,8 @@ pub record AreAlike (one other : Bearer) : Type 0 where
   pub buffer : one.buffer ≡ other.buffer
   pub rules : one.rules ≡ other.rules
 
--- a bearer of the first configuration goes on as one of the second: its mode, its directions, its buffer, its rules and what it sends stay;
--- its channels, their other bearers, its logical channel and its priority may be others
+-- a bearer of the first configuration goes on as one of the second: its mode, its directions, its buffer, its rules and
+-- what it sends stay; its channels, their other bearers, its logical channel and its priority may be others
 pub record GoesOnAs (first second : Config) (one other : Bearer) : Type 0 where
   pub alike : AreAlike one other
   pub sends_up : SendsAlike one.mode first second Up one other

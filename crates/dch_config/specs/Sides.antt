@@ -24,7 +24,8 @@ channel_count_refusal dir side = refused_if (not (is_within 1 8 (length side.cha
 -- the first channel with not 1 to 32 formats
 abbrev pub format_count_refusal : Dir → Side → Option ConfigError
 format_count_refusal dir side =
-    option_map (λ i. FormatCount dir i) (position (λ channel. not (is_within 1 32 (length channel.formats))) side.channels)
+    option_map (λ i. FormatCount dir i)
+    (position (λ channel. not (is_within 1 32 (length channel.formats))) side.channels)
 
 -- the first channel without an idle format
 abbrev pub has_no_idle : Trch → Bool
@@ -35,7 +36,8 @@ idle_refusal dir side = option_map (λ i. NoIdleFormat dir i) (position has_no_i
 
 -- not 1 to 128 combinations
 abbrev pub combination_count_refusal : Dir → Side → Option ConfigError
-combination_count_refusal dir side = refused_if (not (is_within 1 128 (length side.combinations))) (CombinationCount dir)
+combination_count_refusal dir side = refused_if (not (is_within 1 128 (length side.combinations)))
+    (CombinationCount dir)
 
 -- a combination names one of each channel's formats, and nothing else
 abbrev pub names_formats : List Trch → List ℕ → Bool

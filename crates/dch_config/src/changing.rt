@@ -9,9 +9,9 @@ use crate::error::ChangeError;
 use crate::side::is_idle;
 use dch_types::{Bearer, Config, Dir, Format, Mode, Side};
 
-/// Whether a second configuration can follow a first one while the channel runs (TS 25.331 8.2.2): every bearer goes on as it is.
-/// Its mode, its directions, its buffer and its rules stay, and so do the octets of its PDUs, or in transparent mode the sizes of
-/// its blocks. Channels, combinations, logical channels and priorities may be others.
+/// Whether a second configuration can follow a first one while the channel runs (TS 25.331 8.2.2): every bearer goes on
+/// as it is. Its mode, its directions, its buffer and its rules stay, and so do the octets of its PDUs, or in
+/// transparent mode the sizes of its blocks. Channels, combinations, logical channels and priorities may be others.
 pub fn change(first: &Config, second: &Config) -> Result<(), ChangeError>
     requires first { length first.now.bearers ≤ 16 }
     requires second { length second.now.bearers ≤ 16 }

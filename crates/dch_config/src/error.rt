@@ -2,8 +2,9 @@ use dch_tree::KeyPath;
 use dch_types::Dir;
 use thiserror::Error;
 
-/// Why a text is no configuration. Of several causes the first variant counts. Of several keys the one of the least path counts, and of other
-/// causes of one kind that of the uplink, then that of the least channel, combination or bearer.
+/// Why a text is no configuration. Of several causes the first variant counts. Of several keys the one of the least
+/// path counts, and of other causes of one kind that of the uplink, then that of the least channel, combination or
+/// bearer.
 #[derive(Debug, Drop, PartialEq, Error)]
 pub enum ConfigError {
     #[error("out of memory")]

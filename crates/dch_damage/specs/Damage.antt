@@ -1,4 +1,5 @@
--- Damage to the frames of a radio frame (10 ms) on their way between the nodes, the newest first, and what arrives of a frame.
+-- Damage to the frames of a radio frame (10 ms) on their way between the nodes, the newest first, and what arrives of a
+-- frame.
 use Rattle.std.specs.Prelude.{ℕ, zero, suc, List, [], ◌∷◌, Bool, true, false, ◌&&◌, ◌||◌, ◌==◌, if◌then◌else◌, Option, Some, None, bit_xor}
 use Rattle.std.specs.Bool.{beq}
 use Rattle.dch_types.specs.declared.channel.Dir.{Dir}
@@ -6,8 +7,8 @@ use Rattle.dch_types.specs.declared.channel.Dir.TheVariants.{Up, Down}
 use Rattle.dch_node.specs.Values.{Radio}
 use Rattle.dch_damage.specs.Turns.{turned_bit, turned_cell}
 
--- a TFCI bit or a cell of a direction's radio frame is turned over, the radio frame is lost, an Iub frame of a set is lost, or
--- an octet of it is spoiled
+-- a TFCI bit or a cell of a direction's radio frame is turned over, the radio frame is lost, an Iub frame of a set is
+-- lost, or an octet of it is spoiled
 pub data Damage : Type 0 where
   Flip : (dir : Dir) → (tfci : Bool) → (place : ℕ) → Damage
   Lose : (dir : Dir) → Damage
@@ -30,7 +31,8 @@ flips_at (Spoil dir' set' octet' mask) dir tfci place = false
 -- how often the place is turned over
 abbrev pub flips : List Damage → Dir → Bool → ℕ → ℕ
 flips [] dir tfci place = 0
-flips (one ∷ damage) dir tfci place = if flips_at one dir tfci place then suc (flips damage dir tfci place) else flips damage dir tfci place
+flips (one ∷ damage) dir tfci place = if flips_at one dir tfci place then suc (flips damage dir tfci place)
+    else flips damage dir tfci place
 
 -- whether it takes a direction's radio frame away
 abbrev pub loses : Damage → Dir → Bool
@@ -84,4 +86,5 @@ radio_after damage dir (Some radio) = if is_lost damage dir then None else Some 
 -- what arrives of the Iub frame of a direction's set
 abbrev pub iub_after : List Damage → Dir → ℕ → Option (List ℕ) → Option (List ℕ)
 iub_after damage dir set None = None
-iub_after damage dir set (Some octets) = if is_iub_lost damage dir set then None else Some (each_changed (λ k octet. bit_xor octet (mask_on damage dir set k)) octets)
+iub_after damage dir set (Some octets) = if is_iub_lost damage dir set then None
+    else Some (each_changed (λ k octet. bit_xor octet (mask_on damage dir set k)) octets)

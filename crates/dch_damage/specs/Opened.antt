@@ -11,11 +11,13 @@ use Rattle.dch_damage.specs.Tables.{IubTables, RadioTables, Tables, iub_cleared,
 
 -- a number of cells that the radio frame of no combination of a direction exceeds
 abbrev pub HoldsCells : Planned → Dir → ℕ → Type 0
-HoldsCells planned dir cells = (c : ℕ) → c < length (side_of planned.config dir).combinations → frame_cells planned dir c ≤ cells
+HoldsCells planned dir cells = (c : ℕ) → c < length (side_of planned.config dir).combinations
+    → frame_cells planned dir c ≤ cells
 
 -- a number of octets that no Iub frame of a direction's set exceeds
 abbrev pub HoldsOctets : Planned → Dir → ℕ → ℕ → Type 0
-HoldsOctets planned dir set octets = (numbers : List ℕ) → AreFormats (side_of planned.config dir) set numbers → frame_octets planned.config dir set numbers ≤ octets
+HoldsOctets planned dir set octets = (numbers : List ℕ) → AreFormats (side_of planned.config dir) set numbers
+    → frame_octets planned.config dir set numbers ≤ octets
 
 -- a direction's tables have a place for each TFCI bit, and for each cell of its radio frames
 pub record IsRadioDamageOf (planned : Planned) (dir : Dir) (tables : RadioTables) : Type 0 where

@@ -21,7 +21,8 @@ pub record IubTables : Type 0 where
   pub lost : Bool
   pub masks : List ℕ
 
--- those of both directions and their sets, and what arrived in place of the radio frame and of the Iub frame that were hit last
+-- those of both directions and their sets, and what arrived in place of the radio frame and of the Iub frame that were
+-- hit last
 pub record Tables : Type 0 where
   pub up : RadioTables
   pub down : RadioTables
@@ -85,7 +86,11 @@ flipped tables false place = record tables { cells = turned_at tables.cells plac
 
 -- nothing waits
 abbrev pub radio_cleared : RadioTables → RadioTables
-radio_cleared tables = record { lost = false; tfci = replicate (length tables.tfci) Not; cells = replicate (length tables.cells) Not }
+radio_cleared tables = record {
+  lost = false;
+  tfci = replicate (length tables.tfci) Not;
+  cells = replicate (length tables.cells) Not;
+}
 
 abbrev pub iub_cleared : IubTables → IubTables
 iub_cleared tables = record { lost = false; masks = replicate (length tables.masks) 0 }
@@ -109,4 +114,5 @@ radio_through tables (Some radio) = if tables.lost then None else Some (record {
 -- what arrives of an Iub frame
 abbrev pub iub_through : IubTables → Option (List ℕ) → Option (List ℕ)
 iub_through tables None = None
-iub_through tables (Some octets) = if tables.lost then None else Some (each_changed (λ k octet. bit_xor octet (slice_index tables.masks k)) octets)
+iub_through tables (Some octets) = if tables.lost then None
+    else Some (each_changed (λ k octet. bit_xor octet (slice_index tables.masks k)) octets)

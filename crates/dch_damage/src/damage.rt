@@ -16,7 +16,8 @@ use dch_types::Dir;
 use std::alloc::Global;
 use std::marker::Model;
 
-/// The damage that waits for the frames of the next radio frame (10 ms), and what arrives in place of those that it hits.
+/// The damage that waits for the frames of the next radio frame (10 ms), and what arrives in place of those that it
+/// hits.
 pub struct Damage {
     up: RadioDamage,
     down: RadioDamage,
@@ -46,7 +47,14 @@ impl Model for Damage {
 
     ghost Value = { Tables };
 
-    ghost view = { λ d. record { up = d.up; down = d.down; up_sets = d.up_sets.items; down_sets = d.down_sets.items; radio = d.radio.instead; iub = d.iub.instead } };
+    ghost view = { λ d. record {
+      up = d.up;
+      down = d.down;
+      up_sets = d.up_sets.items;
+      down_sets = d.down_sets.items;
+      radio = d.radio.instead;
+      iub = d.iub.instead;
+    } };
 
     ghost invariant = { λ d. HoldsAll d.up d.down d.up_sets.items d.down_sets.items d.radio d.iub };
 }
@@ -83,11 +91,12 @@ impl Damage {
         })
     }
 
-    /// Turns over a TFCI bit, or else a cell, of the next radio frame of a direction. A place that the frame doesn't have
-    /// has no effect.
+    /// Turns over a TFCI bit, or else a cell, of the next radio frame of a direction. A place that the frame doesn't
+    /// have has no effect.
     pub fn flip(&mut self, dir: Dir, tfci: bool, place: u16)
         ensures opened { (planned : Planned) → IsDamageOf planned self.old → IsDamageOf planned self.new }
-        ensures waits { (damage : List OneDamage) → Waits damage self.old → Waits (Flip dir tfci place ∷ damage) self.new }
+        ensures waits { (damage : List OneDamage) → Waits damage self.old →
+            Waits (Flip dir tfci place ∷ damage) self.new }
     {
         match dir {
             Dir::Up => self.up.flip(tfci, place),
@@ -118,12 +127,13 @@ impl Damage {
         }
     }
 
-    /// Spoils an octet of the Iub frame of a direction's set in the next radio frame: the mask is joined to it by exclusive or.
-    /// An octet that the frame doesn't have has no effect.
+    /// Spoils an octet of the Iub frame of a direction's set in the next radio frame: the mask is joined to it by
+    /// exclusive or. An octet that the frame doesn't have has no effect.
     pub fn spoil(&mut self, dir: Dir, set: u8, octet: u16, mask: u8)
         requires { set < 8 }
         ensures opened { (planned : Planned) → IsDamageOf planned self.old → IsDamageOf planned self.new }
-        ensures waits { (damage : List OneDamage) → Waits damage self.old → Waits (Spoil dir set octet mask ∷ damage) self.new }
+        ensures waits { (damage : List OneDamage) → Waits damage self.old →
+            Waits (Spoil dir set octet mask ∷ damage) self.new }
     {
         match dir {
             Dir::Up => spoil_set(&mut self.up_sets, set, octet, mask),
@@ -131,11 +141,13 @@ impl Damage {
         }
     }
 
-    /// Hits a radio frame of a direction, if one is sent, with the damage that waits. `radio` then shows what arrives of it.
+    /// Hits a radio frame of a direction, if one is sent, with the damage that waits. `radio` then shows what arrives
+    /// of it.
     pub fn hit_radio(&mut self, dir: Dir, sent: Option<FrameView<'_>>)
         requires room { HasRadioRoom self.old dir (radio_of sent) }
         ensures opened { (planned : Planned) → IsDamageOf planned self.old → IsDamageOf planned self.new }
-        ensures arrives { (damage : List OneDamage) → Waits damage self.old → Waits damage self.new × (radio_arrived self.new (radio_of sent.entry) ≡ radio_after damage dir (radio_of sent.entry)) }
+        ensures arrives { (damage : List OneDamage) → Waits damage self.old → Waits damage self.new ×
+            (radio_arrived self.new (radio_of sent.entry) ≡ radio_after damage dir (radio_of sent.entry)) }
     {
         match dir {
             Dir::Up => self.radio.receive(&self.up, sent),
@@ -150,12 +162,14 @@ impl Damage {
         self.radio.arriving(sent)
     }
 
-    /// Hits the Iub frame of a direction's set, if one is sent, with the damage that waits. `iub` then shows what arrives of it.
+    /// Hits the Iub frame of a direction's set, if one is sent, with the damage that waits. `iub` then shows what
+    /// arrives of it.
     pub fn hit_iub(&mut self, dir: Dir, set: u8, sent: Option<&[u8]>)
         requires set { set < 8 }
         requires room { HasIubRoom self.old dir set (octets_of sent) }
         ensures opened { (planned : Planned) → IsDamageOf planned self.old → IsDamageOf planned self.new }
-        ensures arrives { (damage : List OneDamage) → Waits damage self.old → Waits damage self.new × (iub_arrived self.new (octets_of sent.entry) ≡ iub_after damage dir set (octets_of sent.entry)) }
+        ensures arrives { (damage : List OneDamage) → Waits damage self.old → Waits damage self.new ×
+            (iub_arrived self.new (octets_of sent.entry) ≡ iub_after damage dir set (octets_of sent.entry)) }
     {
         match dir {
             Dir::Up => self.iub.receive(&self.up_sets[set as usize], sent),

@@ -35,7 +35,8 @@ impl Model for IubDamage {
 }
 
 impl IubDamage {
-    /// Takes the memory for the octets of the frames of a set of a direction, under each of two configurations. Nothing waits.
+    /// Takes the memory for the octets of the frames of a set of a direction, under each of two configurations. Nothing
+    /// waits.
     fn open(
         alloc: Global,
         first: &Accepted,
@@ -102,14 +103,16 @@ fn join_mask(masks: &mut [u8], octet: usize, mask: u8)
 fn mask_octets(masks: &[u8], octets: &[u8], out: &mut [u8])
     requires table { length octets.now ≤ length masks.now }
     requires room { length octets.now ≤ length out.old }
-    ensures { take (length octets.now) out.new ≡ each_changed (λ k octet. bit_xor octet (slice_index masks.now k)) octets.now }
+    ensures { take (length octets.now) out.new ≡
+        each_changed (λ k octet. bit_xor octet (slice_index masks.now k)) octets.now }
 {
     for i in 0..octets.len() {
         out[i] = octets[i] ^ masks[i];
     }
 }
 
-/// Takes the memory for the damage to the Iub frames of all sets of a direction, under each of two configurations. Nothing waits.
+/// Takes the memory for the damage to the Iub frames of all sets of a direction, under each of two configurations.
+/// Nothing waits.
 pub fn open_sets(
     alloc: Global,
     first: &Accepted,
@@ -178,7 +181,10 @@ impl Model for IubBuffer {
 
     ghost Value = { IubArrival };
 
-    ghost view = { λ b. record { instead = instead_of b.arrival (take b.len b.octets.items); room = length b.octets.items } };
+    ghost view = { λ b. record {
+      instead = instead_of b.arrival (take b.len b.octets.items);
+      room = length b.octets.items;
+    } };
 
     ghost invariant = { λ b. b.len ≤ length b.octets.items };
 }
@@ -195,7 +201,8 @@ impl IubBuffer {
         })
     }
 
-    /// What arrives of the Iub frame that was hit last and is given once more: it is lent on where no damage waited for it.
+    /// What arrives of the Iub frame that was hit last and is given once more: it is lent on where no damage waited for
+    /// it.
     pub fn arriving<'a>(&'a self, sent: Option<&'a [u8]>) -> Option<&'a [u8]>
         ensures { octets_of result ≡ received self.now.instead (octets_of sent.entry) }
     {
@@ -211,7 +218,8 @@ impl IubBuffer {
         requires table { IsIubWithin damage.now (octets_of sent) }
         requires room { length damage.now.masks ≤ self.old.room }
         ensures room { self.new.room ≡ self.old.room }
-        ensures arrives { received self.new.instead (octets_of sent.entry) ≡ iub_through damage.now (octets_of sent.entry) }
+        ensures arrives { received self.new.instead (octets_of sent.entry) ≡
+            iub_through damage.now (octets_of sent.entry) }
     {
         self.arrival = Arrival::AsSent;
         if damage.lost {

@@ -1,4 +1,5 @@
-//! Damage to the frames of one radio frame (10 ms) on their way between the nodes: it waits in tables until the frames come.
+//! Damage to the frames of one radio frame (10 ms) on their way between the nodes: it waits in tables until the frames
+//! come.
 #![tactic(auto)]
 
 mod arrival;

@@ -34,7 +34,8 @@ impl Model for RadioDamage {
 }
 
 impl RadioDamage {
-    /// Takes the memory for the places of the radio frames of a direction, under each of two configurations. Nothing waits.
+    /// Takes the memory for the places of the radio frames of a direction, under each of two configurations. Nothing
+    /// waits.
     pub fn open(
         alloc: Global,
         first: &Accepted,
@@ -140,7 +141,15 @@ impl Model for RadioBuffer {
 
     ghost Value = { RadioArrival };
 
-    ghost view = { λ b. record { instead = instead_of b.arrival (record { tfci = take b.bits b.tfci.items; cells = take b.len b.cells.items }); tfci_room = length b.tfci.items; cells_room = length b.cells.items } };
+    ghost view = { λ b. record {
+      instead = instead_of b.arrival (record {
+        tfci = take b.bits b.tfci.items;
+        cells =
+            take b.len b.cells.items;
+      });
+      tfci_room = length b.tfci.items;
+      cells_room = length b.cells.items;
+    } };
 
     ghost invariant = { λ b. (b.bits ≤ length b.tfci.items) × (b.len ≤ length b.cells.items) };
 }
@@ -159,7 +168,8 @@ impl RadioBuffer {
         })
     }
 
-    /// What arrives of the radio frame that was hit last and is given once more: it is lent on where no damage waited for it.
+    /// What arrives of the radio frame that was hit last and is given once more: it is lent on where no damage waited
+    /// for it.
     pub fn arriving<'a>(&'a self, sent: Option<FrameView<'a>>) -> Option<FrameView<'a>>
         ensures { radio_of result ≡ received self.now.instead (radio_of sent.entry) }
     {
@@ -173,13 +183,15 @@ impl RadioBuffer {
         }
     }
 
-    /// Takes what becomes of a radio frame that is hit by the damage. It is copied only where a bit or a cell may be turned over.
+    /// Takes what becomes of a radio frame that is hit by the damage. It is copied only where a bit or a cell may be
+    /// turned over.
     pub fn receive(&mut self, damage: &RadioDamage, sent: Option<FrameView<'_>>)
         requires table { IsWithinIf damage.now (radio_of sent) }
         requires tfci { length damage.now.tfci ≤ self.old.tfci_room }
         requires cells { length damage.now.cells ≤ self.old.cells_room }
         ensures rooms { (self.new.tfci_room ≡ self.old.tfci_room) × (self.new.cells_room ≡ self.old.cells_room) }
-        ensures arrives { received self.new.instead (radio_of sent.entry) ≡ radio_through damage.now (radio_of sent.entry) }
+        ensures arrives { received self.new.instead (radio_of sent.entry) ≡
+            radio_through damage.now (radio_of sent.entry) }
     {
         self.arrival = Arrival::AsSent;
         if damage.lost {

@@ -63,7 +63,8 @@ pub fn turn(table: &mut [Turned], place: usize)
 pub fn turn_bits(table: &[Turned], bits: &[Bit], out: &mut [Bit])
     requires table { length bits.now ≤ length table.now }
     requires room { length bits.now ≤ length out.old }
-    ensures { take (length bits.now) out.new ≡ each_changed (λ place. bit_after (slice_index_or table.now place Turned.Not)) bits.now }
+    ensures { take (length bits.now) out.new ≡
+        each_changed (λ place. bit_after (slice_index_or table.now place Turned.Not)) bits.now }
 {
     for i in 0..bits.len() {
         out[i] = table[i].bit(bits[i]);
@@ -74,7 +75,8 @@ pub fn turn_bits(table: &[Turned], bits: &[Bit], out: &mut [Bit])
 pub fn turn_cells(table: &[Turned], cells: &[Trit], out: &mut [Trit])
     requires table { length cells.now ≤ length table.now }
     requires room { length cells.now ≤ length out.old }
-    ensures { take (length cells.now) out.new ≡ each_changed (λ place. cell_after (slice_index_or table.now place Turned.Not)) cells.now }
+    ensures { take (length cells.now) out.new ≡
+        each_changed (λ place. cell_after (slice_index_or table.now place Turned.Not)) cells.now }
 {
     for i in 0..cells.len() {
         out[i] = table[i].cell(cells[i]);

@@ -28,8 +28,10 @@ pub fn demultiplex_tti(
     requires opened { IsReaderOf accepted.now Down rx_frames.now }
     requires channel { channel < length accepted.now.config.downlink.side.channels }
     requires format { IsFormatOf accepted.now.config.downlink.side rx_frames.now channel format }
-    requires whole { length out.old ≡ (matching_of accepted.now channel format).cells * (channel_at accepted.now.config.downlink.side channel).frames }
-    ensures { (p : ℕ) → p < length out.new → slice_index_or out.new p Off ≡ tti_cell accepted.now rx_frames.now channel (length out.new) p }
+    requires whole { length out.old ≡
+        (matching_of accepted.now channel format).cells * (channel_at accepted.now.config.downlink.side channel).frames }
+    ensures { (p : ℕ) → p < length out.new → slice_index_or out.new p Off ≡
+        tti_cell accepted.now rx_frames.now channel (length out.new) p }
 {
     let frames = accepted.frames_of(Dir::Down, channel);
     for n in 0..frames {
@@ -78,7 +80,8 @@ fn channel_cells<'a>(
     requires channel { channel < length accepted.now.config.downlink.side.channels }
     requires long { length cells.now ≡ frame_bits accepted.now.config.downlink }
     ensures cells { (m : ℕ) → m < length result.now →
-        slice_index_or result.now m Off ≡ slice_index_or cells.now (bits_before accepted.now combination channel + m) Off }
+        slice_index_or result.now m Off ≡
+        slice_index_or cells.now (bits_before accepted.now combination channel + m) Off }
     ensures long { length result.now ≡ bits_per_frame accepted.now combination channel }
 {
     // A radio frame of the downlink has at most 57,240 cells.

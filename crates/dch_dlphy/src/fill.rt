@@ -6,8 +6,8 @@ ghost use Rattle.dch_dlphy.specs.Loaded.{filled_cell};
 use dch_bits::{Bit, Trit};
 use dch_frame::{Pattern, kept, rate_match, show};
 
-/// Writes the cells of a TTI before the first interleaver: its coded bits after rate matching, and places in which nothing
-/// is sent (TS 25.212 4.2.7.5, 4.2.9.1). `shown` is room for the coded bits as cells.
+/// Writes the cells of a TTI before the first interleaver: its coded bits after rate matching, and places in which
+/// nothing is sent (TS 25.212 4.2.7.5, 4.2.9.1). `shown` is room for the coded bits as cells.
 fn fill(pattern: &Pattern, coded: &[Bit], shown: &mut [Trit], out: &mut [Trit])
     requires pattern { IsWellFormed pattern.now }
     requires coded { length coded.now ≡ pattern.now.len }

@@ -14,7 +14,8 @@ pub fn pattern_of(accepted: &Accepted, channel: u8, format: u8) -> Pattern
     requires format { format < length (channel_at accepted.now.config.downlink.side channel).formats }
     ensures value { result ≡ (matching_of accepted.now channel format).pattern }
     ensures formed { IsWellFormed result }
-    ensures len { result.len ≡ tti_bits (channel_at accepted.now.config.downlink.side channel) (format_at (channel_at accepted.now.config.downlink.side channel) format) }
+    ensures len { result.len ≡ tti_bits (channel_at accepted.now.config.downlink.side channel)
+        (format_at (channel_at accepted.now.config.downlink.side channel) format) }
 {
     accepted.downlink_plan().pattern(channel, format)
 }

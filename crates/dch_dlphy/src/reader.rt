@@ -7,8 +7,8 @@ use dch_tti::{CountVotes, ReceivedFrames, TtiReader};
 use dch_types::Dir;
 use std::alloc::Global;
 
-/// Received downlink radio frames, from which the TTIs of the channels are read: where the places of a channel lie in a radio
-/// frame is told by its own combination.
+/// Received downlink radio frames, from which the TTIs of the channels are read: where the places of a channel lie in a
+/// radio frame is told by its own combination.
 pub type DlReader = TtiReader<DlScratch>;
 
 /// The room to gather the cells of a TTI.

@@ -74,7 +74,10 @@ impl Room {
         requires coded { tti_bits channel.now (format_at channel.now format) ≤ length self.old.coded.items }
         requires room { channel.now.frames * places ≤ length self.old.tti.items }
         requires buffer { channel.now.frames * places ≤ buffer.old.room.cells }
-        ensures loaded { IsMatched channel.now buffer.old.room format (record { pattern = pattern.now; cells = places }) blocks.now buffer.new }
+        ensures loaded { IsMatched channel.now buffer.old.room format (record {
+          pattern = pattern.now;
+          cells = places;
+        }) blocks.now buffer.new }
         ensures bits { length self.new.coded.items ≡ length self.old.coded.items }
         ensures cells { length self.new.tti.items ≡ length self.old.tti.items }
     {
@@ -159,7 +162,8 @@ impl DlTti {
         requires opened { IsTtiOf accepted.now self.old }
         requires channel { channel < length accepted.now.config.downlink.side.channels }
         requires format { format < length (channel_at accepted.now.config.downlink.side channel).formats }
-        requires blocks { length blocks.now ≡ bits_of (format_at (channel_at accepted.now.config.downlink.side channel) format) }
+        requires blocks { length blocks.now ≡
+            bits_of (format_at (channel_at accepted.now.config.downlink.side channel) format) }
         ensures opened { IsTtiOf accepted.now self.new }
         ensures loaded { IsLoaded accepted.now channel format blocks.now (loaded_at self.new channel) }
         ensures same { (i : ℕ) → i ≢ channel → loaded_at self.new i ≡ loaded_at self.old i }

@@ -14,8 +14,8 @@ use dch_bits::Trit;
 use dch_tti::{MultiplexFrame, TtiBuffer, write_frame};
 use dch_types::Dir;
 
-/// Writes the radio frame of a CFN in a combination: its TFCI, and of each channel the radio frame of its TTI that is on
-/// (TS 25.212 4.2.6 to 4.2.12, 4.3.3, 4.3.5).
+/// Writes the radio frame of a CFN in a combination: its TFCI, and of each channel the radio frame of its TTI that is
+/// on (TS 25.212 4.2.6 to 4.2.12, 4.3.3, 4.3.5).
 pub fn write(accepted: &Accepted, tti: &DlTti, cfn: u8, combination: u16, out: &mut PhyFrame)
     requires opened { IsTtiOf accepted.now tti.now }
     requires frame { IsOpenedFor accepted.now.config Down out.old }
@@ -27,8 +27,8 @@ pub fn write(accepted: &Accepted, tti: &DlTti, cfn: u8, combination: u16, out: &
     write_frame::<DlTti>(accepted, tti.tti_buffers(), cfn, combination, out);
 }
 
-/// The channels' cells follow one another. Nothing is sent in the places past the last of them (the second insertion of DTX
-/// indications, TS 25.212 4.2.9.2).
+/// The channels' cells follow one another. Nothing is sent in the places past the last of them (the second insertion of
+/// DTX indications, TS 25.212 4.2.9.2).
 impl MultiplexFrame for DlTti {
     ghost use Rattle.dch_types.specs.declared.channel.Dir.TheVariants.{Down};
     ghost use Rattle.dch_dlphy.specs.Frames.{multiplexed};
@@ -84,7 +84,8 @@ fn write_channel(
     requires formats { AreFormats accepted.now.config.downlink.side combination tti_buffers.now }
     requires channel { i < length accepted.now.config.downlink.side.channels }
     requires room { length out.old ≡ bits_per_frame accepted.now combination i }
-    ensures { (q : ℕ) → q < length out.new → slice_index_or out.new q Off ≡ sent_cell accepted.now tti_buffers.now cfn combination i q }
+    ensures { (q : ℕ) → q < length out.new → slice_index_or out.new q Off ≡
+        sent_cell accepted.now tti_buffers.now cfn combination i q }
 {
     // A combination names a format of each channel.
     let _side = accepted.side(Dir::Down);
@@ -95,7 +96,8 @@ fn write_channel(
 /// Copies the cells of radio frame `n` of a TTI whose frames have so many cells as `out`.
 fn copy_segment(cells: &[Trit], n: u8, out: &mut [Trit])
     requires { n * length out.old + length out.old ≤ length cells.now }
-    ensures { (q : ℕ) → q < length out.new → slice_index_or out.new q Off ≡ slice_index_or cells.now (n * length out.new + q) Off }
+    ensures { (q : ℕ) → q < length out.new → slice_index_or out.new q Off ≡
+        slice_index_or cells.now (n * length out.new + q) Off }
 {
     let from = n as usize * out.len();
     out.copy_from_slice(&cells[from..from + out.len()]);

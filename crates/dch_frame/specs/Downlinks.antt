@@ -57,8 +57,8 @@ unfoldable pub stands_below : Side → ℕ → ℕ → ℕ → Bool
 stands_below side i f zero = false
 stands_below side i f (suc c) = format_number side c i == f || stands_below side i f c
 
--- the places of a format in a radio frame before any is lowered: RF*N/F rounded up, where RF is Ndata*RM over the greatest
--- sum, and 1 for a format that stands in no combination
+-- the places of a format in a radio frame before any is lowered: RF*N/F rounded up, where RF is Ndata*RM over the
+-- greatest sum, and 1 for a format that stands in no combination
 abbrev pub first_places : Side → ℕ → ℕ → ℕ → ℕ
 first_places side ndata i f = if stands_below side i f (length side.combinations) then div_ceil (ndata * flexible_weight side i f) (greatest side) else div_ceil (eighths (channel_at side i) f) 8
 
@@ -66,19 +66,21 @@ first_places side ndata i f = if stands_below side i f (length side.combinations
 abbrev pub exceeds : (ℕ → ℕ → ℕ) → Side → ℕ → ℕ → Bool
 exceeds places side ndata c = nat_lt ndata (total (λ i. places i (format_number side c i)) (length side.channels))
 
--- the places after the first combinations were looked at: where one exceeds a radio frame, each of its formats is lowered
--- to its share of it
+-- the places after the first combinations were looked at: where one exceeds a radio frame, each of its formats is
+-- lowered to its share of it
 unfoldable pub places_after : Side → ℕ → ℕ → ℕ → ℕ → ℕ
 places_after side ndata zero i f = first_places side ndata i f
 places_after side ndata (suc c) i f = if (exceeds (places_after side ndata c) side ndata c && format_number side c i == f) then min (places_after side ndata c i f) (shared (combined side c) (length side.channels) ndata i) else places_after side ndata c i f
 
 -- the places of format f of channel i in a radio frame
 abbrev pub places_of : Downlink → ℕ → ℕ → ℕ
-places_of downlink i f = if downlink.fixed then fixed_places downlink.side (frame_bits downlink) i else places_after downlink.side (frame_bits downlink) (length downlink.side.combinations) i f
+places_of downlink i f = if downlink.fixed then fixed_places downlink.side (frame_bits downlink) i
+    else places_after downlink.side (frame_bits downlink) (length downlink.side.combinations) i f
 
 -- how many bits the pattern of a format is made for: at fixed positions those of the greatest format
 abbrev pub bits_of : Downlink → ℕ → ℕ → ℕ
-bits_of downlink i f = if downlink.fixed then most_of (channel_at downlink.side i) else tti_bits (channel_at downlink.side i) (format_at (channel_at downlink.side i) f)
+bits_of downlink i f = if downlink.fixed then most_of (channel_at downlink.side i)
+    else tti_bits (channel_at downlink.side i) (format_at (channel_at downlink.side i) f)
 
 -- the pattern of a TTI, which is cut at the format's own length
 abbrev pub pattern_of : Downlink → ℕ → ℕ → Pattern
@@ -114,5 +116,8 @@ pub record IsRow (downlink : Downlink) (i formats : ℕ) (row : List RateMatchin
 -- a plan is that of the downlink: it has a matching for each format of each channel, and no combination exceeds a frame
 pub record IsDownlinkPlan (downlink : Downlink) (plan : List (List RateMatching)) : Type 0 where
   pub channels : length plan ≡ length downlink.side.channels
-  pub rows : (i : ℕ) → i < length downlink.side.channels → IsRow downlink i (length (channel_at downlink.side i).formats) (row_at plan i)
-  pub room : (c : ℕ) → c < length downlink.side.combinations → total (λ i. (matching_at plan i (format_number downlink.side c i)).cells) (length downlink.side.channels) ≤ frame_bits downlink
+  pub rows : (i : ℕ) → i < length downlink.side.channels
+      → IsRow downlink i (length (channel_at downlink.side i).formats) (row_at plan i)
+  pub room : (c : ℕ) → c < length downlink.side.combinations
+      → total (λ i. (matching_at plan i (format_number downlink.side c i)).cells)
+      (length downlink.side.channels) ≤ frame_bits downlink

@@ -17,9 +17,11 @@ change n sent = if nat_lt n sent then sent - n else n - sent
 abbrev pub steps_of : ℕ → ℕ → ℕ → Steps
 steps_of n sent e_ini = record { e_ini = e_ini; e_plus = 2 * n; e_minus = 2 * change n sent }
 
--- what is done with n bits so that `sent` are left: nothing where there are none or as many, else repetition or puncturing
+-- what is done with n bits so that `sent` are left: nothing where there are none or as many, else repetition or
+-- puncturing
 abbrev pub matched : ℕ → ℕ → ℕ → Kind
-matched n sent e_ini = if (n == 0 || sent == n) then Same else (if nat_lt n sent then Repeat (steps_of n sent e_ini) else Puncture (steps_of n sent e_ini))
+matched n sent e_ini = if (n == 0 || sent == n) then Same
+    else (if nat_lt n sent then Repeat (steps_of n sent e_ini) else Puncture (steps_of n sent e_ini))
 
 -- dN mod n, which is not negative
 abbrev pub remainder : ℕ → ℕ → ℕ
@@ -31,4 +33,7 @@ frame_start n sent frames i = (2 * column_shift (average_distance n (remainder n
 
 -- the pattern of frame `at` of a TTI, which carries a column of the first interleaver
 unfoldable pub frame_pattern : ℕ → ℕ → ℕ → ℕ → Pattern
-frame_pattern n sent frames at = record { len = n; kind = matched n sent (frame_start n sent frames (first_column frames at)) }
+frame_pattern n sent frames at = record {
+  len = n;
+  kind = matched n sent (frame_start n sent frames (first_column frames at));
+}

@@ -10,4 +10,5 @@ place_at places i f = slice_index (slice_index_or places.rows i []) f
 
 -- a table has the places that a function says, for each format of each channel
 abbrev pub IsTable : Side → (ℕ → ℕ → ℕ) → Places → Type 0
-IsTable side places table = (i f : ℕ) → i < length side.channels → f < length (channel_at side i).formats → place_at table i f ≡ places i f
+IsTable side places table = (i f : ℕ) → i < length side.channels → f < length (channel_at side i).formats
+    → place_at table i f ≡ places i f

@@ -15,7 +15,8 @@ use Rattle.dch_frame.specs.Shares.{shared}
 
 -- N: the bits of channel i in a radio frame of a combination, where the TTI is padded to whole frames
 abbrev pub before_of : Side → ℕ → ℕ → ℕ
-before_of side c i = div_ceil (tti_bits (channel_at side i) (format_at (channel_at side i) (format_number side c i))) (channel_at side i).frames
+before_of side c i = div_ceil (tti_bits (channel_at side i) (format_at (channel_at side i) (format_number side c i)))
+    (channel_at side i).frames
 
 -- RM*N
 abbrev pub weight_of : Side → ℕ → ℕ → ℕ
@@ -27,7 +28,8 @@ sent_of side c ndata i = shared (weight_of side c) (length side.channels) ndata 
 
 -- the pattern of channel i in frame n of its TTI
 abbrev pub uplink_pattern : Side → ℕ → ℕ → ℕ → ℕ → Pattern
-uplink_pattern side c ndata i n = frame_pattern (before_of side c i) (sent_of side c ndata i) (channel_at side i).frames n
+uplink_pattern side c ndata i n = frame_pattern (before_of side c i) (sent_of side c ndata i)
+    (channel_at side i).frames n
 
 -- the least RM of the first channels; of none, that of the first
 unfoldable pub least_rm : Side → ℕ → ℕ
@@ -81,13 +83,15 @@ one_code (Some size) = nat_le (codes size) 1
 
 -- Ndata: the size of the frame; none is needed where there is nothing to send
 unfoldable pub chosen : Demand → Option ℕ
-chosen demand = let least = find (in_set1 demand) frame_sizes in if demand.weight == 0 then Some 0 else (if one_code least then least else first_raised (set2 demand))
+chosen demand = let least = find (in_set1 demand) frame_sizes in if demand.weight == 0 then Some 0
+    else (if one_code least then least else first_raised (set2 demand))
 
 -- an uplink plan is that of TFC c: the size of its radio frame, and the amount of each channel
 pub record IsPlan (uplink : Uplink) (c : ℕ) (plan : UplinkPlan) : Type 0 where
   pub size : chosen (demand_of uplink c) ≡ Some plan.ndata
   pub before : (i : ℕ) → i < length uplink.side.channels → slice_index plan.before i ≡ before_of uplink.side c i
   pub sent : (i : ℕ) → i < length uplink.side.channels → slice_index plan.sent i ≡ sent_of uplink.side c plan.ndata i
-  pub no_more : (i : ℕ) → length uplink.side.channels ≤ i → (slice_index plan.before i ≡ 0) × (slice_index plan.sent i ≡ 0)
+  pub no_more : (i : ℕ) → length uplink.side.channels ≤ i → (slice_index plan.before i ≡ 0)
+      × (slice_index plan.sent i ≡ 0)
   pub most : plan.ndata ≤ uplink.largest
   pub all_sent : total (slice_index plan.sent) (length uplink.side.channels) ≡ plan.ndata

@@ -14,8 +14,8 @@ use crate::segments::put_segment;
 use crate::votes::count_votes;
 use dch_bits::{Trit, Vote};
 
-/// Counts the votes of what radio frame `frame` carried of a TTI of so many radio frames, and puts them to the places of
-/// the TTI. The other places stay. `counted` is room for the votes of one radio frame.
+/// Counts the votes of what radio frame `frame` carried of a TTI of so many radio frames, and puts them to the places
+/// of the TTI. The other places stay. `counted` is room for the votes of one radio frame.
 pub fn rate_dematch(
     frames: usize,
     frame: usize,
@@ -35,9 +35,12 @@ pub fn rate_dematch(
     ensures few { (i : ℕ) (v : Vote) → i < length votes.new → frame_of frames (length votes.new) i ≡ frame →
         (slice_index_or votes.new i v).zeros + (slice_index_or votes.new i v).ones ≤ length cells.now }
     ensures undamaged { (bits : List Bit) →
-        ((k : ℕ) → k < length cells.now → slice_index_or cells.now k Off ≡ as_cell (slice_index_or bits (origin_of pattern.now k) Zero)) →
+        ((k : ℕ) → k < length cells.now → slice_index_or cells.now k Off ≡
+        as_cell (slice_index_or bits (origin_of pattern.now k) Zero)) →
         (i : ℕ) (v : Vote) → i < length votes.new → frame_of frames (length votes.new) i ≡ frame →
-        slice_index_or votes.new i v ≡ copies_as_votes (slice_index_or bits (place_of frames (length votes.new) i) Zero) (copies pattern.now.kind (place_of frames (length votes.new) i)) }
+        slice_index_or votes.new i v ≡
+        copies_as_votes (slice_index_or bits (place_of frames (length votes.new) i) Zero)
+        (copies pattern.now.kind (place_of frames (length votes.new) i)) }
     ensures same { (i : ℕ) (v : Vote) → i < length votes.new → frame_of frames (length votes.new) i ≢ frame →
         slice_index_or votes.new i v ≡ slice_index_or votes.old i v }
 {

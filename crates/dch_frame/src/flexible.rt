@@ -166,8 +166,8 @@ fn lower(table: &mut Places, side: &Side, ndata: u64, c: usize)
     }
 }
 
-/// The places of each format at flexible positions (TS 25.212 4.2.7.2.2). Combinations are lowered in their order, and a
-/// later one sees the places that earlier ones lowered.
+/// The places of each format at flexible positions (TS 25.212 4.2.7.2.2). Combinations are lowered in their order, and
+/// a later one sees the places that earlier ones lowered.
 pub fn flexible_table(side: &Side, ndata: u64) -> Places
     requires good { IsSide side.now }
     requires size { ndata ≤ 65536 }

@@ -41,7 +41,8 @@ impl Interleaver {
     pub fn write<T: Copy>(&self, from: &[T], out: &mut [T])
         requires codes { length from.now % self.now ≡ 0 }
         requires room { length out.old ≡ length from.now }
-        ensures { (k : ℕ) (d : T) → k < length out.new → slice_index_or out.new k d ≡ slice_index_or from.now (code_place self.now k) d }
+        ensures { (k : ℕ) (d : T) → k < length out.new →
+            slice_index_or out.new k d ≡ slice_index_or from.now (code_place self.now k) d }
     {
         gather_codes(&self.places, from, out);
     }
@@ -50,7 +51,8 @@ impl Interleaver {
     pub fn back<T: Copy>(&self, cells: &[T], out: &mut [T])
         requires codes { length cells.now % self.now ≡ 0 }
         requires room { length out.old ≡ length cells.now }
-        ensures { (p : ℕ) (d : T) → p < length out.new → slice_index_or out.new p d ≡ slice_index_or cells.now (code_back self.now p) d }
+        ensures { (p : ℕ) (d : T) → p < length out.new →
+            slice_index_or out.new p d ≡ slice_index_or cells.now (code_back self.now p) d }
     {
         scatter_codes(&self.places, cells, out);
     }
@@ -60,7 +62,8 @@ fn gather_codes<T: Copy>(places: &[u16], from: &[T], out: &mut [T])
     requires table { IsTable places.now }
     requires codes { length from.now % length places.now ≡ 0 }
     requires room { length out.old ≡ length from.now }
-    ensures { (k : ℕ) (d : T) → k < length out.new → slice_index_or out.new k d ≡ slice_index_or from.now (code_place (length places.now) k) d }
+    ensures { (k : ℕ) (d : T) → k < length out.new →
+        slice_index_or out.new k d ≡ slice_index_or from.now (code_place (length places.now) k) d }
 {
     let len = places.len();
     for code in 0..out.len() / len {
@@ -73,7 +76,8 @@ fn scatter_codes<T: Copy>(places: &[u16], cells: &[T], out: &mut [T])
     requires table { IsTable places.now }
     requires codes { length cells.now % length places.now ≡ 0 }
     requires room { length out.old ≡ length cells.now }
-    ensures { (p : ℕ) (d : T) → p < length out.new → slice_index_or out.new p d ≡ slice_index_or cells.now (code_back (length places.now) p) d }
+    ensures { (p : ℕ) (d : T) → p < length out.new →
+        slice_index_or out.new p d ≡ slice_index_or cells.now (code_back (length places.now) p) d }
 {
     let len = places.len();
     for code in 0..out.len() / len {
@@ -97,7 +101,8 @@ fn gather<T: Copy>(places: &[u16], from: &[T], out: &mut [T])
     requires table { IsTable places.now }
     requires from { length from.now ≡ length places.now }
     requires room { length out.old ≡ length places.now }
-    ensures { (k : ℕ) (d : T) → k < length out.new → slice_index_or out.new k d ≡ slice_index_or from.now (second_of (length places.now) k) d }
+    ensures { (k : ℕ) (d : T) → k < length out.new →
+        slice_index_or out.new k d ≡ slice_index_or from.now (second_of (length places.now) k) d }
 {
     for k in 0..out.len() {
         out[k] = from[place(places, k)];
@@ -109,7 +114,8 @@ fn scatter<T: Copy>(places: &[u16], cells: &[T], out: &mut [T])
     requires table { IsTable places.now }
     requires cells { length cells.now ≡ length places.now }
     requires room { length out.old ≡ length places.now }
-    ensures { (p : ℕ) (d : T) → p < length out.new → slice_index_or out.new p d ≡ slice_index_or cells.now (second_back_of (length places.now) p) d }
+    ensures { (p : ℕ) (d : T) → p < length out.new →
+        slice_index_or out.new p d ≡ slice_index_or cells.now (second_back_of (length places.now) p) d }
 {
     for k in 0..cells.len() {
         out[place(places, k)] = cells[k];

@@ -10,7 +10,8 @@ pub fn rate_match<T: Copy>(pattern: &Pattern, bits: &[T], out: &mut [T])
     requires pattern { IsWellFormed pattern.now }
     requires bits { length bits.now ≡ pattern.now.len }
     requires room { length out.old ≡ copies_below pattern.now.kind pattern.now.len }
-    ensures { (k : ℕ) (d : T) → k < length out.new → slice_index_or out.new k d ≡ slice_index_or bits.now (origin_of pattern.now k) d }
+    ensures { (k : ℕ) (d : T) → k < length out.new →
+        slice_index_or out.new k d ≡ slice_index_or bits.now (origin_of pattern.now k) d }
 {
     match &pattern.kind {
         Kind::Same => out.copy_from_slice(bits),

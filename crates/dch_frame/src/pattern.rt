@@ -1,8 +1,8 @@
 ghost use Rattle.std.specs.Prelude.{◌≡◌, ◌<◌, ◌≤◌, ◌+◌, ◌-◌, ◌*◌, ◌/◌, ◌^◌, length, slice_index};
 ghost use Rattle.dch_frame.specs.Patterns.{IsWellFormed, InRange, copies, copies_below, kept_list, changes};
 
-/// The three numbers of the error counter. It starts at `e_ini`, each bit takes `e_minus` off, and where it is then 0 or
-/// below a bit is removed or repeated and `e_plus` is added (TS 25.212 4.2.7.5).
+/// The three numbers of the error counter. It starts at `e_ini`, each bit takes `e_minus` off, and where it is then 0
+/// or below a bit is removed or repeated and `e_plus` is added (TS 25.212 4.2.7.5).
 #[derive(Clone, Copy)]
 pub struct Steps {
     pub e_ini: u64,

@@ -10,7 +10,8 @@ pub fn segment<T: Copy>(frames: usize, frame: usize, tti: &[T], out: &mut [T])
     requires frames { IsFrames frames }
     requires inside { frame < frames }
     requires whole { length tti.now ≡ length out.old * frames }
-    ensures { (m : ℕ) (d : T) → m < length out.new → slice_index_or out.new m d ≡ slice_index_or tti.now (segment_place frames (length tti.now) frame m) d }
+    ensures { (m : ℕ) (d : T) → m < length out.new →
+        slice_index_or out.new m d ≡ slice_index_or tti.now (segment_place frames (length tti.now) frame m) d }
 {
     if frames == 1 {
         out.copy_from_slice(tti);
@@ -23,7 +24,8 @@ fn read_column<T: Copy>(frames: usize, frame: usize, tti: &[T], out: &mut [T])
     requires frames { IsFrames frames }
     requires inside { frame < frames }
     requires whole { length tti.now ≡ length out.old * frames }
-    ensures { (m : ℕ) (d : T) → m < length out.new → slice_index_or out.new m d ≡ slice_index_or tti.now (segment_place frames (length tti.now) frame m) d }
+    ensures { (m : ℕ) (d : T) → m < length out.new →
+        slice_index_or out.new m d ≡ slice_index_or tti.now (segment_place frames (length tti.now) frame m) d }
 {
     let column = column(frames, frame);
     for m in 0..out.len() {

@@ -180,7 +180,8 @@ fn amounts(side: &Side, c: usize, ndata: u32, weight: u64) -> ([u32; 8], [u32; 8
     requires weight { weight ≡ total (weight_of side.now c) (length side.now.channels) }
     ensures before { (i : ℕ) → i < length side.now.channels → slice_index result.0 i ≡ before_of side.now c i }
     ensures sent { (i : ℕ) → i < length side.now.channels → slice_index result.1 i ≡ sent_of side.now c ndata i }
-    ensures no_more { (i : ℕ) → length side.now.channels ≤ i → (slice_index result.0 i ≡ 0) × (slice_index result.1 i ≡ 0) }
+    ensures no_more { (i : ℕ) → length side.now.channels ≤ i → (slice_index result.0 i ≡ 0) ×
+        (slice_index result.1 i ≡ 0) }
 {
     let mut before = [0; 8];
     let mut sent = [0; 8];

@@ -16,11 +16,15 @@ pub fn count_votes(pattern: &Pattern, cells: &[Trit], out: &mut [Vote])
     requires pattern { IsWellFormed pattern.now }
     requires cells { length cells.now ≡ copies_below pattern.now.kind pattern.now.len }
     requires room { length out.old ≡ pattern.now.len }
-    ensures votes { (m : ℕ) (v : Vote) → m < length out.new → slice_index_or out.new m v ≡ votes_of pattern.now cells.now m }
-    ensures few { (m : ℕ) (v : Vote) → m < length out.new → (slice_index_or out.new m v).zeros + (slice_index_or out.new m v).ones ≤ copies pattern.now.kind m }
+    ensures votes { (m : ℕ) (v : Vote) → m < length out.new →
+        slice_index_or out.new m v ≡ votes_of pattern.now cells.now m }
+    ensures few { (m : ℕ) (v : Vote) → m < length out.new →
+        (slice_index_or out.new m v).zeros + (slice_index_or out.new m v).ones ≤ copies pattern.now.kind m }
     ensures undamaged { (bits : List Bit) →
-        ((k : ℕ) → k < length cells.now → slice_index_or cells.now k Off ≡ as_cell (slice_index_or bits (origin_of pattern.now k) Zero)) →
-        (m : ℕ) (v : Vote) → m < length out.new → slice_index_or out.new m v ≡ copies_as_votes (slice_index_or bits m Zero) (copies pattern.now.kind m) }
+        ((k : ℕ) → k < length cells.now → slice_index_or cells.now k Off ≡
+        as_cell (slice_index_or bits (origin_of pattern.now k) Zero)) →
+        (m : ℕ) (v : Vote) → m < length out.new → slice_index_or out.new m v ≡
+        copies_as_votes (slice_index_or bits m Zero) (copies pattern.now.kind m) }
 {
     count(pattern, cells, out);
 }
@@ -41,7 +45,8 @@ fn count(pattern: &Pattern, cells: &[Trit], out: &mut [Vote])
 /// Counts the votes for bits that have one cell each.
 fn count_same(cells: &[Trit], out: &mut [Vote])
     requires { length cells.now ≡ length out.old }
-    ensures { (m : ℕ) (v : Vote) → m < length out.new → slice_index_or out.new m v ≡ vote_of (slice_index_or cells.now m Off) }
+    ensures { (m : ℕ) (v : Vote) → m < length out.new →
+        slice_index_or out.new m v ≡ vote_of (slice_index_or cells.now m Off) }
 {
     for m in 0..out.len() {
         out[m] = vote_of(cells[m]);

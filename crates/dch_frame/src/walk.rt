@@ -22,7 +22,8 @@ impl Model for Walk {
 
     ghost view = { λ w. record { pattern = w.pattern; bit = w.bit } };
 
-    ghost invariant = { λ w. (w.counter ≡ counter_at w.pattern.kind w.bit) × (w.bit ≤ w.pattern.len) × IsWellFormed w.pattern };
+    ghost invariant = { λ w. (w.counter ≡ counter_at w.pattern.kind w.bit) × (w.bit ≤ w.pattern.len) ×
+        IsWellFormed w.pattern };
 }
 
 impl Walk {

@@ -11,7 +11,14 @@ format number size = record { number = number; size = size }
 
 -- the first class of speech: nothing, a frame that describes silence, or a frame of speech
 abbrev pub class_a : Trch
-class_a = record { frames = 2; coding = Third; crc = C12; rm = 200; set = 0; formats = format 0 0 ∷ format 1 39 ∷ format 1 81 ∷ [] }
+class_a = record {
+  frames = 2;
+  coding = Third;
+  crc = C12;
+  rm = 200;
+  set = 0;
+  formats = format 0 0 ∷ format 1 39 ∷ format 1 81 ∷ [];
+}
 
 -- the second class
 abbrev pub class_b : Trch
@@ -23,11 +30,25 @@ class_c = record { frames = 2; coding = Half; crc = C0; rm = 235; set = 0; forma
 
 -- a PDU of signalling
 abbrev pub signalling : Trch
-signalling = record { frames = 4; coding = Third; crc = C16; rm = 190; set = 1; formats = format 0 0 ∷ format 1 148 ∷ [] }
+signalling = record {
+  frames = 4;
+  coding = Third;
+  crc = C16;
+  rm = 190;
+  set = 1;
+  formats = format 0 0 ∷ format 1 148 ∷ [];
+}
 
 -- up to 12 PDUs of packet data
 abbrev pub packets : Trch
-packets = record { frames = 1; coding = Half; crc = C16; rm = 130; set = 2; formats = format 0 0 ∷ format 1 336 ∷ format 2 336 ∷ format 4 336 ∷ format 8 336 ∷ format 12 336 ∷ [] }
+packets = record {
+  frames = 1;
+  coding = Half;
+  crc = C16;
+  rm = 130;
+  set = 2;
+  formats = format 0 0 ∷ format 1 336 ∷ format 2 336 ∷ format 4 336 ∷ format 8 336 ∷ format 12 336 ∷ [];
+}
 
 -- all of them
 unfoldable pub gen_channels : List Trch

@@ -47,8 +47,8 @@ pub record CountsBoth (line : Line) (old new : Counts) : Type 0 where
   pub up : CountsLine Up line old.up new.up
   pub down : CountsLine Down line old.down new.down
 
--- a line that is told: counts that are exact then are so by this line and all before it, and they are where each of them may grow by
--- as much as the line has bytes
+-- a line that is told: counts that are exact then are so by this line and all before it, and they are where each of
+-- them may grow by as much as the line has bytes
 pub record ShowsCounts (old : Counts) (line : Line) (new : Counts) : Type 0 where
   pub counts : new.is_exact ≡ true → CountsBoth line old new
   pub exact : old.is_exact ≡ true → HasRoom old (length (text_of (line ∷ []))) → new.is_exact ≡ true

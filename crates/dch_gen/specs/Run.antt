@@ -22,13 +22,15 @@ pub record Follows (First Then : LinkState → LinkState → List Line → Type 
 -- events happen one after another
 abbrev pub HappenAll : List Event → LinkState → LinkState → List Line → Type 0
 HappenAll [] old new lines = (new ≡ old) × (lines ≡ [])
-HappenAll (event ∷ events) old new lines = Follows (λ from to own. Happens from event to own) (HappenAll events) old new lines
+HappenAll (event ∷ events) old new lines = Follows (λ from to own. Happens from event to own)
+    (HappenAll events) old new lines
 
 -- the next stages of a radio frame pass, of which so many are left
 abbrev pub PassFrom : ℕ → Option Stage → LinkState → LinkState → List Line → Type 0
 PassFrom left None old new lines = (new ≡ old) × (lines ≡ [])
 PassFrom zero (Some stage) old new lines = ⊥
-PassFrom (suc left) (Some stage) old new lines = Follows (AtStage stage) (PassFrom left (next_stage stage)) old new lines
+PassFrom (suc left) (Some stage) old new lines = Follows (AtStage stage)
+    (PassFrom left (next_stage stage)) old new lines
 
 -- all 20 stages pass, and then no damage waits
 pub record PassesAll (old new : LinkState) (lines : List Line) : Type 0 where

@@ -54,7 +54,8 @@ pub record GoesOn (first : ℕ) (Does : LinkState → List Line → Type 0) (old
 
 -- the same from any state that the nodes stand for, with the text of so many steps at most
 pub record Advances (steps : ℕ) (Does : LinkState → LinkState → List Line → Type 0) (old new : Parts) : Type 0 where
-  pub goes : (first : ℕ) (link : LinkState) → Represents old.accepted old.accepted first link old.link → GoesOn first (Does link) old new
+  pub goes : (first : ℕ) (link : LinkState) → Represents old.accepted old.accepted first link old.link
+      → GoesOn first (Does link) old new
   pub ready : IsReady new
   pub same : new.accepted ≡ old.accepted
   pub counts : (more : ℕ) → MayCount old (steps + more) → MayCount new more

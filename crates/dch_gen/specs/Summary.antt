@@ -8,7 +8,8 @@ use Rattle.dch_gen.specs.Counts.{cells_sent, ones_sent, units_handed_up, units_t
 
 -- a bearer of a direction, with the units that it accepted and those that were handed up
 abbrev pub sum_line : Dir → ℕ → ℕ → ℕ → List ℕ
-sum_line dir b took got = codes "sum " ++ dir_word dir ++ codes " " ++ decimal b ++ codes " took=" ++ decimal took ++ codes " got=" ++ decimal got ++ codes "\n"
+sum_line dir b took got = codes "sum " ++ dir_word dir ++ codes " " ++ decimal b ++ codes " took=" ++ decimal took
+    ++ codes " got=" ++ decimal got ++ codes "\n"
 
 -- the first bearers of a direction
 abbrev pub sum_lines : Dir → (ℕ → ℕ) → (ℕ → ℕ) → ℕ → List ℕ
@@ -17,7 +18,8 @@ sum_lines dir took got (suc b) = sum_lines dir took got b ++ sum_line dir b (too
 
 -- a direction, with its cells and the ones among them
 abbrev pub phy_line : Dir → ℕ → ℕ → List ℕ
-phy_line dir cells ones = codes "phy " ++ dir_word dir ++ codes " cells=" ++ decimal cells ++ codes " ones=" ++ decimal ones ++ codes "\n"
+phy_line dir cells ones = codes "phy " ++ dir_word dir ++ codes " cells=" ++ decimal cells ++ codes " ones="
+    ++ decimal ones ++ codes "\n"
 
 -- so many radio frames
 abbrev pub end_line : ℕ → List ℕ
@@ -31,4 +33,5 @@ abbrev pub dir_cells : Dir → List Line → List ℕ
 dir_cells dir lines = phy_line dir (cells_sent dir lines) (ones_sent dir lines)
 
 unfoldable pub summary : ℕ → List Line → List ℕ
-summary frames lines = dir_sums Up lines ++ dir_sums Down lines ++ dir_cells Up lines ++ dir_cells Down lines ++ end_line frames
+summary frames lines = dir_sums Up lines ++ dir_sums Down lines ++ dir_cells Up lines ++ dir_cells Down lines
+    ++ end_line frames

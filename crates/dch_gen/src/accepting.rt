@@ -22,8 +22,8 @@ pub fn accept_gen(alloc: Global) -> Result<Accepted, NoMemory>
     }
 }
 
-/// A law: in the configuration of `gen` each uplink combination has a rate, at most 2,048 code blocks may lose bits, and no two
-/// of them collide under any legal sequence of combinations, so no refusal but want of memory has a cause.
+/// A law: in the configuration of `gen` each uplink combination has a rate, at most 2,048 code blocks may lose bits,
+/// and no two of them collide under any legal sequence of combinations, so no refusal but want of memory has a cause.
 pub fn never_refused()
     ensures { IsNeverRefused gen_config }
 {}

@@ -9,8 +9,8 @@ use dch_bits::NoMemory;
 use dch_types::{Config, Downlink, Side, Uplink};
 use std::alloc::Global;
 
-/// The configuration that `gen` runs on: both directions carry speech in three classes, signalling, and packet data of up to 12
-/// PDUs in a radio frame. It keeps every rule of a configuration.
+/// The configuration that `gen` runs on: both directions carry speech in three classes, signalling, and packet data of
+/// up to 12 PDUs in a radio frame. It keeps every rule of a configuration.
 #[tactic(auto, unfolding(crate::specs::Configuration::gen_config))]
 pub fn gen_config(alloc: Global) -> Result<Config, NoMemory>
     ensures value { IfOk result (λ config. config ≡ gen_config) }

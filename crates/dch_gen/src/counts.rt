@@ -91,8 +91,12 @@ impl DirCounts {
 
     /// Counts the cells of a radio frame. Answers whether no count has become too large.
     fn count_cells(&mut self, cells: &[Trit]) -> bool
-        ensures cells { result ≡ true → self.new ≡ record self.old { cells = self.old.cells + length cells.now; ones = self.old.ones + count_by is_one cells.now } }
-        ensures exact { self.old.cells + length cells.now < 2 ^ 64 → self.old.ones + length cells.now < 2 ^ 64 → result ≡ true }
+        ensures cells { result ≡ true → self.new ≡ record self.old {
+          cells = self.old.cells + length cells.now;
+          ones = self.old.ones + count_by is_one cells.now;
+        } }
+        ensures exact { self.old.cells + length cells.now < 2 ^ 64 → self.old.ones + length cells.now < 2 ^ 64 →
+            result ≡ true }
     {
         let ones = count_ones(cells) as u64;
         match (
@@ -109,11 +113,12 @@ impl DirCounts {
     }
 }
 
-/// Counts one more for a bearer, where it is one that is counted and the direction is this one. Answers whether the count has not
-/// become too large.
+/// Counts one more for a bearer, where it is one that is counted and the direction is this one. Answers whether the
+/// count has not become too large.
 fn count_one(counts: &mut [u64], is_same: bool, bearer: u8) -> bool
     requires { length counts.old ≡ 6 }
-    ensures counts { result ≡ true → (b : ℕ) → b < 6 → slice_index counts.new b ≡ slice_index counts.old b + one_if (is_same && (bearer == b)) }
+    ensures counts { result ≡ true → (b : ℕ) → b < 6 →
+        slice_index counts.new b ≡ slice_index counts.old b + one_if (is_same && (bearer == b)) }
     ensures exact { ((b : ℕ) → b < 6 → slice_index counts.old b + 1 < 2 ^ 64) → result ≡ true }
 {
     let place = usize::from(bearer);

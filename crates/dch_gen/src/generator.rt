@@ -22,8 +22,8 @@ use dch_types::Dir;
 use std::alloc::Global;
 use std::marker::Model;
 
-/// Three nodes that run together, to whose bearers units are offered before each radio frame, and what is counted of what they tell.
-/// All memory is taken at opening.
+/// Three nodes that run together, to whose bearers units are offered before each radio frame, and what is counted of
+/// what they tell. All memory is taken at opening.
 pub struct Generator {
     accepted: Accepted,
     link: Link,
@@ -50,7 +50,8 @@ impl Model for Generator {
 }
 
 impl Generator {
-    /// Opens the nodes for a configuration, of which the first six bearers send in both directions. The first radio frame has this CFN.
+    /// Opens the nodes for a configuration, of which the first six bearers send in both directions. The first radio
+    /// frame has this CFN.
     pub fn open(alloc: Global, accepted: Accepted, first_cfn: u8) -> Result<Generator, NoMemory>
         requires cfn { first_cfn % 8 ≡ 0 }
         requires bearers { HasBearers accepted }
@@ -86,14 +87,16 @@ impl Generator {
     /// Writes the summary of a run through so many radio frames.
     pub fn put_summary(&self, frames: u32, report: &mut Report)
         requires { length report.old.text + 1500 ≤ report.old.most }
-        ensures { (first : ℕ) (is : HasPassed first frames frames self.now) → report.new ≡ record report.old { text = report.old.text ++ summary frames is.lines } }
+        ensures { (first : ℕ) (is : HasPassed first frames frames self.now) →
+            report.new ≡ record report.old { text = report.old.text ++ summary frames is.lines } }
     {
         self.counts.put_summary(frames, report);
     }
 
     /// The nodes, after the work. Each stands for what happened to it.
     pub fn into_nodes(self) -> (Ue, NodeB, Rnc)
-        ensures { (first : ℕ) (link : LinkState) → Represents self.accepted self.accepted first link self.link → HaveHistories self.accepted self.accepted first link result.0 result.1 result.2 }
+        ensures { (first : ℕ) (link : LinkState) → Represents self.accepted self.accepted first link self.link →
+            HaveHistories self.accepted self.accepted first link result.0 result.1 result.2 }
     {
         let Generator {
             accepted: _accepted,

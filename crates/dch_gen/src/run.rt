@@ -21,8 +21,8 @@ pub enum GenFault {
     NoMemory,
 }
 
-/// Opens three nodes for the configuration of `gen`, runs them through so many radio frames from a CFN of 8 times `start` on, and writes
-/// a summary. Gives the nodes where it was written.
+/// Opens three nodes for the configuration of `gen`, runs them through so many radio frames from a CFN of 8 times
+/// `start` on, and writes a summary. Gives the nodes where it was written.
 pub fn run_gen<K: Sink>(
     alloc: Global,
     start: u8,

@@ -11,11 +11,12 @@ use dch_types::Dir;
 pub const MOST_BYTES: usize = 1500;
 
 impl Counts {
-    /// Writes the summary of a run of so many radio frames: a line for each bearer of both directions with the units that were accepted
-    /// and handed up, one for the cells of each direction, and the count of radio frames.
+    /// Writes the summary of a run of so many radio frames: a line for each bearer of both directions with the units
+    /// that were accepted and handed up, one for the cells of each direction, and the count of radio frames.
     pub fn put_summary(&self, frames: u32, report: &mut Report)
         requires { length report.old.text + 1500 ≤ report.old.most }
-        ensures { (lines : List NodeLine) → AreCountsOf lines self.now → report.new ≡ record report.old { text = report.old.text ++ summary frames lines } }
+        ensures { (lines : List NodeLine) → AreCountsOf lines self.now →
+            report.new ≡ record report.old { text = report.old.text ++ summary frames lines } }
     {
         self.up.put_sums(Dir::Up, report);
         self.down.put_sums(Dir::Down, report);
@@ -29,7 +30,10 @@ impl DirCounts {
     /// A line for each bearer.
     fn put_sums(&self, dir: Dir, report: &mut Report)
         requires { length report.old.text + 600 ≤ report.old.most }
-        ensures text { report.new ≡ record report.old { text = report.old.text ++ sum_lines dir (λ b. slice_index self.now.took b) (λ b. slice_index self.now.got b) 6 } }
+        ensures text { report.new ≡ record report.old {
+          text =
+              report.old.text ++ sum_lines dir (λ b. slice_index self.now.took b) (λ b. slice_index self.now.got b) 6;
+        } }
         ensures few { length report.new.text ≤ length report.old.text + 600 }
     {
         for b in 0..BEARERS {
@@ -40,7 +44,10 @@ impl DirCounts {
     /// A line for the cells.
     fn put_cells(&self, dir: Dir, report: &mut Report)
         requires { length report.old.text + 100 ≤ report.old.most }
-        ensures text { report.new ≡ record report.old { text = report.old.text ++ phy_line dir self.now.cells self.now.ones } }
+        ensures text { report.new ≡ record report.old {
+          text =
+              report.old.text ++ phy_line dir self.now.cells self.now.ones;
+        } }
         ensures few { length report.new.text ≤ length report.old.text + 100 }
     {
         report.put_text(b"phy ");

@@ -4,7 +4,8 @@ use Rattle.dch_bits.specs.declared.bit.Bit.{Bit}
 use Rattle.dch_bits.specs.declared.bit.Trit.{Trit}
 use Rattle.dch_types.specs.declared.channel.Dir.{Dir}
 
--- what a node tells: a unit is accepted or not; a block, a PDU or a unit came; a frame is sent, or refused; a TTI can't be read
+-- what a node tells: a unit is accepted or not; a block, a PDU or a unit came; a frame is sent, or refused; a TTI can't
+-- be read
 pub data Line : Type 0 where
   Took : (dir : Dir) → (bearer : ℕ) → Line
   Full : (dir : Dir) → (bearer : ℕ) → Line

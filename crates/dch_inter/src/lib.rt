@@ -1,4 +1,5 @@
-//! The two interleavers as places (TS 25.212 4.2.5 and 4.2.11): which place of the input an output place shows, and back.
+//! The two interleavers as places (TS 25.212 4.2.5 and 4.2.11): which place of the input an output place shows, and
+//! back.
 #![tactic(auto)]
 
 ghost use Rattle.std.specs.Prelude.{◌≡◌, ◌+◌, ◌*◌, ◌/◌, ◌%◌, ◌^◌, ◌<◌, ◌≤◌, ℕ, slice_index, sum_by, take};

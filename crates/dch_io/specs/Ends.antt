@@ -11,7 +11,12 @@ pub record End : Type 0 where
   pub faults_now : ℕ
 
 abbrev pub end_of : {T : Type 0} → (T → Option (List ℕ)) → (T → ℕ) → T → T → End
-end_of known faults old new = record { before = known old; now = known new; faults_before = faults old; faults_now = faults new }
+end_of known faults old new = record {
+  before = known old;
+  now = known new;
+  faults_before = faults old;
+  faults_now = faults new;
+}
 
 abbrev pub span : Option (List ℕ) → Option (List ℕ) → ℕ → ℕ → End
 span before now f g = record { before = before; now = now; faults_before = f; faults_now = g }

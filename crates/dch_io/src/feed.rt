@@ -52,8 +52,8 @@ pub fn new_piece(alloc: Global) -> Result<Vec<u8>, NoMemory>
     }
 }
 
-/// Reads the next piece of an input of which so many bytes came to the front of `room`, and answers its length: 0 at the end of
-/// the input. Where as many bytes came as may come, just one more is looked for.
+/// Reads the next piece of an input of which so many bytes came to the front of `room`, and answers its length: 0 at
+/// the end of the input. Where as many bytes came as may come, just one more is looked for.
 pub fn read_next<S: Source>(
     source: &mut S,
     room: &mut [u8],

@@ -6,8 +6,8 @@ ghost use Rattle.dch_io.specs.Causes.{HasCause, TakesSome, faults_after};
 use crate::{Failed, Sink, Source};
 use std::marker::Model;
 
-/// A source over bytes in memory, for tests. A call gives at most `step` bytes (at least 1), and fails exactly where its
-/// number, counted from 0, stands in `failing`.
+/// A source over bytes in memory, for tests. A call gives at most `step` bytes (at least 1), and fails exactly where
+/// its number, counted from 0, stands in `failing`.
 #[derive(Drop)]
 pub struct MemorySource {
     bytes: Vec<u8>,
@@ -24,13 +24,20 @@ impl Model for MemorySource {
 
     ghost Value = { MemoryInput };
 
-    ghost view = { λ s. record { left = drop s.at s.bytes.items; step = s.step; failing = s.failing.items; calls = s.calls; faults = s.faults } };
+    ghost view = { λ s. record {
+      left = drop s.at s.bytes.items;
+      step = s.step;
+      failing = s.failing.items;
+      calls = s.calls;
+      faults = s.faults;
+    } };
 
     ghost invariant = { λ s. s.at ≤ length s.bytes.items };
 }
 
 impl MemorySource {
-    /// A source of these octets, which gives at most `step` of them a call, and whose calls with these numbers, from 0 on, fail.
+    /// A source of these octets, which gives at most `step` of them a call, and whose calls with these numbers, from 0
+    /// on, fail.
     pub fn new(bytes: Vec<u8>, step: usize, failing: Vec<u64>) -> Self
         ensures { result ≡ record { left = bytes.items; step = step; failing = failing.items; calls = 0; faults = 0 } }
     {
@@ -65,7 +72,8 @@ impl Source for MemorySource {
         ensures bytes { ReadConsumes (Some self.old.left) (Some self.new.left) result into.new }
         ensures cause { HasCause self.old.faults self.new.faults result }
         ensures fails { IsErr result ↔ Contains self.old.failing self.old.calls }
-        ensures count { IfOk result (λ n. n ≡ min (max self.old.step 1) (min (length into.old) (length self.old.left))) }
+        ensures count { IfOk result (λ n. n ≡ min (max self.old.step 1)
+            (min (length into.old) (length self.old.left))) }
         ensures rest { self.new ≡ record self.old {
           left = self.new.left;
           calls = min (self.old.calls + 1) (2 ^ 64 - 1);
@@ -84,8 +92,9 @@ impl Source for MemorySource {
     }
 }
 
-/// A sink that writes over a room in memory, for tests. A call takes at most `step` bytes (at least 1), and fails exactly
-/// where its number, counted from 0, stands in `failing`, or where no room is left for a piece that isn't empty.
+/// A sink that writes over a room in memory, for tests. A call takes at most `step` bytes (at least 1), and fails
+/// exactly where its number, counted from 0, stands in `failing`, or where no room is left for a piece that isn't
+/// empty.
 #[derive(Drop)]
 pub struct MemorySink {
     room: Vec<u8>,
@@ -102,16 +111,30 @@ impl Model for MemorySink {
 
     ghost Value = { MemoryOutput };
 
-    ghost view = { λ s. record { taken = take s.at s.room.items; room = length s.room.items - s.at; step = s.step; failing = s.failing.items; calls = s.calls; faults = s.faults } };
+    ghost view = { λ s. record {
+      taken = take s.at s.room.items;
+      room = length s.room.items - s.at;
+      step = s.step;
+      failing = s.failing.items;
+      calls = s.calls;
+      faults = s.faults;
+    } };
 
     ghost invariant = { λ s. s.at ≤ length s.room.items };
 }
 
 impl MemorySink {
-    /// A sink with room for as many octets as `room` has, which takes at most `step` of them a call, and whose calls with these
-    /// numbers, from 0 on, fail.
+    /// A sink with room for as many octets as `room` has, which takes at most `step` of them a call, and whose calls
+    /// with these numbers, from 0 on, fail.
     pub fn new(room: Vec<u8>, step: usize, failing: Vec<u64>) -> Self
-        ensures { result ≡ record { taken = []; room = length room.items; step = step; failing = failing.items; calls = 0; faults = 0 } }
+        ensures { result ≡ record {
+          taken = [];
+          room = length room.items;
+          step = step;
+          failing = failing.items;
+          calls = 0;
+          faults = 0;
+        } }
     {
         MemorySink {
             room,
@@ -141,7 +164,8 @@ impl Sink for MemorySink {
         ensures some { TakesSome result piece.now }
         ensures bytes { WriteAppends (Some self.old.taken) (Some self.new.taken) result piece.now }
         ensures cause { HasCause self.old.faults self.new.faults result }
-        ensures fails { IsErr result ↔ (Contains self.old.failing self.old.calls ⊎ ((0 < length piece.now) × (self.old.room ≡ 0))) }
+        ensures fails { IsErr result ↔ (Contains self.old.failing self.old.calls ⊎
+            ((0 < length piece.now) × (self.old.room ≡ 0))) }
         ensures count { IfOk result (λ n. n ≡ min (max self.old.step 1) (min (length piece.now) self.old.room)) }
         ensures room { length self.new.taken + self.new.room ≡ length self.old.taken + self.old.room }
         ensures rest { self.new ≡ record self.old {

@@ -4,8 +4,8 @@ ghost use Rattle.std.specs.Io.KnownBytes.{ReadConsumes, WriteAppends};
 ghost use Rattle.std.specs.declared.option.Option.{Option};
 ghost use Rattle.dch_io.specs.Causes.{HasCause, TakesSome};
 
-/// The outside failed: a read or a write was not made. The count of faults of the source or sink has risen, or stands at
-/// its greatest value.
+/// The outside failed: a read or a write was not made. The count of faults of the source or sink has risen, or stands
+/// at its greatest value.
 #[derive(Clone, Copy, Debug, PartialEq, Eq)]
 pub struct Failed;
 
@@ -19,7 +19,8 @@ pub trait Source {
     /// How often the source has failed: from 0 to 2^64 - 1, and never less than before.
     ghost faults: { Self → ℕ };
 
-    /// Reads the next bytes to the front of `into`, and answers how many. None come only at the end of the input, or where
+    /// Reads the next bytes to the front of `into`, and answers how many. None come only at the end of the input, or
+    /// where
     /// `into` is empty.
     fn read(&mut self, into: &mut [u8]) -> Result<usize, Failed>
         ensures bound { ReadsAtMost result into.new }

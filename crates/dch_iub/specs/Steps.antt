@@ -17,15 +17,18 @@ IsPacked frame at octets bits = (k : ℕ) → k < 8 * octets → bit_of_octets f
 
 -- the first blocks of a TTI, each in so many octets
 abbrev pub ArePacked : List ℕ → ℕ → ℕ → Held → Type 0
-ArePacked frame at blocks held = (b : ℕ) → b < blocks → IsPacked frame (at + b * div_ceil held.size 8) (div_ceil held.size 8) (block_at held b)
+ArePacked frame at blocks held = (b : ℕ) → b < blocks
+    → IsPacked frame (at + b * div_ceil held.size 8) (div_ceil held.size 8) (block_at held b)
 
 -- the marks of the first blocks of a TTI, from a place of a list on
 abbrev pub AreListed : List Bit → ℕ → ℕ → Held → Type 0
-AreListed bits at blocks held = (b : ℕ) → b < blocks → slice_index_or bits (at + b) Zero ≡ mark_of (slice_index_or held.good b false)
+AreListed bits at blocks held = (b : ℕ) → b < blocks → slice_index_or bits (at + b) Zero
+    ≡ mark_of (slice_index_or held.good b false)
 
 -- the format numbers of the first channels of a set are written
 abbrev pub AreNamed : Side → ℕ → List ℕ → List ℕ → ℕ → Type 0
-AreNamed side set frame numbers n = (i : ℕ) → i < n → (channel_at side i).set ≡ set → slice_index frame (number_place side set i) ≡ slice_index numbers i
+AreNamed side set frame numbers n = (i : ℕ) → i < n → (channel_at side i).set ≡ set
+    → slice_index frame (number_place side set i) ≡ slice_index numbers i
 
 -- and their blocks
 abbrev pub AreWritten : Side → ℕ → List ℕ → List ℕ → HeldSet → ℕ → Type 0

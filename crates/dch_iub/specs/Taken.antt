@@ -39,7 +39,8 @@ AreGood held = (b : ℕ) → b < length held.good → slice_index_or held.good b
 -- the blocks of the first channels of a set are taken
 abbrev pub AreTaken : Side → ℕ → List ℕ → List ℕ → HeldSet → ℕ → Type 0
 AreTaken side set frame numbers held n = (i : ℕ) → i < n → (channel_at side i).set ≡ set
-    → IsTaken (channel_at side i) (slice_index numbers i) frame (blocks_place side set numbers i) (held_at held.blocks i)
+    → IsTaken (channel_at side i) (slice_index numbers i) frame (blocks_place side set numbers i)
+    (held_at held.blocks i)
 
 -- and are good
 abbrev pub AreAllGood : Side → ℕ → HeldSet → ℕ → Type 0
@@ -47,7 +48,8 @@ AreAllGood side set held n = (i : ℕ) → i < n → (channel_at side i).set ≡
 
 -- the first blocks of a TTI are marked by the bits from a place on
 abbrev pub AreSet : List ℕ → ℕ → ℕ → Held → Type 0
-AreSet frame at blocks held = (b : ℕ) → b < blocks → bit_of_octets frame (at + b) ≡ mark_of (slice_index_or held.good b false)
+AreSet frame at blocks held = (b : ℕ) → b < blocks → bit_of_octets frame (at + b)
+    ≡ mark_of (slice_index_or held.good b false)
 
 -- the blocks with other marks, as many
 pub record IsMarkedAs (old new : Held) : Type 0 where
@@ -61,7 +63,8 @@ AreMarksTaken side set frame bit numbers held n = (i : ℕ) → i < n → (chann
 
 -- the blocks of the channels of a set are as many as these formats have
 abbrev pub AreCounted : Side → ℕ → List ℕ → HeldSet → Type 0
-AreCounted side set numbers held = ForSet side set (λ i. length (held_at held.blocks i).good ≡ (format_in side numbers i).number)
+AreCounted side set numbers held = ForSet side set (λ i. length (held_at held.blocks i).good
+    ≡ (format_in side numbers i).number)
 
 -- a good frame was taken
 pub record IsReceived (dir : Dir) (side : Side) (on : Bool) (set : ℕ) (frame : List ℕ) (cfn qe : ℕ) (held : HeldSet) : Type 0 where

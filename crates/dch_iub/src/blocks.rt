@@ -50,7 +50,8 @@ fn write_channel(
     requires format { (channel_at side.now channel).set ≡ set → HasFormat (channel_at side.now channel) blocks.now }
     requires room { at + (if (channel_at side.now channel).set == set then format_octets (format_at (channel_at side.now channel) blocks.now.format) else 0) ≤ length out.old }
     ensures next { result ≡ at + (if (channel_at side.now channel).set == set then format_octets (format_at (channel_at side.now channel) blocks.now.format) else 0) }
-    ensures packed { (channel_at side.now channel).set ≡ set → ArePacked out.new at (length blocks.now.good) blocks.now }
+    ensures packed { (channel_at side.now channel).set ≡ set →
+        ArePacked out.new at (length blocks.now.good) blocks.now }
     ensures before { take at out.new ≡ take at out.old }
 {
     if side.channel(channel).set == set {
@@ -73,7 +74,8 @@ pub fn write_blocks(
 )
     requires side { IsSide side.now }
     requires all { length blocks.now.blocks ≡ length side.now.channels }
-    requires numbered { (i : ℕ) → i < length side.now.channels → slice_index numbers.now i ≡ (held_at blocks.now.blocks i).format }
+    requires numbered { (i : ℕ) → i < length side.now.channels →
+        slice_index numbers.now i ≡ (held_at blocks.now.blocks i).format }
     requires formats { ForSet side.now set (λ i. HasFormat (channel_at side.now i) (held_at blocks.now.blocks i)) }
     requires header { header ≡ header_octets side.now set }
     requires room { blocks_end side.now set numbers.now ≤ length out.old }
@@ -118,7 +120,8 @@ fn list_channel(
     requires format { (channel_at side.now channel).set ≡ set → HasFormat (channel_at side.now channel) blocks.now }
     requires room { at + (if (channel_at side.now channel).set == set then (format_at (channel_at side.now channel) blocks.now.format).number else 0) ≤ length out.old }
     ensures next { result ≡ at + (if (channel_at side.now channel).set == set then (format_at (channel_at side.now channel) blocks.now.format).number else 0) }
-    ensures listed { (channel_at side.now channel).set ≡ set → AreListed out.new at (length blocks.now.good) blocks.now }
+    ensures listed { (channel_at side.now channel).set ≡ set →
+        AreListed out.new at (length blocks.now.good) blocks.now }
     ensures before { take at out.new ≡ take at out.old }
 {
     if side.channel(channel).set == set {
@@ -133,7 +136,8 @@ fn list_channel(
 pub fn list_marks(side: &Side, set: u8, numbers: &[u8; 8], blocks: &SetBlocks, out: &mut [Bit])
     requires side { IsSide side.now }
     requires all { length blocks.now.blocks ≡ length side.now.channels }
-    requires numbered { (i : ℕ) → i < length side.now.channels → slice_index numbers.now i ≡ (held_at blocks.now.blocks i).format }
+    requires numbered { (i : ℕ) → i < length side.now.channels →
+        slice_index numbers.now i ≡ (held_at blocks.now.blocks i).format }
     requires formats { ForSet side.now set (λ i. HasFormat (channel_at side.now i) (held_at blocks.now.blocks i)) }
     requires room { mark_count side.now set numbers.now ≤ length out.old }
     ensures { AreCollected side.now set out.new numbers.now blocks.now (length side.now.channels) }

@@ -40,7 +40,8 @@ fn longest_format(dir: Dir, side: &Side, channel: usize) -> u8
 /// The numbers of the formats that take the most bits, for each channel.
 fn longest_formats(dir: Dir, side: &Side) -> [u8; 8]
     requires { IsSide side.now }
-    ensures { (i : ℕ) → i < length side.now.channels → IsGreatest dir (channel_at side.now i) (length (channel_at side.now i).formats) (slice_index result i) }
+    ensures { (i : ℕ) → i < length side.now.channels →
+        IsGreatest dir (channel_at side.now i) (length (channel_at side.now i).formats) (slice_index result i) }
 {
     let mut numbers = [0; 8];
     for i in 0..side.channels.len() {

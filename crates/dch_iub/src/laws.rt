@@ -8,10 +8,12 @@ ghost use Rattle.dch_iub.specs.Forms.{IsReadForm, IsWrittenForm};
 
 /// A law: a frame has one reading. What is read of a frame that was written is what was written to it.
 pub fn one_reading()
-    ensures one { (config : Config) (dir : Dir) (set cfn qe other_cfn other_qe : ℕ) (frame : List ℕ) (held other : HeldSet) →
+    ensures one { (config : Config) (dir : Dir) (set cfn qe other_cfn other_qe : ℕ) (frame : List ℕ)
+        (held other : HeldSet) →
         IsReadForm config dir set frame cfn qe held → IsReadForm config dir set frame other_cfn other_qe other →
         IsReadBack dir (side_of config dir) set cfn other_cfn qe other_qe held other }
-    ensures back { (config : Config) (dir : Dir) (set cfn qe other_cfn other_qe : ℕ) (frame : List ℕ) (held other : HeldSet) →
+    ensures back { (config : Config) (dir : Dir) (set cfn qe other_cfn other_qe : ℕ) (frame : List ℕ)
+        (held other : HeldSet) →
         IsWrittenForm config dir set frame cfn qe held → IsReadForm config dir set frame other_cfn other_qe other →
         IsReadBack dir (side_of config dir) set cfn other_cfn qe other_qe held other }
 {}

@@ -87,7 +87,8 @@ pub fn read_dl(
     ensures good { OnOk result (ForSet (side_of accepted.now.config Down) set (λ i. AreGood (held_at out.new.blocks i))) }
     ensures opened { OnOk result (IsSetOf accepted.now.config Down set out.new) }
     ensures refused { IfErr result (IsCause accepted.now.config Down set frame.now) }
-    ensures no_form { OnErr result ((cfn qe : ℕ) (held : HeldSet) → ¬ IsReadForm accepted.now.config Down set frame.now cfn qe held) }
+    ensures no_form { OnErr result ((cfn qe : ℕ) (held : HeldSet) →
+        ¬ IsReadForm accepted.now.config Down set frame.now cfn qe held) }
     ensures same { OnErr result (out.new ≡ out.old) }
 {
     let side = accepted.side(Dir::Down);
@@ -107,7 +108,8 @@ pub fn read_ul(
     ensures ok { IfOk result (λ read. IsReadForm accepted.now.config Up set frame.now read.cfn read.qe out.new) }
     ensures opened { OnOk result (IsSetOf accepted.now.config Up set out.new) }
     ensures refused { IfErr result (IsCause accepted.now.config Up set frame.now) }
-    ensures no_form { OnErr result ((cfn qe : ℕ) (held : HeldSet) → ¬ IsReadForm accepted.now.config Up set frame.now cfn qe held) }
+    ensures no_form { OnErr result ((cfn qe : ℕ) (held : HeldSet) →
+        ¬ IsReadForm accepted.now.config Up set frame.now cfn qe held) }
     ensures same { OnErr result (out.new ≡ out.old) }
 {
     let side = accepted.side(Dir::Up);

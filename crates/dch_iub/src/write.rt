@@ -30,7 +30,8 @@ fn write_front(
 ) -> Shape
     requires side { IsSide side.now }
     requires all { length blocks.now.blocks ≡ length side.now.channels }
-    requires numbered { (i : ℕ) → i < length side.now.channels → slice_index numbers.now i ≡ (held_at blocks.now.blocks i).format }
+    requires numbered { (i : ℕ) → i < length side.now.channels →
+        slice_index numbers.now i ≡ (held_at blocks.now.blocks i).format }
     requires held { ForSet side.now set (λ i. HasFormat (channel_at side.now i) (held_at blocks.now.blocks i)) }
     requires formats { AreFormats side.now set numbers.now }
     requires room { blocks_end side.now set numbers.now ≤ length out.old }
@@ -57,7 +58,8 @@ fn write_marks(
 )
     requires side { IsSide side.now }
     requires all { length blocks.now.blocks ≡ length side.now.channels }
-    requires numbered { (i : ℕ) → i < length side.now.channels → slice_index numbers.now i ≡ (held_at blocks.now.blocks i).format }
+    requires numbered { (i : ℕ) → i < length side.now.channels →
+        slice_index numbers.now i ≡ (held_at blocks.now.blocks i).format }
     requires held { ForSet side.now set (λ i. HasFormat (channel_at side.now i) (held_at blocks.now.blocks i)) }
     requires marks { marks ≡ mark_count side.now set numbers.now }
     requires few { marks ≤ 512 }
@@ -83,12 +85,14 @@ fn fill_dl(
 )
     requires side { IsSide side.now }
     requires all { length blocks.now.blocks ≡ length side.now.channels }
-    requires numbered { (i : ℕ) → i < length side.now.channels → slice_index numbers.now i ≡ (held_at blocks.now.blocks i).format }
+    requires numbered { (i : ℕ) → i < length side.now.channels →
+        slice_index numbers.now i ≡ (held_at blocks.now.blocks i).format }
     requires held { ForSet side.now set (λ i. HasFormat (channel_at side.now i) (held_at blocks.now.blocks i)) }
     requires formats { AreFormats side.now set numbers.now }
     requires room { length out.old ≡ payload_end Down side.now set numbers.now + check_octets payload_check }
     ensures front { IsFront side.now set out.new cfn numbers.now blocks.now }
-    ensures check { payload_check ≡ true → IsPayloadCheck out.new (header_octets side.now set) (payload_end Down side.now set numbers.now) }
+    ensures check { payload_check ≡ true → IsPayloadCheck out.new (header_octets side.now set)
+        (payload_end Down side.now set numbers.now) }
 {
     let shape = write_front(side, set, cfn, numbers, blocks, out);
     let end = shape.header + shape.octets + tail_octets(Dir::Down, shape.marks);
@@ -108,14 +112,16 @@ fn fill_ul(
 )
     requires side { IsSide side.now }
     requires all { length blocks.now.blocks ≡ length side.now.channels }
-    requires numbered { (i : ℕ) → i < length side.now.channels → slice_index numbers.now i ≡ (held_at blocks.now.blocks i).format }
+    requires numbered { (i : ℕ) → i < length side.now.channels →
+        slice_index numbers.now i ≡ (held_at blocks.now.blocks i).format }
     requires held { ForSet side.now set (λ i. HasFormat (channel_at side.now i) (held_at blocks.now.blocks i)) }
     requires formats { AreFormats side.now set numbers.now }
     requires room { length out.old ≡ payload_end Up side.now set numbers.now + check_octets payload_check }
     ensures front { IsFront side.now set out.new cfn numbers.now blocks.now }
     ensures quality { slice_index out.new (blocks_end side.now set numbers.now) ≡ qe }
     ensures marked { IsMarked side.now set out.new (blocks_end side.now set numbers.now + 1) numbers.now blocks.now }
-    ensures check { payload_check ≡ true → IsPayloadCheck out.new (header_octets side.now set) (payload_end Up side.now set numbers.now) }
+    ensures check { payload_check ≡ true → IsPayloadCheck out.new (header_octets side.now set)
+        (payload_end Up side.now set numbers.now) }
 {
     let shape = write_front(side, set, cfn, numbers, blocks, out);
     let end = shape.header + shape.octets;

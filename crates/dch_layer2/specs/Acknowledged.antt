@@ -65,7 +65,8 @@ pub record BuildsAtTurn (rules : Rules) (s : Sender) (r : Receiver) (old new : A
   pub small : AreOctets octets
   pub long : length octets ≡ old.shape.octets
   pub block_is : block ≡ block_of old.shape.ct octets
-  pub sides : HasSides rules (sender_after (turn rules s r) rules old.shape.octets s) (receiver_after (turn rules s r) rules r) new
+  pub sides : HasSides rules (sender_after (turn rules s r) rules old.shape.octets s)
+      (receiver_after (turn rules s r) rules r) new
 
 -- the lines on octets that came
 abbrev pub lines_on : Rules → Dir → ℕ → Result AmView PduError → Sender → Receiver → List Line
@@ -90,4 +91,5 @@ outside_last (ResetAck rsn) = false
 
 -- the lines on a PDU that is answered so, with the units that ended
 abbrev pub received_lines : Dir → ℕ → Received → List (List ℕ) → List Line
-received_lines dir b received units = line_if (outside_first received) (Outside dir b) ++ unit_lines dir b units ++ line_if (outside_last received) (Outside dir b)
+received_lines dir b received units = line_if (outside_first received) (Outside dir b) ++ unit_lines dir b units
+    ++ line_if (outside_last received) (Outside dir b)

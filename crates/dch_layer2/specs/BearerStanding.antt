@@ -40,7 +40,18 @@ pub record StandsTm (config : Config) (out into : Dir) (b : ℕ) (w : Waiting) (
 
 -- the sending side of the unacknowledged mode at opening
 abbrev pub opened_sends : Config → Dir → ℕ → Sends
-opened_sends config out b = record { sending = record { units = no_units; row = []; number = 0; pdu = pdu_octets config out b; buffer = (bearer_in config b).buffer; mark_start = marks_start out }; accepted = []; cuts = [] }
+opened_sends config out b = record {
+  sending = record {
+    units = no_units;
+    row = [];
+    number = 0;
+    pdu = pdu_octets config out b;
+    buffer = (bearer_in config b).buffer;
+    mark_start = marks_start out;
+  };
+  accepted = [];
+  cuts = [];
+}
 
 -- the sending side, where it has a channel to send on, and the receiving side, where it has one to receive from
 abbrev pub HoldsSending : Option ℕ → Sending → Option Sending → Type 0
@@ -113,7 +124,8 @@ pub record Built (config : Config) (out into : Dir) (b : ℕ) (old : Bearing) (b
 -- bits that may come to it: whole octets of a PDU, but for the transparent mode
 abbrev pub MayCome : Config → Dir → ℕ → Bearing → ℕ → Type 0
 MayCome config into b (Transparent w us) bits = Unit {0}
-MayCome config into b (Unacknowledged s r) bits = (bits ≡ 8 * pdu_octets config into b) × (pdu_octets config into b ≤ 125)
+MayCome config into b (Unacknowledged s r) bits = (bits ≡ 8 * pdu_octets config into b)
+    × (pdu_octets config into b ≤ 125)
 MayCome config into b (Acknowledged s r) bits = (bits ≡ 8 * pdu_octets config into b) × (pdu_octets config into b ≤ 126)
 
 -- it receives, and so many bits may come to it

@@ -1,4 +1,5 @@
--- What a bearer keeps at an end: its number, the direction in which blocks come, and what waits. And what each call makes of it.
+-- What a bearer keeps at an end: its number, the direction in which blocks come, and what waits. And what each call
+-- makes of it.
 use Rattle.std.specs.Prelude.{◌≡◌, ◌≤◌, ◌∷◌, ℕ, List, [], All, Bool, false, Option, Some, None, Result, Ok, Err, option_map}
 use Rattle.dch_bits.specs.declared.bit.Bit.{Bit}
 use Rattle.dch_bits.specs.declared.offer.Offer.{Offer}

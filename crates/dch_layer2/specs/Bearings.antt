@@ -1,5 +1,5 @@
--- What RLC keeps of a bearer at one end (TS 25.322): units that wait, the two sides of the unacknowledged mode, or those of the
--- acknowledged mode. And what it offers to send.
+-- What RLC keeps of a bearer at one end (TS 25.322): units that wait, the two sides of the unacknowledged mode, or
+-- those of the acknowledged mode. And what it offers to send.
 use Rattle.std.specs.Prelude.{◌+◌, ◌-◌, ◌/◌, ◌++◌, ℕ, List, [], ◌∷◌, Bool, true, false, Option, Some, None, if◌then◌else◌}
 use Rattle.dch_bits.specs.declared.bit.Bit.{Bit}
 use Rattle.dch_bits.specs.declared.offer.Offer.{Offer}
@@ -30,7 +30,8 @@ use Rattle.dch_am.specs.Sender.{Sender, opened_sender, offered, after_offer}
 use Rattle.dch_am.specs.Telling.{is_due, tick_receiver}
 use Rattle.dch_indication.specs.Lines.{Line, Took, Full as NoRoom, Wrong}
 
--- the sending side of the unacknowledged mode. No call sees the units that were accepted, nor how many they were at each build
+-- the sending side of the unacknowledged mode. No call sees the units that were accepted, nor how many they were at
+-- each build
 pub record Sends : Type 0 where
   pub sending : Sending
   pub accepted : List (List ℕ)
@@ -94,7 +95,18 @@ marks_start Down = false
 -- at opening, where the end sends in a direction
 abbrev pub opened_mode : Config → Dir → ℕ → Mode → Bearing
 opened_mode config dir b Tm = Transparent (record { units = []; buffer = (bearer_in config b).buffer; most = 5000 }) []
-opened_mode config dir b Um = Unacknowledged (record { sending = record { units = no_units; row = []; number = 0; pdu = pdu_octets config dir b; buffer = (bearer_in config b).buffer; mark_start = marks_start dir }; accepted = []; cuts = [] }) opened
+opened_mode config dir b Um = Unacknowledged (record {
+  sending = record {
+    units = no_units;
+    row = [];
+    number = 0;
+    pdu = pdu_octets config dir b;
+    buffer = (bearer_in config b).buffer;
+    mark_start = marks_start dir;
+  };
+  accepted = [];
+  cuts = [];
+}) opened
 opened_mode config dir b Am = Acknowledged opened_sender (opened_receiver (rules_in config b))
 
 -- what RLC keeps of a bearer at opening, where the end sends in a direction
@@ -121,17 +133,30 @@ with_unit WrongSize unit units = units
 -- a bearer after an offer: one SDU more where it is accepted
 abbrev pub after_answer : Offer → List ℕ → List Bit → Bearing → Bearing
 after_answer o octets bits (Transparent w us) = Transparent (after_unit o bits w) (with_unit o bits us)
-after_answer o octets bits (Unacknowledged s r) = Unacknowledged (record { sending = after_waiting o octets s.sending; accepted = accepted o octets s.accepted; cuts = s.cuts }) r
+after_answer o octets bits (Unacknowledged s r) = Unacknowledged (record {
+  sending = after_waiting o octets s.sending;
+  accepted = accepted o octets s.accepted;
+  cuts = s.cuts;
+}) r
 after_answer o octets bits (Acknowledged s r) = Acknowledged (after_offer o s octets) r
 
 -- a bearer after one tick of its timers
 abbrev pub ticked : Config → ℕ → Bearing → Bearing
 ticked config b (Transparent w us) = Transparent w us
 ticked config b (Unacknowledged s r) = Unacknowledged s r
-ticked config b (Acknowledged s r) = Acknowledged (tick_sender (rules_in config b) s) (tick_receiver (rules_in config b) r)
+ticked config b (Acknowledged s r) = Acknowledged (tick_sender (rules_in config b) s)
+    (tick_receiver (rules_in config b) r)
 
--- what it offers to send: the size of its blocks, and how many there are. A due status and a due MRW are a block more each
+-- what it offers to send: the size of its blocks, and how many there are. A due status and a due MRW are a block more
+-- each
 abbrev pub head_of : Config → Dir → ℕ → Bearing → Head
 head_of config dir b (Transparent w us) = record { size = (front_of w.units).0; count = (front_of w.units).1 }
-head_of config dir b (Unacknowledged s r) = record { size = block_bits config dir b; count = builds 64 s.sending.pdu s.sending.mark_start s.sending.units }
-head_of config dir b (Acknowledged s r) = record { size = block_bits config dir b; count = one_if (is_due r) + one_if (mrw_due s.discard) + available (rules_in config b) (pdu_octets config dir b - 2) s }
+head_of config dir b (Unacknowledged s r) = record {
+  size = block_bits config dir b;
+  count = builds 64 s.sending.pdu s.sending.mark_start s.sending.units;
+}
+head_of config dir b (Acknowledged s r) = record {
+  size = block_bits config dir b;
+  count = one_if (is_due r) + one_if (mrw_due s.discard) + available (rules_in config b)
+      (pdu_octets config dir b - 2) s;
+}

@@ -21,8 +21,10 @@ pub record HasLayer (config : Config) (v : LayerRunning) : Type 0 where
 -- layer 2 took the readings of the first channels
 pub record HasRead {S : Type 0} (shows : S → Line → S → Type 0) (config : Config) (into : Dir) (readings : ℕ → Reading) (count : ℕ) (old new : LayerRunning) (before after : S) : Type 0 where
   pub ends : IsSameEnd old new
-  pub stands : (layer : Layer) → Represents config layer old → Represents config (reads_below config into readings count layer).layer new
-  pub told : (layer : Layer) → Represents config layer old → Told shows before (reads_below config into readings count layer).lines after
+  pub stands : (layer : Layer) → Represents config layer old
+      → Represents config (reads_below config into readings count layer).layer new
+  pub told : (layer : Layer) → Represents config layer old
+      → Told shows before (reads_below config into readings count layer).lines after
 
 -- what was read of a channel is a TTI of it, one of whose up to 8 radio frames is bad, or nothing
 abbrev pub IsTti : Config → Dir → ℕ → Reading → Type 0

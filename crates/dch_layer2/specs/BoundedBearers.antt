@@ -1,5 +1,5 @@
--- What a bearer holds is limited (TS 25.322 11.2.3, 11.3.3): in acknowledged mode each PDU that came had at most 126 octets and none lies beyond
--- the window, and in unacknowledged mode no unit that ended waits.
+-- What a bearer holds is limited (TS 25.322 11.2.3, 11.3.3): in acknowledged mode each PDU that came had at most 126
+-- octets and none lies beyond the window, and in unacknowledged mode no unit that ended waits.
 use Rattle.std.specs.Prelude.{◌≡◌, ◌<◌, ℕ, [], length}
 use Rattle.dch_types.specs.declared.bearer.Mode.TheVariants.{Um, Am}
 use Rattle.dch_types.specs.declared.config.Config.{Config}

@@ -26,7 +26,12 @@ pub record IsNextPdu (config : Config) (dir : Dir) (b : ℕ) (s : Sends) (r : Re
   pub some : is_unsent s.sending.units ≡ true
   pub small : AreOctets (pdu_of s.sending)
   pub block_is : block ≡ block_of (ct_of config dir b) (pdu_of s.sending)
-  pub next_is : next ≡ Unacknowledged (record { sending = after_build s.sending; accepted = s.accepted; cuts = s.cuts ++ length s.accepted ∷ [] }) r
+  pub next_is : next ≡ Unacknowledged (record {
+    sending = after_build s.sending;
+    accepted = s.accepted;
+    cuts = s.cuts
+        ++ length s.accepted ∷ [];
+  }) r
 
 -- what the acknowledged mode writes at its turn
 pub record IsAtTurn (config : Config) (dir : Dir) (b : ℕ) (s : Sender) (r : Receiver) (next : Bearing) (block : List Bit) : Type 0 where
@@ -36,7 +41,8 @@ pub record IsAtTurn (config : Config) (dir : Dir) (b : ℕ) (s : Sender) (r : Re
   pub small : AreOctets octets
   pub long : length octets ≡ pdu_octets config dir b
   pub block_is : block ≡ block_of (ct_of config dir b) octets
-  pub next_is : next ≡ Acknowledged (sender_after (turn (rules_in config b) s r) (rules_in config b) (pdu_octets config dir b) s) (receiver_after (turn (rules_in config b) s r) (rules_in config b) r)
+  pub next_is : next ≡ Acknowledged (sender_after (turn (rules_in config b) s r) (rules_in config b)
+      (pdu_octets config dir b) s) (receiver_after (turn (rules_in config b) s r) (rules_in config b) r)
 
 -- a bearer builds a block
 abbrev pub Builds : Config → Dir → ℕ → Bearing → Bearing → List Bit → Type 0
@@ -61,4 +67,5 @@ Gives config dir b (suc n) old new blocks = BuildsFirst config dir b (λ next re
 -- so many blocks can be built one after another with no other event between
 abbrev pub CanBuild : Rules → ℕ → ℕ → Sender → Receiver → Type 0
 CanBuild rules size zero s r = Unit {0}
-CanBuild rules size (suc n) s r = (true ≡ writes (turn rules s r)) × CanBuild rules size n (sender_after (turn rules s r) rules size s) (receiver_after (turn rules s r) rules r)
+CanBuild rules size (suc n) s r = (true ≡ writes (turn rules s r))
+    × CanBuild rules size n (sender_after (turn rules s r) rules size s) (receiver_after (turn rules s r) rules r)

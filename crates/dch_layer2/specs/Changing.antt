@@ -31,7 +31,8 @@ CanAllGoOn config out bearers = (b : ℕ) → b < length bearers → CanGoOnAlon
 -- a bearer goes on, whatever it stands for
 abbrev pub GoesOn : Config → Dir → Bearer → Bearer → Type 0
 GoesOn config out old new =
-    (first : Config) (into : Dir) (b : ℕ) (bearing : Bearing) → StandsFor first out into b bearing old → KeepsBearer first config b → b < length config.bearers → StandsFor config out into b bearing new
+    (first : Config) (into : Dir) (b : ℕ) (bearing : Bearing) → StandsFor first out into b bearing old
+    → KeepsBearer first config b → b < length config.bearers → StandsFor config out into b bearing new
 
 pub record AllGoOn (config : Config) (out : Dir) (old new : List Bearer) : Type 0 where
   pub all : length new ≡ length old

@@ -40,7 +40,10 @@ error_number Sufi = 4
 
 -- all units that ended are handed up
 abbrev pub hears_um : Dir → ℕ → Result UmView PduError → Sends → Receiving → Heard
-hears_um dir b (Ok view) s r = record { bearing = Unacknowledged s (all_handed (after_um view r)); lines = unit_lines dir b (after_um view r).waiting }
+hears_um dir b (Ok view) s r = record {
+  bearing = Unacknowledged s (all_handed (after_um view r));
+  lines = unit_lines dir b (after_um view r).waiting;
+}
 hears_um dir b (Err e) s r = record { bearing = Unacknowledged s r; lines = PduBad dir b (error_number e) ∷ [] }
 
 -- the two sides after octets came that read so
@@ -59,7 +62,8 @@ rides_outside rules (Some fields) s = is_unknown (status_answer rules s fields)
 
 -- the lines around the units that are handed up. A PDU and the status that rides on it are each judged by itself
 abbrev pub lines_by : Rules → Dir → ℕ → Result AmView PduError → Sender → Receiver → List (List ℕ) → List Line
-lines_by rules dir b (Ok (Payload sn poll c piggyback)) s r units = line_if (is_outside_answer (taken rules r sn)) (Outside dir b) ++ unit_lines dir b units ++ line_if (rides_outside rules piggyback s) (Outside dir b)
+lines_by rules dir b (Ok (Payload sn poll c piggyback)) s r units = line_if (is_outside_answer (taken rules r sn))
+    (Outside dir b) ++ unit_lines dir b units ++ line_if (rides_outside rules piggyback s) (Outside dir b)
 lines_by rules dir b (Ok (Status fields)) s r units = line_if (is_unknown (status_answer rules s fields) || is_beyond (control_answer rules r fields)) (Outside dir b) ++ unit_lines dir b units
 lines_by rules dir b (Ok (Reset rsn hfni)) s r units = []
 lines_by rules dir b (Ok (ResetAck rsn hfni)) s r units = []

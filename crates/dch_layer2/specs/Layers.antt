@@ -1,5 +1,6 @@
--- Layer 2 of an end: the bearers, the combinations that are blocked, the combination that runs, and the blocks that each channel
--- was given for its running TTI. And what it does by itself: it takes units and blocks, and its timers tick.
+-- Layer 2 of an end: the bearers, the combinations that are blocked, the combination that runs, and the blocks that
+-- each channel was given for its running TTI. And what it does by itself: it takes units and blocks, and its timers
+-- tick.
 use Rattle.std.specs.Prelude.{◌+◌, ◌++◌, ◌==◌, ℕ, List, [], ◌∷◌, Bool, true, false, if◌then◌else◌, drop, length, replicate, set}
 use Rattle.dch_bits.specs.declared.bit.Bit.{Bit}
 use Rattle.dch_types.specs.declared.channel.Dir.{Dir}
@@ -24,7 +25,8 @@ pub record Layer : Type 0 where
   pub running : ℕ
   pub given : ℕ → Given
 
--- at opening every channel runs its idle format. TTIs of all channels start then, so no matter which combination has run
+-- at opening every channel runs its idle format. TTIs of all channels start then, so no matter which combination has
+-- run
 abbrev pub opened_layer : Config → Dir → Layer
 opened_layer config out = record {
   bearings = opened_bearing config out;
@@ -33,7 +35,8 @@ opened_layer config out = record {
   given = λ i. record { format = idle_format (channel_at (side_of config out) i); blocks = [] };
 }
 
--- where another configuration becomes active every channel runs its idle format in it, no combination is blocked, and the bearers stay
+-- where another configuration becomes active every channel runs its idle format in it, no combination is blocked, and
+-- the bearers stay
 abbrev pub changed_layer : Config → Dir → Layer → Layer
 changed_layer config out old = record (opened_layer config out) { bearings = old.bearings }
 
@@ -79,7 +82,8 @@ goes config into channel bits NoOne layer = record { layer = layer; lines = Nobo
 -- a block without bits goes to nobody, and a bad one is reported
 abbrev pub takes_good : Config → Dir → ℕ → List Bit → Layer → Outcome
 takes_good config into channel [] layer = record { layer = layer; lines = [] }
-takes_good config into channel (bit ∷ bits) layer = goes config into channel (bit ∷ bits) (receiver config into channel (bit ∷ bits)) layer
+takes_good config into channel (bit ∷ bits) layer = goes config into channel (bit ∷ bits)
+    (receiver config into channel (bit ∷ bits)) layer
 
 abbrev pub takes_one : Config → Dir → ℕ → ℕ → List Bit → Bool → Layer → Outcome
 takes_one config into channel k bits true layer = takes_good config into channel bits layer
@@ -90,5 +94,6 @@ abbrev pub takes : Config → Dir → ℕ → ℕ → List Came → Layer → Ou
 takes config into channel k [] layer = record { layer = layer; lines = [] }
 takes config into channel k (came ∷ later) layer = record {
   layer = (takes config into channel (k + 1) later (takes_one config into channel k came.bits came.good layer).layer).layer;
-  lines = (takes_one config into channel k came.bits came.good layer).lines ++ (takes config into channel (k + 1) later (takes_one config into channel k came.bits came.good layer).layer).lines;
+  lines = (takes_one config into channel k came.bits came.good layer).lines
+      ++ (takes config into channel (k + 1) later (takes_one config into channel k came.bits came.good layer).layer).lines;
 }

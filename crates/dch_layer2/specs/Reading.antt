@@ -23,5 +23,6 @@ abbrev pub reads_below : Config → Dir → (ℕ → Reading) → ℕ → Layer 
 reads_below config into readings zero layer = record { layer = layer; lines = [] }
 reads_below config into readings (suc i) layer = record {
   layer = (reads config into i (readings i) (reads_below config into readings i layer).layer).layer;
-  lines = (reads_below config into readings i layer).lines ++ (reads config into i (readings i) (reads_below config into readings i layer).layer).lines;
+  lines = (reads_below config into readings i layer).lines
+      ++ (reads config into i (readings i) (reads_below config into readings i layer).layer).lines;
 }

@@ -8,7 +8,11 @@ use Rattle.dch_layer2.specs.declared.shape.Shape.{Shape}
 
 -- those of bearer b
 abbrev pub shape_of : Config → Dir → ℕ → Shape
-shape_of config dir b = record { ct = ct_of config dir b; bits = block_bits config dir b; octets = pdu_octets config dir b }
+shape_of config dir b = record {
+  ct = ct_of config dir b;
+  bits = block_bits config dir b;
+  octets = pdu_octets config dir b;
+}
 
 -- the number of a logical channel, if one is given
 abbrev pub IsNumber : Option ℕ → Type 0

@@ -35,7 +35,8 @@ pub record IsMoment (m : Moment) : Type 0 where
 
 -- what a bearer offers, whatever it stands for, and what all offer
 abbrev pub IsHead : Bearer → Head → Type 0
-IsHead bearer head = (config : Config) (out into : Dir) (b : ℕ) (now : Bearing) → StandsFor config out into b now bearer → head ≡ head_of config out b now
+IsHead bearer head = (config : Config) (out into : Dir) (b : ℕ) (now : Bearing) → StandsFor config out into b now bearer
+    → head ≡ head_of config out b now
 
 abbrev pub head_in : List Head → ℕ → Head
 head_in heads b = slice_index_or heads b (record { size = 0; count = 0 })
@@ -106,7 +107,8 @@ pub record AreStanding (m : Moment) (into : Dir) (bearings : ℕ → Bearing) (b
 pub record AreReady (m : Moment) (i : ℕ) (into : Dir) (bearings : ℕ → Bearing) (bearers : List Bearer) : Type 0 where
   pub standing : AreStanding m into bearings bearers
   pub bits : (b : ℕ) → b < length m.config.bearers → HasBits (bearings b)
-  pub heads : (b : ℕ) → b < length m.config.bearers → is_on (asked_by m) i b ≡ true → head_in m.heads b ≡ head_of m.config m.out b (bearings b)
+  pub heads : (b : ℕ) → b < length m.config.bearers → is_on (asked_by m) i b ≡ true → head_in m.heads b
+      ≡ head_of m.config m.out b (bearings b)
 
 pub record CanShare (m : Moment) (i : ℕ) (bearers : List Bearer) : Type 0 where
   pub into : Dir
@@ -125,4 +127,6 @@ pub record IsShared (m : Moment) (into : Dir) (counts : ℕ → ℕ) (order : Li
 pub record AreAllServed (m : Moment) (i : ℕ) (format : Format) (old new : List Bearer) (before after : Held) : Type 0 where
   pub all : length new ≡ length old
   pub shape : IsSameShape before after
-  pub shared : (into : Dir) (bearings : ℕ → Bearing) → AreStanding m into bearings old → IsShared m into (built_on (asked_by m) i format) (in_turn (asked_by m) i 8) (min format.number (waiting (asked_by m) i format.size)) bearings new after
+  pub shared : (into : Dir) (bearings : ℕ → Bearing) → AreStanding m into bearings old
+      → IsShared m into (built_on (asked_by m) i format) (in_turn (asked_by m) i 8)
+      (min format.number (waiting (asked_by m) i format.size)) bearings new after

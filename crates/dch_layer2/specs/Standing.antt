@@ -16,14 +16,16 @@ use Rattle.dch_layer2.specs.Values.{LayerRunning, entity_at}
 -- each bearer stands for its bearing, in which no unit is empty, and the rest is as it is
 pub record Represents (config : Config) (layer : Layer) (v : LayerRunning) : Type 0 where
   pub all : length v.bearers ≡ length config.bearers
-  pub bearers : (b : ℕ) → b < length config.bearers → StandsFor config v.out v.into b (layer.bearings b) (entity_at v.bearers b)
+  pub bearers : (b : ℕ) → b < length config.bearers
+      → StandsFor config v.out v.into b (layer.bearings b) (entity_at v.bearers b)
   pub bits : (b : ℕ) → b < length config.bearers → HasBits (layer.bearings b)
   pub blocked : v.blocked ≡ layer.blocked
   pub running : v.running ≡ layer.running
   pub runs : v.running < length (side_of config v.out).combinations
   pub listed : length v.blocked ≡ length (side_of config v.out).combinations
   pub given_all : length v.given ≡ length (side_of config v.out).channels
-  pub given : (i : ℕ) → i < length (side_of config v.out).channels → IsGiven config v.out i (layer.given i) (held_at v.given i)
+  pub given : (i : ℕ) → i < length (side_of config v.out).channels
+      → IsGiven config v.out i (layer.given i) (held_at v.given i)
   pub heads : length v.heads ≡ length config.bearers
   pub room : length v.unit ≡ 1500
 
@@ -37,7 +39,8 @@ pub record CanOffer (v : LayerRunning) (b : ℕ) : Type 0 where
 
 -- the timers of a bearer tick, whatever it stands for
 abbrev pub IsTicked : Bearer → Bearer → Type 0
-IsTicked old new = (config : Config) (out into : Dir) (b : ℕ) (bearing : Bearing) → StandsFor config out into b bearing old → StandsFor config out into b (ticked config b bearing) new
+IsTicked old new = (config : Config) (out into : Dir) (b : ℕ) (bearing : Bearing)
+    → StandsFor config out into b bearing old → StandsFor config out into b (ticked config b bearing) new
 
 pub record AreTicked (old new : List Bearer) : Type 0 where
   pub all : length new ≡ length old

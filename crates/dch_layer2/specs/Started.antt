@@ -25,7 +25,8 @@ given_by asked c built i = record { format = format_number asked.side c i; block
 pub record IsChannelStarted (m : Moment) (into : Dir) (c i : ℕ) (bearings : ℕ → Bearing) (bearers : List Bearer) (held : Held) : Type 0 where
   pub next : ℕ → Bearing
   pub built : ℕ → List (List Bit)
-  pub gives : (a : ℕ) → Gives m.config m.out a (built_on (asked_by m) i (format_in (asked_by m) c i) a) (bearings a) (next a) (built a)
+  pub gives : (a : ℕ) → Gives m.config m.out a (built_on (asked_by m) i (format_in (asked_by m) c i) a) (bearings a)
+      (next a) (built a)
   pub stands : (a : ℕ) → a < length m.config.bearers → StandsFor m.config m.out into a (next a) (entity_at bearers a)
   pub given : IsGiven m.config m.out i (given_by (asked_by m) c built i) held
 
@@ -42,21 +43,25 @@ count_to asked c i b (Some j) = if is_started asked i j then given asked j (form
 abbrev pub given_to : Asked → ℕ → (ℕ → List (List Bit)) → ℕ → (ℕ → Given) → ℕ → Given
 given_to asked c built i old j = if is_started asked i j then given_by asked c built j else old j
 
--- what was there before: each bearer stands for a bearing, in which no unit is empty, and offers this; each channel was given something
+-- what was there before: each bearer stands for a bearing, in which no unit is empty, and offers this; each channel was
+-- given something
 pub record IsBefore (m : Moment) (into : Dir) (bearings : ℕ → Bearing) (gave : ℕ → Given) (bearers : List Bearer) (held : List Held) : Type 0 where
   pub standing : AreStanding m into bearings bearers
   pub bits : (b : ℕ) → b < length m.config.bearers → HasBits (bearings b)
   pub heads : (b : ℕ) → b < length m.config.bearers → head_in m.heads b ≡ head_of m.config m.out b (bearings b)
   pub all : length held ≡ length (side_of m.config m.out).channels
-  pub given : (i : ℕ) → i < length (side_of m.config m.out).channels → IsGiven m.config m.out i (gave i) (held_at held i)
+  pub given : (i : ℕ) → i < length (side_of m.config m.out).channels
+      → IsGiven m.config m.out i (gave i) (held_at held i)
 
 -- and what is there when the first channels have started
 pub record IsAfter (m : Moment) (into : Dir) (c i : ℕ) (bearings : ℕ → Bearing) (gave : ℕ → Given) (bearers : List Bearer) (held : List Held) : Type 0 where
   pub next : ℕ → Bearing
   pub built : ℕ → List (List Bit)
-  pub gives : (a : ℕ) → Gives m.config m.out a (count_to (asked_by m) c i a (channel_of m.config m.out a)) (bearings a) (next a) (built a)
+  pub gives : (a : ℕ) → Gives m.config m.out a (count_to (asked_by m) c i a (channel_of m.config m.out a)) (bearings a)
+      (next a) (built a)
   pub stands : (a : ℕ) → a < length m.config.bearers → StandsFor m.config m.out into a (next a) (entity_at bearers a)
-  pub given : (j : ℕ) → j < length (side_of m.config m.out).channels → IsGiven m.config m.out j (given_to (asked_by m) c built i gave j) (held_at held j)
+  pub given : (j : ℕ) → j < length (side_of m.config m.out).channels
+      → IsGiven m.config m.out j (given_to (asked_by m) c built i gave j) (held_at held j)
 
 -- TTIs can start
 pub record CanStart (m : Moment) (bearers : List Bearer) (held : List Held) : Type 0 where
@@ -69,4 +74,5 @@ pub record CanStart (m : Moment) (bearers : List Bearer) (held : List Held) : Ty
 pub record HaveStarted (m : Moment) (c i : ℕ) (bearers new_bearers : List Bearer) (held new_held : List Held) : Type 0 where
   pub all_bearers : length new_bearers ≡ length bearers
   pub all : length new_held ≡ length held
-  pub after : (into : Dir) (bearings : ℕ → Bearing) (gave : ℕ → Given) → IsBefore m into bearings gave bearers held → IsAfter m into c i bearings gave new_bearers new_held
+  pub after : (into : Dir) (bearings : ℕ → Bearing) (gave : ℕ → Given) → IsBefore m into bearings gave bearers held
+      → IsAfter m into c i bearings gave new_bearers new_held

@@ -1,4 +1,5 @@
--- The start of TTIs at a CFN (TS 25.321 11.4): a combination is chosen, and the blocks of the channels that start are built.
+-- The start of TTIs at a CFN (TS 25.321 11.4): a combination is chosen, and the blocks of the channels that start are
+-- built.
 use Rattle.std.specs.Prelude.{◌≡◌, ◌++◌, ◌==◌, ◌&&◌, ℕ, zero, suc, List, [], ◌∷◌, Bool, Option, Some, None, if◌then◌else◌, length, map}
 use Rattle.std.specs.List.{range_with_len}
 use Rattle.dch_bits.specs.declared.bit.Bit.{Bit}
@@ -17,7 +18,8 @@ use Rattle.dch_layer2.specs.Layers.{Given, Layer}
 
 -- what is chosen from
 abbrev pub heads_of : Config → Dir → Layer → List Head
-heads_of config out layer = map (λ b. head_of config out b (layer.bearings b)) (range_with_len 0 (length config.bearers))
+heads_of config out layer = map (λ b. head_of config out b (layer.bearings b))
+    (range_with_len 0 (length config.bearers))
 
 abbrev pub asked_in : Config → Dir → ℕ → Layer → Asked
 asked_in config out cfn layer = asked_of config out cfn layer.running (heads_of config out layer) layer.blocked
@@ -34,7 +36,8 @@ is_on asked i b = names (channel_number asked.dir (bearer_at asked.bearers b)) i
 -- the first bearers of a priority on a channel, and those of the first priorities
 abbrev pub of_priority : Asked → ℕ → ℕ → ℕ → List ℕ
 of_priority asked i priority zero = []
-of_priority asked i priority (suc b) = of_priority asked i priority b ++ (if priority_of asked b == priority && is_on asked i b then b ∷ [] else [])
+of_priority asked i priority (suc b) = of_priority asked i priority b
+    ++ (if priority_of asked b == priority && is_on asked i b then b ∷ [] else [])
 
 abbrev pub in_turn : Asked → ℕ → ℕ → List ℕ
 in_turn asked i zero = []
@@ -51,7 +54,10 @@ blocks_for asked built i = joined built (in_turn asked i 8)
 
 -- what each channel is given
 abbrev pub given_now : Asked → ℕ → (ℕ → List (List Bit)) → Layer → ℕ → Given
-given_now asked c built old i = if starts asked i then record { format = format_number asked.side c i; blocks = blocks_for asked built i } else old.given i
+given_now asked c built old i = if starts asked i then record {
+  format = format_number asked.side c i;
+  blocks = blocks_for asked built i;
+} else old.given i
 
 -- TTIs start at a CFN: the best TFC is chosen, and each channel that starts is given its blocks by priority and then by
 -- bearer

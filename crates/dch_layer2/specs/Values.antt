@@ -7,8 +7,8 @@ use Rattle.dch_mac.specs.declared.head.Head.{Head}
 use Rattle.dch_layer2.specs.declared.bearer.Bearer.{Bearer}
 use Rattle.dch_layer2.specs.declared.bearer.Bearer.TheVariants.{Tm}
 
--- the directions in which it sends and receives, its bearers, which combinations are blocked, the one that runs, the blocks of the
--- running TTIs, and room for what each bearer offers and for a unit
+-- the directions in which it sends and receives, its bearers, which combinations are blocked, the one that runs, the
+-- blocks of the running TTIs, and room for what each bearer offers and for a unit
 pub record LayerRunning : Type 0 where
   pub out : Dir
   pub into : Dir
@@ -19,7 +19,8 @@ pub record LayerRunning : Type 0 where
   pub heads : List Head
   pub unit : List ℕ
 
--- the parts that it needs for a configuration which is to follow: which combinations are blocked, and the blocks of the running TTIs
+-- the parts that it needs for a configuration which is to follow: which combinations are blocked, and the blocks of the
+-- running TTIs
 pub record NextLayer : Type 0 where
   pub blocked : List Bool
   pub given : List Held

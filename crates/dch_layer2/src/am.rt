@@ -78,7 +78,8 @@ impl AmBearer {
         }
     }
 
-    /// Takes the memory of an acknowledged bearer of a configuration, at an end that sends in one direction and receives in the other.
+    /// Takes the memory of an acknowledged bearer of a configuration, at an end that sends in one direction and
+    /// receives in the other.
     pub(crate) fn open(
         alloc: Global,
         accepted: &Accepted,
@@ -97,7 +98,8 @@ impl AmBearer {
         Ok(AmBearer::new(bearer, into, shape, entity))
     }
 
-    /// From now on sends the blocks of a configuration, at an end that sends in the direction `out`. The octets of its PDUs stay.
+    /// From now on sends the blocks of a configuration, at an end that sends in the direction `out`. The octets of its
+    /// PDUs stay.
     pub(crate) fn change(&mut self, accepted: &Accepted, out: Dir)
         requires { FitsAm accepted.now.config out self.old }
         ensures { self.new ≡ record self.old { shape = shape_of accepted.now.config out self.old.number } }
@@ -109,8 +111,10 @@ impl AmBearer {
 
     /// Offers a unit of 1 to 1,500 octets.
     pub fn offer(&mut self, unit: &[u8]) -> Offer
-        ensures answer { (rules : Rules) (s : Sender) (r : Receiver) → HasSides rules s r self.old → result ≡ offered rules s unit.now }
-        ensures sides { (rules : Rules) (s : Sender) (r : Receiver) → HasSides rules s r self.old → HasSides rules (after_offer (offered rules s unit.now) s unit.now) r self.new }
+        ensures answer { (rules : Rules) (s : Sender) (r : Receiver) → HasSides rules s r self.old →
+            result ≡ offered rules s unit.now }
+        ensures sides { (rules : Rules) (s : Sender) (r : Receiver) → HasSides rules s r self.old →
+            HasSides rules (after_offer (offered rules s unit.now) s unit.now) r self.new }
         ensures same { IsSameBearer self.old self.new }
     {
         self.entity.offer(unit)
@@ -118,17 +122,19 @@ impl AmBearer {
 
     /// One tick of 10 ms.
     pub fn tick(&mut self)
-        ensures sides { (rules : Rules) (s : Sender) (r : Receiver) → HasSides rules s r self.old → HasSides rules (tick_sender rules s) (tick_receiver rules r) self.new }
+        ensures sides { (rules : Rules) (s : Sender) (r : Receiver) → HasSides rules s r self.old →
+            HasSides rules (tick_sender rules s) (tick_receiver rules r) self.new }
         ensures same { IsSameBearer self.old self.new }
     {
         self.entity.tick();
     }
 
-    /// The size of its blocks, and how many it could build: one each for a due status and a due MRW, and the data PDUs that could follow
-    /// one another, at most 64.
+    /// The size of its blocks, and how many it could build: one each for a due status and a due MRW, and the data PDUs
+    /// that could follow one another, at most 64.
     pub fn head(&self) -> Head
         ensures size { result.size ≡ self.now.shape.bits }
-        ensures count { (rules : Rules) (s : Sender) (r : Receiver) → HasSides rules s r self.now → result.count ≡ offers_to_send rules self.now.shape.octets (entity_of s r) }
+        ensures count { (rules : Rules) (s : Sender) (r : Receiver) → HasSides rules s r self.now →
+            result.count ≡ offers_to_send rules self.now.shape.octets (entity_of s r) }
     {
         Head {
             size: self.shape.bits,
@@ -140,7 +146,8 @@ impl AmBearer {
     pub fn build(&mut self, out: &mut [Bit])
         requires due { HasTurn self.old }
         requires size { length out.old ≡ self.old.shape.bits }
-        ensures built { (rules : Rules) (s : Sender) (r : Receiver) → HasSides rules s r self.old → BuildsAtTurn rules s r self.old self.new out.new }
+        ensures built { (rules : Rules) (s : Sender) (r : Receiver) → HasSides rules s r self.old →
+            BuildsAtTurn rules s r self.old self.new out.new }
         ensures same { IsSameBearer self.old self.new }
     {
         let _due = self.entity.is_due();
@@ -151,8 +158,8 @@ impl AmBearer {
         write_block(self.shape.ct, pdu, out);
     }
 
-    /// Takes the bits of a PDU that came, and hands up the units that end in it or are in order now, each by way of `unit`, which has 1,500
-    /// octets.
+    /// Takes the bits of a PDU that came, and hands up the units that end in it or are in order now, each by way of
+    /// `unit`, which has 1,500 octets.
     pub fn take<U: Indications>(&mut self, bits: &[Bit], unit: &mut [u8], user: &mut U)
         requires few { length bits.now ≤ 1008 }
         requires whole { length bits.now ≡ 8 * (length bits.now / 8) }
@@ -161,7 +168,8 @@ impl AmBearer {
         ensures told { (rules : Rules) (s : Sender) (r : Receiver) → HasSides rules s r self.old →
             Told U.shows user.old (lines_on rules self.old.into self.old.number (am_reading (octets_of bits.now)) s r) user.new }
         ensures sides { (rules : Rules) (s : Sender) (r : Receiver) → HasSides rules s r self.old →
-            HasSides rules (sender_of rules (am_reading (octets_of bits.now)) s) (receiver_of rules (am_reading (octets_of bits.now)) r) self.new }
+            HasSides rules (sender_of rules (am_reading (octets_of bits.now)) s)
+            (receiver_of rules (am_reading (octets_of bits.now)) r) self.new }
         ensures same { IsSameBearer self.old self.new }
     {
         let mut octets = [0; 126];
@@ -186,7 +194,8 @@ fn hear<U: Indications>(
     ensures told { (rules : Rules) (s : Sender) (r : Receiver) → Represents rules entity.old (entity_of s r) →
         Told U.shows user.old (lines_on rules dir bearer (am_reading pdu.now) s r) user.new }
     ensures sides { (rules : Rules) (s : Sender) (r : Receiver) → Represents rules entity.old (entity_of s r) →
-        Represents rules entity.new (entity_of (sender_of rules (am_reading pdu.now) s) (receiver_of rules (am_reading pdu.now) r)) }
+        Represents rules entity.new (entity_of (sender_of rules (am_reading pdu.now) s)
+        (receiver_of rules (am_reading pdu.now) r)) }
     ensures settled { is_settled entity.new ≡ true }
     ensures sizes { AreSizes entity.old entity.new }
 {
@@ -211,7 +220,8 @@ fn receive<U: Indications>(
     ensures told { (rules : Rules) (s : Sender) (r : Receiver) → Represents rules entity.old (entity_of s r) →
         Told U.shows user.old (lines_on rules dir bearer (Ok view.now) s r) user.new }
     ensures sides { (rules : Rules) (s : Sender) (r : Receiver) → Represents rules entity.old (entity_of s r) →
-        Represents rules entity.new (entity_of (sender_by rules (pdu_of view.now) s) (receiver_by rules (pdu_of view.now) r)) }
+        Represents rules entity.new (entity_of (sender_by rules (pdu_of view.now) s)
+        (receiver_by rules (pdu_of view.now) r)) }
     ensures settled { is_settled entity.new ≡ true }
     ensures sizes { AreSizes entity.old entity.new }
 {
@@ -233,7 +243,8 @@ fn hand_up<U: Indications>(
     ensures told { Told U.shows user.old (unit_lines dir bearer (waiting_in entity.old)) user.new }
     ensures settled { is_settled entity.new ≡ true }
     ensures sizes { AreSizes entity.old entity.new }
-    ensures history { (rules : Rules) (e : Entity) → Represents rules entity.old e → Represents rules entity.new (all_handed e) }
+    ensures history { (rules : Rules) (e : Entity) → Represents rules entity.old e →
+        Represents rules entity.new (all_handed e) }
 {
     while let Some(handed) = entity.next_unit(unit) {
         tell_handed(user, dir, bearer, handed, unit);

@@ -37,7 +37,8 @@ impl Drop for Bearer {
 }
 
 impl Bearer {
-    /// Takes all memory of bearer `bearer` of a configuration, at an end that sends in the direction `out` and receives in the direction
+    /// Takes all memory of bearer `bearer` of a configuration, at an end that sends in the direction `out` and receives
+    /// in the direction
     /// `into`.
     pub fn open(
         alloc: Global,
@@ -59,8 +60,10 @@ impl Bearer {
     /// Offers a unit: bits for a transparent bearer, octets for the others. It has a channel to send on.
     pub fn offer(&mut self, octets: &[u8], bits: &[Bit]) -> Offer
         requires { CanSend self.old }
-        ensures answer { (config : Config) (out into : Dir) (b : ℕ) (old : Bearing) → Represents config out into b old self.old → result ≡ answers config out b octets.now bits.now old }
-        ensures stands { (config : Config) (out into : Dir) (b : ℕ) (old : Bearing) → Represents config out into b old self.old →
+        ensures answer { (config : Config) (out into : Dir) (b : ℕ) (old : Bearing) →
+            Represents config out into b old self.old → result ≡ answers config out b octets.now bits.now old }
+        ensures stands { (config : Config) (out into : Dir) (b : ℕ) (old : Bearing) →
+            Represents config out into b old self.old →
             Represents config out into b (after_answer (answers config out b octets.now bits.now old) octets.now bits.now old) self.new }
     {
         match self {
@@ -72,7 +75,8 @@ impl Bearer {
 
     /// One tick of 10 ms of the timers.
     pub fn tick(&mut self)
-        ensures { (config : Config) (out into : Dir) (b : ℕ) (old : Bearing) → Represents config out into b old self.old → Represents config out into b (ticked config b old) self.new }
+        ensures { (config : Config) (out into : Dir) (b : ℕ) (old : Bearing) →
+            Represents config out into b old self.old → Represents config out into b (ticked config b old) self.new }
     {
         match self {
             Bearer::Tm(_) => {}
@@ -81,9 +85,11 @@ impl Bearer {
         }
     }
 
-    /// What it offers to send: the size of its next blocks in bits, and how many of them it could build one after another.
+    /// What it offers to send: the size of its next blocks in bits, and how many of them it could build one after
+    /// another.
     pub fn head(&self) -> Head
-        ensures { (config : Config) (out into : Dir) (b : ℕ) (now : Bearing) → Represents config out into b now self.now → result ≡ head_of config out b now }
+        ensures { (config : Config) (out into : Dir) (b : ℕ) (now : Bearing) →
+            Represents config out into b now self.now → result ≡ head_of config out b now }
     {
         match self {
             Bearer::Tm(bearer) => bearer.head(),
@@ -95,7 +101,8 @@ impl Bearer {
     /// Builds its next block. There is one, of the bits of `out`.
     pub fn build(&mut self, out: &mut [Bit])
         requires { CanBuild self.old (length out.old) }
-        ensures { (config : Config) (dir into : Dir) (b : ℕ) (old : Bearing) → Represents config dir into b old self.old → Built config dir into b old out.new self.new }
+        ensures { (config : Config) (dir into : Dir) (b : ℕ) (old : Bearing) →
+            Represents config dir into b old self.old → Built config dir into b old out.new self.new }
     {
         match self {
             Bearer::Tm(bearer) => bearer.build(out),
@@ -104,14 +111,16 @@ impl Bearer {
         }
     }
 
-    /// Takes the bits of a PDU that came, behind its C/T field, and hands up what is whole now, each unit by way of `unit`, which has 1,500
-    /// octets. It has a channel to receive from.
+    /// Takes the bits of a PDU that came, behind its C/T field, and hands up what is whole now, each unit by way of
+    /// `unit`, which has 1,500 octets. It has a channel to receive from.
     pub fn take<U: Indications>(&mut self, bits: &[Bit], unit: &mut [u8], user: &mut U)
         requires unit { length unit.old ≡ 1500 }
         requires comes { CanTake self.old (length bits.now) }
-        ensures told { (config : Config) (out into : Dir) (b : ℕ) (old : Bearing) → Represents config out into b old self.old →
+        ensures told { (config : Config) (out into : Dir) (b : ℕ) (old : Bearing) →
+            Represents config out into b old self.old →
             Told U.shows user.old (hears config into b bits.now old).lines user.new }
-        ensures stands { (config : Config) (out into : Dir) (b : ℕ) (old : Bearing) → Represents config out into b old self.old →
+        ensures stands { (config : Config) (out into : Dir) (b : ℕ) (old : Bearing) →
+            Represents config out into b old self.old →
             Represents config out into b (hears config into b bits.now old).bearing self.new }
     {
         match self {
@@ -121,11 +130,12 @@ impl Bearer {
         }
     }
 
-    /// Goes on in another configuration, in which it is kept, at an end that sends in the direction `out`: its units and its numbers stay, and
-    /// from now on it sends the blocks of that configuration.
+    /// Goes on in another configuration, in which it is kept, at an end that sends in the direction `out`: its units
+    /// and its numbers stay, and from now on it sends the blocks of that configuration.
     pub fn change(&mut self, accepted: &Accepted, out: Dir)
         requires { CanGoOn accepted.now.config out self.old }
-        ensures { (first : Config) (into : Dir) (b : ℕ) (old : Bearing) → Represents first out into b old self.old → KeepsBearer first accepted.now.config b → b < length accepted.now.config.bearers →
+        ensures { (first : Config) (into : Dir) (b : ℕ) (old : Bearing) → Represents first out into b old self.old →
+            KeepsBearer first accepted.now.config b → b < length accepted.now.config.bearers →
             Represents accepted.now.config out into b old self.new }
     {
         // A transparent bearer shares its channel with no other in a good configuration.

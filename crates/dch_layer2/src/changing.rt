@@ -34,8 +34,8 @@ impl Model for NextLayer {
 }
 
 impl NextLayer {
-    /// Takes the memory for a configuration, at an end that sends in the direction `out`. No combination is blocked, and every channel has
-    /// its idle format.
+    /// Takes the memory for a configuration, at an end that sends in the direction `out`. No combination is blocked,
+    /// and every channel has its idle format.
     pub fn open(alloc: Global, accepted: &Accepted, out: Dir) -> Result<NextLayer, NoMemory>
         ensures { IfOk result (IsNextLayer accepted.now.config out) }
     {

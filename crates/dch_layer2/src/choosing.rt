@@ -29,9 +29,23 @@ impl<'a> Model for Moment<'a> {
 
     ghost Value = { Moment };
 
-    ghost view = { λ m. record { config = m.accepted.now.config; out = m.out; cfn = m.cfn; running = m.running; heads = m.heads.now; blocked = m.blocked.now } };
+    ghost view = { λ m. record {
+      config = m.accepted.now.config;
+      out = m.out;
+      cfn = m.cfn;
+      running = m.running;
+      heads = m.heads.now;
+      blocked = m.blocked.now;
+    } };
 
-    ghost invariant = { λ m. IsMoment (record { config = m.accepted.now.config; out = m.out; cfn = m.cfn; running = m.running; heads = m.heads.now; blocked = m.blocked.now }) };
+    ghost invariant = { λ m. IsMoment (record {
+      config = m.accepted.now.config;
+      out = m.out;
+      cfn = m.cfn;
+      running = m.running;
+      heads = m.heads.now;
+      blocked = m.blocked.now;
+    }) };
 }
 
 impl Moment<'_> {

@@ -52,12 +52,21 @@ impl Model for Layer2 {
 
     ghost Value = { LayerRunning };
 
-    ghost view = { λ l. record { out = l.out; into = l.into; bearers = l.bearers.items; blocked = l.blocked.items; running = l.running; given = l.given.items; heads = l.heads.items; unit = l.unit.items } };
+    ghost view = { λ l. record {
+      out = l.out;
+      into = l.into;
+      bearers = l.bearers.items;
+      blocked = l.blocked.items;
+      running = l.running;
+      given = l.given.items;
+      heads = l.heads.items;
+      unit = l.unit.items;
+    } };
 }
 
 impl Layer2 {
-    /// Takes all memory for a configuration, at an end that sends in the direction `out` and receives in the direction `into`. No combination is
-    /// blocked, and every channel runs its idle format.
+    /// Takes all memory for a configuration, at an end that sends in the direction `out` and receives in the direction
+    /// `into`. No combination is blocked, and every channel runs its idle format.
     #[tactic(auto, using(crate::proofs::Bits::opened_bits))]
     pub fn open(alloc: Global, accepted: &Accepted, out: Dir, into: Dir) -> Result<Layer2, NoMemory>
         ensures { IfOk result (IsOpened accepted.now.config out into) }
@@ -76,12 +85,14 @@ impl Layer2 {
         })
     }
 
-    /// Another configuration becomes active, in which each bearer is kept: no combination is blocked, and every channel runs its idle format.
+    /// Another configuration becomes active, in which each bearer is kept: no combination is blocked, and every channel
+    /// runs its idle format.
     /// `next` gets the parts that are needed no more.
     pub fn change(&mut self, accepted: &Accepted, next: &mut NextLayer)
         requires bearers { CanGoOn accepted.now.config self.old }
         requires next { IsNextLayer accepted.now.config self.old.out next.old }
-        ensures stands { (first : Config) (layer : Layer) → Represents first layer self.old → ((b : ℕ) → KeepsBearer first accepted.now.config b) →
+        ensures stands { (first : Config) (layer : Layer) → Represents first layer self.old →
+            ((b : ℕ) → KeepsBearer first accepted.now.config b) →
             Represents accepted.now.config (changed_layer accepted.now.config self.old.out layer) self.new }
         ensures ends { IsSameEnd self.old self.new }
     {
@@ -111,8 +122,11 @@ impl Layer2 {
     /// Offers a unit to a bearer: bits to a transparent one, octets to the others. It has a channel to send on.
     pub fn offer(&mut self, bearer: u8, octets: &[u8], bits: &[Bit]) -> Offer
         requires { CanOffer self.old bearer }
-        ensures answer { (config : Config) (layer : Layer) → Represents config layer self.old → bearer < length config.bearers → result ≡ answers config self.old.out bearer octets.now bits.now (layer.bearings bearer) }
-        ensures stands { (config : Config) (layer : Layer) → Represents config layer self.old → Represents config (offers config self.old.out bearer octets.now bits.now layer).layer self.new }
+        ensures answer { (config : Config) (layer : Layer) → Represents config layer self.old →
+            bearer < length config.bearers → result ≡
+            answers config self.old.out bearer octets.now bits.now (layer.bearings bearer) }
+        ensures stands { (config : Config) (layer : Layer) → Represents config layer self.old →
+            Represents config (offers config self.old.out bearer octets.now bits.now layer).layer self.new }
         ensures ends { IsSameEnd self.old self.new }
     {
         self.bearers[bearer as usize].offer(octets, bits)
@@ -121,7 +135,8 @@ impl Layer2 {
     /// Blocks a combination, or frees it again.
     pub fn block(&mut self, combination: u16, on: bool)
         requires { combination < length self.old.blocked }
-        ensures stands { (config : Config) (layer : Layer) → Represents config layer self.old → Represents config (blocks combination on layer) self.new }
+        ensures stands { (config : Config) (layer : Layer) → Represents config layer self.old →
+            Represents config (blocks combination on layer) self.new }
         ensures ends { IsSameEnd self.old self.new }
     {
         self.blocked[combination as usize] = on;
@@ -130,17 +145,19 @@ impl Layer2 {
     /// One tick of 10 ms of the timers of all bearers.
     #[tactic(auto, using(crate::proofs::Bits::ticked_bits))]
     pub fn tick(&mut self)
-        ensures stands { (config : Config) (layer : Layer) → Represents config layer self.old → Represents config (ticks config layer) self.new }
+        ensures stands { (config : Config) (layer : Layer) → Represents config layer self.old →
+            Represents config (ticks config layer) self.new }
         ensures ends { IsSameEnd self.old self.new }
     {
         tick(&mut self.bearers);
     }
 
-    /// The TTIs that start at a CFN: a combination is chosen (TS 25.321 11.4), and the blocks of the starting channels are built, by priority
-    /// and then by bearer, with the C/T field where the channel has one.
+    /// The TTIs that start at a CFN: a combination is chosen (TS 25.321 11.4), and the blocks of the starting channels
+    /// are built, by priority and then by bearer, with the C/T field where the channel has one.
     pub fn start(&mut self, accepted: &Accepted, cfn: u8)
         requires { IsLayerOf accepted.now.config self.old }
-        ensures started { (layer : Layer) → Represents accepted.now.config layer self.old → HasStarted accepted.now.config cfn layer self.new }
+        ensures started { (layer : Layer) → Represents accepted.now.config layer self.old →
+            HasStarted accepted.now.config cfn layer self.new }
         ensures ends { IsSameEnd self.old self.new }
     {
         // Each bearer's channels are there.

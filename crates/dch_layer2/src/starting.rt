@@ -51,7 +51,8 @@ impl Moment<'_> {
         requires room { HoldsTtis (side_of self.now.config self.now.out) blocks.old.room }
         requires can { CanShare self.now channel bearers.old }
         ensures all { length bearers.new ≡ length bearers.old }
-        ensures started { (into : Dir) (bearings : ℕ → Bearing) → AreReady self.now channel into bearings bearers.old → IsChannelStarted self.now into combination channel bearings bearers.new blocks.new }
+        ensures started { (into : Dir) (bearings : ℕ → Bearing) → AreReady self.now channel into bearings bearers.old →
+            IsChannelStarted self.now into combination channel bearings bearers.new blocks.new }
     {
         let side = self.config().side(self.out);
         let number = side.tfi(combination as usize, channel as usize);
@@ -60,7 +61,8 @@ impl Moment<'_> {
         self.give(channel, format, bearers, blocks);
     }
 
-    /// The bearers of a channel build its blocks, by priority and then by their numbers, each as many as it has of the size.
+    /// The bearers of a channel build its blocks, by priority and then by their numbers, each as many as it has of the
+    /// size.
     fn give(&self, channel: u8, format: Format, bearers: &mut [Bearer], blocks: &mut TtiBlocks)
         requires can { CanShare self.now channel bearers.old }
         requires size { blocks.old.size ≡ format.size }
@@ -87,7 +89,8 @@ fn fill(head: Head, size: u16, from: usize, bearer: &mut Bearer, blocks: &mut Tt
     requires size { blocks.old.size ≡ size }
     requires offers { Offers bearer.old head }
     ensures value { result ≡ from + share head size (length blocks.old.good - from) }
-    ensures filled { (config : Config) (out into : Dir) (b : ℕ) (old : Bearing) → StandsFor config out into b old bearer.old →
+    ensures filled { (config : Config) (out into : Dir) (b : ℕ) (old : Bearing) →
+        StandsFor config out into b old bearer.old →
         Fills config out into b (share head size (length blocks.old.good - from)) from old bearer.new blocks.old blocks.new }
 {
     let count = share(head, size, blocks.count() - from);

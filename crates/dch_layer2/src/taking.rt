@@ -55,7 +55,8 @@ impl Layer2 {
         requires there { k < length blocks.now.good }
         requires layer { IsLayerOf accepted.now.config self.old }
         ensures told { (layer : Layer) → Represents accepted.now.config layer self.old →
-            Told U.shows user.old (takes_one accepted.now.config self.old.into channel k (block_at blocks.now k) (slice_index_or blocks.now.good k false) layer).lines user.new }
+            Told U.shows user.old (takes_one accepted.now.config self.old.into channel k (block_at blocks.now k)
+            (slice_index_or blocks.now.good k false) layer).lines user.new }
         ensures stands { (layer : Layer) → Represents accepted.now.config layer self.old →
             Represents accepted.now.config (takes_one accepted.now.config self.old.into channel k (block_at blocks.now k) (slice_index_or blocks.now.good k false) layer).layer self.new }
         ensures ends { IsSameEnd self.old self.new }
@@ -145,9 +146,11 @@ impl Layer2 {
         requires behind { skip ≤ length bits.now }
         requires comes { CanTake (entity_at self.old.bearers bearer) (length (drop skip bits.now)) }
         ensures told { (config : Config) (layer : Layer) → Represents config layer self.old →
-            Told U.shows user.old (hears config self.old.into bearer (drop skip bits.now) (layer.bearings bearer)).lines user.new }
+            Told U.shows user.old (hears config self.old.into bearer (drop skip bits.now)
+            (layer.bearings bearer)).lines user.new }
         ensures stands { (config : Config) (layer : Layer) → Represents config layer self.old →
-            Represents config (with_bearing layer bearer (hears config self.old.into bearer (drop skip bits.now) (layer.bearings bearer)).bearing) self.new }
+            Represents config (with_bearing layer bearer (hears config self.old.into bearer (drop skip bits.now)
+            (layer.bearings bearer)).bearing) self.new }
         ensures ends { IsSameEnd self.old self.new }
     {
         self.bearers[bearer as usize].take(&bits[skip as usize..], &mut self.unit, user);

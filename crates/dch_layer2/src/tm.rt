@@ -60,7 +60,8 @@ impl TmBearer {
         }
     }
 
-    /// Takes the memory of a transparent bearer of a configuration, at an end that sends in one direction and receives in the other.
+    /// Takes the memory of a transparent bearer of a configuration, at an end that sends in one direction and receives
+    /// in the other.
     pub(crate) fn open(
         alloc: Global,
         accepted: &Accepted,
@@ -70,7 +71,11 @@ impl TmBearer {
     ) -> Result<TmBearer, NoMemory>
         requires there { bearer < length accepted.now.config.bearers }
         requires mode { (bearer_in accepted.now.config bearer).mode ≡ Tm }
-        ensures { IfOk result (StandsTm accepted.now.config out into bearer (record { units = []; buffer = (bearer_in accepted.now.config bearer).buffer; most = 5000 })) }
+        ensures { IfOk result (StandsTm accepted.now.config out into bearer (record {
+          units = [];
+          buffer = (bearer_in accepted.now.config bearer).buffer;
+          most = 5000;
+        })) }
     {
         let it = bearer_of(accepted, bearer);
         match channel_of(it, out) {

@@ -52,7 +52,13 @@ impl Model for UmBearer {
 
     ghost Value = { UmRunning };
 
-    ghost view = { λ b. record { number = b.number; into = b.into; shape = b.shape; sender = b.sender; receiver = b.receiver } };
+    ghost view = { λ b. record {
+      number = b.number;
+      into = b.into;
+      shape = b.shape;
+      sender = b.sender;
+      receiver = b.receiver;
+    } };
 
     ghost invariant = { λ b. FillsBlocks b.shape b.sender × IsSettled b.receiver };
 }
@@ -68,7 +74,13 @@ impl UmBearer {
     ) -> UmBearer
         requires sends { FillsBlocks shape sender }
         requires receives { IsSettled receiver }
-        ensures { result ≡ record { number = number; into = into; shape = shape; sender = sender; receiver = receiver } }
+        ensures { result ≡ record {
+          number = number;
+          into = into;
+          shape = shape;
+          sender = sender;
+          receiver = receiver;
+        } }
     {
         UmBearer {
             number,
@@ -79,7 +91,8 @@ impl UmBearer {
         }
     }
 
-    /// Takes the memory of an unacknowledged bearer of a configuration, at an end that sends in one direction and receives in the other.
+    /// Takes the memory of an unacknowledged bearer of a configuration, at an end that sends in one direction and
+    /// receives in the other.
     pub(crate) fn open(
         alloc: Global,
         accepted: &Accepted,
@@ -97,7 +110,8 @@ impl UmBearer {
         Ok(UmBearer::new(bearer, into, shape, sender, receiver))
     }
 
-    /// From now on sends the blocks of a configuration, at an end that sends in the direction `out`. The octets of its PDUs stay.
+    /// From now on sends the blocks of a configuration, at an end that sends in the direction `out`. The octets of its
+    /// PDUs stay.
     pub(crate) fn change(&mut self, accepted: &Accepted, out: Dir)
         requires { FitsUm accepted.now.config out self.old }
         ensures { self.new ≡ record self.old { shape = shape_of accepted.now.config out self.old.number } }
@@ -149,8 +163,8 @@ impl UmBearer {
         }
     }
 
-    /// Takes the bits of a PDU of at most 125 octets that came, and hands up the units that end in it, each by way of `unit`, which has
-    /// 1,500 octets.
+    /// Takes the bits of a PDU of at most 125 octets that came, and hands up the units that end in it, each by way of
+    /// `unit`, which has 1,500 octets.
     pub fn take<U: Indications>(&mut self, bits: &[Bit], unit: &mut [u8], user: &mut U)
         requires receives { IsSome self.old.receiver }
         requires few { length bits.now ≤ 1000 }
@@ -180,7 +194,8 @@ fn sender_of(
     requires mode { (bearer_in accepted.now.config bearer).mode ≡ Um }
     requires shape { shape ≡ shape_of accepted.now.config dir bearer }
     ensures fills { IfOk result (FillsBlocks shape) }
-    ensures opened { IfOk result (HoldsSending (channel_of accepted.now.config dir bearer) (opened_sends accepted.now.config dir bearer).sending) }
+    ensures opened { IfOk result (HoldsSending (channel_of accepted.now.config dir bearer)
+        (opened_sends accepted.now.config dir bearer).sending) }
 {
     let it = bearer_of(accepted, bearer);
     match channel_of(it, dir) {

@@ -23,7 +23,8 @@ pub record IsCutOff (source : End) (begun bytes : List ℕ) (good : List (List �
 
 -- a line is refused in this state, after these good ones
 abbrev pub IsRefused : {S : Type 0} → Semantics S → End → S → List ℕ → List ℕ → List (List ℕ) → LineError → Type 0
-IsRefused semantics source state begun bytes good why = MeetsFault semantics state begun bytes good (Malformed why) ⊎ ((why ≡ Cut) × IsCutOff source begun bytes good)
+IsRefused semantics source state begun bytes good why = MeetsFault semantics state begun bytes good (Malformed why)
+    ⊎ ((why ≡ Cut) × IsCutOff source begun bytes good)
 
 -- the input was read to its end, each line of it is good and leads to this state, and the text of all is written
 pub record IsWhole {S : Type 0} (semantics : Semantics S) (source : End) (old : Progress S) (state : S) (bytes written : List ℕ) : Type 0 where
@@ -32,10 +33,11 @@ pub record IsWhole {S : Type 0} (semantics : Semantics S) (source : End) (old : 
   pub ended : rest_after old.line bytes ≡ []
   pub text : List ℕ
   pub handles : HandlesLines semantics old.handler (lines_after old.line bytes) state text
-  pub all : written ≡ old.text ++ text ++ semantics.closing state (old.nonempty_lines + nonempty_lines (lines_after old.line bytes))
+  pub all : written ≡ old.text ++ text
+      ++ semantics.closing state (old.nonempty_lines + nonempty_lines (lines_after old.line bytes))
 
--- what follows these good lines is met with the last piece of the bytes: the lines that ended before it are among them, and the line that had
--- begun then was not too long
+-- what follows these good lines is met with the last piece of the bytes: the lines that ended before it are among them,
+-- and the line that had begun then was not too long
 pub record IsMetSoon (begun bytes : List ℕ) (good : List (List ℕ)) : Type 0 where
   pub before : List ℕ
   pub piece : List ℕ
@@ -79,12 +81,15 @@ pub record LacksMemory {S : Type 0} (semantics : Semantics S) (old : Progress S)
   pub all : written ≡ old.text ++ text
 
 -- what may follow the text of good lines: nothing, or behind whole lines the closing or refusal line
-abbrev pub MayFollow : {S : Type 0} → Semantics S → End → Progress S → S → List ℕ → List ℕ → List (List ℕ) → List ℕ → Type 0
+abbrev pub MayFollow : {S : Type 0} → Semantics S → End → Progress S → S → List ℕ → List ℕ → List (List ℕ) → List ℕ
+    → Type 0
 MayFollow semantics source old state text bytes good last =
     (last ≡ [])
     ⊎ (HandlesLines semantics old.handler good state text
-    × (((IsAtEnd source.now × (lines_after old.line bytes ≡ good) × (rest_after old.line bytes ≡ [])) × (last ≡ semantics.closing state (old.nonempty_lines + nonempty_lines good)))
-    ⊎ ((why : LineError) × (IsRefused semantics source state old.line bytes good why × (last ≡ refusal (old.lines + length good) why)))))
+    × (((IsAtEnd source.now × (lines_after old.line bytes ≡ good) × (rest_after old.line bytes ≡ []))
+    × (last ≡ semantics.closing state (old.nonempty_lines + nonempty_lines good)))
+    ⊎ ((why : LineError) × (IsRefused semantics source state old.line bytes good why
+    × (last ≡ refusal (old.lines + length good) why)))))
 
 -- the text of all lines that came before the last piece is written, and the line that had begun then was not too long
 pub record CoversAll {S : Type 0} (semantics : Semantics S) (old : Progress S) (bytes written : List ℕ) : Type 0 where
@@ -99,8 +104,8 @@ pub record CoversAll {S : Type 0} (semantics : Semantics S) (old : Progress S) (
   pub since : List ℕ
   pub begins : written ≡ old.text ++ text ++ since
 
--- a write failed; a front is written of the text of some good lines, the last of them maybe done in part, and of what may follow
--- them. It covers all lines that came before the last piece, where that is not what was at hand before
+-- a write failed; a front is written of the text of some good lines, the last of them maybe done in part, and of what
+-- may follow them. It covers all lines that came before the last piece, where that is not what was at hand before
 pub record FailsWriting {S : Type 0} (semantics : Semantics S) (source sink : End) (old : Progress S) (part taken written : List ℕ) : Type 0 where
   pub fails : Fails sink
   pub within : old.bytes + length (part ++ taken) ≤ LIMIT
@@ -115,7 +120,8 @@ pub record FailsWriting {S : Type 0} (semantics : Semantics S) (source sink : En
   pub cut : IsCutShort written (old.text ++ text ++ last)
   pub covers : ((taken ≡ []) × (length part ≤ PIECE)) ⊎ CoversAll semantics old (part ++ taken) written
 
--- just one byte more was taken than may come; within the limit each whole line is good, the line that has begun is not too long, and the text is written
+-- just one byte more was taken than may come; within the limit each whole line is good, the line that has begun is not
+-- too long, and the text is written
 pub record IsTooLong {S : Type 0} (semantics : Semantics S) (old : Progress S) (bytes written : List ℕ) : Type 0 where
   pub long : old.bytes + length bytes ≡ LIMIT + 1
   pub short : length (rest_after old.line (take (LIMIT - old.bytes) bytes)) ≤ longest
@@ -125,16 +131,22 @@ pub record IsTooLong {S : Type 0} (semantics : Semantics S) (old : Progress S) (
   pub all : written ≡ old.text ++ text
 
 -- what is written where these bytes were at hand, and the source gave those
-abbrev pub AnswersTaken : {S : Type 0} → Semantics S → End → End → Progress S → S → List ℕ → List ℕ → List ℕ → Outcome → Type 0
-AnswersTaken semantics source sink old state part taken written Ok = IsWhole semantics source old state (part ++ taken) written
-AnswersTaken semantics source sink old state part taken written Refused = Refuses semantics source old (part ++ taken) written
-AnswersTaken semantics source sink old state part taken written ReadFault = FailsReading semantics source old (part ++ taken) written
+abbrev pub AnswersTaken : {S : Type 0} → Semantics S → End → End → Progress S → S → List ℕ → List ℕ → List ℕ → Outcome
+    → Type 0
+AnswersTaken semantics source sink old state part taken written Ok = IsWhole semantics source old state (part
+    ++ taken) written
+AnswersTaken semantics source sink old state part taken written Refused = Refuses semantics source old (part
+    ++ taken) written
+AnswersTaken semantics source sink old state part taken written ReadFault = FailsReading semantics source old (part
+    ++ taken) written
 AnswersTaken semantics source sink old state part taken written WriteFault = FailsWriting semantics source sink old part taken written
-AnswersTaken semantics source sink old state part taken written Lacking = LacksMemory semantics old (part ++ taken) written
-AnswersTaken semantics source sink old state part taken written TooLong = IsTooLong semantics old (part ++ taken) written
+AnswersTaken semantics source sink old state part taken written Lacking = LacksMemory semantics old (part
+    ++ taken) written
+AnswersTaken semantics source sink old state part taken written TooLong = IsTooLong semantics old (part
+    ++ taken) written
 
--- the source gave some bytes, and the sink took the answer to them; a part was at hand before. The handler's state is this
--- afterwards where all lines were good
+-- the source gave some bytes, and the sink took the answer to them; a part was at hand before. The handler's state is
+-- this afterwards where all lines were good
 pub record FollowsInput {S : Type 0} (semantics : Semantics S) (source sink : End) (old : Progress S) (state : S) (part : List ℕ) (outcome : Outcome) : Type 0 where
   pub taken : List ℕ
   pub written : List ℕ

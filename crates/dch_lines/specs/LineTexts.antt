@@ -12,12 +12,15 @@ is_empty line = bytes_eq line (codes "\n")
 
 -- what a good line does to the state, and adds to the text
 abbrev pub HandlesLine : {S : Type 0} → Semantics S → S → List ℕ → S → List ℕ → Type 0
-HandlesLine semantics old line new text = MatchBool (is_empty line) ((new ≡ old) × (text ≡ [])) (LineSteps semantics old line new text)
+HandlesLine semantics old line new text = MatchBool (is_empty line) ((new ≡ old) × (text ≡ []))
+    (LineSteps semantics old line new text)
 
 -- what good lines do, one after another
 abbrev pub HandlesLines : {S : Type 0} → Semantics S → S → List (List ℕ) → S → List ℕ → Type 0
 HandlesLines semantics old [] new text = (new ≡ old) × (text ≡ [])
-HandlesLines {S} semantics old (line ∷ lines) new text = (mid : S) × ((first : List ℕ) × ((rest : List ℕ) × (HandlesLine semantics old line mid first × HandlesLines semantics mid lines new rest × (text ≡ first ++ rest))))
+HandlesLines {S} semantics old (line ∷ lines) new text = (mid : S)
+    × ((first : List ℕ) × ((rest : List ℕ) × (HandlesLine semantics old line mid first
+    × HandlesLines semantics mid lines new rest × (text ≡ first ++ rest))))
 
 -- a part of what a line that isn't empty does: its first step, and some of those that are left then, but not all
 pub record BeginsLine {S : Type 0} (semantics : Semantics S) (old : S) (line : List ℕ) (new : S) (text : List ℕ) : Type 0 where
@@ -45,7 +48,8 @@ pub record BeginsLast {S : Type 0} (semantics : Semantics S) (old : S) (lines : 
 
 -- what good lines do, the last of them maybe done in part
 abbrev pub HandlesFront : {S : Type 0} → Semantics S → S → List (List ℕ) → S → List ℕ → Type 0
-HandlesFront semantics old lines new text = HandlesLines semantics old lines new text ⊎ BeginsLast semantics old lines new text
+HandlesFront semantics old lines new text = HandlesLines semantics old lines new text
+    ⊎ BeginsLast semantics old lines new text
 
 -- how many lines aren't empty
 abbrev pub nonempty_lines : List (List ℕ) → ℕ

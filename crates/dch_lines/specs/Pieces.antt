@@ -32,8 +32,8 @@ pub record LacksIn {S : Type 0} (semantics : Semantics S) (sink : End) (old : Pr
   pub handles : HandlesLines semantics old.handler good state more
   pub writes : Appends sink.before sink.now (old.text ++ more)
 
--- the sink failed within the text of some good lines, the last of them maybe done in part, or behind whole lines within the line that
--- refuses the next one
+-- the sink failed within the text of some good lines, the last of them maybe done in part, or behind whole lines within
+-- the line that refuses the next one
 pub record BreaksIn {S : Type 0} (semantics : Semantics S) (sink : End) (old : Progress S) (piece : List ℕ) : Type 0 where
   pub good : List (List ℕ)
   pub later : List (List ℕ)
@@ -42,7 +42,9 @@ pub record BreaksIn {S : Type 0} (semantics : Semantics S) (sink : End) (old : P
   pub more : List ℕ
   pub handles : HandlesFront semantics old.handler good state more
   pub last : List ℕ
-  pub follows : (last ≡ []) ⊎ (HandlesLines semantics old.handler good state more × ((why : LineError) × (MeetsFault semantics state old.line piece good (Malformed why) × (last ≡ refusal (old.lines + length good) why))))
+  pub follows : (last ≡ []) ⊎ (HandlesLines semantics old.handler good state more
+      × ((why : LineError) × (MeetsFault semantics state old.line piece good (Malformed why)
+      × (last ≡ refusal (old.lines + length good) why))))
   pub breaks : Breaks sink (old.text ++ more ++ last)
 
 -- what is written after the text that waits where a line is not handled, after so many others
@@ -54,7 +56,8 @@ AnswersFault sink text before NoMemory WriteFault = Breaks sink text
 AnswersFault sink text before fault _ = ⊥
 
 -- what a piece does
-abbrev pub TakesPiece : {S : Type 0} → Semantics S → End → Progress S → Progress S → List ℕ → Result (Unit {0}) Outcome → Type 0
+abbrev pub TakesPiece : {S : Type 0} → Semantics S → End → Progress S → Progress S → List ℕ → Result (Unit {0}) Outcome
+    → Type 0
 TakesPiece semantics sink old new piece (Ok done) = Takes semantics sink old new piece × (new.text ≡ [])
 TakesPiece semantics sink old new piece (Err Refused) = RefusesIn semantics sink old piece
 TakesPiece semantics sink old new piece (Err WriteFault) = BreaksIn semantics sink old piece
@@ -63,8 +66,10 @@ TakesPiece semantics sink old new piece (Err _) = ⊥
 
 -- what the end of the input does: it is closed, unless a line has begun
 abbrev pub EndsInput : {S : Type 0} → Semantics S → End → Progress S → Progress S → Outcome → Type 0
-EndsInput semantics sink old new Done = (old.line ≡ []) × (new.handler ≡ old.handler) × Appends sink.before sink.now (old.text ++ semantics.closing old.handler old.nonempty_lines)
-EndsInput semantics sink old new Refused = (0 < length old.line) × Appends sink.before sink.now (old.text ++ refusal old.lines Cut)
+EndsInput semantics sink old new Done = (old.line ≡ []) × (new.handler ≡ old.handler)
+    × Appends sink.before sink.now (old.text ++ semantics.closing old.handler old.nonempty_lines)
+EndsInput semantics sink old new Refused = (0 < length old.line)
+    × Appends sink.before sink.now (old.text ++ refusal old.lines Cut)
 EndsInput semantics sink old new WriteFault =
     ((old.line ≡ []) × Breaks sink (old.text ++ semantics.closing old.handler old.nonempty_lines))
     ⊎ ((0 < length old.line) × Breaks sink (old.text ++ refusal old.lines Cut))

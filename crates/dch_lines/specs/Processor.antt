@@ -16,8 +16,8 @@ use Rattle.dch_lines.specs.declared.stop.LineFault.TheVariants.{Malformed}
 use Rattle.dch_lines.specs.declared.stop.Stop.{Stop}
 use Rattle.dch_lines.specs.declared.stop.Stop.TheVariants.{Fault, Failed}
 
--- what a line processor shows: the handler, the line that has begun, the text that waits to be written, and the bytes, the lines, and
--- the lines that aren't empty so far
+-- what a line processor shows: the handler, the line that has begun, the text that waits to be written, and the bytes,
+-- the lines, and the lines that aren't empty so far
 pub record Progress (S : Type 0) : Type 0 where
   pub handler : S
   pub line : List ℕ
@@ -40,10 +40,19 @@ pub record IsOpen (capacity wanted needed room line text bytes lines nonempty_li
 
 -- the same, with a state in place of the handler
 abbrev pub standing : {S C : Type 0} → S → Progress C → Progress S
-standing state progress = record { handler = state; line = progress.line; text = progress.text; bytes = progress.bytes; lines = progress.lines; nonempty_lines = progress.nonempty_lines }
+standing state progress = record {
+  handler = state;
+  line = progress.line;
+  text = progress.text;
+  bytes = progress.bytes;
+  lines = progress.lines;
+  nonempty_lines = progress.nonempty_lines;
+}
 
--- for each state that the handler stands for before, there is one that it stands for afterwards, and this holds of the work with the two
-abbrev pub LeadsOn : {S C : Type 0} → (S → C → Type 0) → Progress C → Progress C → (Progress S → Progress S → Type 0) → Type 0
+-- for each state that the handler stands for before, there is one that it stands for afterwards, and this holds of the
+-- work with the two
+abbrev pub LeadsOn : {S C : Type 0} → (S → C → Type 0) → Progress C → Progress C → (Progress S → Progress S → Type 0)
+    → Type 0
 LeadsOn represents old new Holds = Leads represents old.handler new.handler (λ before after. Holds (standing before old) (standing after new))
 
 -- so many steps of a line are done, and their text is written or waits
@@ -62,18 +71,23 @@ pub record FailsWithin {S : Type 0} (semantics : Semantics S) (sink : End) (old 
   pub breaks : Breaks sink (before ++ rest)
 
 -- what doing the steps that are left does
-abbrev pub EndsSteps : {S : Type 0} → Semantics S → End → S → S → List ℕ → List ℕ → Result (Unit {0}) WriteFailed → Type 0
+abbrev pub EndsSteps : {S : Type 0} → Semantics S → End → S → S → List ℕ → List ℕ → Result (Unit {0}) WriteFailed
+    → Type 0
 EndsSteps semantics sink old new before now (Ok done) = GoesThrough semantics sink (semantics.remaining old) old new before now
 EndsSteps semantics sink old new before now (Err failed) = FailsWithin semantics sink old before
 
 -- the sink failed within the text that waits, or within that and the text of this good line, which is done in part
 abbrev pub BreaksAt : {S : Type 0} → Semantics S → End → S → List ℕ → List ℕ → Type 0
-BreaksAt {S} semantics sink old line before = Breaks sink before ⊎ ((next : S) × ((more : List ℕ) × (BeginsLine semantics old line next more × Breaks sink (before ++ more))))
+BreaksAt {S} semantics sink old line before = Breaks sink before
+    ⊎ ((next : S) × ((more : List ℕ) × (BeginsLine semantics old line next more × Breaks sink (before ++ more))))
 
 -- what doing what a line says, and adding its text to the text that waits, does: that may be written first
 abbrev pub LineOutcome : {S : Type 0} → Semantics S → End → S → List ℕ → S → List ℕ → List ℕ → Result ℕ Stop → Type 0
-LineOutcome semantics sink old line new before now (Ok count) = (more : List ℕ) × (HandlesLine semantics old line new more × Passes sink (before ++ more) now × (count ≡ (if is_empty line then 0 else 1)))
-LineOutcome semantics sink old line new before now (Err (Fault fault)) = IsFaulty semantics old line fault × (new ≡ old) × Passes sink before now
+LineOutcome semantics sink old line new before now (Ok count) = (more : List ℕ)
+    × (HandlesLine semantics old line new more × Passes sink (before ++ more) now
+    × (count ≡ (if is_empty line then 0 else 1)))
+LineOutcome semantics sink old line new before now (Err (Fault fault)) = IsFaulty semantics old line fault × (new ≡ old)
+    × Passes sink before now
 LineOutcome semantics sink old line new before now (Err Failed) = BreaksAt semantics sink old line before
 
 -- the line is good; its text is written or waits, and it is counted
@@ -83,12 +97,20 @@ pub record AddsLine {S : Type 0} (semantics : Semantics S) (sink : End) (old new
   pub handles : HandlesLine semantics old.handler old.line handler more
   pub text : List ℕ
   pub passes : Passes sink (old.text ++ more) text
-  pub added : new ≡ record { handler = handler; line = []; text = text; bytes = old.bytes; lines = old.lines + 1; nonempty_lines = old.nonempty_lines + (if is_empty old.line then 0 else 1) }
+  pub added : new ≡ record {
+    handler = handler;
+    line = [];
+    text = text;
+    bytes = old.bytes;
+    lines = old.lines + 1;
+    nonempty_lines = old.nonempty_lines + (if is_empty old.line then 0 else 1);
+  }
 
 -- what ending a line does
 abbrev pub EndsLine : {S : Type 0} → Semantics S → End → Progress S → Progress S → Result (Unit {0}) Stop → Type 0
 EndsLine semantics sink old new (Ok done) = AddsLine semantics sink old new
-EndsLine semantics sink old new (Err (Fault fault)) = IsFaulty semantics old.handler old.line fault × Passes sink old.text new.text × (new ≡ record old { text = new.text })
+EndsLine semantics sink old new (Err (Fault fault)) = IsFaulty semantics old.handler old.line fault
+    × Passes sink old.text new.text × (new ≡ record old { text = new.text })
 EndsLine semantics sink old new (Err Failed) = BreaksAt semantics sink old.handler old.line old.text
 
 -- the lines that end in some bytes are good, and their text is written or waits
@@ -116,7 +138,8 @@ pub record IsOverlong (begun bytes : List ℕ) (good : List (List ℕ)) : Type 0
 
 -- after these lines one is not handled in this state, or begins with too many bytes
 abbrev pub MeetsFault : {S : Type 0} → Semantics S → S → List ℕ → List ℕ → List (List ℕ) → LineFault → Type 0
-MeetsFault semantics state begun bytes good fault = HasFaulty semantics state begun bytes good fault ⊎ ((fault ≡ Malformed Long) × IsOverlong begun bytes good)
+MeetsFault semantics state begun bytes good fault = HasFaulty semantics state begun bytes good fault
+    ⊎ ((fault ≡ Malformed Long) × IsOverlong begun bytes good)
 
 -- a line is not handled; the text of those before it is written or waits
 pub record StopsAt {S : Type 0} (semantics : Semantics S) (sink : End) (old new : Progress S) (bytes : List ℕ) (fault : LineFault) : Type 0 where
@@ -139,7 +162,8 @@ pub record FailsIn {S : Type 0} (semantics : Semantics S) (sink : End) (old : Pr
   pub breaks : Breaks sink (old.text ++ more)
 
 -- what following some bytes does
-abbrev pub Follows : {S : Type 0} → Semantics S → End → Progress S → Progress S → List ℕ → Result (Unit {0}) Stop → Type 0
+abbrev pub Follows : {S : Type 0} → Semantics S → End → Progress S → Progress S → List ℕ → Result (Unit {0}) Stop
+    → Type 0
 Follows semantics sink old new bytes (Ok done) = Takes semantics sink old new bytes
 Follows semantics sink old new bytes (Err (Fault fault)) = StopsAt semantics sink old new bytes fault
 Follows semantics sink old new bytes (Err Failed) = FailsIn semantics sink old bytes
@@ -153,10 +177,13 @@ abbrev pub GoesOnIn : List ℕ → List ℕ → Type 0
 GoesOnIn begun part = (lines_after begun part ≡ []) × (rest_after begun part ≡ begun ++ part)
 
 -- what following a part does, whatever comes after it
-abbrev pub FollowsPart : {S : Type 0} → Semantics S → End → Progress S → Progress S → List ℕ → Result (Unit {0}) Stop → Type 0
+abbrev pub FollowsPart : {S : Type 0} → Semantics S → End → Progress S → Progress S → List ℕ → Result (Unit {0}) Stop
+    → Type 0
 FollowsPart semantics sink old new part (Ok done) = Takes semantics sink old new part
-FollowsPart semantics sink old new part (Err (Fault fault)) = (remaining : List ℕ) → StopsAt semantics sink old new (part ++ remaining) fault
-FollowsPart semantics sink old new part (Err Failed) = (remaining : List ℕ) → FailsIn semantics sink old (part ++ remaining)
+FollowsPart semantics sink old new part (Err (Fault fault)) = (remaining : List ℕ)
+    → StopsAt semantics sink old new (part ++ remaining) fault
+FollowsPart semantics sink old new part (Err Failed) = (remaining : List ℕ)
+    → FailsIn semantics sink old (part ++ remaining)
 
 -- some bytes were followed, and these are left
 pub record Advances {S : Type 0} (semantics : Semantics S) (sink : End) (old new : Progress S) (bytes remaining : List ℕ) : Type 0 where
@@ -166,7 +193,8 @@ pub record Advances {S : Type 0} (semantics : Semantics S) (sink : End) (old new
   pub takes : Takes semantics sink old new part
 
 -- what following bytes to the end of a line does
-abbrev pub Steps : {S : Type 0} → Semantics S → End → Progress S → Progress S → List ℕ → Result (Bor (List ℕ)) Stop → Type 0
+abbrev pub Steps : {S : Type 0} → Semantics S → End → Progress S → Progress S → List ℕ → Result (Bor (List ℕ)) Stop
+    → Type 0
 Steps semantics sink old new bytes (Ok remaining) = Advances semantics sink old new bytes remaining.now
 Steps semantics sink old new bytes (Err (Fault fault)) = StopsAt semantics sink old new bytes fault
 Steps semantics sink old new bytes (Err Failed) = FailsIn semantics sink old bytes

@@ -25,7 +25,8 @@ bits_of text = if bytes_eq text (codes ".") then [] else map bit_of_letter text
 unfoldable pub cells_of : List ℕ → List Trit
 cells_of text = if bytes_eq text (codes ".") then [] else map cell_of_letter text
 
--- the octets and the bits of the text of a unit, by the mode of its bearer: a transparent one takes bits, and another one octets
+-- the octets and the bits of the text of a unit, by the mode of its bearer: a transparent one takes bits, and another
+-- one octets
 abbrev pub unit_octets : Mode → List ℕ → List ℕ
 unit_octets Tm text = []
 unit_octets Um text = octets_of text

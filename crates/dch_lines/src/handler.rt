@@ -30,15 +30,16 @@ pub trait LineHandler {
     /// How many lines the handler has counted so far, at most one for each.
     ghost handled: { Self → ℕ };
 
-    /// Does what a line says that isn't empty, or the first step of it, and adds its text to the report. After a fault the
-    /// handler stands for the states that it stood for.
+    /// Does what a line says that isn't empty, or the first step of it, and adds its text to the report. After a fault
+    /// the handler stands for the states that it stood for.
     fn handle_line(&mut self, line: &[u8], report: &mut Report) -> Result<(), LineFault>
         requires stands { stands self.old }
         requires words { is_empty line.now ≡ false }
         requires room { length report.old.text + most self.old ≤ report.old.most }
         requires few { handled self.old < LIMIT }
         ensures ok { OnOk result (Leads represents self.old self.new (λ old new. Adds (semantics.handles old line.now new) report.old report.new)) }
-        ensures err { IfErr result (λ fault. (state : State) → represents state self.old → IsFault semantics state line.now fault × represents state self.new) }
+        ensures err { IfErr result (λ fault. (state : State) → represents state self.old →
+            IsFault semantics state line.now fault × represents state self.new) }
         ensures same { IfErr result (λ _. report.new ≡ report.old) }
         ensures room { report.new.most ≡ report.old.most }
         ensures fits { OnOk result (length report.new.text ≤ report.new.most) }
@@ -55,7 +56,8 @@ pub trait LineHandler {
     fn resume(&mut self, report: &mut Report)
         requires stands { stands self.old }
         requires room { length report.old.text + most self.old ≤ report.old.most }
-        ensures resumes { 0 < remaining self.old → Leads represents self.old self.new (λ old new. Adds (semantics.resumes old new) report.old report.new) }
+        ensures resumes { 0 < remaining self.old →
+            Leads represents self.old self.new (λ old new. Adds (semantics.resumes old new) report.old report.new) }
         ensures remaining { 0 < remaining self.old → remaining self.new + 1 ≡ remaining self.old }
         ensures same { remaining self.old ≡ 0 → (self.new ≡ self.old) × (report.new ≡ report.old) }
         ensures room { report.new.most ≡ report.old.most }
@@ -68,7 +70,8 @@ pub trait LineHandler {
     fn close(&self, nonempty_lines: u64, report: &mut Report)
         requires stands { stands self.now }
         requires room { length report.old.text + most self.now ≤ report.old.most }
-        ensures text { (state : State) → represents state self.now → report.new ≡ record report.old { text = report.old.text ++ semantics.closing state nonempty_lines } }
+        ensures text { (state : State) → represents state self.now →
+            report.new ≡ record report.old { text = report.old.text ++ semantics.closing state nonempty_lines } }
         ensures room { report.new.most ≡ report.old.most }
         ensures fits { length report.new.text ≤ report.new.most };
 

@@ -10,8 +10,8 @@ use crate::stop::Stop;
 use dch_io::{Sink, WriteFailed};
 use dch_script::Report;
 
-/// Does what a line says unless it is empty, and answers how many lines that makes. The text that waits is written where it
-/// leaves less room than wanted.
+/// Does what a line says unless it is empty, and answers how many lines that makes. The text that waits is written
+/// where it leaves less room than wanted.
 pub fn process_line<C: LineHandler, K: Sink>(
     handler: &mut C,
     line: &[u8],

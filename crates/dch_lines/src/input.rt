@@ -12,7 +12,8 @@ use crate::stop::{LineFault, Outcome, Stop};
 use dch_io::{Pending, ReadStop, Sink, Source, read_next};
 use dch_script::LineError;
 
-/// Follows the lines of an input to its end: does what each says before it reads on. What is pending in the piece comes first.
+/// Follows the lines of an input to its end: does what each says before it reads on. What is pending in the piece comes
+/// first.
 pub fn follow_input<C: LineHandler, S: Source, K: Sink>(
     source: &mut S,
     sink: &mut K,

@@ -41,13 +41,26 @@ impl<C: LineHandler> Model for LineProcessor<C> {
 
     ghost Value = { Progress C };
 
-    ghost view = { λ d. record { handler = d.handler; line = d.line.items; text = d.report.text; bytes = d.bytes; lines = d.lines; nonempty_lines = d.nonempty_lines } };
+    ghost view = { λ d. record {
+      handler = d.handler;
+      line = d.line.items;
+      text = d.report.text;
+      bytes = d.bytes;
+      lines = d.lines;
+      nonempty_lines = d.nonempty_lines;
+    } };
 
-    ghost invariant = { λ d. record { stands : C.stands d.handler; room : IsOpen (vec_capacity d.line) d.wanted (C.most d.handler) d.report.most (length d.line.items) (length d.report.text) d.bytes d.lines d.nonempty_lines; handled : C.handled d.handler ≤ d.bytes } };
+    ghost invariant = { λ d. record {
+      stands : C.stands d.handler;
+      room : IsOpen (vec_capacity d.line) d.wanted (C.most d.handler) d.report.most (length d.line.items)
+          (length d.report.text) d.bytes d.lines d.nonempty_lines;
+      handled : C.handled d.handler ≤ d.bytes;
+    } };
 }
 
 impl<C: LineHandler + Drop> LineProcessor<C> {
-    /// A processor after what came before, with a first text that waits to be written, and a report with room for so many bytes.
+    /// A processor after what came before, with a first text that waits to be written, and a report with room for so
+    /// many bytes.
     pub fn open(
         alloc: Global,
         handler: C,
@@ -62,7 +75,14 @@ impl<C: LineHandler + Drop> LineProcessor<C> {
         requires lines { before.lines ≤ before.bytes }
         requires least { LEAST_ROOM ≤ room }
         requires room { C.most handler ≤ room }
-        ensures { IfOk result (λ processor. processor ≡ record { handler = handler; line = []; text = first.now; bytes = before.bytes; lines = before.lines; nonempty_lines = 0 }) }
+        ensures { IfOk result (λ processor. processor ≡ record {
+          handler = handler;
+          line = [];
+          text = first.now;
+          bytes = before.bytes;
+          lines = before.lines;
+          nonempty_lines = 0;
+        }) }
     {
         let Ok(line) = Vec::with_capacity(alloc, LONGEST_LINE + 1) else {
             return Err(NoMemory);
@@ -111,9 +131,11 @@ impl<C: LineHandler> LineProcessor<C> {
         why: LineError,
         sink: &mut K,
     ) -> Result<(), WriteFailed>
-        ensures ok { OnOk result (Appends (K.taken sink.old) (K.taken sink.new) (self.old.text ++ refusal self.old.lines why)) }
+        ensures ok { OnOk result (Appends (K.taken sink.old) (K.taken sink.new)
+            (self.old.text ++ refusal self.old.lines why)) }
         ensures new { OnOk result (self.new ≡ record self.old { text = [] }) }
-        ensures err { OnErr result (Breaks (end_of K.taken K.faults sink.old sink.new) (self.old.text ++ refusal self.old.lines why)) }
+        ensures err { OnErr result (Breaks (end_of K.taken K.faults sink.old sink.new)
+            (self.old.text ++ refusal self.old.lines why)) }
         ensures handler { self.new.handler ≡ self.old.handler }
         ensures later { K.faults sink.old ≤ K.faults sink.new }
     {
@@ -128,9 +150,13 @@ impl<C: LineHandler> LineProcessor<C> {
     /// Writes the text that waits, and then the closing line.
     #[tactic(auto, using(crate::proofs::Parts::breaks_on, crate::proofs::Parts::breaks_more, crate::proofs::Parts::appends_on))]
     pub(crate) fn close<K: Sink>(&mut self, sink: &mut K) -> Result<(), WriteFailed>
-        ensures ok { OnOk result ((state : C.State) → C.represents state self.old.handler → Appends (K.taken sink.old) (K.taken sink.new) (self.old.text ++ C.semantics.closing state self.old.nonempty_lines)) }
+        ensures ok { OnOk result ((state : C.State) → C.represents state self.old.handler →
+            Appends (K.taken sink.old) (K.taken sink.new)
+            (self.old.text ++ C.semantics.closing state self.old.nonempty_lines)) }
         ensures new { OnOk result (self.new ≡ record self.old { text = [] }) }
-        ensures err { OnErr result ((state : C.State) → C.represents state self.old.handler → Breaks (end_of K.taken K.faults sink.old sink.new) (self.old.text ++ C.semantics.closing state self.old.nonempty_lines)) }
+        ensures err { OnErr result ((state : C.State) → C.represents state self.old.handler →
+            Breaks (end_of K.taken K.faults sink.old sink.new)
+            (self.old.text ++ C.semantics.closing state self.old.nonempty_lines)) }
         ensures handler { self.new.handler ≡ self.old.handler }
         ensures later { K.faults sink.old ≤ K.faults sink.new }
     {
@@ -161,7 +187,10 @@ impl<C: LineHandler> LineProcessor<C> {
     fn hold(&mut self, part: &[u8])
         requires line { length self.old.line + length part.now ≤ LONGEST_LINE + 1 }
         requires bytes { self.old.bytes + length part.now ≤ LIMIT }
-        ensures { self.new ≡ record self.old { line = self.old.line ++ part.now; bytes = self.old.bytes + length part.now } }
+        ensures { self.new ≡ record self.old {
+          line = self.old.line ++ part.now;
+          bytes = self.old.bytes + length part.now;
+        } }
     {
         self.line.extend_from_slice(part).unwrap();
         self.bytes += part.len();
@@ -196,7 +225,8 @@ impl<C: LineHandler> LineProcessor<C> {
         requires within { self.old.bytes + length bytes.now ≤ LIMIT }
         requires short { length self.old.line ≤ longest }
         ensures steps { LeadsOn C.represents self.old self.new (λ old new. Steps C.semantics (end_of K.taken K.faults sink.old sink.new) old new bytes.entry.now result) }
-        ensures counted { IfOk result (λ remaining. self.new.bytes + length remaining.now ≡ self.old.bytes + length bytes.entry.now) }
+        ensures counted { IfOk result (λ remaining. self.new.bytes + length remaining.now ≡
+            self.old.bytes + length bytes.entry.now) }
         ensures shorter { IfOk result (λ remaining. length remaining.now < length bytes.entry.now) }
         ensures short { OnOk result (length self.new.line ≤ longest) }
         ensures later { K.faults sink.old ≤ K.faults sink.new }
@@ -242,8 +272,10 @@ impl<C: LineHandler> LineProcessor<C> {
         requires feed { GoesOnIn self.old.line part.now }
         requires line { length self.old.line + length part.now ≤ LONGEST_LINE + 1 }
         requires bytes { self.old.bytes + length part.now ≤ LIMIT }
-        ensures fits { result ≡ true → (a : Option (List ℕ)) (f : ℕ) → LeadsOn C.represents self.old self.new (λ old new. Takes C.semantics (span a a f f) old new part.now) }
-        ensures too_long { result ≡ false → (a : Option (List ℕ)) (f : ℕ) (remaining : List ℕ) → LeadsOn C.represents self.old self.new (λ old new. StopsAt C.semantics (span a a f f) old new (part.now ++ remaining) (LineFault.Malformed LineError.Long)) }
+        ensures fits { result ≡ true → (a : Option (List ℕ)) (f : ℕ) →
+            LeadsOn C.represents self.old self.new (λ old new. Takes C.semantics (span a a f f) old new part.now) }
+        ensures too_long { result ≡ false → (a : Option (List ℕ)) (f : ℕ) (remaining : List ℕ) →
+            LeadsOn C.represents self.old self.new (λ old new. StopsAt C.semantics (span a a f f) old new (part.now ++ remaining) (LineFault.Malformed LineError.Long)) }
         ensures bytes { self.new.bytes ≡ self.old.bytes + length part.now }
         ensures short { result ≡ true → length self.new.line ≤ longest }
     {

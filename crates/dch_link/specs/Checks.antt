@@ -9,7 +9,8 @@ use Rattle.dch_layer2.specs.Reading.{Bad, Nothing, Read, Reading}
 -- the good blocks among so many from block k on
 abbrev pub good_from : Held → ℕ → ℕ → List (List Bit)
 good_from held k zero = []
-good_from held k (suc count) = if slice_index_or held.good k false then block_at held k ∷ good_from held (k + 1) count else good_from held (k + 1) count
+good_from held k (suc count) = if slice_index_or held.good k false then block_at held k ∷ good_from held (k + 1) count
+    else good_from held (k + 1) count
 
 -- the good blocks that have bits
 abbrev pub good_blocks : Held → List (List Bit)
@@ -29,7 +30,8 @@ IsSublist (x ∷ xs) (y ∷ ys) = ((x ≡ y) × IsSublist xs ys) ⊎ IsSublist (
 
 -- the good blocks of a channel are some of those that it was given, in order; otherwise a line says so
 abbrev pub IsChecked : Dir → ℕ → List (List Bit) → List (List Bit) → List Line → Type 0
-IsChecked dir i taken given lines = (IsSublist taken given × (lines ≡ [])) ⊎ ((¬ IsSublist taken given) × (lines ≡ Differs dir i ∷ []))
+IsChecked dir i taken given lines = (IsSublist taken given × (lines ≡ []))
+    ⊎ ((¬ IsSublist taken given) × (lines ≡ Differs dir i ∷ []))
 
 -- the lines on the first channels, in order
 pub record ChecksNext (dir : Dir) (taken given : List (List Bit)) (i : ℕ) (Before : List Line → Type 0) (lines : List Line) : Type 0 where

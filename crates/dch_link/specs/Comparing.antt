@@ -25,7 +25,8 @@ pub record IsNextGood (held : Held) (i next : ℕ) : Type 0 where
 
 -- the next block to be found after block k was looked at: the one after i where that is the same, and else still i
 abbrev pub FindsNext : Held → ℕ → List Bit → ℕ → Type 0
-FindsNext held i block next = ((i < length held.good) × (block_at held i ≡ block) × IsNextGood held (i + 1) next) ⊎ ((i < length held.good → ¬ (block_at held i ≡ block)) × (next ≡ i))
+FindsNext held i block next = ((i < length held.good) × (block_at held i ≡ block) × IsNextGood held (i + 1) next)
+    ⊎ ((i < length held.good → ¬ (block_at held i ≡ block)) × (next ≡ i))
 
 -- a channel is compared, and whoever is told is told of the line on it
 pub record Compares (dir : Dir) (channel : ℕ) (taken given : List (List Bit)) (Says : List Line → Type 0) : Type 0 where

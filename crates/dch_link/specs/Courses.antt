@@ -4,7 +4,8 @@ use Rattle.dch_node.specs.Lines.{Line}
 use Rattle.dch_node.specs.Traces.{Reaches}
 use Rattle.dch_node.specs.Values.{Output, no_output}
 
--- the state of the node, what its last step reported and sent, and since opening all that happened and all lines that it reported
+-- the state of the node, what its last step reported and sent, and since opening all that happened and all lines that
+-- it reported
 pub record Course (S E : Type 0) : Type 0 where
   pub state : S
   pub last : Output
@@ -16,7 +17,13 @@ opened_course state = record { state = state; last = no_output; events = []; lin
 
 -- after one more event
 abbrev pub course_after : {S E : Type 0} → Course S E → E → S → Output → Course S E
-course_after old event state output = record { state = state; last = output; events = old.events ++ event ∷ []; lines = old.lines ++ output.lines }
+course_after old event state output = record {
+  state = state;
+  last = output;
+  events = old.events
+      ++ event ∷ [];
+  lines = old.lines ++ output.lines;
+}
 
 -- the node takes a step for an event
 pub record Goes {S E : Type 0} (Steps : S → E → S → Output → Type 0) (old : Course S E) (event : E) (new : Course S E) : Type 0 where

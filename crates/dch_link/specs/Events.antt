@@ -10,8 +10,8 @@ use Rattle.dch_rnc.specs.State.{BlockedCombination as RncBlocked, OfferedUnit as
 use Rattle.dch_link.specs.Link.{LinkState}
 use Rattle.dch_link.specs.Stages.{RncReports, UeReports}
 
--- a unit is offered to a bearer at the end that sends in a direction, a combination of that direction is blocked or free, or damage waits
--- for the next radio frame
+-- a unit is offered to a bearer at the end that sends in a direction, a combination of that direction is blocked or
+-- free, or damage waits for the next radio frame
 pub data Event : Type 0 where
   OfferedUnit : (dir : Dir) → (bearer : ℕ) → (octets : List ℕ) → (bits : List Bit) → Event
   BlockedCombination : (dir : Dir) → (combination : ℕ) → (on : Bool) → Event

@@ -16,7 +16,12 @@ pub record LinkState : Type 0 where
 
 -- at opening each node is as it is opened
 abbrev pub opened_link : Planned → ℕ → LinkState
-opened_link planned first = record { ue = opened_course (opened_ue planned first); node_b = opened_course (opened_node_b planned first); rnc = opened_course (opened_rnc planned first); damage = [] }
+opened_link planned first = record {
+  ue = opened_course (opened_ue planned first);
+  node_b = opened_course (opened_node_b planned first);
+  rnc = opened_course (opened_rnc planned first);
+  damage = [];
+}
 
 -- the configuration that is active
 abbrev pub active : LinkState → Planned

@@ -9,8 +9,8 @@ use Rattle.dch_rnc.specs.State.{Event as RncEvent, State as RncState, opened_sta
 use Rattle.dch_link.specs.Courses.{Course, opened_course}
 use Rattle.dch_link.specs.Legs.{LegState, opened_leg, undamaged}
 
--- what happened at the terminal and the network controller; how many legs there are, and what is known of each; the uplink Iub frames that
--- were taken for a set from a leg, to be combined; and the CFN of the radio frame that is on
+-- what happened at the terminal and the network controller; how many legs there are, and what is known of each; the
+-- uplink Iub frames that were taken for a set from a leg, to be combined; and the CFN of the radio frame that is on
 pub record SoftState : Type 0 where
   pub ue : Course UeState UeEvent
   pub rnc : Course RncState RncEvent
@@ -43,7 +43,10 @@ with_leg soft k leg = record soft { legs = λ j. if j == k then leg else soft.le
 
 -- a frame was taken for a set from leg k
 abbrev pub with_frame : SoftState → ℕ → ℕ → LegFrame → SoftState
-with_frame soft set k frame = record soft { frames = λ s j. if (s == set) && (j == k) then Some frame else soft.frames s j }
+with_frame soft set k frame = record soft {
+  frames = λ s j. if (s == set) && (j == k) then Some frame
+      else soft.frames s j;
+}
 
 -- the frames of a set were given
 abbrev pub given : SoftState → ℕ → SoftState

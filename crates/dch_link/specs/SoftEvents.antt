@@ -11,8 +11,8 @@ use Rattle.dch_link.specs.Legs.{LegState}
 use Rattle.dch_link.specs.Soft.{SoftState, with_leg}
 use Rattle.dch_link.specs.SoftStages.{RncReports, UeReports}
 
--- a unit is offered to a bearer at the end that sends in a direction, a combination of that direction is blocked or free, or damage waits
--- for the frames of a leg in the next radio frame
+-- a unit is offered to a bearer at the end that sends in a direction, a combination of that direction is blocked or
+-- free, or damage waits for the frames of a leg in the next radio frame
 pub data Event : Type 0 where
   OfferedUnit : (dir : Dir) → (bearer : ℕ) → (octets : List ℕ) → (bits : List Bit) → Event
   BlockedCombination : (dir : Dir) → (combination : ℕ) → (on : Bool) → Event

@@ -77,7 +77,8 @@ pub record IsRefused (cfn set : ℕ) (octets : List ℕ) (old new : SoftState) (
 -- it is taken, if it arrives
 abbrev pub MayTake : ℕ → ℕ → ℕ → Option (List ℕ) → SoftState → SoftState → List Line → Type 0
 MayTake cfn set leg None old new lines = Stays old new lines
-MayTake cfn set leg (Some octets) old new lines = IsTaken cfn set leg octets old new lines ⊎ IsRefused cfn set octets old new lines
+MayTake cfn set leg (Some octets) old new lines = IsTaken cfn set leg octets old new lines
+    ⊎ IsRefused cfn set octets old new lines
 
 abbrev pub TakesFrame : ℕ → ℕ → ℕ → SoftState → SoftState → List Line → Type 0
 TakesFrame cfn set leg old new lines = MayTake cfn set leg (iub_from (old.legs leg) set) old new lines
@@ -99,7 +100,8 @@ abbrev pub GivesFrame : ℕ → ℕ → SoftState → SoftState → List Line �
 GivesFrame cfn set old new lines = HasNoFrame set old new lines ⊎ IsCombined cfn set old new lines
 
 -- something is done for a set whose TTI is over, given the CFN at which it started
-abbrev pub WhereOver : Option ℕ → (ℕ → SoftState → SoftState → List Line → Type 0) → SoftState → SoftState → List Line → Type 0
+abbrev pub WhereOver : Option ℕ → (ℕ → SoftState → SoftState → List Line → Type 0) → SoftState → SoftState → List Line
+    → Type 0
 WhereOver None Does old new lines = Stays old new lines
 WhereOver (Some cfn) Does old new lines = Does cfn old new lines
 
@@ -110,5 +112,7 @@ AtStage (IubDown leg set) old new lines = AtLeg leg (ReceivesIub set (old.rnc.la
 AtStage (RadioDown leg) old new lines = AtLeg leg Transmits old new lines
 AtStage UeTick old new lines = UeReceives old new lines
 AtStage (RadioUp leg) old new lines = AtLeg leg (ReceivesRadio old.ue.last.sent) old new lines
-AtStage (IubUp set leg) old new lines = WhereOver (over (uplink_of old) set old.cfn) (λ cfn. TakesFrame cfn set leg) old new lines
-AtStage (Combine set) old new lines = WhereOver (over (uplink_of old) set old.cfn) (λ cfn. GivesFrame cfn set) old new lines
+AtStage (IubUp set leg) old new lines = WhereOver (over (uplink_of old) set old.cfn)
+    (λ cfn. TakesFrame cfn set leg) old new lines
+AtStage (Combine set) old new lines = WhereOver (over (uplink_of old) set old.cfn)
+    (λ cfn. GivesFrame cfn set) old new lines

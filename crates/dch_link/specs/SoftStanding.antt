@@ -56,8 +56,8 @@ MayHit planned (Loses dir) = Unit {0}
 MayHit planned (LosesIub dir set) = has_set (side_of planned.config dir) set ≡ true
 MayHit planned (Spoils dir set octet mask) = has_set (side_of planned.config dir) set ≡ true
 
--- an event that may come where there are so many legs: its bearer sends in its direction, its combination or set is one of its direction, and
--- its leg is there
+-- an event that may come where there are so many legs: its bearer sends in its direction, its combination or set is one
+-- of its direction, and its leg is there
 abbrev pub MayCome : Planned → ℕ → SoftEvent → Type 0
 MayCome planned legs (Offered dir b octets bits) = SendsTo planned dir b
 MayCome planned legs (Block dir c on) = c < length (side_of planned.config dir).combinations

@@ -11,8 +11,8 @@ pub record LegParts : Type 0 where
   pub node_b : NodeB
   pub damage : Tables
 
--- the terminal, the network controller, the legs, what combines their frames, the octets that a combined frame has room for, and the CFN of
--- the radio frame that is on
+-- the terminal, the network controller, the legs, what combines their frames, the octets that a combined frame has room
+-- for, and the CFN of the radio frame that is on
 pub record Parts : Type 0 where
   pub ue : Ue
   pub rnc : Rnc

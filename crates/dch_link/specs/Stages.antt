@@ -45,9 +45,11 @@ NodeBReports old event new lines = NodeBGoes old event new × (lines ≡ new.nod
 abbrev pub RncReports : LinkState → RncEvent → LinkState → List Line → Type 0
 RncReports old event new lines = RncGoes old event new × (lines ≡ new.rnc.last.lines)
 
--- what was read of the channels of a direction at the far end is compared with what layer 2 gave to them at the near end
+-- what was read of the channels of a direction at the far end is compared with what layer 2 gave to them at the near
+-- end
 abbrev pub AreCompared : Dir → Side → (ℕ → Reading) → Layer → List Line → Type 0
-AreCompared dir side readings near lines = AreChecked dir (λ i. good_in (readings i)) (λ i. (near.given i).blocks) (length side.channels) lines
+AreCompared dir side readings near lines = AreChecked dir (λ i. good_in (readings i)) (λ i. (near.given i).blocks)
+    (length side.channels) lines
 
 -- the Node B takes an Iub frame of a set, if it arrives
 abbrev pub MayGoDown : ℕ → Option (List ℕ) → LinkState → LinkState → List Line → Type 0

@@ -56,8 +56,8 @@ MayCome planned (Loses dir) = Unit {0}
 MayCome planned (LosesIub dir set) = has_set (side_of planned.config dir) set ≡ true
 MayCome planned (Spoils dir set octet mask) = has_set (side_of planned.config dir) set ≡ true
 
--- nodes that were opened for a configuration and a first CFN, and in which one is active now, stand for what happened, and what they sent
--- last fits
+-- nodes that were opened for a configuration and a first CFN, and in which one is active now, stand for what happened,
+-- and what they sent last fits
 pub record Represents (began planned : Planned) (first : ℕ) (link : LinkState) (nodes : Nodes) : Type 0 where
   pub ue : IsCourse UeSteps (UeStands planned) UeShows (opened_ue began first) link.ue nodes.ue
   pub node_b : IsCourse NodeBSteps (NodeBStands planned) NodeBShows (opened_node_b began first) link.node_b nodes.node_b

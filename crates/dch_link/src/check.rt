@@ -11,8 +11,8 @@ use dch_bits::Bit;
 use dch_indication::{Indication, Indications};
 use dch_types::Dir;
 
-/// Tells a channel of a direction whose good blocks, as they were taken in a TTI, are not some of those that it was given, in order.
-/// Blocks without bits don't count.
+/// Tells a channel of a direction whose good blocks, as they were taken in a TTI, are not some of those that it was
+/// given, in order. Blocks without bits don't count.
 pub fn compare<U: Indications>(
     user: &mut U,
     dir: Dir,
@@ -20,7 +20,8 @@ pub fn compare<U: Indications>(
     taken: Option<&TtiBlocks>,
     given: &TtiBlocks,
 )
-    ensures compared { Compares dir channel (good_of (held_of taken.entry)) (blocks_in given.now) (Tells U.shows user.old user.new) }
+    ensures compared { Compares dir channel (good_of (held_of taken.entry)) (blocks_in given.now)
+        (Tells U.shows user.old user.new) }
     ensures few { TellsFew U.shows 301 user.old user.new }
 {
     let Some(taken) = taken else {
@@ -53,7 +54,8 @@ fn count_with_bits(blocks: &TtiBlocks) -> usize
 /// Whether the good blocks of a TTI are some of the first ones that were given, in order.
 fn are_some(taken: &TtiBlocks, given: &TtiBlocks, count: usize) -> bool
     requires { count ≤ length given.now.good }
-    ensures { IsTrue result ↔ IsSublist (good_from taken.now 0 (length taken.now.good)) (blocks_from given.now 0 count) }
+    ensures { IsTrue result ↔ IsSublist (good_from taken.now 0 (length taken.now.good))
+        (blocks_from given.now 0 count) }
 {
     let mut i = next_good(taken, 0);
     'given: for k in 0..count {

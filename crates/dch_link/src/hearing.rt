@@ -32,7 +32,8 @@ pub fn open_legs(
 pub fn hit_radios(legs: &mut [Leg])
     requires { HaveRadioRooms legs.old }
     ensures opened { (planned : Planned) → AreLegsOf planned legs.old → AreLegsOf planned legs.new }
-    ensures arrive { (planned : Planned) (first : ℕ) (states : ℕ → LegState) → RepresentLegs planned first states legs.old →
+    ensures arrive { (planned : Planned) (first : ℕ) (states : ℕ → LegState) →
+        RepresentLegs planned first states legs.old →
         RepresentLegs planned first states legs.new × Arrive (λ k. radio_from (states k)) legs.new }
     ensures all { length legs.new ≡ length legs.old }
 {
@@ -43,7 +44,8 @@ pub fn hit_radios(legs: &mut [Leg])
 
 /// The downlink radio frame of the lowest leg of which one arrives, if one does.
 pub fn lowest_radio(legs: &[Leg]) -> Option<FrameView<'_>>
-    ensures { (arrives : ℕ → Option Radio) → Arrive arrives legs.now → IsHeard arrives (length legs.now) (radio_of result) }
+    ensures { (arrives : ℕ → Option Radio) → Arrive arrives legs.now →
+        IsHeard arrives (length legs.now) (radio_of result) }
 {
     for k in 0..legs.len() {
         if let Some(frame) = legs[k].radio() {
@@ -56,7 +58,8 @@ pub fn lowest_radio(legs: &[Leg]) -> Option<FrameView<'_>>
 /// The radio frame is over: no damage waits on any leg.
 pub fn clear_damage(legs: &mut [Leg])
     ensures opened { (planned : Planned) → AreLegsOf planned legs.old → AreLegsOf planned legs.new }
-    ensures clear { (planned : Planned) (first : ℕ) (states : ℕ → LegState) → RepresentLegs planned first states legs.old → RepresentLegs planned first (λ k. undamaged (states k)) legs.new }
+    ensures clear { (planned : Planned) (first : ℕ) (states : ℕ → LegState) →
+        RepresentLegs planned first states legs.old → RepresentLegs planned first (λ k. undamaged (states k)) legs.new }
     ensures all { length legs.new ≡ length legs.old }
 {
     for k in 0..legs.len() {

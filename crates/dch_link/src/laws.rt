@@ -10,8 +10,8 @@ ghost use Rattle.dch_link.specs.Stages.{AtStage};
 ghost use Rattle.dch_link.specs.declared.stage.Stage.{Stage};
 
 /// A law: three nodes that run together have one text. From states that say the same, a stage of a radio frame leads to
-/// such states and gives the same lines, those that compare blocks among them; and so does what a script says between two
-/// radio frames, and a second configuration that becomes active. The configurations stay ones that can be accepted.
+/// such states and gives the same lines, those that compare blocks among them; and so does what a script says between
+/// two radio frames, and a second configuration that becomes active. The configurations stay ones that can be accepted.
 pub fn one_text_law()
     ensures stage { (stage : Stage) (old new older newer : LinkState) (lines rest : List Line) →
         IsStage stage → ArePlanned old → IsSameLink old older →

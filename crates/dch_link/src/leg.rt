@@ -70,7 +70,8 @@ impl Leg {
     pub(crate) fn take_damage(&mut self, accepted: &Accepted, damage: LegDamage)
         requires { MayHit accepted.now damage }
         ensures opened { IsLegOf accepted.now self.old → IsLegOf accepted.now self.new }
-        ensures waits { (first : ℕ) (leg : LegState) → RepresentsLeg accepted.now first leg self.old → RepresentsLeg accepted.now first (damaged leg (damage_of damage)) self.new }
+        ensures waits { (first : ℕ) (leg : LegState) → RepresentsLeg accepted.now first leg self.old →
+            RepresentsLeg accepted.now first (damaged leg (damage_of damage)) self.new }
     {
         match damage {
             LegDamage::Flip { dir, tfci, place } => self.damage.flip(dir, tfci, place),
@@ -186,7 +187,8 @@ impl Leg {
     /// The radio frame is over: no damage waits any more.
     pub(crate) fn clear(&mut self)
         ensures opened { (planned : Planned) → IsLegOf planned self.old → IsLegOf planned self.new }
-        ensures clear { (planned : Planned) (first : ℕ) (leg : LegState) → RepresentsLeg planned first leg self.old → RepresentsLeg planned first (undamaged leg) self.new }
+        ensures clear { (planned : Planned) (first : ℕ) (leg : LegState) → RepresentsLeg planned first leg self.old →
+            RepresentsLeg planned first (undamaged leg) self.new }
     {
         self.damage.clear();
     }

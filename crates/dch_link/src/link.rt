@@ -36,8 +36,8 @@ use std::marker::Model;
 /// The most bytes of the lines that compare the blocks of all channels of a direction.
 pub const CHECKS: usize = 2400;
 
-/// A terminal, a Node B and a network controller that hand their frames on to each other, and the damage that waits for the next radio
-/// frame. All memory is taken at opening.
+/// A terminal, a Node B and a network controller that hand their frames on to each other, and the damage that waits for
+/// the next radio frame. All memory is taken at opening.
 pub struct Link {
     ue: Ue,
     node_b: NodeB,
@@ -80,8 +80,8 @@ impl Link {
         })
     }
 
-    /// Opens the three nodes for a first configuration, and takes all memory for a second one besides, which can follow it. The first
-    /// radio frame has this CFN, and no damage waits.
+    /// Opens the three nodes for a first configuration, and takes all memory for a second one besides, which can follow
+    /// it. The first radio frame has this CFN, and no damage waits.
     pub fn open_both(
         alloc: Global,
         first: &Accepted,
@@ -105,7 +105,9 @@ impl Link {
     /// The nodes, after the work.
     pub fn into_nodes(self) -> (Ue, NodeB, Rnc)
         ensures nodes { (result.0 ≡ self.ue) × (result.1 ≡ self.node_b) × (result.2 ≡ self.rnc) }
-        ensures histories { (began planned : Planned) (first : ℕ) (link : LinkState) → Represents began planned first link self → HaveHistories began planned first link result.0 result.1 result.2 }
+        ensures histories { (began planned : Planned) (first : ℕ) (link : LinkState) →
+            Represents began planned first link self →
+            HaveHistories began planned first link result.0 result.1 result.2 }
     {
         let Link {
             ue,
@@ -126,21 +128,28 @@ impl Link {
         requires opened { IsLinkOf accepted.now self.old }
         requires event { MayCome accepted.now event }
         ensures opened { IsLinkOf accepted.now self.new }
-        ensures happens { (began : Planned) (first : ℕ) (link : LinkState) → Represents began accepted.now first link self.old → LeadsTo began accepted.now first (Happens link (event_of event.entry)) self.new (Tells U.shows user.old user.new) }
-        ensures next { (second : Planned) → HasNext accepted.now second self.old → HasNext accepted.now second self.new }
+        ensures happens { (began : Planned) (first : ℕ) (link : LinkState) →
+            Represents began accepted.now first link self.old →
+            LeadsTo began accepted.now first (Happens link (event_of event.entry)) self.new (Tells U.shows user.old user.new) }
+        ensures next { (second : Planned) → HasNext accepted.now second self.old →
+            HasNext accepted.now second self.new }
         ensures few { TellsFew U.shows (step_bytes accepted.now.config) user.old user.new }
         ensures cfn { self.new.ue.cfn ≡ self.old.ue.cfn }
     {
         self.take_event(accepted, event, user);
     }
 
-    /// Passes a stage of a radio frame, and tells what the nodes say, and where blocks that were taken aren't those that were given.
+    /// Passes a stage of a radio frame, and tells what the nodes say, and where blocks that were taken aren't those
+    /// that were given.
     pub fn pass<U: Indications>(&mut self, accepted: &Accepted, stage: Stage, user: &mut U)
         requires opened { IsLinkOf accepted.now self.old }
         requires stage { IsStage stage }
         ensures opened { IsLinkOf accepted.now self.new }
-        ensures passes { (began : Planned) (first : ℕ) (link : LinkState) → Represents began accepted.now first link self.old → LeadsTo began accepted.now first (AtStage stage link) self.new (Tells U.shows user.old user.new) }
-        ensures next { (second : Planned) → HasNext accepted.now second self.old → HasNext accepted.now second self.new }
+        ensures passes { (began : Planned) (first : ℕ) (link : LinkState) →
+            Represents began accepted.now first link self.old →
+            LeadsTo began accepted.now first (AtStage stage link) self.new (Tells U.shows user.old user.new) }
+        ensures next { (second : Planned) → HasNext accepted.now second self.old →
+            HasNext accepted.now second self.new }
         ensures few { TellsFew U.shows (step_bytes accepted.now.config + 2400) user.old user.new }
         ensures cfn { self.new.ue.cfn ≡ cfn_after stage self.old.ue.cfn }
     {
@@ -151,19 +160,24 @@ impl Link {
     pub fn end_frame(&mut self, accepted: &Accepted)
         requires { IsLinkOf accepted.now self.old }
         ensures opened { IsLinkOf accepted.now self.new }
-        ensures clear { (began : Planned) (first : ℕ) (link : LinkState) → Represents began accepted.now first link self.old → Represents began accepted.now first (record link { damage = [] }) self.new }
-        ensures next { (second : Planned) → HasNext accepted.now second self.old → HasNext accepted.now second self.new }
+        ensures clear { (began : Planned) (first : ℕ) (link : LinkState) →
+            Represents began accepted.now first link self.old →
+            Represents began accepted.now first (record link { damage = [] }) self.new }
+        ensures next { (second : Planned) → HasNext accepted.now second self.old →
+            HasNext accepted.now second self.new }
         ensures cfn { self.new.ue.cfn ≡ self.old.ue.cfn }
     {
         self.damage.clear();
     }
 
-    /// A second configuration becomes active at the network controller, the Node B and the terminal, after the last radio frame of all TTIs.
-    /// Nothing is told of it, and the damage that waits stays for the next radio frame.
+    /// A second configuration becomes active at the network controller, the Node B and the terminal, after the last
+    /// radio frame of all TTIs. Nothing is told of it, and the damage that waits stays for the next radio frame.
     pub fn change<U: Indications>(&mut self, accepted: &Accepted, user: &mut U)
         requires opened { CanChange accepted.now self.old }
         ensures opened { IsLinkOf accepted.now self.new }
-        ensures changes { (began before : Planned) (first : ℕ) (link : LinkState) → Represents began before first link self.old → HasNext before accepted.now self.old → ChangesTo began accepted.now first link self.new }
+        ensures changes { (began before : Planned) (first : ℕ) (link : LinkState) →
+            Represents began before first link self.old → HasNext before accepted.now self.old →
+            ChangesTo began accepted.now first link self.new }
         ensures same { user.new ≡ user.old }
         ensures cfn { self.new.ue.cfn ≡ self.old.ue.cfn }
     {
@@ -174,7 +188,9 @@ impl Link {
     fn change_nodes<U: Indications>(&mut self, accepted: &Accepted, user: &mut U)
         requires opened { CanChange accepted.now self.old }
         ensures opened { AreNodesOf accepted.now self.new }
-        ensures changes { (began before : Planned) (first : ℕ) (link : LinkState) → Represents began before first link self.old → HasNext before accepted.now self.old → ChangesTo began accepted.now first link self.new }
+        ensures changes { (began before : Planned) (first : ℕ) (link : LinkState) →
+            Represents began before first link self.old → HasNext before accepted.now self.old →
+            ChangesTo began accepted.now first link self.new }
         ensures same { user.new ≡ user.old }
     {
         self.rnc.step_with(accepted, RncEvent::Change, user);
@@ -192,8 +208,11 @@ impl Link {
         requires opened { IsLinkOf accepted.now self.old }
         requires event { MayCome accepted.now event }
         ensures opened { AreNodesOf accepted.now self.new }
-        ensures happens { (began : Planned) (first : ℕ) (link : LinkState) → Represents began accepted.now first link self.old → LeadsTo began accepted.now first (Happens link (event_of event.entry)) self.new (Tells U.shows user.old user.new) }
-        ensures next { (second : Planned) → HasNext accepted.now second self.old → HasNext accepted.now second self.new }
+        ensures happens { (began : Planned) (first : ℕ) (link : LinkState) →
+            Represents began accepted.now first link self.old →
+            LeadsTo began accepted.now first (Happens link (event_of event.entry)) self.new (Tells U.shows user.old user.new) }
+        ensures next { (second : Planned) → HasNext accepted.now second self.old →
+            HasNext accepted.now second self.new }
         ensures few { TellsFew U.shows (step_bytes accepted.now.config) user.old user.new }
     {
         match event {
@@ -259,8 +278,11 @@ impl Link {
         requires opened { IsLinkOf accepted.now self.old }
         requires stage { IsStage stage }
         ensures opened { AreNodesOf accepted.now self.new }
-        ensures passes { (began : Planned) (first : ℕ) (link : LinkState) → Represents began accepted.now first link self.old → LeadsTo began accepted.now first (AtStage stage link) self.new (Tells U.shows user.old user.new) }
-        ensures next { (second : Planned) → HasNext accepted.now second self.old → HasNext accepted.now second self.new }
+        ensures passes { (began : Planned) (first : ℕ) (link : LinkState) →
+            Represents began accepted.now first link self.old →
+            LeadsTo began accepted.now first (AtStage stage link) self.new (Tells U.shows user.old user.new) }
+        ensures next { (second : Planned) → HasNext accepted.now second self.old →
+            HasNext accepted.now second self.new }
         ensures few { TellsFew U.shows (step_bytes accepted.now.config + 2400) user.old user.new }
     {
         match stage {
@@ -278,8 +300,11 @@ impl Link {
         requires opened { IsLinkOf accepted.now self.old }
         requires set { set < 8 }
         ensures opened { AreNodesOf accepted.now self.new }
-        ensures passes { (began : Planned) (first : ℕ) (link : LinkState) → Represents began accepted.now first link self.old → LeadsTo began accepted.now first (AtStage (Stage.IubDown set) link) self.new (Tells U.shows user.old user.new) }
-        ensures next { (second : Planned) → HasNext accepted.now second self.old → HasNext accepted.now second self.new }
+        ensures passes { (began : Planned) (first : ℕ) (link : LinkState) →
+            Represents began accepted.now first link self.old →
+            LeadsTo began accepted.now first (AtStage (Stage.IubDown set) link) self.new (Tells U.shows user.old user.new) }
+        ensures next { (second : Planned) → HasNext accepted.now second self.old →
+            HasNext accepted.now second self.new }
         ensures few { TellsFew U.shows (step_bytes accepted.now.config) user.old user.new }
     {
         let sent = self.rnc.iub(set);
@@ -294,8 +319,11 @@ impl Link {
     fn tick_ue<U: Indications>(&mut self, accepted: &Accepted, user: &mut U)
         requires opened { IsLinkOf accepted.now self.old }
         ensures opened { AreNodesOf accepted.now self.new }
-        ensures passes { (began : Planned) (first : ℕ) (link : LinkState) → Represents began accepted.now first link self.old → LeadsTo began accepted.now first (AtStage Stage.UeTick link) self.new (Tells U.shows user.old user.new) }
-        ensures next { (second : Planned) → HasNext accepted.now second self.old → HasNext accepted.now second self.new }
+        ensures passes { (began : Planned) (first : ℕ) (link : LinkState) →
+            Represents began accepted.now first link self.old →
+            LeadsTo began accepted.now first (AtStage Stage.UeTick link) self.new (Tells U.shows user.old user.new) }
+        ensures next { (second : Planned) → HasNext accepted.now second self.old →
+            HasNext accepted.now second self.new }
         ensures few { TellsFew U.shows (step_bytes accepted.now.config + 2400) user.old user.new }
     {
         self.radio_down(accepted, user);
@@ -307,8 +335,12 @@ impl Link {
     fn radio_down<U: Indications>(&mut self, accepted: &Accepted, user: &mut U)
         requires opened { IsLinkOf accepted.now self.old }
         ensures opened { AreNodesOf accepted.now self.new }
-        ensures comes { (began : Planned) (first : ℕ) (link : LinkState) → Represents began accepted.now first link self.old → (mid : LinkState) × (UeGoes link (DownlinkFrame (radio_after link.damage Down link.node_b.last.sent)) mid × Represents began accepted.now first mid self.new) }
-        ensures next { (second : Planned) → HasNext accepted.now second self.old → HasNext accepted.now second self.new }
+        ensures comes { (began : Planned) (first : ℕ) (link : LinkState) →
+            Represents began accepted.now first link self.old → (mid : LinkState) ×
+            (UeGoes link (DownlinkFrame (radio_after link.damage Down link.node_b.last.sent)) mid ×
+            Represents began accepted.now first mid self.new) }
+        ensures next { (second : Planned) → HasNext accepted.now second self.old →
+            HasNext accepted.now second self.new }
         ensures same { user.new ≡ user.old }
     {
         let sent = self.node_b.sent();
@@ -321,8 +353,11 @@ impl Link {
     fn radio_up<U: Indications>(&mut self, accepted: &Accepted, user: &mut U)
         requires opened { IsLinkOf accepted.now self.old }
         ensures opened { AreNodesOf accepted.now self.new }
-        ensures passes { (began : Planned) (first : ℕ) (link : LinkState) → Represents began accepted.now first link self.old → LeadsTo began accepted.now first (AtStage Stage.RadioUp link) self.new (Tells U.shows user.old user.new) }
-        ensures next { (second : Planned) → HasNext accepted.now second self.old → HasNext accepted.now second self.new }
+        ensures passes { (began : Planned) (first : ℕ) (link : LinkState) →
+            Represents began accepted.now first link self.old →
+            LeadsTo began accepted.now first (AtStage Stage.RadioUp link) self.new (Tells U.shows user.old user.new) }
+        ensures next { (second : Planned) → HasNext accepted.now second self.old →
+            HasNext accepted.now second self.new }
         ensures few { TellsFew U.shows (step_bytes accepted.now.config) user.old user.new }
     {
         let sent = self.ue.sent();
@@ -337,8 +372,11 @@ impl Link {
         requires opened { IsLinkOf accepted.now self.old }
         requires set { set < 8 }
         ensures opened { AreNodesOf accepted.now self.new }
-        ensures passes { (began : Planned) (first : ℕ) (link : LinkState) → Represents began accepted.now first link self.old → LeadsTo began accepted.now first (AtStage (Stage.IubUp set) link) self.new (Tells U.shows user.old user.new) }
-        ensures next { (second : Planned) → HasNext accepted.now second self.old → HasNext accepted.now second self.new }
+        ensures passes { (began : Planned) (first : ℕ) (link : LinkState) →
+            Represents began accepted.now first link self.old →
+            LeadsTo began accepted.now first (AtStage (Stage.IubUp set) link) self.new (Tells U.shows user.old user.new) }
+        ensures next { (second : Planned) → HasNext accepted.now second self.old →
+            HasNext accepted.now second self.new }
         ensures few { TellsFew U.shows (step_bytes accepted.now.config + 2400) user.old user.new }
     {
         let sent = self.node_b.iub(set);
@@ -350,10 +388,13 @@ impl Link {
         }
     }
 
-    /// Tells the downlink channels whose blocks, as the terminal took them, aren't some of those that the network controller gave.
+    /// Tells the downlink channels whose blocks, as the terminal took them, aren't some of those that the network
+    /// controller gave.
     fn compare_down<U: Indications>(&self, accepted: &Accepted, user: &mut U)
         requires opened { AreNodesOf accepted.now self.now }
-        ensures compared { ComparesAll Down (λ i. good_of (ue_taken self.now.ue i)) (λ i. blocks_in (held_at self.now.rnc.layer.given i)) (length accepted.now.config.downlink.side.channels) (Tells U.shows user.old user.new) }
+        ensures compared { ComparesAll Down (λ i. good_of (ue_taken self.now.ue i))
+            (λ i. blocks_in (held_at self.now.rnc.layer.given i)) (length accepted.now.config.downlink.side.channels)
+            (Tells U.shows user.old user.new) }
         ensures few { TellsFew U.shows 2401 user.old user.new }
     {
         let channels = accepted.side(Dir::Down).channels.len() as u8;
@@ -363,10 +404,13 @@ impl Link {
         }
     }
 
-    /// Tells the uplink channels whose blocks, as the network controller took them, aren't some of those that the terminal gave.
+    /// Tells the uplink channels whose blocks, as the network controller took them, aren't some of those that the
+    /// terminal gave.
     fn compare_up<U: Indications>(&self, accepted: &Accepted, user: &mut U)
         requires opened { AreNodesOf accepted.now self.now }
-        ensures compared { ComparesAll Up (λ i. good_of (rnc_taken self.now.rnc i)) (λ i. blocks_in (held_at self.now.ue.layer.given i)) (length accepted.now.config.uplink.side.channels) (Tells U.shows user.old user.new) }
+        ensures compared { ComparesAll Up (λ i. good_of (rnc_taken self.now.rnc i))
+            (λ i. blocks_in (held_at self.now.ue.layer.given i)) (length accepted.now.config.uplink.side.channels)
+            (Tells U.shows user.old user.new) }
         ensures few { TellsFew U.shows 2401 user.old user.new }
     {
         let channels = accepted.side(Dir::Up).channels.len() as u8;

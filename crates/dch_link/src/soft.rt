@@ -39,8 +39,9 @@ pub const COMBINED: usize = 300_000;
 /// How many sets there may be in a direction.
 const SETS: u8 = 8;
 
-/// A terminal, the legs of its soft handover and a network controller that hand their frames on to each other, and the damage that waits
-/// on each leg for the next radio frame. The terminal hears one leg at a time; the uplink Iub frames of the legs are combined to one (TS
+/// A terminal, the legs of its soft handover and a network controller that hand their frames on to each other, and the
+/// damage that waits on each leg for the next radio frame. The terminal hears one leg at a time; the uplink Iub frames
+/// of the legs are combined to one (TS
 /// 25.427 6.2). All memory is taken at opening.
 pub struct Soft {
     ue: Ue,
@@ -71,12 +72,19 @@ impl Model for Soft {
 
     ghost Value = { Parts };
 
-    ghost view = { λ s. record { ue = s.ue; rnc = s.rnc; legs = s.legs.items; combiner = s.combiner; room = length s.out.items; cfn = s.cfn } };
+    ghost view = { λ s. record {
+      ue = s.ue;
+      rnc = s.rnc;
+      legs = s.legs.items;
+      combiner = s.combiner;
+      room = length s.out.items;
+      cfn = s.cfn;
+    } };
 }
 
 impl Soft {
-    /// Opens the nodes for a configuration, with so many legs, of which there are 1 to 6. The first radio frame has this CFN, and no
-    /// damage waits.
+    /// Opens the nodes for a configuration, with so many legs, of which there are 1 to 6. The first radio frame has
+    /// this CFN, and no damage waits.
     pub fn open(
         alloc: Global,
         accepted: &Accepted,
@@ -106,7 +114,8 @@ impl Soft {
     /// The nodes, after the work: each leg has a Node B.
     pub fn into_nodes(self) -> (Ue, Vec<Leg>, Rnc)
         ensures nodes { (result.0 ≡ self.ue) × (result.1.items ≡ self.legs) × (result.2 ≡ self.rnc) }
-        ensures histories { (planned : Planned) (first : ℕ) (soft : SoftState) → Represents planned first soft self → HaveHistories planned first soft result.0 result.1.items result.2 }
+        ensures histories { (planned : Planned) (first : ℕ) (soft : SoftState) → Represents planned first soft self →
+            HaveHistories planned first soft result.0 result.1.items result.2 }
     {
         let Soft {
             ue,
@@ -137,20 +146,22 @@ impl Soft {
         requires opened { IsSoftOf accepted.now self.old }
         requires event { MayCome accepted.now (length self.old.legs) event }
         ensures opened { IsSoftOf accepted.now self.new }
-        ensures happens { (first : ℕ) (soft : SoftState) → Represents accepted.now first soft self.old → LeadsTo accepted.now first (Happens soft (event_of event.entry)) self.new (Tells U.shows user.old user.new) }
+        ensures happens { (first : ℕ) (soft : SoftState) → Represents accepted.now first soft self.old →
+            LeadsTo accepted.now first (Happens soft (event_of event.entry)) self.new (Tells U.shows user.old user.new) }
         ensures legs { length self.new.legs ≡ length self.old.legs }
         ensures few { TellsFew U.shows (step_bytes accepted.now.config) user.old user.new }
     {
         self.take_event(accepted, event, user);
     }
 
-    /// Passes a stage of a radio frame, and tells what the nodes say, what is refused of a leg, and what the frames of the legs are
-    /// combined to.
+    /// Passes a stage of a radio frame, and tells what the nodes say, what is refused of a leg, and what the frames of
+    /// the legs are combined to.
     pub fn pass<U: Indications>(&mut self, accepted: &Accepted, stage: Stage, user: &mut U)
         requires opened { IsSoftOf accepted.now self.old }
         requires stage { IsStage (length self.old.legs) stage }
         ensures opened { IsSoftOf accepted.now self.new }
-        ensures passes { (first : ℕ) (soft : SoftState) → Represents accepted.now first soft self.old → LeadsTo accepted.now first (AtStage stage soft) self.new (Tells U.shows user.old user.new) }
+        ensures passes { (first : ℕ) (soft : SoftState) → Represents accepted.now first soft self.old →
+            LeadsTo accepted.now first (AtStage stage soft) self.new (Tells U.shows user.old user.new) }
         ensures legs { length self.new.legs ≡ length self.old.legs }
         ensures few { TellsFew U.shows (stage_bytes accepted.now.config stage) user.old user.new }
     {
@@ -161,7 +172,8 @@ impl Soft {
     pub fn end_frame(&mut self, accepted: &Accepted)
         requires { IsSoftOf accepted.now self.old }
         ensures opened { IsSoftOf accepted.now self.new }
-        ensures clear { (first : ℕ) (soft : SoftState) → Represents accepted.now first soft self.old → Represents accepted.now first (framed soft) self.new }
+        ensures clear { (first : ℕ) (soft : SoftState) → Represents accepted.now first soft self.old →
+            Represents accepted.now first (framed soft) self.new }
         ensures legs { length self.new.legs ≡ length self.old.legs }
     {
         clear_damage(&mut self.legs);
@@ -178,7 +190,8 @@ impl Soft {
         requires opened { IsSoftOf accepted.now self.old }
         requires event { MayCome accepted.now (length self.old.legs) event }
         ensures opened { ArePartsOf accepted.now self.new }
-        ensures happens { (first : ℕ) (soft : SoftState) → Represents accepted.now first soft self.old → LeadsTo accepted.now first (Happens soft (event_of event.entry)) self.new (Tells U.shows user.old user.new) }
+        ensures happens { (first : ℕ) (soft : SoftState) → Represents accepted.now first soft self.old →
+            LeadsTo accepted.now first (Happens soft (event_of event.entry)) self.new (Tells U.shows user.old user.new) }
         ensures legs { length self.new.legs ≡ length self.old.legs }
         ensures few { TellsFew U.shows (step_bytes accepted.now.config) user.old user.new }
     {
@@ -231,7 +244,8 @@ impl Soft {
         requires opened { IsSoftOf accepted.now self.old }
         requires stage { IsStage (length self.old.legs) stage }
         ensures opened { ArePartsOf accepted.now self.new }
-        ensures passes { (first : ℕ) (soft : SoftState) → Represents accepted.now first soft self.old → LeadsTo accepted.now first (AtStage stage soft) self.new (Tells U.shows user.old user.new) }
+        ensures passes { (first : ℕ) (soft : SoftState) → Represents accepted.now first soft self.old →
+            LeadsTo accepted.now first (AtStage stage soft) self.new (Tells U.shows user.old user.new) }
         ensures legs { length self.new.legs ≡ length self.old.legs }
         ensures few { TellsFew U.shows (stage_bytes accepted.now.config stage) user.old user.new }
     {
@@ -252,7 +266,8 @@ impl Soft {
         requires leg { leg < length self.old.legs }
         requires set { set < 8 }
         ensures opened { ArePartsOf accepted.now self.new }
-        ensures passes { (first : ℕ) (soft : SoftState) → Represents accepted.now first soft self.old → LeadsTo accepted.now first (AtStage (IubDown leg set) soft) self.new (Tells U.shows user.old user.new) }
+        ensures passes { (first : ℕ) (soft : SoftState) → Represents accepted.now first soft self.old →
+            LeadsTo accepted.now first (AtStage (IubDown leg set) soft) self.new (Tells U.shows user.old user.new) }
         ensures legs { length self.new.legs ≡ length self.old.legs }
         ensures few { TellsFew U.shows 4000000 user.old user.new }
     {
@@ -264,7 +279,8 @@ impl Soft {
         requires opened { IsSoftOf accepted.now self.old }
         requires leg { leg < length self.old.legs }
         ensures opened { ArePartsOf accepted.now self.new }
-        ensures passes { (first : ℕ) (soft : SoftState) → Represents accepted.now first soft self.old → LeadsTo accepted.now first (AtStage (RadioDown leg) soft) self.new (Tells U.shows user.old user.new) }
+        ensures passes { (first : ℕ) (soft : SoftState) → Represents accepted.now first soft self.old →
+            LeadsTo accepted.now first (AtStage (RadioDown leg) soft) self.new (Tells U.shows user.old user.new) }
         ensures legs { length self.new.legs ≡ length self.old.legs }
         ensures few { TellsFew U.shows 4000000 user.old user.new }
     {
@@ -275,7 +291,8 @@ impl Soft {
     fn tick_ue<U: Indications>(&mut self, accepted: &Accepted, user: &mut U)
         requires opened { IsSoftOf accepted.now self.old }
         ensures opened { ArePartsOf accepted.now self.new }
-        ensures passes { (first : ℕ) (soft : SoftState) → Represents accepted.now first soft self.old → LeadsTo accepted.now first (AtStage UeTick soft) self.new (Tells U.shows user.old user.new) }
+        ensures passes { (first : ℕ) (soft : SoftState) → Represents accepted.now first soft self.old →
+            LeadsTo accepted.now first (AtStage UeTick soft) self.new (Tells U.shows user.old user.new) }
         ensures legs { length self.new.legs ≡ length self.old.legs }
         ensures few { TellsFew U.shows (step_bytes accepted.now.config) user.old user.new }
     {
@@ -287,7 +304,8 @@ impl Soft {
     fn hear<U: Indications>(&mut self, accepted: &Accepted, user: &mut U)
         requires opened { IsSoftOf accepted.now self.old }
         ensures opened { ArePartsOf accepted.now self.new }
-        ensures hears { (first : ℕ) (soft : SoftState) → Represents accepted.now first soft self.old → (mid : SoftState) × (Hears soft mid × Represents accepted.now first mid self.new) }
+        ensures hears { (first : ℕ) (soft : SoftState) → Represents accepted.now first soft self.old →
+            (mid : SoftState) × (Hears soft mid × Represents accepted.now first mid self.new) }
         ensures legs { length self.new.legs ≡ length self.old.legs }
         ensures same { user.new ≡ user.old }
     {
@@ -301,7 +319,8 @@ impl Soft {
         requires opened { IsSoftOf accepted.now self.old }
         requires leg { leg < length self.old.legs }
         ensures opened { ArePartsOf accepted.now self.new }
-        ensures passes { (first : ℕ) (soft : SoftState) → Represents accepted.now first soft self.old → LeadsTo accepted.now first (AtStage (RadioUp leg) soft) self.new (Tells U.shows user.old user.new) }
+        ensures passes { (first : ℕ) (soft : SoftState) → Represents accepted.now first soft self.old →
+            LeadsTo accepted.now first (AtStage (RadioUp leg) soft) self.new (Tells U.shows user.old user.new) }
         ensures legs { length self.new.legs ≡ length self.old.legs }
         ensures few { TellsFew U.shows 4000000 user.old user.new }
     {
@@ -314,7 +333,8 @@ impl Soft {
         requires set { set < 8 }
         requires leg { leg < length self.old.legs }
         ensures opened { ArePartsOf accepted.now self.new }
-        ensures passes { (first : ℕ) (soft : SoftState) → Represents accepted.now first soft self.old → LeadsTo accepted.now first (AtStage (IubUp set leg) soft) self.new (Tells U.shows user.old user.new) }
+        ensures passes { (first : ℕ) (soft : SoftState) → Represents accepted.now first soft self.old →
+            LeadsTo accepted.now first (AtStage (IubUp set leg) soft) self.new (Tells U.shows user.old user.new) }
         ensures legs { length self.new.legs ≡ length self.old.legs }
         ensures few { TellsFew U.shows 4000000 user.old user.new }
     {
@@ -323,7 +343,8 @@ impl Soft {
         }
     }
 
-    /// The uplink Iub frame of a set from a leg is taken in the TTI that started at a CFN, if one was sent and isn't lost.
+    /// The uplink Iub frame of a set from a leg is taken in the TTI that started at a CFN, if one was sent and isn't
+    /// lost.
     fn take_frame<U: Indications>(
         &mut self,
         accepted: &Accepted,
@@ -337,7 +358,8 @@ impl Soft {
         requires there { has_set accepted.now.config.uplink.side set ≡ true }
         requires leg { leg < length self.old.legs }
         ensures opened { ArePartsOf accepted.now self.new }
-        ensures takes { (first : ℕ) (soft : SoftState) → Represents accepted.now first soft self.old → LeadsTo accepted.now first (TakesFrame cfn set leg soft) self.new (Tells U.shows user.old user.new) }
+        ensures takes { (first : ℕ) (soft : SoftState) → Represents accepted.now first soft self.old →
+            LeadsTo accepted.now first (TakesFrame cfn set leg soft) self.new (Tells U.shows user.old user.new) }
         ensures legs { length self.new.legs ≡ length self.old.legs }
         ensures few { TellsFew U.shows 4000000 user.old user.new }
     {
@@ -354,7 +376,8 @@ impl Soft {
         requires opened { IsSoftOf accepted.now self.old }
         requires set { set < 8 }
         ensures opened { ArePartsOf accepted.now self.new }
-        ensures passes { (first : ℕ) (soft : SoftState) → Represents accepted.now first soft self.old → LeadsTo accepted.now first (AtStage (Combine set) soft) self.new (Tells U.shows user.old user.new) }
+        ensures passes { (first : ℕ) (soft : SoftState) → Represents accepted.now first soft self.old →
+            LeadsTo accepted.now first (AtStage (Combine set) soft) self.new (Tells U.shows user.old user.new) }
         ensures legs { length self.new.legs ≡ length self.old.legs }
         ensures few { TellsFew U.shows (step_bytes accepted.now.config + 300000) user.old user.new }
     {
@@ -363,14 +386,15 @@ impl Soft {
         }
     }
 
-    /// The frames of a set are combined to one in the TTI that started at a CFN, if there is one. It is told, and the network
-    /// controller takes it.
+    /// The frames of a set are combined to one in the TTI that started at a CFN, if there is one. It is told, and the
+    /// network controller takes it.
     fn give_frame<U: Indications>(&mut self, accepted: &Accepted, set: u8, cfn: u8, user: &mut U)
         requires opened { IsSoftOf accepted.now self.old }
         requires set { set < 8 }
         requires there { has_set accepted.now.config.uplink.side set ≡ true }
         ensures opened { ArePartsOf accepted.now self.new }
-        ensures gives { (first : ℕ) (soft : SoftState) → Represents accepted.now first soft self.old → LeadsTo accepted.now first (GivesFrame cfn set soft) self.new (Tells U.shows user.old user.new) }
+        ensures gives { (first : ℕ) (soft : SoftState) → Represents accepted.now first soft self.old →
+            LeadsTo accepted.now first (GivesFrame cfn set soft) self.new (Tells U.shows user.old user.new) }
         ensures legs { length self.new.legs ≡ length self.old.legs }
         ensures few { TellsFew U.shows (step_bytes accepted.now.config + 300000) user.old user.new }
     {

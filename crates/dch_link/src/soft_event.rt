@@ -31,7 +31,8 @@ pub enum LegDamage {
 /// What a script does between two radio frames.
 #[derive(Clone, Copy)]
 pub enum SoftEvent<'a> {
-    /// A unit is offered to a bearer, at the end that sends in a direction: bits to a transparent one, octets to the others (TS 25.322).
+    /// A unit is offered to a bearer, at the end that sends in a direction: bits to a transparent one, octets to the
+    /// others (TS 25.322).
     Unit {
         dir: Dir,
         bearer: u8,

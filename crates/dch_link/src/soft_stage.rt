@@ -70,7 +70,8 @@ impl Stage {
         }
     }
 
-    /// The leg whose Node B or frame the stage is about, by which the lines of its report are led. A stage of all legs has none.
+    /// The leg whose Node B or frame the stage is about, by which the lines of its report are led. A stage of all legs
+    /// has none.
     pub fn leg(self) -> Option<u8>
         ensures { result ≡ leg_of self }
     {

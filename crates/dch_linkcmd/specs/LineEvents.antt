@@ -17,7 +17,8 @@ pub data Said : Type 0 where
 
 -- a unit with this text is offered to a bearer
 abbrev pub unit_event : Config → Dir → ℕ → List ℕ → Event
-unit_event config dir bearer text = OfferedUnit dir bearer (unit_octets (mode_at config bearer) text) (unit_bits (mode_at config bearer) text)
+unit_event config dir bearer text = OfferedUnit dir bearer (unit_octets (mode_at config bearer) text)
+    (unit_bits (mode_at config bearer) text)
 
 -- what a line says, if it says anything
 abbrev pub said_by : Config → ParsedLine → Option Said

@@ -1,5 +1,5 @@
--- The rules of the command `link`: a line is something that happens between two radio frames, or so many radio frames, stage by stage. With
--- one of them a second configuration becomes active.
+-- The rules of the command `link`: a line is something that happens between two radio frames, or so many radio frames,
+-- stage by stage. With one of them a second configuration becomes active.
 use Rattle.std.specs.Prelude.{◌≡◌, ◌⊎◌, ℕ, List, None, Option, Err}
 use Rattle.dch_script.specs.Meaning.{meaning_in}
 use Rattle.dch_script.specs.declared.event.Command.TheVariants.{Link as LinkLines}

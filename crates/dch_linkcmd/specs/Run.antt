@@ -8,9 +8,9 @@ use Rattle.dch_link.specs.declared.stage.Stage.{Stage}
 use Rattle.dch_link.specs.declared.stage.Stage.TheVariants.{RncTick}
 use Rattle.dch_nodecmd.specs.declared.later.Later.{Later}
 
--- the nodes and the damage, the configuration of their opening and the CFN of the first radio frame, the second configuration where one is
--- still to come, and whether the lines of frames are left out; the next stage of a radio frame, how many radio frames are left of a line, with
--- the one that is on, and how many have passed
+-- the nodes and the damage, the configuration of their opening and the CFN of the first radio frame, the second
+-- configuration where one is still to come, and whether the lines of frames are left out; the next stage of a radio
+-- frame, how many radio frames are left of a line, with the one that is on, and how many have passed
 pub record Run : Type 0 where
   pub link : LinkState
   pub began : Planned
@@ -23,7 +23,16 @@ pub record Run : Type 0 where
 
 -- before the first line
 abbrev pub opened_run : Planned → Option Later → ℕ → Bool → Run
-opened_run began second first quiet = record { link = opened_link began first; began = began; first = first; second = second; quiet = quiet; stage = RncTick; left = 0; frames = 0 }
+opened_run began second first quiet = record {
+  link = opened_link began first;
+  began = began;
+  first = first;
+  second = second;
+  quiet = quiet;
+  stage = RncTick;
+  left = 0;
+  frames = 0;
+}
 
 -- the configuration that is active
 abbrev pub config_of : Run → Config
@@ -32,7 +41,12 @@ config_of run = (active run.link).config
 -- after the last stage of a radio frame no damage waits any more, and the first stage of the next one comes
 abbrev pub passed_by : Run → LinkState → Option Stage → Run
 passed_by run link (Some stage) = record run { link = link; stage = stage }
-passed_by run link None = record run { link = record link { damage = [] }; stage = RncTick; left = run.left - 1; frames = run.frames + 1 }
+passed_by run link None = record run {
+  link = record link { damage = [] };
+  stage = RncTick;
+  left = run.left - 1;
+  frames = run.frames + 1;
+}
 
 abbrev pub passed : Run → LinkState → Run
 passed run link = passed_by run link (next_stage run.stage)

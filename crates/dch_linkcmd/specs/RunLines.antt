@@ -9,7 +9,8 @@ abbrev pub frames_of : Said → ℕ
 frames_of (OneEvent event) = 0
 frames_of (Frames count) = count
 
--- the configuration that is active when so many radio frames have passed, where there may be a second one that is active from one of them on
+-- the configuration that is active when so many radio frames have passed, where there may be a second one that is
+-- active from one of them on
 abbrev pub active_behind : Config → Option (ℕ × Config) → ℕ → Config
 active_behind config None frames = config
 active_behind config (Some second) frames = if nat_le frames second.0 then config else second.1
@@ -25,9 +26,11 @@ pub record SaysFirst (config : Config) (frames : ℕ) (line : List ℕ) (Rest : 
   pub says : Says config line said
   pub rest : Rest (frames + frames_of said)
 
--- each of the lines is empty, or says something under the configuration that is active; before them so many radio frames have passed
+-- each of the lines is empty, or says something under the configuration that is active; before them so many radio
+-- frames have passed
 abbrev pub AreRunLines : Config → Option (ℕ × Config) → ℕ → List (List ℕ) → Type 0
 AreRunLines config second frames [] = Unit {0}
 AreRunLines config second frames (line ∷ lines) =
     MatchBool (is_empty line) (AreRunLines config second frames lines)
-    (SaysFirst config frames line (λ now. AreRunLines (active_behind config second now) (coming_behind second now) now lines))
+    (SaysFirst config frames line (λ now. AreRunLines (active_behind config second now)
+    (coming_behind second now) now lines))

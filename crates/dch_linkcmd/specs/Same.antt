@@ -14,7 +14,8 @@ pub record IsSameRun (run other : Run) : Type 0 where
   pub left : other.left ≡ run.left
   pub frames : other.frames ≡ run.frames
 
--- the next stage is one that there is, and each configuration can be accepted, the second one where it is still to come too
+-- the next stage is one that there is, and each configuration can be accepted, the second one where it is still to come
+-- too
 pub record IsPlannedRun (run : Run) : Type 0 where
   pub link : ArePlanned run.link
   pub second : IfSome run.second (λ later. IsPlanned later.accepted)

@@ -10,9 +10,11 @@ use Rattle.dch_linkcmd.specs.SoftRules.{soft_lines}
 use Rattle.dch_linkcmd.specs.SoftRun.{config_of}
 
 -- what such a line says
-soft_long : (legs : ℕ) (config : Config) (line : List ℕ) → longest < length (content line) → soft_meaning legs config line ≡ Err Long
+soft_long : (legs : ℕ) (config : Config) (line : List ℕ) → longest < length (content line)
+    → soft_meaning legs config line ≡ Err Long
 unfolding soft_meaning
-soft_long legs config line long = let over : nat_lt longest (length (content line)) ≡ true = lt-ltb longest (length (content line)) long in rw over refl
+soft_long legs config line long = let over : nat_lt longest (length (content line))
+    ≡ true = lt-ltb longest (length (content line)) long in rw over refl
 
 pub soft_refuses_long : RefusesLong soft_lines
 soft_refuses_long run line long = soft_long run.soft.count (config_of run) line long

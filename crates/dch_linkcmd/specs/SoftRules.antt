@@ -1,4 +1,5 @@
--- The rules of the command `soft`: a line is something that happens between two radio frames, or so many radio frames, stage by stage.
+-- The rules of the command `soft`: a line is something that happens between two radio frames, or so many radio frames,
+-- stage by stage.
 use Rattle.std.specs.Prelude.{◌≡◌, ℕ, List, Err}
 use Rattle.dch_script.specs.Soft.{soft_meaning}
 use Rattle.dch_script.specs.declared.event.LineError.{LineError}

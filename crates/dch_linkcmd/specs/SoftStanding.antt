@@ -14,8 +14,8 @@ use Rattle.dch_link.specs.SoftValues.{Parts}
 use Rattle.dch_link.specs.declared.soft_stage.Stage.{Stage}
 use Rattle.dch_linkcmd.specs.SoftRun.{Run}
 
--- the configuration, the nodes, whether the lines of frames are left out, the next stage, how many radio frames are left of a line and how
--- many have passed, and how many lines asked for radio frames
+-- the configuration, the nodes, whether the lines of frames are left out, the next stage, how many radio frames are
+-- left of a line and how many have passed, and how many lines asked for radio frames
 pub record Handler : Type 0 where
   pub accepted : Planned
   pub soft : Parts

@@ -14,7 +14,8 @@ use Rattle.dch_linkcmd.specs.SoftStanding.{Shows}
 pub record TakesEvent (planned : Planned) (line : List ℕ) (quiet : Bool) (old new : Parts) (before after : Held) : Type 0 where
   pub event : Event
   pub says : Says (length old.legs) planned.config line (OneEvent event)
-  pub happens : (first : ℕ) (soft : SoftState) → Represents planned first soft old → Shows planned first (shown quiet) (Happens soft event) new before after
+  pub happens : (first : ℕ) (soft : SoftState) → Represents planned first soft old
+      → Shows planned first (shown quiet) (Happens soft event) new before after
 
 -- a line asks for radio frames, and nothing has happened yet
 pub record AsksFrames (planned : Planned) (line : List ℕ) (count : ℕ) (old new : Parts) (before after : Held) : Type 0 where

@@ -17,9 +17,9 @@ use Rattle.dch_linkcmd.specs.Run.{Run}
 use Rattle.dch_nodecmd.specs.Shown.{shown}
 use Rattle.dch_nodecmd.specs.declared.later.Later.{Later}
 
--- the configuration that is active, the second one where it is still to come, the nodes, whether the lines of frames are left out, the next
--- stage, how many radio frames are left of a line and how many have passed, how many lines asked for radio frames, and the most bytes of the text
--- of a stage
+-- the configuration that is active, the second one where it is still to come, the nodes, whether the lines of frames
+-- are left out, the next stage, how many radio frames are left of a line and how many have passed, how many lines asked
+-- for radio frames, and the most bytes of the text of a stage
 pub record Handler : Type 0 where
   pub accepted : Planned
   pub later : Option Later

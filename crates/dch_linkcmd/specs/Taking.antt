@@ -13,7 +13,8 @@ use Rattle.dch_linkcmd.specs.Standing.{Shows}
 pub record TakesEvent (planned : Planned) (line : List ℕ) (quiet : Bool) (old new : Nodes) (before after : Held) : Type 0 where
   pub event : Event
   pub says : Says planned.config line (OneEvent event)
-  pub happens : (began : Planned) (first : ℕ) (link : LinkState) → Represents began planned first link old → Shows began planned first quiet (Happens link event) new before after
+  pub happens : (began : Planned) (first : ℕ) (link : LinkState) → Represents began planned first link old
+      → Shows began planned first quiet (Happens link event) new before after
 
 -- a line asks for radio frames, and nothing has happened yet
 pub record AsksFrames (planned : Planned) (line : List ℕ) (count : ℕ) (old new : Nodes) (before after : Held) : Type 0 where

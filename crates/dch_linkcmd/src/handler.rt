@@ -29,8 +29,8 @@ use std::alloc::Global;
 use std::marker::Model;
 use std::mem;
 
-/// The handler of the command `link`, which takes each line as something that happens between two radio frames, or as radio frames,
-/// stage by stage. All memory is taken at opening.
+/// The handler of the command `link`, which takes each line as something that happens between two radio frames, or as
+/// radio frames, stage by stage. All memory is taken at opening.
 pub struct LinkHandler {
     accepted: Accepted,
     later: Option<Later>,
@@ -69,14 +69,24 @@ impl Model for LinkHandler {
 
     ghost Value = { Handler };
 
-    ghost view = { λ h. record { accepted = h.accepted; later = h.later; link = h.link; quiet = h.quiet; stage = h.stage; left = h.left; frames = h.frames; lines = h.lines; most = h.most } };
+    ghost view = { λ h. record {
+      accepted = h.accepted;
+      later = h.later;
+      link = h.link;
+      quiet = h.quiet;
+      stage = h.stage;
+      left = h.left;
+      frames = h.frames;
+      lines = h.lines;
+      most = h.most;
+    } };
 
     ghost invariant = { λ h. length h.octets.items ≡ OCTETS };
 }
 
 impl LinkHandler {
-    /// Opens the nodes for a configuration, and for a second one where one is to come, in which every bearer goes on. The first radio frame
-    /// has this CFN. With `quiet` the lines of frames are left out of the text.
+    /// Opens the nodes for a configuration, and for a second one where one is to come, in which every bearer goes on.
+    /// The first radio frame has this CFN. With `quiet` the lines of frames are left out of the text.
     pub fn open(
         alloc: Global,
         accepted: Accepted,
@@ -88,7 +98,8 @@ impl LinkHandler {
         requires follows { IfSome later (CanFollow accepted) }
         ensures ready { IfOk result IsReady }
         ensures stands { IfOk result (RepresentsRun (opened_run accepted later first_cfn quiet)) }
-        ensures new { IfOk result (λ handler. (handler.accepted ≡ accepted) × (handler.later ≡ later) × (handler.lines ≡ 0)) }
+        ensures new { IfOk result (λ handler. (handler.accepted ≡ accepted) × (handler.later ≡ later) ×
+            (handler.lines ≡ 0)) }
         ensures most { IfOk result (λ handler. handler.most ≡ most_bytes accepted later) }
     {
         let most = most_of(&accepted, &later);
@@ -114,7 +125,8 @@ impl LinkHandler {
 
     /// The nodes, after the work. Each stands for what happened to it in the run.
     pub fn into_nodes(self) -> (Ue, NodeB, Rnc)
-        ensures { (run : Run) → RepresentsRun run self → HaveHistories run.began self.accepted run.first run.link result.0 result.1 result.2 }
+        ensures { (run : Run) → RepresentsRun run self →
+            HaveHistories run.began self.accepted run.first run.link result.0 result.1 result.2 }
     {
         let LinkHandler {
             accepted: _accepted,
@@ -247,8 +259,8 @@ fn is_due(later: &Option<Later>, stage: Stage, frames: u64) -> bool
     }
 }
 
-/// Takes a line. Answers how many radio frames it asks for, if it asks for any; otherwise what it says has happened. `octets` is room
-/// for the octets of a unit.
+/// Takes a line. Answers how many radio frames it asks for, if it asks for any; otherwise what it says has happened.
+/// `octets` is room for the octets of a unit.
 fn take(
     accepted: &Accepted,
     line: &[u8],

@@ -27,8 +27,8 @@ use std::marker::Model;
 /// The most bytes of the words that lead the lines of a stage of a leg.
 const LEADS: usize = 24_000_000;
 
-/// The handler of the command `soft`, which takes each line as something that happens between two radio frames, or as radio frames,
-/// stage by stage. All memory is taken at opening.
+/// The handler of the command `soft`, which takes each line as something that happens between two radio frames, or as
+/// radio frames, stage by stage. All memory is taken at opening.
 pub struct SoftHandler {
     accepted: Accepted,
     soft: Soft,
@@ -63,14 +63,22 @@ impl Model for SoftHandler {
 
     ghost Value = { Handler };
 
-    ghost view = { λ h. record { accepted = h.accepted; soft = h.soft; quiet = h.quiet; stage = h.stage; left = h.left; frames = h.frames; lines = h.lines } };
+    ghost view = { λ h. record {
+      accepted = h.accepted;
+      soft = h.soft;
+      quiet = h.quiet;
+      stage = h.stage;
+      left = h.left;
+      frames = h.frames;
+      lines = h.lines;
+    } };
 
     ghost invariant = { λ h. length h.octets.items ≡ OCTETS };
 }
 
 impl SoftHandler {
-    /// Opens the nodes for a configuration, with so many legs, of which there are 1 to 6. The first radio frame has this CFN. With `quiet`
-    /// the lines of frames are left out of the text.
+    /// Opens the nodes for a configuration, with so many legs, of which there are 1 to 6. The first radio frame has
+    /// this CFN. With `quiet` the lines of frames are left out of the text.
     pub fn open(
         alloc: Global,
         accepted: Accepted,
@@ -105,7 +113,8 @@ impl SoftHandler {
 
     /// The nodes, after the work: each leg has a Node B. Each stands for what happened to it in the run.
     pub fn into_nodes(self) -> (Ue, Vec<Leg>, Rnc)
-        ensures { (run : Run) → RepresentsRun run self → HaveHistories self.accepted run.first run.soft result.0 result.1.items result.2 }
+        ensures { (run : Run) → RepresentsRun run self →
+            HaveHistories self.accepted run.first run.soft result.0 result.1.items result.2 }
     {
         let SoftHandler {
             accepted: _accepted,
@@ -129,7 +138,8 @@ impl SoftHandler {
         ensures ready { IsReady self.new }
         ensures accepted { self.new.accepted ≡ self.old.accepted }
         ensures lines { self.new.lines ≡ self.old.lines }
-        ensures remaining { steps_left (length self.new.soft.legs) self.new.stage self.new.left + 1 ≡ steps_left (length self.old.soft.legs) self.old.stage self.old.left }
+        ensures remaining { steps_left (length self.new.soft.legs) self.new.stage self.new.left + 1 ≡
+            steps_left (length self.old.soft.legs) self.old.stage self.old.left }
         ensures most { report.new.most ≡ report.old.most }
         ensures fits { length report.new.text ≤ report.new.most }
     {
@@ -151,8 +161,8 @@ impl SoftHandler {
     }
 }
 
-/// Takes a line. Answers how many radio frames it asks for, if it asks for any; otherwise what it says has happened. `octets` is room
-/// for the octets of a unit.
+/// Takes a line. Answers how many radio frames it asks for, if it asks for any; otherwise what it says has happened.
+/// `octets` is room for the octets of a unit.
 fn take(
     accepted: &Accepted,
     line: &[u8],

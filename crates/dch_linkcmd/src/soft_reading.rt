@@ -51,7 +51,8 @@ pub fn read_line<'a>(
 /// Reads what a line says of a leg.
 fn read_damage(accepted: &Accepted, event: Event<'_>) -> LegDamage
     requires good { IsDamage accepted.now.config (parsed_of event) }
-    ensures says { (leg : ℕ) → said_of_leg leg (parsed_of event.entry) ≡ Some (OneEvent (Damages leg (damage_of result))) }
+    ensures says { (leg : ℕ) → said_of_leg leg (parsed_of event.entry) ≡
+        Some (OneEvent (Damages leg (damage_of result))) }
     ensures hits { MayHit accepted.now result }
 {
     match event {

@@ -11,8 +11,8 @@ use Rattle.dch_types.specs.Timing.{starts as tti_starts}
 use Rattle.dch_tree.specs.Bearers.{bearer_at}
 use Rattle.dch_mac.specs.declared.head.Head.{Head}
 
--- a direction with its channels and combinations, the bearers, the frame number, the combination that runs, what each bearer
--- offers, and which combinations are blocked
+-- a direction with its channels and combinations, the bearers, the frame number, the combination that runs, what each
+-- bearer offers, and which combinations are blocked
 pub record Asked : Type 0 where
   pub dir : Dir
   pub side : Side
@@ -24,7 +24,15 @@ pub record Asked : Type 0 where
 
 -- of a configuration
 abbrev pub asked_of : Config → Dir → ℕ → ℕ → List Head → List Bool → Asked
-asked_of config dir cfn running offers blocked = record { dir = dir; side = side_of config dir; bearers = config.bearers; cfn = cfn; running = running; offers = offers; blocked = blocked }
+asked_of config dir cfn running offers blocked = record {
+  dir = dir;
+  side = side_of config dir;
+  bearers = config.bearers;
+  cfn = cfn;
+  running = running;
+  offers = offers;
+  blocked = blocked;
+}
 
 -- a TTI of channel i starts
 abbrev pub starts : Asked → ℕ → Bool

@@ -28,9 +28,11 @@ bits_in asked c i = (format_in asked c i).number * (format_in asked c i).size
 abbrev pub bits_of : Asked → ℕ → ℕ
 bits_of asked c = total (bits_in asked c) (length asked.side.channels)
 
--- which of two combinations is better: the one whose list is greater, then the one with fewer bits in all, then the earlier
+-- which of two combinations is better: the one whose list is greater, then the one with fewer bits in all, then the
+-- earlier
 abbrev pub compared : Asked → ℕ → ℕ → Ordering
-compared asked a b = ordering_then (slice_cmp nat_cmp (carried asked a) (carried asked b)) (ordering_then (nat_cmp (bits_of asked b) (bits_of asked a)) (nat_cmp b a))
+compared asked a b = ordering_then (slice_cmp nat_cmp (carried asked a) (carried asked b))
+    (ordering_then (nat_cmp (bits_of asked b) (bits_of asked a)) (nat_cmp b a))
 
 -- combination c may be chosen, and none that may be chosen is better
 pub record IsBest (asked : Asked) (c : ℕ) : Type 0 where

@@ -16,7 +16,8 @@ pub record IsBestBelow (asked : Asked) (count : ℕ) (choice : Choice) : Type 0 
   pub what : IsChoice asked choice
   pub below : choice.combination < count
   pub candidate : IsCandidate asked choice.combination
-  pub best : (other : ℕ) → other < count → IsCandidate asked other → is_gt (compared asked other choice.combination) ≡ false
+  pub best : (other : ℕ) → other < count → IsCandidate asked other → is_gt (compared asked other choice.combination)
+      ≡ false
 
 -- the best of the first combinations, if any of them may be chosen
 abbrev pub IsBestOf : Asked → ℕ → Option Choice → Type 0

@@ -25,7 +25,8 @@ waiting asked i size = total (offered asked i size) (length asked.bearers)
 
 -- bearer a is served before bearer b: its priority is of a lesser number, or the same and its own number is less
 abbrev pub is_before : Asked → ℕ → ℕ → Bool
-is_before asked a b = nat_lt (priority_of asked a) (priority_of asked b) || (priority_of asked a == priority_of asked b && nat_lt a b)
+is_before asked a b = nat_lt (priority_of asked a)
+    (priority_of asked b) || (priority_of asked a == priority_of asked b && nat_lt a b)
 
 -- the blocks of this size of those that are served before bearer b
 abbrev pub ahead : Asked → ℕ → ℕ → ℕ → ℕ
@@ -37,7 +38,8 @@ given asked i format b = min (offered asked i format.size b) (format.number - ah
 
 -- how many blocks of a size the bearers of a priority give to a channel
 unfoldable pub given_by : Asked → ℕ → Format → ℕ → ℕ
-given_by asked i format priority = total (λ b. if priority_of asked b == priority then given asked i format b else 0) (length asked.bearers)
+given_by asked i format priority = total (λ b. if priority_of asked b == priority then given asked i format b else 0)
+    (length asked.bearers)
 
 -- the blocks of this size that the first bearers of a priority have for channel i
 abbrev pub offered_at : Asked → ℕ → ℕ → ℕ → ℕ → ℕ

@@ -19,8 +19,9 @@ finds_format asked i format = is_idle format || nat_le format.number (waiting as
 abbrev pub carried_in : Asked → ℕ → Format → ℕ → ℕ
 carried_in asked i format priority = if starts asked i then given_by asked i format priority * format.size else 0
 
--- a row of format f of channel i says whether a combination with it keeps what runs on the channel, and, if that starts, finds its
--- blocks and has its idle format; and which bits it carries for priorities 1 to 8, and its bits in all
+-- a row of format f of channel i says whether a combination with it keeps what runs on the channel, and, if that
+-- starts, finds its blocks and has its idle format; and which bits it carries for priorities 1 to 8, and its bits in
+-- all
 pub record IsRow (asked : Asked) (i f : ℕ) (row : Row) : Type 0 where
   pub kept : IsTrue row.kept ↔ (starts asked i ≡ false → f ≡ format_number asked.side asked.running i)
   pub found : IsTrue row.found ↔ (starts asked i ≡ true → finds_format asked i (format_of asked i f) ≡ true)
@@ -32,9 +33,11 @@ pub record IsRow (asked : Asked) (i f : ℕ) (row : Row) : Type 0 where
 
 -- the row of format f of channel i, which has room for 32 of them
 abbrev pub row_at : List Row → ℕ → ℕ → Row
-row_at rows i f = slice_index_or rows (i * 32 + f) (record { kept = false; found = false; idle = false; carried = []; bits = 0 })
+row_at rows i f = slice_index_or rows (i * 32 + f)
+    (record { kept = false; found = false; idle = false; carried = []; bits = 0 })
 
 -- a row for each format of each channel
 pub record IsTable (asked : Asked) (rows : List Row) : Type 0 where
   pub size : length rows ≡ 256
-  pub row : (i : ℕ) → i < length asked.side.channels → (f : ℕ) → f < length (channel_at asked.side i).formats → IsRow asked i f (row_at rows i f)
+  pub row : (i : ℕ) → i < length asked.side.channels → (f : ℕ) → f < length (channel_at asked.side i).formats
+      → IsRow asked i f (row_at rows i f)

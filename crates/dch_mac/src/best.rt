@@ -20,7 +20,8 @@ pub(crate) struct Choice {
 
 /// Whether the first choice is better than the second, which stands for an earlier combination.
 fn is_better(choice: &Choice, earlier: &Choice) -> bool
-    ensures { result ≡ is_gt (ordering_then (slice_cmp nat_cmp choice.now.carried earlier.now.carried) (nat_cmp earlier.now.bits choice.now.bits)) }
+    ensures { result ≡ is_gt (ordering_then (slice_cmp nat_cmp choice.now.carried earlier.now.carried)
+        (nat_cmp earlier.now.bits choice.now.bits)) }
 {
     match choice.carried.as_slice().cmp(earlier.carried.as_slice()) {
         Ordering::Less => false,

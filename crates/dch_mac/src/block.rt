@@ -5,13 +5,14 @@ ghost use Rattle.dch_mac.specs.Field.{field_of, field_bits, Names};
 
 use dch_bits::{Bit, unpack};
 
-/// Writes the transport block of a PDU: the C/T field of the logical channel, if one is given, and then the octets of the
-/// PDU as bits, the highest first (TS 25.321 9.2.1).
+/// Writes the transport block of a PDU: the C/T field of the logical channel, if one is given, and then the octets of
+/// the PDU as bits, the highest first (TS 25.321 9.2.1).
 pub fn mux(ct: Option<u8>, pdu: &[u8], out: &mut [Bit])
     requires channel { IfSome ct (λ channel. (1 ≤ channel) × (channel ≤ 15)) }
     requires room { length out.old ≡ field_bits ct + 8 * length pdu.now }
     ensures field { Names ct out.new }
-    ensures pdu { (k : ℕ) → k < 8 * length pdu.now → slice_index_or out.new (field_bits ct + k) Zero ≡ bit_of_octets pdu.now k }
+    ensures pdu { (k : ℕ) → k < 8 * length pdu.now →
+        slice_index_or out.new (field_bits ct + k) Zero ≡ bit_of_octets pdu.now k }
 {
     match ct {
         None => unpack(pdu, out),

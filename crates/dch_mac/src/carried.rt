@@ -7,7 +7,8 @@ use crate::moment::Moment;
 use dch_types::{Bearer, Format};
 
 impl Moment<'_> {
-    /// Writes the bits that channel `i` carries in a format for each priority. The result is how many blocks it doesn't find.
+    /// Writes the bits that channel `i` carries in a format for each priority. The result is how many blocks it doesn't
+    /// find.
     pub(crate) fn carry(&self, i: usize, format: Format, carried: &mut [u32]) -> u32
         requires few { format.number ≤ 64 }
         requires short { format.size ≤ 5000 }

@@ -8,13 +8,13 @@ use crate::moment::Moment;
 use dch_accept::Accepted;
 use dch_types::Dir;
 
-/// Chooses the combination of a radio frame (TS 25.321 11.4). It keeps the formats of channels whose TTI goes on, and each
-/// channel whose TTI starts finds the blocks of its format. Of these combinations, less the blocked ones, that one is chosen which
-/// carries the most bits of priority 1, then of priority 2 and so on; then the one with the fewest bits; then the first.
-/// The combination in which all that start are idle may always be chosen.
+/// Chooses the combination of a radio frame (TS 25.321 11.4). It keeps the formats of channels whose TTI goes on, and
+/// each channel whose TTI starts finds the blocks of its format. Of these combinations, less the blocked ones, that one
+/// is chosen which carries the most bits of priority 1, then of priority 2 and so on; then the one with the fewest
+/// bits; then the first. The combination in which all that start are idle may always be chosen.
 ///
-/// `running` is the combination of the frame before, `offers` has one member for each bearer, and `blocked` one for each
-/// combination.
+/// `running` is the combination of the frame before, `offers` has one member for each bearer, and `blocked` one for
+/// each combination.
 pub fn choose(
     accepted: &Accepted,
     dir: Dir,

@@ -26,9 +26,25 @@ impl<'a> Model for Moment<'a> {
 
     ghost Value = { Asked };
 
-    ghost view = { λ m. record { dir = m.dir; side = m.side.now; bearers = m.bearers.now; cfn = m.cfn; running = m.running; offers = m.offers.now; blocked = m.blocked.now } };
+    ghost view = { λ m. record {
+      dir = m.dir;
+      side = m.side.now;
+      bearers = m.bearers.now;
+      cfn = m.cfn;
+      running = m.running;
+      offers = m.offers.now;
+      blocked = m.blocked.now;
+    } };
 
-    ghost invariant = { λ m. IsAsked (record { dir = m.dir; side = m.side.now; bearers = m.bearers.now; cfn = m.cfn; running = m.running; offers = m.offers.now; blocked = m.blocked.now }) };
+    ghost invariant = { λ m. IsAsked (record {
+      dir = m.dir;
+      side = m.side.now;
+      bearers = m.bearers.now;
+      cfn = m.cfn;
+      running = m.running;
+      offers = m.offers.now;
+      blocked = m.blocked.now;
+    }) };
 }
 
 impl Moment<'_> {

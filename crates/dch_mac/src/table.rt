@@ -38,7 +38,8 @@ impl Moment<'_> {
         requires channel { i < length self.now.side.channels }
         requires size { length rows.old ≡ 256 }
         ensures size { length rows.new ≡ 256 }
-        ensures written { (f : ℕ) → f < length (channel_at self.now.side i).formats → IsRow self.now i f (row_at rows.new i f) }
+        ensures written { (f : ℕ) → f < length (channel_at self.now.side i).formats →
+            IsRow self.now i f (row_at rows.new i f) }
         ensures earlier { (j f : ℕ) → j < i → f < 32 → row_at rows.new j f ≡ row_at rows.old j f }
     {
         for f in 0..self.formats(i) {

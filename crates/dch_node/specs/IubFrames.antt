@@ -1,4 +1,5 @@
--- What a node takes of an Iub frame: the number of its refusal, or the blocks of each channel of its set (TS 25.427 6.2).
+-- What a node takes of an Iub frame: the number of its refusal, or the blocks of each channel of its set (TS 25.427
+-- 6.2).
 use Rattle.std.specs.Prelude.{◌≡◌, ℕ}
 use Rattle.dch_types.specs.declared.channel.Side.{Side}
 use Rattle.dch_accept.specs.HeldSets.{HeldSet, held_at}

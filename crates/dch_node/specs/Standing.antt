@@ -1,4 +1,5 @@
--- A value V of code and what it stands for: a state S of a node's definition, and the list of what happened at the node.
+-- A value V of code and what it stands for: a state S of a node's definition, and the list of what happened at the
+-- node.
 use Rattle.std.specs.Prelude.{◌≡◌, ◌++◌, List, [], ◌∷◌}
 use Rattle.dch_indication.specs.Told.{Told}
 use Rattle.dch_node.specs.Lines.{Line}

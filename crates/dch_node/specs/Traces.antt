@@ -12,8 +12,10 @@ pub record TraceStep {S E : Type 0} (Steps : S → E → S → Output → Type 0
   pub later : Rest next output rest
   pub reported : lines ≡ output.lines ++ rest
 
--- the events lead from a state to another one with these lines in all; last is the output of the last step, or the one before them
-abbrev pub Trace : {S E : Type 0} → (S → E → S → Output → Type 0) → S → Output → List E → S → Output → List Line → Type 0
+-- the events lead from a state to another one with these lines in all; last is the output of the last step, or the one
+-- before them
+abbrev pub Trace : {S E : Type 0} → (S → E → S → Output → Type 0) → S → Output → List E → S → Output → List Line
+    → Type 0
 Trace Steps old output [] new last lines = (new ≡ old) × (last ≡ output) × (lines ≡ [])
 Trace Steps old output (event ∷ later) new last lines = TraceStep Steps old event (λ next now rest. Trace Steps next now later new last rest) lines
 

@@ -50,21 +50,25 @@ pub record Keeps {S : Type 0} (shows : S → Line → S → Type 0) (planned : P
   pub opened : AreRxBuffersOf planned new
   pub others : (s : ℕ) → s ≢ set → rx_buffer_at new s ≡ rx_buffer_at old s
   pub lines : List Line
-  pub took : IsTaken planned set octets (rx_buffer_at new set) lines ⊎ IsRefused planned set octets (rx_buffer_at old set) (rx_buffer_at new set) lines
+  pub took : IsTaken planned set octets (rx_buffer_at new set) lines
+      ⊎ IsRefused planned set octets (rx_buffer_at old set) (rx_buffer_at new set) lines
   pub told : Told shows before lines after
 
--- a receive buffer is ready for a TTI that starts at a CFN: it has the blocks of its frame where that is the one of this CFN, and else of the
--- idle formats; and it is empty
+-- a receive buffer is ready for a TTI that starts at a CFN: it has the blocks of its frame where that is the one of
+-- this CFN, and else of the idle formats; and it is empty
 pub record IsReady (cfn : ℕ) (old new : IubRxBuffer) : Type 0 where
   pub fits : old.cfn ≡ Some cfn → new.held ≡ old.held
-  pub other : old.cfn ≢ Some cfn → (config : Config) (set : ℕ) → IsSetOf config Down set old.held → IsIdleSet config Down set new.held
+  pub other : old.cfn ≢ Some cfn → (config : Config) (set : ℕ) → IsSetOf config Down set old.held
+      → IsIdleSet config Down set new.held
   pub empty : new.cfn ≡ None
 
 -- and so are those of the first sets whose TTI starts; all others are as they were
 pub record AreReady (planned : Planned) (cfn count : ℕ) (old new : List IubRxBuffer) : Type 0 where
   pub opened : AreRxBuffersOf planned new
-  pub on : (s : ℕ) → s < count → starts (set_frames planned.config.downlink.side s) cfn ≡ true → IsReady cfn (rx_buffer_at old s) (rx_buffer_at new s)
-  pub off : (s : ℕ) → s < count → starts (set_frames planned.config.downlink.side s) cfn ≡ false → rx_buffer_at new s ≡ rx_buffer_at old s
+  pub on : (s : ℕ) → s < count → starts (set_frames planned.config.downlink.side s) cfn ≡ true
+      → IsReady cfn (rx_buffer_at old s) (rx_buffer_at new s)
+  pub off : (s : ℕ) → s < count → starts (set_frames planned.config.downlink.side s) cfn ≡ false → rx_buffer_at new s
+      ≡ rx_buffer_at old s
   pub later : (s : ℕ) → count ≤ s → rx_buffer_at new s ≡ rx_buffer_at old s
 
 -- the blocks of channel i are loaded, in the format that is noted
@@ -89,7 +93,8 @@ pub record AreGiven (planned : Planned) (cfn count : ℕ) (rx_buffers : List Iub
   pub opened : IsTransmitterOf planned new
   pub on : (i : ℕ) → i < count → starts (channel_at planned.config.downlink.side i).frames cfn ≡ true
       → IsGiven planned i (held_at (rx_buffer_at rx_buffers (channel_at planned.config.downlink.side i).set).held.blocks i) new
-  pub off : (i : ℕ) → i < count → starts (channel_at planned.config.downlink.side i).frames cfn ≡ false → IsUntouched i old new
+  pub off : (i : ℕ) → i < count → starts (channel_at planned.config.downlink.side i).frames cfn ≡ false
+      → IsUntouched i old new
   pub later : (i : ℕ) → count ≤ i → IsUntouched i old new
   pub sent : new.radio.sent ≡ old.radio.sent
 
@@ -132,7 +137,8 @@ pub record Sends {S : Type 0} (shows : S → Line → S → Type 0) (planned : P
   pub writes : Writes planned cfn old (radio_sent new.radio)
   pub shown : shows before (radio_line (radio_sent new.radio)) after
 
--- the radio frame of the CFN is due: receive buffers are made ready, the channels that start are loaded, and the frame is sent
+-- the radio frame of the CFN is due: receive buffers are made ready, the channels that start are loaded, and the frame
+-- is sent
 pub record Transmits {S : Type 0} (shows : S → Line → S → Type 0) (planned : Planned) (cfn : ℕ) (old new : List IubRxBuffer) (transmitter sent : DownlinkTransmitter) (before after : S) : Type 0 where
   pub ready : AreReady planned cfn 8 old new
   pub loaded : DownlinkTransmitter

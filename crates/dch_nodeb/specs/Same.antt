@@ -17,8 +17,8 @@ abbrev pub KeepsSame : Side → ℕ → Option DownlinkIubFrame → Option Downl
 KeepsSame side set None other = other ≡ None
 KeepsSame side set (Some frame) other = KeepsAgain side set frame other
 
--- the states agree in the configuration, in the CFN, in what is kept for each set, in the blocks of each downlink channel, and in the
--- uplink radio frames
+-- the states agree in the configuration, in the CFN, in what is kept for each set, in the blocks of each downlink
+-- channel, and in the uplink radio frames
 pub record IsSameState (state other : State) : Type 0 where
   pub planned : other.planned ≡ state.planned
   pub cfn : other.cfn ≡ state.cfn

@@ -33,7 +33,8 @@ MayCome planned Due = Unit {0}
 MayCome planned (Phy frame) = HasTfci planned Up frame
 MayCome planned Changes = Unit {0}
 
--- the Node B is open for the configuration that is active: before a change that is another one, which this one can follow
+-- the Node B is open for the configuration that is active: before a change that is another one, which this one can
+-- follow
 abbrev pub IsReadyFor : Planned → NodeBEvent → Node → Type 0
 IsReadyFor planned (Iub set frame) node = IsNodeOf planned node
 IsReadyFor planned Due node = IsNodeOf planned node
@@ -57,7 +58,8 @@ KeepsNext planned Changes old new = new.next ≡ None
 -- a receive buffer has the frame that is kept for a set, if one is
 abbrev pub KeepsFrame : Side → ℕ → Option DownlinkIubFrame → IubRxBuffer → Type 0
 KeepsFrame side set None rx_buffer = rx_buffer.cfn ≡ None
-KeepsFrame side set (Some frame) rx_buffer = (rx_buffer.cfn ≡ Some frame.cfn) × ForSet side set (λ i. blocks_at rx_buffer.held i ≡ frame.blocks i)
+KeepsFrame side set (Some frame) rx_buffer = (rx_buffer.cfn ≡ Some frame.cfn)
+    × ForSet side set (λ i. blocks_at rx_buffer.held i ≡ frame.blocks i)
 
 -- a Node B that was opened for a configuration stands for a state in which that is active
 pub record Represents (planned : Planned) (state : State) (node : Node) : Type 0 where
@@ -81,11 +83,13 @@ pub record NothingSent (node : Node) : Type 0 where
 abbrev pub Stepped : Planned → State → Event → Node → (List Line → Type 0) → Type 0
 Stepped planned old event node Says = TakesStep Steps (Represents planned) Shows old event node Says
 
--- a Node B stands for what happened since it was opened for a configuration, with the lines of all of them; this one is active now
+-- a Node B stands for what happened since it was opened for a configuration, with the lines of all of them; this one is
+-- active now
 abbrev pub RepresentsHistory : Planned → Planned → ℕ → List Event → List Line → Node → Type 0
 RepresentsHistory began planned first events lines node = HasHistory Steps (Represents planned) Shows (opened_state began first) events lines node
 
 -- one more event, with the lines of which whoever is told is told
-abbrev pub ExtendsHistory : Planned → Planned → ℕ → List Event → List Line → Event → Node → (List Line → Type 0) → Type 0
+abbrev pub ExtendsHistory : Planned → Planned → ℕ → List Event → List Line → Event → Node → (List Line → Type 0)
+    → Type 0
 ExtendsHistory began planned first events lines event node Says =
     HasLongerHistory Steps (Represents planned) Shows (opened_state began first) events lines event node Says

@@ -15,9 +15,13 @@ pub record IubRxBuffer : Type 0 where
 
 -- the receive buffer of set s
 abbrev pub rx_buffer_at : List IubRxBuffer → ℕ → IubRxBuffer
-rx_buffer_at rx_buffers s = slice_index_or rx_buffers s (record { cfn = None; held = record { set = 0; idle = []; blocks = [] } })
+rx_buffer_at rx_buffers s = slice_index_or rx_buffers s (record {
+  cfn = None;
+  held = record { set = 0; idle = []; blocks = [] };
+})
 
--- what is loaded for the running TTIs, in which format each channel, and the last radio frame, which the last step may have sent
+-- what is loaded for the running TTIs, in which format each channel, and the last radio frame, which the last step may
+-- have sent
 pub record DownlinkTransmitter : Type 0 where
   pub running : List Loaded
   pub formats : List ℕ
@@ -45,7 +49,14 @@ pub record Node : Type 0 where
   pub next : Option Parts
 
 abbrev pub node_of : ℕ → Parts → Option Parts → Node
-node_of cfn parts next = record { cfn = cfn; rx_buffers = parts.rx_buffers; transmitter = parts.transmitter; receiver = parts.receiver; tx_buffers = parts.tx_buffers; next = next }
+node_of cfn parts next = record {
+  cfn = cfn;
+  rx_buffers = parts.rx_buffers;
+  transmitter = parts.transmitter;
+  receiver = parts.receiver;
+  tx_buffers = parts.tx_buffers;
+  next = next;
+}
 
 -- the radio frame that the last step sent, and the Iub frame of a set
 abbrev pub radio_shown : Node → Option Radio

@@ -32,8 +32,8 @@ pub fn load(
     }
 }
 
-/// Sends the downlink radio frame of a CFN: each channel whose TTI starts takes the blocks of the Iub frame that is kept for
-/// that CFN, or those of its idle format.
+/// Sends the downlink radio frame of a CFN: each channel whose TTI starts takes the blocks of the Iub frame that is
+/// kept for that CFN, or those of its idle format.
 pub fn transmit<U: Indications>(
     accepted: &Accepted,
     cfn: u8,

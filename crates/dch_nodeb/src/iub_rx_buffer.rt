@@ -64,8 +64,8 @@ impl IubRxBuffer {
         Ok(())
     }
 
-    /// Makes the blocks ready for a TTI that starts at a CFN: those of the idle formats, unless the frame is the one of this
-    /// CFN. No frame is kept any more.
+    /// Makes the blocks ready for a TTI that starts at a CFN: those of the idle formats, unless the frame is the one of
+    /// this CFN. No frame is kept any more.
     pub fn ready(&mut self, cfn: u8)
         ensures { IsReady cfn self.old self.new }
     {

@@ -1,4 +1,5 @@
-//! The Node B: downlink Iub frames become radio frames, and uplink radio frames become Iub frames, one step for each event.
+//! The Node B: downlink Iub frames become radio frames, and uplink radio frames become Iub frames, one step for each
+//! event.
 #![tactic(auto)]
 
 mod downlink;

@@ -61,8 +61,8 @@ impl Model for NodeB {
 }
 
 impl NodeB {
-    /// Takes all memory for a configuration. The first radio frame has this CFN, every channel runs its idle format, and no
-    /// frame is kept.
+    /// Takes all memory for a configuration. The first radio frame has this CFN, every channel runs its idle format,
+    /// and no frame is kept.
     pub fn open(alloc: Global, accepted: &Accepted, first_cfn: u8) -> Result<NodeB, NoMemory>
         requires { first_cfn % 8 ≡ 0 }
         ensures opened { IfOk result (IsNodeOf accepted.now) }
@@ -96,7 +96,8 @@ impl NodeB {
         })
     }
 
-    /// Takes one event, and tells what it does, in the configuration that is active; for a change that is the second one.
+    /// Takes one event, and tells what it does, in the configuration that is active; for a change that is the second
+    /// one.
     pub fn step_with<U: Indications>(
         &mut self,
         accepted: &Accepted,
@@ -106,27 +107,33 @@ impl NodeB {
         requires opened { IsReadyFor accepted.now event self.old }
         requires event { MayCome accepted.now event }
         ensures opened { IsNodeOf accepted.now self.new }
-        ensures step { (before : Planned) (state : State) → IsActiveBefore accepted.now event.entry before self.old → Represents before state self.old →
+        ensures step { (before : Planned) (state : State) → IsActiveBefore accepted.now event.entry before self.old →
+            Represents before state self.old →
             Stepped accepted.now state (event_of accepted.now event.entry) self.new (Tells U.shows user.old user.new) }
-        ensures history { (began before : Planned) (first : ℕ) (events : List Event) (lines : List Line) → IsActiveBefore accepted.now event.entry before self.old →
-            RepresentsHistory began before first events lines self.old → ExtendsHistory began accepted.now first events lines (event_of accepted.now event.entry) self.new (Tells U.shows user.old user.new) }
+        ensures history { (began before : Planned) (first : ℕ) (events : List Event) (lines : List Line) →
+            IsActiveBefore accepted.now event.entry before self.old →
+            RepresentsHistory began before first events lines self.old →
+            ExtendsHistory began accepted.now first events lines (event_of accepted.now event.entry) self.new (Tells U.shows user.old user.new) }
         ensures next { KeepsNext accepted.now event.entry self.old self.new }
         ensures few { TellsFew U.shows 4000000 user.old user.new }
     {
         self.happen(accepted, event, user);
     }
 
-    /// Takes one event, and reports what it does, in the configuration that is active; for a change that is the second one. The
-    /// report has room for what one step may write.
+    /// Takes one event, and reports what it does, in the configuration that is active; for a change that is the second
+    /// one. The report has room for what one step may write.
     pub fn step(&mut self, accepted: &Accepted, event: NodeBEvent<'_>, report: &mut Report)
         requires opened { IsReadyFor accepted.now event self.old }
         requires event { MayCome accepted.now event }
         requires room { HasRoomFor report.old (step_bytes accepted.now.config) }
         ensures opened { IsNodeOf accepted.now self.new }
-        ensures step { (before : Planned) (state : State) → IsActiveBefore accepted.now event.entry before self.old → Represents before state self.old →
+        ensures step { (before : Planned) (state : State) → IsActiveBefore accepted.now event.entry before self.old →
+            Represents before state self.old →
             Stepped accepted.now state (event_of accepted.now event.entry) self.new (AddsLines report.old.text report.new.text) }
-        ensures history { (began before : Planned) (first : ℕ) (events : List Event) (lines : List Line) → IsActiveBefore accepted.now event.entry before self.old →
-            RepresentsHistory began before first events lines self.old → ExtendsHistory began accepted.now first events lines (event_of accepted.now event.entry) self.new (AddsLines report.old.text report.new.text) }
+        ensures history { (began before : Planned) (first : ℕ) (events : List Event) (lines : List Line) →
+            IsActiveBefore accepted.now event.entry before self.old →
+            RepresentsHistory began before first events lines self.old →
+            ExtendsHistory began accepted.now first events lines (event_of accepted.now event.entry) self.new (AddsLines report.old.text report.new.text) }
         ensures next { KeepsNext accepted.now event.entry self.old self.new }
         ensures few { length report.new.text ≤ length report.old.text + 4000000 }
         ensures most { report.new.most ≡ report.old.most }
@@ -157,7 +164,8 @@ impl NodeB {
         requires opened { IsReadyFor accepted.now event self.old }
         requires event { MayCome accepted.now event }
         ensures opened { IsNodeOf accepted.now self.new }
-        ensures step { (before : Planned) (state : State) → IsActiveBefore accepted.now event.entry before self.old → Represents before state self.old →
+        ensures step { (before : Planned) (state : State) → IsActiveBefore accepted.now event.entry before self.old →
+            Represents before state self.old →
             Stepped accepted.now state (event_of accepted.now event.entry) self.new (Tells U.shows user.old user.new) }
         ensures next { KeepsNext accepted.now event.entry self.old self.new }
         ensures limited { TellsSuch U.shows (AreLimited 8) user.old user.new }
@@ -175,18 +183,21 @@ impl NodeB {
     fn clear_sent(&mut self)
         ensures quiet { NothingSent self.new }
         ensures opened { (planned : Planned) → IsNodeOf planned self.old → IsNodeOf planned self.new }
-        ensures stands { (planned : Planned) (state : State) → Represents planned state self.old → Represents planned state self.new }
+        ensures stands { (planned : Planned) (state : State) → Represents planned state self.old →
+            Represents planned state self.new }
         ensures next { self.new.next ≡ self.old.next }
     {
         self.parts.transmitter.clear_sent();
         clear_sent(&mut self.parts.tx_buffers);
     }
 
-    /// The second configuration becomes active, with the parts that are held for it; those of the first one are given back.
+    /// The second configuration becomes active, with the parts that are held for it; those of the first one are given
+    /// back.
     fn change(&mut self, accepted: &Accepted)
         requires { CanChange accepted.now self.old }
         ensures opened { IsNodeOf accepted.now self.new }
-        ensures step { (before : Planned) (state : State) → HasNext before accepted.now self.old → Represents before state self.old →
+        ensures step { (before : Planned) (state : State) → HasNext before accepted.now self.old →
+            Represents before state self.old →
             Stepped accepted.now state (Change accepted.now) self.new AreNone }
         ensures next { self.new.next ≡ None }
     {
@@ -207,7 +218,8 @@ impl NodeB {
         requires quiet { NothingSent self.old }
         requires set { has_set accepted.now.config.downlink.side set ≡ true }
         ensures opened { IsNodeOf accepted.now self.new }
-        ensures step { (state : State) → Represents accepted.now state self.old → Stepped accepted.now state (IubFrame set frame.now) self.new (Tells U.shows user.old user.new) }
+        ensures step { (state : State) → Represents accepted.now state self.old →
+            Stepped accepted.now state (IubFrame set frame.now) self.new (Tells U.shows user.old user.new) }
         ensures next { self.new.next ≡ self.old.next }
         ensures limited { TellsSuch U.shows (AreLimited 8) user.old user.new }
     {
@@ -219,11 +231,13 @@ impl NodeB {
         requires opened { IsNodeOf accepted.now self.old }
         requires quiet { NothingSent self.old }
         ensures opened { IsNodeOf accepted.now self.new }
-        ensures step { (state : State) → Represents accepted.now state self.old → Stepped accepted.now state DownlinkDue self.new (Tells U.shows user.old user.new) }
+        ensures step { (state : State) → Represents accepted.now state self.old →
+            Stepped accepted.now state DownlinkDue self.new (Tells U.shows user.old user.new) }
         ensures next { self.new.next ≡ self.old.next }
         ensures limited { TellsSuch U.shows (AreLimited 8) user.old user.new }
     {
-        // In a good configuration the channels of a set have TTIs of one length, and a radio frame has at most 57,240 cells.
+        // In a good configuration the channels of a set have TTIs of one length, and a radio frame has at most 57,240
+        // cells.
         let _side = accepted.side(Dir::Down);
         let _config = accepted.config();
         transmit(
@@ -246,7 +260,8 @@ impl NodeB {
         requires quiet { NothingSent self.old }
         requires tfci { HasTfci accepted.now Up frame }
         ensures opened { IsNodeOf accepted.now self.new }
-        ensures step { (state : State) → Represents accepted.now state self.old → Stepped accepted.now state (UplinkFrame (radio_of frame.entry)) self.new (Tells U.shows user.old user.new) }
+        ensures step { (state : State) → Represents accepted.now state self.old →
+            Stepped accepted.now state (UplinkFrame (radio_of frame.entry)) self.new (Tells U.shows user.old user.new) }
         ensures next { self.new.next ≡ self.old.next }
         ensures limited { TellsSuch U.shows (AreLimited 8) user.old user.new }
     {

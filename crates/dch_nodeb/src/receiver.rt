@@ -103,7 +103,8 @@ impl UplinkReceiver {
         requires channel { channel < length accepted.now.config.uplink.side.channels }
         requires member { (channel_at accepted.now.config.uplink.side channel).set ≡ set }
         ensures read { IfOk result (λ _. IsTtiRead accepted.now self.old.rx_frames channel (held_at blocks.new.blocks channel)) }
-        ensures bad { IfErr result (λ bad. (bad.channel ≡ channel) × IsBadFrame accepted.now.config.uplink.side self.old.rx_frames channel bad.frame) }
+        ensures bad { IfErr result (λ bad. (bad.channel ≡ channel) ×
+            IsBadFrame accepted.now.config.uplink.side self.old.rx_frames channel bad.frame) }
         ensures others { (j : ℕ) → j ≢ channel → held_at blocks.new.blocks j ≡ held_at blocks.old.blocks j }
         ensures blocks { IsSetOf accepted.now.config Up set blocks.new }
         ensures opened { IsReceiverOf accepted.now self.new }

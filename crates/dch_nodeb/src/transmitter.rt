@@ -16,8 +16,8 @@ use dch_types::{Dir, Side};
 use std::alloc::Global;
 use std::marker::Model;
 
-/// What sends the downlink's radio frames: the running TTIs, the format of each, and the last frame, which the last step of
-/// the Node B may have sent.
+/// What sends the downlink's radio frames: the running TTIs, the format of each, and the last frame, which the last
+/// step of the Node B may have sent.
 #[derive(Drop)]
 pub struct DownlinkTransmitter {
     tti: DlTti,
@@ -73,8 +73,8 @@ impl DownlinkTransmitter {
         self.formats[channel as usize] = blocks.format();
     }
 
-    /// Sends the radio frame of a CFN in the combination of the formats that run, and tells of it; where none has them, no frame
-    /// is sent (TS 25.212 4.3).
+    /// Sends the radio frame of a CFN in the combination of the formats that run, and tells of it; where none has them,
+    /// no frame is sent (TS 25.212 4.3).
     pub fn send<U: Indications>(&mut self, accepted: &Accepted, cfn: u8, user: &mut U)
         requires opened { IsTransmitterOf accepted.now self.old }
         requires noted { AreNoted accepted.now self.old.formats self.old.running }

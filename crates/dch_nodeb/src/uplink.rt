@@ -14,8 +14,8 @@ use dch_indication::Indications;
 use dch_txframes::{IubTxBuffer, SETS, tell_bad_tti};
 use dch_types::{Dir, ends, started};
 
-/// Reads the TTIs of a set, which the last radio frame ends, and sends their blocks in an Iub frame with the CFN at which the
-/// TTI started (TS 25.427 6.2). Where a channel can't be read, that is told, and no frame is sent.
+/// Reads the TTIs of a set, which the last radio frame ends, and sends their blocks in an Iub frame with the CFN at
+/// which the TTI started (TS 25.427 6.2). Where a channel can't be read, that is told, and no frame is sent.
 fn send_set<U: Indications>(
     accepted: &Accepted,
     set: u8,
@@ -65,7 +65,8 @@ fn deliver_set<U: Indications>(
     }
 }
 
-/// Takes the uplink radio frame of a CFN, or that it is missing, and sends the Iub frames of the sets whose TTI ends with it.
+/// Takes the uplink radio frame of a CFN, or that it is missing, and sends the Iub frames of the sets whose TTI ends
+/// with it.
 pub fn receive<U: Indications>(
     accepted: &Accepted,
     cfn: u8,

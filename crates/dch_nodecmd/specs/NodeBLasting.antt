@@ -28,19 +28,26 @@ no_change (frame count) planned says = cc
 no_change tick planned says = cc
 no_change change planned says = cc
 
-planned_stays : (old new : State) (event : Event) (output : Output) → ((planned : Planned) → event ≢ Change planned) → Steps old event new output → new.planned ≡ old.planned
+planned_stays : (old new : State) (event : Event) (output : Output) → ((planned : Planned) → event ≢ Change planned)
+    → Steps old event new output → new.planned ≡ old.planned
 planned_stays old new (IubFrame set octets) output other (inl kept) = ap (λ (s : State). s.planned) kept.state
 planned_stays old new (IubFrame set octets) output other (inr refused) = ap (λ (s : State). s.planned) refused.state
 planned_stays old new DownlinkDue output other step = ap (λ (s : State). s.planned) step.state
 planned_stays old new (UplinkFrame radio) output other step = ap (λ (s : State). s.planned) step.state
 planned_stays old new (Change planned) output other step = absurd (other planned refl)
 
-cfn_turns : (old new : State) (event : Event) (output : Output) → Steps old event new output → new.cfn % 256 ≡ (old.cfn + frame_count event) % 256
-cfn_turns old new (IubFrame set octets) output (inl kept) = let same : new.cfn ≡ old.cfn = ap (λ (s : State). s.cfn) kept.state in omega (arith, same)
-cfn_turns old new (IubFrame set octets) output (inr refused) = let same : new.cfn ≡ old.cfn = ap (λ (s : State). s.cfn) refused.state in omega (arith, same)
-cfn_turns old new DownlinkDue output step = let same : new.cfn ≡ old.cfn = ap (λ (s : State). s.cfn) step.state in omega (arith, same)
-cfn_turns old new (UplinkFrame radio) output step = let next : new.cfn ≡ (old.cfn + 1) % 256 = ap (λ (s : State). s.cfn) step.state in omega (arith, next)
-cfn_turns old new (Change planned) output step = let same : new.cfn ≡ old.cfn = ap (λ (s : State). s.cfn) step.state in omega (arith, same)
+cfn_turns : (old new : State) (event : Event) (output : Output) → Steps old event new output → new.cfn % 256
+    ≡ (old.cfn + frame_count event) % 256
+cfn_turns old new (IubFrame set octets) output (inl kept) = let same : new.cfn
+    ≡ old.cfn = ap (λ (s : State). s.cfn) kept.state in omega (arith, same)
+cfn_turns old new (IubFrame set octets) output (inr refused) = let same : new.cfn
+    ≡ old.cfn = ap (λ (s : State). s.cfn) refused.state in omega (arith, same)
+cfn_turns old new DownlinkDue output step = let same : new.cfn
+    ≡ old.cfn = ap (λ (s : State). s.cfn) step.state in omega (arith, same)
+cfn_turns old new (UplinkFrame radio) output step = let next : new.cfn
+    ≡ (old.cfn + 1) % 256 = ap (λ (s : State). s.cfn) step.state in omega (arith, next)
+cfn_turns old new (Change planned) output step = let same : new.cfn
+    ≡ old.cfn = ap (λ (s : State). s.cfn) step.state in omega (arith, same)
 
 pub node_b_lasting : AreLasting node_b_rules
 node_b_lasting = record {

@@ -20,4 +20,5 @@ pub record BringsRefused (run : Run State Event) (line : List ℕ) (set : ℕ) (
 
 -- wherever lines lead, a line brings an Iub frame that is refused then
 abbrev pub BringsRefusedAfter : Run State Event → List (List ℕ) → List ℕ → ℕ → IubError → Type 0
-BringsRefusedAfter run before line set error = (mid : Run State Event) (text : List ℕ) → HandlesLines node_b_lines run before mid text → BringsRefused mid line set error
+BringsRefusedAfter run before line set error = (mid : Run State Event) (text : List ℕ)
+    → HandlesLines node_b_lines run before mid text → BringsRefused mid line set error

@@ -12,9 +12,11 @@ use Rattle.dch_nodecmd.specs.NodeRules.{NodeRules}
 use Rattle.dch_nodecmd.specs.Rules.{config_of, node_lines}
 
 -- what such a line says
-pub meaning_long : (command : Command) (config : Config) (line : List ℕ) → longest < length (content line) → meaning_in command config line ≡ Err Long
+pub meaning_long : (command : Command) (config : Config) (line : List ℕ) → longest < length (content line)
+    → meaning_in command config line ≡ Err Long
 unfolding meaning_in
-meaning_long command config line long = let over : nat_lt longest (length (content line)) ≡ true = lt-ltb longest (length (content line)) long in rw over refl
+meaning_long command config line long = let over : nat_lt longest (length (content line))
+    ≡ true = lt-ltb longest (length (content line)) long in rw over refl
 
 pub refuses_long : {S E : Type 0} (rules : NodeRules S E) → RefusesLong (node_lines rules)
 refuses_long rules run line long = inl (meaning_long rules.command (config_of rules run) line long)

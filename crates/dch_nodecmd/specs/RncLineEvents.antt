@@ -8,7 +8,8 @@ use Rattle.dch_lines.specs.Texts.{octets_of, unit_bits, unit_octets}
 
 -- a unit with this text is offered to a bearer
 abbrev pub unit_event : Config → ℕ → List ℕ → Event
-unit_event config bearer text = OfferedUnit bearer (unit_octets (mode_at config bearer) text) (unit_bits (mode_at config bearer) text)
+unit_event config bearer text = OfferedUnit bearer (unit_octets (mode_at config bearer) text)
+    (unit_bits (mode_at config bearer) text)
 
 -- what a line says to a network controller, if it says anything
 abbrev pub event_of : Config → ParsedLine → Option Event

@@ -20,7 +20,13 @@ pub record TakesEvent {S E : Type 0} (rules : NodeRules S E) (old : Run S E) (ev
   pub node : S
   pub output : Output
   pub step : rules.steps old.node event node output
-  pub goes_on : new ≡ record old { node = node; events = old.events ++ event ∷ []; lines = old.lines ++ output.lines; last = output }
+  pub goes_on : new ≡ record old {
+    node = node;
+    events = old.events ++ event ∷ [];
+    lines = old.lines
+        ++ output.lines;
+    last = output;
+  }
   pub shows : text ≡ shown old.quiet (text_of output.lines)
 
 -- a line says an event
@@ -37,7 +43,8 @@ pub record MakesChange {S E : Type 0} (rules : NodeRules S E) (old new : Run S E
 
 -- a good line says an event, or asks for a change that is due
 abbrev pub TakesLine : {S E : Type 0} → NodeRules S E → Run S E → List ℕ → Run S E → List ℕ → Type 0
-TakesLine rules old line new text = TakesSaid rules old line new text ⊎ (AsksChange rules (config_of rules old) line × MakesChange rules old new text)
+TakesLine rules old line new text = TakesSaid rules old line new text
+    ⊎ (AsksChange rules (config_of rules old) line × MakesChange rules old new text)
 
 -- a line asks for a change that is not due
 pub record IsUntimely {S E : Type 0} (rules : NodeRules S E) (run : Run S E) (line : List ℕ) (why : LineError) : Type 0 where

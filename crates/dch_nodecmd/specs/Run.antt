@@ -6,8 +6,9 @@ use Rattle.dch_node.specs.Values.{Output, no_output}
 use Rattle.dch_nodecmd.specs.NodeRules.{NodeRules}
 use Rattle.dch_nodecmd.specs.declared.later.Later.{Later}
 
--- the state of the node, the configuration of its opening, the CFN of its first radio frame, the second configuration where one is still to
--- come, and whether the lines of frames are left out; what happened so far, all lines that it reported, and what it reported and sent last
+-- the state of the node, the configuration of its opening, the CFN of its first radio frame, the second configuration
+-- where one is still to come, and whether the lines of frames are left out; what happened so far, all lines that it
+-- reported, and what it reported and sent last
 pub record Run (S E : Type 0) : Type 0 where
   pub node : S
   pub began : Planned
@@ -21,7 +22,16 @@ pub record Run (S E : Type 0) : Type 0 where
 -- before the first line
 abbrev pub opened_run : {S E : Type 0} → NodeRules S E → Planned → Option Later → ℕ → Bool → Run S E
 opened_run rules began second first quiet =
-    record { node = rules.opened began first; began = began; first = first; second = second; quiet = quiet; events = []; lines = []; last = no_output }
+    record {
+      node = rules.opened began first;
+      began = began;
+      first = first;
+      second = second;
+      quiet = quiet;
+      events = [];
+      lines = [];
+      last = no_output;
+    }
 
 -- how many radio frames of 10 ms have passed
 abbrev pub frames_in : {S E : Type 0} → NodeRules S E → List E → ℕ

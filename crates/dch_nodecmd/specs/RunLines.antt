@@ -22,8 +22,8 @@ pub record AsksFirst {S E : Type 0} (rules : NodeRules S E) (config : Config) (s
   pub due : second ≡ Some (frames, next)
   pub rest : Rest next
 
--- each of the lines is empty, says an event under the configuration that is active, or asks for a change that is due; before them so many
--- radio frames have passed
+-- each of the lines is empty, says an event under the configuration that is active, or asks for a change that is due;
+-- before them so many radio frames have passed
 abbrev pub AreRunLines : {S E : Type 0} → NodeRules S E → Config → Option (ℕ × Config) → ℕ → List (List ℕ) → Type 0
 AreRunLines rules config second frames [] = Unit {0}
 AreRunLines rules config second frames (line ∷ lines) =

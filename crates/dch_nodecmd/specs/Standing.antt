@@ -18,8 +18,9 @@ use Rattle.dch_nodecmd.specs.declared.later.Later.{Later}
 use Rattle.dch_nodecmd.specs.declared.taken.Taken.{Taken}
 use Rattle.dch_nodecmd.specs.declared.taken.Taken.TheVariants as taken
 
--- the configuration that is active, the second one where it is still to come, the node, whether the lines of frames are left out, how many
--- radio frames have passed, the most bytes of the text of a step, and room for the text of a step, of which not all is shown
+-- the configuration that is active, the second one where it is still to come, the node, whether the lines of frames are
+-- left out, how many radio frames have passed, the most bytes of the text of a step, and room for the text of a step,
+-- of which not all is shown
 pub record Handler (V : Type 0) : Type 0 where
   pub accepted : Planned
   pub later : Option Later
@@ -64,7 +65,8 @@ pub record HasRun {S E V : Type 0} (rules : NodeRules S E) (Represents : Planned
   pub stands : RepresentsRun rules Represents Shows run handler
   pub whole : run.first % 8 ≡ 0
 
--- a node holds its parts for the second configuration, and all TTIs start with the radio frame from which that is active
+-- a node holds its parts for the second configuration, and all TTIs start with the radio frame from which that is
+-- active
 pub record IsPrepared {V : Type 0} (HasNext : Planned → Planned → V → Type 0) (accepted : Planned) (node : V) (later : Later) : Type 0 where
   pub next : HasNext accepted later.accepted node
   pub whole : later.frame % 8 ≡ 0
@@ -79,10 +81,12 @@ pub record IsReady {S E V : Type 0} (rules : NodeRules S E) (IsNodeOf : Planned 
   pub runs : HasRun rules Represents Shows handler
 
 -- a node stands for what happened since it was opened for the configuration began, where planned is active
-abbrev pub RepresentsHistory : {S E V : Type 0} → NodeRules S E → (Planned → S → V → Type 0) → (Output → V → Type 0) → Planned → Planned → ℕ → List E → List Line → V → Type 0
+abbrev pub RepresentsHistory : {S E V : Type 0} → NodeRules S E → (Planned → S → V → Type 0) → (Output → V → Type 0)
+    → Planned → Planned → ℕ → List E → List Line → V → Type 0
 RepresentsHistory rules Represents Shows began planned first events lines node = HasHistory rules.steps (Represents planned) Shows (rules.opened began first) events lines node
 
--- a node that is open for a first configuration holds its parts for this second one, and stands for a state in which all TTIs have ended
+-- a node that is open for a first configuration holds its parts for this second one, and stands for a state in which
+-- all TTIs have ended
 pub record CanChange {S E V : Type 0} (rules : NodeRules S E) (IsNodeOf : Planned → V → Type 0) (HasNext : Planned → Planned → V → Type 0) (Represents : Planned → S → V → Type 0) (second : Planned) (node : V) : Type 0 where
   pub first : Planned
   pub opened : IsNodeOf first node
@@ -91,21 +95,28 @@ pub record CanChange {S E V : Type 0} (rules : NodeRules S E) (IsNodeOf : Planne
   pub stands : Represents first state node
   pub whole : rules.cfn state % 8 ≡ 0
 
--- from each state that a node stands for it took the step of a change to a second configuration, and its report went on by the text of the step
-abbrev pub Changes : {S E V : Type 0} → NodeRules S E → (Planned → S → V → Type 0) → (Planned → Planned → V → Type 0) → (Output → V → Type 0) → Planned → V → V → List ℕ → List ℕ → Type 0
-Changes {S} rules Represents HasNext Shows second old new before after = (first : Planned) (state : S) → Represents first state old → HasNext first second old → TakesStep rules.steps (Represents second) Shows state (rules.change second) new (AddsLines before after)
+-- from each state that a node stands for it took the step of a change to a second configuration, and its report went on
+-- by the text of the step
+abbrev pub Changes : {S E V : Type 0} → NodeRules S E → (Planned → S → V → Type 0) → (Planned → Planned → V → Type 0)
+    → (Output → V → Type 0) → Planned → V → V → List ℕ → List ℕ → Type 0
+Changes {S} rules Represents HasNext Shows second old new before after = (first : Planned) (state : S)
+    → Represents first state old → HasNext first second old
+    → TakesStep rules.steps (Represents second) Shows state (rules.change second) new (AddsLines before after)
 
 -- a node took a line as an event that stands for so many radio frames, and its report went on by the text of the step
 pub record StepsBy {S E V : Type 0} (rules : NodeRules S E) (Represents : Planned → S → V → Type 0) (Shows : Output → V → Type 0) (planned : Planned) (line : List ℕ) (count : ℕ) (old new : V) (before after : List ℕ) : Type 0 where
   pub event : E
   pub says : SaysEvent rules planned.config line event
   pub counted : count ≡ rules.frames event
-  pub steps : (state : S) → Represents planned state old → TakesStep rules.steps (Represents planned) Shows state event new (AddsLines before after)
+  pub steps : (state : S) → Represents planned state old
+      → TakesStep rules.steps (Represents planned) Shows state event new (AddsLines before after)
 
 -- what a node made of a good line
-abbrev pub TakesAs : {S E V : Type 0} → NodeRules S E → (Planned → S → V → Type 0) → (Output → V → Type 0) → Planned → List ℕ → V → V → Held → Held → Taken → Type 0
+abbrev pub TakesAs : {S E V : Type 0} → NodeRules S E → (Planned → S → V → Type 0) → (Output → V → Type 0) → Planned
+    → List ℕ → V → V → Held → Held → Taken → Type 0
 TakesAs rules Represents Shows planned line old new before after (taken.Event count) = StepsBy rules Represents Shows planned line count old new before.text after.text
-TakesAs rules Represents Shows planned line old new before after taken.Change = AsksChange rules planned.config line × (new ≡ old) × (after ≡ before)
+TakesAs rules Represents Shows planned line old new before after taken.Change = AsksChange rules planned.config line
+    × (new ≡ old) × (after ≡ before)
 
 -- how many radio frames a good line stands for
 abbrev pub frames_of : Taken → ℕ
@@ -126,9 +137,11 @@ pub record ShowsBy {S E V : Type 0} (rules : NodeRules S E) (Represents : Planne
   pub event : E
   pub says : SaysEvent rules planned.config line event
   pub counted : count ≡ rules.frames event
-  pub steps : (state : S) → Represents planned state old → ShowsStep rules (Represents planned) Shows quiet state event new before after
+  pub steps : (state : S) → Represents planned state old
+      → ShowsStep rules (Represents planned) Shows quiet state event new before after
 
 -- what a node made of a good line, where what is shown of the text of the step is added
-abbrev pub ShowsAs : {S E V : Type 0} → NodeRules S E → (Planned → S → V → Type 0) → (Output → V → Type 0) → Planned → Bool → List ℕ → V → V → Held → Held → Taken → Type 0
+abbrev pub ShowsAs : {S E V : Type 0} → NodeRules S E → (Planned → S → V → Type 0) → (Output → V → Type 0) → Planned
+    → Bool → List ℕ → V → V → Held → Held → Taken → Type 0
 ShowsAs rules Represents Shows planned quiet line old new before after (taken.Event count) = ShowsBy rules Represents Shows planned quiet line count old new before.text after.text
 ShowsAs rules Represents Shows planned quiet line old new before after taken.Change = AsksChange rules planned.config line × (new ≡ old) × (after ≡ before)

@@ -10,7 +10,8 @@ use Rattle.dch_lines.specs.Texts.{cells_of, unit_bits, unit_octets}
 
 -- a unit with this text is offered to a bearer
 abbrev pub unit_event : Config → ℕ → List ℕ → Event
-unit_event config bearer text = OfferedUnit bearer (unit_octets (mode_at config bearer) text) (unit_bits (mode_at config bearer) text)
+unit_event config bearer text = OfferedUnit bearer (unit_octets (mode_at config bearer) text)
+    (unit_bits (mode_at config bearer) text)
 
 -- the radio frame whose TFCI bits and cells have these texts
 abbrev pub radio_of : List ℕ → List ℕ → Radio

@@ -11,9 +11,12 @@ use Rattle.dch_nodecmd.specs.NodeRules.{AsksChange, SaysEvent}
 
 -- what a line says is this event, which in a change is no event of the line by itself
 abbrev pub IsSaid : Planned → ParsedLine → UeEvent → Type 0
-IsSaid planned parsed (happens.Unit bearer octets bits) = event_of planned.config parsed ≡ Some (happening planned (happens.Unit bearer octets bits))
-IsSaid planned parsed (happens.Block combination on) = event_of planned.config parsed ≡ Some (happening planned (happens.Block combination on))
-IsSaid planned parsed (happens.Phy frame) = event_of planned.config parsed ≡ Some (happening planned (happens.Phy frame))
+IsSaid planned parsed (happens.Unit bearer octets bits) = event_of planned.config parsed
+    ≡ Some (happening planned (happens.Unit bearer octets bits))
+IsSaid planned parsed (happens.Block combination on) = event_of planned.config parsed
+    ≡ Some (happening planned (happens.Block combination on))
+IsSaid planned parsed (happens.Phy frame) = event_of planned.config parsed
+    ≡ Some (happening planned (happens.Phy frame))
 IsSaid planned parsed happens.Tick = event_of planned.config parsed ≡ Some (happening planned happens.Tick)
 IsSaid planned parsed happens.Change = parsed ≡ change
 

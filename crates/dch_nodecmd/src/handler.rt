@@ -43,12 +43,20 @@ impl<N: CommandNode> Model for NodeHandler<N> {
 
     ghost Value = { Handler N };
 
-    ghost view = { λ h. record { accepted = h.accepted; later = h.later; node = h.node; quiet = h.quiet; frames = h.frames; most = h.most; step = h.step } };
+    ghost view = { λ h. record {
+      accepted = h.accepted;
+      later = h.later;
+      node = h.node;
+      quiet = h.quiet;
+      frames = h.frames;
+      most = h.most;
+      step = h.step;
+    } };
 }
 
 impl<N: CommandNode + Drop> NodeHandler<N> {
-    /// Opens a node for a configuration, and for a second one where one is to come, in which every bearer goes on. The first radio frame has
-    /// this CFN. With `quiet` the lines of frames are left out of the text.
+    /// Opens a node for a configuration, and for a second one where one is to come, in which every bearer goes on. The
+    /// first radio frame has this CFN. With `quiet` the lines of frames are left out of the text.
     pub fn open(
         alloc: Global,
         accepted: Accepted,
@@ -60,8 +68,10 @@ impl<N: CommandNode + Drop> NodeHandler<N> {
         requires follows { IfSome later (CanFollow accepted) }
         ensures ready { IfOk result (IsReady N.rules N.is_opened N.has_next N.represents N.shows) }
         ensures stands { IfOk result (RepresentsRun N.rules N.represents N.shows (opened_run N.rules accepted later first_cfn quiet)) }
-        ensures new { IfOk result (λ handler. (handler.accepted ≡ accepted) × (handler.later ≡ later) × (handler.quiet ≡ quiet) × (handler.frames ≡ 0)) }
-        ensures most { IfOk result (λ handler. (handler.most ≡ most_bytes accepted later) × (handler.most ≤ MOST_TEXT)) }
+        ensures new { IfOk result (λ handler. (handler.accepted ≡ accepted) × (handler.later ≡ later) ×
+            (handler.quiet ≡ quiet) × (handler.frames ≡ 0)) }
+        ensures most { IfOk result (λ handler. (handler.most ≡ most_bytes accepted later) ×
+            (handler.most ≤ MOST_TEXT)) }
     {
         let most = most_of(&accepted, &later);
         let Ok(step) = open_step(alloc, most, quiet) else {
@@ -84,8 +94,10 @@ impl<N: CommandNode + Drop> NodeHandler<N> {
     /// The node, after the work. It stands for what happened in the run.
     pub fn into_node(self) -> N
         ensures node { result ≡ self.node }
-        ensures opened { IsReady N.rules N.is_opened N.has_next N.represents N.shows self → N.is_opened self.accepted result }
-        ensures history { (run : Run N.State N.Event) → RepresentsRun N.rules N.represents N.shows run self → RepresentsHistory N.rules N.represents N.shows run.began self.accepted run.first run.events run.lines result }
+        ensures opened { IsReady N.rules N.is_opened N.has_next N.represents N.shows self →
+            N.is_opened self.accepted result }
+        ensures history { (run : Run N.State N.Event) → RepresentsRun N.rules N.represents N.shows run self →
+            RepresentsHistory N.rules N.represents N.shows run.began self.accepted run.first run.events run.lines result }
     {
         self.node
     }
@@ -141,7 +153,8 @@ impl<N: CommandNode> NodeHandler<N> {
         requires stands { IsReady N.rules N.is_opened N.has_next N.represents N.shows self.old }
         requires room { length report.old.text + self.old.most ≤ report.old.most }
         ensures ok { OnOk result (Leads (RepresentsRun N.rules N.represents N.shows) self.old self.new (λ run next. Adds (MakesChange N.rules run next) report.old report.new)) }
-        ensures err { IfErr result (λ fault. (fault ≡ Malformed When) × ((later : Coming) → ¬ IsDue self.old.later self.old.frames later)) }
+        ensures err { IfErr result (λ fault. (fault ≡ Malformed When) ×
+            ((later : Coming) → ¬ IsDue self.old.later self.old.frames later)) }
         ensures same { IfErr result (λ _. (self.new ≡ self.old) × (report.new ≡ report.old)) }
         ensures room { report.new.most ≡ report.old.most }
         ensures fits { OnOk result (length report.new.text ≤ report.new.most) }
@@ -224,8 +237,8 @@ impl<N: CommandNode> LineHandler for NodeHandler<N> {
     ghost counts = { λ _ _ _. refl };
 }
 
-/// Takes a line as an event, and adds to the report what is shown of the lines of the step, for which `step` has room where
-/// they are not all shown.
+/// Takes a line as an event, and adds to the report what is shown of the lines of the step, for which `step` has room
+/// where they are not all shown.
 fn take<N: CommandNode>(
     accepted: &Accepted,
     line: &[u8],
@@ -242,7 +255,8 @@ fn take<N: CommandNode>(
     ensures err { IfErr result (IsMalformed N.rules accepted.now.config line.now) }
     ensures same { IfErr result (λ _. (node.new ≡ node.old) × (report.new ≡ report.old)) }
     ensures opened { N.is_opened accepted.now node.new }
-    ensures next { (second : Planned) → N.has_next accepted.now second node.old → N.has_next accepted.now second node.new }
+    ensures next { (second : Planned) → N.has_next accepted.now second node.old →
+        N.has_next accepted.now second node.new }
     ensures step { step.new ≡ step.old }
     ensures most { report.new.most ≡ report.old.most }
     ensures fits { IfOk result (λ _. length report.new.text ≤ report.new.most) }

@@ -41,7 +41,8 @@ pub trait CommandNode {
         ensures opened { IfOk result (is_opened accepted.now) }
         ensures stands { IfOk result (RepresentsHistory rules represents shows accepted.now accepted.now first_cfn [] []) };
 
-    /// Takes all memory for a configuration and for a second one, in which every bearer goes on. The first radio frame has this CFN.
+    /// Takes all memory for a configuration and for a second one, in which every bearer goes on. The first radio frame
+    /// has this CFN.
     fn open_both(
         alloc: Global,
         first: &Accepted,
@@ -54,8 +55,8 @@ pub trait CommandNode {
         ensures next { IfOk result (has_next first.now second.now) }
         ensures stands { IfOk result (RepresentsHistory rules represents shows first.now first.now first_cfn [] []) };
 
-    /// Takes a line as an event, and reports what the step does; a line that asks for a change does nothing yet. A malformed line changes
-    /// nothing.
+    /// Takes a line as an event, and reports what the step does; a line that asks for a change does nothing yet. A
+    /// malformed line changes nothing.
     fn take_line(
         &mut self,
         accepted: &Accepted,
@@ -69,7 +70,8 @@ pub trait CommandNode {
         ensures err { IfErr result (IsMalformed rules accepted.now.config line.now) }
         ensures same { IfErr result (λ _. (self.new ≡ self.old) × (report.new ≡ report.old)) }
         ensures opened { is_opened accepted.now self.new }
-        ensures next { (second : Planned) → has_next accepted.now second self.old → has_next accepted.now second self.new }
+        ensures next { (second : Planned) → has_next accepted.now second self.old →
+            has_next accepted.now second self.new }
         ensures most { report.new.most ≡ report.old.most }
         ensures few { IfOk result (λ _. length report.new.text ≤ length report.old.text + step_bytes accepted.now.config) };
 

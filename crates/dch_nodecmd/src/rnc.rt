@@ -21,7 +21,8 @@ use dch_script::{LineError, Report};
 use std::alloc::Global;
 use std::marker::Model;
 
-/// The network controller of the command `rnc`, which takes each line as an event, with room for the octets and bits of a line.
+/// The network controller of the command `rnc`, which takes each line as an event, with room for the octets and bits of
+/// a line.
 #[derive(Drop)]
 pub struct RncLines {
     node: Rnc,
@@ -38,7 +39,10 @@ impl Model for RncLines {
 
     ghost view = { λ l. l.node };
 
-    ghost invariant = { λ l. record { octets : length l.octets.items ≡ OCTETS; bits : length l.bits.items ≡ UNIT_BITS } };
+    ghost invariant = { λ l. record {
+      octets : length l.octets.items ≡ OCTETS;
+      bits : length l.bits.items ≡ UNIT_BITS;
+    } };
 }
 
 impl RncLines {

@@ -10,9 +10,11 @@ ghost use Rattle.dch_nodecmd.specs.RncRules.{rnc_lines, rnc_rules};
 ghost use Rattle.dch_nodecmd.specs.NoTrace.{LeavesNoTrace};
 ghost use Rattle.dch_nodecmd.specs.Run.{Run};
 
-/// A law: an Iub frame that is refused where the lines before it lead leaves no trace. Without its line the others of a run do the same, and their text is the
-/// same, less the line that tells of the refusal.
+/// A law: an Iub frame that is refused where the lines before it lead leaves no trace. Without its line the others of a
+/// run do the same, and their text is the same, less the line that tells of the refusal.
 pub fn no_trace_law()
-    ensures { (run new : Run State Event) (before after : List (List ℕ)) (line text : List ℕ) (set : ℕ) (error : IubError) → BringsRefusedAfter run before line set error →
-        HandlesLines rnc_lines run (before ++ line ∷ after) new text → LeavesNoTrace rnc_rules run new before after (IubBad Up set (refusal_number error) ∷ []) text }
+    ensures { (run new : Run State Event) (before after : List (List ℕ)) (line text : List ℕ) (set : ℕ)
+        (error : IubError) → BringsRefusedAfter run before line set error →
+        HandlesLines rnc_lines run (before ++ line ∷ after) new text →
+        LeavesNoTrace rnc_rules run new before after (IubBad Up set (refusal_number error) ∷ []) text }
 {}

@@ -23,7 +23,10 @@ pub fn put_other_lines(text: &[u8], report: &mut Report)
 /// Adds a line to a report, unless it shows a frame.
 fn put_other(line: &[u8], report: &mut Report)
     requires { length report.old.text + length line.now ≤ report.old.most }
-    ensures text { report.new ≡ record report.old { text = report.old.text ++ (if is_frame_line line.now then [] else line.now) } }
+    ensures text { report.new ≡ record report.old {
+      text =
+          report.old.text ++ (if is_frame_line line.now then [] else line.now);
+    } }
     ensures few { length report.new.text ≤ length report.old.text + length line.now }
 {
     if !is_frame_line(line) {

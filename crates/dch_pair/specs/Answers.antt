@@ -30,10 +30,12 @@ abbrev pub riding_answer : Rules → Option (List Field) → Sender → Option S
 riding_answer rules None s = None
 riding_answer rules (Some fields) s = Some (status_answer rules s fields)
 
--- what a PDU that comes is answered: a data PDU and the status that rides on it each by itself, and a status by both sides
+-- what a PDU that comes is answered: a data PDU and the status that rides on it each by itself, and a status by both
+-- sides
 abbrev pub received : Rules → Entity → Pdu → Received
 received rules e (DataPdu sn poll body rides) = Data (taken rules e.receiver sn) (riding_answer rules rides e.sender)
-received rules e (StatusPdu fields) = Control (status_answer rules e.sender fields) (control_answer rules e.receiver fields)
+received rules e (StatusPdu fields) = Control (status_answer rules e.sender fields)
+    (control_answer rules e.receiver fields)
 received rules e (ResetPdu rsn) = Reset rsn
 received rules e (ResetAckPdu rsn) = ResetAck rsn
 

@@ -1,5 +1,5 @@
--- What a running entity of the acknowledged mode keeps (TS 25.322 4.2.1.3, 9.4), and when it stands for an entity over lists and numbers
--- without wrap.
+-- What a running entity of the acknowledged mode keeps (TS 25.322 4.2.1.3, 9.4), and when it stands for an entity over
+-- lists and numbers without wrap.
 use Rattle.std.specs.Prelude.{◌≡◌, ◌+◌, ◌||◌, ℕ, List, Bool}
 use Rattle.dch_am.specs.Entities.{Entity, one_if}
 use Rattle.dch_am.specs.Rules.{Rules, rules_of}

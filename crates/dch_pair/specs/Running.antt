@@ -1,4 +1,5 @@
--- Two ends that run (TS 25.322 11.3): what is done at them, as the history of events that it is, and what they have done with units then.
+-- Two ends that run (TS 25.322 11.3): what is done at them, as the history of events that it is, and what they have
+-- done with units then.
 use Rattle.std.specs.Prelude.{◌≡◌, ◌+◌, ◌<◌, ◌≤◌, ◌⊎◌, ℕ, List, [], ◌∷◌, ◌++◌, Bool, true, false, length, map, take, drop}
 use Rattle.dch_am.specs.Bodies.{ends}
 use Rattle.dch_am.specs.Numbers.{has}
@@ -79,11 +80,12 @@ pub record IsOutcome (o : Outcome) (p : Pair) : Type 0 where
   pub first : IsRecord o.first p.near
   pub second : IsRecord o.second p.far
 
--- handed up at an end are those accepted units of the other end that were picked, in order; and each unit whose length indicator lies below the
--- lowest number that is missing is among them or was discarded
+-- handed up at an end are those accepted units of the other end that were picked, in order; and each unit whose length
+-- indicator lies below the lowest number that is missing is among them or was discarded
 pub record IsDelivered (from to : End) (units : List (List ℕ)) : Type 0 where
   pub in_order : units ≡ picked from.entity.sender.bodies to.spans 0 from.entity.sender.accepted
-  pub none_lost : (i : ℕ) → i < ends (take (gap_free to) from.entity.sender.bodies) → (in_span from.entity.sender.bodies to.spans i ≡ true) ⊎ (has i from.entity.sender.discarded_units ≡ true)
+  pub none_lost : (i : ℕ) → i < ends (take (gap_free to) from.entity.sender.bodies)
+      → (in_span from.entity.sender.bodies to.spans i ≡ true) ⊎ (has i from.entity.sender.discarded_units ≡ true)
 
 pub record AreDelivered (o : Outcome) (p : Pair) : Type 0 where
   pub to_second : IsDelivered p.near p.far o.second.units

@@ -49,7 +49,8 @@ abbrev pub hears : Rules → ℕ → Result AmView PduError → Entity → Entit
 hears rules size (Ok view) e = all_handed (step rules size e (Come (pdu_of view)))
 hears rules size (Err error) e = e
 
--- it stands for an entity that was never started anew, that writes PDUs of so many octets, and to which PDUs of so many come
+-- it stands for an entity that was never started anew, that writes PDUs of so many octets, and to which PDUs of so many
+-- come
 pub record IsAt (rules : Rules) (v : Peer) (e : Entity) (out into : ℕ) : Type 0 where
   pub peer : IsPeer rules v nothing_earlier e
   pub size : size_of v ≡ out

@@ -46,12 +46,14 @@ impl Model for AmEntity {
 
     ghost view = { λ v. record { sender = v.sender; receiver = v.receiver } };
 
-    ghost invariant = { λ v. (v.receiver.reply ≡ v.sender.outgoing.size) × (v.size ≡ v.sender.outgoing.size) × (6 ≤ v.size) × (v.size ≤ 126) };
+    ghost invariant = { λ v. (v.receiver.reply ≡ v.sender.outgoing.size) × (v.size ≡ v.sender.outgoing.size) ×
+        (6 ≤ v.size) × (v.size ≤ 126) };
 }
 
 impl AmEntity {
-    /// An entity that has accepted no unit and that no PDU has come to. It writes PDUs of `pdu` octets, 6 to 126, and PDUs of at most `comes`
-    /// octets come to it, at most 126. Units hold at most `buffer` blocks of 64 octets, 1 to 4,096.
+    /// An entity that has accepted no unit and that no PDU has come to. It writes PDUs of `pdu` octets, 6 to 126, and
+    /// PDUs of at most `comes` octets come to it, at most 126. Units hold at most `buffer` blocks of 64 octets, 1 to
+    /// 4,096.
     pub fn open(
         alloc: Global,
         pdu: usize,
@@ -88,9 +90,11 @@ impl AmEntity {
 
     /// Offers a unit (TS 25.322 11.3.2).
     pub fn offer(&mut self, unit: &[u8]) -> Offer
-        ensures answer { (rules : Rules) (e : Entity) → Represents rules self.old e → result ≡ offered rules e.sender unit.now }
+        ensures answer { (rules : Rules) (e : Entity) → Represents rules self.old e →
+            result ≡ offered rules e.sender unit.now }
         ensures refused { result ≢ Accepted → self.new ≡ self.old }
-        ensures stands { (rules : Rules) (e : Entity) → Represents rules self.old e → Represents rules self.new (step rules (size_of self.old) e (Offers unit.now)) }
+        ensures stands { (rules : Rules) (e : Entity) → Represents rules self.old e →
+            Represents rules self.new (step rules (size_of self.old) e (Offers unit.now)) }
         ensures same { IsSame self.old self.new }
     {
         self.sender.offer(unit)
@@ -98,19 +102,21 @@ impl AmEntity {
 
     /// One tick of 10 ms.
     pub fn tick(&mut self)
-        ensures stands { (rules : Rules) (e : Entity) → Represents rules self.old e → Represents rules self.new (step rules (size_of self.old) e Tick) }
+        ensures stands { (rules : Rules) (e : Entity) → Represents rules self.old e →
+            Represents rules self.new (step rules (size_of self.old) e Tick) }
         ensures same { IsSame self.old self.new }
     {
         self.sender.tick();
         self.receiver.tick();
     }
 
-    /// How many PDUs it offers to send: one each for a due status and a due MRW, and the data PDUs that could be built one after another, with
-    /// no other event between, at most 64.
+    /// How many PDUs it offers to send: one each for a due status and a due MRW, and the data PDUs that could be built
+    /// one after another, with no other event between, at most 64.
     pub fn available(&self) -> u16
         ensures value { result ≡ available_in self.now }
         ensures due { nat_lt 0 result ≡ is_due self.now }
-        ensures answer { (rules : Rules) (e : Entity) → Represents rules self.now e → result ≡ offers_to_send rules (size_of self.now) e }
+        ensures answer { (rules : Rules) (e : Entity) → Represents rules self.now e →
+            result ≡ offers_to_send rules (size_of self.now) e }
     {
         u16::from(self.receiver.status_due())
             + u16::from(self.sender.control_due())
@@ -120,7 +126,8 @@ impl AmEntity {
     /// There is something to build.
     pub fn is_due(&self) -> bool
         ensures value { result ≡ is_due self.now }
-        ensures answer { (rules : Rules) (e : Entity) → Represents rules self.now e → result ≡ writes (turn rules e.sender e.receiver) }
+        ensures answer { (rules : Rules) (e : Entity) → Represents rules self.now e →
+            result ≡ writes (turn rules e.sender e.receiver) }
     {
         self.receiver.status_due() || self.sender.control_due() || self.sender.is_due()
     }
@@ -129,9 +136,12 @@ impl AmEntity {
     pub fn build(&mut self, out: &mut [u8]) -> Built
         requires due { is_due self.old ≡ true }
         requires size { length out.old ≡ size_of self.old }
-        ensures answer { (rules : Rules) (e : Entity) → Represents rules self.old e → Some result ≡ built_at (turn rules e.sender e.receiver) }
-        ensures written { (rules : Rules) (e : Entity) → Represents rules self.old e → IsWritten (turn rules e.sender e.receiver) rules (size_of self.old) out.new e.sender e.receiver }
-        ensures stands { (rules : Rules) (e : Entity) → Represents rules self.old e → Represents rules self.new (step rules (size_of self.old) e Build) }
+        ensures answer { (rules : Rules) (e : Entity) → Represents rules self.old e →
+            Some result ≡ built_at (turn rules e.sender e.receiver) }
+        ensures written { (rules : Rules) (e : Entity) → Represents rules self.old e →
+            IsWritten (turn rules e.sender e.receiver) rules (size_of self.old) out.new e.sender e.receiver }
+        ensures stands { (rules : Rules) (e : Entity) → Represents rules self.old e →
+            Represents rules self.new (step rules (size_of self.old) e Build) }
         ensures same { IsSame self.old self.new }
     {
         self.write(out)
@@ -141,7 +151,8 @@ impl AmEntity {
         requires due { is_due self.old ≡ true }
         requires size { length out.old ≡ size_of self.old }
         ensures history { (rules : Rules) (e : Entity) → Represents rules self.old e →
-            (Some result ≡ built_at (turn rules e.sender e.receiver)) × IsWritten (turn rules e.sender e.receiver) rules (size_of self.old) out.new e.sender e.receiver
+            (Some result ≡ built_at (turn rules e.sender e.receiver)) ×
+            IsWritten (turn rules e.sender e.receiver) rules (size_of self.old) out.new e.sender e.receiver
             × Represents rules self.new (step rules (size_of self.old) e Build) }
         ensures same { IsSame self.old self.new }
     {
@@ -157,14 +168,16 @@ impl AmEntity {
         Built::Data
     }
 
-    /// Takes a PDU that was read: a data PDU, and then the status behind its units, or a status, of which the sending side hears first. All
-    /// units that ended before it have been handed up.
+    /// Takes a PDU that was read: a data PDU, and then the status behind its units, or a status, of which the sending
+    /// side hears first. All units that ended before it have been handed up.
     pub fn receive(&mut self, view: &AmView<'_>) -> Received
         requires settled { is_settled self.old ≡ true }
         requires small { IsSmall (size_in self.old) view.now }
-        ensures answer { (rules : Rules) (e : Entity) → Represents rules self.old e → result ≡ received rules e (pdu_of view.now) }
+        ensures answer { (rules : Rules) (e : Entity) → Represents rules self.old e →
+            result ≡ received rules e (pdu_of view.now) }
         ensures refused { is_refused result ≡ true → self.new ≡ self.old }
-        ensures stands { (rules : Rules) (e : Entity) → Represents rules self.old e → Represents rules self.new (step rules (size_of self.old) e (Come (pdu_of view.now))) }
+        ensures stands { (rules : Rules) (e : Entity) → Represents rules self.old e →
+            Represents rules self.new (step rules (size_of self.old) e (Come (pdu_of view.now))) }
         ensures sizes { AreSizes self.old self.new }
     {
         match view {
@@ -191,12 +204,14 @@ impl AmEntity {
     /// No unit that ended waits.
     pub fn settled(&self) -> bool
         ensures value { result ≡ is_settled self.now }
-        ensures answer { (rules : Rules) (e : Entity) → Represents rules self.now e → result ≡ (length (waiting e) == 0) }
+        ensures answer { (rules : Rules) (e : Entity) → Represents rules self.now e →
+            result ≡ (length (waiting e) == 0) }
     {
         self.receiver.settled()
     }
 
-    /// Hands up the first unit that waits, at the front of `out`, which has 1,500 octets. A unit of more octets is overlong.
+    /// Hands up the first unit that waits, at the front of `out`, which has 1,500 octets. A unit of more octets is
+    /// overlong.
     pub fn next_unit(&mut self, out: &mut [u8]) -> Option<Handed>
         requires { length out.old ≡ 1500 }
         ensures first { result ≡ handed_of (waiting_in self.old) }
@@ -204,18 +219,21 @@ impl AmEntity {
         ensures rest { waiting_in self.new ≡ drop 1 (waiting_in self.old) }
         ensures none { IfNone result (self.new ≡ self.old) }
         ensures answer { (rules : Rules) (e : Entity) → Represents rules self.old e → result ≡ handed_of (waiting e) }
-        ensures unit { (rules : Rules) (e : Entity) → Represents rules self.old e → out.new ≡ written (waiting e) out.old }
-        ensures stands { (rules : Rules) (e : Entity) → Represents rules self.old e → Represents rules self.new (step rules (size_of self.old) e HandUp) }
+        ensures unit { (rules : Rules) (e : Entity) → Represents rules self.old e →
+            out.new ≡ written (waiting e) out.old }
+        ensures stands { (rules : Rules) (e : Entity) → Represents rules self.old e →
+            Represents rules self.new (step rules (size_of self.old) e HandUp) }
         ensures sizes { AreSizes self.old self.new }
     {
         self.receiver.next_unit(out)
     }
 
-    /// Both sides begin anew, as after a reset (TS 25.322 11.4): the sending side with the units of which no octet was built, the receiving side as
-    /// at opening. All units that ended have been handed up.
+    /// Both sides begin anew, as after a reset (TS 25.322 11.4): the sending side with the units of which no octet was
+    /// built, the receiving side as at opening. All units that ended have been handed up.
     pub fn restart(&mut self)
         requires settled { is_settled self.old ≡ true }
-        ensures stands { (rules : Rules) (e : Entity) → Represents rules self.old e → Represents rules self.new (restarted_entity rules e) }
+        ensures stands { (rules : Rules) (e : Entity) → Represents rules self.old e →
+            Represents rules self.new (restarted_entity rules e) }
         ensures same { IsSame self.old self.new }
     {
         self.sender.restart();
@@ -235,9 +253,11 @@ impl AmEntity {
 
 /// A sender hears the status that rides on a data PDU, where there is one.
 fn hear(sender: &mut AmSend, piggyback: &Option<StatusView<'_>>) -> Option<StatusTaken>
-    ensures answer { (rules : Rules) (s : Sender) → Stands rules sender.old s → result ≡ riding_answer rules piggyback.now s }
+    ensures answer { (rules : Rules) (s : Sender) → Stands rules sender.old s →
+        result ≡ riding_answer rules piggyback.now s }
     ensures refused { is_refused_riding result ≡ true → sender.new ≡ sender.old }
-    ensures stands { (rules : Rules) (s : Sender) → Stands rules sender.old s → Stands rules sender.new (after_riding rules piggyback.now s) }
+    ensures stands { (rules : Rules) (s : Sender) → Stands rules sender.old s →
+        Stands rules sender.new (after_riding rules piggyback.now s) }
     ensures same { IsSameSide sender.old sender.new }
 {
     match piggyback {

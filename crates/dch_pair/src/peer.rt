@@ -85,7 +85,8 @@ impl Peer {
         requires room { self.old.accepted + 1 < 2 ^ 64 }
         ensures same { AreSame self.old self.new }
         ensures count { self.new.accepted ≤ self.old.accepted + 1 }
-        ensures history { (rules : Rules) (earlier : Earlier) (e : Entity) → IsPeer rules self.old earlier e → IsPeer rules self.new earlier (step rules (size_of self.old) e (Offers unit.now)) }
+        ensures history { (rules : Rules) (earlier : Earlier) (e : Entity) → IsPeer rules self.old earlier e →
+            IsPeer rules self.new earlier (step rules (size_of self.old) e (Offers unit.now)) }
     {
         match self.entity.offer(unit) {
             Offer::Accepted => self.accepted += 1,
@@ -99,7 +100,8 @@ impl Peer {
         ensures same { AreSame self.old self.new }
         ensures count { self.new.accepted ≡ self.old.accepted }
         ensures history { (rules : Rules) (earlier : Earlier) (e : Entity) → IsPeer rules self.old earlier e →
-            (result ≡ writes (turn rules e.sender e.receiver)) × IsWritten (turn rules e.sender e.receiver) rules (size_of self.old) out.new e.sender e.receiver
+            (result ≡ writes (turn rules e.sender e.receiver)) ×
+            IsWritten (turn rules e.sender e.receiver) rules (size_of self.old) out.new e.sender e.receiver
             × IsPeer rules self.new earlier (step rules (size_of self.old) e Build) }
     {
         if !self.entity.is_due() {
@@ -114,7 +116,9 @@ impl Peer {
         requires size { length p.now ≤ size_in self.old }
         ensures same { AreSame self.old self.new }
         ensures count { self.new.accepted ≡ self.old.accepted }
-        ensures history { IfOk result (λ _. (rules : Rules) (earlier : Earlier) (e : Entity) → IsPeer rules self.old earlier e → IsPeer rules self.new earlier (hears rules (size_of self.old) (am_reading p.now) e)) }
+        ensures history { IfOk result (λ _. (rules : Rules) (earlier : Earlier) (e : Entity) →
+            IsPeer rules self.old earlier e → IsPeer rules self.new earlier (hears rules (size_of self.old)
+            (am_reading p.now) e)) }
     {
         match read_am(p) {
             Ok(view) => {
@@ -129,17 +133,21 @@ impl Peer {
     pub fn tick(&mut self)
         ensures same { AreSame self.old self.new }
         ensures count { self.new.accepted ≡ self.old.accepted }
-        ensures history { (rules : Rules) (earlier : Earlier) (e : Entity) → IsPeer rules self.old earlier e → IsPeer rules self.new earlier (step rules (size_of self.old) e Tick) }
+        ensures history { (rules : Rules) (earlier : Earlier) (e : Entity) → IsPeer rules self.old earlier e →
+            IsPeer rules self.new earlier (step rules (size_of self.old) e Tick) }
     {
         self.entity.tick()
     }
 
     /// What it has done. All other memory is given back.
     pub fn close(self) -> Record
-        ensures accepted { (rules : Rules) (earlier : Earlier) (e : Entity) → IsPeer rules self earlier e → result.accepted ≡ earlier.accepted + length e.sender.accepted }
-        ensures discarded { (rules : Rules) (earlier : Earlier) (e : Entity) → IsPeer rules self earlier e → result.discarded ≡ capped (discarded e.sender) }
+        ensures accepted { (rules : Rules) (earlier : Earlier) (e : Entity) → IsPeer rules self earlier e →
+            result.accepted ≡ earlier.accepted + length e.sender.accepted }
+        ensures discarded { (rules : Rules) (earlier : Earlier) (e : Entity) → IsPeer rules self earlier e →
+            result.discarded ≡ capped (discarded e.sender) }
         // those of at most 1,500 octets
-        ensures units { (rules : Rules) (earlier : Earlier) (e : Entity) → IsPeer rules self earlier e → result.units ≡ earlier.units ++ whole e.receiver.reading.units }
+        ensures units { (rules : Rules) (earlier : Earlier) (e : Entity) → IsPeer rules self earlier e →
+            result.units ≡ earlier.units ++ whole e.receiver.reading.units }
     {
         Record {
             accepted: self.accepted,
@@ -154,7 +162,8 @@ fn hand_up(entity: &mut AmEntity, units: &mut Store) -> Result<(), NoMemory>
     ensures units { IfOk result (λ _. units.new ≡ units.old ++ whole (waiting_in entity.old)) }
     ensures settled { is_settled entity.new ≡ true }
     ensures sizes { AreSizes entity.old entity.new }
-    ensures history { (rules : Rules) (e : Entity) → Represents rules entity.old e → Represents rules entity.new (all_handed e) }
+    ensures history { (rules : Rules) (e : Entity) → Represents rules entity.old e →
+        Represents rules entity.new (all_handed e) }
 {
     let mut room = [0; LONGEST_SDU];
     let mut stored = Ok(());
@@ -175,7 +184,8 @@ fn hand_one(entity: &mut AmEntity, units: &mut Store, room: &mut [u8]) -> Result
     ensures unit { IfOk result (λ _. units.new ≡ units.old ++ whole (take 1 (waiting_in entity.old))) }
     ensures rest { waiting_in entity.new ≡ drop 1 (waiting_in entity.old) }
     ensures sizes { AreSizes entity.old entity.new }
-    ensures history { (rules : Rules) (e : Entity) → Represents rules entity.old e → Represents rules entity.new (step rules 0 e HandUp) }
+    ensures history { (rules : Rules) (e : Entity) → Represents rules entity.old e →
+        Represents rules entity.new (step rules 0 e HandUp) }
 {
     match entity.next_unit(room) {
         Some(Handed::Whole(size)) => units.push(&room[..size]),

@@ -8,8 +8,8 @@ use crate::setup::{PairEvent, PairSetup};
 use dch_bits::NoMemory;
 use std::alloc::Global;
 
-/// Runs two ends of a bearer over a list of events. The units that are offered are parts of `octets`. Units that are handed up are stored,
-/// and want of memory for them ends the run.
+/// Runs two ends of a bearer over a list of events. The units that are offered are parts of `octets`. Units that are
+/// handed up are stored, and want of memory for them ends the run.
 pub fn run_pair(
     alloc: Global,
     setup: &PairSetup,
@@ -24,7 +24,8 @@ pub fn run_pair(
     // in order, each once, and below the first gap none is missing that was not discarded
     ensures delivered { IfOk result (λ e. AreDelivered e (pair_after setup.now (history octets.now events.now))) }
     // after each front of the history
-    ensures safe { (k : ℕ) → IsSafe (rules_in setup.now) (pair_after setup.now (take k (history octets.now events.now))) }
+    ensures safe { (k : ℕ) → IsSafe (rules_in setup.now)
+        (pair_after setup.now (take k (history octets.now events.now))) }
 {
     run(alloc, setup, octets, events)
 }

@@ -54,8 +54,10 @@ impl Running {
         requires second { self.old.second.accepted + 1 < 2 ^ 64 }
         ensures first { self.new.first.accepted ≤ self.old.first.accepted + 1 }
         ensures second { self.new.second.accepted ≤ self.old.second.accepted + 1 }
-        ensures history { IfOk result (λ _. (rules : Rules) (p : Pair) → AreRunning rules self.old.first self.old.second p →
-            AreRunning rules self.new.first self.new.second (after rules p (by_first (end_of event) (seen octets.now event)))) }
+        ensures history { IfOk result (λ _. (rules : Rules) (p : Pair) →
+            AreRunning rules self.old.first self.old.second p →
+            AreRunning rules self.new.first self.new.second (after rules p (by_first (end_of event)
+            (seen octets.now event)))) }
     {
         match side(event) {
             End::First => happen_at(&mut self.first, &mut self.second, octets, event),

@@ -1,7 +1,7 @@
 use dch_types::AmRules;
 
-/// Two ends of an acknowledged bearer: the octets of the PDUs that the first end and the second end build, each 6 to 126, and for both the
-/// blocks of 64 octets that units may hold and the rules.
+/// Two ends of an acknowledged bearer: the octets of the PDUs that the first end and the second end build, each 6 to
+/// 126, and for both the blocks of 64 octets that units may hold and the rules.
 #[derive(Clone, Copy)]
 pub struct PairSetup {
     pub first_pdu: usize,

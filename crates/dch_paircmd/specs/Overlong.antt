@@ -11,7 +11,8 @@ use Rattle.dch_paircmd.specs.Rules.{pair_lines, pair_meaning_at}
 -- what such a line says
 pair_long : (opened : Bool) (line : List ℕ) → longest < length (content line) → pair_meaning_at opened line ≡ Err Long
 unfolding pair_meaning_at begins_with_ends
-pair_long opened line long = let over : nat_lt longest (length (content line)) ≡ true = lt-ltb longest (length (content line)) long in rw over refl
+pair_long opened line long = let over : nat_lt longest (length (content line))
+    ≡ true = lt-ltb longest (length (content line)) long in rw over refl
 
 pub pair_refuses_long : RefusesLong pair_lines
 pair_refuses_long old line long = inl (pair_long (is_some old) line long)

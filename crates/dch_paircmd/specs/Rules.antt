@@ -1,5 +1,5 @@
--- The rules of the command `pair`: the first line opens two ends of a bearer in acknowledged mode that can be reset, and each later line is an
--- event at one of them.
+-- The rules of the command `pair`: the first line opens two ends of a bearer in acknowledged mode that can be reset,
+-- and each later line is an event at one of them.
 use Rattle.std.specs.Prelude.{◌≡◌, ◌⊎◌, ◌&&◌, ◌++◌, ◌==◌, ℕ, List, [], ◌∷◌, Bool, true, false, not, Option, Some, None, is_some, Result, Ok, Err, codes, drop, length, nat_lt}
 use Rattle.dch_am.specs.Rules.{Rules}
 use Rattle.dch_am.specs.Sender.{offered}
@@ -40,7 +40,10 @@ steps_to rules s event = with_state s (step rules s.near.size s.near.state event
 
 -- a unit is offered
 abbrev pub offers : Rules → ℕ → Sides → List ℕ → Happened
-offers rules end s unit = record { sides = steps_to rules s (Offer unit); text = offer_text end (offered rules s.near.state.entity.sender unit) }
+offers rules end s unit = record {
+  sides = steps_to rules s (Offer unit);
+  text = offer_text end (offered rules s.near.state.entity.sender unit);
+}
 
 -- a PDU may be built where one is due, and fewer than 1,024 are in flight
 abbrev pub may_build : Rules → Sides → Bool
@@ -48,7 +51,10 @@ may_build rules s = writes (turn rules s.near.state) && nat_lt (length s.far.com
 
 -- these octets are built, and are in flight to the far end behind the others
 abbrev pub builds : Rules → Sides → List ℕ → Sides
-builds rules s out = record { near = (steps_to rules s Build).near; far = record s.far { coming = s.far.coming ++ out ∷ [] } }
+builds rules s out = record {
+  near = (steps_to rules s Build).near;
+  far = record s.far { coming = s.far.coming ++ out ∷ [] };
+}
 
 -- an end after a PDU arrived, and what it tells
 pub record Told : Type 0 where
@@ -63,7 +69,8 @@ hears rules end octets = came_read rules end.size end.state (am_reading octets)
 abbrev pub takes : Rules → ℕ → PairEnd → List ℕ → List (List ℕ) → Told
 takes rules n end octets later = record {
   side = record end { state = handed_up (hears rules end octets); coming = later };
-  text = got_text n (answer_read rules end.state (am_reading octets)) ++ units_text n (waiting (hears rules end octets).entity);
+  text = got_text n (answer_read rules end.state (am_reading octets))
+      ++ units_text n (waiting (hears rules end octets).entity);
 }
 
 abbrev pub arrives_from : Rules → ℕ → PairEnd → List (List ℕ) → Told
@@ -123,12 +130,14 @@ pub record Happens (old : Ends) (line : ParsedPair) (new : Ends) (text : List �
 
 -- what a line does. The ends are open after the first one
 abbrev pub Does : Option Ends → ParsedPair → Option Ends → List ℕ → Type 0
-Does None (ends first second buffer window) new text = (new ≡ Some (opened_ends first second buffer window)) × (text ≡ line_text Open)
+Does None (ends first second buffer window) new text = (new ≡ Some (opened_ends first second buffer window))
+    × (text ≡ line_text Open)
 Does None line new text = ⊥
 Does (Some old) line None text = ⊥
 Does (Some old) line (Some new) text = Happens old line new text
 
--- a line says what it says by itself, where it is in its place: `ends` opens the ends, so it stands first, and nowhere else
+-- a line says what it says by itself, where it is in its place: `ends` opens the ends, so it stands first, and nowhere
+-- else
 abbrev pub in_place : Bool → Bool → Result ParsedPair LineError → Result ParsedPair LineError
 in_place false true meaning = meaning
 in_place true false meaning = meaning

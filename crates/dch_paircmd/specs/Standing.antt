@@ -90,7 +90,8 @@ pub record LeadsTo (rules : Rules) (s : Sides) (line : ParsedPair) (near far : S
   pub added : now ≡ record before { text = before.text ++ after.text }
 
 -- or it comes too early
-abbrev pub Answers : Result (Unit {0}) LineError → Rules → Sides → ParsedPair → SideValue → SideValue → Held → Held → Type 0
+abbrev pub Answers : Result (Unit {0}) LineError → Rules → Sides → ParsedPair → SideValue → SideValue → Held → Held
+    → Type 0
 Answers (Ok done) rules s line near far before now = LeadsTo rules s line near far before now
 Answers (Err why) rules s line near far before now = (why ≡ When) × (is_early rules s line ≡ true)
 
@@ -104,7 +105,8 @@ pub record LeadsOn (old : Ends) (line : ParsedPair) (v : EndsValue) (before now 
 
 abbrev pub AnswersEvent : Result (Unit {0}) LineError → Ends → ParsedPair → EndsValue → Held → Held → Type 0
 AnswersEvent (Ok done) old line v before now = LeadsOn old line v before now
-AnswersEvent (Err why) old line v before now = (why ≡ When) × (is_early old.rules (sides_at (end_in line) old) line ≡ true)
+AnswersEvent (Err why) old line v before now = (why ≡ When)
+    × (is_early old.rules (sides_at (end_in line) old) line ≡ true)
 
 -- an event at one of the ends, with good words
 pub record IsEvent (line : ParsedPair) : Type 0 where

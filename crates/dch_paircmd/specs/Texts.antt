@@ -49,7 +49,8 @@ got_text end Outside = end_text (codes "outside ") end
 
 -- the line on a unit that ended, and those on several
 abbrev pub unit_text : ℕ → List ℕ → List ℕ
-unit_text end unit = if nat_lt 1500 (length unit) then end_text (codes "overlong ") end else octets_text (codes "got ") end unit
+unit_text end unit = if nat_lt 1500 (length unit) then end_text (codes "overlong ") end
+    else octets_text (codes "got ") end unit
 
 abbrev pub units_text : ℕ → List (List ℕ) → List ℕ
 units_text end [] = []

@@ -32,8 +32,8 @@ impl Model for PairEnds {
 }
 
 impl PairEnds {
-    /// Opens the two ends, which build PDUs of `first` and of `second` octets, each 6 to 126. Units hold at most `buffer` blocks of 64 octets,
-    /// and `window` PDUs may be in flight, at most 2,048. All memory is taken here.
+    /// Opens the two ends, which build PDUs of `first` and of `second` octets, each 6 to 126. Units hold at most
+    /// `buffer` blocks of 64 octets, and `window` PDUs may be in flight, at most 2,048. All memory is taken here.
     pub fn open(
         alloc: Global,
         first: u16,
@@ -56,8 +56,8 @@ impl PairEnds {
         Ok(PairEnds { first, second })
     }
 
-    /// The event of a line happens, and its text is reported. `When` where nothing is due, 1,024 PDUs are in flight, or none is, and nothing
-    /// changes then.
+    /// The event of a line happens, and its text is reported. `When` where nothing is due, 1,024 PDUs are in flight, or
+    /// none is, and nothing changes then.
     pub fn happen(
         &mut self,
         line: PairLine<'_>,
@@ -67,7 +67,8 @@ impl PairEnds {
         requires event { IsEvent (pair_of line) }
         requires known { AreKnown self.old }
         requires room { length report.old.text + MOST_TEXT ≤ report.old.most }
-        ensures answers { (e : Ends) → AreEnds self.old e → AnswersEvent result e (pair_of line.entry) self.new report.old report.new }
+        ensures answers { (e : Ends) → AreEnds self.old e →
+            AnswersEvent result e (pair_of line.entry) self.new report.old report.new }
         ensures same { IfErr result (λ _. (self.new ≡ self.old) × (report.new ≡ report.old)) }
         ensures most { report.new.most ≡ report.old.most }
     {

@@ -47,8 +47,8 @@ impl Rooms {
     }
 }
 
-/// The event of a line happens at the near end, and its text is reported. `When` where nothing is due, 1,024 PDUs are in flight, or none is,
-/// and nothing changes then.
+/// The event of a line happens at the near end, and its text is reported. `When` where nothing is due, 1,024 PDUs are
+/// in flight, or none is, and nothing changes then.
 pub fn happen(
     near: &mut Side,
     far: &mut Side,
@@ -60,7 +60,8 @@ pub fn happen(
     requires known { IsKnown near.old }
     requires matched { Match near.old far.old }
     requires room { length report.old.text + MOST_TEXT ≤ report.old.most }
-    ensures answers { (rules : Rules) (s : Sides) → AreSides rules near.old far.old s → Answers result rules s (pair_of line.entry) near.new far.new report.old report.new }
+    ensures answers { (rules : Rules) (s : Sides) → AreSides rules near.old far.old s →
+        Answers result rules s (pair_of line.entry) near.new far.new report.old report.new }
     ensures same { IfErr result (λ _. (near.new ≡ near.old) × (far.new ≡ far.old) × (report.new ≡ report.old)) }
     ensures near { StaysSide near.old near.new }
     ensures far { StaysSide far.old far.new }
@@ -90,7 +91,8 @@ pub fn happen(
 fn offer(near: &mut Side, end: u8, hex: &[u8], rooms: &mut Rooms, report: &mut Report)
     requires hex { is_unit Am hex.now ≡ true }
     requires room { length report.old.text + MOST_TEXT ≤ report.old.most }
-    ensures leads { (rules : Rules) (s : Sides) (far : SideValue) → AreSides rules near.old far s → LeadsTo rules s (offer end hex.now) near.new far report.old report.new }
+    ensures leads { (rules : Rules) (s : Sides) (far : SideValue) → AreSides rules near.old far s →
+        LeadsTo rules s (offer end hex.now) near.new far report.old report.new }
     ensures near { StaysSide near.old near.new }
     ensures most { report.new.most ≡ report.old.most }
 {
@@ -103,7 +105,8 @@ fn offer(near: &mut Side, end: u8, hex: &[u8], rooms: &mut Rooms, report: &mut R
 fn build(near: &mut Side, far: &mut Side, end: u8, report: &mut Report) -> Result<(), LineError>
     requires matched { Match near.old far.old }
     requires room { length report.old.text + MOST_TEXT ≤ report.old.most }
-    ensures answers { (rules : Rules) (s : Sides) → AreSides rules near.old far.old s → Answers result rules s (build end) near.new far.new report.old report.new }
+    ensures answers { (rules : Rules) (s : Sides) → AreSides rules near.old far.old s →
+        Answers result rules s (build end) near.new far.new report.old report.new }
     ensures same { IfErr result (λ _. (near.new ≡ near.old) × (far.new ≡ far.old) × (report.new ≡ report.old)) }
     ensures near { StaysSide near.old near.new }
     ensures far { StaysSide far.old far.new }
@@ -124,7 +127,8 @@ fn build(near: &mut Side, far: &mut Side, end: u8, report: &mut Report) -> Resul
 fn arrive(near: &mut Side, end: u8, rooms: &mut Rooms, report: &mut Report) -> Result<(), LineError>
     requires known { IsKnown near.old }
     requires room { length report.old.text + MOST_TEXT ≤ report.old.most }
-    ensures answers { (rules : Rules) (s : Sides) (far : SideValue) → AreSides rules near.old far s → Answers result rules s (arrive end) near.new far report.old report.new }
+    ensures answers { (rules : Rules) (s : Sides) (far : SideValue) → AreSides rules near.old far s →
+        Answers result rules s (arrive end) near.new far report.old report.new }
     ensures same { IfErr result (λ _. (near.new ≡ near.old) × (report.new ≡ report.old)) }
     ensures near { StaysSide near.old near.new }
     ensures most { report.new.most ≡ report.old.most }
@@ -138,7 +142,8 @@ fn arrive(near: &mut Side, end: u8, rooms: &mut Rooms, report: &mut Report) -> R
 
 /// The first PDU in flight to an end is lost.
 fn lose(near: &mut Side) -> Result<(), LineError>
-    ensures answers { (rules : Rules) (s : Sides) (far : SideValue) (end : ℕ) (report : Held) → AreSides rules near.old far s → Answers result rules s (lose end) near.new far report report }
+    ensures answers { (rules : Rules) (s : Sides) (far : SideValue) (end : ℕ) (report : Held) →
+        AreSides rules near.old far s → Answers result rules s (lose end) near.new far report report }
     ensures same { IfErr result (λ _. near.new ≡ near.old) }
     ensures near { StaysSide near.old near.new }
 {

@@ -18,7 +18,8 @@ use std::marker::Model;
 /// The most bytes of the text of a line.
 pub const MOST_TEXT: usize = 2_400_000;
 
-/// The handler of the command `pair`. The first line opens the two ends, and takes their memory; each later line is an event at one of them.
+/// The handler of the command `pair`. The first line opens the two ends, and takes their memory; each later line is an
+/// event at one of them.
 pub struct PairHandler {
     alloc: Global,
     ends: Option<PairEnds>,
@@ -76,7 +77,8 @@ fn read_line(opened: bool, line: &[u8]) -> Result<PairLine<'_>, LineError>
 /// Takes the first line, which opens the ends.
 fn start(alloc: Global, line: &[u8], report: &mut Report) -> Result<PairEnds, LineFault>
     requires room { length report.old.text + MOST_TEXT ≤ report.old.most }
-    ensures ok { IfOk result (λ ends. (e : Ends) × AreEnds ends e × Adds (pair_lines.handles None line.now (Some e)) report.old report.new) }
+    ensures ok { IfOk result (λ ends. (e : Ends) × AreEnds ends e ×
+        Adds (pair_lines.handles None line.now (Some e)) report.old report.new) }
     ensures err { IfErr result (λ fault. IsFault pair_lines None line.now fault) }
     ensures same { IfErr result (λ _. report.new ≡ report.old) }
     ensures most { report.new.most ≡ report.old.most }

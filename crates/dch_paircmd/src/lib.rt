@@ -1,4 +1,5 @@
-//! The command pair: two ends of an acknowledged bearer that can be reset, and what each of its lines does to them (TS 25.322 11.3, 11.4).
+//! The command pair: two ends of an acknowledged bearer that can be reset, and what each of its lines does to them (TS
+//! 25.322 11.3, 11.4).
 #![tactic(auto)]
 
 mod ends;

@@ -64,7 +64,8 @@ impl PduQueue {
 
     /// Takes the first PDU away.
     pub fn pop(&mut self) -> Option<QueuedPdu>
-        ensures first { MatchOption result (self.old ≡ []) (λ pdu. (self.old ≡ octets_of pdu ∷ self.new) × (pdu.size ≤ 126)) }
+        ensures first { MatchOption result (self.old ≡ []) (λ pdu. (self.old ≡ octets_of pdu ∷ self.new) ×
+            (pdu.size ≤ 126)) }
         ensures rest { self.new ≡ drop 1 self.old }
     {
         self.pdus.pop_front()

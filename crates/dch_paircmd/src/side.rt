@@ -37,7 +37,8 @@ impl Model for Side {
 }
 
 impl Side {
-    /// At opening. It builds PDUs of `size` octets, and PDUs of at most `comes` octets come to it, each 6 to 126. All memory is taken here.
+    /// At opening. It builds PDUs of `size` octets, and PDUs of at most `comes` octets come to it, each 6 to 126. All
+    /// memory is taken here.
     pub fn open(
         alloc: Global,
         size: usize,
@@ -75,8 +76,10 @@ impl Side {
 
     /// Offers a unit.
     pub fn offer(&mut self, unit: &[u8]) -> Offer
-        ensures answer { (rules : Rules) (s : PairEnd) → IsSide rules self.old s → result ≡ offered rules s.state.entity.sender unit.now }
-        ensures stands { (rules : Rules) (s : PairEnd) → IsSide rules self.old s → IsSide rules self.new (record s { state = step rules s.size s.state (Offers unit.now) }) }
+        ensures answer { (rules : Rules) (s : PairEnd) → IsSide rules self.old s →
+            result ≡ offered rules s.state.entity.sender unit.now }
+        ensures stands { (rules : Rules) (s : PairEnd) → IsSide rules self.old s →
+            IsSide rules self.new (record s { state = step rules s.size s.state (Offers unit.now) }) }
         ensures same { StaysSide self.old self.new }
     {
         self.end.offer(unit)
@@ -84,7 +87,8 @@ impl Side {
 
     /// One tick of 10 ms.
     pub fn tick(&mut self)
-        ensures stands { (rules : Rules) (s : PairEnd) → IsSide rules self.old s → IsSide rules self.new (record s { state = step rules s.size s.state Tick }) }
+        ensures stands { (rules : Rules) (s : PairEnd) → IsSide rules self.old s →
+            IsSide rules self.new (record s { state = step rules s.size s.state Tick }) }
         ensures same { StaysSide self.old self.new }
     {
         self.end.tick();
@@ -92,7 +96,8 @@ impl Side {
 
     /// Begins a reset where none is pending.
     pub fn reset(&mut self)
-        ensures stands { (rules : Rules) (s : PairEnd) → IsSide rules self.old s → IsSide rules self.new (record s { state = step rules s.size s.state Reset }) }
+        ensures stands { (rules : Rules) (s : PairEnd) → IsSide rules self.old s →
+            IsSide rules self.new (record s { state = step rules s.size s.state Reset }) }
         ensures same { StaysSide self.old self.new }
     {
         self.end.reset();
@@ -101,7 +106,8 @@ impl Side {
     /// There is something to build.
     pub fn due(&self) -> bool
         ensures value { result ≡ is_due self.now.end }
-        ensures answer { (rules : Rules) (s : PairEnd) → IsSide rules self.now s → result ≡ writes (turn rules s.state) }
+        ensures answer { (rules : Rules) (s : PairEnd) → IsSide rules self.now s →
+            result ≡ writes (turn rules s.state) }
     {
         self.end.due()
     }
@@ -111,8 +117,10 @@ impl Side {
         requires due { is_due self.old.end ≡ true }
         requires size { length out.old ≡ self.old.size }
         ensures long { length out.new ≡ self.old.size }
-        ensures written { (rules : Rules) (s : PairEnd) → IsSide rules self.old s → IsWritten (turn rules s.state) rules s.size out.new s.state }
-        ensures stands { (rules : Rules) (s : PairEnd) → IsSide rules self.old s → IsSide rules self.new (record s { state = step rules s.size s.state Build }) }
+        ensures written { (rules : Rules) (s : PairEnd) → IsSide rules self.old s →
+            IsWritten (turn rules s.state) rules s.size out.new s.state }
+        ensures stands { (rules : Rules) (s : PairEnd) → IsSide rules self.old s →
+            IsSide rules self.new (record s { state = step rules s.size s.state Build }) }
         ensures same { StaysSide self.old self.new }
     {
         self.end.build(out);
@@ -134,13 +142,14 @@ impl Side {
         self.coming.pop();
     }
 
-    /// The first PDU in flight to it arrives, if there is one: the answer is reported, and then each unit that is handed up, by way of `unit`,
-    /// which has 1,500 octets. The lines have this end's number.
+    /// The first PDU in flight to it arrives, if there is one: the answer is reported, and then each unit that is
+    /// handed up, by way of `unit`, which has 1,500 octets. The lines have this end's number.
     pub fn arrive(&mut self, number: u8, unit: &mut [u8], report: &mut Report)
         requires known { IsKnown self.old }
         requires unit { length unit.old ≡ 1500 }
         requires room { length report.old.text + MOST_TEXT ≤ report.old.most }
-        ensures arrives { (rules : Rules) (s : PairEnd) → IsSide rules self.old s → Arrives rules number s self.new report.old report.new }
+        ensures arrives { (rules : Rules) (s : PairEnd) → IsSide rules self.old s →
+            Arrives rules number s self.new report.old report.new }
         ensures same { StaysSide self.old self.new }
         ensures most { report.new.most ≡ report.old.most }
     {
@@ -156,10 +165,14 @@ impl Side {
 fn hand_up(end: &mut ResetEnd, number: u8, unit: &mut [u8], report: &mut Report)
     requires unit { length unit.old ≡ 1500 }
     requires room { length report.old.text + length (units_text number (waiting_in end.old)) ≤ report.old.most }
-    ensures reported { report.new ≡ record report.old { text = report.old.text ++ units_text number (waiting_in end.old) } }
+    ensures reported { report.new ≡ record report.old {
+      text =
+          report.old.text ++ units_text number (waiting_in end.old);
+    } }
     ensures settled { is_settled end.new ≡ true }
     ensures sizes { AreSizes end.old end.new }
-    ensures history { (rules : Rules) (e : State) → Represents rules end.old e → Represents rules end.new (handed_up e) }
+    ensures history { (rules : Rules) (e : State) → Represents rules end.old e →
+        Represents rules end.new (handed_up e) }
 {
     while let Some(handed) = end.next_unit(unit) {
         put_handed(report, number, handed, unit);

@@ -4,7 +4,8 @@ use Rattle.std.specs.Prelude.{◌≡◌, ◌<◌, ◌≤◌, ◌*◌, ◌^◌, �
 -- the octets of the blocks that are lent, where the blocks stand one after another
 abbrev pub contents_of : ℕ → List ℕ → List Bool → List (Option (List ℕ))
 contents_of size region [] = []
-contents_of size region (is_lent ∷ lent) = (if is_lent then Some (take size region) else None) ∷ contents_of size (drop size region) lent
+contents_of size region (is_lent ∷ lent) = (if is_lent then Some (take size region)
+    else None) ∷ contents_of size (drop size region) lent
 
 -- the spare numbers are those of the blocks that are not lent, each once, and there is room for the numbers of all
 pub record IsHeld (size : ℕ) (region : List ℕ) (lent : List Bool) (spare : List ℕ) (room : ℕ) : Type 0 where

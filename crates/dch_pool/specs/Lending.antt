@@ -13,7 +13,10 @@ spread size octets (Some held ∷ blocks) = Some (refill size held octets) ∷ s
 
 -- the pool where octets are written from the start of a block on: just its own, where they are as many as it has
 abbrev pub with_written : Blocks → ℕ → List ℕ → Blocks
-with_written pool block octets = record pool { contents = take block pool.contents ++ spread pool.size octets (drop block pool.contents) }
+with_written pool block octets = record pool {
+  contents = take block pool.contents
+      ++ spread pool.size octets (drop block pool.contents);
+}
 
 -- what was written last behind r stands in the block
 abbrev pub LendsBlock : MutBor Blocks → ℕ → MutBor (List ℕ) → Fml

@@ -45,7 +45,8 @@ impl Model for Block {
 }
 
 impl Pool {
-    /// A pool of so many blocks of `size` octets. All memory is taken here. For more than 65,536 blocks the answer is `NoMemory`.
+    /// A pool of so many blocks of `size` octets. All memory is taken here. For more than 65,536 blocks the answer is
+    /// `NoMemory`.
     pub fn open(alloc: Global, blocks: usize, size: usize) -> Result<Pool, NoMemory>
         ensures { IfOk result (λ pool. pool ≡ record { size = size; contents = replicate blocks None }) }
     {
@@ -99,13 +100,15 @@ impl Pool {
         ensures* writes_back { sem 𝓛 (LendsBlock self.entry block.now result) }
         ensures value { result.now ≡ octets_of self.old block.now }
         ensures size { length result.now ≡ self.old.size }
-        ensures alone { (octets : List ℕ) → length octets ≡ self.old.size → with_written self.old block.now octets ≡ with_octets self.old block.now octets }
+        ensures alone { (octets : List ℕ) → length octets ≡ self.old.size →
+            with_written self.old block.now octets ≡ with_octets self.old block.now octets }
     {
         let at = block.number as usize * self.size;
         self.region.slice_mut(at..at + self.size)
     }
 
-    /// Writes octets to a block of this pool, from place `at` of it on. Its other octets stay, and so do the other blocks.
+    /// Writes octets to a block of this pool, from place `at` of it on. Its other octets stay, and so do the other
+    /// blocks.
     pub fn write(&mut self, block: &Block, at: usize, octets: &[u8])
         requires lent { IsLent self.old block.now }
         requires inside { at + length octets.now ≤ self.old.size }

@@ -1,4 +1,5 @@
--- Two ends of a bearer in acknowledged mode that can be reset (TS 25.322 11.4), and what is in flight between them, in order.
+-- Two ends of a bearer in acknowledged mode that can be reset (TS 25.322 11.4), and what is in flight between them, in
+-- order.
 use Rattle.std.specs.Prelude.{◌+◌, ◌-◌, ◌%◌, ℕ, List, [], ◌∷◌, ◌++◌, not, ◌==◌, Option, Some, None, Bool, true, false, if◌then◌else◌}
 use Rattle.dch_bits.specs.declared.offer.Offer.{Offer as OfferAnswer}
 use Rattle.dch_bits.specs.declared.offer.Offer.TheVariants.{Accepted, Full, WrongSize}
@@ -8,8 +9,8 @@ use Rattle.dch_am.specs.Rules.{Rules}
 use Rattle.dch_am.specs.Sender.{Sender, offered}
 use Rattle.dch_amlaw.specs.Pair.{Block, End, built, gap_free, opened_end, stepped, takes}
 
--- what is in flight: a data PDU, an MRW or a status with the number of restarts of the end that built it, which no call sees; a RESET and a
--- RESET ACK, each with its RSN and its HFNI
+-- what is in flight: a data PDU, an MRW or a status with the number of restarts of the end that built it, which no call
+-- sees; a RESET and a RESET ACK, each with its RSN and its HFNI
 pub data Sent : Type 0 where
   Data : (label : ℕ) → (block : Block) → Sent
   ResetPdu : (rsn : Bool) → (hfni : ℕ) → Sent
@@ -65,7 +66,12 @@ opened_reset_end rules octets =
     }
 
 abbrev pub opened : Rules → ℕ → ℕ → ResetPair
-opened rules first second = record { near = opened_reset_end rules first; far = opened_reset_end rules second; out = []; back = [] }
+opened rules first second = record {
+  near = opened_reset_end rules first;
+  far = opened_reset_end rules second;
+  out = [];
+  back = [];
+}
 
 -- two RSNs are the same
 abbrev pub same_rsn : Bool → Bool → Bool
@@ -92,11 +98,23 @@ abbrev pub hfni_of : ℕ → ℕ
 hfni_of restarts = restarts % 1048576
 
 abbrev pub restarted_sides : Rules → End → End
-restarted_sides rules e = record { octets = e.octets; entity = restarted_entity rules e.entity; came = []; moved_to = 0; moved_past = 0; spans = [] }
+restarted_sides rules e = record {
+  octets = e.octets;
+  entity = restarted_entity rules e.entity;
+  came = [];
+  moved_to = 0;
+  moved_past = 0;
+  spans = [];
+}
 
 -- the present stretch, as it is when it ends
 abbrev pub present : ResetEnd → Stretch
-present e = record { labels = e.labels; spans = e.sides.spans; missing = gap_free e.sides; units = e.sides.entity.receiver.reading.units }
+present e = record {
+  labels = e.labels;
+  spans = e.sides.spans;
+  missing = gap_free e.sides;
+  units = e.sides.entity.receiver.reading.units;
+}
 
 -- an end whose two sides begin anew
 abbrev pub restarted : Rules → ResetEnd → ResetEnd
@@ -116,7 +134,11 @@ taken_up Full unit = []
 taken_up WrongSize unit = []
 
 abbrev pub offers : Rules → ResetEnd → List ℕ → ResetEnd
-offers rules e unit = record e { sides = stepped rules e.sides (Offers unit); accepted = e.accepted ++ taken_up (offered rules e.sides.entity.sender unit) unit }
+offers rules e unit = record e {
+  sides = stepped rules e.sides (Offers unit);
+  accepted = e.accepted
+      ++ taken_up (offered rules e.sides.entity.sender unit) unit;
+}
 
 -- an end, and what it sent
 pub record Built : Type 0 where
@@ -130,14 +152,24 @@ labelled label (Some block) = Some (Data label block)
 -- the RESET is built at once, and again 30 ticks after each
 abbrev pub builds_reset : ResetEnd → Pending → Built
 builds_reset e p =
-    if p.rst_timer == 0 then record { after = record e { pending = Some (record p { rst_timer = 30 }) }; sent = Some (ResetPdu p.rsn (hfni_of e.restarts)) }
+    if p.rst_timer == 0 then record {
+      after = record e { pending = Some (record p { rst_timer = 30 }) };
+      sent = Some (ResetPdu p.rsn (hfni_of e.restarts));
+    }
     else record { after = e; sent = None }
 
--- an owed RESET ACK comes first. A pending end builds nothing else but its RESET, and another one what is due in its stretch
+-- an owed RESET ACK comes first. A pending end builds nothing else but its RESET, and another one what is due in its
+-- stretch
 abbrev pub builds_by : Rules → ResetEnd → Bool → Option Pending → Built
-builds_by rules e true p = record { after = record e { owes = false }; sent = Some (ResetAckPdu (rsn_of e.heard) (hfni_of e.restarts)) }
+builds_by rules e true p = record {
+  after = record e { owes = false };
+  sent = Some (ResetAckPdu (rsn_of e.heard) (hfni_of e.restarts));
+}
 builds_by rules e false (Some p) = builds_reset e p
-builds_by rules e false None = record { after = record e { sides = stepped rules e.sides Builds }; sent = labelled e.restarts (built rules e.sides) }
+builds_by rules e false None = record {
+  after = record e { sides = stepped rules e.sides Builds };
+  sent = labelled e.restarts (built rules e.sides);
+}
 
 abbrev pub builds : Rules → ResetEnd → Built
 builds rules e = builds_by rules e e.owes e.pending
@@ -150,8 +182,10 @@ hears_data rules e None label block = record e { sides = takes rules e.sides blo
 -- a RESET with a new RSN restarts an end, and a RESET ACK with the RSN for which it is pending; each RESET is answered
 abbrev pub hears : Rules → ResetEnd → Sent → ResetEnd
 hears rules e (Data label block) = hears_data rules e e.pending label block
-hears rules e (ResetPdu rsn hfni) = if is_heard e.heard rsn then record e { owes = true } else record (restarted rules e) { heard = Some rsn; owes = true }
-hears rules e (ResetAckPdu rsn hfni) = if is_asked e.pending rsn then record (restarted rules e) { pending = None } else e
+hears rules e (ResetPdu rsn hfni) = if is_heard e.heard rsn then record e { owes = true }
+    else record (restarted rules e) { heard = Some rsn; owes = true }
+hears rules e (ResetAckPdu rsn hfni) = if is_asked e.pending rsn then record (restarted rules e) { pending = None }
+    else e
 
 -- an end that isn't pending becomes so, with the other RSN each time
 abbrev pub resets_by : ResetEnd → Option Pending → ResetEnd

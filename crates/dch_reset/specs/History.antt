@@ -8,7 +8,14 @@ use Rattle.dch_reset.specs.declared.answers.Got.{Got}
 use Rattle.dch_reset.specs.declared.answers.Got.TheVariants.{Bad, Restarted, Repeated, Ignored, Taken, Duplicate, Outside}
 
 abbrev pub state_of : ResetEnd → State
-state_of e = record { entity = e.sides.entity; pending = e.pending; next_rsn = e.next_rsn; heard = e.heard; owes = e.owes; restarts = e.restarts }
+state_of e = record {
+  entity = e.sides.entity;
+  pending = e.pending;
+  next_rsn = e.next_rsn;
+  heard = e.heard;
+  owes = e.owes;
+  restarts = e.restarts;
+}
 
 -- what is in flight, as the PDU that the other end reads
 abbrev pub pdu_sent : Sent → Pdu

@@ -34,10 +34,12 @@ AllAre n (x ∷ xs) = (x ≡ n) × AllAre n xs
 
 -- each unit of a sender with its length indicator below a number is handed up, by these spans, or it was discarded
 abbrev pub NoneMissing : Sender → List (ℕ × ℕ) → ℕ → Type 0
-NoneMissing s spans missing = (i : ℕ) → i < ends (take missing s.bodies) → (in_span s.bodies spans i ≡ true) ⊎ (has i s.discarded_units ≡ true)
+NoneMissing s spans missing = (i : ℕ) → i < ends (take missing s.bodies) → (in_span s.bodies spans i ≡ true)
+    ⊎ (has i s.discarded_units ≡ true)
 
--- a stretch is one of this label: all that it took carries the label; handed up are, in order, the units of the label that were picked; and
--- each of these units whose length indicator lies below the missing number was handed up or discarded
+-- a stretch is one of this label: all that it took carries the label; handed up are, in order, the units of the label
+-- that were picked; and each of these units whose length indicator lies below the missing number was handed up or
+-- discarded
 pub record IsStretch (from : ResetEnd) (label : ℕ) (s : Stretch) : Type 0 where
   pub one_label : AllAre label s.labels
   pub in_order : s.units ≡ picked (sender_at from label).bodies s.spans 0 (sender_at from label).accepted
@@ -68,10 +70,11 @@ those at i (u ∷ us) = if at i then (u ∷ those at (i + 1) us) else those at (
 
 -- the unit at this place had an octet built before a restart of its sender, or was discarded
 abbrev pub IsDropped : ResetEnd → ℕ → Type 0
-IsDropped from i = (i < length (begun_before from.senders)) ⊎ (has (i - length (begun_before from.senders)) from.sides.entity.sender.discarded_units ≡ true)
+IsDropped from i = (i < length (begun_before from.senders))
+    ⊎ (has (i - length (begun_before from.senders)) from.sides.entity.sender.discarded_units ≡ true)
 
--- handed up over all stretches are, in order and each at most once, the accepted units at some places. A unit before one of these that isn't
--- among them was dropped
+-- handed up over all stretches are, in order and each at most once, the accepted units at some places. A unit before
+-- one of these that isn't among them was dropped
 pub record IsInOrder (from to : ResetEnd) : Type 0 where
   pub accepted : from.accepted ≡ begun_before from.senders ++ from.sides.entity.sender.accepted
   pub at : ℕ → Bool

@@ -1,4 +1,5 @@
--- Two ends that run and can be reset (TS 25.322 11.4): what is done at them, as the history of events that it is, and what they have done then.
+-- Two ends that run and can be reset (TS 25.322 11.4): what is done at them, as the history of events that it is, and
+-- what they have done then.
 use Rattle.std.specs.Prelude.{◌≡◌, ◌+◌, ◌≤◌, ℕ, List, length, map, take, drop}
 use Rattle.dch_amsend.specs.SduDiscard.{capped}
 use Rattle.dch_pair.specs.Running.{rules_in}

@@ -1,4 +1,5 @@
--- What a running end that can be reset keeps (TS 25.322 11.4), and when it stands for an end over lists and numbers without wrap.
+-- What a running end that can be reset keeps (TS 25.322 11.4), and when it stands for an end over lists and numbers
+-- without wrap.
 use Rattle.std.specs.Prelude.{◌≡◌, ◌==◌, ℕ, List, Option, Some, None, Bool, true, false}
 use Rattle.dch_am.specs.Rules.{Rules}
 use Rattle.dch_pair.specs.EntityStanding.{Represents as StandsFor, Running as RunningEntity, is_due as is_entity_due, is_settled as is_drained, size_in as octets_in, size_of as octets_of, waiting_in as units_in}

@@ -1,5 +1,5 @@
--- An end of a bearer in acknowledged mode that can be reset (TS 25.322 9.7.7, 11.4): what it keeps, what it writes when it may write a PDU, and
--- what each event makes of it.
+-- An end of a bearer in acknowledged mode that can be reset (TS 25.322 9.7.7, 11.4): what it keeps, what it writes when
+-- it may write a PDU, and what each event makes of it.
 use Rattle.std.specs.Prelude.{◌≡◌, ◌+◌, ℕ, List, not, ◌==◌, Option, Some, None, Bool, true, false, if◌then◌else◌}
 use Rattle.dch_am.specs.Entities.{Entity, Event as EntityEvent, Build as Builds, Come as Comes, HandUp as HandsUp, Offer as Offers, Tick as Ticks, IsWritten as IsEntityWritten, Pdu, DataPdu, StatusPdu, ResetPdu, ResetAckPdu, Turn as EntityTurn, opened_entity, step as entity_step, turn as entity_turn, writes as entity_writes}
 use Rattle.dch_am.specs.Restart.{restarted_entity}
@@ -19,9 +19,17 @@ pub record State : Type 0 where
 
 -- at opening
 abbrev pub opened_state : Rules → State
-opened_state rules = record { entity = opened_entity rules; pending = None; next_rsn = false; heard = None; owes = false; restarts = 0 }
+opened_state rules = record {
+  entity = opened_entity rules;
+  pending = None;
+  next_rsn = false;
+  heard = None;
+  owes = false;
+  restarts = 0;
+}
 
--- what it does when it may write a PDU: it writes a RESET ACK or a RESET, it has its entity's turn, or it waits for an answer
+-- what it does when it may write a PDU: it writes a RESET ACK or a RESET, it has its entity's turn, or it waits for an
+-- answer
 pub data Turn : Type 0 where
   Answers : Turn
   Asks : Turn
@@ -86,13 +94,15 @@ abbrev pub taken_by : Rules → ℕ → State → Option Pending → Pdu → Sta
 taken_by rules size e (Some p) pdu = e
 taken_by rules size e None pdu = stepped rules size e (Comes pdu)
 
--- a RESET restarts the end unless its RSN is that of the last one, and each is answered. A RESET ACK restarts an end that is pending with its
--- RSN, which then isn't
+-- a RESET restarts the end unless its RSN is that of the last one, and each is answered. A RESET ACK restarts an end
+-- that is pending with its RSN, which then isn't
 abbrev pub came : Rules → ℕ → State → Pdu → State
 came rules size e (DataPdu sn poll body rides) = taken_by rules size e e.pending (DataPdu sn poll body rides)
 came rules size e (StatusPdu fields) = taken_by rules size e e.pending (StatusPdu fields)
-came rules size e (ResetPdu rsn) = if is_heard e.heard rsn then record e { owes = true } else record (restarted rules e) { heard = Some rsn; owes = true }
-came rules size e (ResetAckPdu rsn) = if is_asked e.pending rsn then record (restarted rules e) { pending = None } else e
+came rules size e (ResetPdu rsn) = if is_heard e.heard rsn then record e { owes = true }
+    else record (restarted rules e) { heard = Some rsn; owes = true }
+came rules size e (ResetAckPdu rsn) = if is_asked e.pending rsn then record (restarted rules e) { pending = None }
+    else e
 
 -- what happens at an end
 pub data Event : Type 0 where

@@ -5,8 +5,8 @@ use dch_rlcpdu::PduError;
 pub enum Got {
     /// The octets read as no PDU, for this reason. Nothing changed.
     Bad(PduError),
-    /// A RESET that is the first or has another RSN than the last one, or a RESET ACK with the RSN of the RESET that the end has begun. Both
-    /// sides began anew.
+    /// A RESET that is the first or has another RSN than the last one, or a RESET ACK with the RSN of the RESET that
+    /// the end has begun. Both sides began anew.
     Restarted,
     /// A RESET with the RSN of the last one. It is answered again, and nothing begins anew.
     Repeated,

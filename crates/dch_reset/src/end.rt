@@ -23,8 +23,8 @@ use dch_types::AmRules;
 use std::alloc::Global;
 use std::marker::Model;
 
-/// One end of a bearer in acknowledged mode that can be reset: an entity since the last restart, the reset that the end has begun, and the last
-/// RESET that came. All memory is taken when it is opened.
+/// One end of a bearer in acknowledged mode that can be reset: an entity since the last restart, the reset that the end
+/// has begun, and the last RESET that came. All memory is taken when it is opened.
 pub struct ResetEnd {
     entity: AmEntity,
     pending: Option<Pending>,
@@ -57,14 +57,23 @@ impl Model for ResetEnd {
 
     ghost Value = { Running };
 
-    ghost view = { λ v. record { entity = v.entity; pending = pending_of v.pending; next_rsn = v.next_rsn; heard = v.heard; owes = v.owes; restarts = v.restarts; hfni = v.hfni } };
+    ghost view = { λ v. record {
+      entity = v.entity;
+      pending = pending_of v.pending;
+      next_rsn = v.next_rsn;
+      heard = v.heard;
+      owes = v.owes;
+      restarts = v.restarts;
+      hfni = v.hfni;
+    } };
 
     ghost invariant = { λ v. (v.hfni < 2 ^ 20) × (6 ≤ size_of v.entity) };
 }
 
 impl ResetEnd {
-    /// An end that has accepted no unit, that no PDU has come to, and that isn't pending. It writes PDUs of `pdu` octets, 6 to 126, and PDUs of at
-    /// most `reply` octets come to it, at most 126. Units hold at most `buffer` blocks of 64 octets, 1 to 4,096. The window has at most 2,048 PDUs.
+    /// An end that has accepted no unit, that no PDU has come to, and that isn't pending. It writes PDUs of `pdu`
+    /// octets, 6 to 126, and PDUs of at most `reply` octets come to it, at most 126. Units hold at most `buffer` blocks
+    /// of 64 octets, 1 to 4,096. The window has at most 2,048 PDUs.
     pub fn open(
         alloc: Global,
         pdu: usize,
@@ -102,19 +111,24 @@ impl ResetEnd {
         self.entity.size()
     }
 
-    /// Offers a unit of octets (TS 25.322 11.3.2). A pending end accepts units too, and sends them once the reset is answered.
+    /// Offers a unit of octets (TS 25.322 11.3.2). A pending end accepts units too, and sends them once the reset is
+    /// answered.
     pub fn offer(&mut self, unit: &[u8]) -> Offer
-        ensures answer { (rules : Rules) (e : State) → Represents rules self.old e → result ≡ offered rules e.entity.sender unit.now }
+        ensures answer { (rules : Rules) (e : State) → Represents rules self.old e →
+            result ≡ offered rules e.entity.sender unit.now }
         ensures refused { result ≢ Accepted → self.new ≡ self.old }
-        ensures stands { (rules : Rules) (e : State) → Represents rules self.old e → Represents rules self.new (step rules (size_of self.old) e (Offers unit.now)) }
+        ensures stands { (rules : Rules) (e : State) → Represents rules self.old e →
+            Represents rules self.new (step rules (size_of self.old) e (Offers unit.now)) }
         ensures same { IsSame self.old self.new }
     {
         self.entity.offer(unit)
     }
 
-    /// Begins a reset, with the other RSN each time, 0 first (TS 25.322 11.4.2). Nothing changes where the end is pending.
+    /// Begins a reset, with the other RSN each time, 0 first (TS 25.322 11.4.2). Nothing changes where the end is
+    /// pending.
     pub fn reset(&mut self)
-        ensures stands { (rules : Rules) (e : State) → Represents rules self.old e → Represents rules self.new (step rules (size_of self.old) e Reset) }
+        ensures stands { (rules : Rules) (e : State) → Represents rules self.old e →
+            Represents rules self.new (step rules (size_of self.old) e Reset) }
         ensures same { IsSame self.old self.new }
     {
         if self.pending.is_none() {
@@ -155,14 +169,17 @@ impl ResetEnd {
         }
     }
 
-    /// Builds what is due: an owed RESET ACK (TS 25.322 11.4.3), else the RESET of a pending end, at once and again 30 ticks after each (11.4.2,
-    /// 11.4.5.1), else, where the end isn't pending, a status, an MRW or a data PDU. A RESET and a RESET ACK have the number of restarts, in 20
-    /// bits, as HFNI, and zeros behind it.
+    /// Builds what is due: an owed RESET ACK (TS 25.322 11.4.3), else the RESET of a pending end, at once and again 30
+    /// ticks after each (11.4.2,
+    /// 11.4.5.1), else, where the end isn't pending, a status, an MRW or a data PDU. A RESET and a RESET ACK have the
+    /// number of restarts, in 20 bits, as HFNI, and zeros behind it.
     pub fn build(&mut self, out: &mut [u8])
         requires due { is_due self.old ≡ true }
         requires size { length out.old ≡ size_of self.old }
-        ensures written { (rules : Rules) (e : State) → Represents rules self.old e → IsWritten (turn rules e) rules (size_of self.old) out.new e }
-        ensures stands { (rules : Rules) (e : State) → Represents rules self.old e → Represents rules self.new (step rules (size_of self.old) e Build) }
+        ensures written { (rules : Rules) (e : State) → Represents rules self.old e →
+            IsWritten (turn rules e) rules (size_of self.old) out.new e }
+        ensures stands { (rules : Rules) (e : State) → Represents rules self.old e →
+            Represents rules self.new (step rules (size_of self.old) e Build) }
         ensures same { IsSame self.old self.new }
     {
         if self.owes {
@@ -188,9 +205,11 @@ impl ResetEnd {
     pub fn pdu(&mut self, p: &[u8]) -> Got
         requires settled { is_settled self.old ≡ true }
         requires size { length p.now ≤ size_in self.old }
-        ensures answer { (rules : Rules) (e : State) → Represents rules self.old e → result ≡ answer_read rules e (am_reading p.now) }
+        ensures answer { (rules : Rules) (e : State) → Represents rules self.old e →
+            result ≡ answer_read rules e (am_reading p.now) }
         ensures unread { is_unread result ≡ true → self.new ≡ self.old }
-        ensures stands { (rules : Rules) (e : State) → Represents rules self.old e → Represents rules self.new (came_read rules (size_of self.old) e (am_reading p.now)) }
+        ensures stands { (rules : Rules) (e : State) → Represents rules self.old e →
+            Represents rules self.new (came_read rules (size_of self.old) e (am_reading p.now)) }
         ensures sizes { AreSizes self.old self.new }
     {
         match read_am(p) {
@@ -199,16 +218,20 @@ impl ResetEnd {
         }
     }
 
-    /// Hands up the first unit that waits, at the front of `out`, which has 1,500 octets. A unit of more octets is overlong.
+    /// Hands up the first unit that waits, at the front of `out`, which has 1,500 octets. A unit of more octets is
+    /// overlong.
     pub fn next_unit(&mut self, out: &mut [u8]) -> Option<Handed>
         requires { length out.old ≡ 1500 }
         ensures first { result ≡ handed_of (waiting_in self.old) }
         ensures written { out.new ≡ written (waiting_in self.old) out.old }
         ensures rest { waiting_in self.new ≡ drop 1 (waiting_in self.old) }
         ensures none { IfNone result (self.new ≡ self.old) }
-        ensures answer { (rules : Rules) (e : State) → Represents rules self.old e → result ≡ handed_of (waiting e.entity) }
-        ensures unit { (rules : Rules) (e : State) → Represents rules self.old e → out.new ≡ written (waiting e.entity) out.old }
-        ensures stands { (rules : Rules) (e : State) → Represents rules self.old e → Represents rules self.new (step rules (size_of self.old) e HandUp) }
+        ensures answer { (rules : Rules) (e : State) → Represents rules self.old e →
+            result ≡ handed_of (waiting e.entity) }
+        ensures unit { (rules : Rules) (e : State) → Represents rules self.old e →
+            out.new ≡ written (waiting e.entity) out.old }
+        ensures stands { (rules : Rules) (e : State) → Represents rules self.old e →
+            Represents rules self.new (step rules (size_of self.old) e HandUp) }
         ensures sizes { AreSizes self.old self.new }
     {
         self.entity.next_unit(out)
@@ -217,14 +240,16 @@ impl ResetEnd {
     /// No unit that ended waits.
     pub fn settled(&self) -> bool
         ensures value { result ≡ is_settled self.now }
-        ensures answer { (rules : Rules) (e : State) → Represents rules self.now e → result ≡ (length (waiting e.entity) == 0) }
+        ensures answer { (rules : Rules) (e : State) → Represents rules self.now e →
+            result ≡ (length (waiting e.entity) == 0) }
     {
         self.entity.settled()
     }
 
     /// One tick of 10 ms.
     pub fn tick(&mut self)
-        ensures stands { (rules : Rules) (e : State) → Represents rules self.old e → Represents rules self.new (step rules (size_of self.old) e Tick) }
+        ensures stands { (rules : Rules) (e : State) → Represents rules self.old e →
+            Represents rules self.new (step rules (size_of self.old) e Tick) }
         ensures same { IsSame self.old self.new }
     {
         self.entity.tick();
@@ -243,9 +268,11 @@ impl ResetEnd {
     fn receive(&mut self, view: &AmView<'_>) -> Got
         requires settled { is_settled self.old ≡ true }
         requires small { IsSmall (size_in self.old) view.now }
-        ensures answer { (rules : Rules) (e : State) → Represents rules self.old e → result ≡ answer rules e (pdu_of view.now) }
+        ensures answer { (rules : Rules) (e : State) → Represents rules self.old e →
+            result ≡ answer rules e (pdu_of view.now) }
         ensures unread { is_unread result ≡ true → self.new ≡ self.old }
-        ensures stands { (rules : Rules) (e : State) → Represents rules self.old e → Represents rules self.new (step rules (size_of self.old) e (Come (pdu_of view.now))) }
+        ensures stands { (rules : Rules) (e : State) → Represents rules self.old e →
+            Represents rules self.new (step rules (size_of self.old) e (Come (pdu_of view.now))) }
         ensures sizes { AreSizes self.old self.new }
     {
         match view {
@@ -259,9 +286,11 @@ impl ResetEnd {
     fn receive_data(&mut self, view: &AmView<'_>) -> Got
         requires settled { is_settled self.old ≡ true }
         requires small { IsSmall (size_in self.old) view.now }
-        ensures answer { (rules : Rules) (e : State) → Represents rules self.old e → result ≡ unless_pending e.pending (entity_answer (received rules e.entity (pdu_of view.now))) }
+        ensures answer { (rules : Rules) (e : State) → Represents rules self.old e →
+            result ≡ unless_pending e.pending (entity_answer (received rules e.entity (pdu_of view.now))) }
         ensures unread { is_unread result ≡ true → self.new ≡ self.old }
-        ensures stands { (rules : Rules) (e : State) → Represents rules self.old e → Represents rules self.new (taken_by rules (size_of self.old) e e.pending (pdu_of view.now)) }
+        ensures stands { (rules : Rules) (e : State) → Represents rules self.old e →
+            Represents rules self.new (taken_by rules (size_of self.old) e e.pending (pdu_of view.now)) }
         ensures sizes { AreSizes self.old self.new }
     {
         if self.pending.is_some() {
@@ -273,9 +302,11 @@ impl ResetEnd {
     /// Takes a RESET, which is answered in any case. One with the RSN of the last one restarts nothing.
     fn receive_reset(&mut self, rsn: bool) -> Got
         requires settled { is_settled self.old ≡ true }
-        ensures answer { (rules : Rules) (e : State) → Represents rules self.old e → result ≡ (if is_heard e.heard rsn then Repeated else Restarted) }
+        ensures answer { (rules : Rules) (e : State) → Represents rules self.old e →
+            result ≡ (if is_heard e.heard rsn then Repeated else Restarted) }
         ensures unread { is_unread result ≡ true → self.new ≡ self.old }
-        ensures stands { (rules : Rules) (e : State) → Represents rules self.old e → Represents rules self.new (came rules (size_of self.old) e (ResetPdu rsn)) }
+        ensures stands { (rules : Rules) (e : State) → Represents rules self.old e →
+            Represents rules self.new (came rules (size_of self.old) e (ResetPdu rsn)) }
         ensures sizes { AreSizes self.old self.new }
     {
         self.owes = true;
@@ -287,12 +318,15 @@ impl ResetEnd {
         Got::Restarted
     }
 
-    /// Takes a RESET ACK. One with the RSN of the RESET that the end has begun ends the reset, and any other is ignored.
+    /// Takes a RESET ACK. One with the RSN of the RESET that the end has begun ends the reset, and any other is
+    /// ignored.
     fn receive_reset_ack(&mut self, rsn: bool) -> Got
         requires settled { is_settled self.old ≡ true }
-        ensures answer { (rules : Rules) (e : State) → Represents rules self.old e → result ≡ (if is_asked e.pending rsn then Restarted else Ignored) }
+        ensures answer { (rules : Rules) (e : State) → Represents rules self.old e →
+            result ≡ (if is_asked e.pending rsn then Restarted else Ignored) }
         ensures unread { is_unread result ≡ true → self.new ≡ self.old }
-        ensures stands { (rules : Rules) (e : State) → Represents rules self.old e → Represents rules self.new (came rules (size_of self.old) e (ResetAckPdu rsn)) }
+        ensures stands { (rules : Rules) (e : State) → Represents rules self.old e →
+            Represents rules self.new (came rules (size_of self.old) e (ResetAckPdu rsn)) }
         ensures sizes { AreSizes self.old self.new }
     {
         if !is_asked(self.pending, rsn) {
@@ -306,7 +340,8 @@ impl ResetEnd {
     /// Both sides begin anew.
     fn restart(&mut self)
         requires settled { is_settled self.old ≡ true }
-        ensures stands { (rules : Rules) (e : State) → Represents rules self.old e → Represents rules self.new (restarted rules e) }
+        ensures stands { (rules : Rules) (e : State) → Represents rules self.old e →
+            Represents rules self.new (restarted rules e) }
         ensures sizes { AreSizes self.old self.new }
     {
         self.entity.restart();

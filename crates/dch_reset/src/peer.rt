@@ -85,7 +85,8 @@ impl Peer {
         requires room { self.old.accepted + 1 < 2 ^ 64 }
         ensures same { AreSame self.old self.new }
         ensures count { self.new.accepted ≤ self.old.accepted + 1 }
-        ensures history { (rules : Rules) (e : End) → IsPeer rules self.old e → IsPeer rules self.new (offers rules e unit.now) }
+        ensures history { (rules : Rules) (e : End) → IsPeer rules self.old e →
+            IsPeer rules self.new (offers rules e unit.now) }
     {
         match self.end.offer(unit) {
             Offer::Accepted => self.accepted += 1,
@@ -109,8 +110,10 @@ impl Peer {
         ensures same { AreSame self.old self.new }
         ensures count { self.new.accepted ≡ self.old.accepted }
         ensures due { (rules : Rules) (e : End) → IsPeer rules self.old e → result ≡ is_some (builds rules e).sent }
-        ensures sent { (rules : Rules) (e : End) → IsPeer rules self.old e → result ≡ true → IsSent out.new (builds rules e).sent }
-        ensures history { (rules : Rules) (e : End) → IsPeer rules self.old e → IsPeer rules self.new (builds rules e).after }
+        ensures sent { (rules : Rules) (e : End) → IsPeer rules self.old e → result ≡ true →
+            IsSent out.new (builds rules e).sent }
+        ensures history { (rules : Rules) (e : End) → IsPeer rules self.old e →
+            IsPeer rules self.new (builds rules e).after }
     {
         if !self.end.due() {
             return false;
@@ -124,7 +127,8 @@ impl Peer {
         requires size { length p.now ≤ size_in self.old }
         ensures same { AreSame self.old self.new }
         ensures count { self.new.accepted ≡ self.old.accepted }
-        ensures history { IfOk result (λ _. (rules : Rules) (e : End) (s : Sent) → IsPeer rules self.old e → IsRead p.now s → IsPeer rules self.new (hears rules e s)) }
+        ensures history { IfOk result (λ _. (rules : Rules) (e : End) (s : Sent) → IsPeer rules self.old e →
+            IsRead p.now s → IsPeer rules self.new (hears rules e s)) }
     {
         self.end.pdu(p);
         hand_up(&mut self.end, &mut self.units)
@@ -159,7 +163,8 @@ fn hand_up(end: &mut ResetEnd, units: &mut Store) -> Result<(), NoMemory>
     ensures units { IfOk result (λ _. units.new ≡ units.old ++ whole (waiting_in end.old)) }
     ensures settled { is_settled end.new ≡ true }
     ensures sizes { AreSizes end.old end.new }
-    ensures history { (rules : Rules) (e : State) → Represents rules end.old e → Represents rules end.new (handed_up e) }
+    ensures history { (rules : Rules) (e : State) → Represents rules end.old e →
+        Represents rules end.new (handed_up e) }
 {
     let mut room = [0; 1500];
     let mut stored = Ok(());
@@ -180,7 +185,8 @@ fn hand_one(end: &mut ResetEnd, units: &mut Store, room: &mut [u8]) -> Result<()
     ensures unit { IfOk result (λ _. units.new ≡ units.old ++ whole (take 1 (waiting_in end.old))) }
     ensures rest { waiting_in end.new ≡ drop 1 (waiting_in end.old) }
     ensures sizes { AreSizes end.old end.new }
-    ensures history { (rules : Rules) (e : State) → Represents rules end.old e → Represents rules end.new (step rules 0 e HandUp) }
+    ensures history { (rules : Rules) (e : State) → Represents rules end.old e →
+        Represents rules end.new (step rules 0 e HandUp) }
 {
     match end.next_unit(room) {
         Some(Handed::Whole(size)) => units.push(&room[..size]),

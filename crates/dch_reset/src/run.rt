@@ -10,8 +10,8 @@ use dch_bits::NoMemory;
 use dch_pair::PairSetup;
 use std::alloc::Global;
 
-/// Runs two ends of a bearer that can be reset over a list of events. The units that are offered are parts of `octets`. Blocks in flight and units
-/// that are handed up are stored, and want of memory for them ends the run.
+/// Runs two ends of a bearer that can be reset over a list of events. The units that are offered are parts of `octets`.
+/// Blocks in flight and units that are handed up are stored, and want of memory for them ends the run.
 pub fn run_reset(
     alloc: Global,
     setup: &PairSetup,
@@ -26,7 +26,8 @@ pub fn run_reset(
     // in order and each at most once, and a unit that is passed over was begun before a restart or discarded
     ensures delivered { IfOk result (λ e. AreDelivered e (pair_after setup.now (history octets.now events.now))) }
     // after each front of the history
-    ensures safe { (k : ℕ) → IsSafe (rules_in setup.now) (pair_after setup.now (take k (history octets.now events.now))) }
+    ensures safe { (k : ℕ) → IsSafe (rules_in setup.now)
+        (pair_after setup.now (take k (history octets.now events.now))) }
 {
     run(alloc, setup, octets, events)
 }

@@ -30,7 +30,8 @@ impl Model for Running {
 
     ghost view = { λ v. record { first = v.first; second = v.second; to_first = v.to_first; to_second = v.to_second } };
 
-    ghost invariant = { λ v. (size_in v.second ≡ size_of v.first) × (size_in v.first ≡ size_of v.second) × Fit (size_in v.first) v.to_first × Fit (size_in v.second) v.to_second };
+    ghost invariant = { λ v. (size_in v.second ≡ size_of v.first) × (size_in v.first ≡ size_of v.second) ×
+        Fit (size_in v.first) v.to_first × Fit (size_in v.second) v.to_second };
 }
 
 impl Running {
@@ -61,7 +62,8 @@ impl Running {
         requires second { self.old.second.accepted + 1 < 2 ^ 64 }
         ensures first { self.new.first.accepted ≤ self.old.first.accepted + 1 }
         ensures second { self.new.second.accepted ≤ self.old.second.accepted + 1 }
-        ensures history { IfOk result (λ _. (rules : Rules) (p : ResetPair) → AreRunning rules self.old.first self.old.second self.old.to_second self.old.to_first p →
+        ensures history { IfOk result (λ _. (rules : Rules) (p : ResetPair) →
+            AreRunning rules self.old.first self.old.second self.old.to_second self.old.to_first p →
             AreRunning rules self.new.first self.new.second self.new.to_second self.new.to_first (happens rules p (seen octets.now event))) }
     {
         match side(event) {
@@ -113,7 +115,8 @@ fn happen_at(
     ensures count { near.new.accepted ≤ near.old.accepted + 1 }
     ensures out { Fit (size_of near.old) out.new }
     ensures back { Fit (size_in near.old) back.new }
-    ensures history { IfOk result (λ _. (rules : Rules) (far : PeerValue) (p : ResetPair) → AreRunning rules near.old far out.old back.old p →
+    ensures history { IfOk result (λ _. (rules : Rules) (far : PeerValue) (p : ResetPair) →
+        AreRunning rules near.old far out.old back.old p →
         AreRunning rules near.new far out.new back.new (happens_near rules p (event_of octets.now event))) }
 {
     match event {
@@ -135,7 +138,8 @@ fn build(near: &mut Peer, out: &mut Line) -> Result<(), NoMemory>
     ensures fit { Fit (size_of near.old) out.new }
     ensures same { AreSame near.old near.new }
     ensures count { near.new.accepted ≡ near.old.accepted }
-    ensures history { IfOk result (λ _. (rules : Rules) (far : PeerValue) (back : List (List ℕ)) (p : ResetPair) → AreRunning rules near.old far out.old back p →
+    ensures history { IfOk result (λ _. (rules : Rules) (far : PeerValue) (back : List (List ℕ)) (p : ResetPair) →
+        AreRunning rules near.old far out.old back p →
         AreRunning rules near.new far out.new back (happens_near rules p Build)) }
 {
     let mut room = [0; 126];
@@ -152,7 +156,8 @@ fn arrive(near: &mut Peer, back: &mut Line) -> Result<(), NoMemory>
     ensures fit { Fit (size_in near.old) back.new }
     ensures same { AreSame near.old near.new }
     ensures count { near.new.accepted ≡ near.old.accepted }
-    ensures history { IfOk result (λ _. (rules : Rules) (far : PeerValue) (out : List (List ℕ)) (p : ResetPair) → AreRunning rules near.old far out back.old p →
+    ensures history { IfOk result (λ _. (rules : Rules) (far : PeerValue) (out : List (List ℕ)) (p : ResetPair) →
+        AreRunning rules near.old far out back.old p →
         AreRunning rules near.new far out back.new (happens_near rules p Arrive)) }
 {
     match back.pop() {

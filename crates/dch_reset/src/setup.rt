@@ -7,7 +7,8 @@ pub enum ResetEvent {
     Offer { end: End, from: usize, len: usize },
     /// What is due is built, and is in flight behind all that was built before. Where nothing is due nothing is done.
     Build { end: End },
-    /// The first block in flight to this end arrives, and the units that it ends are handed up. Where none is in flight nothing is done.
+    /// The first block in flight to this end arrives, and the units that it ends are handed up. Where none is in flight
+    /// nothing is done.
     Arrive { to: End },
     /// The first block in flight to this end is lost. Where none is in flight nothing is done.
     Lose { to: End },

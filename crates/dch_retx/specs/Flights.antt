@@ -1,4 +1,5 @@
--- The PDUs of a sender that are in flight (TS 25.322 9.4, 11.5.3): those from the lowest number that is not acknowledged on.
+-- The PDUs of a sender that are in flight (TS 25.322 9.4, 11.5.3): those from the lowest number that is not
+-- acknowledged on.
 use Rattle.std.specs.Prelude.{◌≡◌, ◌+◌, ◌-◌, ◌≤◌, ◌<◌, ◌||◌, ℕ, zero, suc, List, [], ◌∷◌, Bool, true, false, length, nat_lt, nat_le, slice_index, slice_index_or, slice_set, Option, Some, None, if◌then◌else◌}
 use Rattle.circular_buffer.specs.Buffer.{Buffer}
 use Rattle.dch_retx.specs.RequestSet.{RequestSet, is_in}
@@ -11,11 +12,27 @@ no_extent = record { sdu = 0; used = 0; pieces = 0; rest = 0 }
 
 -- no PDU
 abbrev pub blank : SentPdu
-blank = record { extent = no_extent; full = false; padded = false; builds = 0; acked = false; requested = false; named = false }
+blank = record {
+  extent = no_extent;
+  full = false;
+  padded = false;
+  builds = 0;
+  acked = false;
+  requested = false;
+  named = false;
+}
 
 -- a PDU that was just built
 abbrev pub sent_once : Extent → Bool → Bool → SentPdu
-sent_once extent full padded = record { extent = extent; full = full; padded = padded; builds = 1; acked = false; requested = false; named = false }
+sent_once extent full padded = record {
+  extent = extent;
+  full = full;
+  padded = padded;
+  builds = 1;
+  acked = false;
+  requested = false;
+  named = false;
+}
 
 -- how many SDUs have their length indicators in it
 abbrev pub ends_in : SentPdu → ℕ
@@ -29,7 +46,8 @@ continues_in f = nat_lt 0 f.extent.rest
 abbrev pub at : List SentPdu → ℕ → SentPdu
 at in_flight i = slice_index_or in_flight i blank
 
--- a status names it missing. Unless it is acknowledged, it is requested where it stands high enough, and marked where it stands under the LSN
+-- a status names it missing. Unless it is acknowledged, it is requested where it stands high enough, and marked where
+-- it stands under the LSN
 abbrev pub named_as : Bool → Bool → SentPdu → SentPdu
 named_as high under f = if f.acked then f else record f { named = f.named || under; requested = f.requested || high }
 

@@ -8,7 +8,8 @@ use Rattle.dch_retx.specs.declared.buffer.Pick.{Pick}
 use Rattle.dch_retx.specs.declared.buffer.Pick.TheVariants.{Again, New, Last, NoPdu}
 use Rattle.dch_retx.specs.RetxBuffer.{RetxBuffer}
 
--- the lowest one that is requested, else a new one where the window and unsent matter allow it, else the last one where a poll is owed
+-- the lowest one that is requested, else a new one where the window and unsent matter allow it, else the last one where
+-- a poll is owed
 abbrev pub picked : Bool → RetxBuffer → Pick
 picked left l =
     if nat_lt (first_requested l.in_flight) (length l.in_flight) then Again (first_requested l.in_flight)
@@ -65,7 +66,11 @@ last_line place l = sent_line false (resent place l)
 
 -- a new PDU is in flight. It polls where nothing unsent is left behind it or so many units have ended
 abbrev pub fresh : SentPdu → RetxBuffer → RetxBuffer
-fresh f l = record l { in_flight = l.in_flight ++ f ∷ []; next = wrapped (l.next + 1); ended = counted l.rules.poll_units l.ended (ends_in f) }
+fresh f l = record l {
+  in_flight = l.in_flight ++ f ∷ [];
+  next = wrapped (l.next + 1);
+  ended = counted l.rules.poll_units l.ended (ends_in f);
+}
 
 abbrev pub new_poll : SentPdu → Bool → RetxBuffer → Bool
 new_poll f left l = poll_of (not left || crosses l.rules.poll_units l.ended (ends_in f)) (fresh f l)

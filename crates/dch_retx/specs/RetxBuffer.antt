@@ -1,4 +1,5 @@
--- What a sender keeps of the PDUs that it has sent (TS 25.322 9.4): those in flight, the poll that is out and the discard that runs.
+-- What a sender keeps of the PDUs that it has sent (TS 25.322 9.4): those in flight, the poll that is out and the
+-- discard that runs.
 use Rattle.std.specs.Prelude.{◌≡◌, ◌<◌, ◌≤◌, IfSome, ◌+◌, ◌-◌, ◌||◌, ◌==◌, true, ℕ, List, [], Bool, false, drop, length, min, nat_lt, Option, Some, None, if◌then◌else◌}
 use Rattle.dch_retx.specs.declared.sent_pdu.SentPdu.{SentPdu}
 use Rattle.dch_retx.specs.Flights.{acknowledged, request_cleared, changed_below, front_acked}
@@ -10,8 +11,8 @@ use Rattle.dch_retx.specs.StatusItems.{StatusItem}
 use Rattle.dch_retx.specs.declared.buffer.Running.{Running}
 use Rattle.dch_retx.specs.StatusItem.{below_said, ending_of, first_outside, is_named, reports_some, with_names}
 
--- the PDUs in flight, how many there may be, the number of the next one in 12 bits, the poll timer, the place of the polled PDU, and whether
--- a poll is owed; and the discard that runs
+-- the PDUs in flight, how many there may be, the number of the next one in 12 bits, the poll timer, the place of the
+-- polled PDU, and whether a poll is owed; and the discard that runs
 pub record RetxBuffer : Type 0 where
   pub in_flight : List SentPdu
   pub window : ℕ
@@ -26,7 +27,18 @@ pub record RetxBuffer : Type 0 where
 
 -- at opening
 abbrev pub opened_line : Rules → RetxBuffer
-opened_line rules = record { in_flight = []; window = rules.window; next = 0; poll_timer = 0; polled = 0; owed = false; running = None; rules = rules; built = 0; ended = 0 }
+opened_line rules = record {
+  in_flight = [];
+  window = rules.window;
+  next = 0;
+  poll_timer = 0;
+  polled = 0;
+  owed = false;
+  running = None;
+  rules = rules;
+  built = 0;
+  ended = 0;
+}
 
 -- the number of the PDU in flight at a place
 abbrev pub number_at : ℕ → RetxBuffer → ℕ
@@ -56,7 +68,8 @@ acked_below below in_flight = changed_below acknowledged (min below (length in_f
 
 -- all PDUs below a place are acknowledged, and the discard has ended
 abbrev pub freed : ℕ → RetxBuffer → RetxBuffer
-freed below l = left_front (front_acked (acked_below below l.in_flight)) false (acked_below below l.in_flight) (record l { running = None })
+freed below l = left_front (front_acked (acked_below below l.in_flight)) false (acked_below below l.in_flight)
+    (record l { running = None })
 
 -- below this place nothing is requested while a discard runs
 abbrev pub floor_of : Option Running → ℕ
@@ -65,13 +78,15 @@ floor_of (Some r) = r.at
 
 -- what is said of numbers is heard, where the LSN stands at a place
 abbrev pub named_line : ℕ → List StatusItem → RetxBuffer → List SentPdu
-named_line below said l = with_names (first_number l) (floor_of l.running) (min below (length l.in_flight)) said l.in_flight
+named_line below said l = with_names (first_number l) (floor_of l.running)
+    (min below (length l.in_flight)) said l.in_flight
 
 abbrev pub told_line : ℕ → List StatusItem → RetxBuffer → List SentPdu
 told_line below said l = changed_below acknowledged (min below (length l.in_flight)) (named_line below said l)
 
 abbrev pub listened : ℕ → List StatusItem → RetxBuffer → RetxBuffer
-listened below said l = left_front (front_acked (told_line below said l)) (is_named (first_number l) l.polled said) (told_line below said l) l
+listened below said l = left_front (front_acked (told_line below said l)) (is_named (first_number l) l.polled said)
+    (told_line below said l) l
 
 -- where an MRW_ACK ends the running discard, and the line after it
 abbrev pub ending : List StatusItem → RetxBuffer → Option Running → Option ℕ
@@ -116,7 +131,8 @@ after_answer (Outside i) said l = l
 abbrev pub after_hearing : List StatusItem → RetxBuffer → RetxBuffer
 after_hearing said l = after_answer (answer_of said l) said l
 
--- the ring has room for the window, numbers have 12 bits, and the PDU of a discard is in flight with a place of four bits
+-- the ring has room for the window, numbers have 12 bits, and the PDU of a discard is in flight with a place of four
+-- bits
 pub record IsLine (in_flight : List SentPdu) (capacity window next : ℕ) (running : Option Running) : Type 0 where
   pub room : capacity ≡ window
   pub few : length in_flight ≤ window
@@ -130,11 +146,18 @@ run_timer None = None
 run_timer (Some r) = Some (record r { due = r.due || (r.mrw_timer == 1); mrw_timer = r.mrw_timer - 1 })
 
 abbrev pub ticked : RetxBuffer → RetxBuffer
-ticked l = record l { poll_timer = l.poll_timer - 1; owed = l.owed || (l.poll_timer == 1); running = run_timer l.running }
+ticked l = record l {
+  poll_timer = l.poll_timer - 1;
+  owed = l.owed || (l.poll_timer == 1);
+  running = run_timer l.running;
+}
 
 -- a discard begins with this PDU in flight and this indicator: those before aren't requested
 abbrev pub discarding : ℕ → ℕ → RetxBuffer → RetxBuffer
-discarding place n l = record l { in_flight = changed_below request_cleared place l.in_flight; running = Some (record { at = place; n = n; due = true; mrw_timer = 0 }) }
+discarding place n l = record l {
+  in_flight = changed_below request_cleared place l.in_flight;
+  running = Some (record { at = place; n = n; due = true; mrw_timer = 0 });
+}
 
 -- an MRW is due
 abbrev pub is_due : Option Running → Bool

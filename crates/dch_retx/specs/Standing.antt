@@ -96,7 +96,12 @@ timer_of None = None
 timer_of (Some d) = Some (record d { due = d.due || (d.mrw_timer == 1); mrw_timer = d.mrw_timer - 1 })
 
 abbrev pub timed : Sender → Sender
-timed s = record s { poll_timer = s.poll_timer - 1; owed = s.owed || (s.poll_timer == 1); ticks = s.ticks + 1; discard = timer_of s.discard }
+timed s = record s {
+  poll_timer = s.poll_timer - 1;
+  owed = s.owed || (s.poll_timer == 1);
+  ticks = s.ticks + 1;
+  discard = timer_of s.discard;
+}
 
 -- two PDUs are sent alike
 pub record IsAlike (f g : SentPdu) : Type 0 where

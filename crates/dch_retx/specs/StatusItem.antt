@@ -20,8 +20,8 @@ place_of first x = ahead first (wrapped x)
 abbrev pub is_unknown : ℕ → ℕ → ℕ → ℕ → Bool
 is_unknown window first count x = nat_le count (place_of first x) && nat_lt (place_of first x) (4096 - window)
 
--- what is said is outside: an LSN that isn't the number of one in flight or the next one; a number named missing that isn't one of them;
--- a received one that is unknown
+-- what is said is outside: an LSN that isn't the number of one in flight or the next one; a number named missing that
+-- isn't one of them; a received one that is unknown
 abbrev pub offends : ℕ → ℕ → ℕ → StatusItem → Bool
 offends window first count (Missing x) = nat_le count (place_of first x)
 offends window first count (Unset x) = false
@@ -39,13 +39,15 @@ number_in (Obeyed n sn) = sn
 -- the first number that is outside
 abbrev pub first_outside : ℕ → ℕ → ℕ → List StatusItem → Option ℕ
 first_outside window first count [] = None
-first_outside window first count (said ∷ rest) = if offends window first count said then Some (number_in said) else first_outside window first count rest
+first_outside window first count (said ∷ rest) = if offends window first count said then Some (number_in said)
+    else first_outside window first count rest
 
 -- from which place on the lowest open PDU leaves it outside
 abbrev pub limit_of : ℕ → ℕ → ℕ → StatusItem → ℕ
 limit_of window first count (Missing x) = if nat_lt (place_of first x) count then place_of first x + 1 else 0
 limit_of window first count (Unset x) = 4097
-limit_of window first count (Set x) = if nat_lt (place_of first x) count then 4097 else place_of first x + 1 - (4096 - window)
+limit_of window first count (Set x) = if nat_lt (place_of first x) count then 4097
+    else place_of first x + 1 - (4096 - window)
 limit_of window first count (Below x) = if nat_le (place_of first x) count then place_of first x + 1 else 0
 limit_of window first count (Obeyed n sn) = 4097
 
@@ -68,12 +70,16 @@ is_named first i (said ∷ rest) = names_place first i said || is_named first i 
 
 -- the PDU at a place that is in flight is changed
 abbrev pub changed_at : (SentPdu → SentPdu) → ℕ → List SentPdu → List SentPdu
-changed_at change i in_flight = if nat_lt i (length in_flight) then slice_set in_flight i (change (at in_flight i)) else in_flight
+changed_at change i in_flight = if nat_lt i (length in_flight) then slice_set in_flight i (change (at in_flight i))
+    else in_flight
 
--- the PDUs with one thing more heard, and with all: those named at a place or behind are requested, and those before another place marked
+-- the PDUs with one thing more heard, and with all: those named at a place or behind are requested, and those before
+-- another place marked
 abbrev pub with_name : ℕ → ℕ → ℕ → StatusItem → List SentPdu → List SentPdu
-with_name first from to (Missing x) in_flight = changed_at (named_from from to (place_of first x)) (place_of first x) in_flight
-with_name first from to (Unset x) in_flight = changed_at (named_from from to (place_of first x)) (place_of first x) in_flight
+with_name first from to (Missing x) in_flight = changed_at (named_from from to (place_of first x))
+    (place_of first x) in_flight
+with_name first from to (Unset x) in_flight = changed_at (named_from from to (place_of first x))
+    (place_of first x) in_flight
 with_name first from to (Set x) in_flight = in_flight
 with_name first from to (Below x) in_flight = in_flight
 with_name first from to (Obeyed n sn) in_flight = in_flight
@@ -115,7 +121,8 @@ ends_with first count k indicator (Obeyed n sn) = ends_at first count k indicato
 
 abbrev pub first_ending : ℕ → ℕ → ℕ → ℕ → List StatusItem → Option ℕ
 first_ending first count k indicator [] = None
-first_ending first count k indicator (said ∷ rest) = or_else (ends_with first count k indicator said) (first_ending first count k indicator rest)
+first_ending first count k indicator (said ∷ rest) = or_else (ends_with first count k indicator said)
+    (first_ending first count k indicator rest)
 
 -- the same for the discard that runs, if one does
 abbrev pub ending_of : ℕ → ℕ → Option Running → List StatusItem → Option ℕ

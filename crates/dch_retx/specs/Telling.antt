@@ -16,17 +16,21 @@ pub record IsTold (told : Told) (window first count : ℕ) (running : Option Run
 
 -- the numbers of a field are told, whatever is said behind it
 pub record IsPassed (now told : Told) (window first count : ℕ) (said : List StatusItem) : Type 0 where
-  pub below : (rest : List StatusItem) → unwrap_or told.below (below_said first (said ++ rest)) ≡ unwrap_or now.below (below_said first rest)
-  pub reports : (rest : List StatusItem) → (told.reports || reports_some (said ++ rest)) ≡ (now.reports || reports_some rest)
+  pub below : (rest : List StatusItem) → unwrap_or told.below (below_said first (said ++ rest))
+      ≡ unwrap_or now.below (below_said first rest)
+  pub reports : (rest : List StatusItem) → (told.reports || reports_some (said ++ rest))
+      ≡ (now.reports || reports_some rest)
   pub ending : now.ending ≡ told.ending
   pub small : now.limit ≤ told.limit
-  pub limit_is : (rest : List StatusItem) → min told.limit (limit_in window first count (said ++ rest)) ≡ min now.limit (limit_in window first count rest)
+  pub limit_is : (rest : List StatusItem) → min told.limit (limit_in window first count (said ++ rest))
+      ≡ min now.limit (limit_in window first count rest)
 
 -- so it is with a field that has no LSN
 abbrev pub told_more : Told → Bool → ℕ → Told
 told_more told reports limit = record told { reports = told.reports || reports; limit = min told.limit limit }
 
--- the place below which a field acknowledges all PDUs, where it is an MRW_ACK that ends the discard at a place and with an indicator
+-- the place below which a field acknowledges all PDUs, where it is an MRW_ACK that ends the discard at a place and with
+-- an indicator
 abbrev pub ends_with_indicator : ℕ → ℕ → ℕ → ℕ → Sufi → Option ℕ
 ends_with_indicator first count k indicator NoMore = None
 ends_with_indicator first count k indicator (Window size) = None

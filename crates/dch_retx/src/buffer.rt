@@ -27,7 +27,8 @@ use dch_types::AmRules;
 use std::alloc::Global;
 use std::marker::Model;
 
-/// A discard that runs: its PDU's place among those in flight, the place of its indicator in it, and when an MRW is due.
+/// A discard that runs: its PDU's place among those in flight, the place of its indicator in it, and when an MRW is
+/// due.
 #[derive(Clone, Copy)]
 pub struct Running {
     pub at: u16,
@@ -66,7 +67,18 @@ impl Model for RetxBuffer {
 
     ghost Value = { RetxBuffer };
 
-    ghost view = { λ l. record { in_flight = l.flight.items; window = l.rules.window; next = l.next; poll_timer = l.poll_timer; polled = l.polled; owed = l.owed; running = l.running; rules = rules_of l.buffer l.rules; built = l.built; ended = l.ended } };
+    ghost view = { λ l. record {
+      in_flight = l.flight.items;
+      window = l.rules.window;
+      next = l.next;
+      poll_timer = l.poll_timer;
+      polled = l.polled;
+      owed = l.owed;
+      running = l.running;
+      rules = rules_of l.buffer l.rules;
+      built = l.built;
+      ended = l.ended;
+    } };
 
     ghost invariant = { λ l. IsLine l.flight.items l.flight.capacity l.rules.window l.next l.running };
 }
@@ -161,7 +173,8 @@ impl RetxBuffer {
         ensures outside { result ≢ Taken → self.new ≡ self.old }
         ensures kept { AreKept self.old.in_flight self.new.in_flight }
         // the same over numbers without wrap
-        ensures history { (rules : Rules) (s : Sender) → Stands rules self.old s → (result ≡ status_answer rules s status.now) × Stands rules self.new (after_fields rules s status.now) }
+        ensures history { (rules : Rules) (s : Sender) → Stands rules self.old s →
+            (result ≡ status_answer rules s status.now) × Stands rules self.new (after_fields rules s status.now) }
     {
         self.answer(status)
     }
@@ -186,7 +199,8 @@ impl RetxBuffer {
     /// Which PDU a build gives, where unsent matter is left or not.
     pub fn pick(&self, left: bool) -> Pick
         ensures place { result ≡ picked left self.now }
-        ensures history { (rules : Rules) (s : Sender) → Stands rules self.now s → left ≡ is_left s.unsent → chosen (vt_a s) result ≡ choice rules s }
+        ensures history { (rules : Rules) (s : Sender) → Stands rules self.now s → left ≡ is_left s.unsent →
+            chosen (vt_a s) result ≡ choice rules s }
     {
         self.picks(left)
     }
@@ -214,7 +228,9 @@ impl RetxBuffer {
         requires { place < length self.old.in_flight }
         ensures poll { result ≡ again_poll place self.old }
         ensures after { self.new ≡ again_line place self.old }
-        ensures history { (rules : Rules) (s : Sender) (d : ℕ) → Stands rules self.old s → Sends rules result self.new (again_polls rules s (vt_a s + place)) (after_choice (Again (vt_a s + place)) rules d s) }
+        ensures history { (rules : Rules) (s : Sender) (d : ℕ) → Stands rules self.old s →
+            Sends rules result self.new (again_polls rules s (vt_a s + place))
+            (after_choice (Again (vt_a s + place)) rules d s) }
     {
         self.sends_again(place)
     }
@@ -235,7 +251,9 @@ impl RetxBuffer {
         requires { place < length self.old.in_flight }
         ensures poll { result ≡ last_poll place self.old }
         ensures after { self.new ≡ last_line place self.old }
-        ensures history { (rules : Rules) (s : Sender) (d : ℕ) → Stands rules self.old s → vt_a s + place ≡ vt_s s - 1 → has (vt_a s + place) s.requested ≡ false → Sends rules result self.new (once_more_polls rules s) (after_choice (Last (vt_a s + place)) rules d s) }
+        ensures history { (rules : Rules) (s : Sender) (d : ℕ) → Stands rules self.old s → vt_a s + place ≡ vt_s s - 1 →
+            has (vt_a s + place) s.requested ≡ false → Sends rules result self.new (once_more_polls rules s)
+            (after_choice (Last (vt_a s + place)) rules d s) }
     {
         self.sends_last(place)
     }
@@ -257,7 +275,9 @@ impl RetxBuffer {
         requires is_open { pdu.acked ≡ false }
         ensures poll { result ≡ new_poll pdu left self.old }
         ensures after { self.new ≡ new_line pdu left self.old }
-        ensures history { (rules : Rules) (s : Sender) (d : ℕ) → Stands rules self.old s → IsNew pdu (ends_of (next_body d s.unsent)) → left ≡ is_left (after_body d s.unsent) → Sends rules result self.new (anew_polls rules d s) (after_choice New rules d s) }
+        ensures history { (rules : Rules) (s : Sender) (d : ℕ) → Stands rules self.old s →
+            IsNew pdu (ends_of (next_body d s.unsent)) → left ≡ is_left (after_body d s.unsent) →
+            Sends rules result self.new (anew_polls rules d s) (after_choice New rules d s) }
     {
         self.sends_new(pdu, left)
     }
@@ -318,7 +338,8 @@ impl RetxBuffer {
         requires inside { place < length self.old.in_flight }
         requires indicator { n < 16 }
         ensures after { self.new ≡ discarding place n self.old }
-        ensures history { (rules : Rules) (s : Sender) (i : ℕ) → Stands rules self.old s → Stands rules self.new (discards_at s i (Some (vt_a s + place, n))) }
+        ensures history { (rules : Rules) (s : Sender) (i : ℕ) → Stands rules self.old s →
+            Stands rules self.new (discards_at s i (Some (vt_a s + place, n))) }
     {
         self.begins(place, n);
     }
@@ -359,7 +380,8 @@ impl RetxBuffer {
         requires { is_due self.now.running ≡ true }
         ensures number { result ≡ (number_at (place_in self.now.running) self.now, n_length_in self.now.running) }
         ensures small { (result.0 < 4096) × (result.1 < 16) }
-        ensures history { (rules : Rules) (s : Sender) (d : Discard) → Stands rules self.now s → s.discard ≡ Some d → (result.0 ≡ wrapped d.k) × (result.1 ≡ d.n) }
+        ensures history { (rules : Rules) (s : Sender) (d : Discard) → Stands rules self.now s → s.discard ≡ Some d →
+            (result.0 ≡ wrapped d.k) × (result.1 ≡ d.n) }
     {
         self.moved_to()
     }
@@ -384,7 +406,8 @@ impl RetxBuffer {
     /// The MRW is written.
     pub fn write_mrw(&mut self)
         ensures after { self.new ≡ moving self.old }
-        ensures history { (rules : Rules) (s : Sender) (d : Discard) → Stands rules self.old s → s.discard ≡ Some d → Stands rules self.new (after_mrw rules s d) }
+        ensures history { (rules : Rules) (s : Sender) (d : Discard) → Stands rules self.old s → s.discard ≡ Some d →
+            Stands rules self.new (after_mrw rules s d) }
     {
         self.repeats();
     }
@@ -418,7 +441,8 @@ impl RetxBuffer {
     pub fn restart(&mut self)
         ensures after { self.new ≡ opened_line self.old.rules }
         ensures window { self.new.window ≡ self.old.window }
-        ensures history { (rules : Rules) (s : Sender) → Stands rules self.old s → Stands rules self.new (restarted_sender s) }
+        ensures history { (rules : Rules) (s : Sender) → Stands rules self.old s →
+            Stands rules self.new (restarted_sender s) }
     {
         self.flight.clear();
         self.next = 0;
@@ -448,16 +472,19 @@ impl RetxBuffer {
 
     /// What the status tells as a whole.
     fn told(&self, status: &StatusView<'_>) -> Told
-        ensures told { IsTold result self.now.window (first_number self.now) (length self.now.in_flight) self.now.running (said_by status.now) }
+        ensures told { IsTold result self.now.window (first_number self.now)
+            (length self.now.in_flight) self.now.running (said_by status.now) }
         ensures few { (length self.now.in_flight ≤ self.now.window) × (self.now.window ≤ 2048) }
     {
         tell(status, self.sent_numbers(0), self.running)
     }
 
-    /// The first number of the status that is outside, where the PDU at a place is the lowest open one. The status is walked only where there is one.
+    /// The first number of the status that is outside, where the PDU at a place is the lowest open one. The status is
+    /// walked only where there is one.
     fn outside(&self, status: &StatusView<'_>, told: Told, base: u16) -> Option<u16>
         requires base { base ≤ length self.now.in_flight }
-        requires told { IsTold told self.now.window (first_number self.now) (length self.now.in_flight) self.now.running (said_by status.now) }
+        requires told { IsTold told self.now.window (first_number self.now)
+            (length self.now.in_flight) self.now.running (said_by status.now) }
         ensures { result ≡ outside_from base (said_by status.now) self.now }
     {
         let sent_numbers = self.sent_numbers(base);

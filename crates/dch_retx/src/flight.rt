@@ -11,8 +11,8 @@ use dch_bits::NoMemory;
 use std::alloc::Global;
 use std::marker::Model;
 
-/// The PDUs in flight, the one of the lowest open number first. So many of them are requested as `count` says, at the places in `requests`. So many
-/// acknowledged ones follow an open one as `skips` has at its place.
+/// The PDUs in flight, the one of the lowest open number first. So many of them are requested as `count` says, at the
+/// places in `requests`. So many acknowledged ones follow an open one as `skips` has at its place.
 #[derive(Drop)]
 pub struct Flight {
     ring: HeapCircularBuffer<SentPdu>,
@@ -75,8 +75,8 @@ impl Flight {
         self.skips.push_back(0);
     }
 
-    /// A status names a PDU missing. Unless it is acknowledged, it is requested where it stands at `from` or behind, and marked where it stands
-    /// before `to`.
+    /// A status names a PDU missing. Unless it is acknowledged, it is requested where it stands at `from` or behind,
+    /// and marked where it stands before `to`.
     pub fn name(&mut self, i: usize, from: usize, to: usize)
         requires { i < length self.old.items }
         ensures { self.new ≡ buffer (slice_set self.old.items i (named_from from to i (at self.old.items i))) self.old.capacity }

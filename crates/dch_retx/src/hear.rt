@@ -15,7 +15,8 @@ pub fn place_of(first: u16, number: u16) -> u16
     (number % NUMBERS + NUMBERS - first) % NUMBERS
 }
 
-/// The numbers of the PDUs in flight, by which a status is judged: the window, the number of the first one, and how many there are.
+/// The numbers of the PDUs in flight, by which a status is judged: the window, the number of the first one, and how
+/// many there are.
 #[derive(Clone, Copy)]
 pub struct SentNumbers {
     pub window: u16,

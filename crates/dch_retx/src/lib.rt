@@ -1,4 +1,5 @@
-//! The retransmission buffer of a sender of the acknowledged mode: the PDUs in flight, and what statuses report of them (TS 25.322 9.4, 11.5.3, 11.6.4).
+//! The retransmission buffer of a sender of the acknowledged mode: the PDUs in flight, and what statuses report of them
+//! (TS 25.322 9.4, 11.5.3, 11.6.4).
 #![tactic(auto)]
 
 mod buffer;

@@ -39,8 +39,8 @@ fn set_skip(skips: &mut HeapCircularBuffer<u16>, i: usize, skip: u16)
     }
 }
 
-/// The PDUs before a place are acknowledged, but for those that are marked, which are unmarked. Only open ones are looked at. Answers how many of them
-/// aren't requested any more, whose places go.
+/// The PDUs before a place are acknowledged, but for those that are marked, which are unmarked. Only open ones are
+/// looked at. Answers how many of them aren't requested any more, whose places go.
 pub fn acknowledge_below(
     ring: &mut HeapCircularBuffer<SentPdu>,
     skips: &mut HeapCircularBuffer<u16>,
@@ -69,7 +69,8 @@ pub fn acknowledge_below(
     cleared
 }
 
-/// A PDU is acknowledged, or unmarked where it is marked. Answers whether it was requested and isn't any more. Its place goes then.
+/// A PDU is acknowledged, or unmarked where it is marked. Answers whether it was requested and isn't any more. Its
+/// place goes then.
 fn acknowledge_one(
     ring: &mut HeapCircularBuffer<SentPdu>,
     requests: &mut RequestSet,

@@ -9,8 +9,8 @@ use crate::flight::Flight;
 use crate::hear::place_of;
 use dch_rlcpdu::{Cursor, NUMBERS, StatusView, Sufi};
 
-/// What names do: the number of the first PDU in flight, the place from which named PDUs are requested, the place before which they are marked, and
-/// the place of the PDU that is asked for.
+/// What names do: the number of the first PDU in flight, the place from which named PDUs are requested, the place
+/// before which they are marked, and the place of the PDU that is asked for.
 #[derive(Clone, Copy)]
 pub struct Naming {
     pub first: u16,

@@ -21,8 +21,8 @@ pub fn is_acked(ring: &HeapCircularBuffer<SentPdu>, i: usize) -> bool
     ring.get(i).unwrap().acked
 }
 
-/// Unless it is acknowledged, it is requested where it stands at `from` or behind, and marked where it stands before `to`. Answers whether it is
-/// requested since.
+/// Unless it is acknowledged, it is requested where it stands at `from` or behind, and marked where it stands before
+/// `to`. Answers whether it is requested since.
 pub fn name_at(ring: &mut HeapCircularBuffer<SentPdu>, i: usize, from: usize, to: usize) -> bool
     requires { i < length ring.old.items }
     ensures newly { result ≡ (not (at ring.old.items i).requested && (named_from from to i (at ring.old.items i)).requested) }

@@ -10,8 +10,8 @@ const BITS: usize = 64;
 /// The words of a set. Their bits are as many as numbers are.
 const WORDS: usize = 64;
 
-/// The places of the PDUs in flight that are requested: a bit for each of 4,096 numbers, more than the largest window. PDUs that leave in front move
-/// the first place and no bit.
+/// The places of the PDUs in flight that are requested: a bit for each of 4,096 numbers, more than the largest window.
+/// PDUs that leave in front move the first place and no bit.
 #[derive(Drop)]
 pub struct RequestSet {
     words: [u64; WORDS],

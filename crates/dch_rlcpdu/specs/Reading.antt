@@ -3,8 +3,8 @@ use Rattle.std.specs.Prelude.{◌+◌, ◌-◌, ◌*◌, ◌/◌, ◌%◌, ◌&&
 use Rattle.dch_rlcpdu.specs.Fields.{Field, NoMoreField, WindowField, AckField, ListField, BitmapField, MrwField, MrwAckField}
 use Rattle.dch_rlcpdu.specs.Halves.{halves, half_bit, number_at}
 
--- how many half octets a field of this type has, with this half octet behind the type, which is its LENGTH where it has one:
--- 0 where no such field is known, and where a LIST or an MRW has a LENGTH of 0
+-- how many half octets a field of this type has, with this half octet behind the type, which is its LENGTH where it has
+-- one: 0 where no such field is known, and where a LIST or an MRW has a LENGTH of 0
 abbrev pub size_by : ℕ → ℕ → ℕ
 size_by kind count =
     if kind == 0 then 1 else

@@ -48,7 +48,8 @@ fn put_pair(out: &mut [u8], at: usize, pair: (u16, u8))
     requires place { at + 4 ≤ 2 * length out.old }
     requires number { pair.0 < 4096 }
     requires more { pair.1 < 16 }
-    ensures { (text : List ℕ) → length text ≡ at → IsText out.old text → IsText out.new (text ++ pairs_text (pair ∷ [])) }
+    ensures { (text : List ℕ) → length text ≡ at → IsText out.old text →
+        IsText out.new (text ++ pairs_text (pair ∷ [])) }
 {
     put_number(out, at, pair.0);
     put(out, at + 3, pair.1);
@@ -99,7 +100,8 @@ pub(crate) fn put_status(out: &mut [u8], at: usize, pairs: &[(u16, u8)], lsn: u1
     requires place { at + length (status_text pairs.now lsn) ≤ 2 * length out.old }
     requires pairs { All (λ p. (p.0 < 4096) × (p.1 < 16)) pairs.now }
     requires number { lsn < 4096 }
-    ensures { (text : List ℕ) → length text ≡ at → IsText out.old text → IsText out.new (text ++ status_text pairs.now lsn) }
+    ensures { (text : List ℕ) → length text ≡ at → IsText out.old text →
+        IsText out.new (text ++ status_text pairs.now lsn) }
 {
     let end = put_lists(out, at, pairs);
     put(out, end, 2);

@@ -2,8 +2,8 @@ ghost use Rattle.std.specs.Prelude.{◌≡◌, ◌<◌, ◌≤◌, ◌^◌, Ok, 
 ghost use Rattle.dch_rlcpdu.specs.Am.{am_reading, reset_written, IsAm};
 ghost use Rattle.dch_rlcpdu.specs.AmControl.{reset_text};
 
-/// Writes a RESET, or with `ack` a RESET ACK, of this RSN and HFNI (TS 25.322 9.2.1.7): 4 octets, and zeros in the octets behind them.
-/// A RESET ACK answers the RESET whose RSN it bears.
+/// Writes a RESET, or with `ack` a RESET ACK, of this RSN and HFNI (TS 25.322 9.2.1.7): 4 octets, and zeros in the
+/// octets behind them. A RESET ACK answers the RESET whose RSN it bears.
 pub fn write_reset(ack: bool, rsn: bool, hfni: u32, out: &mut [u8])
     requires number { hfni < 2 ^ 20 }
     requires room { 4 ≤ length out.old }

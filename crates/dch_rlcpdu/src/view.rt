@@ -30,7 +30,8 @@ impl<'a> Model for StatusView<'a> {
 }
 
 impl<'a> StatusView<'a> {
-    /// Reads a list of fields behind the first half octet. None where a field is unknown or empty, or the octets end before NO_MORE or ACK.
+    /// Reads a list of fields behind the first half octet. None where a field is unknown or empty, or the octets end
+    /// before NO_MORE or ACK.
     pub fn read(octets: &'a [u8]) -> Option<StatusView<'a>>
         ensures { result ≡ status_of octets.now }
     {

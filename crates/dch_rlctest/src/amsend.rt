@@ -273,8 +273,8 @@ fn blocks_are_held_until_the_acknowledgement(rt: HostRuntime) {
     assert!(rt; run(rt.alloc(), 2, rules(), &full_buffer()));
 }
 
-// Four units wait, and the second octets of the second and the third PDU are these, where one polls at every so many PDUs, at
-// every so many units and at so many hundredths of the window.
+// Four units wait, and the second octets of the second and the third PDU are these, where one polls at every so many
+// PDUs, at every so many units and at so many hundredths of the window.
 fn polls(alloc: Global, pdus: u16, units: u16, window: u8, second: u8, third: u8) -> bool {
     let mut rules = rules();
     rules.poll_pdus = pdus;

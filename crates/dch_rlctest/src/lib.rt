@@ -1,5 +1,5 @@
-//! Tests of RLC: PDUs, the transparent, the unacknowledged and the acknowledged mode, and the pool of blocks. A crate with tests is proved twice, so they
-//! stand here together.
+//! Tests of RLC: PDUs, the transparent, the unacknowledged and the acknowledged mode, and the pool of blocks. A crate
+//! with tests is proved twice, so they stand here together.
 #![tactic(auto)]
 
 #[cfg(test)]

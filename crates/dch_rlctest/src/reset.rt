@@ -79,7 +79,8 @@ fn arrive(events: &mut Vec<ResetEvent>, to: End, block: u32) -> Result<(), NoMem
     Ok(())
 }
 
-// Both ends work, and what they have built arrives. The first end resets in every seventh round, and so does the second one.
+// Both ends work, and what they have built arrives. The first end resets in every seventh round, and so does the second
+// one.
 fn round(events: &mut Vec<ResetEvent>, number: u16) -> Result<(), NoMemory> {
     if number % 7 == 0 {
         events.push(ResetEvent::Reset { end: End::First })?;

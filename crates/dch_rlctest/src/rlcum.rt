@@ -68,7 +68,8 @@ fn just_full() -> [u8; 18] {
 #[test]
 fn units_of_pdus(rt: HostRuntime) -> Result<(), Fail> {
     let ten = Some((10, 0, 9));
-    // The indicator 0 in PDU 1 ends the unit before it, and in PDU 2, after a loss, one of unknown start. A whole unit stands behind it.
+    // The indicator 0 in PDU 1 ends the unit before it, and in PDU 2, after a loss, one of unknown start. A whole unit
+    // stands behind it.
     let indicator_0 = [0x03, 0x01, 0xfe, 0, 0, 0, 0, 0];
     let behind_a_loss = [0x05, 0x05, 0x09, 0xfe, 7, 7, 8, 9];
     assert!(rt; units_of(rt.alloc(), marked(), indicator_0)? == [ten, None, None]);

@@ -27,7 +27,8 @@ impl Model for TmSend {
 
     ghost view = { λ s. record { units = cut s.sizes.items s.bits.items; buffer = s.sizes.capacity; most = s.most } };
 
-    ghost invariant = { λ s. IsStored s.sizes.items s.bits.items s.most × (s.bits.capacity ≡ s.sizes.capacity * s.most) };
+    ghost invariant = { λ s. IsStored s.sizes.items s.bits.items s.most ×
+        (s.bits.capacity ≡ s.sizes.capacity * s.most) };
 }
 
 impl TmSend {

@@ -8,7 +8,11 @@ use Rattle.dch_rlcum.specs.Sending.{Units}
 
 -- the units from a place on. Where an indicator is owed it is that of the one before
 abbrev pub units_at : List (List ℕ) → Start → Bool → Units
-units_at sdus start owed = record { lengths = sizes (left_at start sdus); sent = start.used; owed = if owed then length (slice_index_or sdus (start.sdu - 1) []) else 0 }
+units_at sdus start owed = record {
+  lengths = sizes (left_at start sdus);
+  sent = start.used;
+  owed = if owed then length (slice_index_or sdus (start.sdu - 1) []) else 0;
+}
 
 -- a place behind some PDUs
 pub record IsPlace (sdus : List (List ℕ)) (start : Start) (owed : Bool) : Type 0 where

@@ -1,4 +1,5 @@
--- A receiver and what came before: the PDUs that came, and how many of the units that ended in them were handed up (TS 25.322 11.2.3).
+-- A receiver and what came before: the PDUs that came, and how many of the units that ended in them were handed up (TS
+-- 25.322 11.2.3).
 use Rattle.std.specs.Prelude.{◌≡◌, ◌+◌, ◌++◌, ◌≤◌, ℕ, List, [], ◌∷◌, Option, Some, None, drop, length, if◌then◌else◌}
 use Rattle.dch_rlcpdu.specs.declared.handed.Handed.{Handed}
 use Rattle.dch_rlcpdu.specs.declared.um.UmView.{UmView}
@@ -38,4 +39,5 @@ handed_after (Some answer) handed = handed + 1
 -- the PDUs that arrived, as they are read, where the first that was sent is PDU k
 abbrev pub arrived_from : ℕ → List ℕ → ℕ → List Sent → List UmView
 arrived_from pdu row k [] = []
-arrived_from pdu row k (x ∷ xs) = if x.arrived then view_of pdu row k x.pdu ∷ arrived_from pdu row (k + 1) xs else arrived_from pdu row (k + 1) xs
+arrived_from pdu row k (x ∷ xs) = if x.arrived then view_of pdu row k x.pdu ∷ arrived_from pdu row (k + 1) xs
+    else arrived_from pdu row (k + 1) xs

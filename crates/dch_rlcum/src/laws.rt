@@ -5,8 +5,8 @@ ghost use Rattle.dch_rlcum.specs.History.{joined, sizes};
 ghost use Rattle.dch_rlcum.specs.Received.{arrived_from, units_in};
 ghost use Rattle.dch_rlcum.specs.Receiving.{opened};
 
-/// A law: whichever PDUs of a sender arrive, a receiver hands up exactly the known units, in order, where fewer than 128
-/// successive PDUs are lost before each PDU that arrives.
+/// A law: whichever PDUs of a sender arrive, a receiver hands up exactly the known units, in order, where fewer than
+/// 128 successive PDUs are lost before each PDU that arrives.
 pub fn known_units_law()
     ensures { (pdu : ℕ) (starts : Bool) (units : List (List ℕ)) (cuts : List ℕ) (arrives : ℕ → Bool) →
         3 ≤ pdu → pdu ≤ 125 → AreUnits units → AreCuts (pdu - 1) starts (sizes units) 0 first_front cuts →
@@ -24,5 +24,6 @@ pub fn read_pdus_law()
 
 /// A law: these are the units that end in the PDUs that arrive, of whatever list of PDUs.
 pub fn arrived_units_law()
-    ensures { (pdu : ℕ) (row : List ℕ) (xs : List Sent) → handed_up pdu row 0 opened xs ≡ units_in (arrived_from pdu row 0 xs) }
+    ensures { (pdu : ℕ) (row : List ℕ) (xs : List Sent) →
+        handed_up pdu row 0 opened xs ≡ units_in (arrived_from pdu row 0 xs) }
 {}

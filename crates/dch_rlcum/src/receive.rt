@@ -44,7 +44,8 @@ impl UmRecv {
     /// No unit that ended waits.
     pub fn settled(&self) -> bool
         ensures settled { result ≡ is_settled self.now }
-        ensures history { (pdus : List UmView) (handed : ℕ) → IsReceiverOf pdus handed self.now → result ≡ (handed == length (units_in pdus)) }
+        ensures history { (pdus : List UmView) (handed : ℕ) → IsReceiverOf pdus handed self.now →
+            result ≡ (handed == length (units_in pdus)) }
     {
         self.units.settled()
     }
@@ -55,7 +56,8 @@ impl UmRecv {
         requires number { p.now.sn < 128 }
         requires small { length p.now.body.indicators + length p.now.body.octets ≤ 124 }
         ensures after { self.new ≡ after_pdu p.now self.old }
-        ensures history { (pdus : List UmView) (handed : ℕ) → IsReceiverOf pdus handed self.old → IsReceiverOf (pdus ++ p.now ∷ []) handed self.new }
+        ensures history { (pdus : List UmView) (handed : ℕ) → IsReceiverOf pdus handed self.old →
+            IsReceiverOf (pdus ++ p.now ∷ []) handed self.new }
     {
         self.take(p);
     }
@@ -82,9 +84,12 @@ impl UmRecv {
         ensures rest { self.new ≡ after_unit self.old }
         ensures none { IfNone result (self.new ≡ self.old) }
         // it is the next of the units that ended in the PDUs that came
-        ensures history { (pdus : List UmView) (handed : ℕ) → IsReceiverOf pdus handed self.old → IsReceiverOf pdus (handed_after result handed) self.new }
-        ensures next { (pdus : List UmView) (handed : ℕ) → IsReceiverOf pdus handed self.old → result ≡ handed_of (drop handed (units_in pdus)) }
-        ensures octets { (pdus : List UmView) (handed : ℕ) → IsReceiverOf pdus handed self.old → out.new ≡ written (drop handed (units_in pdus)) out.old }
+        ensures history { (pdus : List UmView) (handed : ℕ) → IsReceiverOf pdus handed self.old →
+            IsReceiverOf pdus (handed_after result handed) self.new }
+        ensures next { (pdus : List UmView) (handed : ℕ) → IsReceiverOf pdus handed self.old →
+            result ≡ handed_of (drop handed (units_in pdus)) }
+        ensures octets { (pdus : List UmView) (handed : ℕ) → IsReceiverOf pdus handed self.old →
+            out.new ≡ written (drop handed (units_in pdus)) out.old }
     {
         self.hand_up(out)
     }

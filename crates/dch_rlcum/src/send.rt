@@ -12,8 +12,8 @@ use dch_txbuf::{LONGEST_SDU, MOST_PDUS, SduBuffer, Start, next_cut, next_start, 
 use std::alloc::Global;
 use std::marker::Model;
 
-/// The sending side of an unacknowledged bearer. SDUs stand in blocks of 64 octets, which are taken when it is opened, until their length
-/// indicator is built.
+/// The sending side of an unacknowledged bearer. SDUs stand in blocks of 64 octets, which are taken when it is opened,
+/// until their length indicator is built.
 #[derive(Drop)]
 pub struct UmSend {
     sdus: SduBuffer,
@@ -32,7 +32,14 @@ impl Model for UmSend {
 
     ghost Value = { Sending };
 
-    ghost view = { λ s. record { units = units_at s.sdus.items s.start s.owed; row = joined (left_at s.start s.sdus.items); number = s.number; pdu = s.pdu; buffer = s.sdus.capacity; mark_start = s.mark_start } };
+    ghost view = { λ s. record {
+      units = units_at s.sdus.items s.start s.owed;
+      row = joined (left_at s.start s.sdus.items);
+      number = s.number;
+      pdu = s.pdu;
+      buffer = s.sdus.capacity;
+      mark_start = s.mark_start;
+    } };
 
     ghost invariant = { λ s. IsQueue s.sdus.items s.start s.owed × IsFormat s.number s.pdu };
 }
@@ -48,7 +55,14 @@ impl UmSend {
     ) -> Result<UmSend, NoMemory>
         requires from { 3 ≤ pdu }
         requires most { pdu ≤ 125 }
-        ensures empty { IfOk result (λ s. s ≡ record { units = no_units; row = []; number = 0; pdu = pdu; buffer = buffer; mark_start = mark_start }) }
+        ensures empty { IfOk result (λ s. s ≡ record {
+          units = no_units;
+          row = [];
+          number = 0;
+          pdu = pdu;
+          buffer = buffer;
+          mark_start = mark_start;
+        }) }
         ensures history { IfOk result (λ s. IsSenderOf [] [] s) }
     {
         let sdus = SduBuffer::open(alloc, buffer)?;
@@ -67,9 +81,12 @@ impl UmSend {
         ensures answer { result ≡ answer_of unit.now self.old }
         ensures after { self.new ≡ after_offer result unit.now self.old }
         ensures refused { result ≢ Accepted → self.new ≡ self.old }
-        ensures history { (units : List (List ℕ)) (cuts : List ℕ) → IsSenderOf units cuts self.old → IsSenderOf (accepted result unit.now units) cuts self.new }
+        ensures history { (units : List (List ℕ)) (cuts : List ℕ) → IsSenderOf units cuts self.old →
+            IsSenderOf (accepted result unit.now units) cuts self.new }
         // no PDU before is another one for it
-        ensures built { (units : List (List ℕ)) (cuts : List ℕ) → IsSenderOf units cuts self.old → texts self.old.pdu self.old.mark_start (accepted result unit.now units) cuts ≡ texts self.old.pdu self.old.mark_start units cuts }
+        ensures built { (units : List (List ℕ)) (cuts : List ℕ) → IsSenderOf units cuts self.old →
+            texts self.old.pdu self.old.mark_start (accepted result unit.now units) cuts ≡
+            texts self.old.pdu self.old.mark_start units cuts }
     {
         if unit.is_empty() || unit.len() > LONGEST_SDU {
             return Offer::WrongSize;
@@ -86,7 +103,8 @@ impl UmSend {
         ensures count { result ≡ builds 64 self.now.pdu self.now.mark_start self.now.units }
         ensures some { nat_lt 0 result ≡ is_due self.now }
         // so many more PDUs of the list could follow
-        ensures history { (units : List (List ℕ)) (cuts : List ℕ) → IsSenderOf units cuts self.now → IsAvailable 64 self.now.pdu self.now.mark_start units cuts result }
+        ensures history { (units : List (List ℕ)) (cuts : List ℕ) → IsSenderOf units cuts self.now →
+            IsAvailable 64 self.now.pdu self.now.mark_start units cuts result }
     {
         count_pdus(&self.sdus, self.start, self.owed, self.pdu, self.mark_start)
     }
@@ -106,9 +124,12 @@ impl UmSend {
         ensures after { self.new ≡ after_build self.old }
         // the octets are the most that find room with their indicators
         ensures most { IsCarried (room_of self.old.pdu self.old.mark_start self.old.units) 0 self.old.units.lengths (carried_by self.old) }
-        ensures history { (units : List (List ℕ)) (cuts : List ℕ) → IsSenderOf units cuts self.old → IsSenderOf units (cuts ++ length units ∷ []) self.new }
+        ensures history { (units : List (List ℕ)) (cuts : List ℕ) → IsSenderOf units cuts self.old →
+            IsSenderOf units (cuts ++ length units ∷ []) self.new }
         // it is the next of the list of PDUs
-        ensures next { (units : List (List ℕ)) (cuts : List ℕ) → IsSenderOf units cuts self.old → texts self.old.pdu self.old.mark_start units (cuts ++ length units ∷ []) ≡ texts self.old.pdu self.old.mark_start units cuts ++ out.new ∷ [] }
+        ensures next { (units : List (List ℕ)) (cuts : List ℕ) → IsSenderOf units cuts self.old →
+            texts self.old.pdu self.old.mark_start units (cuts ++ length units ∷ []) ≡
+            texts self.old.pdu self.old.mark_start units cuts ++ out.new ∷ [] }
     {
         self.write_next(out);
     }

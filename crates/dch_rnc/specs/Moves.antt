@@ -25,9 +25,11 @@ use Rattle.dch_rnc.specs.Steps.{sent_line, sent_lines}
 use Rattle.dch_rnc.specs.Values.{rx_set_at}
 
 -- layer 2 took the readings of all channels of a set
-abbrev pub TakesSet : {S : Type 0} → (S → Line → S → Type 0) → Planned → ℕ → HeldSet → LayerRunning → LayerRunning → S → S → Type 0
+abbrev pub TakesSet : {S : Type 0} → (S → Line → S → Type 0) → Planned → ℕ → HeldSet → LayerRunning → LayerRunning → S
+    → S → Type 0
 TakesSet shows planned set held old new before after =
-    HasRead shows planned.config Up (set_readings planned.config.uplink.side set held) (length planned.config.uplink.side.channels) old new before after
+    HasRead shows planned.config Up (set_readings planned.config.uplink.side set held)
+    (length planned.config.uplink.side.channels) old new before after
 
 -- blocks that were read of a frame
 pub record IsFilled (planned : Planned) (set : ℕ) (octets : List ℕ) (held : HeldSet) : Type 0 where
@@ -47,7 +49,8 @@ pub record IsRefused {S : Type 0} (shows : S → Line → S → Type 0) (planned
   pub same : new ≡ old
   pub shown : shows before (IubBad Up set (refusal_number error)) after
 
-abbrev pub Answers : {S : Type 0} → (S → Line → S → Type 0) → Planned → ℕ → List ℕ → Bool → HeldSet → LayerRunning → LayerRunning → S → S → Type 0
+abbrev pub Answers : {S : Type 0} → (S → Line → S → Type 0) → Planned → ℕ → List ℕ → Bool → HeldSet → LayerRunning
+    → LayerRunning → S → S → Type 0
 Answers shows planned set octets true held old new before after = IsTaken shows planned set octets held old new before after
 Answers shows planned set octets false held old new before after = IsRefused shows planned set octets old new before after
 
@@ -65,7 +68,8 @@ pub record IsSameBlocks (given held : Held) : Type 0 where
 -- of the first channels those of a set have the blocks that layer 2 gave to them
 abbrev pub AreFilledTo : Config → ℕ → ℕ → LayerRunning → HeldSet → Type 0
 AreFilledTo config count set v held =
-    (i : ℕ) → i < count → (channel_at config.downlink.side i).set ≡ set → IsSameBlocks (held_at v.given i) (held_at held.blocks i)
+    (i : ℕ) → i < count → (channel_at config.downlink.side i).set ≡ set
+    → IsSameBlocks (held_at v.given i) (held_at held.blocks i)
 
 -- all channels of a set
 abbrev pub AreFilled : Config → ℕ → LayerRunning → HeldSet → Type 0
@@ -81,7 +85,8 @@ pub record IsFrameOf (config : Config) (cfn : ℕ) (v : LayerRunning) (set : ℕ
 -- a set whose TTI starts gives its frame, and no other one does
 abbrev pub Gives : Config → ℕ → LayerRunning → ℕ → Option (List ℕ) → Type 0
 Gives config cfn v set None = starts (set_frames config.downlink.side set) cfn ≡ false
-Gives config cfn v set (Some octets) = (starts (set_frames config.downlink.side set) cfn ≡ true) × IsFrameOf config cfn v set octets
+Gives config cfn v set (Some octets) = (starts (set_frames config.downlink.side set) cfn ≡ true)
+    × IsFrameOf config cfn v set octets
 
 -- a set was served
 pub record Serves {S : Type 0} (shows : S → Line → S → Type 0) (planned : Planned) (cfn : ℕ) (v : LayerRunning) (set : ℕ) (tx_buffer : IubTxBuffer) (before after : S) : Type 0 where

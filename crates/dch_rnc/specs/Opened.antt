@@ -59,7 +59,8 @@ abbrev pub Holds : Planned → Option Next → Type 0
 Holds planned None = ⊥
 Holds planned (Some next) = IsNext planned next
 
--- a second configuration can follow the first one: each bearer is kept, and the network controller holds new parts for it
+-- a second configuration can follow the first one: each bearer is kept, and the network controller holds new parts for
+-- it
 pub record HasNext (first second : Planned) (node : Node) : Type 0 where
   pub kept : (b : ℕ) → KeepsBearer first.config second.config b
   pub parts : Holds second node.next

@@ -31,7 +31,8 @@ pub record SendsDown (config : Config) (b : ℕ) : Type 0 where
   pub there : b < length config.bearers
   pub sends : IsSome (channel_of config Down b)
 
--- an event that may come: its bearer sends in the downlink, its combination is one of the downlink, its set exists in the uplink
+-- an event that may come: its bearer sends in the downlink, its combination is one of the downlink, its set exists in
+-- the uplink
 abbrev pub MayCome : Planned → RncEvent → Type 0
 MayCome planned (Offered b octets bits) = SendsDown planned.config b
 MayCome planned (Block c on) = c < length planned.config.downlink.side.combinations
@@ -39,7 +40,8 @@ MayCome planned (Iub set frame) = has_set planned.config.uplink.side set ≡ tru
 MayCome planned Ticks = Unit {0}
 MayCome planned Changes = Unit {0}
 
--- the network controller is open for the configuration that is active: before a change that is another one, which this one can follow
+-- the network controller is open for the configuration that is active: before a change that is another one, which this
+-- one can follow
 abbrev pub IsReadyFor : Planned → RncEvent → Node → Type 0
 IsReadyFor planned (Offered b octets bits) node = IsNodeOf planned node
 IsReadyFor planned (Block c on) node = IsNodeOf planned node
@@ -57,7 +59,8 @@ IsActiveBefore planned Changes before node = HasNext before planned node
 
 -- the network controller still holds its parts for a second configuration, if it did; a change takes them
 abbrev pub KeepsNext : Planned → RncEvent → Node → Node → Type 0
-KeepsNext planned (Offered b octets bits) old new = (second : Planned) → HasNext planned second old → HasNext planned second new
+KeepsNext planned (Offered b octets bits) old new = (second : Planned) → HasNext planned second old
+    → HasNext planned second new
 KeepsNext planned (Block c on) old new = (second : Planned) → HasNext planned second old → HasNext planned second new
 KeepsNext planned (Iub set frame) old new = (second : Planned) → HasNext planned second old → HasNext planned second new
 KeepsNext planned Ticks old new = (second : Planned) → HasNext planned second old → HasNext planned second new
@@ -69,8 +72,8 @@ blocks_read Nothing = None
 blocks_read (Read held) = Some held
 blocks_read (Bad frame) = None
 
--- a network controller that was opened for a configuration stands for a state in which that is active, but for what the last step
--- read; and for that too
+-- a network controller that was opened for a configuration stands for a state in which that is active, but for what the
+-- last step read; and for that too
 pub record IsAt (planned : Planned) (state : State) (node : Node) : Type 0 where
   pub active : state.planned ≡ planned
   pub cfn : node.cfn ≡ state.cfn
@@ -78,7 +81,8 @@ pub record IsAt (planned : Planned) (state : State) (node : Node) : Type 0 where
 
 pub record Represents (planned : Planned) (state : State) (node : Node) : Type 0 where
   pub at : IsAt planned state node
-  pub readings : (i : ℕ) → i < length planned.config.uplink.side.channels → taken_shown node i ≡ blocks_read (state.readings i)
+  pub readings : (i : ℕ) → i < length planned.config.uplink.side.channels → taken_shown node i
+      ≡ blocks_read (state.readings i)
 
 -- it shows the Iub frames that the last step sent
 pub record Shows (output : Output) (node : Node) : Type 0 where
@@ -93,12 +97,13 @@ pub record NothingShown (node : Node) : Type 0 where
 abbrev pub Stepped : Planned → State → Event → Node → (List Line → Type 0) → Type 0
 Stepped planned old event node Says = TakesStep Steps (Represents planned) Shows old event node Says
 
--- a network controller stands for what happened since it was opened for a configuration, with the lines of all of them; this one is
--- active now
+-- a network controller stands for what happened since it was opened for a configuration, with the lines of all of them;
+-- this one is active now
 abbrev pub RepresentsHistory : Planned → Planned → ℕ → List Event → List Line → Node → Type 0
 RepresentsHistory began planned first events lines node = HasHistory Steps (Represents planned) Shows (opened_state began first) events lines node
 
 -- one more event, with the lines of which whoever is told is told
-abbrev pub ExtendsHistory : Planned → Planned → ℕ → List Event → List Line → Event → Node → (List Line → Type 0) → Type 0
+abbrev pub ExtendsHistory : Planned → Planned → ℕ → List Event → List Line → Event → Node → (List Line → Type 0)
+    → Type 0
 ExtendsHistory began planned first events lines event node Says =
     HasLongerHistory Steps (Represents planned) Shows (opened_state began first) events lines event node Says

@@ -20,17 +20,20 @@ use Rattle.dch_layer2.specs.Joined.{CarriesGiven}
 use Rattle.dch_layer2.specs.Reading.{reads_below}
 use Rattle.dch_rnc.specs.State.{Change, Event, OfferedUnit, BlockedCombination, IubFrame, Tick, State, changed, no_readings, set_readings, ticking, with_layer}
 
--- an Iub frame is read, whatever its CFN is, and the blocks of its channels go up in rising order of channels (TS 25.427 6.2)
+-- an Iub frame is read, whatever its CFN is, and the blocks of its channels go up in rising order of channels (TS
+-- 25.427 6.2)
 pub record IsReadFrame (planned : Planned) (old : State) (set : ℕ) (octets : List ℕ) (new : State) (output : Output) : Type 0 where
   pub cfn : ℕ
   pub qe : ℕ
   pub held : HeldSet
   pub read : IsReadForm planned.config Up set octets cfn qe held
   pub state : new ≡ record old {
-    layer = (reads_below planned.config Up (set_readings planned.config.uplink.side set held) (length planned.config.uplink.side.channels) old.layer).layer;
+    layer = (reads_below planned.config Up (set_readings planned.config.uplink.side set held)
+        (length planned.config.uplink.side.channels) old.layer).layer;
     readings = set_readings planned.config.uplink.side set held;
   }
-  pub reported : output ≡ says (reads_below planned.config Up (set_readings planned.config.uplink.side set held) (length planned.config.uplink.side.channels) old.layer).lines
+  pub reported : output ≡ says (reads_below planned.config Up (set_readings planned.config.uplink.side set held)
+      (length planned.config.uplink.side.channels) old.layer).lines
 
 -- it is refused: this is reported, and nothing changes
 pub record IsRefusedFrame (planned : Planned) (old : State) (set : ℕ) (octets : List ℕ) (new : State) (output : Output) : Type 0 where
@@ -40,9 +43,11 @@ pub record IsRefusedFrame (planned : Planned) (old : State) (set : ℕ) (octets 
   pub reported : output ≡ says (IubBad Up set (refusal_number error) ∷ [])
 
 abbrev pub IsArrival : Planned → State → ℕ → List ℕ → State → Output → Type 0
-IsArrival planned old set octets new output = IsReadFrame planned old set octets new output ⊎ IsRefusedFrame planned old set octets new output
+IsArrival planned old set octets new output = IsReadFrame planned old set octets new output
+    ⊎ IsRefusedFrame planned old set octets new output
 
--- a downlink Iub frame of a set: the blocks that its channels were given, and the CFN at which their TTI starts (TS 25.427 6.2)
+-- a downlink Iub frame of a set: the blocks that its channels were given, and the CFN at which their TTI starts (TS
+-- 25.427 6.2)
 pub record IsDownlinkFrame (config : Config) (cfn : ℕ) (layer : Layer) (set : ℕ) (octets : List ℕ) : Type 0 where
   pub held : HeldSet
   pub given : ForSet config.downlink.side set (λ i. CarriesGiven (layer.given i) (held_at held.blocks i))
@@ -52,7 +57,8 @@ pub record IsDownlinkFrame (config : Config) (cfn : ℕ) (layer : Layer) (set : 
 -- a set whose TTI starts gives a frame, and no other one does
 abbrev pub IsSent : Config → ℕ → Layer → ℕ → Option (List ℕ) → Type 0
 IsSent config cfn layer set None = starts (set_frames config.downlink.side set) cfn ≡ false
-IsSent config cfn layer set (Some octets) = (starts (set_frames config.downlink.side set) cfn ≡ true) × IsDownlinkFrame config cfn layer set octets
+IsSent config cfn layer set (Some octets) = (starts (set_frames config.downlink.side set) cfn ≡ true)
+    × IsDownlinkFrame config cfn layer set octets
 
 -- the line on a frame, and those of the first sets
 abbrev pub sent_line : ℕ → Option (List ℕ) → List Line

@@ -9,8 +9,8 @@ use Rattle.dch_layer2.specs.Values.{LayerRunning, NextLayer}
 abbrev pub rx_set_at : List HeldSet → ℕ → HeldSet
 rx_set_at rx_sets s = slice_index_or rx_sets s (record { set = 0; idle = []; blocks = [] })
 
--- the parts beside layer 2 that are made for a configuration: the set of each uplink channel, the blocks that came for each set, and
--- the downlink Iub frames
+-- the parts beside layer 2 that are made for a configuration: the set of each uplink channel, the blocks that came for
+-- each set, and the downlink Iub frames
 pub record Parts : Type 0 where
   pub channel_sets : List ℕ
   pub rx_sets : List HeldSet
@@ -21,8 +21,8 @@ pub record Next : Type 0 where
   pub layer : NextLayer
   pub parts : Parts
 
--- the CFN, layer 2, the set of each uplink channel, the blocks that came for each set, the set whose frame the last step read, if
--- any, the downlink Iub frames, and what is held for a second configuration, if there is one
+-- the CFN, layer 2, the set of each uplink channel, the blocks that came for each set, the set whose frame the last
+-- step read, if any, the downlink Iub frames, and what is held for a second configuration, if there is one
 pub record Node : Type 0 where
   pub cfn : ℕ
   pub layer : LayerRunning
@@ -33,7 +33,15 @@ pub record Node : Type 0 where
   pub next : Option Next
 
 abbrev pub node_of : ℕ → LayerRunning → Option ℕ → Parts → Option Next → Node
-node_of cfn layer read parts next = record { cfn = cfn; layer = layer; channel_sets = parts.channel_sets; rx_sets = parts.rx_sets; read = read; tx_buffers = parts.tx_buffers; next = next }
+node_of cfn layer read parts next = record {
+  cfn = cfn;
+  layer = layer;
+  channel_sets = parts.channel_sets;
+  rx_sets = parts.rx_sets;
+  read = read;
+  tx_buffers = parts.tx_buffers;
+  next = next;
+}
 
 -- the octets of an Iub frame that the last step sent
 abbrev pub iub_shown : Node → ℕ → Option (List ℕ)

@@ -28,7 +28,8 @@ fn fill(accepted: &Accepted, set: u8, layer: &Layer2, blocks: &mut SetBlocks)
     }
 }
 
-/// Serves a set: where its TTI starts at the CFN, what layer 2 gave to its channels is sent in an Iub frame (TS 25.427 6.2).
+/// Serves a set: where its TTI starts at the CFN, what layer 2 gave to its channels is sent in an Iub frame (TS 25.427
+/// 6.2).
 fn send_set<U: Indications>(
     accepted: &Accepted,
     set: u8,

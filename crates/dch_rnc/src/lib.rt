@@ -1,4 +1,5 @@
-//! The network controller: units become downlink Iub frames, and uplink Iub frames become units, one step for each event.
+//! The network controller: units become downlink Iub frames, and uplink Iub frames become units, one step for each
+//! event.
 #![tactic(auto)]
 
 mod downlink;

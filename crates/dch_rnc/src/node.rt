@@ -66,8 +66,8 @@ impl Model for Rnc {
 }
 
 impl Rnc {
-    /// Takes all memory for a configuration. The TTIs that start with the first tick have this CFN, every channel runs its idle
-    /// format, no combination is blocked, and no unit waits.
+    /// Takes all memory for a configuration. The TTIs that start with the first tick have this CFN, every channel runs
+    /// its idle format, no combination is blocked, and no unit waits.
     pub fn open(alloc: Global, accepted: &Accepted, first_cfn: u8) -> Result<Rnc, NoMemory>
         requires { first_cfn % 8 ≡ 0 }
         ensures opened { IfOk result (IsNodeOf accepted.now) }
@@ -83,7 +83,8 @@ impl Rnc {
         })
     }
 
-    /// Opens a network controller for a first configuration, and takes all memory for a second one besides, which can follow it.
+    /// Opens a network controller for a first configuration, and takes all memory for a second one besides, which can
+    /// follow it.
     pub fn open_both(
         alloc: Global,
         first: &Accepted,
@@ -105,7 +106,8 @@ impl Rnc {
         })
     }
 
-    /// Takes one event, and tells what it does, in the configuration that is active; for a change that is the second one.
+    /// Takes one event, and tells what it does, in the configuration that is active; for a change that is the second
+    /// one.
     pub fn step_with<U: Indications>(
         &mut self,
         accepted: &Accepted,
@@ -115,10 +117,13 @@ impl Rnc {
         requires opened { IsReadyFor accepted.now event self.old }
         requires event { MayCome accepted.now event }
         ensures opened { IsNodeOf accepted.now self.new }
-        ensures step { (before : Planned) (state : State) → IsActiveBefore accepted.now event.entry before self.old → Represents before state self.old →
+        ensures step { (before : Planned) (state : State) → IsActiveBefore accepted.now event.entry before self.old →
+            Represents before state self.old →
             Stepped accepted.now state (event_of accepted.now event.entry) self.new (Tells U.shows user.old user.new) }
-        ensures history { (began before : Planned) (first : ℕ) (events : List Event) (lines : List Line) → IsActiveBefore accepted.now event.entry before self.old →
-            RepresentsHistory began before first events lines self.old → ExtendsHistory began accepted.now first events lines (event_of accepted.now event.entry) self.new (Tells U.shows user.old user.new) }
+        ensures history { (began before : Planned) (first : ℕ) (events : List Event) (lines : List Line) →
+            IsActiveBefore accepted.now event.entry before self.old →
+            RepresentsHistory began before first events lines self.old →
+            ExtendsHistory began accepted.now first events lines (event_of accepted.now event.entry) self.new (Tells U.shows user.old user.new) }
         ensures next { KeepsNext accepted.now event.entry self.old self.new }
         ensures few { TellsFew U.shows (step_bytes accepted.now.config) user.old user.new }
     {
@@ -127,17 +132,20 @@ impl Rnc {
         self.happen(accepted, event, user);
     }
 
-    /// Takes one event, and reports what it does, in the configuration that is active; for a change that is the second one. The
-    /// report has room for what one step may write.
+    /// Takes one event, and reports what it does, in the configuration that is active; for a change that is the second
+    /// one. The report has room for what one step may write.
     pub fn step(&mut self, accepted: &Accepted, event: RncEvent<'_>, report: &mut Report)
         requires opened { IsReadyFor accepted.now event self.old }
         requires event { MayCome accepted.now event }
         requires room { HasRoomFor report.old (step_bytes accepted.now.config) }
         ensures opened { IsNodeOf accepted.now self.new }
-        ensures step { (before : Planned) (state : State) → IsActiveBefore accepted.now event.entry before self.old → Represents before state self.old →
+        ensures step { (before : Planned) (state : State) → IsActiveBefore accepted.now event.entry before self.old →
+            Represents before state self.old →
             Stepped accepted.now state (event_of accepted.now event.entry) self.new (AddsLines report.old.text report.new.text) }
-        ensures history { (began before : Planned) (first : ℕ) (events : List Event) (lines : List Line) → IsActiveBefore accepted.now event.entry before self.old →
-            RepresentsHistory began before first events lines self.old → ExtendsHistory began accepted.now first events lines (event_of accepted.now event.entry) self.new (AddsLines report.old.text report.new.text) }
+        ensures history { (began before : Planned) (first : ℕ) (events : List Event) (lines : List Line) →
+            IsActiveBefore accepted.now event.entry before self.old →
+            RepresentsHistory began before first events lines self.old →
+            ExtendsHistory began accepted.now first events lines (event_of accepted.now event.entry) self.new (AddsLines report.old.text report.new.text) }
         ensures next { KeepsNext accepted.now event.entry self.old self.new }
         ensures few { length report.new.text ≤ length report.old.text + step_bytes accepted.now.config }
         ensures most { report.new.most ≡ report.old.most }
@@ -182,7 +190,8 @@ impl Rnc {
         requires opened { IsReadyFor accepted.now event self.old }
         requires event { MayCome accepted.now event }
         ensures opened { IsNodeOf accepted.now self.new }
-        ensures step { (before : Planned) (state : State) → IsActiveBefore accepted.now event.entry before self.old → Represents before state self.old →
+        ensures step { (before : Planned) (state : State) → IsActiveBefore accepted.now event.entry before self.old →
+            Represents before state self.old →
             Stepped accepted.now state (event_of accepted.now event.entry) self.new (Tells U.shows user.old user.new) }
         ensures next { KeepsNext accepted.now event.entry self.old self.new }
     {
@@ -204,7 +213,8 @@ impl Rnc {
     fn clear_shown(&mut self)
         ensures opened { (planned : Planned) → IsNodeOf planned self.old → IsNodeOf planned self.new }
         ensures quiet { NothingShown self.new }
-        ensures stands { (planned : Planned) (state : State) → Represents planned state self.old → IsAt planned state self.new }
+        ensures stands { (planned : Planned) (state : State) → Represents planned state self.old →
+            IsAt planned state self.new }
         ensures next { self.new.next ≡ self.old.next }
     {
         self.read = None;
@@ -216,7 +226,8 @@ impl Rnc {
         requires opened { CanChange accepted.now self.old }
         requires quiet { NothingShown self.old }
         ensures opened { IsNodeOf accepted.now self.new }
-        ensures step { (before : Planned) (state : State) → HasNext before accepted.now self.old → IsAt before state self.old →
+        ensures step { (before : Planned) (state : State) → HasNext before accepted.now self.old →
+            IsAt before state self.old →
             Stepped accepted.now state (Change accepted.now) self.new AreNone }
         ensures next { self.new.next ≡ None }
     {
@@ -239,7 +250,8 @@ impl Rnc {
         requires quiet { NothingShown self.old }
         requires bearer { SendsDown accepted.now.config bearer }
         ensures opened { IsNodeOf accepted.now self.new }
-        ensures step { (state : State) → IsAt accepted.now state self.old → Stepped accepted.now state (OfferedUnit bearer octets.now bits.now) self.new (Tells U.shows user.old user.new) }
+        ensures step { (state : State) → IsAt accepted.now state self.old →
+            Stepped accepted.now state (OfferedUnit bearer octets.now bits.now) self.new (Tells U.shows user.old user.new) }
         ensures next { self.new.next ≡ self.old.next }
     {
         let answer = self.layer.offer(bearer, octets, bits);
@@ -252,7 +264,8 @@ impl Rnc {
         requires quiet { NothingShown self.old }
         requires combination { combination < length accepted.now.config.downlink.side.combinations }
         ensures opened { IsNodeOf accepted.now self.new }
-        ensures step { (state : State) → IsAt accepted.now state self.old → Stepped accepted.now state (BlockedCombination combination on) self.new AreNone }
+        ensures step { (state : State) → IsAt accepted.now state self.old →
+            Stepped accepted.now state (BlockedCombination combination on) self.new AreNone }
         ensures next { self.new.next ≡ self.old.next }
     {
         self.layer.block(combination, on);
@@ -270,7 +283,8 @@ impl Rnc {
         requires quiet { NothingShown self.old }
         requires set { has_set accepted.now.config.uplink.side set ≡ true }
         ensures opened { IsNodeOf accepted.now self.new }
-        ensures step { (state : State) → IsAt accepted.now state self.old → Stepped accepted.now state (IubFrame set frame.now) self.new (Tells U.shows user.old user.new) }
+        ensures step { (state : State) → IsAt accepted.now state self.old →
+            Stepped accepted.now state (IubFrame set frame.now) self.new (Tells U.shows user.old user.new) }
         ensures next { self.new.next ≡ self.old.next }
     {
         // What is reported of an Iub frame is limited in a good configuration.
@@ -287,12 +301,14 @@ impl Rnc {
         }
     }
 
-    /// 10 ms have passed: the timers tick, TTIs start, and the Iub frames of the sets that start are sent. The CFN goes on.
+    /// 10 ms have passed: the timers tick, TTIs start, and the Iub frames of the sets that start are sent. The CFN goes
+    /// on.
     fn tick<U: Indications>(&mut self, accepted: &Accepted, user: &mut U)
         requires opened { IsNodeOf accepted.now self.old }
         requires quiet { NothingShown self.old }
         ensures opened { IsNodeOf accepted.now self.new }
-        ensures step { (state : State) → IsAt accepted.now state self.old → Stepped accepted.now state Tick self.new (Tells U.shows user.old user.new) }
+        ensures step { (state : State) → IsAt accepted.now state self.old →
+            Stepped accepted.now state Tick self.new (Tells U.shows user.old user.new) }
         ensures next { self.new.next ≡ self.old.next }
     {
         self.layer.tick();

@@ -40,7 +40,8 @@ pub struct Next {
 }
 
 impl Next {
-    /// Takes all memory for a configuration. No combination is blocked, every channel runs its idle format, and no frame was sent.
+    /// Takes all memory for a configuration. No combination is blocked, every channel runs its idle format, and no
+    /// frame was sent.
     pub fn open(alloc: Global, accepted: &Accepted) -> Result<Next, NoMemory>
         ensures { IfOk result (λ next. IsNext accepted.now (next_of next)) }
     {

@@ -27,7 +27,8 @@ pub fn rx_sets(alloc: Global, accepted: &Accepted) -> Result<Vec<SetBlocks>, NoM
     Ok(rx_sets)
 }
 
-/// Reads the Iub frame of a set, and gives its blocks to layer 2; or tells why it is refused. Answers whether it was read.
+/// Reads the Iub frame of a set, and gives its blocks to layer 2; or tells why it is refused. Answers whether it was
+/// read.
 pub fn receive<U: Indications>(
     accepted: &Accepted,
     set: u8,

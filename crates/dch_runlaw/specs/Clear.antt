@@ -16,14 +16,17 @@ pub record FrameClear (old new : LinkState) (lines : List Line) (f : IsFrame old
   pub iub_up : (s : ℕ) → s < 8 → iub_after old.damage Up s (f.up_output.iub s) ≡ f.up_output.iub s
 
 -- in the radio frame that an event is, if it is one
-abbrev pub EventClear : (old : LinkState) → (event : Event) → (new : LinkState) → (lines : List Line) → Steps old event new lines → Type 0
+abbrev pub EventClear : (old : LinkState) → (event : Event) → (new : LinkState) → (lines : List Line)
+    → Steps old event new lines → Type 0
 EventClear old (Between event) new lines step = Unit {0}
 EventClear old Frame new lines step = FrameClear old new lines step.frame
 
 -- in each radio frame of a run no damage has an effect: what each node sends arrives as it was sent
-abbrev pub IsClear : (events : List Event) → (old new : LinkState) → (lines : List Line) → Runs old events new lines → Type 0
+abbrev pub IsClear : (events : List Event) → (old new : LinkState) → (lines : List Line) → Runs old events new lines
+    → Type 0
 IsClear [] old new lines run = Unit {0}
-IsClear (event ∷ events) old new lines run = EventClear old event run.next run.own run.step × IsClear events run.next new run.rest run.later
+IsClear (event ∷ events) old new lines run = EventClear old event run.next run.own run.step
+    × IsClear events run.next new run.rest run.later
 
 -- an event between two radio frames does no damage
 abbrev pub IsHarmless : LinkEvent → Type 0

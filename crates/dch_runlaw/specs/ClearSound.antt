@@ -2,7 +2,8 @@
 use Rattle.std.specs.Prelude.{◌≡◌, List, [], ◌∷◌, Bool, true, false}
 use Rattle.dch_node.specs.Lines.{Line, Took, Full, Wrong, Bad, Reserved, NoBearer, Nobody, PduBad, Outside, Overlong, Got, GotBits, Iub, IubBad, Phy, PhyNone, BadTti, Differs}
 
--- a downlink radio frame is sent, no TTI is lost, no block is bad or another one than was given, and no Iub frame is refused
+-- a downlink radio frame is sent, no TTI is lost, no block is bad or another one than was given, and no Iub frame is
+-- refused
 abbrev pub is_sound : Line → Bool
 is_sound (Took dir b) = true
 is_sound (Full dir b) = true

@@ -53,7 +53,8 @@ changed_among sent received at (suc n) = changed_among sent received at n + chan
 abbrev pub cell_at : List Trit → ℕ → Trit
 cell_at cells p = slice_index_or cells p Off
 
--- among those of coded bit j of an uplink TTI of so many bits, whose radio frames are sent in a sequence of combinations
+-- among those of coded bit j of an uplink TTI of so many bits, whose radio frames are sent in a sequence of
+-- combinations
 abbrev pub uplink_changes : Planned → ℕ → List ℕ → RxFrames → RxFrames → ℕ → ℕ → ℕ
 uplink_changes planned i sequence sent received len j =
     let side = planned.config.uplink.side in
@@ -62,7 +63,8 @@ uplink_changes planned i sequence sent received len j =
     let m = place_of (channel_at side i).frames len j in
     let cells = channel_cells (plan_at planned.uplink c) i in
     let kind = (pattern_in planned i n c).kind in
-    changed_among (cell_at (cells (frame_at side sent i n).cells)) (cell_at (cells (frame_at side received i n).cells)) (copies_below kind m) (copies kind m)
+    changed_among (cell_at (cells (frame_at side sent i n).cells)) (cell_at (cells (frame_at side received i n).cells))
+    (copies_below kind m) (copies kind m)
 
 -- and of a downlink TTI in format f
 abbrev pub downlink_changes : Planned → ℕ → ℕ → RxFrames → RxFrames → ℕ → ℕ
@@ -73,7 +75,8 @@ downlink_changes planned i f sent received j =
 
 -- and among those of code block r
 abbrev pub block_changes : Coding → Plan → (ℕ → ℕ) → ℕ → ℕ
-block_changes coding plan changes r = total (λ t. changes (r * coded_block coding plan.size + t)) (coded_block coding plan.size)
+block_changes coding plan changes r = total (λ t. changes (r * coded_block coding plan.size + t))
+    (coded_block coding plan.size)
 
 -- in code block r fewer than half of the copies that tell it from others have changed
 pub record IsFewChanged (coding : Coding) (plan : Plan) (copies changes : ℕ → ℕ) (r : ℕ) : Type 0 where
@@ -97,14 +100,17 @@ AreLittleChanged side i f least changes =
 
 -- the radio frames of a TTI of channel i are kept in the same combinations
 abbrev pub AreSameCombinations : Side → ℕ → RxFrames → RxFrames → Type 0
-AreSameCombinations side i sent received = (n : ℕ) → n < (channel_at side i).frames → (frame_at side received i n).combination ≡ (frame_at side sent i n).combination
+AreSameCombinations side i sent received = (n : ℕ) → n < (channel_at side i).frames
+    → (frame_at side received i n).combination ≡ (frame_at side sent i n).combination
 
--- blocks were sent in the uplink, and the radio frames of their TTI are kept in their combinations, with few cells changed
+-- blocks were sent in the uplink, and the radio frames of their TTI are kept in their combinations, with few cells
+-- changed
 pub record WasDamagedUp (planned : Planned) (reader : RxFrames) (i f : ℕ) (blocks : List Bit) : Type 0 where
   pub sent : RxFrames
   pub was : WasSentUp planned sent i f blocks
   pub combinations : AreSameCombinations planned.config.uplink.side i sent reader
-  pub few : AreFewChanged planned.config.uplink.side i f (uplink_copies planned.config.uplink i f was.sequence) (uplink_changes planned i was.sequence sent reader (padded_in planned.config.uplink.side i f))
+  pub few : AreFewChanged planned.config.uplink.side i f (uplink_copies planned.config.uplink i f was.sequence)
+      (uplink_changes planned i was.sequence sent reader (padded_in planned.config.uplink.side i f))
 
 -- a downlink TTI that was sent, and whose radio frames were kept in the TFCs in which they were written, with few
 -- channel bits changed
@@ -115,4 +121,5 @@ pub record WasDamagedDown (planned : Planned) (reader : RxFrames) (i f : ℕ) (b
   pub frames : ℕ → Option Radio
   pub heard : AreHeard planned Down cfn frames sent
   pub combinations : AreSameCombinations planned.config.downlink.side i sent reader
-  pub few : AreFewChanged planned.config.downlink.side i f (copies (tti_pattern planned i f).kind) (downlink_changes planned i f sent reader)
+  pub few : AreFewChanged planned.config.downlink.side i f (copies (tti_pattern planned i f).kind)
+      (downlink_changes planned i f sent reader)

@@ -9,7 +9,8 @@ use Rattle.dch_layer2.specs.Layers.{Came, Layer, blocks, offers, takes, ticks}
 use Rattle.dch_layer2.specs.Starting.{IsStart, asked_in}
 use Rattle.dch_runlaw.specs.Lines.{lines_of}
 
--- a unit is offered, a combination is blocked or free, timers tick, a channel's blocks are taken, TTIs start, or lines are reported
+-- a unit is offered, a combination is blocked or free, timers tick, a channel's blocks are taken, TTIs start, or lines
+-- are reported
 pub data Doing : Type 0 where
   Offers : (bearer : ℕ) → (octets : List ℕ) → (bits : List Bit) → Doing
   Blocks : (combination : ℕ) → (on : Bool) → Doing
@@ -20,10 +21,12 @@ pub data Doing : Type 0 where
 
 -- an end that sends in one direction and receives in the other does it
 abbrev pub Does : Config → Dir → Dir → Layer → Doing → Layer → List Line → Type 0
-Does config out into old (Offers b octets bits) new lines = (new ≡ (offers config out b octets bits old).layer) × (lines ≡ (offers config out b octets bits old).lines)
+Does config out into old (Offers b octets bits) new lines = (new ≡ (offers config out b octets bits old).layer)
+    × (lines ≡ (offers config out b octets bits old).lines)
 Does config out into old (Blocks c on) new lines = (new ≡ blocks c on old) × (lines ≡ [])
 Does config out into old Ticks new lines = (new ≡ ticks config old) × (lines ≡ [])
-Does config out into old (Takes channel came) new lines = (new ≡ (takes config into channel 0 came old).layer) × (lines ≡ (takes config into channel 0 came old).lines)
+Does config out into old (Takes channel came) new lines = (new ≡ (takes config into channel 0 came old).layer)
+    × (lines ≡ (takes config into channel 0 came old).lines)
 Does config out into old (Starts cfn) new lines = IsStart config out cfn old new × (lines ≡ [])
 Does config out into old (Says said) new lines = (new ≡ old) × (lines ≡ said) × ((b : ℕ) → lines_of b said ≡ [])
 

@@ -33,15 +33,19 @@ arrived_below frames (suc s) = arrived_below frames s ++ arrived s (frames s)
 abbrev pub iub_arriving : (old new : LinkState) → (lines : List Line) → IsFrame old new lines → ℕ → Option (List ℕ)
 iub_arriving old new lines f set = iub_after old.damage Up set (f.up_output.iub set)
 
--- in a radio frame, up to a set: the network controller ticks, the terminal gets what arrives and ticks, and Iub frames arrive
+-- in a radio frame, up to a set: the network controller ticks, the terminal gets what arrives and ticks, and Iub frames
+-- arrive
 abbrev pub until_set : (old new : LinkState) → (lines : List Line) → IsFrame old new lines → ℕ → List NodesEvent
 until_set old new lines f s = AtRnc RncTicks ∷ AtUe (DownlinkFrame (radio_after old.damage Down f.down_output.sent)) ∷ AtUe UeTicks ∷ arrived_below (iub_arriving old new lines f) s
 
-abbrev pub in_step : (event : Event) → (old new : LinkState) → (lines : List Line) → Steps old event new lines → List NodesEvent
+abbrev pub in_step : (event : Event) → (old new : LinkState) → (lines : List Line) → Steps old event new lines
+    → List NodesEvent
 in_step (Between event) old new lines step = between event
 in_step Frame old new lines step = until_set old new lines step.frame 8
 
 -- the events at the terminal and the network controller in a run of three nodes, in order
-abbrev pub end_events : (events : List Event) → (old new : LinkState) → (lines : List Line) → Runs old events new lines → List NodesEvent
+abbrev pub end_events : (events : List Event) → (old new : LinkState) → (lines : List Line) → Runs old events new lines
+    → List NodesEvent
 end_events [] old new lines run = []
-end_events (event ∷ events) old new lines run = in_step event old run.next run.own run.step ++ end_events events run.next new run.rest run.later
+end_events (event ∷ events) old new lines run = in_step event old run.next run.own run.step
+    ++ end_events events run.next new run.rest run.later

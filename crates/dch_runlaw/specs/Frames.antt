@@ -73,7 +73,8 @@ pub record IsFrame (old new : LinkState) (lines : List Line) : Type 0 where
   pub fed : ℕ → NodeBState
   pub fed_lines : ℕ → List Line
   pub fed_first : fed 0 ≡ old.node_b.state
-  pub feeds : (s : ℕ) → s < 8 → MayArrive s (iub_after old.damage Down s (rnc_output.iub s)) (fed s) (fed (s + 1)) (fed_lines s)
+  pub feeds : (s : ℕ) → s < 8 → MayArrive s (iub_after old.damage Down s (rnc_output.iub s)) (fed s) (fed (s + 1))
+      (fed_lines s)
   pub node_b : NodeBState
   pub down_output : Output
   pub down : NodeBSteps (fed 8) DownlinkDue node_b down_output
@@ -94,4 +95,5 @@ pub record IsFrame (old new : LinkState) (lines : List Line) : Type 0 where
   pub rnc_last : new.rnc.state ≡ rncs 8
   pub ue_reported : new.ue.lines ≡ old.ue.lines ++ (kept_output.lines ++ ue_output.lines)
   pub rnc_reported : new.rnc.lines ≡ old.rnc.lines ++ (rnc_output.lines ++ lines_below taken 8)
-  pub reported : lines ≡ rnc_output.lines ++ joined fed_lines 8 ++ down_output.lines ++ (ue_output.lines ++ checks) ++ up_output.lines ++ joined rnc_lines 8
+  pub reported : lines ≡ rnc_output.lines ++ joined fed_lines 8 ++ down_output.lines ++ (ue_output.lines ++ checks)
+      ++ up_output.lines ++ joined rnc_lines 8

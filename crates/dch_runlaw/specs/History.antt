@@ -19,8 +19,10 @@ use Rattle.dch_runlaw.specs.Worlds.{Log, Side, World}
 pub record AreApart (config : Config) (dir : Dir) (i : ℕ) : Type 0 where
   pub least : (b : ℕ) → has_ct config dir i ≡ true → channel_of config dir b ≡ Some i → 1 ≤ (bearer_in config b).logical
   pub most : (b : ℕ) → has_ct config dir i ≡ true → channel_of config dir b ≡ Some i → (bearer_in config b).logical ≤ 15
-  pub other : (b c : ℕ) → has_ct config dir i ≡ true → channel_of config dir b ≡ Some i → channel_of config dir c ≡ Some i → (bearer_in config b).logical ≡ (bearer_in config c).logical → b ≡ c
-  pub alone : (b c : ℕ) → has_ct config dir i ≡ false → channel_of config dir b ≡ Some i → channel_of config dir c ≡ Some i → b ≡ c
+  pub other : (b c : ℕ) → has_ct config dir i ≡ true → channel_of config dir b ≡ Some i → channel_of config dir c
+      ≡ Some i → (bearer_in config b).logical ≡ (bearer_in config c).logical → b ≡ c
+  pub alone : (b c : ℕ) → has_ct config dir i ≡ false → channel_of config dir b ≡ Some i → channel_of config dir c
+      ≡ Some i → b ≡ c
 
 -- an acknowledged bearer with its channel from the near end, and its channel to it
 pub record IsAmBearer (config : Config) (out into : Dir) (b up down : ℕ) : Type 0 where
@@ -35,7 +37,8 @@ pub record IsAmBearer (config : Config) (out into : Dir) (b up down : ℕ) : Typ
   pub up_size : pdu_octets config out b ≤ 126
   pub down_size : pdu_octets config into b ≤ 126
 
--- the bearer's entity at an end is that of an end of the pair; all lines on what came for it are the units that were handed up there
+-- the bearer's entity at an end is that of an end of the pair; all lines on what came for it are the units that were
+-- handed up there
 pub record IsEndOf (into : Dir) (b : ℕ) (side : Side) (e : End) : Type 0 where
   pub bearing : side.layer.bearings b ≡ Acknowledged e.entity.sender e.entity.receiver
   pub lines : lines_of b side.said ≡ unit_lines into b e.entity.receiver.reading.units
@@ -47,7 +50,8 @@ pub record ArePair (out into : Dir) (b : ℕ) (w : World) (p : Pair) : Type 0 wh
 
 -- the pair of the bearer after a history
 abbrev pub pair_after : Config → Dir → Dir → ℕ → List At → Pair
-pair_after config out into b events = after (rules_in config b) (opened (rules_in config b) (pdu_octets config out b) (pdu_octets config into b)) events
+pair_after config out into b events = after (rules_in config b)
+    (opened (rules_in config b) (pdu_octets config out b) (pdu_octets config into b)) events
 
 -- the calls among the events of a history: all but losses on the way
 abbrev pub calls_of : List At → List At
@@ -84,7 +88,8 @@ pub record IsHistoryOver (config : Config) (out into : Dir) (b : ℕ) (first sec
   pub later : List At
   pub called : calls_of later ≡ second
   pub pair : ArePair out into b w (pair_after config out into b (events_over config out into b before.events later))
-  pub safe : IsSafe (rules_in config b) (pair_after config out into b (events_over config out into b before.events later))
+  pub safe : IsSafe (rules_in config b)
+      (pair_after config out into b (events_over config out into b before.events later))
 
 -- a block of a channel is for bearer b
 abbrev pub is_to : ℕ → Demux → Bool
@@ -98,7 +103,8 @@ is_mine config dir b i block = is_to b (receiver config dir i block)
 
 -- so many blocks are in flight as the bearer gave to the channel since those that were taken
 abbrev pub AreLeft : Config → Dir → ℕ → ℕ → Log → List Block → Type 0
-AreLeft config dir b i log line = (rest : List (List Bit)) → log.given ≡ log.taken ++ rest → length line ≡ length (filter (is_mine config dir b i) rest)
+AreLeft config dir b i log line = (rest : List (List Bit)) → log.given ≡ log.taken ++ rest → length line
+    ≡ length (filter (is_mine config dir b i) rest)
 
 -- these calls alone are a history of which they are the ends, and nothing is lost in it: handed up are, in order, the
 -- accepted units whose length indicator was sent before the blocks that are still in flight

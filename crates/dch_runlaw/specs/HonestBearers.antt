@@ -61,7 +61,8 @@ pub record AreReachedOver (planned second : Planned) (first : ℕ) (earlier late
   pub are_mid : AreOf last run.mid
   pub are : AreOf link nodes
 
--- a run of one part, or of two: what happened at the two nodes in each, and the state that the first of two parts led to
+-- a run of one part, or of two: what happened at the two nodes in each, and the state that the first of two parts led
+-- to
 pub data Parts : Type 0 where
   Alone : (planned : Planned) → (first : ℕ) → (happened : List Event) → Parts
   Both : (planned second : Planned) → (first : ℕ) → (earlier later : List Event) → (last : LinkState) → Parts
@@ -109,13 +110,16 @@ up_way planned up link = on_way planned.config.uplink.side link.rnc.state.cfn li
 abbrev pub down_way : Planned → ℕ → LinkState → List (List Bit)
 down_way planned down link = on_way planned.config.downlink.side link.rnc.state.cfn link.rnc.state.layer down
 
--- its calls are a history in which nothing is lost: of what was given all was taken but the blocks of TTIs that have not
--- ended
+-- its calls are a history in which nothing is lost: of what was given all was taken but the blocks of TTIs that have
+-- not ended
 pub record HasWholeHistory (parts : Parts) (b up down : ℕ) (link : LinkState) : Type 0 where
   pub reached : AreReachedIn parts link
-  pub up_taken : ((nodes_reached parts link reached).up up).given ≡ ((nodes_reached parts link reached).up up).taken ++ up_way (active parts) up link
-  pub down_taken : ((nodes_reached parts link reached).down down).given ≡ ((nodes_reached parts link reached).down down).taken ++ down_way (active parts) down link
-  pub history : IsWholeAmHistory (active parts) b up down (calls_reached b parts link reached) (nodes_reached parts link reached)
+  pub up_taken : ((nodes_reached parts link reached).up up).given ≡ ((nodes_reached parts link reached).up up).taken
+      ++ up_way (active parts) up link
+  pub down_taken : ((nodes_reached parts link reached).down down).given
+      ≡ ((nodes_reached parts link reached).down down).taken ++ down_way (active parts) down link
+  pub history : IsWholeAmHistory (active parts) b up down (calls_reached b parts link reached)
+      (nodes_reached parts link reached)
 
 -- what is known of an unacknowledged bearer's uplink, and of its downlink
 pub record HasKnownUp (planned : Planned) (first b up : ℕ) (happened : List Event) (link : LinkState) : Type 0 where
@@ -153,7 +157,8 @@ pub record HasSomeDownOver (planned second : Planned) (first b down down_later :
   pub reached : AreReachedOver planned second first earlier later last link
   pub some : IsDownSomeOver planned second b down down_later reached.run.mid reached.nodes
 
--- handed up of an unacknowledged bearer are the accepted units, in order, whose length indicator was sent in TTIs that have ended
+-- handed up of an unacknowledged bearer are the accepted units, in order, whose length indicator was sent in TTIs that
+-- have ended
 abbrev pub HasUmUp : Planned → ℕ → ℕ → LinkState → Type 0
 HasUmUp planned b up link = IsUmCarried planned.config Up b up link.ue.state.layer link.rnc.lines (up_way planned up link)
 

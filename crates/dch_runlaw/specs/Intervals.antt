@@ -30,13 +30,15 @@ frames_in (Between event ∷ events) = frames_in events
 frames_in (Frame ∷ events) = frames_in events + 1
 
 -- what holds in each radio frame of a run
-abbrev pub InFrames : ((old new : LinkState) → (lines : List Line) → IsFrame old new lines → Type 0) → (events : List Event) → (old new : LinkState) → (lines : List Line) → Runs old events new lines → Type 0
+abbrev pub InFrames : ((old new : LinkState) → (lines : List Line) → IsFrame old new lines → Type 0)
+    → (events : List Event) → (old new : LinkState) → (lines : List Line) → Runs old events new lines → Type 0
 InFrames P [] old new lines run = Unit {0}
 InFrames P (Between event ∷ events) old new lines run = InFrames P events run.next new run.rest run.later
-InFrames P (Frame ∷ events) old new lines run = P old run.next run.own run.step.frame × InFrames P events run.next new run.rest run.later
+InFrames P (Frame ∷ events) old new lines run = P old run.next run.own run.step.frame
+    × InFrames P events run.next new run.rest run.later
 
--- a TTI of so many radio frames, from the state before the first one to the state after the last one: the events before the last radio
--- frame, and that one
+-- a TTI of so many radio frames, from the state before the first one to the state after the last one: the events before
+-- the last radio frame, and that one
 pub record Tti (frames : ℕ) (old new : LinkState) : Type 0 where
   pub at_start : starts frames old.rnc.state.cfn ≡ true
   pub events : List Event
@@ -48,7 +50,8 @@ pub record Tti (frames : ℕ) (old new : LinkState) : Type 0 where
   pub count : frames_in events + 1 ≡ frames
 
 -- what holds in each of its radio frames
-abbrev pub InTti : ((old new : LinkState) → (lines : List Line) → IsFrame old new lines → Type 0) → (frames : ℕ) → (old new : LinkState) → Tti frames old new → Type 0
+abbrev pub InTti : ((old new : LinkState) → (lines : List Line) → IsFrame old new lines → Type 0) → (frames : ℕ)
+    → (old new : LinkState) → Tti frames old new → Type 0
 InTti P frames old new t = InFrames P t.events old t.last t.lines t.run × P t.last new t.last_lines t.step.frame
 
 -- the radio frame that is sent in a direction
@@ -66,7 +69,8 @@ pub record ArrivesAsSent (dir : Dir) (old new : LinkState) (lines : List Line) (
 abbrev pub AllArrive : Dir → (frames : ℕ) → (old new : LinkState) → Tti frames old new → Type 0
 AllArrive dir frames old new t = InTti (ArrivesAsSent dir) frames old new t
 
--- the terminal sends this radio frame in the combination that layer 2 runs, or the Node B in that of the blocks that it was given
+-- the terminal sends this radio frame in the combination that layer 2 runs, or the Node B in that of the blocks that it
+-- was given
 pub record SendsUp (planned : Planned) (combination : ℕ) (old new : LinkState) (lines : List Line) (f : IsFrame old new lines) (radio : Radio) : Type 0 where
   pub written : IsUpFrame planned f.kept.cfn new.ue.state.layer radio
   pub is : combination ≡ new.ue.state.layer.running
@@ -75,11 +79,13 @@ pub record SendsDown (planned : Planned) (combination : ℕ) (old new : LinkStat
   pub written : IsDownFrame planned f.node_b radio
   pub is : combination ≡ written.combination
 
-abbrev pub SendsIn : Planned → Dir → ℕ → (old new : LinkState) → (lines : List Line) → IsFrame old new lines → Radio → Type 0
+abbrev pub SendsIn : Planned → Dir → ℕ → (old new : LinkState) → (lines : List Line) → IsFrame old new lines → Radio
+    → Type 0
 SendsIn planned Up combination old new lines f radio = SendsUp planned combination old new lines f radio
 SendsIn planned Down combination old new lines f radio = SendsDown planned combination old new lines f radio
 
--- in what the far end keeps of the radio frames of the last 8 CFNs, this radio frame has the combination in which it was sent
+-- in what the far end keeps of the radio frames of the last 8 CFNs, this radio frame has the combination in which it
+-- was sent
 pub record FindsCombination (planned : Planned) (dir : Dir) (reader : RxFrames) (old new : LinkState) (lines : List Line) (f : IsFrame old new lines) : Type 0 where
   pub radio : Radio
   pub sent : radio_sent dir old new lines f ≡ Some radio
@@ -95,14 +101,16 @@ frames_come Down link = link.ue.state.frames
 -- in what the far end keeps of the radio frames of the last 8 CFNs, each radio frame of a TTI has the TFC in which it
 -- was sent
 abbrev pub FindsAll : Planned → Dir → (frames : ℕ) → (old new : LinkState) → Tti frames old new → Type 0
-FindsAll planned dir frames old new t = (reader : RxFrames) → AreHeard planned dir t.last.rnc.state.cfn (frames_come dir new) reader → InTti (FindsCombination planned dir reader) frames old new t
+FindsAll planned dir frames old new t = (reader : RxFrames)
+    → AreHeard planned dir t.last.rnc.state.cfn (frames_come dir new) reader
+    → InTti (FindsCombination planned dir reader) frames old new t
 
 -- all blocks are good
 abbrev pub AreGood : Held → Type 0
 AreGood held = (k : ℕ) → k < length held.good → IsTrue (slice_index_or held.good k false)
 
--- the Node B has the same blocks for downlink channel i in each radio frame of the TTI; and in the last one the terminal finds the combination of
--- each, and reads just these blocks, in their format, all good
+-- the Node B has the same blocks for downlink channel i in each radio frame of the TTI; and in the last one the
+-- terminal finds the combination of each, and reads just these blocks, in their format, all good
 pub record DownAsGiven (planned : Planned) (i : ℕ) (frames : ℕ) (old new : LinkState) (t : Tti frames old new) : Type 0 where
   pub given : Blocks
   pub stays : InTti (λ old new lines f. f.node_b.given i ≡ given) frames old new t
@@ -114,12 +122,13 @@ pub record DownAsGiven (planned : Planned) (i : ℕ) (frames : ℕ) (old new : L
   pub bits : held.bits ≡ given.bits
   pub good : AreGood held
 
--- layer 2 of the terminal has the same blocks for each uplink channel of a set in each radio frame of the TTI; and in the last one the
--- Node B finds the combination of each, and sends the Iub frame of the set with the CFN at which the TTI started and just these blocks, in their
--- formats, all good
+-- layer 2 of the terminal has the same blocks for each uplink channel of a set in each radio frame of the TTI; and in
+-- the last one the Node B finds the combination of each, and sends the Iub frame of the set with the CFN at which the
+-- TTI started and just these blocks, in their formats, all good
 pub record UpAsGiven (planned : Planned) (set : ℕ) (frames : ℕ) (old new : LinkState) (t : Tti frames old new) : Type 0 where
   pub given : ℕ → Given
-  pub stays : ForSet planned.config.uplink.side set (λ i. InTti (λ old new lines f. new.ue.state.layer.given i ≡ given i) frames old new t)
+  pub stays : ForSet planned.config.uplink.side set (λ i. InTti (λ old new lines f. new.ue.state.layer.given i
+      ≡ given i) frames old new t)
   pub combinations : FindsAll planned Up frames old new t
   pub octets : List ℕ
   pub sent : t.step.frame.up_output.iub set ≡ Some octets

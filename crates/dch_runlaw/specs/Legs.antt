@@ -23,7 +23,8 @@ use Rattle.dch_runlaw.specs.Intervals.{AreGood}
 use Rattle.dch_runlaw.specs.Ttis.{InTti, Tti}
 use Rattle.dch_runlaw.specs.SoftRuns.{Point}
 
--- what the terminal sent arrives at leg k as it was sent, and so does the Iub frame of a set that the leg sent itself, if it sent one
+-- what the terminal sent arrives at leg k as it was sent, and so does the Iub frame of a set that the leg sent itself,
+-- if it sent one
 abbrev pub Gets : ℕ → ℕ → Stage → (old new : SoftState) → Type 0
 Gets k set RncTick old new = Unit {0}
 Gets k set (IubDown leg s) old new = Unit {0}
@@ -55,16 +56,18 @@ as_sent channel given = record {
 
 -- each good block that a leg other than k has of channel i is the one that was sent, at its place and in its format
 abbrev pub OthersAreSent : (ℕ → Option LegFrame) → ℕ → ℕ → Held → Type 0
-OthersAreSent frames k i sent = (j b : ℕ) → j ≢ k → IsGoodBlock (blocks_in (frames j) i) b → IsSentBlock sent b (blocks_in (frames j) i)
+OthersAreSent frames k i sent = (j b : ℕ) → j ≢ k → IsGoodBlock (blocks_in (frames j) i) b
+    → IsSentBlock sent b (blocks_in (frames j) i)
 
 -- blocks are those that layer 2 gave to a channel, in their format, and none of them is bad
 pub record AreAllGiven (given : Given) (held : Held) : Type 0 where
   pub carries : CarriesGiven given held
   pub good : AreGood held
 
--- in each radio frame of the TTI layer 2 of the terminal has the same blocks for channel i; and at its end the network controller takes an
--- Iub frame of the set, and takes of the channel just these blocks: the good ones are those that were sent, at their places. Where their
--- format has any blocks, that is the format in which they are read, and no block is bad
+-- in each radio frame of the TTI layer 2 of the terminal has the same blocks for channel i; and at its end the network
+-- controller takes an Iub frame of the set, and takes of the channel just these blocks: the good ones are those that
+-- were sent, at their places. Where their format has any blocks, that is the format in which they are read, and no
+-- block is bad
 pub record TakesGiven (planned : Planned) (set i : ℕ) (given : Given) (frames : ℕ) (old last : Point) (t : Tti frames set old last) (new : SoftState) : Type 0 where
   pub stays : InTti (GivesBlocks i given) frames set old last t
   pub octets : List ℕ

@@ -1,5 +1,5 @@
--- The terminal and the network controller, in any interleaving, and what went over the channels between them, in one part or in two: before and
--- after another configuration becomes active at both.
+-- The terminal and the network controller, in any interleaving, and what went over the channels between them, in one
+-- part or in two: before and after another configuration becomes active at both.
 use Rattle.std.specs.Prelude.{◌≡◌, ◌++◌, ℕ, List, [], ◌∷◌, if◌then◌else◌}
 use Rattle.dch_bits.specs.declared.bit.Bit.{Bit}
 use Rattle.dch_types.specs.declared.channel.Dir.TheVariants.{Up, Down}
@@ -22,7 +22,8 @@ use Rattle.dch_runlaw.specs.History.{IsHistory, IsHistoryOver, IsWholeHistory}
 use Rattle.dch_runlaw.specs.UmHistory.{IsKnownHistory, pdus_in}
 use Rattle.dch_runlaw.specs.TmHistory.{IsTmSome, units_in}
 
--- the two nodes, all lines that each has reported, and for each channel the blocks that were given to it and those that were taken of it
+-- the two nodes, all lines that each has reported, and for each channel the blocks that were given to it and those that
+-- were taken of it
 pub record Nodes : Type 0 where
   pub ue : UeState
   pub rnc : RncState
@@ -33,7 +34,14 @@ pub record Nodes : Type 0 where
 
 -- at opening. Each node has a first CFN of its own
 abbrev pub opened_nodes : Planned → ℕ → ℕ → Nodes
-opened_nodes planned ue_first rnc_first = record { ue = opened_ue planned ue_first; rnc = opened_rnc planned rnc_first; ue_lines = []; rnc_lines = []; up = λ i. no_log; down = λ i. no_log }
+opened_nodes planned ue_first rnc_first = record {
+  ue = opened_ue planned ue_first;
+  rnc = opened_rnc planned rnc_first;
+  ue_lines = [];
+  rnc_lines = [];
+  up = λ i. no_log;
+  down = λ i. no_log;
+}
 
 -- an event at one of the two
 pub data Event : Type 0 where
@@ -59,7 +67,8 @@ given_by_rnc old (RncBlocked c on) new i = []
 given_by_rnc old (IubFrame set octets) new i = []
 given_by_rnc old (RncChange planned) new i = []
 
--- a step of the terminal within a part, in the configuration that is active: the network controller stays, uplink channels are given blocks, and blocks are taken of downlink channels
+-- a step of the terminal within a part, in the configuration that is active: the network controller stays, uplink
+-- channels are given blocks, and blocks are taken of downlink channels
 pub record StepsUe (old : Nodes) (event : UeEvent) (new : Nodes) : Type 0 where
   pub within : UeWithin event
   pub output : Output
@@ -67,10 +76,19 @@ pub record StepsUe (old : Nodes) (event : UeEvent) (new : Nodes) : Type 0 where
   pub reported : new.ue_lines ≡ old.ue_lines ++ output.lines
   pub rnc : new.rnc ≡ old.rnc
   pub rnc_lines : new.rnc_lines ≡ old.rnc_lines
-  pub up : (i : ℕ) → new.up i ≡ record { given = (old.up i).given ++ given_by_ue old.ue event new.ue i; taken = (old.up i).taken }
-  pub down : (i : ℕ) → new.down i ≡ record { given = (old.down i).given; taken = (old.down i).taken ++ good_in (new.ue.readings i) }
+  pub up : (i : ℕ) → new.up i ≡ record {
+    given = (old.up i).given
+        ++ given_by_ue old.ue event new.ue i;
+    taken = (old.up i).taken;
+  }
+  pub down : (i : ℕ) → new.down i ≡ record {
+    given = (old.down i).given;
+    taken = (old.down i).taken
+        ++ good_in (new.ue.readings i);
+  }
 
--- a step of the network controller within a part, in the configuration that is active: the terminal stays, downlink channels are given blocks, and blocks are taken of uplink channels
+-- a step of the network controller within a part, in the configuration that is active: the terminal stays, downlink
+-- channels are given blocks, and blocks are taken of uplink channels
 pub record StepsRnc (old : Nodes) (event : RncEvent) (new : Nodes) : Type 0 where
   pub within : RncWithin event
   pub output : Output
@@ -78,8 +96,15 @@ pub record StepsRnc (old : Nodes) (event : RncEvent) (new : Nodes) : Type 0 wher
   pub reported : new.rnc_lines ≡ old.rnc_lines ++ output.lines
   pub ue : new.ue ≡ old.ue
   pub ue_lines : new.ue_lines ≡ old.ue_lines
-  pub down : (i : ℕ) → new.down i ≡ record { given = (old.down i).given ++ given_by_rnc old.rnc event new.rnc i; taken = (old.down i).taken }
-  pub up : (i : ℕ) → new.up i ≡ record { given = (old.up i).given; taken = (old.up i).taken ++ good_in (new.rnc.readings i) }
+  pub down : (i : ℕ) → new.down i ≡ record {
+    given = (old.down i).given ++ given_by_rnc old.rnc event new.rnc i;
+    taken = (old.down i).taken;
+  }
+  pub up : (i : ℕ) → new.up i ≡ record {
+    given = (old.up i).given;
+    taken = (old.up i).taken
+        ++ good_in (new.rnc.readings i);
+  }
 
 abbrev pub Happens : Nodes → Event → Nodes → Type 0
 Happens old (AtUe event) new = StepsUe old event new
@@ -97,8 +122,8 @@ abbrev pub Runs : (Nodes → Type 0) → Nodes → List Event → Nodes → Type
 Runs Holds old [] new = new ≡ old
 Runs Holds old (event ∷ events) new = HappensFirst Holds (λ next. Runs Holds next events new) old event
 
--- another configuration becomes active at both nodes, at one after the other with no other event of them between. Neither sees the other's change,
--- so no matter which is first. In it nothing has gone over any channel yet
+-- another configuration becomes active at both nodes, at one after the other with no other event of them between.
+-- Neither sees the other's change, so no matter which is first. In it nothing has gone over any channel yet
 pub record Changes (second : Planned) (old new : Nodes) : Type 0 where
   pub ue_output : Output
   pub rnc_output : Output
@@ -121,7 +146,8 @@ pub record RunsInTwo (first second : Planned) (Before Behind : Nodes → Type 0)
 abbrev pub Any : Nodes → Type 0
 Any nodes = Unit {0}
 
--- the good blocks that were taken of an uplink channel and of a downlink channel are some of those that were given, in order
+-- the good blocks that were taken of an uplink channel and of a downlink channel are some of those that were given, in
+-- order
 pub record AreFaithful (up down : ℕ) (nodes : Nodes) : Type 0 where
   pub up_is : IsFaithful (nodes.up up)
   pub down_is : IsFaithful (nodes.down down)
@@ -138,17 +164,23 @@ pub record AreAllTaken (up down : ℕ) (nodes : Nodes) : Type 0 where
 
 -- the two layers 2
 abbrev pub world_of : Nodes → World
-world_of nodes = record { near = record { layer = nodes.ue.layer; said = nodes.ue_lines }; far = record { layer = nodes.rnc.layer; said = nodes.rnc_lines }; out = nodes.up; back = nodes.down }
+world_of nodes = record {
+  near = record { layer = nodes.ue.layer; said = nodes.ue_lines };
+  far = record { layer = nodes.rnc.layer; said = nodes.rnc_lines };
+  out = nodes.up;
+  back = nodes.down;
+}
 
--- these calls, with losses on the way between them, are a history of an acknowledged bearer's pair of which the two nodes
--- have the ends, and it is safe
+-- these calls, with losses on the way between them, are a history of an acknowledged bearer's pair of which the two
+-- nodes have the ends, and it is safe
 abbrev pub IsAmHistory : Planned → ℕ → List Call → Nodes → Type 0
 IsAmHistory planned b calls nodes = IsHistory planned.config Up Down b calls (world_of nodes)
 
--- and over two parts, the first of which led to two nodes: a history of its calls that led there, the loss of all that was
--- in flight, and the calls of the second part
+-- and over two parts, the first of which led to two nodes: a history of its calls that led there, the loss of all that
+-- was in flight, and the calls of the second part
 abbrev pub IsAmHistoryOver : Planned → ℕ → List Call → List Call → Nodes → Nodes → Type 0
-IsAmHistoryOver second b before behind mid nodes = IsHistoryOver second.config Up Down b before behind (world_of mid) (world_of nodes)
+IsAmHistoryOver second b before behind mid nodes = IsHistoryOver second.config Up Down b before behind (world_of mid)
+    (world_of nodes)
 
 -- and nothing is lost: the calls alone are the history
 abbrev pub IsWholeAmHistory : Planned → ℕ → ℕ → ℕ → List Call → Nodes → Type 0
@@ -164,11 +196,13 @@ IsDownKnown planned b down nodes = IsKnownHistory planned.config Down b down [] 
 -- and over two parts, where it had one channel in the first part and has another one
 abbrev pub IsUpKnownOver : Planned → Planned → ℕ → ℕ → ℕ → Nodes → Nodes → Type 0
 IsUpKnownOver first second b up up_later mid nodes =
-    IsKnownHistory second.config Up b up_later (pdus_in first.config Up b up (mid.up up).given) (pdus_in first.config Up b up (mid.up up).taken) (world_of nodes)
+    IsKnownHistory second.config Up b up_later (pdus_in first.config Up b up (mid.up up).given)
+    (pdus_in first.config Up b up (mid.up up).taken) (world_of nodes)
 
 abbrev pub IsDownKnownOver : Planned → Planned → ℕ → ℕ → ℕ → Nodes → Nodes → Type 0
 IsDownKnownOver first second b down down_later mid nodes =
-    IsKnownHistory second.config Down b down_later (pdus_in first.config Down b down (mid.down down).given) (pdus_in first.config Down b down (mid.down down).taken) (turned (world_of nodes))
+    IsKnownHistory second.config Down b down_later (pdus_in first.config Down b down (mid.down down).given)
+    (pdus_in first.config Down b down (mid.down down).taken) (turned (world_of nodes))
 
 -- what came of a transparent bearer's uplink, and of its downlink, is handed up, and some of what was accepted
 abbrev pub IsUpSome : Planned → ℕ → ℕ → Nodes → Type 0
@@ -180,8 +214,10 @@ IsDownSome planned b down nodes = IsTmSome planned.config Down b down [] [] (tur
 -- and over two parts
 abbrev pub IsUpSomeOver : Planned → Planned → ℕ → ℕ → ℕ → Nodes → Nodes → Type 0
 IsUpSomeOver first second b up up_later mid nodes =
-    IsTmSome second.config Up b up_later (units_in first.config Up b up (mid.up up).given) (units_in first.config Up b up (mid.up up).taken) (world_of nodes)
+    IsTmSome second.config Up b up_later (units_in first.config Up b up (mid.up up).given)
+    (units_in first.config Up b up (mid.up up).taken) (world_of nodes)
 
 abbrev pub IsDownSomeOver : Planned → Planned → ℕ → ℕ → ℕ → Nodes → Nodes → Type 0
 IsDownSomeOver first second b down down_later mid nodes =
-    IsTmSome second.config Down b down_later (units_in first.config Down b down (mid.down down).given) (units_in first.config Down b down (mid.down down).taken) (turned (world_of nodes))
+    IsTmSome second.config Down b down_later (units_in first.config Down b down (mid.down down).given)
+    (units_in first.config Down b down (mid.down down).taken) (turned (world_of nodes))

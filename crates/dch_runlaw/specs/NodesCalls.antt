@@ -9,13 +9,14 @@ use Rattle.dch_linkcmd.specs.UeState.{BlockedCombination as UeBlocked, Change as
 use Rattle.dch_runlaw.specs.Calls.{for_each, offered, own_blocks}
 use Rattle.dch_runlaw.specs.Nodes.{AtRnc, AtUe, Event, Nodes, Runs, given_by_rnc, given_by_ue}
 
--- in a step of the terminal: a unit is offered to bearer b; or its timers tick, a PDU arrives in each good block for it of
--- a TTI that ended, and it builds each block that it gives for a TTI that starts
+-- in a step of the terminal: a unit is offered to bearer b; or its timers tick, a PDU arrives in each good block for it
+-- of a TTI that ended, and it builds each block that it gives for a TTI that starts
 abbrev pub ue_calls : Config → ℕ → UeState → UeEvent → UeState → List Call
 ue_calls config b old (UeOffered bearer octets bits) new = offered b bearer octets
 ue_calls config b old (UeBlocked combination on) new = []
 ue_calls config b old (DownlinkFrame frame) new = []
-ue_calls config b old UeTicks new = Tick ∷ (for_each Arrive (own_blocks config Down b (λ i. good_in (new.readings i))) ++ for_each Build (own_blocks config Up b (given_by_ue old UeTicks new)))
+ue_calls config b old UeTicks new = Tick ∷ (for_each Arrive (own_blocks config Down b (λ i. good_in (new.readings i)))
+    ++ for_each Build (own_blocks config Up b (given_by_ue old UeTicks new)))
 ue_calls config b old (UeChange second) new = []
 
 -- the calls that an end of bearer b gets in a step of the network controller: an SDU is offered; or its timers tick and
@@ -33,6 +34,8 @@ event_calls config b old (AtUe event) new = map Near (ue_calls config b old.ue e
 event_calls config b old (AtRnc event) new = map Far (rnc_calls config b old.rnc event new.rnc)
 
 -- the calls that the two ends of bearer b get in a run of a terminal and a network controller, in order
-abbrev pub nodes_calls : (config : Config) (b : ℕ) (Holds : Nodes → Type 0) (old : Nodes) (events : List Event) (new : Nodes) → Runs Holds old events new → List At
+abbrev pub nodes_calls : (config : Config) (b : ℕ) (Holds : Nodes → Type 0) (old : Nodes) (events : List Event)
+    (new : Nodes) → Runs Holds old events new → List At
 nodes_calls config b Holds old [] new run = []
-nodes_calls config b Holds old (event ∷ events) new run = event_calls config b old event run.next ++ nodes_calls config b Holds run.next events new run.later
+nodes_calls config b Holds old (event ∷ events) new run = event_calls config b old event run.next
+    ++ nodes_calls config b Holds run.next events new run.later

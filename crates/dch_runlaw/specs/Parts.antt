@@ -1,4 +1,5 @@
--- The parts of a run of three nodes: the first one begins at opening, and a second one where another configuration becomes active.
+-- The parts of a run of three nodes: the first one begins at opening, and a second one where another configuration
+-- becomes active.
 use Rattle.std.specs.Prelude.{◌≡◌, ◌⊎◌, ℕ, List}
 use Rattle.dch_config.specs.Changes.{KeepsBearer}
 use Rattle.dch_accept.specs.Plans.{IsPlanned, Planned}
@@ -7,7 +8,8 @@ use Rattle.dch_linkcmd.specs.LinkChanging.{Changes}
 use Rattle.dch_linkcmd.specs.LinkLink.{LinkState, opened_link}
 use Rattle.dch_runlaw.specs.Runs.{Event, Runs}
 
--- the events of a first part, which begins at opening, have these lines, and behind them a second configuration becomes active
+-- the events of a first part, which begins at opening, have these lines, and behind them a second configuration becomes
+-- active
 pub record GoesOver (planned second : Planned) (first : ℕ) (events : List Event) (lines : List Line) (start : LinkState) : Type 0 where
   pub last : LinkState
   pub run : Runs (opened_link planned first) events last lines

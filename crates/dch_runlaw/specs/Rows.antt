@@ -18,7 +18,8 @@ got_words dir b = place_text (codes "got ") dir b ++ codes " "
 
 abbrev pub got_rows : Dir → ℕ → List (List ℕ) → List (List ℕ)
 got_rows dir b [] = []
-got_rows dir b (row ∷ rows) = if starts_with (got_words dir b) row then (row ∷ got_rows dir b rows) else got_rows dir b rows
+got_rows dir b (row ∷ rows) = if starts_with (got_words dir b) row then (row ∷ got_rows dir b rows)
+    else got_rows dir b rows
 
 -- a unit of a bearer that travelled in a direction is handed up
 abbrev pub is_got : Dir → ℕ → Line → Bool

@@ -49,8 +49,8 @@ abbrev pub AreSaid : (ℕ → Config) → ℕ → List (List ℕ) → List Event
 AreSaid at frames [] events = events ≡ []
 AreSaid at frames (line ∷ lines) events = SaysFirst (at frames) frames line (λ now rest. AreSaid at now lines rest) events
 
--- a run in the configuration that is active, where a second one may be still to come when so many radio frames have passed: all radio frames of
--- the run are before that from which it is active
+-- a run in the configuration that is active, where a second one may be still to come when so many radio frames have
+-- passed: all radio frames of the run are before that from which it is active
 pub record StaysFirst (second : Option Later) (frames : ℕ) (old : LinkState) (events : List Event) (new : LinkState) (lines : List Line) (left : Option Later) : Type 0 where
   pub run : Runs old events new lines
   pub soon : (later : Later) → second ≡ Some later → frames + frames_in events ≤ later.frame
@@ -75,7 +75,8 @@ pub record ChangesWithin (second : Option Later) (frames : ℕ) (old : LinkState
   pub none : left ≡ None
 
 abbrev pub RunsOver : Option Later → ℕ → LinkState → List Event → LinkState → List Line → Option Later → Type 0
-RunsOver second frames old events new lines left = StaysFirst second frames old events new lines left ⊎ ChangesWithin second frames old events new lines left
+RunsOver second frames old events new lines left = StaysFirst second frames old events new lines left
+    ⊎ ChangesWithin second frames old events new lines left
 
 -- between two lines no radio frame is on, and that from which a second configuration is active has not passed
 pub record IsAtRest (run : Run) : Type 0 where

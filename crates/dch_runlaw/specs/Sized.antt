@@ -14,11 +14,13 @@ AreSized size (block ∷ later) = (length block ≡ size) × (0 < size) × AreSi
 
 -- the blocks that layer 2 gave to the channels of a direction have the size of their format
 abbrev pub AreAllSized : Side → Layer → Type 0
-AreAllSized side layer = (i : ℕ) → i < length side.channels → AreSized (format_at (channel_at side i) (layer.given i).format).size (layer.given i).blocks
+AreAllSized side layer = (i : ℕ) → i < length side.channels
+    → AreSized (format_at (channel_at side i) (layer.given i).format).size (layer.given i).blocks
 
 -- and are as many bits as their format has
 abbrev pub AreAllWhole : Side → Layer → Type 0
-AreAllWhole side layer = (i : ℕ) → i < length side.channels → length (joined_bits (layer.given i).blocks) ≡ bits_of (format_at (channel_at side i) (layer.given i).format)
+AreAllWhole side layer = (i : ℕ) → i < length side.channels → length (joined_bits (layer.given i).blocks)
+    ≡ bits_of (format_at (channel_at side i) (layer.given i).format)
 
 -- both
 pub record AreGiven (side : Side) (layer : Layer) : Type 0 where

@@ -6,8 +6,8 @@ use Rattle.dch_types.specs.declared.config.Config.{Config}
 use Rattle.dch_layer2.specs.Layers.{Came, Layer, blocks, offers, takes, ticks}
 use Rattle.dch_layer2.specs.Starting.{IsStart}
 
--- a unit is offered to a bearer, a combination is blocked or free, the timers tick, blocks come on a channel, of which the first is block
--- k, or TTIs start at a CFN
+-- a unit is offered to a bearer, a combination is blocked or free, the timers tick, blocks come on a channel, of which
+-- the first is block k, or TTIs start at a CFN
 pub data Event : Type 0 where
   OfferedUnit : (bearer : ℕ) → (octets : List ℕ) → (bits : List Bit) → Event
   BlockedCombination : (combination : ℕ) → (on : Bool) → Event

@@ -9,14 +9,18 @@ use Rattle.dch_runlaw.specs.Sized.{AreAllSized, AreAllWhole}
 
 -- the blocks of the channels of both ends have the size of their format, and are as many bits
 abbrev pub FrameSized : Planned → Layer → Layer → Type 0
-FrameSized planned ue rnc = AreAllSized planned.config.downlink.side rnc × AreAllSized planned.config.uplink.side ue × AreAllWhole planned.config.uplink.side ue × AreAllWhole planned.config.downlink.side rnc
+FrameSized planned ue rnc = AreAllSized planned.config.downlink.side rnc × AreAllSized planned.config.uplink.side ue
+    × AreAllWhole planned.config.uplink.side ue × AreAllWhole planned.config.downlink.side rnc
 
 -- after the starts of TTIs of an event: both ends start them in a radio frame
-abbrev pub LineSized : (planned : Planned) → (old : LinkState) → (event : Event) → (new : LinkState) → (lines : List Line) → Steps old event new lines → Type 0
+abbrev pub LineSized : (planned : Planned) → (old : LinkState) → (event : Event) → (new : LinkState)
+    → (lines : List Line) → Steps old event new lines → Type 0
 LineSized planned old (Between event) new lines step = Unit {0}
 LineSized planned old Frame new lines step = FrameSized planned new.ue.state.layer step.frame.rnc.layer
 
 -- after each start of TTIs of a run
-abbrev pub IsSized : (planned : Planned) → (events : List Event) → (old new : LinkState) → (lines : List Line) → Runs old events new lines → Type 0
+abbrev pub IsSized : (planned : Planned) → (events : List Event) → (old new : LinkState) → (lines : List Line)
+    → Runs old events new lines → Type 0
 IsSized planned [] old new lines run = Unit {0}
-IsSized planned (event ∷ events) old new lines run = LineSized planned old event run.next run.own run.step × IsSized planned events run.next new run.rest run.later
+IsSized planned (event ∷ events) old new lines run = LineSized planned old event run.next run.own run.step
+    × IsSized planned events run.next new run.rest run.later

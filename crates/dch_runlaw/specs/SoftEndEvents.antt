@@ -1,4 +1,5 @@
--- What happens at the terminal and the network controller in a run in soft handover, event by event, and what went over their channels.
+-- What happens at the terminal and the network controller in a run in soft handover, event by event, and what went over
+-- their channels.
 use Rattle.std.specs.Prelude.{◌≡◌, ◌++◌, ℕ, List, [], ◌∷◌, Option, Some, None, map}
 use Rattle.std.proofs.Common.{inl, inr}
 use Rattle.dch_types.specs.declared.channel.Dir.TheVariants.{Up, Down}
@@ -34,13 +35,15 @@ between (BlockedCombination Down combination on) new = EventAtRnc (RncBlocked co
 between (Damages leg damage) new = []
 
 -- the network controller takes the combined frame of a set whose TTI is over, if there is one
-abbrev pub combined : (started : Option ℕ) → (set : ℕ) → (old new : SoftState) → (lines : List Line) → WhereOver started (λ cfn. GivesFrame cfn set) old new lines → List EndEvent
+abbrev pub combined : (started : Option ℕ) → (set : ℕ) → (old new : SoftState) → (lines : List Line)
+    → WhereOver started (λ cfn. GivesFrame cfn set) old new lines → List EndEvent
 combined None set old new lines gives = []
 combined (Some cfn) set old new lines (inl none) = []
 combined (Some cfn) set old new lines (inr frame) = EventAtRnc (IubFrameUp set frame.octets) new.rnc ∷ []
 
 -- in a stage of a radio frame
-abbrev pub in_stage : (stage : Stage) → (old new : SoftState) → (lines : List Line) → AtStage stage old new lines → List EndEvent
+abbrev pub in_stage : (stage : Stage) → (old new : SoftState) → (lines : List Line) → AtStage stage old new lines
+    → List EndEvent
 in_stage RncTick old new lines passes = EventAtRnc RncTicks new.rnc ∷ []
 in_stage (IubDown leg set) old new lines passes = []
 in_stage (RadioDown leg) old new lines passes = []
@@ -54,9 +57,11 @@ in_step (Between event) old new lines step = between event step.soft
 in_step Next old new lines step = in_stage old.stage old.soft step.soft lines step.passes
 
 -- the events at the terminal and the network controller in a run in soft handover, in order
-abbrev pub end_events : (moves : List Move) → (old new : Point) → (lines : List Line) → Runs old moves new lines → List EndEvent
+abbrev pub end_events : (moves : List Move) → (old new : Point) → (lines : List Line) → Runs old moves new lines
+    → List EndEvent
 end_events [] old new lines run = []
-end_events (move ∷ moves) old new lines run = in_step move old run.next run.own run.step ++ end_events moves run.next new run.rest run.later
+end_events (move ∷ moves) old new lines run = in_step move old run.next run.own run.step
+    ++ end_events moves run.next new run.rest run.later
 
 -- the events alone
 abbrev pub event_of : EndEvent → NodesEvent
@@ -79,7 +84,10 @@ after old (EventAtRnc event rnc) = record old {
   rnc = rnc.state;
   rnc_lines = rnc.lines;
   up = λ i. record { given = (old.up i).given; taken = (old.up i).taken ++ good_in (rnc.state.readings i) };
-  down = λ i. record { given = (old.down i).given ++ given_by_rnc old.rnc event rnc.state i; taken = (old.down i).taken };
+  down = λ i. record {
+    given = (old.down i).given ++ given_by_rnc old.rnc event rnc.state i;
+    taken = (old.down i).taken;
+  };
 }
 
 abbrev pub after_all : Nodes → List EndEvent → Nodes
@@ -89,7 +97,8 @@ after_all nodes (happening ∷ later) = after_all (after nodes happening) later
 -- something holds after each of these
 abbrev pub AfterEach : (Nodes → Type 0) → Nodes → List EndEvent → Type 0
 AfterEach Holds nodes [] = Unit {0}
-AfterEach Holds nodes (happening ∷ later) = Holds (after nodes happening) × AfterEach Holds (after nodes happening) later
+AfterEach Holds nodes (happening ∷ later) = Holds (after nodes happening)
+    × AfterEach Holds (after nodes happening) later
 
 -- two nodes are the terminal and the network controller of a soft handover, with all lines that each has reported
 pub record AreOf (soft : SoftState) (nodes : Nodes) : Type 0 where
@@ -109,19 +118,23 @@ rnc_events [] = []
 rnc_events (EventAtUe event ue ∷ later) = rnc_events later
 rnc_events (EventAtRnc event rnc ∷ later) = event ∷ rnc_events later
 
--- what happened from opening on is all that happened at the terminal and the network controller of a soft handover, and a list of events at
--- two nodes that leads to these two
+-- what happened from opening on is all that happened at the terminal and the network controller of a soft handover, and
+-- a list of events at two nodes that leads to these two
 pub record IsListOf (planned : Planned) (first : ℕ) (happened : List EndEvent) (soft : SoftState) : Type 0 where
   pub ue : soft.ue.events ≡ ue_events happened
   pub rnc : soft.rnc.events ≡ rnc_events happened
-  pub run : NodesRun Any (opened_nodes planned first first) (events_of happened) (after_all (opened_nodes planned first first) happened)
+  pub run : NodesRun Any (opened_nodes planned first first) (events_of happened)
+      (after_all (opened_nodes planned first first) happened)
   pub are : AreOf soft (after_all (opened_nodes planned first first) happened)
 
--- with what went over their channels they stand in a history of an acknowledged bearer's pair, of which its calls are the
--- events but for losses on the way; and the lines of the run on PDUs and units of the bearer are just the units that the
--- history hands up at its ends
+-- with what went over their channels they stand in a history of an acknowledged bearer's pair, of which its calls are
+-- the events but for losses on the way; and the lines of the run on PDUs and units of the bearer are just the units
+-- that the history hands up at its ends
 pub record HandsUp (planned : Planned) (first b : ℕ) (happened : List EndEvent) (soft : SoftState) (lines : List Line) : Type 0 where
   pub listed : IsListOf planned first happened soft
-  pub history : IsAmHistory planned b (nodes_calls planned.config b Any (opened_nodes planned first first) (events_of happened) (after_all (opened_nodes planned first first) happened) listed.run) (after_all (opened_nodes planned first first) happened)
+  pub history : IsAmHistory planned b (nodes_calls planned.config b Any (opened_nodes planned first first)
+      (events_of happened) (after_all (opened_nodes planned first first) happened) listed.run)
+      (after_all (opened_nodes planned first first) happened)
   pub up : lines_on Up b lines ≡ unit_lines Up b (pair_after planned.config Up Down b history.events).far.entity.receiver.reading.units
-  pub down : lines_on Down b lines ≡ unit_lines Down b (pair_after planned.config Up Down b history.events).near.entity.receiver.reading.units
+  pub down : lines_on Down b lines
+      ≡ unit_lines Down b (pair_after planned.config Up Down b history.events).near.entity.receiver.reading.units

@@ -1,4 +1,5 @@
--- Runs in soft handover: what happens between radio frames, and the stages of radio frames, one after another, with the lines of all.
+-- Runs in soft handover: what happens between radio frames, and the stages of radio frames, one after another, with the
+-- lines of all.
 use Rattle.std.specs.Prelude.{◌≡◌, ◌++◌, ℕ, List, [], ◌∷◌, Option, Some, None}
 use Rattle.dch_accept.specs.Plans.{Planned}
 use Rattle.dch_node.specs.Lines.{Line}

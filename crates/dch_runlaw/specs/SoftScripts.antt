@@ -49,10 +49,13 @@ AreSaid legs config [] moves = moves ≡ []
 AreSaid legs config (line ∷ lines) moves = SaysFirst legs config line (AreSaid legs config lines) moves
 
 -- what is shown of the lines of a run in soft handover
-abbrev pub shown_in : Bool → (moves : List Move) → (old new : Point) → (lines : List Line) → Runs old moves new lines → List ℕ
+abbrev pub shown_in : Bool → (moves : List Move) → (old new : Point) → (lines : List Line) → Runs old moves new lines
+    → List ℕ
 shown_in quiet [] old new lines run = []
-shown_in quiet (Between event ∷ moves) old new lines run = shown quiet (text_of run.own) ++ shown_in quiet moves run.next new run.rest run.later
-shown_in quiet (Next ∷ moves) old new lines run = led (leg_of old.stage) (shown quiet (text_of run.own)) ++ shown_in quiet moves run.next new run.rest run.later
+shown_in quiet (Between event ∷ moves) old new lines run = shown quiet (text_of run.own)
+    ++ shown_in quiet moves run.next new run.rest run.later
+shown_in quiet (Next ∷ moves) old new lines run = led (leg_of old.stage) (shown quiet (text_of run.own))
+    ++ shown_in quiet moves run.next new run.rest run.later
 
 -- between two lines no radio frame is on
 pub record IsAtRest (run : Run) : Type 0 where

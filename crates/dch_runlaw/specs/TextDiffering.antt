@@ -12,7 +12,8 @@ false_words dir i = place_text (codes "false ") dir i ++ codes "\n"
 
 abbrev pub false_rows : Dir → ℕ → List (List ℕ) → List (List ℕ)
 false_rows dir i [] = []
-false_rows dir i (row ∷ rows) = if starts_with (false_words dir i) row then (row ∷ false_rows dir i rows) else false_rows dir i rows
+false_rows dir i (row ∷ rows) = if starts_with (false_words dir i) row then (row ∷ false_rows dir i rows)
+    else false_rows dir i rows
 
 -- blocks were taken of channel i of a direction that it was not given
 abbrev pub is_false : Dir → ℕ → Line → Bool

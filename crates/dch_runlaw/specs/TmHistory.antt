@@ -1,4 +1,5 @@
--- When a transparent bearer of two ends is a sender and a receiver of which the one's units came to the other (TS 25.322 11.1).
+-- When a transparent bearer of two ends is a sender and a receiver of which the one's units came to the other (TS
+-- 25.322 11.1).
 use Rattle.std.specs.Prelude.{◌≡◌, ◌≤◌, ◌++◌, Some, ℕ, List, [], ◌∷◌, drop, filter, map}
 use Rattle.dch_bits.specs.declared.bit.Bit.{Bit}
 use Rattle.dch_types.specs.declared.channel.Dir.{Dir}
@@ -25,15 +26,16 @@ unit_in config dir b block = drop (field_bits (ct_of config dir b)) block
 abbrev pub units_in : Config → Dir → ℕ → ℕ → List (List Bit) → List (List Bit)
 units_in config dir b i blocks = map (unit_in config dir b) (filter (is_mine config dir b i) blocks)
 
--- a transparent bearer that sends on a channel, and gave these units before, in another configuration: the units accepted are those, those of the
--- blocks that it gave, and those that wait
+-- a transparent bearer that sends on a channel, and gave these units before, in another configuration: the units
+-- accepted are those, those of the blocks that it gave, and those that wait
 pub record IsTmSender (config : Config) (dir : Dir) (b i : ℕ) (before : List (List Bit)) (side : Side) (log : Log) : Type 0 where
   pub waiting : Waiting
   pub accepted : List (List Bit)
   pub bearing : side.layer.bearings b ≡ Transparent waiting accepted
   pub given : accepted ≡ (before ++ units_in config dir b i log.given) ++ waiting.units
 
--- and one that receives on it, and took these units before: what was reported is these, and the units of the blocks that were taken
+-- and one that receives on it, and took these units before: what was reported is these, and the units of the blocks
+-- that were taken
 pub record IsTmReceiver (config : Config) (dir : Dir) (b i : ℕ) (before : List (List Bit)) (side : Side) (log : Log) : Type 0 where
   pub waiting : Waiting
   pub accepted : List (List Bit)
@@ -62,7 +64,8 @@ pub record IsTmSome (config : Config) (out : Dir) (b i : ℕ) (given taken : Lis
   pub lines : lines_of b w.far.said ≡ bits_lines out b handed
   pub some : IsSublist handed near.accepted
 
--- and where all came but the blocks that are on their way, it is all accepted units but those in these blocks and those that wait
+-- and where all came but the blocks that are on their way, it is all accepted units but those in these blocks and those
+-- that wait
 pub record IsTmCarried (config : Config) (dir : Dir) (b i : ℕ) (from : Layer) (said : List Line) (running : List (List Bit)) : Type 0 where
   pub waiting : Waiting
   pub accepted : List (List Bit)

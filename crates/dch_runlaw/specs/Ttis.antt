@@ -23,13 +23,15 @@ frames_in (Between event ∷ moves) old new lines run = frames_in moves run.next
 frames_in (Next ∷ moves) old new lines run = frames_at old.stage + frames_in moves run.next new run.rest run.later
 
 -- what holds in each stage of a run
-abbrev pub InStages : (Stage → (old new : SoftState) → Type 0) → (moves : List Move) → (old new : Point) → (lines : List Line) → Runs old moves new lines → Type 0
+abbrev pub InStages : (Stage → (old new : SoftState) → Type 0) → (moves : List Move) → (old new : Point)
+    → (lines : List Line) → Runs old moves new lines → Type 0
 InStages P [] old new lines run = Unit {0}
 InStages P (Between event ∷ moves) old new lines run = InStages P moves run.next new run.rest run.later
-InStages P (Next ∷ moves) old new lines run = P old.stage old.soft run.step.soft × InStages P moves run.next new run.rest run.later
+InStages P (Next ∷ moves) old new lines run = P old.stage old.soft run.step.soft
+    × InStages P moves run.next new run.rest run.later
 
--- a TTI of so many radio frames: it starts at a point, and at another one the legs' Iub frames of a set for it are to be combined, in its
--- last radio frame
+-- a TTI of so many radio frames: it starts at a point, and at another one the legs' Iub frames of a set for it are to
+-- be combined, in its last radio frame
 pub record Tti (frames set : ℕ) (old last : Point) : Type 0 where
   pub at_rest : old.stage ≡ RncTick
   pub at_start : starts frames old.soft.cfn ≡ true
@@ -39,5 +41,6 @@ pub record Tti (frames set : ℕ) (old last : Point) : Type 0 where
   pub at_end : last.stage ≡ Combine set
   pub count : frames_in moves old last lines run ≡ frames
 
-abbrev pub InTti : (Stage → (old new : SoftState) → Type 0) → (frames set : ℕ) → (old last : Point) → Tti frames set old last → Type 0
+abbrev pub InTti : (Stage → (old new : SoftState) → Type 0) → (frames set : ℕ) → (old last : Point)
+    → Tti frames set old last → Type 0
 InTti P frames set old last t = InStages P t.moves old last t.lines t.run

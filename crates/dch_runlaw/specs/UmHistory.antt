@@ -1,4 +1,5 @@
--- When an unacknowledged bearer of two ends is a sender and a receiver of which the one's PDUs came to the other (TS 25.322 11.2).
+-- When an unacknowledged bearer of two ends is a sender and a receiver of which the one's PDUs came to the other (TS
+-- 25.322 11.2).
 use Rattle.std.specs.Prelude.{◌≡◌, ◌≤◌, ◌+◌, ◌-◌, ◌++◌, Some, ℕ, List, [], ◌∷◌, Bool, true, if◌then◌else◌, Result, Ok, Err, drop, filter, length, map, take}
 use Rattle.dch_bits.specs.declared.bit.Bit.{Bit}
 use Rattle.dch_types.specs.declared.channel.Dir.{Dir}
@@ -54,12 +55,15 @@ pub record IsUmSender (config : Config) (dir : Dir) (b i : ℕ) (before : List (
   pub bearing : side.layer.bearings b ≡ Unacknowledged sends receiving
   pub sender : IsSenderOf sends.accepted sends.cuts sends.sending
   pub units : AreUnits sends.accepted
-  pub given : before ++ pdus_in config dir b i log.given ≡ texts sends.sending.pdu sends.sending.mark_start sends.accepted sends.cuts
+  pub given : before ++ pdus_in config dir b i log.given
+      ≡ texts sends.sending.pdu sends.sending.mark_start sends.accepted sends.cuts
 
--- and one that receives on it, and took these PDUs before: what it is and what was reported is what all PDUs that were taken do
+-- and one that receives on it, and took these PDUs before: what it is and what was reported is what all PDUs that were
+-- taken do
 pub record IsUmReceiver (config : Config) (dir : Dir) (b i : ℕ) (before : List (List ℕ)) (side : Side) (log : Log) : Type 0 where
   pub sends : Sends
-  pub bearing : side.layer.bearings b ≡ Unacknowledged sends (receives (before ++ pdus_in config dir b i log.taken) opened_receiving)
+  pub bearing : side.layer.bearings b ≡ Unacknowledged sends (receives (before
+      ++ pdus_in config dir b i log.taken) opened_receiving)
   pub lines : lines_of b side.said ≡ lines_all dir b (before ++ pdus_in config dir b i log.taken) opened_receiving
 
 -- the one at the near end, the other at the far end
@@ -99,7 +103,8 @@ got_lines dir b (unit ∷ units) = Got dir b unit ∷ got_lines dir b units
 abbrev pub pdus_of : Sends → List Pdu
 pdus_of s = pdus (s.sending.pdu - 1) s.sending.mark_start (sizes s.accepted) s.cuts
 
--- where all blocks came but these, which are on their way, all lines on the bearer are, in order, the accepted units whose length indicator lies in the PDUs that came
+-- where all blocks came but these, which are on their way, all lines on the bearer are, in order, the accepted units
+-- whose length indicator lies in the PDUs that came
 pub record IsUmCarried (config : Config) (dir : Dir) (b i : ℕ) (from : Layer) (said : List Line) (running : List (List Bit)) : Type 0 where
   pub sends : Sends
   pub receiving : Receiving
@@ -120,4 +125,5 @@ pub record IsKnownHistory (config : Config) (out : Dir) (b i : ℕ) (given taken
   pub came : List (List ℕ)
   pub all : came ≡ taken ++ pdus_in config out b i (w.out i).taken
   pub some : (arrives : ℕ → Bool) × ArriveAs near.sends arrives came
-  pub lines : (arrives : ℕ → Bool) → ArriveAs near.sends arrives came → AreFewLost 0 (sent_by near.sends arrives) → lines_of b w.far.said ≡ unit_lines out b (known_units (sent_by near.sends arrives) 0 near.sends.accepted)
+  pub lines : (arrives : ℕ → Bool) → ArriveAs near.sends arrives came → AreFewLost 0 (sent_by near.sends arrives)
+      → lines_of b w.far.said ≡ unit_lines out b (known_units (sent_by near.sends arrives) 0 near.sends.accepted)

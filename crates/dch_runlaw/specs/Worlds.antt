@@ -1,4 +1,5 @@
--- Two ends, and what went over their channels: the blocks that were given to each channel, and those that were taken of it as good.
+-- Two ends, and what went over their channels: the blocks that were given to each channel, and those that were taken of
+-- it as good.
 use Rattle.std.specs.Prelude.{◌≡◌, ◌++◌, ◌⊎◌, ℕ, List, [], ◌∷◌}
 use Rattle.dch_bits.specs.declared.bit.Bit.{Bit}
 use Rattle.dch_types.specs.declared.channel.Dir.{Dir}
@@ -37,7 +38,12 @@ abbrev pub no_log : Log
 no_log = record { given = []; taken = [] }
 
 abbrev pub opened_world : Config → Dir → Dir → World
-opened_world config out into = record { near = opened_side config out; far = opened_side config into; out = λ i. no_log; back = λ i. no_log }
+opened_world config out into = record {
+  near = opened_side config out;
+  far = opened_side config into;
+  out = λ i. no_log;
+  back = λ i. no_log;
+}
 
 -- the near end does something
 pub record DoesNear (config : Config) (out into : Dir) (old : World) (doing : Doing) (new : World) : Type 0 where
@@ -45,8 +51,16 @@ pub record DoesNear (config : Config) (out into : Dir) (old : World) (doing : Do
   pub does : Does config out into old.near.layer doing new.near.layer lines
   pub said : new.near.said ≡ old.near.said ++ lines
   pub far : new.far ≡ old.far
-  pub out_log : (i : ℕ) → new.out i ≡ record { given = (old.out i).given ++ given_by config out old.near.layer doing new.near.layer i; taken = (old.out i).taken }
-  pub back_log : (i : ℕ) → new.back i ≡ record { given = (old.back i).given; taken = (old.back i).taken ++ taken_by doing i }
+  pub out_log : (i : ℕ) → new.out i ≡ record {
+    given = (old.out i).given
+        ++ given_by config out old.near.layer doing new.near.layer i;
+    taken = (old.out i).taken;
+  }
+  pub back_log : (i : ℕ) → new.back i ≡ record {
+    given = (old.back i).given;
+    taken = (old.back i).taken
+        ++ taken_by doing i;
+  }
 
 -- it does something, and then more
 pub record DoesFirst (config : Config) (out into : Dir) (Rest : World → Type 0) (old : World) (doing : Doing) : Type 0 where
@@ -107,7 +121,8 @@ pub record AreWholeSoFar (up down : ℕ) (w : World) : Type 0 where
   pub out : IsFront (w.out up).taken (w.out up).given
   pub back : IsFront (w.back down).taken (w.back down).given
 
--- an end goes on in another configuration: its channels run their idle formats in it, no combination is blocked, and the bearers stay
+-- an end goes on in another configuration: its channels run their idle formats in it, no combination is blocked, and
+-- the bearers stay
 abbrev pub changed_side : Config → Dir → Side → Side
 changed_side config dir old = record { layer = changed_layer config dir old.layer; said = old.said }
 

@@ -8,15 +8,18 @@ ghost use Rattle.dch_runlaw.specs.Parts.{Begins};
 ghost use Rattle.dch_runlaw.specs.Runs.{Event, Runs};
 ghost use Rattle.dch_node.specs.Lines.{Line};
 
-/// A law: in a part of a run that begins at a CFN that is a multiple of 8, at opening or with a change, and in which each frame of the nodes
-/// arrives as it was sent, what is taken as good of each TTI of each channel is just what was given for it. No line says that a radio frame
-/// isn't sent, that a TTI is lost, that a block is bad or another one than was given, or that an Iub frame is refused.
+/// A law: in a part of a run that begins at a CFN that is a multiple of 8, at opening or with a change, and in which
+/// each frame of the nodes arrives as it was sent, what is taken as good of each TTI of each channel is just what was
+/// given for it. No line says that a radio frame isn't sent, that a TTI is lost, that a block is bad or another one
+/// than was given, or that an Iub frame is refused.
 pub fn clear_law()
-    ensures undamaged { (planned : Planned) (up down : ℕ) (events : List Event) (start new : LinkState) (lines : List Line) (run : Runs start events new lines) →
+    ensures undamaged { (planned : Planned) (up down : ℕ) (events : List Event) (start new : LinkState)
+        (lines : List Line) (run : Runs start events new lines) →
         IsPlanned planned → Begins planned start → start.rnc.state.cfn % 8 ≡ 0 → IsClear events start new lines run →
         up < length planned.config.uplink.side.channels → down < length planned.config.downlink.side.channels →
         IsUndamaged planned up down events start new lines run }
-    ensures sound { (planned : Planned) (events : List Event) (start new : LinkState) (lines : List Line) (run : Runs start events new lines) →
+    ensures sound { (planned : Planned) (events : List Event) (start new : LinkState) (lines : List Line)
+        (run : Runs start events new lines) →
         IsPlanned planned → Begins planned start → start.rnc.state.cfn % 8 ≡ 0 → IsClear events start new lines run →
         AreSound lines }
 {}

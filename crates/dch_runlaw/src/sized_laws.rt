@@ -13,15 +13,20 @@ ghost use Rattle.dch_runlaw.specs.SizedEnds.{Event, Reaches};
 ghost use Rattle.dch_runlaw.specs.SizedLinks.{IsSized};
 ghost use Rattle.dch_runlaw.specs.Sized.{AreGiven};
 
-/// A law. Layer 2 of an end is opened with a good configuration, and units are offered, combinations are blocked and free, timers tick,
-/// blocks come and TTIs start, in any order and as often as one likes. Then the blocks that each channel was given for its running TTI have
-/// the size of their format, and bits, and all together they are as many bits as the format has.
+/// A law. Layer 2 of an end is opened with a good configuration, and units are offered, combinations are blocked and
+/// free, timers tick, blocks come and TTIs start, in any order and as often as one likes. Then the blocks that each
+/// channel was given for its running TTI have the size of their format, and bits, and all together they are as many
+/// bits as the format has.
 pub fn end_law()
-    ensures { (config : Config) (out into : Dir) (events : List Event) (layer : Layer) → IsGood config → Reaches config out into (opened_layer config out) events layer → AreGiven (side_of config out) layer }
+    ensures { (config : Config) (out into : Dir) (events : List Event) (layer : Layer) → IsGood config →
+        Reaches config out into (opened_layer config out) events layer → AreGiven (side_of config out) layer }
 {}
 
-/// A law. In every part of a run of three nodes with an accepted configuration, from opening or from a change on, with any damage: after each
-/// start of TTIs the blocks of every channel of both ends have the size of their format, and bits, and all together they are as many bits as the format has.
+/// A law. In every part of a run of three nodes with an accepted configuration, from opening or from a change on, with
+/// any damage: after each start of TTIs the blocks of every channel of both ends have the size of their format, and
+/// bits, and all together they are as many bits as the format has.
 pub fn sized_law()
-    ensures { (planned : Planned) (events : List LinkEvent) (start new : LinkState) (lines : List Line) (run : Runs start events new lines) → IsPlanned planned → Begins planned start → IsSized planned events start new lines run }
+    ensures { (planned : Planned) (events : List LinkEvent) (start new : LinkState) (lines : List Line)
+        (run : Runs start events new lines) → IsPlanned planned → Begins planned start →
+        IsSized planned events start new lines run }
 {}

@@ -1,5 +1,5 @@
--- The list of PDUs of a sequence of units (TS 25.322 9.2.2.8). Octets are counted along the joined units. Of each PDU its cut is known: how
--- many units had been accepted when it was first built. It carries octets of these alone.
+-- The list of PDUs of a sequence of units (TS 25.322 9.2.2.8). Octets are counted along the joined units. Of each PDU
+-- its cut is known: how many units had been accepted when it was first built. It carries octets of these alone.
 use Rattle.std.specs.Prelude.{◌≡◌, ◌+◌, ◌-◌, ◌≤◌, ◌++◌, ◌&&◌, ◌||◌, ◌==◌, ℕ, zero, suc, List, [], ◌∷◌, Bool, true, false, not, length, take, map, filter, nat_lt, nat_le, if◌then◌else◌}
 use Rattle.dch_sar.specs.Filling.{total, ends_before, is_end}
 
@@ -17,7 +17,8 @@ abbrev pub is_start : ℕ → List ℕ → ℕ → Bool
 is_start at [] o = false
 is_start at (n ∷ ns) o = (at == o) || is_start (at + n) ns o
 
--- the indicator that stands first: 0 for an end that has still to be marked, 124 where starts are marked and a unit starts
+-- the indicator that stands first: 0 for an end that has still to be marked, 124 where starts are marked and a unit
+-- starts
 abbrev pub lead : Bool → List ℕ → Front → List ℕ
 lead starts ns f = if f.owed then 0 ∷ [] else (if starts && is_start 0 ns f.from then 124 ∷ [] else [])
 
@@ -25,7 +26,8 @@ lead starts ns f = if f.owed then 0 ∷ [] else (if starts && is_start 0 ns f.fr
 abbrev pub ends_between : List ℕ → ℕ → ℕ → List ℕ
 ends_between ns from o = filter (λ e. nat_lt from e) (ends_before 0 ns o)
 
--- what the octets up to a place cost: the indicator that stands first, themselves, and an indicator for each end strictly between
+-- what the octets up to a place cost: the indicator that stands first, themselves, and an indicator for each end
+-- strictly between
 abbrev pub cost_to : Bool → List ℕ → Front → ℕ → ℕ
 cost_to starts ns f o = length (lead starts ns f) + (o - f.from) + length (ends_between ns f.from o)
 
@@ -48,17 +50,22 @@ has_room size starts ns f = nat_lt (cost_to starts ns f (reach size starts ns f)
 
 -- the ends that it marks
 abbrev pub ends_marked : ℕ → Bool → List ℕ → Front → List ℕ
-ends_marked size starts ns f = ends_between ns f.from (reach size starts ns f) ++ (if ends_unit size starts ns f && has_room size starts ns f then reach size starts ns f ∷ [] else [])
+ends_marked size starts ns f = ends_between ns f.from (reach size starts ns f)
+    ++ (if ends_unit size starts ns f && has_room size starts ns f then reach size starts ns f ∷ [] else [])
 
 -- where the next PDU begins
 abbrev pub next_front : ℕ → Bool → List ℕ → Front → Front
-next_front size starts ns f = record { from = reach size starts ns f; owed = ends_unit size starts ns f && not (has_room size starts ns f) }
+next_front size starts ns f = record {
+  from = reach size starts ns f;
+  owed = ends_unit size starts ns f && not (has_room size starts ns f);
+}
 
 -- the padding indicator, where octets are left behind so many
 abbrev pub padding : ℕ → ℕ → List ℕ
 padding size spent = if nat_lt spent size then 127 ∷ [] else []
 
--- a PDU: the special indicator that stands first, the ends that it marks, the padding indicator, and the octets from one place to another
+-- a PDU: the special indicator that stands first, the ends that it marks, the padding indicator, and the octets from
+-- one place to another
 pub record Pdu : Type 0 where
   pub first : List ℕ
   pub ends : List ℕ
@@ -103,7 +110,8 @@ front size starts ns cuts = front_from size starts ns first_front cuts
 -- cuts may grow from PDU to PDU, up to the number of units. There is a PDU for each
 abbrev pub AreCuts : ℕ → Bool → List ℕ → ℕ → Front → List ℕ → Type 0
 AreCuts size starts ns low f [] = low ≤ length ns
-AreCuts size starts ns low f (cut ∷ cuts) = (low ≤ cut) × ((has_pdu (take cut ns) f ≡ true) × AreCuts size starts ns cut (next_front size starts (take cut ns) f) cuts)
+AreCuts size starts ns low f (cut ∷ cuts) = (low ≤ cut)
+    × ((has_pdu (take cut ns) f ≡ true) × AreCuts size starts ns cut (next_front size starts (take cut ns) f) cuts)
 
 -- what units of these lengths have left behind so many octets
 abbrev pub left_from : ℕ → List ℕ → List ℕ

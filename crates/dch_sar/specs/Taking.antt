@@ -1,5 +1,5 @@
--- How units come out of PDUs that are read one after another (TS 25.322 11.2.3, 11.3.3): of a unit no more than 1,501 octets are kept, which tell
--- that it is overlong.
+-- How units come out of PDUs that are read one after another (TS 25.322 11.2.3, 11.3.3): of a unit no more than 1,501
+-- octets are kept, which tell that it is overlong.
 use Rattle.std.specs.Prelude.{◌+◌, ◌++◌, ℕ, List, [], ◌∷◌, Bool, true, false, Option, Some, None, length, take, drop, nat_lt, if◌then◌else◌}
 use Rattle.dch_rlcpdu.specs.declared.handed.Handed.{Handed}
 use Rattle.dch_rlcpdu.specs.declared.handed.Handed.TheVariants.{Whole, Overlong}

@@ -17,8 +17,9 @@ const OCTETS: usize = LONGEST_SDU + 1 + 124;
 /// Room for the units that a PDU ends.
 const UNITS: usize = 128;
 
-/// Units of which all octets so far have come in order. The octets of those that ended and wait, and of the one in progress behind
-/// them, stand in one ring and the sizes of those that wait in another. Both are taken when it is opened.
+/// Units of which all octets so far have come in order. The octets of those that ended and wait, and of the one in
+/// progress behind them, stand in one ring and the sizes of those that wait in another. Both are taken when it is
+/// opened.
 #[derive(Drop)]
 pub struct Reassembler {
     part: usize,
@@ -35,7 +36,8 @@ impl Model for Reassembler {
 
     ghost view = { λ u. stored u.sizes.items u.octets.items };
 
-    ghost invariant = { λ u. IsStored u.sizes.items u.octets.items u.part × (u.octets.capacity ≡ 1625) × (u.sizes.capacity ≡ 128) };
+    ghost invariant = { λ u. IsStored u.sizes.items u.octets.items u.part × (u.octets.capacity ≡ 1625) ×
+        (u.sizes.capacity ≡ 128) };
 }
 
 impl Reassembler {
@@ -59,8 +61,8 @@ impl Reassembler {
         self.sizes.is_empty()
     }
 
-    /// Reads the next PDU, which has at most 124 indicators and octets. Where `full`, the unit in progress has ended with the PDU before. The
-    /// octets up to so many ends are left out.
+    /// Reads the next PDU, which has at most 124 indicators and octets. Where `full`, the unit in progress has ended
+    /// with the PDU before. The octets up to so many ends are left out.
     pub fn take(&mut self, full: bool, dead: usize, body: &Body<'_>)
         requires settled { self.old.waiting ≡ [] }
         requires dead { dead ≤ length (ends_of body.now.indicators) }

@@ -19,17 +19,26 @@ pub record CodeLine : Type 0 where
   pub bits : List ℕ
 
 abbrev pub coding_of : List ℕ → Option Coding
-coding_of word = if bytes_eq word (codes "none") then Some Uncoded else (if bytes_eq word (codes "half") then Some Half else (if bytes_eq word (codes "third") then Some Third else None))
+coding_of word = if bytes_eq word (codes "none") then Some Uncoded
+    else (if bytes_eq word (codes "half") then Some Half
+    else (if bytes_eq word (codes "third") then Some Third else None))
 
 abbrev pub crc_of : List ℕ → Option Crc
-crc_of word = if bytes_eq word (codes "0") then Some C0 else (if bytes_eq word (codes "8") then Some C8 else (if bytes_eq word (codes "12") then Some C12 else (if bytes_eq word (codes "16") then Some C16 else (if bytes_eq word (codes "24") then Some C24 else None))))
+crc_of word = if bytes_eq word (codes "0") then Some C0
+    else (if bytes_eq word (codes "8") then Some C8
+    else (if bytes_eq word (codes "12") then Some C12
+    else (if bytes_eq word (codes "16") then Some C16 else (if bytes_eq word (codes "24") then Some C24 else None))))
 
 -- a text of 1 to so many letters 0 and 1, or a dot for no bit
 abbrev pub is_bits : ℕ → List ℕ → Bool
 is_bits most text = bytes_eq text (codes ".") || (nat_lt 0 (length text) && (nat_le (length text) most && list_all (λ c. c == 48 || c == 49) text))
 
 abbrev pub code_of : Option Coding → Option Crc → List ℕ → Result CodeLine LineError
-code_of (Some coding) (Some crc) bits = if is_bits 5000 bits then Ok (record { coding = coding; crc = crc; bits = bits }) else Err Text
+code_of (Some coding) (Some crc) bits = if is_bits 5000 bits then Ok (record {
+  coding = coding;
+  crc = crc;
+  bits = bits;
+}) else Err Text
 code_of (Some coding) None bits = Err Text
 code_of None crc bits = Err Text
 
@@ -57,10 +66,12 @@ longest = 1048576
 
 -- what a line of `encode` says, or the first reason why it says nothing
 unfoldable pub meaning : List ℕ → Result CodeLine LineError
-meaning line = if nat_lt longest (length (content line)) then Err Long else (if is_ended line then line_words (words_of (content line)) else Err Cut)
+meaning line = if nat_lt longest (length (content line)) then Err Long
+    else (if is_ended line then line_words (words_of (content line)) else Err Cut)
 
 -- an event or an error is what words or a line say; an event lends a text of bits
 abbrev pub IsSaid : Result CodeLine LineError → Result Event LineError → Type 0
-IsSaid parsed (Ok (Code coding crc bits)) = (parsed ≡ Ok (record { coding = coding; crc = crc; bits = bits.now })) × (is_bits 5000 bits.now ≡ true)
+IsSaid parsed (Ok (Code coding crc bits)) = (parsed ≡ Ok (record { coding = coding; crc = crc; bits = bits.now }))
+    × (is_bits 5000 bits.now ≡ true)
 IsSaid parsed (Err error) = parsed ≡ Err error
 IsSaid parsed (Ok event) = ⊥

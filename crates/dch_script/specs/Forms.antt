@@ -46,10 +46,12 @@ abbrev pub two_shown : Result (Bor (List ℕ) × Bor (List ℕ)) LineError → R
 two_shown (Ok words) = Ok (words.0.now, words.1.now)
 two_shown (Err error) = Err error
 
-abbrev pub three_shown : Result (Bor (List ℕ) × Bor (List ℕ) × Bor (List ℕ)) LineError → Result (List ℕ × List ℕ × List ℕ) LineError
+abbrev pub three_shown : Result (Bor (List ℕ) × Bor (List ℕ) × Bor (List ℕ)) LineError
+    → Result (List ℕ × List ℕ × List ℕ) LineError
 three_shown (Ok words) = Ok (words.0.now, words.1.now, words.2.now)
 three_shown (Err error) = Err error
 
-abbrev pub four_shown : Result (Bor (List ℕ) × Bor (List ℕ) × Bor (List ℕ) × Bor (List ℕ)) LineError → Result (List ℕ × List ℕ × List ℕ × List ℕ) LineError
+abbrev pub four_shown : Result (Bor (List ℕ) × Bor (List ℕ) × Bor (List ℕ) × Bor (List ℕ)) LineError
+    → Result (List ℕ × List ℕ × List ℕ × List ℕ) LineError
 four_shown (Ok words) = Ok (words.0.now, words.1.now, words.2.now, words.3.now)
 four_shown (Err error) = Err error

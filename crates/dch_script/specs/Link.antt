@@ -96,4 +96,5 @@ names_damage first = bytes_eq first (codes "flip") || (bytes_eq first (codes "lo
 
 -- what a line of `link` says
 unfoldable pub link_words : Config → List ℕ → List (List ℕ) → Result ParsedLine LineError
-link_words config first words = if names_damage first then damage_words config first words else traffic_words config first words
+link_words config first words = if names_damage first then damage_words config first words
+    else traffic_words config first words

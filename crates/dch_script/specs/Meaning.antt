@@ -25,7 +25,8 @@ command_words Rnc config (first ∷ words) = rnc_words config first words
 
 -- the line without its line feed, where it is not too long and has one
 abbrev pub content_of : List ℕ → Result (List ℕ) LineError
-content_of line = if nat_lt longest (length (content line)) then Err Long else (if is_ended line then Ok (content line) else Err Cut)
+content_of line = if nat_lt longest (length (content line)) then Err Long
+    else (if is_ended line then Ok (content line) else Err Cut)
 
 -- what a line of a command says, under a configuration
 unfoldable pub meaning_in : Command → Config → List ℕ → Result ParsedLine LineError

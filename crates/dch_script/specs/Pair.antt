@@ -118,7 +118,8 @@ is_opening (reset end) = false
 
 -- what the lines keep, so that their words can be used without a further look
 abbrev pub IsOfPair : ParsedPair → Type 0
-IsOfPair (ends first second buffer window) = (6 ≤ first) × (first ≤ 126) × (6 ≤ second) × (second ≤ 126) × (1 ≤ buffer) × (buffer ≤ 4096) × (1 ≤ window) × (window ≤ 2048)
+IsOfPair (ends first second buffer window) = (6 ≤ first) × (first ≤ 126) × (6 ≤ second) × (second ≤ 126) × (1 ≤ buffer)
+    × (buffer ≤ 4096) × (1 ≤ window) × (window ≤ 2048)
 IsOfPair (offer end hex) = (end ≤ 1) × (is_unit Am hex ≡ true)
 IsOfPair (build end) = end ≤ 1
 IsOfPair (arrive end) = end ≤ 1

@@ -26,7 +26,8 @@ dir_of word = if bytes_eq word (codes "up") then Ok Up else (if bytes_eq word (c
 
 -- the direction of an Iub frame
 unfoldable pub iub_dir_of : List ℕ → Result Dir LineError
-iub_dir_of word = if bytes_eq word (codes "iubup") then Ok Up else (if bytes_eq word (codes "iubdown") then Ok Down else Err Text)
+iub_dir_of word = if bytes_eq word (codes "iubup") then Ok Up
+    else (if bytes_eq word (codes "iubdown") then Ok Down else Err Text)
 
 -- PART: whether it is the TFCI
 unfoldable pub part_of : List ℕ → Result Bool LineError

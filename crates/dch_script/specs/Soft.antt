@@ -34,7 +34,8 @@ legless_words config first words = do
 -- what the words of a line say
 abbrev pub soft_words : ℕ → Config → List (List ℕ) → Result (Option ℕ × ParsedLine) LineError
 soft_words legs config [] = Err Word
-soft_words legs config (first ∷ words) = if bytes_eq first (codes "leg") then leg_words legs config words else legless_words config first words
+soft_words legs config (first ∷ words) = if bytes_eq first (codes "leg") then leg_words legs config words
+    else legless_words config first words
 
 -- what a line of `soft` with so many legs says, under a configuration
 unfoldable pub soft_meaning : ℕ → Config → List ℕ → Result (Option ℕ × ParsedLine) LineError

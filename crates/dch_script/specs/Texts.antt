@@ -17,7 +17,8 @@ is_word_of_bits count text = length text == count && list_all (λ c. c == 48 || 
 unfoldable pub is_cells : ℕ → List ℕ → Bool
 is_cells most text = bytes_eq text (codes ".") || (nat_lt 0 (length text) && (nat_le (length text) most && list_all (λ c. c == 48 || (c == 49 || c == 45)) text))
 
--- the cells of a radio frame of a direction: bits in the uplink, and in the downlink any of 0, 1 and -; at most 57,600 letters
+-- the cells of a radio frame of a direction: bits in the uplink, and in the downlink any of 0, 1 and -; at most 57,600
+-- letters
 unfoldable pub are_cells : Dir → List ℕ → Bool
 are_cells Up text = is_bits 57600 text
 are_cells Down text = is_cells 57600 text

@@ -15,7 +15,8 @@ use Rattle.dch_script.specs.Texts.{is_unit}
 
 -- the bearer stands in the list and has a channel in the direction
 unfoldable pub has_channel : Config → Dir → ℕ → Bool
-has_channel config dir b = option_map_or (λ bearer. is_some (channel_number dir bearer)) (slice_get config.bearers b) false
+has_channel config dir b = option_map_or (λ bearer. is_some (channel_number dir bearer))
+    (slice_get config.bearers b) false
 
 abbrev pub named_bearer : Config → Dir → Option ℕ → Result ℕ LineError
 named_bearer config dir None = Err NoBearer

@@ -12,9 +12,9 @@ use crate::nodes::{node_b_event, rnc_event, ue_event};
 use crate::words::cut_word;
 use dch_types::Config;
 
-/// Reads an event line of a command under a configuration, with its line feed where the input has one. Of a line that is
-/// too long, the first 1,048,577 bytes are enough. The events of `ue` name the uplink where they name a direction, and those
-/// of `rnc` the downlink. `LineError::When` is left to the caller.
+/// Reads an event line of a command under a configuration, with its line feed where the input has one. Of a line that
+/// is too long, the first 1,048,577 bytes are enough. The events of `ue` name the uplink where they name a direction,
+/// and those of `rnc` the downlink. `LineError::When` is left to the caller.
 pub fn parse_in<'a>(
     command: Command,
     config: &Config,

@@ -12,15 +12,16 @@ use dch_types::Mode;
 /// What a line of `pair` says; an end is 0 for `a` and 1 for `b`.
 #[derive(Clone, Copy)]
 pub enum PairLine<'a> {
-    /// Open the two ends: the octets of the PDUs that `a` and `b` build, 6 to 126, the blocks of 64 octets that an end may hold,
-    /// 1 to 4096, and the PDUs of the window, 1 to 2048.
+    /// Open the two ends: the octets of the PDUs that `a` and `b` build, 6 to 126, the blocks of 64 octets that an end
+    /// may hold, 1 to 4096, and the PDUs of the window, 1 to 2048.
     Ends {
         first: u16,
         second: u16,
         buffer: u16,
         window: u16,
     },
-    /// Offer a unit to an end: `hex` is its hexadecimal text, of at most 2,000 octets, as it stands in the line, an empty one as `.`.
+    /// Offer a unit to an end: `hex` is its hexadecimal text, of at most 2,000 octets, as it stands in the line, an
+    /// empty one as `.`.
     Offer {
         end: u8,
         hex: &'a [u8],
@@ -47,8 +48,8 @@ pub enum PairLine<'a> {
     },
 }
 
-/// Reads a line of `pair` by itself, with its line feed where the input has one. Of a line that is too long, the first 1,048,577
-/// bytes are enough. Its place in the script and `LineError::When` are left to the caller.
+/// Reads a line of `pair` by itself, with its line feed where the input has one. Of a line that is too long, the first
+/// 1,048,577 bytes are enough. Its place in the script and `LineError::When` are left to the caller.
 pub fn parse_pair<'a>(line: &'a [u8]) -> Result<PairLine<'a>, LineError>
     ensures says { parsed_pair result ≡ pair_meaning line.entry.now }
     ensures good { IfOk result (λ parsed. IsOfPair (pair_of parsed)) }

@@ -11,9 +11,9 @@ use crate::parts::number_in;
 use crate::words::{cut_word, is_word, next_word};
 use dch_types::Config;
 
-/// Reads a line of `soft` with so many legs under a configuration: the leg that damage is done to, and the event. The lines are
-/// those of `link`, save that `flip`, `lose` and `spoil` stand after `leg K`, K below `legs`, and nothing else does. The length of
-/// the line is as for `parse_in`; `LineError::When` is left to the caller.
+/// Reads a line of `soft` with so many legs under a configuration: the leg that damage is done to, and the event. The
+/// lines are those of `link`, save that `flip`, `lose` and `spoil` stand after `leg K`, K below `legs`, and nothing
+/// else does. The length of the line is as for `parse_in`; `LineError::When` is left to the caller.
 pub fn parse_leg<'a>(
     legs: u8,
     config: &Config,

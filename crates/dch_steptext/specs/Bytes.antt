@@ -1,5 +1,5 @@
--- How many bytes of report can still come of what a bearer holds: of the unit in progress, and in acknowledged mode of the PDUs that
--- arrived behind a missing one.
+-- How many bytes of report can still come of what a bearer holds: of the unit in progress, and in acknowledged mode of
+-- the PDUs that arrived behind a missing one.
 use Rattle.std.specs.Prelude.{ℕ, length}
 use Rattle.dch_types.specs.declared.config.Config.{Config}
 use Rattle.dch_types.specs.Sums.{total}

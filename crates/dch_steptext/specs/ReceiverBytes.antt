@@ -1,5 +1,6 @@
--- How many bytes of report can still come of what a receiver of the acknowledged mode holds: of the unit in progress, and of the PDUs that
--- arrived behind a missing one (TS 25.322 11.3.3). A line on a unit has up to 13 bytes and two for each octet; one on an overlong unit has up to 17.
+-- How many bytes of report can still come of what a receiver of the acknowledged mode holds: of the unit in progress,
+-- and of the PDUs that arrived behind a missing one (TS 25.322 11.3.3). A line on a unit has up to 13 bytes and two for
+-- each octet; one on an overlong unit has up to 17.
 use Rattle.std.specs.Prelude.{◌≡◌, ◌≤◌, ◌++◌, ◌+◌, ◌*◌, ℕ, List, [], ◌∷◌, Bool, true, false, length, min, nat_lt, if◌then◌else◌}
 use Rattle.dch_types.specs.Sums.{total}
 use Rattle.dch_am.specs.Bodies.{Body}
@@ -19,8 +20,8 @@ abbrev pub part_bytes : List ℕ → ℕ
 part_bytes [] = 0
 part_bytes (x ∷ xs) = 7 + 2 * min 1501 (length (x ∷ xs))
 
--- of the indicator that stands first, of pieces with their length indicators, and of a PDU. An octet brings at most nine bytes, since it may be the
--- first of a unit
+-- of the indicator that stands first, of pieces with their length indicators, and of a PDU. An octet brings at most
+-- nine bytes, since it may be the first of a unit
 abbrev pub full_bytes : Bool → ℕ
 full_bytes true = 6
 full_bytes false = 0
@@ -40,8 +41,8 @@ run_bytes arrived from n = total (λ i. body_bytes (body_of arrived (from + i)))
 abbrev pub receiver_bytes : ℕ → Receiver → ℕ
 receiver_bytes window r = part_bytes r.reading.part + run_bytes r.arrived (vr_r r) window
 
--- a receiver after an event: units that ended follow, and what is told of them and what can still come is no more than before and so
--- many bytes
+-- a receiver after an event: units that ended follow, and what is told of them and what can still come is no more than
+-- before and so many bytes
 pub record Takes (window : ℕ) (old new : Receiver) (bytes : ℕ) : Type 0 where
   pub more : List (List ℕ)
   pub units : new.reading.units ≡ old.reading.units ++ more

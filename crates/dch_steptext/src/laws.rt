@@ -47,20 +47,23 @@ pub fn receiver_law()
         receiver_bytes window r ≤ 3009 + window * 1116 }
 {}
 
-/// A law: the report on blocks that come is paid out of what the bearers held, and of 5,200 bytes for each block. An offer is answered by
-/// a line of at most 40 bytes.
+/// A law: the report on blocks that come is paid out of what the bearers held, and of 5,200 bytes for each block. An
+/// offer is answered by a line of at most 40 bytes.
 pub fn report_law()
-    ensures offers { (config : Config) (out : Dir) (b : ℕ) (octets : List ℕ) (bits : List Bit) (layer : Layer) → b < 1000 →
+    ensures offers { (config : Config) (out : Dir) (b : ℕ) (octets : List ℕ) (bits : List Bit) (layer : Layer) →
+        b < 1000 →
         length (text_of (offers config out b octets bits layer).lines) ≤ 40 }
     ensures takes { (config : Config) (into : Dir) (channel k : ℕ) (came : List Came) (layer : Layer) → IsGood config →
-        channel < length (side_of config into).channels → k + length came ≤ 1000 → AreBlocks config into channel came → AreBounded config layer →
+        channel < length (side_of config into).channels → k + length came ≤ 1000 → AreBlocks config into channel came →
+        AreBounded config layer →
         length (text_of (takes config into channel k came layer).lines) + layer_bytes config (takes config into channel k came layer).layer
         ≤ layer_bytes config layer + length came * 5200 }
 {}
 
 /// A law: what the bearers of an end hold comes to at most 2,400,000 bytes of report for each.
 pub fn held_law()
-    ensures { (config : Config) (layer : Layer) → IsGood config → AreBounded config layer → layer_bytes config layer ≤ length config.bearers * 2400000 }
+    ensures { (config : Config) (layer : Layer) → IsGood config → AreBounded config layer →
+        layer_bytes config layer ≤ length config.bearers * 2400000 }
 {}
 
 /// A law: nothing else changes what the bearers hold.
@@ -68,8 +71,10 @@ pub fn still_law()
     ensures opened { (config : Config) (out : Dir) → layer_bytes config (opened_layer config out) ≡ 0 }
     ensures offers { (config : Config) (out : Dir) (b : ℕ) (octets : List ℕ) (bits : List Bit) (layer : Layer) →
         layer_bytes config (offers config out b octets bits layer).layer ≡ layer_bytes config layer }
-    ensures blocks { (config : Config) (c : ℕ) (on : Bool) (layer : Layer) → layer_bytes config (blocks c on layer) ≡ layer_bytes config layer }
-    ensures ticks { (config : Config) (layer : Layer) → layer_bytes config (ticks config layer) ≡ layer_bytes config layer }
+    ensures blocks { (config : Config) (c : ℕ) (on : Bool) (layer : Layer) →
+        layer_bytes config (blocks c on layer) ≡ layer_bytes config layer }
+    ensures ticks { (config : Config) (layer : Layer) →
+        layer_bytes config (ticks config layer) ≡ layer_bytes config layer }
     ensures starts { (config : Config) (out : Dir) (cfn : ℕ) (old new : Layer) → IsStart config out cfn old new →
         layer_bytes config new ≡ layer_bytes config old }
 {}

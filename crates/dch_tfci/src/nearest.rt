@@ -24,7 +24,8 @@ type Costs = [Lanes; 32];
 pub fn find(received: &[Bit]) -> Tfci
     requires { IsSize (length received.now) }
     ensures nearest { IsNearest received.now result.index result.distance }
-    ensures corrected { (index : ℕ) → index < 1024 → length received.now ≡ 30 → distance received.now (sent index 30) ≤ 4 →
+    ensures corrected { (index : ℕ) → index < 1024 → length received.now ≡ 30 →
+        distance received.now (sent index 30) ≤ 4 →
         (result.index ≡ index) × (result.distance ≡ distance received.now (sent index 30)) }
 {
     let mut other = empty_table();
@@ -51,7 +52,8 @@ fn empty_table() -> Table {
 /// come into the second table.
 fn all_costs(received: &[Bit], other: &mut Table, table: &mut Table)
     requires { IsSize (length received.now) }
-    ensures { (k m : ℕ) → k < 32 → m < 16 → cell table.new.costs k m ≡ distance received.now (sent (k + 64 * m) (length received.now)) }
+    ensures { (k m : ℕ) → k < 32 → m < 16 → cell table.new.costs k m ≡
+        distance received.now (sent (k + 64 * m) (length received.now)) }
 {
     first_table(received, other);
     next_table(other, table);
@@ -105,7 +107,8 @@ fn nothing() -> [u8; 128]
 /// The sums over the copies of each place.
 fn by_place(out: &[u8; 128]) -> [u8; 32]
     requires { (k : ℕ) → k < 128 → slice_index out.now k ≤ 1 }
-    ensures { (i : ℕ) → i < 32 → slice_index result i ≡ slice_index out.now i + slice_index out.now (32 + i) + slice_index out.now (64 + i) + slice_index out.now (96 + i) }
+    ensures { (i : ℕ) → i < 32 → slice_index result i ≡
+        slice_index out.now i + slice_index out.now (32 + i) + slice_index out.now (64 + i) + slice_index out.now (96 + i) }
 {
     let mut sums = [0u8; 32];
     for i in 0..32usize {
@@ -130,7 +133,8 @@ fn first_copies(zero: &[u8; 32], one: &[u8; 32]) -> [u8; 32]
 
 /// The copies of the place at each position that differ from the sums of the last four basis sequences.
 fn first_costs(zero: &[u8; 32], one: &[u8; 32], costs: &mut Costs)
-    ensures { (x m : ℕ) → x < 32 → m < 16 → cell costs.new x m ≡ (if word_bit (64 * m) (place x) == 1 then slice_index one.now (place x) else slice_index zero.now (place x)) }
+    ensures { (x m : ℕ) → x < 32 → m < 16 → cell costs.new x m ≡
+        (if word_bit (64 * m) (place x) == 1 then slice_index one.now (place x) else slice_index zero.now (place x)) }
 {
     for x in 0..32usize {
         let i = place_at(x);
@@ -250,7 +254,8 @@ fn lesser_keys(keys: &[u16; 16], row: &Lanes, size: u16, k: u16) -> [u16; 16]
     requires few { size ≤ 120 }
     requires row { (m : ℕ) → m < 16 → slice_index row.now m ≤ size }
     requires k { k < 32 }
-    ensures { (m : ℕ) → m < 16 → slice_index result m ≡ min (slice_index keys.now m) (min (64 * slice_index row.now m + k) (64 * (size - slice_index row.now m) + 32 + k)) }
+    ensures { (m : ℕ) → m < 16 → slice_index result m ≡ min (slice_index keys.now m)
+        (min (64 * slice_index row.now m + k) (64 * (size - slice_index row.now m) + 32 + k)) }
 {
     let mut out = [0u16; 16];
     for m in 0..16usize {

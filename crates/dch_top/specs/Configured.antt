@@ -49,7 +49,8 @@ EndsEarly kind source sink taken written WriteFault = CutsRefusal kind source si
 EndsEarly kind source sink taken written NoMemory = LacksEarly taken × (written ≡ [])
 EndsEarly kind source sink taken written TooLong = IsLongEarly taken × (written ≡ [])
 
--- the work with the lines of a script in a state, before the first of them: the line `open` waits, and lines are counted over the whole input
+-- the work with the lines of a script in a state, before the first of them: the line `open` waits, and lines are
+-- counted over the whole input
 abbrev pub script_begin : {S : Type 0} → List ℕ → S → Progress S
 script_begin taken state = record {
   handler = state;
@@ -66,8 +67,8 @@ pub record ArePlannedAs (kind : FrontKind) (text : List ℕ) (accepted : Configu
   pub plans : IsPlanned accepted.first
   pub later : IfSome accepted.second (λ second. IsPlanned second.accepted)
 
--- what stands in front is complete and accepted, and the lines behind it are followed from the state in which the command is opened for it. At hand
--- before are no more bytes than what is left of the piece with which it is complete
+-- what stands in front is complete and accepted, and the lines behind it are followed from the state in which the
+-- command is opened for it. At hand before are no more bytes than what is left of the piece with which it is complete
 pub record FollowsScript {S : Type 0} (kind : FrontKind) (semantics : Semantics S) (opened : Configurations → S) (source sink : End) (taken written : List ℕ) (after : S) (outcome : Outcome) : Type 0 where
   pub ended : HasEnded source taken
   pub accepted : Configurations
@@ -99,13 +100,15 @@ pub record EndsLate {S : Type 0} (kind : FrontKind) (semantics : Semantics S) (o
   pub same : status ≡ outcome_status outcome
   pub enough : outcome ≢ Lacking
 
--- the source gave some bytes, and the sink took the answer to them; where the line `open` was written this holds of the command's state afterwards
+-- the source gave some bytes, and the sink took the answer to them; where the line `open` was written this holds of the
+-- command's state afterwards
 pub record RunsConfigured {S : Type 0} (kind : FrontKind) (semantics : Semantics S) (opened : Configurations → S) (Holds : S → Type 0) (source sink : End) (status : Status) : Type 0 where
   pub taken : List ℕ
   pub written : List ℕ
   pub takes : Consumes source.before source.now taken
   pub writes : Appends sink.before sink.now written
-  pub answers : EndsEarly kind source sink taken written status ⊎ ((after : S) × (EndsLate kind semantics opened source sink taken written after status × Holds after))
+  pub answers : EndsEarly kind source sink taken written status
+      ⊎ ((after : S) × (EndsLate kind semantics opened source sink taken written after status × Holds after))
 
 -- the same, where the run ended without the line `open`
 pub record EndsUnopened (kind : FrontKind) (source sink : End) (status : Status) : Type 0 where
@@ -147,7 +150,8 @@ pub record FollowsLast {S : Type 0} (semantics : Semantics S) (source sink : End
 
 abbrev pub FollowsRest : {S : Type 0} → Semantics S → Bool → End → End → Progress S → S → List ℕ → Outcome → Type 0
 FollowsRest semantics at_end source sink old after part outcome =
-    MatchBool at_end (FollowsLast semantics source sink old after part outcome) (FollowsInput semantics source sink old after part outcome)
+    MatchBool at_end (FollowsLast semantics source sink old after part outcome)
+    (FollowsInput semantics source sink old after part outcome)
 
 abbrev pub FollowsBehind : {S : Type 0} → Semantics S → End → End → TakenConfig → S → S → List ℕ → Outcome → Type 0
 FollowsBehind semantics source sink front state after part outcome = FollowsRest semantics front.pending.at_end source sink (opened_begin front state) after part outcome
@@ -161,10 +165,14 @@ pub record StopsBehind {S : Type 0} (semantics : Semantics S) (source sink : End
   pub enough : outcome ≢ Lacking
   pub ill : outcome ≢ Done
 
--- what following the lines behind a configuration does, where a handler stands for a state: nothing, for want of memory, or all of it
-abbrev pub FollowsTo : {S C : Type 0} → Semantics S → (S → C → Type 0) → End → End → TakenConfig → S → List ℕ → Result C Status → Type 0
-FollowsTo {S} semantics represents source sink front state part (Ok handler) = (after : S) × (represents after handler × FollowsBehind semantics source sink front state after part Done)
-FollowsTo semantics represents source sink front state part (Err status) = ((status ≡ NoMemory) × IsUntouched source sink) ⊎ StopsBehind semantics source sink front state part status
+-- what following the lines behind a configuration does, where a handler stands for a state: nothing, for want of
+-- memory, or all of it
+abbrev pub FollowsTo : {S C : Type 0} → Semantics S → (S → C → Type 0) → End → End → TakenConfig → S → List ℕ
+    → Result C Status → Type 0
+FollowsTo {S} semantics represents source sink front state part (Ok handler) = (after : S)
+    × (represents after handler × FollowsBehind semantics source sink front state after part Done)
+FollowsTo semantics represents source sink front state part (Err status) = ((status ≡ NoMemory)
+    × IsUntouched source sink) ⊎ StopsBehind semantics source sink front state part status
 
 -- no line of the command wants memory
 abbrev pub WantsNone : {S : Type 0} → Semantics S → Type 0

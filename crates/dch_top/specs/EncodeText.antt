@@ -30,4 +30,5 @@ closing count = codes "end lines=" ++ decimal count ++ codes "\n"
 
 -- the rules of `encode`, which has no state: a line is answered by its coded bits
 abbrev pub encoding : Semantics (Unit {0})
-encoding = one_step (λ old line new text. Answers (meaning line) text) (λ state line why. meaning line ≡ Err why) (λ state count. closing count)
+encoding = one_step (λ old line new text. Answers (meaning line) text) (λ state line why. meaning line ≡ Err why)
+    (λ state count. closing count)

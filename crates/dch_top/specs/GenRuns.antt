@@ -10,7 +10,8 @@ use Rattle.dch_top.specs.Benches.{Nodes, no_nodes}
 use Rattle.dch_top.specs.declared.status.Status.{Status}
 use Rattle.dch_top.specs.declared.status.Status.TheVariants.{Ok, WriteFault, NoMemory}
 
--- the sink took the summary of a run, and the bench holds all three nodes, each of which stands for just what happened at it in this run
+-- the sink took the summary of a run, and the bench holds all three nodes, each of which stands for just what happened
+-- at it in this run
 pub record HoldsGen (start frames : ℕ) (sink : End) (nodes : Nodes) : Type 0 where
   pub ue : Ue
   pub node_b : NodeB

@@ -1,4 +1,5 @@
--- The command line `COMMAND [COUNT] [--start N] [--quiet]`, as `clap` is told of it, and what `clap` reads in its words.
+-- The command line `COMMAND [COUNT] [--start N] [--quiet]`, as `clap` is told of it, and what `clap` reads in its
+-- words.
 use Rattle.std.specs.Prelude.{◌≡◌, List, [], Bool, true, false, Option, Some, codes, find, option_and_then}
 use Rattle.std.specs.Str.{bytes_eq}
 use Rattle.clap.specs.Words.{App, Row, Rule, Text, new_app, new_rule, with_rule, fault_of}

@@ -63,8 +63,10 @@ EndsAs source taken good state last WriteFault = CutsLine taken good state last 
 EndsAs source taken good state last NoMemory = ⊥
 EndsAs source taken good state last TooLong = (lines_within taken state ≡ good) × (last ≡ [])
 
--- the source gave configurations that are accepted, and lines behind them of which these lead three nodes through a run; the sink took the line
--- `open`, the text that is shown of the run, and what ends it; and the rows of the text hand up the units of the bearers
+-- the source gave configurations that are accepted, and lines behind them of which these lead three nodes through a
+-- run; the sink took the line
+-- `open`, the text that is shown of the run, and what ends it; and the rows of the text hand up the units of the
+-- bearers
 pub record CarriesHandled (start : ℕ) (quiet : Bool) (source sink : End) (status : Status) : Type 0 where
   pub taken : List ℕ
   pub written : List ℕ
@@ -90,4 +92,5 @@ pub record CutsOpen (sink : End) (status : Status) : Type 0 where
 
 -- how a run ends: without the line `open`, within it, or behind some lines that were handled
 abbrev pub CarriesSoFar : ℕ → Bool → End → End → Status → Type 0
-CarriesSoFar start quiet source sink status = EndsUnopened Both source sink status ⊎ (CutsOpen sink status ⊎ CarriesHandled start quiet source sink status)
+CarriesSoFar start quiet source sink status = EndsUnopened Both source sink status
+    ⊎ (CutsOpen sink status ⊎ CarriesHandled start quiet source sink status)

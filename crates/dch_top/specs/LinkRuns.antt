@@ -33,7 +33,8 @@ HaveRunHistories ue node_b rnc run = HaveHistories run.began (active run.link) r
 -- where all went well there are three nodes, which stand for just what happened in this run
 abbrev pub GivesNodes : ℕ → Bool → End → End → Result (Ue × NodeB × Rnc) Status → Type 0
 GivesNodes start quiet source sink (Ok nodes) = RunsLines start quiet (HaveRunHistories nodes.0 nodes.1 nodes.2) source sink Well
-GivesNodes start quiet source sink (Err status) = RunsLines start quiet (λ run. Unit {0}) source sink status × (status ≢ Well)
+GivesNodes start quiet source sink (Err status) = RunsLines start quiet (λ run. Unit {0}) source sink status
+    × (status ≢ Well)
 
 -- the bench holds all three nodes, each of which stands for just what happened at it in a run
 pub record HoldsLink (nodes : Nodes) (run : Run) : Type 0 where
@@ -46,6 +47,7 @@ pub record HoldsLink (nodes : Nodes) (run : Run) : Type 0 where
 abbrev pub RunsLink : ℕ → Bool → End → End → Nodes → Status → Type 0
 RunsLink start quiet source sink nodes status = RunsWith Both link_lines (run_of start quiet) HoldsLink source sink nodes status
 
--- the lines are good ones of three nodes that were opened for configurations, none of which is refused where those before it lead
+-- the lines are good ones of three nodes that were opened for configurations, none of which is refused where those
+-- before it lead
 abbrev pub AreLinkLines : Configurations → List (List ℕ) → Type 0
 AreLinkLines accepted lines = AreRunLines accepted.first.config (coming (later_of accepted.second)) 0 lines

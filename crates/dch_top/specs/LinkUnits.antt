@@ -11,9 +11,9 @@ use Rattle.dch_top.specs.Configured.{ArePlannedAs}
 use Rattle.dch_top.specs.NodeRuns.{later_of}
 use Rattle.dch_top.specs.declared.front.FrontKind.TheVariants.{Both}
 
--- the source gave configurations that are accepted, and lines behind them that lead three nodes through a run; the sink took the line `open`,
--- the text that is shown of the run, and the closing line; and the rows of the text hand up the units of the bearers, over both parts of the run
--- where a second configuration became active
+-- the source gave configurations that are accepted, and lines behind them that lead three nodes through a run; the sink
+-- took the line `open`, the text that is shown of the run, and the closing line; and the rows of the text hand up the
+-- units of the bearers, over both parts of the run where a second configuration became active
 pub record CarriesUnits (start : ℕ) (quiet : Bool) (source sink : End) : Type 0 where
   pub taken : List ℕ
   pub written : List ℕ

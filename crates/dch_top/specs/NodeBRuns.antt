@@ -12,7 +12,8 @@ use Rattle.dch_top.specs.declared.status.Status.{Status}
 
 -- the bench holds just a Node B, which stands for just the events of a run
 abbrev pub HoldsNodeB : Nodes → Run State Event → Type 0
-HoldsNodeB nodes run = (node : Node) × ((nodes ≡ record no_nodes { node_bs = node ∷ [] }) × HasRunHistory node_b_rules Represents Shows node run)
+HoldsNodeB nodes run = (node : Node) × ((nodes ≡ record no_nodes { node_bs = node ∷ [] })
+    × HasRunHistory node_b_rules Represents Shows node run)
 
 abbrev pub RunsNodeB : ℕ → Bool → End → End → Nodes → Status → Type 0
 RunsNodeB start quiet source sink nodes status = RunsNode node_b_rules HoldsNodeB start quiet source sink nodes status

@@ -29,14 +29,17 @@ run_of rules start quiet accepted = opened_run rules accepted.first (later_of ac
 
 -- the lines behind the configurations are the events of a node that was opened for them
 abbrev pub RunsLines : {S E : Type 0} → NodeRules S E → ℕ → Bool → (Run S E → Type 0) → End → End → Status → Type 0
-RunsLines rules start quiet Holds source sink status = RunsConfigured Both (node_lines rules) (run_of rules start quiet) Holds source sink status
+RunsLines rules start quiet Holds source sink status = RunsConfigured Both (node_lines rules)
+    (run_of rules start quiet) Holds source sink status
 
 -- a node stands for just the events of a run
-abbrev pub HasRunHistory : {S E V : Type 0} → NodeRules S E → (Planned → S → V → Type 0) → (Output → V → Type 0) → V → Run S E → Type 0
+abbrev pub HasRunHistory : {S E V : Type 0} → NodeRules S E → (Planned → S → V → Type 0) → (Output → V → Type 0) → V
+    → Run S E → Type 0
 HasRunHistory rules Represents Shows node run = RepresentsHistory rules Represents Shows run.began (rules.planned run.node) run.first run.events run.lines node
 
 -- where all went well there is a node, which stands for just the events of this run
-abbrev pub GivesNode : {S E V : Type 0} → NodeRules S E → (Planned → S → V → Type 0) → (Output → V → Type 0) → ℕ → Bool → End → End → Result V Status → Type 0
+abbrev pub GivesNode : {S E V : Type 0} → NodeRules S E → (Planned → S → V → Type 0) → (Output → V → Type 0) → ℕ → Bool
+    → End → End → Result V Status → Type 0
 GivesNode rules Represents Shows start quiet source sink (Ok node) = RunsLines rules start quiet (HasRunHistory rules Represents Shows node) source sink Well
 GivesNode rules Represents Shows start quiet source sink (Err status) = RunsLines rules start quiet (λ run. Unit {0}) source sink status × (status ≢ Well)
 
@@ -51,9 +54,12 @@ pub record RunsWith {S : Type 0} (kind : FrontKind) (semantics : Semantics S) (o
   pub idle : status ≢ Well → nodes ≡ no_nodes
 
 -- a run of a command with one node: what it took and wrote, its status, and what the bench holds
-abbrev pub RunsNode : {S E : Type 0} → NodeRules S E → (Nodes → Run S E → Type 0) → ℕ → Bool → End → End → Nodes → Status → Type 0
-RunsNode rules Holds start quiet source sink nodes status = RunsWith Both (node_lines rules) (run_of rules start quiet) Holds source sink nodes status
+abbrev pub RunsNode : {S E : Type 0} → NodeRules S E → (Nodes → Run S E → Type 0) → ℕ → Bool → End → End → Nodes
+    → Status → Type 0
+RunsNode rules Holds start quiet source sink nodes status = RunsWith Both (node_lines rules)
+    (run_of rules start quiet) Holds source sink nodes status
 
--- the lines are good ones of a node that was opened for configurations, none of which is refused where those before it lead
+-- the lines are good ones of a node that was opened for configurations, none of which is refused where those before it
+-- lead
 abbrev pub AreNodeLines : {S E : Type 0} → NodeRules S E → Configurations → List (List ℕ) → Type 0
 AreNodeLines rules accepted lines = AreRunLines rules accepted.first.config (coming (later_of accepted.second)) 0 lines

@@ -8,7 +8,8 @@ use Rattle.dch_top.specs.EncodeText.{encoding}
 
 meaning_long : (line : List ℕ) → longest < length (content line) → meaning line ≡ Err Long
 unfolding meaning
-meaning_long line long = let over : nat_lt longest (length (content line)) ≡ true = lt-ltb longest (length (content line)) long in rw over refl
+meaning_long line long = let over : nat_lt longest (length (content line))
+    ≡ true = lt-ltb longest (length (content line)) long in rw over refl
 
 pub encoding_refuses_long : RefusesLong encoding
 encoding_refuses_long state line long = meaning_long line long

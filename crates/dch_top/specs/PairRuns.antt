@@ -24,7 +24,8 @@ BeginsPair represents progress = represents None progress.handler × (standing N
 
 -- the lines of the input were followed, and left the ends in some state
 abbrev pub FollowsPair : End → End → Outcome → Type 0
-FollowsPair source sink outcome = (after : Option Ends) × FollowsInput pair_lines source sink pair_begin after [] outcome
+FollowsPair source sink outcome = (after : Option Ends)
+    × FollowsInput pair_lines source sink pair_begin after [] outcome
 
 -- how following them ends; the first line alone may want memory
 abbrev pub FollowsAs : End → End → Status → Type 0
@@ -42,5 +43,6 @@ RunsPair source sink status = FollowsAs source sink status ⊎ ((status ≡ NoMe
 
 -- no line of them is refused in a state to which those before it lead
 abbrev pub ArePairLines : List (List ℕ) → Type 0
-ArePairLines lines = (good later : List (List ℕ)) (line : List ℕ) (state : Option Ends) (text : List ℕ) (why : LineError) → lines ≡ good ++ (line ∷ later) → HandlesLines pair_lines None good state text
+ArePairLines lines = (good later : List (List ℕ)) (line : List ℕ) (state : Option Ends) (text : List ℕ)
+    (why : LineError) → lines ≡ good ++ (line ∷ later) → HandlesLines pair_lines None good state text
     → IsFaulty pair_lines state line (Malformed why) → ⊥

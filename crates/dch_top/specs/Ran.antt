@@ -71,7 +71,8 @@ Runs Pair arguments source sink bench status = RunsPair source sink status × (b
 
 -- what a run of these words took, wrote and answered, and what the bench holds: the main theorem
 pub record Ran (words : List (String Global)) (source sink : End) (bench : Nodes) (status : Status) : Type 0 where
-  pub runs : (arguments : Arguments) → Says words arguments → Runs arguments.subcommand arguments source sink bench status
+  pub runs : (arguments : Arguments) → Says words arguments
+      → Runs arguments.subcommand arguments source sink bench status
   pub misuses : IsNoCommand words → Misuses source sink status × (bench ≡ no_nodes)
 
 -- what stands in front of the lines of a command

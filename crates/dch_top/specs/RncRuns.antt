@@ -12,7 +12,8 @@ use Rattle.dch_top.specs.declared.status.Status.{Status}
 
 -- the bench holds just a network controller, which stands for just the events of a run
 abbrev pub HoldsRnc : Nodes → Run State Event → Type 0
-HoldsRnc nodes run = (node : Node) × ((nodes ≡ record no_nodes { rnc = Some node }) × HasRunHistory rnc_rules Represents Shows node run)
+HoldsRnc nodes run = (node : Node) × ((nodes ≡ record no_nodes { rnc = Some node })
+    × HasRunHistory rnc_rules Represents Shows node run)
 
 abbrev pub RunsRnc : ℕ → Bool → End → End → Nodes → Status → Type 0
 RunsRnc start quiet source sink nodes status = RunsNode rnc_rules HoldsRnc start quiet source sink nodes status

@@ -31,9 +31,11 @@ HaveRunHistories ue legs rnc run = HaveHistories (active run.soft) run.first run
 -- where all went well there are nodes, which stand for just what happened in this run
 abbrev pub GivesNodes : ℕ → ℕ → Bool → End → End → Result (Ue × Vec LegParts Global × Rnc) Status → Type 0
 GivesNodes legs start quiet source sink (Ok nodes) = RunsLines legs start quiet (HaveRunHistories nodes.0 nodes.1.items nodes.2) source sink Well
-GivesNodes legs start quiet source sink (Err status) = RunsLines legs start quiet (λ run. Unit {0}) source sink status × (status ≢ Well)
+GivesNodes legs start quiet source sink (Err status) = RunsLines legs start quiet (λ run. Unit {0}) source sink status
+    × (status ≢ Well)
 
--- the bench holds the terminal, the Node Bs of so many legs and the network controller, each of which stands for just what happened at it in a run
+-- the bench holds the terminal, the Node Bs of so many legs and the network controller, each of which stands for just
+-- what happened at it in a run
 pub record HoldsSoft (count : ℕ) (nodes : Nodes) (run : Run) : Type 0 where
   pub ue : Ue
   pub legs : List LegParts
@@ -47,4 +49,5 @@ RunsSoft legs start quiet source sink nodes status = RunsWith Single soft_lines 
 
 -- each line is empty, or says something to the nodes of a soft handover over so many legs
 abbrev pub AreSoftLines : ℕ → Config → List (List ℕ) → Type 0
-AreSoftLines legs config lines = All (λ line. (is_empty line ≡ true) ⊎ ((said : Said) × Says legs config line said)) lines
+AreSoftLines legs config lines = All (λ line. (is_empty line ≡ true)
+    ⊎ ((said : Said) × Says legs config line said)) lines

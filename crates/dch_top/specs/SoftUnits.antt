@@ -29,17 +29,21 @@ use Rattle.dch_runlaw.specs.UmHistory.{got_lines}
 use Rattle.dch_top.specs.Configured.{ArePlannedAs}
 use Rattle.dch_top.specs.declared.front.FrontKind.TheVariants.{Single}
 
--- some moves lead from opened nodes to a point at which a TTI of uplink channel i starts. Leg k gets all its radio frames as the terminal sent
--- them, its own Iub frame arrives as it was sent, and no other leg has another block as good: then the network controller takes just the
--- blocks that the terminal was given
+-- some moves lead from opened nodes to a point at which a TTI of uplink channel i starts. Leg k gets all its radio
+-- frames as the terminal sent them, its own Iub frame arrives as it was sent, and no other leg has another block as
+-- good: then the network controller takes just the blocks that the terminal was given
 abbrev pub TakesFromLeg : Planned → ℕ → ℕ → Type 0
 TakesFromLeg planned first legs =
-    (k i : ℕ) (moves : List Move) (mid last : Point) (new : SoftState) (lines own : List Line) → Runs (opened_point planned first legs) moves mid lines → k < legs → i < length planned.config.uplink.side.channels
+    (k i : ℕ) (moves : List Move) (mid last : Point) (new : SoftState) (lines own : List Line)
+    → Runs (opened_point planned first legs) moves mid lines → k < legs
+    → i < length planned.config.uplink.side.channels
     → (t : Tti (channel_at planned.config.uplink.side i).frames (channel_at planned.config.uplink.side i).set mid last)
-    → InTti (Gets k (channel_at planned.config.uplink.side i).set) (channel_at planned.config.uplink.side i).frames (channel_at planned.config.uplink.side i).set mid last t
+    → InTti (Gets k (channel_at planned.config.uplink.side i).set)
+    (channel_at planned.config.uplink.side i).frames (channel_at planned.config.uplink.side i).set mid last t
     → OthersAreSent (last.soft.frames (channel_at planned.config.uplink.side i).set) k i (as_sent (channel_at planned.config.uplink.side i) (last.soft.ue.state.layer.given i))
     → AtStage (Combine (channel_at planned.config.uplink.side i).set) last.soft new own
-    → TakesGiven planned (channel_at planned.config.uplink.side i).set i (last.soft.ue.state.layer.given i) (channel_at planned.config.uplink.side i).frames mid last t new
+    → TakesGiven planned (channel_at planned.config.uplink.side i).set i (last.soft.ue.state.layer.given i)
+    (channel_at planned.config.uplink.side i).frames mid last t new
 
 -- a leg for which no damage waits gets all as it was sent
 abbrev pub GetsUnharmed : Type 0
@@ -47,18 +51,22 @@ GetsUnharmed = (k set : ℕ) (stage : Stage) (old new : SoftState) → (old.legs
 
 -- the rows of a text hand up just the units of each bearer that these lines hand up, in order
 abbrev pub ShowsUnits : List Line → List ℕ → Type 0
-ShowsUnits reported text = (dir : Dir) (b : ℕ) → b < 2 ^ 64 → got_rows dir b (lines_of text) ≡ rows_of (gots dir b reported)
+ShowsUnits reported text = (dir : Dir) (b : ℕ) → b < 2 ^ 64 → got_rows dir b (lines_of text)
+    ≡ rows_of (gots dir b reported)
 
--- the calls of an acknowledged bearer's ends are a history of two ends, and the rows of the text are those of the units that it hands up
+-- the calls of an acknowledged bearer's ends are a history of two ends, and the rows of the text are those of the units
+-- that it hands up
 pub record HandsUpRows (planned : Planned) (first b : ℕ) (happened : List EndEvent) (soft : SoftState) (reported : List Line) (text : List ℕ) : Type 0 where
   pub units : HandsUp planned first b happened soft reported
-  pub up : got_rows Up b (lines_of text) ≡ rows_of (got_lines Up b (pair_after planned.config Up Down b units.history.events).far.entity.receiver.reading.units)
-  pub down : got_rows Down b (lines_of text) ≡ rows_of (got_lines Down b (pair_after planned.config Up Down b units.history.events).near.entity.receiver.reading.units)
+  pub up : got_rows Up b (lines_of text)
+      ≡ rows_of (got_lines Up b (pair_after planned.config Up Down b units.history.events).far.entity.receiver.reading.units)
+  pub down : got_rows Down b (lines_of text)
+      ≡ rows_of (got_lines Down b (pair_after planned.config Up Down b units.history.events).near.entity.receiver.reading.units)
 
--- the lines of a script lead the nodes of a soft handover, opened for a configuration and so many legs, through a run of what they say, and this
--- text is shown of it. Whatever damage comes on any leg, a TTI that arrives whole over one leg is taken as it was given; and where after each
--- event at the terminal and the network controller both channels of an acknowledged bearer are faithful, the rows of the text are just
--- the units that a history of its two ends hands up
+-- the lines of a script lead the nodes of a soft handover, opened for a configuration and so many legs, through a run
+-- of what they say, and this text is shown of it. Whatever damage comes on any leg, a TTI that arrives whole over one
+-- leg is taken as it was given; and where after each event at the terminal and the network controller both channels of
+-- an acknowledged bearer are faithful, the rows of the text are just the units that a history of its two ends hands up
 pub record CarriesSoft (planned : Planned) (first legs : ℕ) (quiet : Bool) (script : List (List ℕ)) (text : List ℕ) : Type 0 where
   pub moves : List Move
   pub said : AreSaid legs planned.config script moves
@@ -71,11 +79,13 @@ pub record CarriesSoft (planned : Planned) (first legs : ℕ) (quiet : Bool) (sc
   pub told : IsTold (opened_point planned first legs).soft new.soft reported
   pub read : ShowsUnits reported text
   pub listed : IsListOf planned first (end_events moves (opened_point planned first legs) new reported run) new.soft
-  pub acknowledged : (b up down : ℕ) → IsAcknowledged planned b up down → AfterEach (AreFaithful up down) (opened_nodes planned first first) (end_events moves (opened_point planned first legs) new reported run)
+  pub acknowledged : (b up down : ℕ) → IsAcknowledged planned b up down
+      → AfterEach (AreFaithful up down) (opened_nodes planned first first)
+      (end_events moves (opened_point planned first legs) new reported run)
       → HandsUpRows planned first b (end_events moves (opened_point planned first legs) new reported run) new.soft reported text
 
--- the source gave one configuration that is accepted, and lines behind it that lead the nodes through such a run; the sink took the line `open`, the
--- text that is shown of the run, and the closing line
+-- the source gave one configuration that is accepted, and lines behind it that lead the nodes through such a run; the
+-- sink took the line `open`, the text that is shown of the run, and the closing line
 pub record CarriesHandover (legs start : ℕ) (quiet : Bool) (source sink : End) : Type 0 where
   pub taken : List ℕ
   pub written : List ℕ

@@ -18,14 +18,16 @@ use Rattle.dch_top.specs.Configured.{ArePlannedAs}
 use Rattle.dch_top.specs.NodeRuns.{run_of}
 use Rattle.dch_top.specs.declared.front.FrontKind.TheVariants.{Both}
 
--- the answer to an input of good lines behind accepted configurations, from the line `open` to the line that counts the radio frames
+-- the answer to an input of good lines behind accepted configurations, from the line `open` to the line that counts the
+-- radio frames
 pub record IsAnswer {S E : Type 0} (rules : NodeRules S E) (start : ℕ) (quiet : Bool) (input written : List ℕ) : Type 0 where
   pub accepted : Configurations
   pub is : ArePlannedAs Both (configuration_of input) accepted
   pub ended : rest_of (script_of input) ≡ []
   pub new : Run S E
   pub text : List ℕ
-  pub handles : HandlesLines (node_lines rules) (run_of rules start quiet accepted) (lines_of (script_of input)) new text
+  pub handles : HandlesLines (node_lines rules) (run_of rules start quiet accepted)
+      (lines_of (script_of input)) new text
   pub all : written ≡ codes "open\n" ++ text ++ closing (frames_in rules new.events)
 
 -- the source gave an input, and the sink took the answer to it
@@ -43,7 +45,8 @@ pub record HasLine (before : List (List ℕ)) (line : List ℕ) (after : List (L
   pub same : configuration_of shorter ≡ configuration_of input
   pub ended : rest_of (script_of shorter) ≡ []
 
--- behind some lines of a run a line brings an Iub frame of a set, and is answered by the one line that says that it is refused, with a number
+-- behind some lines of a run a line brings an Iub frame of a set, and is answered by the one line that says that it is
+-- refused, with a number
 pub record IsAnsweredBad {S E : Type 0} (rules : NodeRules S E) (dir : Dir) (run : Run S E) (before : List (List ℕ)) (line : List ℕ) (set number : ℕ) : Type 0 where
   pub mid : Run S E
   pub text : List ℕ

@@ -12,7 +12,8 @@ use Rattle.dch_top.specs.declared.status.Status.{Status}
 
 -- the bench holds just a terminal, which stands for just the events of a run
 abbrev pub HoldsUe : Nodes → Run State Event → Type 0
-HoldsUe nodes run = (node : Node) × ((nodes ≡ record no_nodes { ue = Some node }) × HasRunHistory ue_rules Represents Shows node run)
+HoldsUe nodes run = (node : Node) × ((nodes ≡ record no_nodes { ue = Some node })
+    × HasRunHistory ue_rules Represents Shows node run)
 
 abbrev pub RunsUe : ℕ → Bool → End → End → Nodes → Status → Type 0
 RunsUe start quiet source sink nodes status = RunsNode ue_rules HoldsUe start quiet source sink nodes status

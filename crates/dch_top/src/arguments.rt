@@ -39,7 +39,8 @@ pub enum Subcommand {
 #[derive(Clone, Copy)]
 pub struct Arguments {
     pub subcommand: Subcommand,
-    /// How much is wanted, 1 to 100,000, and 1,000 where the words give no count; of `soft` how many legs, 1 to 6, which the words give.
+    /// How much is wanted, 1 to 100,000, and 1,000 where the words give no count; of `soft` how many legs, 1 to 6,
+    /// which the words give.
     pub count: u32,
     /// An eighth of the first connection frame number, 0 to 31; 0 where the words give no start.
     pub start: u8,
@@ -47,7 +48,8 @@ pub struct Arguments {
     pub quiet: bool,
 }
 
-/// Reads the words after the program's name: `COMMAND [COUNT] [--start N] [--quiet]`. `None` is words that are no command.
+/// Reads the words after the program's name: `COMMAND [COUNT] [--start N] [--quiet]`. `None` is words that are no
+/// command.
 pub fn parse_arguments(alloc: Global, words: &[String]) -> Result<Option<Arguments>, NoMemory>
     ensures says { IfOk result (λ read. IfSome read (Parses (map string_bytes words.now))) }
     ensures none { IfOk result (λ read. IfNone read (¬ IsCommand (map string_bytes words.now))) }

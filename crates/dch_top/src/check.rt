@@ -31,8 +31,8 @@ impl Answer {
     }
 }
 
-/// Runs `check`: judges the configuration, and the second one where there is one, as soon as they are complete, and takes the rest of the
-/// input where they are accepted.
+/// Runs `check`: judges the configuration, and the second one where there is one, as soon as they are complete, and
+/// takes the rest of the input where they are accepted.
 pub fn run_check<S: Source, K: Sink>(alloc: Global, source: &mut S, sink: &mut K) -> Status
     ensures { Checks (end_of S.left S.faults source.old source.new) (end_of K.taken K.faults sink.old sink.new) result }
 {

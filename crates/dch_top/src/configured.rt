@@ -16,8 +16,8 @@ use dch_io::{CleanSource, Pending, Sink, Source, write_all};
 use dch_lines::{LineHandler, LineProcessor, Outcome, follow_input};
 use std::alloc::Global;
 
-/// Takes what stands in front of the lines of an input, one configuration or two, and accepts it. Otherwise the line that refuses it is
-/// written. The kind tells what may stand there.
+/// Takes what stands in front of the lines of an input, one configuration or two, and accepts it. Otherwise the line
+/// that refuses it is written. The kind tells what may stand there.
 pub fn take_configuration<S: Source, K: Sink>(
     alloc: Global,
     source: &mut S,
@@ -26,7 +26,8 @@ pub fn take_configuration<S: Source, K: Sink>(
     kind: FrontKind,
 ) -> Result<(TakenConfig, Configurations), Status>
     requires { length piece.old ≡ PIECE }
-    ensures { TakesConfiguration kind (end_of S.left S.faults source.old source.new) (end_of K.taken K.faults sink.old sink.new) piece.new result }
+    ensures { TakesConfiguration kind (end_of S.left S.faults source.old source.new)
+        (end_of K.taken K.faults sink.old sink.new) piece.new result }
 {
     let front = match take_config(alloc, source, piece) {
         Ok(front) => front,
@@ -42,8 +43,8 @@ pub fn take_configuration<S: Source, K: Sink>(
     }
 }
 
-/// Follows the lines behind a configuration, with the line `open` before their text, and gives the handler back where all went
-/// well.
+/// Follows the lines behind a configuration, with the line `open` before their text, and gives the handler back where
+/// all went well.
 pub fn follow_script<C: LineHandler + Drop, S: Source, K: Sink>(
     alloc: Global,
     source: &mut S,
@@ -62,7 +63,9 @@ pub fn follow_script<C: LineHandler + Drop, S: Source, K: Sink>(
     requires within { front.now.read ≤ LIMIT }
     requires sized { length (settled front.now.section) ≤ LIMIT }
     requires few { lines_before front.now + (front.now.pending.to - front.now.pending.from) ≤ front.now.read }
-    ensures { (state : C.State) → C.represents state handler → FollowsTo C.semantics C.represents (end_of S.left S.faults source.old source.new) (end_of K.taken K.faults sink.old sink.new) front.now state (slice_range piece.old front.now.pending.from front.now.pending.to) result }
+    ensures { (state : C.State) → C.represents state handler →
+        FollowsTo C.semantics C.represents (end_of S.left S.faults source.old source.new)
+        (end_of K.taken K.faults sink.old sink.new) front.now state (slice_range piece.old front.now.pending.from front.now.pending.to) result }
 {
     let room = handler.most();
     let Ok(mut processor) = LineProcessor::open(alloc, handler, b"open\n", front.offset(), room)

@@ -12,7 +12,8 @@ const ROOM: usize = 131_072;
 
 /// Runs `encode`: codes each line before it reads on.
 pub fn run_encode<S: Source, K: Sink>(alloc: Global, source: &mut S, sink: &mut K) -> Status
-    ensures { Encodes (end_of S.left S.faults source.old source.new) (end_of K.taken K.faults sink.old sink.new) result }
+    ensures { Encodes (end_of S.left S.faults source.old source.new)
+        (end_of K.taken K.faults sink.old sink.new) result }
 {
     let Ok(mut piece) = new_piece(alloc) else {
         return Status::NoMemory;

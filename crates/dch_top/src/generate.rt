@@ -9,8 +9,8 @@ use dch_gen::{GenFault, run_gen};
 use dch_io::Sink;
 use std::alloc::Global;
 
-/// Runs `gen`: a network controller, a Node B and a terminal run together through so many radio frames of the program's own script, from a
-/// CFN of 8 times `start` on, and a summary is written. Nothing is read.
+/// Runs `gen`: a network controller, a Node B and a terminal run together through so many radio frames of the program's
+/// own script, from a CFN of 8 times `start` on, and a summary is written. Nothing is read.
 pub fn run_generate<K: Sink>(
     alloc: Global,
     start: u8,

@@ -17,8 +17,8 @@ use dch_nodecmd::dch_ue::Ue;
 use dch_runlaw::LinkHandler;
 use std::alloc::Global;
 
-/// Runs `link`: a network controller, a Node B and a terminal run together, by the lines behind one configuration or two. They start at a
-/// CFN of 8 times `start`; with `quiet` the lines of frames are left out.
+/// Runs `link`: a network controller, a Node B and a terminal run together, by the lines behind one configuration or
+/// two. They start at a CFN of 8 times `start`; with `quiet` the lines of frames are left out.
 pub fn run_link<S: Source, K: Sink>(
     alloc: Global,
     start: u8,
@@ -29,7 +29,8 @@ pub fn run_link<S: Source, K: Sink>(
 ) -> Status
     requires start { start ≤ 31 }
     requires bench { bench.old ≡ no_nodes }
-    ensures { RunsLink start quiet (end_of S.left S.faults source.old source.new) (end_of K.taken K.faults sink.old sink.new) bench.new result }
+    ensures { RunsLink start quiet (end_of S.left S.faults source.old source.new)
+        (end_of K.taken K.faults sink.old sink.new) bench.new result }
 {
     match run_nodes(alloc, start, quiet, source, sink) {
         Ok((ue, node_b, rnc)) => {
@@ -51,7 +52,8 @@ fn run_nodes<S: Source, K: Sink>(
     sink: &mut K,
 ) -> Result<(Ue, NodeB, Rnc), Status>
     requires { start ≤ 31 }
-    ensures { GivesNodes start quiet (end_of S.left S.faults source.old source.new) (end_of K.taken K.faults sink.old sink.new) result }
+    ensures { GivesNodes start quiet (end_of S.left S.faults source.old source.new)
+        (end_of K.taken K.faults sink.old sink.new) result }
 {
     let Ok(mut piece) = new_piece(alloc) else {
         return Err(Status::NoMemory);
@@ -69,7 +71,8 @@ fn run_link_pieces<S: Source, K: Sink>(
 ) -> Result<(Ue, NodeB, Rnc), Status>
     requires start { start ≤ 31 }
     requires piece { length piece.old ≡ PIECE }
-    ensures { GivesNodes start quiet (end_of S.left S.faults source.old source.new) (end_of K.taken K.faults sink.old sink.new) result }
+    ensures { GivesNodes start quiet (end_of S.left S.faults source.old source.new)
+        (end_of K.taken K.faults sink.old sink.new) result }
 {
     let (front, accepted) = match take_configuration(alloc, source, sink, piece, FrontKind::Both) {
         Ok(taken) => taken,

@@ -10,8 +10,8 @@ use dch_io::{Sink, Source};
 use dch_nodecmd::NodeBLines;
 use std::alloc::Global;
 
-/// Runs `nodeb`: a Node B of one cell takes the lines behind one configuration or two as events. It starts at a CFN of 8 times `start`;
-/// with `quiet` the lines of frames are left out.
+/// Runs `nodeb`: a Node B of one cell takes the lines behind one configuration or two as events. It starts at a CFN of
+/// 8 times `start`; with `quiet` the lines of frames are left out.
 pub fn run_node_b<S: Source, K: Sink>(
     alloc: Global,
     start: u8,
@@ -22,7 +22,8 @@ pub fn run_node_b<S: Source, K: Sink>(
 ) -> Status
     requires start { start ≤ 31 }
     requires bench { bench.old ≡ no_nodes }
-    ensures { RunsNodeB start quiet (end_of S.left S.faults source.old source.new) (end_of K.taken K.faults sink.old sink.new) bench.new result }
+    ensures { RunsNodeB start quiet (end_of S.left S.faults source.old source.new)
+        (end_of K.taken K.faults sink.old sink.new) bench.new result }
 {
     match run_node::<NodeBLines, S, K>(alloc, start, quiet, source, sink) {
         Ok(lines) => {

@@ -11,8 +11,8 @@ use dch_io::{Sink, Source, new_piece};
 use dch_nodecmd::{CommandNode, Later, NodeHandler};
 use std::alloc::Global;
 
-/// Runs a command with one node, which takes the lines behind one configuration or two as events, and gives the node where all went well.
-/// It starts at a CFN of 8 times `start`; with `quiet` the lines of frames are left out.
+/// Runs a command with one node, which takes the lines behind one configuration or two as events, and gives the node
+/// where all went well. It starts at a CFN of 8 times `start`; with `quiet` the lines of frames are left out.
 pub fn run_node<N: CommandNode + Drop, S: Source, K: Sink>(
     alloc: Global,
     start: u8,
@@ -21,7 +21,8 @@ pub fn run_node<N: CommandNode + Drop, S: Source, K: Sink>(
     sink: &mut K,
 ) -> Result<N, Status>
     requires { start ≤ 31 }
-    ensures { GivesNode N.rules N.represents N.shows start quiet (end_of S.left S.faults source.old source.new) (end_of K.taken K.faults sink.old sink.new) result }
+    ensures { GivesNode N.rules N.represents N.shows start quiet (end_of S.left S.faults source.old source.new)
+        (end_of K.taken K.faults sink.old sink.new) result }
 {
     let Ok(mut piece) = new_piece(alloc) else {
         return Err(Status::NoMemory);
@@ -39,7 +40,8 @@ fn run_pieces<N: CommandNode + Drop, S: Source, K: Sink>(
 ) -> Result<N, Status>
     requires start { start ≤ 31 }
     requires piece { length piece.old ≡ PIECE }
-    ensures { GivesNode N.rules N.represents N.shows start quiet (end_of S.left S.faults source.old source.new) (end_of K.taken K.faults sink.old sink.new) result }
+    ensures { GivesNode N.rules N.represents N.shows start quiet (end_of S.left S.faults source.old source.new)
+        (end_of K.taken K.faults sink.old sink.new) result }
 {
     let (front, accepted) = match take_configuration(alloc, source, sink, piece, FrontKind::Both) {
         Ok(taken) => taken,

@@ -11,12 +11,15 @@ use dch_lines::{LineProcessor, Outcome, follow_input};
 use dch_paircmd::{MOST_TEXT, PairHandler};
 use std::alloc::Global;
 
-/// The bytes of the text that is held before it is written: the longest text of a line, and as much as of other commands beside it.
+/// The bytes of the text that is held before it is written: the longest text of a line, and as much as of other
+/// commands beside it.
 const ROOM: usize = MOST_TEXT + 131_072;
 
-/// Runs `pair`: two ends of an acknowledged bearer that can be reset, with a queue of PDUs to each, by the lines of the input.
+/// Runs `pair`: two ends of an acknowledged bearer that can be reset, with a queue of PDUs to each, by the lines of the
+/// input.
 pub fn run_pair<S: Source, K: Sink>(alloc: Global, source: &mut S, sink: &mut K) -> Status
-    ensures { RunsPair (end_of S.left S.faults source.old source.new) (end_of K.taken K.faults sink.old sink.new) result }
+    ensures { RunsPair (end_of S.left S.faults source.old source.new)
+        (end_of K.taken K.faults sink.old sink.new) result }
 {
     match open(alloc) {
         Ok((mut piece, mut processor)) => follow(source, sink, &mut piece, &mut processor),
@@ -46,7 +49,8 @@ fn follow<S: Source, K: Sink>(
 ) -> Status
     requires piece { length piece.old ≡ PIECE }
     requires begins { BeginsPair RepresentsRun processor.old }
-    ensures { FollowsAs (end_of S.left S.faults source.old source.new) (end_of K.taken K.faults sink.old sink.new) result }
+    ensures { FollowsAs (end_of S.left S.faults source.old source.new)
+        (end_of K.taken K.faults sink.old sink.new) result }
 {
     let nothing = Pending {
         from: 0,

@@ -18,8 +18,9 @@ use dch_nodecmd::dch_ue::Ue;
 use dch_runlaw::SoftHandler;
 use std::alloc::Global;
 
-/// Runs `soft`: a network controller, a Node B for each leg and a terminal run together, by the lines behind a configuration. The count of
-/// the arguments is that of the legs. The nodes start at a CFN of 8 times `start`; with `quiet` the lines of frames are left out.
+/// Runs `soft`: a network controller, a Node B for each leg and a terminal run together, by the lines behind a
+/// configuration. The count of the arguments is that of the legs. The nodes start at a CFN of 8 times `start`; with
+/// `quiet` the lines of frames are left out.
 pub fn run_soft<S: Source, K: Sink>(
     alloc: Global,
     arguments: Arguments,
@@ -30,7 +31,8 @@ pub fn run_soft<S: Source, K: Sink>(
     requires start { arguments.start ≤ 31 }
     requires legs { AreLegs arguments.count }
     requires bench { bench.old ≡ no_nodes }
-    ensures { RunsSoft arguments.count arguments.start arguments.quiet (end_of S.left S.faults source.old source.new) (end_of K.taken K.faults sink.old sink.new) bench.new result }
+    ensures { RunsSoft arguments.count arguments.start arguments.quiet (end_of S.left S.faults source.old source.new)
+        (end_of K.taken K.faults sink.old sink.new) bench.new result }
 {
     match run_nodes(alloc, arguments, source, sink) {
         Ok((ue, legs, rnc)) => {
@@ -52,7 +54,8 @@ fn run_nodes<S: Source, K: Sink>(
 ) -> Result<(Ue, Vec<Leg>, Rnc), Status>
     requires start { arguments.start ≤ 31 }
     requires legs { AreLegs arguments.count }
-    ensures { GivesNodes arguments.count arguments.start arguments.quiet (end_of S.left S.faults source.old source.new) (end_of K.taken K.faults sink.old sink.new) result }
+    ensures { GivesNodes arguments.count arguments.start arguments.quiet (end_of S.left S.faults source.old source.new)
+        (end_of K.taken K.faults sink.old sink.new) result }
 {
     let Ok(mut piece) = new_piece(alloc) else {
         return Err(Status::NoMemory);
@@ -70,7 +73,8 @@ fn run_soft_pieces<S: Source, K: Sink>(
     requires start { arguments.start ≤ 31 }
     requires legs { AreLegs arguments.count }
     requires piece { length piece.old ≡ PIECE }
-    ensures { GivesNodes arguments.count arguments.start arguments.quiet (end_of S.left S.faults source.old source.new) (end_of K.taken K.faults sink.old sink.new) result }
+    ensures { GivesNodes arguments.count arguments.start arguments.quiet (end_of S.left S.faults source.old source.new)
+        (end_of K.taken K.faults sink.old sink.new) result }
 {
     let (front, accepted) = match take_configuration(
         alloc,

@@ -11,11 +11,14 @@ ghost use Rattle.dch_top.specs.RncRuns.{RunsRnc};
 ghost use Rattle.dch_top.specs.declared.status.Status.TheVariants.{Ok};
 ghost use Rattle.dch_top.specs.Traces.{Answers, HasLine, IsAnswer, IsAnsweredBad, LeavesNoTrace};
 
-/// A law of `nodeb`. A run that answers 0 wrote the answer to the input that it took. And where a line of an input brings an Iub frame and is
-/// answered by the line that says that it is refused, the input without this line is answered by the same text, less the line that tells of the refusal.
+/// A law of `nodeb`. A run that answers 0 wrote the answer to the input that it took. And where a line of an input
+/// brings an Iub frame and is answered by the line that says that it is refused, the input without this line is
+/// answered by the same text, less the line that tells of the refusal.
 pub fn node_b_trace_law()
-    ensures answers { (start : ℕ) (quiet : Bool) (source sink : End) (nodes : Nodes) → RunsNodeB start quiet source sink nodes Ok → Answers node_b_rules start quiet source sink }
-    ensures no_trace { (start : ℕ) (quiet : Bool) (input shorter written : List ℕ) (before after : List (List ℕ)) (line : List ℕ) (set number : ℕ)
+    ensures answers { (start : ℕ) (quiet : Bool) (source sink : End) (nodes : Nodes) →
+        RunsNodeB start quiet source sink nodes Ok → Answers node_b_rules start quiet source sink }
+    ensures no_trace { (start : ℕ) (quiet : Bool) (input shorter written : List ℕ) (before after : List (List ℕ))
+        (line : List ℕ) (set number : ℕ)
         → (answer : IsAnswer node_b_rules start quiet input written) → HasLine before line after input shorter
         → IsAnsweredBad node_b_rules Down (run_of node_b_rules start quiet answer.accepted) before line set number
         → LeavesNoTrace node_b_rules start quiet shorter (IubBad Down set number ∷ []) written }
@@ -23,8 +26,10 @@ pub fn node_b_trace_law()
 
 /// The same law of `rnc`.
 pub fn rnc_trace_law()
-    ensures answers { (start : ℕ) (quiet : Bool) (source sink : End) (nodes : Nodes) → RunsRnc start quiet source sink nodes Ok → Answers rnc_rules start quiet source sink }
-    ensures no_trace { (start : ℕ) (quiet : Bool) (input shorter written : List ℕ) (before after : List (List ℕ)) (line : List ℕ) (set number : ℕ)
+    ensures answers { (start : ℕ) (quiet : Bool) (source sink : End) (nodes : Nodes) →
+        RunsRnc start quiet source sink nodes Ok → Answers rnc_rules start quiet source sink }
+    ensures no_trace { (start : ℕ) (quiet : Bool) (input shorter written : List ℕ) (before after : List (List ℕ))
+        (line : List ℕ) (set number : ℕ)
         → (answer : IsAnswer rnc_rules start quiet input written) → HasLine before line after input shorter
         → IsAnsweredBad rnc_rules Up (run_of rnc_rules start quiet answer.accepted) before line set number
         → LeavesNoTrace rnc_rules start quiet shorter (IubBad Up set number ∷ []) written }

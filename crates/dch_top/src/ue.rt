@@ -10,8 +10,8 @@ use dch_io::{Sink, Source};
 use dch_nodecmd::UeLines;
 use std::alloc::Global;
 
-/// Runs `ue`: a terminal takes the lines behind one configuration or two as events. It starts at a CFN of 8 times `start`;
-/// with `quiet` the lines of frames are left out.
+/// Runs `ue`: a terminal takes the lines behind one configuration or two as events. It starts at a CFN of 8 times
+/// `start`; with `quiet` the lines of frames are left out.
 pub fn run_ue<S: Source, K: Sink>(
     alloc: Global,
     start: u8,
@@ -22,7 +22,8 @@ pub fn run_ue<S: Source, K: Sink>(
 ) -> Status
     requires start { start ≤ 31 }
     requires bench { bench.old ≡ no_nodes }
-    ensures { RunsUe start quiet (end_of S.left S.faults source.old source.new) (end_of K.taken K.faults sink.old sink.new) bench.new result }
+    ensures { RunsUe start quiet (end_of S.left S.faults source.old source.new)
+        (end_of K.taken K.faults sink.old sink.new) bench.new result }
 {
     match run_node::<UeLines, S, K>(alloc, start, quiet, source, sink) {
         Ok(lines) => {

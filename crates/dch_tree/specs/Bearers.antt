@@ -32,7 +32,8 @@ unknown_faults Tm path ms = unknown path bearer_keys ms
 unknown_faults Um path ms = unknown path bearer_keys ms
 unknown_faults Am path ms = unknown path am_keys ms
 
--- the faults of the channels: an acknowledged bearer has both, another one at least one of them, where `down` is the one that is missing
+-- the faults of the channels: an acknowledged bearer has both, another one at least one of them, where `down` is the
+-- one that is missing
 abbrev pub up_faults : Mode → ℕ → List ℕ → Members → List Fault
 up_faults Tm channels path ms = may (channel_of channels) path (codes "up") ms
 up_faults Um channels path ms = may (channel_of channels) path (codes "up") ms
@@ -142,17 +143,27 @@ is_transparent Am = false
 
 -- bearer b of a list
 abbrev pub bearer_at : List Bearer → ℕ → Bearer
-bearer_at bearers b = slice_index_or bearers b (record { mode = Am; up = None; down = None; logical = 0; priority = 1; buffer = 1; rules = default_rules })
+bearer_at bearers b = slice_index_or bearers b (record {
+  mode = Am;
+  up = None;
+  down = None;
+  logical = 0;
+  priority = 1;
+  buffer = 1;
+  rules = default_rules;
+})
 
 -- bearer b shares a channel with another one
 abbrev pub has_partner : List Bearer → ℕ → Bool
-has_partner bearers b = list_any (shares (bearer_at bearers b)) (take b bearers) || list_any (shares (bearer_at bearers b)) (drop (b + 1) bearers)
+has_partner bearers b = list_any (shares (bearer_at bearers b))
+    (take b bearers) || list_any (shares (bearer_at bearers b)) (drop (b + 1) bearers)
 
 -- a fault at a key of bearer b
 abbrev pub fault_if : Bool → List ℕ → ℕ → List Fault
 fault_if wrong key b = if wrong then Range (element_path [] (codes "bearer") b ++ key) ∷ [] else []
 
--- the faults of a shared channel: a bearer that shares one has a logical channel, and another than those before it, and is not transparent
+-- the faults of a shared channel: a bearer that shares one has a logical channel, and another than those before it, and
+-- is not transparent
 abbrev pub sharing_faults : List Bearer → ℕ → List Fault
 sharing_faults bearers b =
     fault_if (has_partner bearers b && (bearer_at bearers b).logical == 0) (codes "logical") b
@@ -165,7 +176,8 @@ bearers_of ups downs ms = items_values (bearer_of ups downs) (list_at (codes "be
 
 -- more than 16 bearers are one fault, at the list; otherwise they may clash
 abbrev pub together_faults : List Bearer → List Fault
-together_faults bearers = if nat_lt 16 (length bearers) then Range (codes "bearer") ∷ [] else indexed (sharing_faults bearers) (length bearers)
+together_faults bearers = if nat_lt 16 (length bearers) then Range (codes "bearer") ∷ []
+    else indexed (sharing_faults bearers) (length bearers)
 
 unfoldable pub bearers_faults : ℕ → ℕ → Members → List Fault
 bearers_faults ups downs ms =

@@ -33,14 +33,16 @@ number_among allowed d = option_and_then (λ n. find (λ a. a == n) allowed) (nu
 
 -- the radio frames of a TTI in milliseconds
 abbrev pub frames_of_time : ℕ → Option ℕ
-frames_of_time time = if time == 10 then Some 1 else (if time == 20 then Some 2 else (if time == 40 then Some 4 else (if time == 80 then Some 8 else None)))
+frames_of_time time = if time == 10 then Some 1 else (if time == 20 then Some 2
+    else (if time == 40 then Some 4 else (if time == 80 then Some 8 else None)))
 
 abbrev pub frames_of_tti : Data → Option ℕ
 frames_of_tti d = option_and_then frames_of_time (number_of d)
 
 -- the parity bits
 abbrev pub crc_of_bits : ℕ → Option Crc
-crc_of_bits bits = if bits == 0 then Some C0 else (if bits == 8 then Some C8 else (if bits == 12 then Some C12 else (if bits == 16 then Some C16 else (if bits == 24 then Some C24 else None))))
+crc_of_bits bits = if bits == 0 then Some C0 else (if bits == 8 then Some C8
+    else (if bits == 12 then Some C12 else (if bits == 16 then Some C16 else (if bits == 24 then Some C24 else None))))
 
 abbrev pub crc_of : Data → Option Crc
 crc_of d = option_and_then crc_of_bits (number_of d)
@@ -51,19 +53,23 @@ is_word text word = pointwise nat_eq text word
 
 -- the words for codings, positions and modes
 abbrev pub coding_of_word : List ℕ → Option Coding
-coding_of_word word = if is_word word (codes "none") then Some Uncoded else (if is_word word (codes "half") then Some Half else (if is_word word (codes "third") then Some Third else None))
+coding_of_word word = if is_word word (codes "none") then Some Uncoded
+    else (if is_word word (codes "half") then Some Half
+    else (if is_word word (codes "third") then Some Third else None))
 
 abbrev pub coding_of : Data → Option Coding
 coding_of d = option_and_then coding_of_word (as_str d)
 
 abbrev pub fixed_of_word : List ℕ → Option Bool
-fixed_of_word word = if is_word word (codes "fixed") then Some true else (if is_word word (codes "flexible") then Some false else None)
+fixed_of_word word = if is_word word (codes "fixed") then Some true
+    else (if is_word word (codes "flexible") then Some false else None)
 
 abbrev pub fixed_of : Data → Option Bool
 fixed_of d = option_and_then fixed_of_word (as_str d)
 
 abbrev pub mode_of_word : List ℕ → Option Mode
-mode_of_word word = if is_word word (codes "tm") then Some Tm else (if is_word word (codes "um") then Some Um else (if is_word word (codes "am") then Some Am else None))
+mode_of_word word = if is_word word (codes "tm") then Some Tm
+    else (if is_word word (codes "um") then Some Um else (if is_word word (codes "am") then Some Am else None))
 
 abbrev pub mode_of : Data → Option Mode
 mode_of d = option_and_then mode_of_word (as_str d)
@@ -91,7 +97,10 @@ list_of rule d = option_and_then (each rule) (as_array d)
 
 -- a format: a pair of a number and a size. Above the greatest u16 each counts as that; a later limit refuses both
 abbrev pub format_of_pair : Items → Option Format
-format_of_pair (item number (item size no_items)) = option_and_then (λ n. option_map (λ s. record { number = min n 65535; size = min s 65535 }) (number_of size)) (number_of number)
+format_of_pair (item number (item size no_items)) = option_and_then (λ n. option_map (λ s. record {
+  number = min n 65535;
+  size = min s 65535;
+}) (number_of size)) (number_of number)
 format_of_pair _ = None
 
 abbrev pub format_of : Data → Option Format
@@ -100,7 +109,8 @@ format_of d = option_and_then format_of_pair (as_array d)
 abbrev pub formats_of : Data → Option (List Format)
 formats_of d = list_of format_of d
 
--- a combination: a list of numbers of formats. Above the greatest u8 a number counts as that; no channel has such a format
+-- a combination: a list of numbers of formats. Above the greatest u8 a number counts as that; no channel has such a
+-- format
 abbrev pub member_of : Data → Option ℕ
 member_of d = option_map (λ n. min n 255) (number_of d)
 

@@ -19,7 +19,8 @@ abbrev pub both : Option ℕ → Option ℕ → Option SetTti
 both set frames = option_and_then (λ s. option_map (λ f. record { set = s; frames = f }) frames) set
 
 abbrev pub set_and_tti : Data → Option SetTti
-set_and_tti d = option_and_then (λ ms. both (value_of (reading (number_within 0 7) (codes "set") ms)) (value_of (reading frames_of_tti (codes "tti") ms))) (as_table d)
+set_and_tti d = option_and_then (λ ms. both (value_of (reading (number_within 0 7) (codes "set") ms))
+    (value_of (reading frames_of_tti (codes "tti") ms))) (as_table d)
 
 unfoldable pub sets_and_ttis : Items → List (Option SetTti)
 sets_and_ttis no_items = []
@@ -48,7 +49,8 @@ side_faults path ms =
     need combinations_of path (codes "combinations") ms
     ++ required (path ++ codes "channel") (reading as_array (codes "channel") ms)
     ++ items_faults channel_faults path (codes "channel") 0 (list_at (codes "channel") ms)
-    ++ indexed (set_faults path (sets_and_ttis (list_at (codes "channel") ms))) (length (sets_and_ttis (list_at (codes "channel") ms)))
+    ++ indexed (set_faults path (sets_and_ttis (list_at (codes "channel") ms)))
+    (length (sets_and_ttis (list_at (codes "channel") ms)))
 
 unfoldable pub side_from : Members → Side
 side_from ms = record {

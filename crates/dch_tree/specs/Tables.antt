@@ -56,7 +56,8 @@ field other rule key ms = value_or other (reading rule key ms)
 
 -- the faults of a member of a list of tables, from the faults of a table
 abbrev pub item_faults : (List ℕ → Members → List Fault) → List ℕ → List ℕ → ℕ → Data → List Fault
-item_faults faults path key i d = option_map_or (λ ms. faults (element_path path key i) ms) (as_table d) (Range (path ++ key) ∷ [])
+item_faults faults path key i d = option_map_or (λ ms. faults (element_path path key i) ms) (as_table d)
+    (Range (path ++ key) ∷ [])
 
 -- the faults of the members of a list of tables, from a place on
 unfoldable pub items_faults : (List ℕ → Members → List Fault) → List ℕ → List ℕ → ℕ → Items → List Fault
@@ -84,7 +85,8 @@ members_at key ms = unwrap_or (table_at key ms) no_members
 
 -- the faults of a table at a key of the document, which must be there, and of the table's own keys
 abbrev pub table_faults : (List ℕ → Members → List Fault) → List ℕ → Members → List Fault
-table_faults faults key ms = required key (reading as_table key ms) ++ option_map_or (faults (key ++ codes ".")) (table_at key ms) []
+table_faults faults key ms = required key (reading as_table key ms)
+    ++ option_map_or (faults (key ++ codes ".")) (table_at key ms) []
 
 -- the faults at each place below n
 unfoldable pub indexed : (ℕ → List Fault) → ℕ → List Fault

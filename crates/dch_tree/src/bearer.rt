@@ -41,7 +41,9 @@ impl Faults {
         downs: usize,
         items: &[Value],
     ) -> Result<Sequence<Bearer>, NoMemory>
-        ensures first { OnOk result (self.new.first ≡ first_found self.old.first (items_faults (bearer_faults ups downs) [] (codes "bearer") 0 (items_view items.now))) }
+        ensures first { OnOk result (self.new.first ≡
+            first_found self.old.first (items_faults (bearer_faults ups downs)
+            [] (codes "bearer") 0 (items_view items.now))) }
         ensures value { IfOk result (λ bearers. bearers ≡ items_values (bearer_of ups downs) (items_view items.now)) }
     {
         let mut bearers = Sequence::new(self.alloc);
@@ -60,7 +62,8 @@ impl Faults {
         i: usize,
         item: &Value,
     ) -> Result<Bearer, NoMemory>
-        ensures first { OnOk result (self.new.first ≡ first_found self.old.first (item_faults (bearer_faults ups downs) [] (codes "bearer") i (view item.now))) }
+        ensures first { OnOk result (self.new.first ≡
+            first_found self.old.first (item_faults (bearer_faults ups downs) [] (codes "bearer") i (view item.now))) }
         ensures value { IfOk result (λ bearer. bearer ≡ item_value (bearer_of ups downs) (view item.now)) }
     {
         match item.as_table() {
@@ -91,7 +94,8 @@ impl Faults {
         path: &str,
         table: &Table,
     ) -> Result<Bearer, NoMemory>
-        ensures first { OnOk result (self.new.first ≡ first_found self.old.first (bearer_faults ups downs path.now (table_view table.now))) }
+        ensures first { OnOk result (self.new.first ≡
+            first_found self.old.first (bearer_faults ups downs path.now (table_view table.now))) }
         ensures value { IfOk result (λ bearer. bearer ≡ bearer_of ups downs (table_view table.now)) }
     {
         let mode = self.required(path, "mode", mode_at(table, "mode"), Mode::Am)?;
@@ -114,7 +118,8 @@ impl Faults {
     }
 
     fn unknown_of_bearer(&mut self, mode: Mode, path: &str, table: &Table) -> Result<(), NoMemory>
-        ensures { OnOk result (self.new.first ≡ first_found self.old.first (unknown_faults mode path.now (table_view table.now))) }
+        ensures { OnOk result (self.new.first ≡
+            first_found self.old.first (unknown_faults mode path.now (table_view table.now))) }
     {
         match mode {
             Mode::Tm | Mode::Um => self.unknown(
@@ -155,7 +160,8 @@ impl Faults {
         path: &str,
         table: &Table,
     ) -> Result<Option<u8>, NoMemory>
-        ensures first { OnOk result (self.new.first ≡ first_found self.old.first (up_faults mode channels path.now (table_view table.now))) }
+        ensures first { OnOk result (self.new.first ≡
+            first_found self.old.first (up_faults mode channels path.now (table_view table.now))) }
         ensures value { IfOk result (λ up. up ≡ field None (channel_of channels) (codes "up") (table_view table.now)) }
     {
         match mode {
@@ -177,8 +183,10 @@ impl Faults {
         path: &str,
         table: &Table,
     ) -> Result<Option<u8>, NoMemory>
-        ensures first { OnOk result (self.new.first ≡ first_found self.old.first (down_faults mode has_up channels path.now (table_view table.now))) }
-        ensures value { IfOk result (λ down. down ≡ field None (channel_of channels) (codes "down") (table_view table.now)) }
+        ensures first { OnOk result (self.new.first ≡
+            first_found self.old.first (down_faults mode has_up channels path.now (table_view table.now))) }
+        ensures value { IfOk result (λ down. down ≡ field None (channel_of channels) (codes "down")
+            (table_view table.now)) }
     {
         match mode {
             Mode::Tm | Mode::Um if has_up => self.optional(
@@ -193,7 +201,8 @@ impl Faults {
 
     #[tactic(auto, unfolding(crate::specs::Faults::first_found))]
     fn rules(&mut self, mode: Mode, path: &str, table: &Table) -> Result<AmRules, NoMemory>
-        ensures first { OnOk result (self.new.first ≡ first_found self.old.first (rules_faults mode path.now (table_view table.now))) }
+        ensures first { OnOk result (self.new.first ≡
+            first_found self.old.first (rules_faults mode path.now (table_view table.now))) }
         ensures value { IfOk result (λ rules. rules ≡ rules_of mode (table_view table.now)) }
     {
         match mode {
@@ -204,7 +213,8 @@ impl Faults {
 
     #[tactic(auto, unfolding(crate::specs::Bearers::am_rules))]
     fn am_rules(&mut self, path: &str, table: &Table) -> Result<AmRules, NoMemory>
-        ensures first { OnOk result (self.new.first ≡ first_found self.old.first (am_faults path.now (table_view table.now))) }
+        ensures first { OnOk result (self.new.first ≡
+            first_found self.old.first (am_faults path.now (table_view table.now))) }
         ensures value { IfOk result (λ rules. rules ≡ am_rules (table_view table.now)) }
     {
         let window = self.optional(path, "window", window_at(table, "window"), 128)?;

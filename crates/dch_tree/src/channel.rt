@@ -15,7 +15,8 @@ impl Faults {
     /// The channel of a table.
     #[tactic(auto, unfolding(crate::specs::Channels::channel_of))]
     pub fn channel(&mut self, path: &str, table: &Table) -> Result<Trch, NoMemory>
-        ensures first { OnOk result (self.new.first ≡ first_found self.old.first (channel_faults path.now (table_view table.now))) }
+        ensures first { OnOk result (self.new.first ≡
+            first_found self.old.first (channel_faults path.now (table_view table.now))) }
         ensures value { IfOk result (λ channel. channel ≡ channel_of (table_view table.now)) }
     {
         self.unknown(path, table, &["tti", "code", "crc", "rm", "set", "formats"])?;

@@ -63,7 +63,8 @@ fn empty_side(alloc: Global) -> Side
 
 impl Faults {
     fn document(&mut self, tree: &Table) -> Result<Config, NoMemory>
-        ensures first { OnOk result (self.new.first ≡ first_found self.old.first (document_faults (table_view tree.now))) }
+        ensures first { OnOk result (self.new.first ≡
+            first_found self.old.first (document_faults (table_view tree.now))) }
         ensures value { IfOk result (λ config. config ≡ config_of (table_view tree.now)) }
     {
         self.unknown("", tree, &["iub", "uplink", "downlink", "bearer"])?;
@@ -84,7 +85,8 @@ impl Faults {
 
     #[tactic(auto, unfolding(crate::specs::Documents::iub_of))]
     fn iub(&mut self, path: &str, table: &Table) -> Result<Iub, NoMemory>
-        ensures first { OnOk result (self.new.first ≡ first_found self.old.first (iub_faults path.now (table_view table.now))) }
+        ensures first { OnOk result (self.new.first ≡
+            first_found self.old.first (iub_faults path.now (table_view table.now))) }
         ensures value { IfOk result (λ iub. iub ≡ iub_of (table_view table.now)) }
     {
         self.unknown(path, table, &["payload_check", "qe"])?;
@@ -99,7 +101,8 @@ impl Faults {
     }
 
     fn iub_at(&mut self, tree: &Table) -> Result<Iub, NoMemory>
-        ensures first { OnOk result (self.new.first ≡ first_found self.old.first (table_faults iub_faults (codes "iub") (table_view tree.now))) }
+        ensures first { OnOk result (self.new.first ≡
+            first_found self.old.first (table_faults iub_faults (codes "iub") (table_view tree.now))) }
         ensures value { IfOk result (λ iub. iub ≡ iub_of (members_at (codes "iub") (table_view tree.now))) }
     {
         let found = self.table("", tree, "iub")?;
@@ -113,7 +116,8 @@ impl Faults {
     }
 
     fn uplink_at(&mut self, tree: &Table) -> Result<Uplink, NoMemory>
-        ensures first { OnOk result (self.new.first ≡ first_found self.old.first (table_faults uplink_faults (codes "uplink") (table_view tree.now))) }
+        ensures first { OnOk result (self.new.first ≡
+            first_found self.old.first (table_faults uplink_faults (codes "uplink") (table_view tree.now))) }
         ensures value { IfOk result (λ uplink. uplink ≡ uplink_of (members_at (codes "uplink") (table_view tree.now))) }
     {
         let found = self.table("", tree, "uplink")?;
@@ -128,8 +132,10 @@ impl Faults {
     }
 
     fn downlink_at(&mut self, tree: &Table) -> Result<Downlink, NoMemory>
-        ensures first { OnOk result (self.new.first ≡ first_found self.old.first (table_faults downlink_faults (codes "downlink") (table_view tree.now))) }
-        ensures value { IfOk result (λ downlink. downlink ≡ downlink_of (members_at (codes "downlink") (table_view tree.now))) }
+        ensures first { OnOk result (self.new.first ≡
+            first_found self.old.first (table_faults downlink_faults (codes "downlink") (table_view tree.now))) }
+        ensures value { IfOk result (λ downlink. downlink ≡
+            downlink_of (members_at (codes "downlink") (table_view tree.now))) }
     {
         let found = self.table("", tree, "downlink")?;
         match found {
@@ -150,7 +156,8 @@ impl Faults {
         downs: usize,
         tree: &Table,
     ) -> Result<Sequence<Bearer>, NoMemory>
-        ensures first { OnOk result (self.new.first ≡ first_found self.old.first (bearers_faults ups downs (table_view tree.now))) }
+        ensures first { OnOk result (self.new.first ≡
+            first_found self.old.first (bearers_faults ups downs (table_view tree.now))) }
         ensures value { IfOk result (λ bearers. bearers ≡ bearers_of ups downs (table_view tree.now)) }
     {
         let items = self.optional_list("", tree, "bearer")?;

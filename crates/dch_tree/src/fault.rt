@@ -75,7 +75,8 @@ impl Faults {
         found: Option<Option<T>>,
         other: T,
     ) -> Result<T, NoMemory>
-        ensures first { OnOk result (self.new.first ≡ first_found self.old.first (required (table.now ++ key.now) found)) }
+        ensures first { OnOk result (self.new.first ≡
+            first_found self.old.first (required (table.now ++ key.now) found)) }
         ensures value { IfOk result (λ value. value ≡ value_or other found) }
     {
         match found {
@@ -100,7 +101,8 @@ impl Faults {
         found: Option<Option<T>>,
         other: T,
     ) -> Result<T, NoMemory>
-        ensures first { OnOk result (self.new.first ≡ first_found self.old.first (optional (table.now ++ key.now) found)) }
+        ensures first { OnOk result (self.new.first ≡
+            first_found self.old.first (optional (table.now ++ key.now) found)) }
         ensures value { IfOk result (λ value. value ≡ value_or other found) }
     {
         match found {

@@ -97,7 +97,8 @@ impl Faults {
     }
 
     fn sharing(&mut self, bearers: &[Bearer]) -> Result<(), NoMemory>
-        ensures { OnOk result (self.new.first ≡ first_found self.old.first (indexed (sharing_faults bearers.now) (length bearers.now))) }
+        ensures { OnOk result (self.new.first ≡ first_found self.old.first (indexed (sharing_faults bearers.now)
+            (length bearers.now))) }
     {
         for b in 0..bearers.len() {
             self.sharing_of(bearers, b)?;

@@ -58,7 +58,8 @@ fn has_another(seen: &[SetTti], pair: SetTti) -> bool
 /// Keeps a pair once.
 fn remember(seen: &mut Vec<SetTti>, found: Option<SetTti>) -> Result<(), AllocError>
     ensures { OnOk result ((test : Option SetTti → Bool) → test None ≡ false
-        → list_any test (map (λ other. Some other) seen.new.items) ≡ (list_any test (map (λ other. Some other) seen.old.items) || test found)) }
+        → list_any test (map (λ other. Some other) seen.new.items) ≡
+        (list_any test (map (λ other. Some other) seen.old.items) || test found)) }
 {
     if let Some(pair) = found {
         if !has(seen, pair) {
@@ -76,7 +77,8 @@ fn has(seen: &[SetTti], pair: SetTti) -> bool
 
 impl Faults {
     fn channels(&mut self, path: &str, items: &[Value]) -> Result<Sequence<Trch>, NoMemory>
-        ensures first { OnOk result (self.new.first ≡ first_found self.old.first (items_faults channel_faults path.now (codes "channel") 0 (items_view items.now))) }
+        ensures first { OnOk result (self.new.first ≡
+            first_found self.old.first (items_faults channel_faults path.now (codes "channel") 0 (items_view items.now))) }
         ensures value { IfOk result (λ channels. channels ≡ items_values channel_of (items_view items.now)) }
     {
         let mut channels = Sequence::new(self.alloc);
@@ -89,7 +91,8 @@ impl Faults {
 
     #[tactic(auto, unfolding(crate::specs::Faults::first_found, crate::specs::Channels::channel_of))]
     fn channel_item(&mut self, path: &str, i: usize, item: &Value) -> Result<Trch, NoMemory>
-        ensures first { OnOk result (self.new.first ≡ first_found self.old.first (item_faults channel_faults path.now (codes "channel") i (view item.now))) }
+        ensures first { OnOk result (self.new.first ≡
+            first_found self.old.first (item_faults channel_faults path.now (codes "channel") i (view item.now))) }
         ensures value { IfOk result (λ channel. channel ≡ item_value channel_of (view item.now)) }
     {
         match item.as_table() {
@@ -113,7 +116,9 @@ impl Faults {
 
     /// Each channel whose TTI is another than that of an earlier channel in its set.
     fn sets(&mut self, path: &str, items: &[Value]) -> Result<(), NoMemory>
-        ensures { OnOk result (self.new.first ≡ first_found self.old.first (indexed (set_faults path.now (sets_and_ttis (items_view items.now))) (length items.now))) }
+        ensures { OnOk result (self.new.first ≡
+            first_found self.old.first (indexed (set_faults path.now (sets_and_ttis (items_view items.now)))
+            (length items.now))) }
     {
         let mut seen = Vec::new(self.alloc);
         for (i, item) in items.iter().enumerate() {
@@ -137,7 +142,8 @@ impl Faults {
 
     #[tactic(auto, unfolding(crate::specs::Sides::side_from))]
     fn side(&mut self, path: &str, table: &Table) -> Result<Side, NoMemory>
-        ensures first { OnOk result (self.new.first ≡ first_found self.old.first (side_faults path.now (table_view table.now))) }
+        ensures first { OnOk result (self.new.first ≡
+            first_found self.old.first (side_faults path.now (table_view table.now))) }
         ensures value { IfOk result (λ side. side ≡ side_from (table_view table.now)) }
     {
         let combinations = combinations_at(self.alloc, table, "combinations")?;
@@ -159,7 +165,8 @@ impl Faults {
     /// The uplink of a table.
     #[tactic(auto, unfolding(crate::specs::Sides::uplink_of))]
     pub fn uplink(&mut self, path: &str, table: &Table) -> Result<Uplink, NoMemory>
-        ensures first { OnOk result (self.new.first ≡ first_found self.old.first (uplink_faults path.now (table_view table.now))) }
+        ensures first { OnOk result (self.new.first ≡
+            first_found self.old.first (uplink_faults path.now (table_view table.now))) }
         ensures value { IfOk result (λ uplink. uplink ≡ uplink_of (table_view table.now)) }
     {
         self.unknown(path, table, &["largest", "pl", "combinations", "channel"])?;
@@ -177,7 +184,8 @@ impl Faults {
     /// The downlink of a table.
     #[tactic(auto, unfolding(crate::specs::Sides::downlink_of))]
     pub fn downlink(&mut self, path: &str, table: &Table) -> Result<Downlink, NoMemory>
-        ensures first { OnOk result (self.new.first ≡ first_found self.old.first (downlink_faults path.now (table_view table.now))) }
+        ensures first { OnOk result (self.new.first ≡
+            first_found self.old.first (downlink_faults path.now (table_view table.now))) }
         ensures value { IfOk result (λ downlink. downlink ≡ downlink_of (table_view table.now)) }
     {
         self.unknown(

@@ -118,7 +118,8 @@ pub(crate) fn combinations_at(
 
 /// The items of a list at a key.
 fn items_at<'a>(table: &'a Table, key: &str) -> Option<Option<&'a [Value]>>
-    ensures { option_map (λ found. option_map (λ items. items_view items.now) found) result ≡ reading as_array key.now (table_view table.now) }
+    ensures { option_map (λ found. option_map (λ items. items_view items.now) found) result ≡
+        reading as_array key.now (table_view table.now) }
 {
     let value = member(table, key)?;
     Some(value.as_array().map(Vec::as_slice))
@@ -127,7 +128,8 @@ fn items_at<'a>(table: &'a Table, key: &str) -> Option<Option<&'a [Value]>>
 impl Faults {
     /// Each key of a table that is none of these.
     pub fn unknown(&mut self, path: &str, table: &Table, known: &[&str]) -> Result<(), NoMemory>
-        ensures { OnOk result (self.new.first ≡ first_found self.old.first (unknown path.now (map (λ k. k.now) known.now) (table_view table.now))) }
+        ensures { OnOk result (self.new.first ≡
+            first_found self.old.first (unknown path.now (map (λ k. k.now) known.now) (table_view table.now))) }
     {
         for (key, _value) in table.iter() {
             self.unless_known(path, key.as_str(), known)?;
@@ -142,7 +144,9 @@ impl Faults {
         table: &'a Table,
         key: &str,
     ) -> Result<&'a [Value], NoMemory>
-        ensures first { OnOk result (self.new.first ≡ first_found self.old.first (optional (path.now ++ key.now) (reading as_array key.now (table_view table.now)))) }
+        ensures first { OnOk result (self.new.first ≡
+            first_found self.old.first (optional (path.now ++ key.now)
+            (reading as_array key.now (table_view table.now)))) }
         ensures value { IfOk result (λ items. items_view items.now ≡ list_at key.now (table_view table.now)) }
     {
         self.optional(path, key, items_at(table, key), &[])
@@ -156,8 +160,11 @@ impl Faults {
         table: &'a Table,
         key: &str,
     ) -> Result<Option<&'a Table>, NoMemory>
-        ensures first { OnOk result (self.new.first ≡ first_found self.old.first (required (path.now ++ key.now) (reading as_table key.now (table_view table.now)))) }
-        ensures value { IfOk result (λ found. option_map (λ t. table_view t.now) found ≡ table_at key.now (table_view table.now)) }
+        ensures first { OnOk result (self.new.first ≡
+            first_found self.old.first (required (path.now ++ key.now)
+            (reading as_table key.now (table_view table.now)))) }
+        ensures value { IfOk result (λ found. option_map (λ t. table_view t.now) found ≡
+            table_at key.now (table_view table.now)) }
     {
         let Some(value) = member(table, key) else {
             self.add_key(path, key)?;
@@ -177,7 +184,9 @@ impl Faults {
         table: &'a Table,
         key: &str,
     ) -> Result<&'a [Value], NoMemory>
-        ensures first { OnOk result (self.new.first ≡ first_found self.old.first (required (path.now ++ key.now) (reading as_array key.now (table_view table.now)))) }
+        ensures first { OnOk result (self.new.first ≡
+            first_found self.old.first (required (path.now ++ key.now)
+            (reading as_array key.now (table_view table.now)))) }
         ensures value { IfOk result (λ items. items_view items.now ≡ list_at key.now (table_view table.now)) }
     {
         self.required(path, key, items_at(table, key), &[])
@@ -185,7 +194,8 @@ impl Faults {
 
     #[tactic(auto, using(crate::proofs::FirstFound::known_by_reference), unfolding(crate::specs::Faults::first_found))]
     fn unless_known(&mut self, path: &str, key: &str, known: &[&str]) -> Result<(), NoMemory>
-        ensures { OnOk result (self.new.first ≡ first_found self.old.first (unknown_key path.now (map (λ k. k.now) known.now) key.now)) }
+        ensures { OnOk result (self.new.first ≡
+            first_found self.old.first (unknown_key path.now (map (λ k. k.now) known.now) key.now)) }
     {
         if is_known(key, known) {
             return Ok(());

@@ -17,7 +17,8 @@ class_at table i = number_of (table_bit table i 0) + 2 * number_of (table_bit ta
 
 -- the copies of a step that differ from the three bits of a class
 abbrev pub class_metric : List Vote → ℕ → ℕ
-class_metric step c = differing (vote_at step 0) (bit_of_number (c % 2)) + differing (vote_at step 1) (bit_of_number (c / 2 % 2)) + differing (vote_at step 2) (bit_of_number (c / 4 % 2))
+class_metric step c = differing (vote_at step 0) (bit_of_number (c % 2)) + differing (vote_at step 1)
+    (bit_of_number (c / 2 % 2)) + differing (vote_at step 2) (bit_of_number (c / 4 % 2))
 
 -- what input Zero costs in state s, from what it costs in the even state of each pair
 abbrev pub zero_near : List ℕ → ℕ → ℕ → ℕ
@@ -28,7 +29,8 @@ abbrev pub by_zero_near : List ℕ → List ℕ → ℕ → ℕ → ℕ
 by_zero_near later near total s = slice_index later (s / 2) + zero_near near total s
 
 abbrev pub lesser_near : List ℕ → List ℕ → ℕ → ℕ → ℕ
-lesser_near later near total s = min (by_zero_near later near total s) (slice_index later (128 + s / 2) + (total - zero_near near total s))
+lesser_near later near total s = min (by_zero_near later near total s)
+    (slice_index later (128 + s / 2) + (total - zero_near near total s))
 
 abbrev pub row_near : Bool → List ℕ → List ℕ → ℕ → ℕ → ℕ
 row_near free later near total s = if free then lesser_near later near total s else by_zero_near later near total s

@@ -16,21 +16,26 @@ free_distance Third = 18
 
 -- the coded bits of two different blocks of one length differ in so many places
 abbrev pub AreApart : Rate → Type 0
-AreApart rate = (a b : List Bit) → length a ≡ length b → a ≢ b → free_distance rate ≤ distance (encoded rate a) (encoded rate b)
+AreApart rate = (a b : List Bit) → length a ≡ length b → a ≢ b
+    → free_distance rate ≤ distance (encoded rate a) (encoded rate b)
 
 -- and some blocks differ in no more
 abbrev pub IsAttained : Rate → Type 0
-IsAttained rate = (a : List Bit) × (b : List Bit) × (length a ≡ length b) × (distance (encoded rate a) (encoded rate b) ≡ free_distance rate)
+IsAttained rate = (a : List Bit) × (b : List Bit) × (length a ≡ length b)
+    × (distance (encoded rate a) (encoded rate b) ≡ free_distance rate)
 
 -- the copies of the places where two lists differ, with so many of each
 abbrev pub copies_between : (ℕ → ℕ) → List Bit → List Bit → ℕ
 copies_between sent [] others = 0
 copies_between sent (bit ∷ bits) [] = 0
-copies_between sent (bit ∷ bits) (other ∷ others) = sent 0 * number_of (plus bit other) + copies_between (λ j. sent (suc j)) bits others
+copies_between sent (bit ∷ bits)
+    (other ∷ others) = sent 0 * number_of (plus bit other) + copies_between (λ j. sent (suc j)) bits others
 
--- so many copies at least tell two different blocks of this size and filler apart, by a code of which so many copies of each bit are sent
+-- so many copies at least tell two different blocks of this size and filler apart, by a code of which so many copies of
+-- each bit are sent
 abbrev pub AreToldApart : (List Bit → List Bit) → ℕ → ℕ → (ℕ → ℕ) → ℕ → Type 0
-AreToldApart code size filler sent count = (a b : List Bit) → IsBlock size filler a → IsBlock size filler b → a ≢ b → count ≤ copies_between sent (code a) (code b)
+AreToldApart code size filler sent count = (a b : List Bit) → IsBlock size filler a → IsBlock size filler b → a ≢ b
+    → count ≤ copies_between sent (code a) (code b)
 
 -- how many of the copies of a bit did not arrive as they were sent: some are wrong, or missing
 abbrev pub lost : ℕ → Vote → Bit → ℕ

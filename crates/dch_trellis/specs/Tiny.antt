@@ -12,11 +12,13 @@ IsLight rate votes = (i : ℕ) → outputs rate * copies (slice_index_or votes i
 
 -- a row holds the least cost from step k on, less a base
 abbrev pub IsLowered : Rate → List Vote → ℕ → ℕ → ℕ → ℕ → List ℕ → Type 0
-IsLowered rate votes size filler k base row = (s : ℕ) → s < 256 → slice_index row s + base ≡ best (branch_metric rate votes) (is_free size filler) (size + 8 - k) k s
+IsLowered rate votes size filler k base row = (s : ℕ) → s < 256 → slice_index row s + base
+    ≡ best (branch_metric rate votes) (is_free size filler) (size + 8 - k) k s
 
 -- each row from a step on holds least costs, less a base of its own
 abbrev pub IsLoweredFrom : Rate → List Vote → ℕ → ℕ → ℕ → List (List ℕ) → Type 0
-IsLoweredFrom rate votes size filler from rows = (k : ℕ) → from ≤ k → k ≤ size + 8 → (base : ℕ) × IsLowered rate votes size filler k base (slice_index_or rows k [])
+IsLoweredFrom rate votes size filler from rows = (k : ℕ) → from ≤ k → k ≤ size + 8 → (base : ℕ)
+    × IsLowered rate votes size filler k base (slice_index_or rows k [])
 
 -- the rows from step k on hold least costs less a base, and row k none above a bound
 pub record IsFilled (rate : Rate) (votes : List Vote) (size filler k base most : ℕ) (rows : List (List ℕ)) : Type 0 where

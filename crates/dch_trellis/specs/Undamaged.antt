@@ -55,17 +55,24 @@ pub record IsTold (step : List Vote) (numbers : ℕ) (bit : Bit) : Type 0 where
 
 -- from step k on no state costs less than state s
 abbrev pub IsLeastState : Rate → List Vote → ℕ → ℕ → ℕ → ℕ → Type 0
-IsLeastState rate votes size filler k s = (other : ℕ) → other < 256 → best (branch_metric rate votes) (is_free size filler) (size + 8 - k) k s ≤ best (branch_metric rate votes) (is_free size filler) (size + 8 - k) k other
+IsLeastState rate votes size filler k s = (other : ℕ) → other < 256
+    → best (branch_metric rate votes) (is_free size filler) (size + 8 - k) k s ≤ best (branch_metric rate votes)
+    (is_free size filler) (size + 8 - k) k other
 
 -- or step k is the first, with state zero alone
 abbrev pub MeetsLeast : Rate → List Vote → ℕ → ℕ → ℕ → ℕ → Type 0
 MeetsLeast rate votes size filler k s = (k ≡ 0) ⊎ IsLeastState rate votes size filler k s
 
--- the inputs before step k lead to state s: where no state costs less from there on, the walk of least cost begins with them, and before step k it costs as little as any outputs do
+-- the inputs before step k lead to state s: where no state costs less from there on, the walk of least cost begins with
+-- them, and before step k it costs as little as any outputs do
 pub record LeadTo (rate : Rate) (votes : List Vote) (size filler k : ℕ) (out : List Bit) (s : ℕ) : Type 0 where
   pub small : s < 256
-  pub written : MeetsLeast rate votes size filler k s → trace (branch_metric rate votes) (is_free size filler) (size + 8) 0 0 ≡ take k out ++ trace (branch_metric rate votes) (is_free size filler) (size + 8 - k) k s
-  pub cost : MeetsLeast rate votes size filler k s → best (branch_metric rate votes) (is_free size filler) (size + 8) 0 0 + fewest_from rate votes k ≡ fewest_from rate votes 0 + best (branch_metric rate votes) (is_free size filler) (size + 8 - k) k s
+  pub written : MeetsLeast rate votes size filler k s
+      → trace (branch_metric rate votes) (is_free size filler) (size + 8) 0 0 ≡ take k out
+      ++ trace (branch_metric rate votes) (is_free size filler) (size + 8 - k) k s
+  pub cost : MeetsLeast rate votes size filler k s
+      → best (branch_metric rate votes) (is_free size filler) (size + 8) 0 0 + fewest_from rate votes k
+      ≡ fewest_from rate votes 0 + best (branch_metric rate votes) (is_free size filler) (size + 8 - k) k s
 
 -- the steps before each of the first ones lead to its state
 pub record IsFront (rate : Rate) (votes : List Vote) (size filler : ℕ) (out : List Bit) (front : Front) : Type 0 where
@@ -74,4 +81,5 @@ pub record IsFront (rate : Rate) (votes : List Vote) (size filler : ℕ) (out : 
 
 -- from step k and state s on some inputs cost as little as any outputs do
 pub record CostsFewest (rate : Rate) (votes : List Vote) (size k s : ℕ) : Type 0 where
-  pub at : (filler : ℕ) → best (branch_metric rate votes) (is_free size filler) (size + 8 - k) k s ≡ fewest_from rate votes k
+  pub at : (filler : ℕ) → best (branch_metric rate votes) (is_free size filler) (size + 8 - k) k s
+      ≡ fewest_from rate votes k

@@ -56,8 +56,8 @@ fn begins(rate: Rate, votes: &[Vote], out: &mut [Bit]) -> bool
     read(rate, votes, first, &mut out[..steps])
 }
 
-/// Reads a block by the inverse of the code, codes it again, and tells whether the copies to compare decide on its coded
-/// bits.
+/// Reads a block by the inverse of the code, codes it again, and tells whether the copies to compare decide on its
+/// coded bits.
 fn read(rate: Rate, votes: &[Vote], compared: &[Vote], block: &mut [Bit]) -> bool
     requires some { 1 ≤ length block.old }
     requires size { length block.old ≤ 504 }

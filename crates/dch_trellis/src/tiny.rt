@@ -21,9 +21,9 @@ use std::simd::prelude::*;
 /// The least cost from each state on, less what was taken off the row.
 pub type PathMetrics = [u8; 256];
 
-/// Finds the nearest block, which begins with inputs of `front`, and answers how many copies it disagrees with. A step has
-/// at most 15 copies: any two states can meet after eight steps, so their costs are at most 120 apart, and eight steps more
-/// add at most 120.
+/// Finds the nearest block, which begins with inputs of `front`, and answers how many copies it disagrees with. A step
+/// has at most 15 copies: any two states can meet after eight steps, so their costs are at most 120 apart, and eight
+/// steps more add at most 120.
 pub fn nearest(
     rate: Rate,
     table: &Table,
@@ -41,7 +41,8 @@ pub fn nearest(
     requires few { all_copies votes.now < 2 ^ 31 }
     requires front { IsFront rate votes.now (length out.old) filler out.old front.now }
     ensures found { out.new ≡ found rate votes.now (length out.old) filler }
-    ensures cost { result ≡ best (branch_metric rate votes.now) (is_free (length out.old) filler) (length out.old + 8) 0 0 }
+    ensures cost { result ≡ best (branch_metric rate votes.now) (is_free (length out.old) filler)
+        (length out.old + 8) 0 0 }
     ensures rows { length rows.new ≡ length rows.old }
 {
     let Filled { from, taken } = fill(rate, table, votes, out.len(), filler, front, rows);
@@ -143,7 +144,8 @@ fn look_up(metrics: u8x16, classes: &[u8], near: &mut [u8], at: usize)
     requires inside { at + 16 ≤ length classes.now }
     requires room { at + 16 ≤ length near.old }
     requires classes { (i : ℕ) → i < length classes.now → slice_index classes.now i < 8 }
-    ensures here { (i : ℕ) → at ≤ i → i < at + 16 → slice_index near.new i ≡ slice_index metrics (slice_index classes.now i) }
+    ensures here { (i : ℕ) → at ≤ i → i < at + 16 →
+        slice_index near.new i ≡ slice_index metrics (slice_index classes.now i) }
     ensures before { (i : ℕ) → i < at → slice_index near.new i ≡ slice_index near.old i }
 {
     metrics
@@ -158,7 +160,8 @@ fn fill_row(rows: &mut [PathMetrics], k: usize, near: &[u8; 128], total: u8, fre
     requires room { (s : ℕ) → s < 256 → slice_index (slice_index_or rows.old (k + 1) []) s + total < 2 ^ 8 }
     ensures same { (j : ℕ) → j ≢ k → slice_index_or rows.new j [] ≡ slice_index_or rows.old j [] }
     ensures row { (s : ℕ) → s < 256 →
-        slice_index (slice_index_or rows.new k []) s ≡ row_near free (slice_index_or rows.old (k + 1) []) near.now total s }
+        slice_index (slice_index_or rows.new k []) s ≡
+        row_near free (slice_index_or rows.old (k + 1) []) near.now total s }
 {
     let (front, back) = rows.split_at_mut(k + 1);
     if free {
@@ -172,7 +175,8 @@ fn fill_row(rows: &mut [PathMetrics], k: usize, near: &[u8; 128], total: u8, fre
 fn lower_row(rows: &mut [PathMetrics], k: usize) -> u8
     requires inside { k < length rows.old }
     ensures same { (j : ℕ) → j ≢ k → slice_index_or rows.new j [] ≡ slice_index_or rows.old j [] }
-    ensures row { (s : ℕ) → s < 256 → slice_index (slice_index_or rows.new k []) s + result ≡ slice_index (slice_index_or rows.old k []) s }
+    ensures row { (s : ℕ) → s < 256 → slice_index (slice_index_or rows.new k []) s + result ≡
+        slice_index (slice_index_or rows.old k []) s }
     ensures least { (s : ℕ) × (s < 256) × (slice_index (slice_index_or rows.new k []) s ≡ 0) }
 {
     let row = &mut rows[k];
@@ -225,8 +229,10 @@ fn least_block(later: &[u8], near: &[u8], total: u8, path_metrics: &mut [u8], at
     requires path_metrics { length path_metrics.old ≡ 256 }
     requires near { (i : ℕ) → i < 128 → slice_index near.now i ≤ total }
     requires room { (s : ℕ) → s < 256 → slice_index later.now s + total < 2 ^ 8 }
-    ensures even { (i : ℕ) → at ≤ i → i < at + 16 → slice_index path_metrics.new (2 * i) ≡ lesser_near later.now near.now total (2 * i) }
-    ensures odd { (i : ℕ) → at ≤ i → i < at + 16 → slice_index path_metrics.new (2 * i + 1) ≡ lesser_near later.now near.now total (2 * i + 1) }
+    ensures even { (i : ℕ) → at ≤ i → i < at + 16 →
+        slice_index path_metrics.new (2 * i) ≡ lesser_near later.now near.now total (2 * i) }
+    ensures odd { (i : ℕ) → at ≤ i → i < at + 16 →
+        slice_index path_metrics.new (2 * i + 1) ≡ lesser_near later.now near.now total (2 * i + 1) }
     ensures before { (s : ℕ) → s < 2 * at → slice_index path_metrics.new s ≡ slice_index path_metrics.old s }
 {
     let near = lanes_at(near, at);
@@ -260,7 +266,8 @@ fn lesser_sums(a: u8x16, b: u8x16, c: u8x16, d: u8x16) -> u8x16
     requires first { (i : ℕ) → i < 16 → slice_index a i + slice_index b i < 2 ^ 8 }
     requires second { (i : ℕ) → i < 16 → slice_index c i + slice_index d i < 2 ^ 8 }
     ensures long { length result ≡ 16 }
-    ensures value { (i : ℕ) → i < 16 → slice_index result i ≡ min (slice_index a i + slice_index b i) (slice_index c i + slice_index d i) }
+    ensures value { (i : ℕ) → i < 16 → slice_index result i ≡ min (slice_index a i + slice_index b i)
+        (slice_index c i + slice_index d i) }
 {
     (a + b).simd_min(c + d)
 }
@@ -308,7 +315,9 @@ fn trace(
     requires light { IsLight rate votes.now }
     requires from { from ≤ length out.old }
     requires path_metrics { IsLoweredFrom rate votes.now (length out.old) filler from rows.now }
-    requires written { trace (branch_metric rate votes.now) (is_free (length out.old) filler) (length out.old + 8) 0 0 ≡ take from out.old ++ trace (branch_metric rate votes.now) (is_free (length out.old) filler) (length out.old + 8 - from) from state }
+    requires written { trace (branch_metric rate votes.now) (is_free (length out.old) filler) (length out.old + 8) 0 0 ≡
+        take from out.old ++ trace (branch_metric rate votes.now) (is_free (length out.old) filler)
+        (length out.old + 8 - from) from state }
     ensures { out.new ≡ found rate votes.now (length out.old) filler }
 {
     let size = out.len();
@@ -323,7 +332,8 @@ fn trace(
 /// The input of least cost in a state, Zero where both cost the same or One is not free.
 fn choose(later: &PathMetrics, table: &Table, step: &[Vote; 3], state: u8, free: bool) -> Bit
     requires { total step.now < 2 ^ 8 }
-    ensures { result ≡ choice (free && nat_lt (by_one later.now table.now step.now state) (by_zero later.now table.now step.now state)) }
+    ensures { result ≡ choice (free && nat_lt (by_one later.now table.now step.now state)
+        (by_zero later.now table.now step.now state)) }
 {
     let i = usize::from(state / 2);
     let near = near_of(table, step, i);

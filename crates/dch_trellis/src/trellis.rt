@@ -15,8 +15,8 @@ use dch_coding::Rate;
 use std::alloc::{AllocError, Global};
 use std::marker::Model;
 
-/// The memory of the search for the nearest block, for blocks of up to so many bits. Contracts see that number. A row of
-/// costs stands for each step of the longest block and one past the last, once a search has needed so many.
+/// The memory of the search for the nearest block, for blocks of up to so many bits. Contracts see that number. A row
+/// of costs stands for each step of the longest block and one past the last, once a search has needed so many.
 #[derive(Drop)]
 pub struct Trellis {
     most: usize,
@@ -56,8 +56,8 @@ impl Trellis {
     /// Reads a block from the received copies of its coded bits (TS 25.212 4.2.3.1): `out` becomes the block with so
     /// many zeros of filler in front whose coded bits disagree with the fewest copies. Of several such blocks it is the
     /// first in text order, 0 before 1. The answer is that number of copies. With a copy of each coded bit of the block
-    /// that was sent, it is that block where at most five copies are wrong at rate 1/2, and eight at rate 1/3; in general where
-    /// less than half of the copies that tell two blocks apart did not arrive as they were sent.
+    /// that was sent, it is that block where at most five copies are wrong at rate 1/2, and eight at rate 1/3; in
+    /// general where less than half of the copies that tell two blocks apart did not arrive as they were sent.
     pub fn nearest(&mut self, rate: Rate, votes: &[Vote], filler: usize, out: &mut [Bit]) -> u32
         requires some { 1 ≤ length out.old }
         requires room { length out.old ≤ self.old }
@@ -65,10 +65,12 @@ impl Trellis {
         requires coded { length votes.now ≡ coded_length rate (length out.old) }
         requires few { all_copies votes.now < 2 ^ 31 }
         ensures nearest { IsNearest rate votes.now (length out.old) filler out.new }
-        ensures corrected { (block : List Bit) (least : ℕ) → IsBlock (length out.old) filler block → HaveCopies least votes.now →
+        ensures corrected { (block : List Bit) (least : ℕ) → IsBlock (length out.old) filler block →
+            HaveCopies least votes.now →
             2 * disagreement votes.now (encoded rate block) < least * free_distance rate → out.new ≡ block }
         ensures told_apart { (block : List Bit) (sent : ℕ → ℕ) (count : ℕ) → IsBlock (length out.old) filler block →
-            AreToldApart (encoded rate) (length out.old) filler sent count → 2 * damage sent votes.now (encoded rate block) < count → out.new ≡ block }
+            AreToldApart (encoded rate) (length out.old) filler sent count →
+            2 * damage sent votes.now (encoded rate block) < count → out.new ≡ block }
         ensures copies { result ≡ disagreement votes.now (encoded rate out.new) }
         ensures kept { self.new ≡ self.old }
     {
@@ -82,7 +84,8 @@ impl Trellis {
         requires coded { length votes.now ≡ coded_length rate (length out.old) }
         requires few { all_copies votes.now < 2 ^ 31 }
         ensures found { out.new ≡ found rate votes.now (length out.old) filler }
-        ensures cost { result ≡ best (branch_metric rate votes.now) (is_free (length out.old) filler) (length out.old + 8) 0 0 }
+        ensures cost { result ≡ best (branch_metric rate votes.now) (is_free (length out.old) filler)
+            (length out.old + 8) 0 0 }
         ensures kept { self.new ≡ self.old }
     {
         let outputs = self.tables.outputs(rate);
@@ -111,7 +114,8 @@ impl Trellis {
         requires few { all_copies votes.now < 2 ^ 31 }
         requires front { IsFront rate votes.now (length out.old) filler out.old front.now }
         ensures found { out.new ≡ found rate votes.now (length out.old) filler }
-        ensures cost { result ≡ best (branch_metric rate votes.now) (is_free (length out.old) filler) (length out.old + 8) 0 0 }
+        ensures cost { result ≡ best (branch_metric rate votes.now) (is_free (length out.old) filler)
+            (length out.old + 8) 0 0 }
         ensures kept { self.new ≡ self.old }
     {
         let table = self.tables.of(rate);

@@ -10,7 +10,8 @@ use dch_bits::{Bit, Vote};
 use dch_coding::Rate;
 use std::simd::prelude::*;
 
-/// The steps before the first one whose input its copies don't tell, and the state before each of them and after the last.
+/// The steps before the first one whose input its copies don't tell, and the state before each of them and after the
+/// last.
 #[derive(Drop)]
 pub struct Front {
     pub steps: usize,
@@ -43,7 +44,8 @@ pub fn nearest(
     requires coded { length votes.now ≡ coded_length rate (length out.old) }
     requires few { all_copies votes.now < 2 ^ 31 }
     ensures found { IsSome result → out.new ≡ found rate votes.now (length out.old) filler }
-    ensures cost { IfSome result (λ copies. copies ≡ best (branch_metric rate votes.now) (is_free (length out.old) filler) (length out.old + 8) 0 0) }
+    ensures cost { IfSome result (λ copies. copies ≡ best (branch_metric rate votes.now)
+        (is_free (length out.old) filler) (length out.old + 8) 0 0) }
     ensures front { IsFront rate votes.now (length out.old) filler out.new front.new }
 {
     front.steps = walk(rate, outputs, votes, filler, &mut front.states, out);
@@ -58,8 +60,8 @@ pub fn nearest(
     }
 }
 
-/// Goes forward from state zero, and writes the inputs that the copies tell, and the states. The answer is how many steps
-/// it went.
+/// Goes forward from state zero, and writes the inputs that the copies tell, and the states. The answer is how many
+/// steps it went.
 fn walk(
     rate: Rate,
     outputs: &Outputs,
@@ -72,7 +74,8 @@ fn walk(
     requires size { length out.old ≤ 504 }
     requires coded { length votes.now ≡ coded_length rate (length out.old) }
     ensures within { result ≤ length out.old }
-    ensures leads { (k : ℕ) → k ≤ result → LeadTo rate votes.now (length out.old) filler k out.new (slice_index states.new k) }
+    ensures leads { (k : ℕ) → k ≤ result →
+        LeadTo rate votes.now (length out.old) filler k out.new (slice_index states.new k) }
 {
     let mut state = 0u8;
     states[0] = state;
@@ -105,8 +108,8 @@ fn fits_tail(rate: Rate, outputs: &Outputs, votes: &[Vote], size: usize, mut sta
     true
 }
 
-/// The input that fits a step, in a state that puts these outputs out at input Zero. None where both inputs fit or neither,
-/// or where it is One and that is not free.
+/// The input that fits a step, in a state that puts these outputs out at input Zero. None where both inputs fit or
+/// neither, or where it is One and that is not free.
 fn told(outputs: u8, step: &[Vote; 3], free: bool) -> Option<Bit>
     requires { outputs < 8 }
     ensures told { IfSome result (λ bit. IsTold step.now outputs bit) }
@@ -119,7 +122,8 @@ fn told(outputs: u8, step: &[Vote; 3], free: bool) -> Option<Bit>
     Some(if one { Bit::One } else { Bit::Zero })
 }
 
-/// Whether input Zero fits a step, and whether input One does: no coded bit disagrees with more copies than it agrees with.
+/// Whether input Zero fits a step, and whether input One does: no coded bit disagrees with more copies than it agrees
+/// with.
 fn fitting(outputs: u8, step: &[Vote; 3]) -> (bool, bool)
     requires { outputs < 8 }
     ensures zero { IsTrue result.0 ↔ (input_metric step.now outputs Bit.Zero ≡ step_fewest step.now) }

@@ -31,11 +31,13 @@ block_votes coding plan votes r = part r (coded_block coding plan.size) votes
 abbrev pub coded_bits_of : Coding → Plan → List Bit → ℕ → List Bit
 coded_bits_of coding plan joined r = coded_as coding (code_block plan joined r)
 
--- of code block r less than half of the copies that tell it from others are lost, where coded bit j of the TTI is sent `sent j` times
+-- of code block r less than half of the copies that tell it from others are lost, where coded bit j of the TTI is sent
+-- `sent j` times
 pub record IsCorrectable (coding : Coding) (plan : Plan) (sent : ℕ → ℕ) (votes : List Vote) (joined : List Bit) (r : ℕ) : Type 0 where
   pub count : ℕ
   pub apart : AreToldApart (coded_as coding) plan.size (filler_of plan r) (block_copies coding plan sent r) count
-  pub few : 2 * damage (block_copies coding plan sent r) (block_votes coding plan votes r) (coded_bits_of coding plan joined r) < count
+  pub few : 2 * damage (block_copies coding plan sent r) (block_votes coding plan votes r)
+      (coded_bits_of coding plan joined r) < count
 
 -- in each code block of a TTI less than half of the copies that tell it from any other did not arrive as they were sent
 abbrev pub AreCorrectable : Coding → (ℕ → ℕ) → List Vote → List Bit → Type 0
@@ -48,7 +50,8 @@ AreCorrectable coding sent votes joined =
 abbrev pub AreFewWrong : Coding → ℕ → List Vote → List Bit → Type 0
 AreFewWrong coding least votes joined =
     let plan = plan_of (length joined) coding in
-    (r : ℕ) → r < plan.blocks → 2 * disagreement (block_votes coding plan votes r) (coded_bits_of coding plan joined r) < least * least_distance coding
+    (r : ℕ) → r < plan.blocks → 2 * disagreement (block_votes coding plan votes r)
+    (coded_bits_of coding plan joined r) < least * least_distance coding
 
 -- where each code block of a TTI is correctable, just the blocks of that TTI are received
 abbrev pub ReadsCorrectable : Trch → Format → List Vote → Held → Type 0

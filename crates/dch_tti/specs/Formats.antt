@@ -36,4 +36,5 @@ FindsFormat side reader i (Err n) = IsBadFrame side reader i n
 
 -- the combinations of the kept frames are in the list
 abbrev pub AreListed : Side → RxFrames → Type 0
-AreListed side reader = (k c : ℕ) → k < 8 → (rx_frame_at reader.frames k).combination ≡ Some c → c < length side.combinations
+AreListed side reader = (k c : ℕ) → k < 8 → (rx_frame_at reader.frames k).combination ≡ Some c
+    → c < length side.combinations

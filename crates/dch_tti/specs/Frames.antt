@@ -1,5 +1,5 @@
--- A radio frame as either direction writes it: the TFCI of its combination, and its multiplexed cells after the second interleaver
--- (TS 25.212 4.2.11, 4.3.3, 4.3.5). A direction tells what its multiplexed cells are.
+-- A radio frame as either direction writes it: the TFCI of its combination, and its multiplexed cells after the second
+-- interleaver (TS 25.212 4.2.11, 4.3.3, 4.3.5). A direction tells what its multiplexed cells are.
 use Rattle.std.specs.Prelude.{◌≡◌, ◌<◌, ℕ, length, slice_index_or}
 use Rattle.dch_bits.specs.declared.bit.Trit.{Trit}
 use Rattle.dch_bits.specs.declared.bit.Trit.TheVariants.{Off}
@@ -18,4 +18,5 @@ multiplexed_place planned dir c k = code_place (code_cells planned dir (frame_ce
 pub record IsFrameOf (planned : Planned) (dir : Dir) (multiplexed : ℕ → Trit) (c : ℕ) (frame : Frame) : Type 0 where
   pub tfci : frame.tfci ≡ sent c (tfci_bits planned.config dir)
   pub long : length frame.cells ≡ frame_cells planned dir c
-  pub cells : (k : ℕ) → k < length frame.cells → slice_index_or frame.cells k Off ≡ multiplexed (multiplexed_place planned dir c k)
+  pub cells : (k : ℕ) → k < length frame.cells → slice_index_or frame.cells k Off
+      ≡ multiplexed (multiplexed_place planned dir c k)

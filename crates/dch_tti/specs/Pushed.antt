@@ -10,7 +10,8 @@ use Rattle.dch_tti.specs.Frames.{IsFrameOf}
 use Rattle.dch_tti.specs.Loaded.{AreFormats, Loaded, loaded_at}
 use Rattle.dch_tti.specs.RxFrames.{Keeps, RxFrames, rx_frame_at}
 
--- the radio frame of a CFN is taken: what is kept of it has the place of its CFN, the others stay, and it is the last one
+-- the radio frame of a CFN is taken: what is kept of it has the place of its CFN, the others stay, and it is the last
+-- one
 pub record IsPushed (planned : Planned) (dir : Dir) (cfn : ℕ) (frame : Option FrameView) (old new : RxFrames) : Type 0 where
   pub kept : Keeps planned dir frame (rx_frame_at new.frames (cfn % 8))
   pub others : (k : ℕ) → k ≢ cfn % 8 → rx_frame_at new.frames k ≡ rx_frame_at old.frames k
@@ -35,6 +36,9 @@ pub record IsSentAndPushed (planned : Planned) (dir : Dir) (multiplexed : List L
 
 -- all radio frames of a TTI of channel i are pushed as they were written, each in its TFC of a sequence; reader n is
 -- what is kept before radio frame n
-abbrev pub AreSentAndPushed : Planned → Dir → (List Loaded → ℕ → ℕ → ℕ → Trit) → ℕ → ℕ → List ℕ → Loaded → (ℕ → RxFrames) → Type 0
+abbrev pub AreSentAndPushed : Planned → Dir → (List Loaded → ℕ → ℕ → ℕ → Trit) → ℕ → ℕ → List ℕ → Loaded
+    → (ℕ → RxFrames) → Type 0
 AreSentAndPushed planned dir multiplexed i first sequence loaded readers =
-    (n : ℕ) → n < (channel_at (side_of planned.config dir) i).frames → IsSentAndPushed planned dir multiplexed i (first + n) (slice_index sequence n) loaded (readers n) (readers (n + 1))
+    (n : ℕ) → n < (channel_at (side_of planned.config dir) i).frames
+    → IsSentAndPushed planned dir multiplexed i (first + n) (slice_index sequence n) loaded (readers n)
+    (readers (n + 1))

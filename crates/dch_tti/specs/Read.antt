@@ -1,5 +1,5 @@
--- The TTI of a channel as it is read from the kept radio frames: its format, and the blocks that the votes for its coded bits give
--- (TS 25.212 4.2.1 to 4.2.3, read backwards). A direction tells these votes.
+-- The TTI of a channel as it is read from the kept radio frames: its format, and the blocks that the votes for its
+-- coded bits give (TS 25.212 4.2.1 to 4.2.3, read backwards). A direction tells these votes.
 use Rattle.std.specs.Prelude.{◌≡◌, ℕ, List, length, take}
 use Rattle.dch_bits.specs.declared.bit.Bit.{Bit}
 use Rattle.dch_bits.specs.declared.bit.Vote.{Vote}
@@ -39,4 +39,5 @@ pub record AreVotesOf (side : Side) (i f : ℕ) (blocks : List Bit) (votes : Lis
   pub is : IsCodedTti (channel_at side i) (format_at (channel_at side i) f) blocks coded
   pub sent : ℕ → ℕ
   pub copies : AreCopies votes coded sent
-  pub clear : HasNoCollision (channel_at side i).coding (joined_bits (channel_at side i) (format_at (channel_at side i) f)) sent
+  pub clear : HasNoCollision (channel_at side i).coding (joined_bits (channel_at side i)
+      (format_at (channel_at side i) f)) sent

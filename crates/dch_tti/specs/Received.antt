@@ -28,15 +28,18 @@ pub record IsReceived (channel : Trch) (number : ℕ) (format : Format) (votes :
   pub long : length joined ≡ joined_bits channel format
   pub read : AreRead channel.coding votes joined
   pub blocks : (i : ℕ) → i < format.number →
-      IsFront channel.crc format.size (part i (format.size + crc_size channel.crc) joined) (block_at held i) (slice_index_or held.good i false)
+      IsFront channel.crc format.size (part i (format.size + crc_size channel.crc) joined) (block_at held i)
+      (slice_index_or held.good i false)
 
 -- just these blocks are received, and all are good
 pub record ArrivesAs (blocks : List Bit) (held : Held) : Type 0 where
   pub same : held.bits ≡ blocks
   pub good : (i : ℕ) → i < length held.good → IsTrue (slice_index_or held.good i false)
 
--- where the votes are the copies of a coded TTI, of which no two code blocks collide, just the blocks of that TTI are received
+-- where the votes are the copies of a coded TTI, of which no two code blocks collide, just the blocks of that TTI are
+-- received
 abbrev pub ReadsCopies : Trch → Format → List Vote → Held → Type 0
 ReadsCopies channel format votes held =
-    (blocks coded : List Bit) (kept : ℕ → ℕ) → length blocks ≡ bits_of format → IsCodedTti channel format blocks coded → AreCopies votes coded kept
+    (blocks coded : List Bit) (kept : ℕ → ℕ) → length blocks ≡ bits_of format → IsCodedTti channel format blocks coded
+    → AreCopies votes coded kept
     → HasNoCollision channel.coding (joined_bits channel format) kept → ArrivesAs blocks held

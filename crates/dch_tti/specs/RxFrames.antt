@@ -22,8 +22,8 @@ pub record RxFrame : Type 0 where
   pub cells : List Trit
   pub room : ℕ
 
--- the CFN of the last frame, the frames of the last 8 CFNs by their remainders modulo 8, and for how large TTIs there is room where
--- they are read
+-- the CFN of the last frame, the frames of the last 8 CFNs by their remainders modulo 8, and for how large TTIs there
+-- is room where they are read
 pub record RxFrames : Type 0 where
   pub cfn : ℕ
   pub frames : List RxFrame

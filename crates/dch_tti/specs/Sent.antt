@@ -1,5 +1,5 @@
--- A TTI whose radio frames are kept just as they were written. A direction tells the multiplexed cells of the frame of a CFN and a
--- combination, by what is loaded.
+-- A TTI whose radio frames are kept just as they were written. A direction tells the multiplexed cells of the frame of
+-- a CFN and a combination, by what is loaded.
 use Rattle.std.specs.Prelude.{◌≡◌, ◌<◌, ℕ, List, Some, length, slice_index}
 use Rattle.dch_bits.specs.declared.bit.Trit.{Trit}
 use Rattle.dch_types.specs.declared.channel.Dir.{Dir}
@@ -27,4 +27,5 @@ pub record IsSentFrame (planned : Planned) (dir : Dir) (multiplexed : List Loade
 abbrev pub AreSentFrames : Planned → Dir → (List Loaded → ℕ → ℕ → ℕ → Trit) → RxFrames → ℕ → List ℕ → Loaded → Type 0
 AreSentFrames planned dir multiplexed reader i sequence loaded =
     let side = side_of planned.config dir in
-    (n : ℕ) → n < (channel_at side i).frames → IsSentFrame planned dir multiplexed i n (slice_index sequence n) loaded (frame_at side reader i n)
+    (n : ℕ) → n < (channel_at side i).frames
+    → IsSentFrame planned dir multiplexed i n (slice_index sequence n) loaded (frame_at side reader i n)

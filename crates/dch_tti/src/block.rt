@@ -22,7 +22,8 @@ pub fn read_block(
     requires short { coding ≢ Uncoded → length out.old ≤ 504 }
     requires filler { filler ≤ length out.old }
     requires coded { length votes.now ≡ coded_block coding (length out.old) }
-    requires few { (j : ℕ) (v : Vote) → j < length votes.now → (slice_index_or votes.now j v).zeros + (slice_index_or votes.now j v).ones ≤ 460800 }
+    requires few { (j : ℕ) (v : Vote) → j < length votes.now →
+        (slice_index_or votes.now j v).zeros + (slice_index_or votes.now j v).ones ≤ 460800 }
     ensures read { IsRead coding votes.now filler out.new }
     ensures kept { trellis.new ≡ trellis.old }
 {

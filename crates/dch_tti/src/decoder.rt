@@ -54,21 +54,27 @@ impl Decoder {
         })
     }
 
-    /// Reads the joined bits of a TTI from the votes for its coded bits (TS 25.212 4.2.2 and 4.2.3): each code block is the
-    /// one that the fewest received copies speak against, and a bit that is not coded is One where more ones than zeros
-    /// were received. A bit has no more copies than eight radio frames have cells, 460,800. With a copy of each coded bit, a code
-    /// block of which at most five copies are wrong at rate 1/2, or eight at rate 1/3, is read as it was sent.
+    /// Reads the joined bits of a TTI from the votes for its coded bits (TS 25.212 4.2.2 and 4.2.3): each code block is
+    /// the one that the fewest received copies speak against, and a bit that is not coded is One where more ones than
+    /// zeros were received. A bit has no more copies than eight radio frames have cells, 460,800. With a copy of each
+    /// coded bit, a code block of which at most five copies are wrong at rate 1/2, or eight at rate 1/3, is read as it
+    /// was sent.
     pub fn decode(&mut self, coding: Coding, votes: &[Vote], joined: &mut [Bit])
         requires coded { length votes.now ≡ coded_bits coding (length joined.old) }
         requires short { length votes.now ≤ 131072 }
         requires fits { length votes.now ≤ self.old.bits }
         requires block { searched_bits coding (length joined.old) ≤ self.old.code_block }
-        requires few { (j : ℕ) (v : Vote) → j < length votes.now → (slice_index_or votes.now j v).zeros + (slice_index_or votes.now j v).ones ≤ 460800 }
+        requires few { (j : ℕ) (v : Vote) → j < length votes.now →
+            (slice_index_or votes.now j v).zeros + (slice_index_or votes.now j v).ones ≤ 460800 }
         ensures read { AreRead coding votes.now joined.new }
-        ensures undamaged { (sent : List Bit) (kept : ℕ → ℕ) → length sent ≡ length joined.new → AreCopies votes.now (coded_of coding sent) kept →
-            HasNoCollision coding (length sent) kept → (joined.new ≡ sent) × (disagreement votes.now (coded_of coding joined.new) ≡ 0) }
-        ensures corrected { (bits : List Bit) (least : ℕ) → length bits ≡ length joined.new → HaveCopies least votes.now → AreFewWrong coding least votes.now bits → joined.new ≡ bits }
-        ensures told_apart { (bits : List Bit) (sent : ℕ → ℕ) → length bits ≡ length joined.new → AreCorrectable coding sent votes.now bits → joined.new ≡ bits }
+        ensures undamaged { (sent : List Bit) (kept : ℕ → ℕ) → length sent ≡ length joined.new →
+            AreCopies votes.now (coded_of coding sent) kept →
+            HasNoCollision coding (length sent) kept → (joined.new ≡ sent) ×
+            (disagreement votes.now (coded_of coding joined.new) ≡ 0) }
+        ensures corrected { (bits : List Bit) (least : ℕ) → length bits ≡ length joined.new →
+            HaveCopies least votes.now → AreFewWrong coding least votes.now bits → joined.new ≡ bits }
+        ensures told_apart { (bits : List Bit) (sent : ℕ → ℕ) → length bits ≡ length joined.new →
+            AreCorrectable coding sent votes.now bits → joined.new ≡ bits }
         ensures kept { self.new ≡ self.old }
     {
         decode_with(&mut self.trellis, &mut self.blocks, coding, votes, joined);
@@ -89,7 +95,8 @@ pub(crate) fn decode_front(
     requires room { length votes.now ≤ length out.old }
     requires coded { length votes.now ≡ coded_bits coding len }
     requires short { length votes.now ≤ 131072 }
-    requires few { (j : ℕ) (v : Vote) → j < length votes.now → (slice_index_or votes.now j v).zeros + (slice_index_or votes.now j v).ones ≤ 460800 }
+    requires few { (j : ℕ) (v : Vote) → j < length votes.now →
+        (slice_index_or votes.now j v).zeros + (slice_index_or votes.now j v).ones ≤ 460800 }
     ensures fits { len ≤ length out.new }
     ensures read { AreRead coding votes.now (take len out.new) }
     ensures kept { trellis.new ≡ trellis.old }
@@ -108,7 +115,8 @@ fn decode_with(
     requires room { length votes.now ≤ length blocks.old }
     requires coded { length votes.now ≡ coded_bits coding (length joined.old) }
     requires short { length votes.now ≤ 131072 }
-    requires few { (j : ℕ) (v : Vote) → j < length votes.now → (slice_index_or votes.now j v).zeros + (slice_index_or votes.now j v).ones ≤ 460800 }
+    requires few { (j : ℕ) (v : Vote) → j < length votes.now →
+        (slice_index_or votes.now j v).zeros + (slice_index_or votes.now j v).ones ≤ 460800 }
     ensures read { AreRead coding votes.now joined.new }
     ensures kept { trellis.new ≡ trellis.old }
 {
@@ -132,10 +140,12 @@ fn read_blocks(
     requires some { 0 < plan.now.blocks → 1 ≤ plan.now.size }
     requires filler { 0 < plan.now.blocks → plan.now.filler ≤ plan.now.size }
     requires votes { length votes.now ≡ plan.now.blocks * coded_block coding plan.now.size }
-    requires few { (j : ℕ) (v : Vote) → j < length votes.now → (slice_index_or votes.now j v).zeros + (slice_index_or votes.now j v).ones ≤ 460800 }
+    requires few { (j : ℕ) (v : Vote) → j < length votes.now →
+        (slice_index_or votes.now j v).zeros + (slice_index_or votes.now j v).ones ≤ 460800 }
     requires blocks { length blocks.old ≡ plan.now.blocks * plan.now.size }
     ensures read { (r : ℕ) → r < plan.now.blocks →
-        IsRead coding (part r (coded_block coding plan.now.size) votes.now) (filler_of plan.now r) (part r plan.now.size blocks.new) }
+        IsRead coding (part r (coded_block coding plan.now.size) votes.now) (filler_of plan.now r)
+        (part r plan.now.size blocks.new) }
     ensures kept { trellis.new ≡ trellis.old }
 {
     let size = plan.size;

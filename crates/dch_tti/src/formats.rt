@@ -9,8 +9,8 @@ use dch_accept::Accepted;
 use dch_types::{Dir, Side};
 
 impl ReceivedFrames {
-    /// The format that all radio frames of a channel's TTI give it, or the first frame that is missing or gives it another one
-    /// than frame 0 does.
+    /// The format that all radio frames of a channel's TTI give it, or the first frame that is missing or gives it
+    /// another one than frame 0 does.
     pub fn format_of_tti(&self, accepted: &Accepted, dir: Dir, channel: u8) -> Result<u8, u8>
         requires opened { IsReaderOf accepted.now dir self.now }
         requires channel { channel < length (side_of accepted.now.config dir).channels }

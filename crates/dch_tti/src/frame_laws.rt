@@ -18,7 +18,8 @@ ghost use Rattle.dch_tti.specs.Sent.{AreSentFrames};
 /// A law: two radio frames of a combination that show the same multiplexed cells have the same TFCI bits and cells.
 pub fn one_radio_frame_law()
     ensures { (planned : Planned) (dir : Dir) (multiplexed : ℕ → Trit) (c : ℕ) (one other : Frame) →
-        IsFrameOf planned dir multiplexed c one → IsFrameOf planned dir multiplexed c other → (one.tfci ≡ other.tfci) × (one.cells ≡ other.cells) }
+        IsFrameOf planned dir multiplexed c one → IsFrameOf planned dir multiplexed c other → (one.tfci ≡ other.tfci) ×
+        (one.cells ≡ other.cells) }
 {}
 
 /// A law: a frame that is kept as it was written is kept in the combination in which it was written, with its cells in
@@ -30,18 +31,19 @@ pub fn written_frame_law()
         (kept.combination ≡ Some c) × AreBack (code_cells planned dir (length frame.cells)) frame.cells kept.cells }
 {}
 
-/// A law: the radio frames of a channel's TTI are pushed as they were written, each in its combination, while what is loaded of
-/// the channel stays. Then they all are kept as they were written when the last one was pushed.
+/// A law: the radio frames of a channel's TTI are pushed as they were written, each in its combination, while what is
+/// loaded of the channel stays. Then they all are kept as they were written when the last one was pushed.
 pub fn pushed_tti_law()
-    ensures { (planned : Planned) (dir : Dir) (multiplexed : List Loaded → ℕ → ℕ → ℕ → Trit) (i first : ℕ) (sequence : List ℕ) (loaded : Loaded) (readers : ℕ → RxFrames) →
+    ensures { (planned : Planned) (dir : Dir) (multiplexed : List Loaded → ℕ → ℕ → ℕ →
+        Trit) (i first : ℕ) (sequence : List ℕ) (loaded : Loaded) (readers : ℕ → RxFrames) →
         IsSide (side_of planned.config dir) → i < length (side_of planned.config dir).channels →
         first % (channel_at (side_of planned.config dir) i).frames ≡ 0 →
         AreSentAndPushed planned dir multiplexed i first sequence loaded readers →
         AreSentFrames planned dir multiplexed (readers (channel_at (side_of planned.config dir) i).frames) i sequence loaded }
 {}
 
-/// A law: what is kept of a radio frame is one: the same TFCI bits and cells give the same combination, and where there is one
-/// the same cells.
+/// A law: what is kept of a radio frame is one: the same TFCI bits and cells give the same combination, and where there
+/// is one the same cells.
 pub fn one_kept_frame_law()
     ensures { (planned : Planned) (dir : Dir) (tfci : List Bit) (cells : List Trit) (one other : RxFrame) →
         IsKept planned dir tfci cells one → IsKept planned dir tfci cells other →

@@ -20,7 +20,11 @@ impl Model for ReceivedFrame {
 
     ghost Value = { RxFrame };
 
-    ghost view = { λ k. record { combination = k.combination; cells = take k.len k.cells.items; room = length k.cells.items } };
+    ghost view = { λ k. record {
+      combination = k.combination;
+      cells = take k.len k.cells.items;
+      room = length k.cells.items;
+    } };
 
     ghost invariant = { λ k. k.len ≤ length k.cells.items };
 }

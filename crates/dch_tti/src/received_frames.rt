@@ -55,7 +55,8 @@ impl ReceivedFrames {
         ensures held { IsHeld combination interleaver.now cells.now (rx_frame_at self.new.frames (cfn % 8)) }
         ensures others { (k : ℕ) → k ≢ cfn % 8 → rx_frame_at self.new.frames k ≡ rx_frame_at self.old.frames k }
         ensures last { self.new.cfn ≡ cfn }
-        ensures opened { (planned : Planned) (dir : Dir) → IsReaderOf planned dir self.old → combination < length (side_of planned.config dir).combinations →
+        ensures opened { (planned : Planned) (dir : Dir) → IsReaderOf planned dir self.old →
+            combination < length (side_of planned.config dir).combinations →
             length cells.now ≡ frame_cells planned dir combination → IsReaderOf planned dir self.new }
     {
         self.frames[cfn as usize % FRAMES].keep(combination, interleaver, cells);
@@ -67,7 +68,8 @@ impl ReceivedFrames {
         ensures missing { (rx_frame_at self.new.frames (cfn % 8)).combination ≡ None }
         ensures others { (k : ℕ) → k ≢ cfn % 8 → rx_frame_at self.new.frames k ≡ rx_frame_at self.old.frames k }
         ensures last { self.new.cfn ≡ cfn }
-        ensures opened { (planned : Planned) (dir : Dir) → IsReaderOf planned dir self.old → IsReaderOf planned dir self.new }
+        ensures opened { (planned : Planned) (dir : Dir) → IsReaderOf planned dir self.old →
+            IsReaderOf planned dir self.new }
     {
         self.frames[cfn as usize % FRAMES].miss();
         self.cfn = cfn;

@@ -12,8 +12,9 @@ use dch_tfci::find;
 use dch_types::Dir;
 
 impl ReceivedFrames {
-    /// Takes the radio frame of the next CFN, or that it is missing. A frame is kept where its TFCI names a combination of the
-    /// list, and it is as long as the frames of that one (TS 25.212 4.3.3, 4.3.5); otherwise it counts as missing.
+    /// Takes the radio frame of the next CFN, or that it is missing. A frame is kept where its TFCI names a combination
+    /// of the list, and it is as long as the frames of that one (TS 25.212 4.3.3, 4.3.5); otherwise it counts as
+    /// missing.
     pub fn push(&mut self, accepted: &Accepted, dir: Dir, cfn: u8, frame: Option<FrameView<'_>>)
         requires opened { IsReaderOf accepted.now dir self.old }
         requires tfci { HasTfci accepted.now dir frame }

@@ -20,7 +20,8 @@ pub fn received(crc: Crc, bits: usize, joined: &[Bit], i: usize) -> TransportBlo
     requires { (i + 1) * (bits + crc_size crc) ≤ length joined.now }
     ensures bits { result.bits.now ≡ take bits (part i (bits + crc_size crc) joined.now) }
     ensures good { IsTrue result.good ↔ IsAttached crc result.bits.now (part i (bits + crc_size crc) joined.now) }
-    ensures undamaged { (block : List Bit) → length block ≡ bits → IsAttached crc block (part i (bits + crc_size crc) joined.now) →
+    ensures undamaged { (block : List Bit) → length block ≡ bits →
+        IsAttached crc block (part i (bits + crc_size crc) joined.now) →
         (result.bits.now ≡ block) × IsTrue result.good }
 {
     let width = bits + size(crc);

@@ -17,8 +17,8 @@ use dch_types::{Crc, Format, Trch};
 
 impl Decoder {
     /// Reads the transport blocks of a TTI of a channel, in format `number`, from the votes for its coded bits
-    /// (TS 25.212 4.2.1 to 4.2.3). A block is good exactly where its parity fits. Where less than half of the copies that tell
-    /// a code block from others are lost, it is read as it was sent.
+    /// (TS 25.212 4.2.1 to 4.2.3). A block is good exactly where its parity fits. Where less than half of the copies
+    /// that tell a code block from others are lost, it is read as it was sent.
     pub fn read(
         &mut self,
         channel: &Trch,
@@ -33,7 +33,8 @@ impl Decoder {
         requires short { length votes.now ≤ 131072 }
         requires fits { length votes.now ≤ self.old.bits }
         requires block { searched_bits channel.now.coding (joined_bits channel.now format.now) ≤ self.old.code_block }
-        requires few { (j : ℕ) (v : Vote) → j < length votes.now → (slice_index_or votes.now j v).zeros + (slice_index_or votes.now j v).ones ≤ 460800 }
+        requires few { (j : ℕ) (v : Vote) → j < length votes.now →
+            (slice_index_or votes.now j v).zeros + (slice_index_or votes.now j v).ones ≤ 460800 }
         ensures read { IsReceived channel.now number format.now votes.now out.new }
         ensures undamaged { ReadsCopies channel.now format.now votes.now out.new }
         ensures corrected { ReadsCorrectable channel.now format.now votes.now out.new }
@@ -79,7 +80,8 @@ fn write_blocks(crc: Crc, size: usize, count: usize, joined: &[Bit], out: &mut [
 fn mark_blocks(crc: Crc, size: usize, joined: &[Bit], out: &mut TtiBlocks)
     requires joined { length joined.now ≡ length out.old.good * (size + crc_size crc) }
     ensures marks { (i : ℕ) → i < length out.new.good →
-        IsTrue (slice_index_or out.new.good i false) ↔ IsAttached crc (take size (part i (size + crc_size crc) joined.now)) (part i (size + crc_size crc) joined.now) }
+        IsTrue (slice_index_or out.new.good i false) ↔
+        IsAttached crc (take size (part i (size + crc_size crc) joined.now)) (part i (size + crc_size crc) joined.now) }
     ensures same { out.new ≡ record out.old { good = out.new.good } }
     ensures count { length out.new.good ≡ length out.old.good }
 {

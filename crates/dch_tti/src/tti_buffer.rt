@@ -102,7 +102,8 @@ fn interleave(frames: usize, tti: &[Trit], out: &mut [Trit])
     requires frames { IsFrames frames }
     requires whole { length tti.now % frames ≡ 0 }
     requires room { length out.old ≡ length tti.now }
-    ensures { (k : ℕ) → k < length out.new → slice_index_or out.new k Off ≡ slice_index_or tti.now (first_of frames (length out.new) k) Off }
+    ensures { (k : ℕ) → k < length out.new → slice_index_or out.new k Off ≡
+        slice_index_or tti.now (first_of frames (length out.new) k) Off }
 {
     let rows = tti.len() / frames;
     for n in 0..frames {

@@ -46,7 +46,8 @@ pub trait CountVotes {
     fn open(alloc: Global, room: &TtiRoom) -> Result<Self, NoMemory>
         ensures { IfOk result (λ scratch. size scratch ≡ size_for room.now) };
 
-    /// Counts the votes for the coded bits of a channel's TTI in a format that all of its radio frames give it, at the front of
+    /// Counts the votes for the coded bits of a channel's TTI in a format that all of its radio frames give it, at the
+    /// front of
     /// `out`.
     fn count(
         &mut self,
@@ -100,7 +101,8 @@ impl<R: CountVotes> Model for TtiReader<R> {
 
     ghost view = { λ r. r.rx_frames };
 
-    ghost invariant = { λ r. (R.size r.scratch ≡ R.size_for r.rx_frames.room) × (length r.votes.items ≡ r.rx_frames.room.coding.bits) × (r.decoder ≡ r.rx_frames.room.coding) };
+    ghost invariant = { λ r. (R.size r.scratch ≡ R.size_for r.rx_frames.room) ×
+        (length r.votes.items ≡ r.rx_frames.room.coding.bits) × (r.decoder ≡ r.rx_frames.room.coding) };
 }
 
 impl<R: CountVotes + Drop> TtiReader<R> {
@@ -119,9 +121,9 @@ impl<R: CountVotes + Drop> TtiReader<R> {
         })
     }
 
-    /// Takes the radio frame of the next CFN, or that it is missing. The last 8 are held. A frame is kept where its TFCI
-    /// names a combination of the list and it is as long as the frames of that one (TS 25.212 4.3.3, 4.3.5); otherwise it
-    /// counts as missing.
+    /// Takes the radio frame of the next CFN, or that it is missing. The last 8 are held. A frame is kept where its
+    /// TFCI names a combination of the list and it is as long as the frames of that one (TS 25.212 4.3.3, 4.3.5);
+    /// otherwise it counts as missing.
     pub fn push(&mut self, accepted: &Accepted, cfn: u8, frame: Option<FrameView<'_>>)
         requires opened { IsReaderOf accepted.now R.dir self.old }
         requires tfci { HasTfci accepted.now R.dir frame }
@@ -131,14 +133,16 @@ impl<R: CountVotes + Drop> TtiReader<R> {
         self.rx_frames.push(accepted, R::dir(), cfn, frame);
     }
 
-    /// Reads the TTI of a channel that the last frame ends (TS 25.212 4.2.1 to 4.2.12, read backwards). A bad frame leaves the
-    /// blocks as they were.
+    /// Reads the TTI of a channel that the last frame ends (TS 25.212 4.2.1 to 4.2.12, read backwards). A bad frame
+    /// leaves the blocks as they were.
     pub fn read(&mut self, accepted: &Accepted, channel: u8, out: &mut TtiBlocks) -> TtiOutcome
         requires opened { IsReaderOf accepted.now R.dir self.old }
         requires blocks { HoldsTtis (side_of accepted.now.config R.dir) out.old.room }
         requires channel { channel < length (side_of accepted.now.config R.dir).channels }
-        ensures outcome { IsOutcome (side_of accepted.now.config R.dir) (IsTtiRead accepted.now R.dir (R.counts accepted.now)) self.old channel out.old result out.new }
-        ensures undamaged { (format : ℕ) (blocks : List Bit) → R.sent accepted.now self.old channel format blocks → IsSentBack format blocks result out.new }
+        ensures outcome { IsOutcome (side_of accepted.now.config R.dir)
+            (IsTtiRead accepted.now R.dir (R.counts accepted.now)) self.old channel out.old result out.new }
+        ensures undamaged { (format : ℕ) (blocks : List Bit) → R.sent accepted.now self.old channel format blocks →
+            IsSentBack format blocks result out.new }
         ensures room { out.new.room ≡ out.old.room }
         ensures kept { self.new ≡ self.old }
     {
@@ -158,7 +162,8 @@ impl<R: CountVotes + Drop> TtiReader<R> {
         requires channel { channel < length (side_of accepted.now.config R.dir).channels }
         requires format { IsFormatOf (side_of accepted.now.config R.dir) self.old channel format }
         ensures read { IsTtiRead accepted.now R.dir (R.counts accepted.now) self.old channel out.new }
-        ensures undamaged { (blocks : List Bit) → R.sent accepted.now self.old channel format blocks → ArrivesAs blocks out.new }
+        ensures undamaged { (blocks : List Bit) → R.sent accepted.now self.old channel format blocks →
+            ArrivesAs blocks out.new }
         ensures number { out.new.format ≡ format }
         ensures room { out.new.room ≡ out.old.room }
         ensures kept { self.new ≡ self.old }

@@ -42,7 +42,8 @@ pub trait MultiplexFrame {
         requires formats { AreFormats (side_of accepted.now.config dir) combination tti_buffers.now }
         requires room { length out.old ≡ frame_cells accepted.now dir combination }
         requires small { length out.old ≤ 57600 }
-        ensures { (p : ℕ) → p < length out.new → slice_index_or out.new p Off ≡ cell accepted.now tti_buffers.now cfn combination p };
+        ensures { (p : ℕ) → p < length out.new → slice_index_or out.new p Off ≡
+            cell accepted.now tti_buffers.now cfn combination p };
 }
 
 /// Writes the radio frame of a CFN in a combination: its TFCI, and the multiplexed cells after the second interleaver
@@ -82,7 +83,8 @@ fn write_cells<T: MultiplexFrame>(
     requires formats { AreFormats (side_of accepted.now.config T.dir) combination tti_buffers.now }
     requires room { length out.old ≡ 2 * frame_cells accepted.now T.dir combination }
     ensures { (k : ℕ) → k < frame_cells accepted.now T.dir combination →
-        slice_index_or out.new k Off ≡ T.cell accepted.now tti_buffers.now cfn combination (multiplexed_place accepted.now T.dir combination k) }
+        slice_index_or out.new k Off ≡
+        T.cell accepted.now tti_buffers.now cfn combination (multiplexed_place accepted.now T.dir combination k) }
 {
     // It has at most 57,600 cells.
     let dir = T::dir();

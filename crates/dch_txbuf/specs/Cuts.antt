@@ -30,7 +30,8 @@ with_pieces n c = record { pieces = n + c.pieces; rest = c.rest; owed = c.owed; 
 -- what a PDU takes of these SDUs into so many octets, each length indicator an octet
 abbrev pub cut_of : ℕ → List (List ℕ) → Cut
 cut_of free [] = record { pieces = 0; rest = 0; owed = false; padded = nat_lt 0 free }
-cut_of free (u ∷ us) = if nat_lt (length u) free then with_pieces 1 (cut_of (free - length u - 1) us) else record { pieces = 0; rest = free; owed = length u == free; padded = false }
+cut_of free (u ∷ us) = if nat_lt (length u) free then with_pieces 1 (cut_of (free - length u - 1) us)
+    else record { pieces = 0; rest = free; owed = length u == free; padded = false }
 
 -- there are so many of them
 pub record IsThere (c : Cut) (us : List (List ℕ)) : Type 0 where
@@ -47,7 +48,11 @@ octets_of c us = joined (take c.pieces us) ++ take c.rest (first_of (drop c.piec
 
 -- what is unsent behind it
 abbrev pub after_cut : Cut → List (List ℕ) → TxQueue
-after_cut c us = record { owed = c.owed; units = if c.owed then drop (c.pieces + 1) us else trimmed c.rest (drop c.pieces us) }
+after_cut c us = record {
+  owed = c.owed;
+  units = if c.owed then drop (c.pieces + 1) us
+      else trimmed c.rest (drop c.pieces us);
+}
 
 -- where the next PDU begins
 abbrev pub next_start : Start → Cut → Start
@@ -74,9 +79,11 @@ led_by (Some m) = m ∷ []
 abbrev pub is_padded : ℕ → Option ℕ → Cut → List (List ℕ) → Bool
 is_padded room lead c us = nat_lt (length (led_by lead) + length (octets_of c us) + c.pieces) room
 
--- the length indicators of the PDU, of so many octets behind its header: the one that stands first, those of ends, and that of padding
+-- the length indicators of the PDU, of so many octets behind its header: the one that stands first, those of ends, and
+-- that of padding
 abbrev pub indicators_with : Option ℕ → ℕ → Cut → List (List ℕ) → List ℕ
-indicators_with lead room c us = led_by lead ++ (ends_at 0 (take c.pieces us) ++ padding room (length (led_by lead) + length (octets_of c us) + c.pieces))
+indicators_with lead room c us = led_by lead ++ (ends_at 0 (take c.pieces us)
+    ++ padding room (length (led_by lead) + length (octets_of c us) + c.pieces))
 
 -- length indicators where one is written at a place: seven bits, and the bit that tells whether one more follows
 abbrev pub with_indicator : ℕ → ℕ → List ℕ → List ℕ

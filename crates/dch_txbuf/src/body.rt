@@ -7,8 +7,8 @@ use crate::store::SduBuffer;
 use crate::taken::{Cut, Start};
 use dch_rlcpdu::PADDING;
 
-/// Writes what stands behind the header of a PDU: length indicators, octets of SDUs, and zeros for padding. Answers the bit of the header
-/// that tells whether a length indicator follows.
+/// Writes what stands behind the header of a PDU: length indicators, octets of SDUs, and zeros for padding. Answers the
+/// bit of the header that tells whether a length indicator follows.
 pub fn write_body(
     sdus: &SduBuffer,
     start: &Start,
@@ -53,12 +53,15 @@ fn write_parts(
 )
     requires start { IsStart sdus.now.items start.now }
     requires there { IsThere cut.now (left_at start.now sdus.now.items) }
-    requires count { length indicators.old ≡ length (indicators_with lead (length indicators.old + length octets.old) cut.now (left_at start.now sdus.now.items)) }
+    requires count { length indicators.old ≡
+        length (indicators_with lead (length indicators.old + length octets.old) cut.now (left_at start.now sdus.now.items)) }
     requires room { length (octets_of cut.now (left_at start.now sdus.now.items)) ≤ length octets.old }
     requires small { length indicators.old + length octets.old ≤ 126 }
     requires lead { All (λ m. m < 128) (led_by lead) }
-    requires padded { cut.now.padded ≡ is_padded (length indicators.old + length octets.old) lead cut.now (left_at start.now sdus.now.items) }
-    ensures indicators { indicators.new ≡ indicator_octets (indicators_with lead (length indicators.old + length octets.old) cut.now (left_at start.now sdus.now.items)) }
+    requires padded { cut.now.padded ≡
+        is_padded (length indicators.old + length octets.old) lead cut.now (left_at start.now sdus.now.items) }
+    ensures indicators { indicators.new ≡
+        indicator_octets (indicators_with lead (length indicators.old + length octets.old) cut.now (left_at start.now sdus.now.items)) }
     ensures octets { octets.new ≡ padded (length octets.old) (octets_of cut.now (left_at start.now sdus.now.items)) }
 {
     let carried = write_pieces(sdus, start, cut, lead, indicators, octets);
@@ -79,14 +82,17 @@ fn write_pieces(
 ) -> usize
     requires start { IsStart sdus.now.items start.now }
     requires there { IsThere cut.now (left_at start.now sdus.now.items) }
-    requires count { length indicators.old ≡ length (indicators_with lead (length indicators.old + length octets.old) cut.now (left_at start.now sdus.now.items)) }
+    requires count { length indicators.old ≡
+        length (indicators_with lead (length indicators.old + length octets.old) cut.now (left_at start.now sdus.now.items)) }
     requires room { length (octets_of cut.now (left_at start.now sdus.now.items)) ≤ length octets.old }
     requires small { length indicators.old + length octets.old ≤ 126 }
     requires lead { All (λ m. m < 128) (led_by lead) }
     ensures octets { take result octets.new ≡ octets_of cut.now (left_at start.now sdus.now.items) }
     ensures count { result ≡ length (octets_of cut.now (left_at start.now sdus.now.items)) }
     ensures same { length octets.new ≡ length octets.old }
-    ensures indicators { take (length (led_by lead) + cut.now.pieces) indicators.new ≡ take (length (led_by lead) + cut.now.pieces) (indicator_octets (indicators_with lead (length indicators.old + length octets.old) cut.now (left_at start.now sdus.now.items))) }
+    ensures indicators { take (length (led_by lead) + cut.now.pieces) indicators.new ≡
+        take (length (led_by lead) + cut.now.pieces)
+        (indicator_octets (indicators_with lead (length indicators.old + length octets.old) cut.now (left_at start.now sdus.now.items))) }
     ensures number { length indicators.new ≡ length indicators.old }
 {
     let first = start.sdu as usize;

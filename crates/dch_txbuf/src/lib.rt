@@ -1,4 +1,5 @@
-//! SDUs in blocks of a pool, and what PDUs take of them, for the first time or again (TS 25.322 9.2.1.4, 9.2.2.8, 9.4, 11.3.2).
+//! SDUs in blocks of a pool, and what PDUs take of them, for the first time or again (TS 25.322 9.2.1.4, 9.2.2.8, 9.4,
+//! 11.3.2).
 #![tactic(auto)]
 
 mod body;

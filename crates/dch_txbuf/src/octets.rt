@@ -25,7 +25,8 @@ pub fn push_octets(row: &mut BlockRow, octets: &[u8])
     }
 }
 
-/// Copies the octets of the row from a place on, counted from the front of a block. At most 65,535 blocks are in the row.
+/// Copies the octets of the row from a place on, counted from the front of a block. At most 65,535 blocks are in the
+/// row.
 pub fn copy_octets(row: &BlockRow, block: usize, from: usize, out: &mut [u8])
     requires whole { AreWhole row.now.items }
     requires few { length row.now.items ≤ 65535 }

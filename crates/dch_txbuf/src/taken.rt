@@ -10,8 +10,8 @@ pub struct Start {
     pub used: u16,
 }
 
-/// What a PDU takes of the SDUs from its start on: so many end in it with their length indicators, and so many octets of the next one
-/// stand behind them. Where these are all of that one its length indicator is owed to the next PDU.
+/// What a PDU takes of the SDUs from its start on: so many end in it with their length indicators, and so many octets
+/// of the next one stand behind them. Where these are all of that one its length indicator is owed to the next PDU.
 #[derive(Clone, Copy)]
 pub struct Cut {
     pub pieces: u8,

@@ -26,8 +26,11 @@ pub fn write_taken(sdus: &SduBuffer, start: &Start, cut: &Cut, header: &Header, 
     requires least { 2 ≤ length out.old }
     requires most { length out.old ≤ 126 }
     requires short { IsShort (length out.old - 2) (body_of header.now.full cut.now (left_at start.now sdus.now.items)) }
-    requires padded { cut.now.padded ≡ has_padding (length out.old - 2) (body_of header.now.full cut.now (left_at start.now sdus.now.items)) }
-    ensures { out.new ≡ am_pdu header.now.number header.now.poll (indicators_of (length out.old - 2) (body_of header.now.full cut.now (left_at start.now sdus.now.items))) (carried (body_of header.now.full cut.now (left_at start.now sdus.now.items))) (length out.old) }
+    requires padded { cut.now.padded ≡ has_padding (length out.old - 2)
+        (body_of header.now.full cut.now (left_at start.now sdus.now.items)) }
+    ensures { out.new ≡ am_pdu header.now.number header.now.poll (indicators_of (length out.old - 2)
+        (body_of header.now.full cut.now (left_at start.now sdus.now.items)))
+        (carried (body_of header.now.full cut.now (left_at start.now sdus.now.items))) (length out.old) }
 {
     let lead = lead_of(header.full);
     let (front, body) = out.split_at_mut(2);
@@ -43,8 +46,8 @@ fn lead_of(full: bool) -> Option<u8>
     if full { Some(FILLED) } else { None }
 }
 
-/// Writes the PDU of unacknowledged mode that takes this of the SDUs: `number` is 0 to 127, and `lead` the length indicator that stands first,
-/// if there is one.
+/// Writes the PDU of unacknowledged mode that takes this of the SDUs: `number` is 0 to 127, and `lead` the length
+/// indicator that stands first, if there is one.
 pub fn write_um_taken(
     sdus: &SduBuffer,
     start: &Start,

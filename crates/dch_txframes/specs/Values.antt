@@ -13,7 +13,11 @@ pub record IubTxBuffer : Type 0 where
 
 -- that of set s
 abbrev pub tx_buffer_at : List IubTxBuffer → ℕ → IubTxBuffer
-tx_buffer_at tx_buffers s = slice_index_or tx_buffers s (record { held = record { set = 0; idle = []; blocks = [] }; sent = None; room = 0 })
+tx_buffer_at tx_buffers s = slice_index_or tx_buffers s (record {
+  held = record { set = 0; idle = []; blocks = [] };
+  sent = None;
+  room = 0;
+})
 
 -- the octets of an Iub frame that the last step sent
 abbrev pub octets_if : Bool → List ℕ → Option (List ℕ)

@@ -35,7 +35,11 @@ impl Model for IubTxBuffer {
 
     ghost Value = { IubTxBuffer };
 
-    ghost view = { λ l. record { held = l.blocks; sent = octets_if l.sent (take l.len l.octets.items); room = length l.octets.items } };
+    ghost view = { λ l. record {
+      held = l.blocks;
+      sent = octets_if l.sent (take l.len l.octets.items);
+      room = length l.octets.items;
+    } };
 
     ghost invariant = { λ l. l.len ≤ length l.octets.items };
 }

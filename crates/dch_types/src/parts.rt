@@ -39,7 +39,8 @@ impl Side {
         self.channel(i).frames
     }
 
-    /// The transport format indicator (TFI) of channel `i` in combination `c`: the number of its format (TS 25.302 7.1.8).
+    /// The transport format indicator (TFI) of channel `i` in combination `c`: the number of its format (TS 25.302
+    /// 7.1.8).
     pub fn tfi(&self, c: usize, i: usize) -> u8
         requires good { IsSide self.now }
         requires combination { c < length self.now.combinations }

@@ -61,8 +61,10 @@ pub record AreReadTo (planned : Planned) (rx_frames : RxFrames) (count : ℕ) (t
 -- layer 2 took what was read of a channel
 pub record Gives {S : Type 0} (shows : S → Line → S → Type 0) (config : Config) (i : ℕ) (reading : Reading) (old new : LayerRunning) (before after : S) : Type 0 where
   pub ends : IsSameEnd old new
-  pub stands : (layer : Layer) → StandsFor config layer old → StandsFor config (reads config Down i reading layer).layer new
-  pub told : (layer : Layer) → StandsFor config layer old → Told shows before (reads config Down i reading layer).lines after
+  pub stands : (layer : Layer) → StandsFor config layer old
+      → StandsFor config (reads config Down i reading layer).layer new
+  pub told : (layer : Layer) → StandsFor config layer old
+      → Told shows before (reads config Down i reading layer).lines after
 
 -- the first channels were read, and layer 2 took what was read
 pub record AreRead {S : Type 0} (shows : S → Line → S → Type 0) (planned : Planned) (rx_frames : RxFrames) (count : ℕ) (ttis : List RxTti) (old new : LayerRunning) (before after : S) : Type 0 where
@@ -85,7 +87,8 @@ pub record AreLoadedTo (planned : Planned) (cfn count : ℕ) (layer : LayerRunni
   pub opened : IsTtiOf planned new
   pub on : (i : ℕ) → i < count → starts (channel_at planned.config.uplink.side i).frames cfn ≡ true
       → IsLoaded planned i (held_at layer.given i).format (held_at layer.given i).bits (loaded_at new i)
-  pub off : (i : ℕ) → i < count → starts (channel_at planned.config.uplink.side i).frames cfn ≡ false → loaded_at new i ≡ loaded_at old i
+  pub off : (i : ℕ) → i < count → starts (channel_at planned.config.uplink.side i).frames cfn ≡ false → loaded_at new i
+      ≡ loaded_at old i
   pub later : (i : ℕ) → count ≤ i → loaded_at new i ≡ loaded_at old i
 
 -- the radio frame of a CFN was written in a combination of what is loaded, and is sent and told
@@ -103,8 +106,8 @@ pub record Transmits {S : Type 0} (shows : S → Line → S → Type 0) (planned
   pub loads : AreLoadedTo planned cfn (length planned.config.uplink.side.channels) layer old.running loaded.running
   pub sends : Sends shows planned cfn layer.running loaded new before after
 
--- what is told in a step: what layer 2, whose bearers are limited, tells of TTIs of the first channels, and no more than one line that is
--- short or on a radio frame
+-- what is told in a step: what layer 2, whose bearers are limited, tells of TTIs of the first channels, and no more
+-- than one line that is short or on a radio frame
 pub record AreLimitedLines (config : Config) (lines : List Line) : Type 0 where
   pub layer : Layer
   pub bounded : AreBounded config layer

@@ -21,7 +21,8 @@ use Rattle.dch_ue.specs.Values.{DownlinkReceiver, NextParts, Node, RxTti, Uplink
 -- room for the TTIs of each channel
 pub record AreTtisOf (planned : Planned) (ttis : List RxTti) : Type 0 where
   pub all : length ttis ≡ length planned.config.downlink.side.channels
-  pub each : (i : ℕ) → i < length planned.config.downlink.side.channels → HoldsTtis planned.config.downlink.side (tti_at ttis i).held.room
+  pub each : (i : ℕ) → i < length planned.config.downlink.side.channels
+      → HoldsTtis planned.config.downlink.side (tti_at ttis i).held.room
 
 -- memory for the TTIs of the first channels, of which nothing was read
 pub record AreNewTtis (planned : Planned) (count : ℕ) (ttis : List RxTti) : Type 0 where
@@ -42,17 +43,19 @@ pub record IsTransmitterOf (planned : Planned) (transmitter : UplinkTransmitter)
 -- the channels whose TTI goes on at a CFN are loaded in the format of the combination that runs
 abbrev pub AreNoted : Planned → ℕ → ℕ → List Loaded → Type 0
 AreNoted planned cfn running tti =
-    (i : ℕ) → i < length planned.config.uplink.side.channels → starts (channel_at planned.config.uplink.side i).frames cfn ≡ false
+    (i : ℕ) → i < length planned.config.uplink.side.channels
+    → starts (channel_at planned.config.uplink.side i).frames cfn ≡ false
     → (loaded_at tti i).format ≡ Some (format_number planned.config.uplink.side running i)
 
 -- the channels whose TTI starts at a CFN were given the format of the combination that runs
 abbrev pub AreGivenAs : Planned → ℕ → LayerRunning → Type 0
 AreGivenAs planned cfn layer =
-    (i : ℕ) → i < length planned.config.uplink.side.channels → starts (channel_at planned.config.uplink.side i).frames cfn ≡ true
+    (i : ℕ) → i < length planned.config.uplink.side.channels
+    → starts (channel_at planned.config.uplink.side i).frames cfn ≡ true
     → (held_at layer.given i).format ≡ format_number planned.config.uplink.side layer.running i
 
--- layer 2 sends in the uplink and receives in the downlink, all parts were opened for the configuration, and a radio frame that came is
--- that of the CFN
+-- layer 2 sends in the uplink and receives in the downlink, all parts were opened for the configuration, and a radio
+-- frame that came is that of the CFN
 pub record IsNodeOf (planned : Planned) (node : Node) : Type 0 where
   pub sends : node.layer.out ≡ Up
   pub receives : node.layer.into ≡ Down
@@ -82,12 +85,14 @@ abbrev pub Holds : Planned → Option NextParts → Type 0
 Holds planned None = ⊥
 Holds planned (Some next) = IsNextOf planned next
 
--- a second configuration can follow: each bearer of the first one is kept, and the terminal holds its parts for the second one
+-- a second configuration can follow: each bearer of the first one is kept, and the terminal holds its parts for the
+-- second one
 pub record HasNext (first second : Planned) (node : Node) : Type 0 where
   pub kept : (b : ℕ) → KeepsBearer first.config second.config b
   pub parts : Holds second node.next
 
--- it was opened for a first configuration, and a second one can become active now, when the TTIs of all channels have ended
+-- it was opened for a first configuration, and a second one can become active now, when the TTIs of all channels have
+-- ended
 pub record CanChange (planned : Planned) (node : Node) : Type 0 where
   pub first : Planned
   pub opened : IsNodeOf first node

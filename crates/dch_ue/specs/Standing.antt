@@ -37,8 +37,8 @@ pub record SendsUp (config : Config) (b : ℕ) : Type 0 where
   pub there : b < length config.bearers
   pub sends : IsSome (channel_of config Up b)
 
--- an event that may come: its bearer sends in the uplink, its combination is one of the uplink, its radio frame has as many TFCI bits as
--- the downlink sends
+-- an event that may come: its bearer sends in the uplink, its combination is one of the uplink, its radio frame has as
+-- many TFCI bits as the downlink sends
 abbrev pub MayCome : Planned → UeEvent → Type 0
 MayCome planned (Offered b octets bits) = SendsUp planned.config b
 MayCome planned (Block c on) = c < length planned.config.uplink.side.combinations
@@ -64,7 +64,8 @@ IsActiveBefore planned Changes before node = HasNext before planned node
 
 -- what a terminal holds for a second configuration stays, until that becomes active
 abbrev pub KeepsNext : Planned → UeEvent → Node → Node → Type 0
-KeepsNext planned (Offered b octets bits) old new = (second : Planned) → HasNext planned second old → HasNext planned second new
+KeepsNext planned (Offered b octets bits) old new = (second : Planned) → HasNext planned second old
+    → HasNext planned second new
 KeepsNext planned (Block c on) old new = (second : Planned) → HasNext planned second old → HasNext planned second new
 KeepsNext planned (Phy frame) old new = (second : Planned) → HasNext planned second old → HasNext planned second new
 KeepsNext planned Ticks old new = (second : Planned) → HasNext planned second old → HasNext planned second new
@@ -72,19 +73,22 @@ KeepsNext planned Changes old new = new.next ≡ None
 
 -- the radio frames that came are kept: those of the CFNs before, and that of the CFN, if it came
 pub record HasFrames (planned : Planned) (state : State) (receiver : DownlinkReceiver) : Type 0 where
-  pub before : (k : ℕ) → k < 8 → k ≢ state.cfn % 8 → KeepsRadio planned Down (state.frames k) (rx_frame_at receiver.rx_frames.frames k)
+  pub before : (k : ℕ) → k < 8 → k ≢ state.cfn % 8
+      → KeepsRadio planned Down (state.frames k) (rx_frame_at receiver.rx_frames.frames k)
   pub last : receiver.pushed ≡ true → receiver.rx_frames.cfn ≡ state.cfn
-  pub came : receiver.pushed ≡ true → KeepsRadio planned Down state.came (rx_frame_at receiver.rx_frames.frames (state.cfn % 8))
+  pub came : receiver.pushed ≡ true
+      → KeepsRadio planned Down state.came (rx_frame_at receiver.rx_frames.frames (state.cfn % 8))
   pub none : receiver.pushed ≡ false → state.came ≡ None
 
 -- the channels whose TTI goes on at a CFN are loaded with what layer 2 gave to them
 abbrev pub AreLoadedOn : Planned → ℕ → Layer → List Loaded → Type 0
 AreLoadedOn planned cfn layer tti =
-    (i : ℕ) → i < length planned.config.uplink.side.channels → starts (channel_at planned.config.uplink.side i).frames cfn ≡ false
+    (i : ℕ) → i < length planned.config.uplink.side.channels
+    → starts (channel_at planned.config.uplink.side i).frames cfn ≡ false
     → IsLoaded planned i (layer.given i).format (joined_bits (layer.given i).blocks) (loaded_at tti i)
 
--- a terminal that was opened for a configuration stands for a state in which that is active, but for what the last step read; and for
--- that too
+-- a terminal that was opened for a configuration stands for a state in which that is active, but for what the last step
+-- read; and for that too
 pub record IsAt (planned : Planned) (state : State) (node : Node) : Type 0 where
   pub active : state.planned ≡ planned
   pub cfn : node.cfn ≡ state.cfn
@@ -94,7 +98,8 @@ pub record IsAt (planned : Planned) (state : State) (node : Node) : Type 0 where
 
 pub record Represents (planned : Planned) (state : State) (node : Node) : Type 0 where
   pub at : IsAt planned state node
-  pub readings : (i : ℕ) → i < length planned.config.downlink.side.channels → taken_shown node i ≡ blocks_read (state.readings i)
+  pub readings : (i : ℕ) → i < length planned.config.downlink.side.channels → taken_shown node i
+      ≡ blocks_read (state.readings i)
 
 -- it shows the radio frame that the last step sent
 pub record Shows (output : Output) (node : Node) : Type 0 where
@@ -109,12 +114,13 @@ pub record NothingShown (node : Node) : Type 0 where
 abbrev pub Stepped : Planned → State → Event → Node → (List Line → Type 0) → Type 0
 Stepped planned old event node Says = TakesStep Steps (Represents planned) Shows old event node Says
 
--- a terminal that was opened for a configuration, and in which one is active now, stands for what happened since opening, with the lines of
--- all of them
+-- a terminal that was opened for a configuration, and in which one is active now, stands for what happened since
+-- opening, with the lines of all of them
 abbrev pub RepresentsHistory : Planned → Planned → ℕ → List Event → List Line → Node → Type 0
 RepresentsHistory began planned first events lines node = HasHistory Steps (Represents planned) Shows (opened_state began first) events lines node
 
 -- one more event, with the lines of which whoever is told is told
-abbrev pub ExtendsHistory : Planned → Planned → ℕ → List Event → List Line → Event → Node → (List Line → Type 0) → Type 0
+abbrev pub ExtendsHistory : Planned → Planned → ℕ → List Event → List Line → Event → Node → (List Line → Type 0)
+    → Type 0
 ExtendsHistory began planned first events lines event node Says =
     HasLongerHistory Steps (Represents planned) Shows (opened_state began first) events lines event node Says

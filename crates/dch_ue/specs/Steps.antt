@@ -21,16 +21,20 @@ use Rattle.dch_layer2.specs.Joined.{joined_bits}
 use Rattle.dch_layer2.specs.Reading.{Bad, Nothing, Read, Reading, reads_below}
 use Rattle.dch_ue.specs.State.{Event, OfferedUnit, BlockedCombination, DownlinkFrame, Tick, Change, State, changed, coming, frames_now, ticking, with_layer}
 
--- what is read of channel i: nothing where its TTI goes on; where it ends, its blocks, or that one of its radio frames is bad
+-- what is read of channel i: nothing where its TTI goes on; where it ends, its blocks, or that one of its radio frames
+-- is bad
 abbrev pub IsReading : Planned → RxFrames → ℕ → Reading → Type 0
 IsReading planned rx_frames i Nothing = ends (channel_at planned.config.downlink.side i).frames rx_frames.cfn ≡ false
-IsReading planned rx_frames i (Read held) = (ends (channel_at planned.config.downlink.side i).frames rx_frames.cfn ≡ true) × IsTtiRead planned rx_frames i held
-IsReading planned rx_frames i (Bad frame) = (ends (channel_at planned.config.downlink.side i).frames rx_frames.cfn ≡ true) × IsBadFrame planned.config.downlink.side rx_frames i frame
+IsReading planned rx_frames i (Read held) = (ends (channel_at planned.config.downlink.side i).frames rx_frames.cfn
+    ≡ true) × IsTtiRead planned rx_frames i held
+IsReading planned rx_frames i (Bad frame) = (ends (channel_at planned.config.downlink.side i).frames rx_frames.cfn
+    ≡ true) × IsBadFrame planned.config.downlink.side rx_frames i frame
 
 -- the blocks that layer 2 gave to the channels are loaded (TS 25.212 4.2)
 abbrev pub AreAllLoaded : Planned → Layer → List Loaded → Type 0
 AreAllLoaded planned layer tti =
-    (i : ℕ) → i < length planned.config.uplink.side.channels → IsLoaded planned i (layer.given i).format (joined_bits (layer.given i).blocks) (loaded_at tti i)
+    (i : ℕ) → i < length planned.config.uplink.side.channels
+    → IsLoaded planned i (layer.given i).format (joined_bits (layer.given i).blocks) (loaded_at tti i)
 
 -- the uplink radio frame of a CFN, with what layer 2 gave to the channels, in the combination that runs
 pub record IsRadioFrame (planned : Planned) (cfn : ℕ) (layer : Layer) (radio : Radio) : Type 0 where
@@ -45,12 +49,13 @@ pub record IsRadioFrame (planned : Planned) (cfn : ℕ) (layer : Layer) (radio :
 abbrev pub has_read : Planned → (ℕ → Reading) → Layer → Outcome
 has_read planned readings layer = reads_below planned.config Down readings (length planned.config.downlink.side.channels) (ticks planned.config layer)
 
--- the timers tick, the radio frame that came is taken, the channels whose TTI ends are read, TTIs start, the uplink radio frame is sent, and
--- the CFN goes on
+-- the timers tick, the radio frame that came is taken, the channels whose TTI ends are read, TTIs start, the uplink
+-- radio frame is sent, and the CFN goes on
 pub record IsTick (planned : Planned) (old new : State) (output : Output) : Type 0 where
   pub rx_frames : RxFrames
   pub kept : AreHeard planned Down old.cfn (frames_now old) rx_frames
-  pub readings : (i : ℕ) → i < length planned.config.downlink.side.channels → IsReading planned rx_frames i (new.readings i)
+  pub readings : (i : ℕ) → i < length planned.config.downlink.side.channels
+      → IsReading planned rx_frames i (new.readings i)
   pub no_more : (i : ℕ) → length planned.config.downlink.side.channels ≤ i → new.readings i ≡ Nothing
   pub start : IsStart planned.config Up old.cfn (has_read planned new.readings old.layer).layer new.layer
   pub state : new ≡ ticking old new.readings new.layer

@@ -18,7 +18,10 @@ pub record RxTti : Type 0 where
 
 -- that of channel i
 abbrev pub tti_at : List RxTti → ℕ → RxTti
-tti_at ttis i = slice_index_or ttis i (record { held = record { format = 0; size = 0; bits = []; good = []; room = 0 }; outcome = None })
+tti_at ttis i = slice_index_or ttis i (record {
+  held = record { format = 0; size = 0; bits = []; good = []; room = 0 };
+  outcome = None;
+})
 
 -- the radio frames that came, whether that of the CFN is among them, and the TTIs of the channels
 pub record DownlinkReceiver : Type 0 where

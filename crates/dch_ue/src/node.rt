@@ -58,12 +58,18 @@ impl Model for Ue {
 
     ghost Value = { Node };
 
-    ghost view = { λ n. record { cfn = n.cfn; layer = n.layer; receiver = n.receiver; transmitter = n.transmitter; next = n.next } };
+    ghost view = { λ n. record {
+      cfn = n.cfn;
+      layer = n.layer;
+      receiver = n.receiver;
+      transmitter = n.transmitter;
+      next = n.next;
+    } };
 }
 
 impl Ue {
-    /// Takes all memory for a configuration. The radio frames of the first tick have this CFN, every channel runs its idle format, no
-    /// combination is blocked, no unit waits, and no radio frame came.
+    /// Takes all memory for a configuration. The radio frames of the first tick have this CFN, every channel runs its
+    /// idle format, no combination is blocked, no unit waits, and no radio frame came.
     pub fn open(alloc: Global, accepted: &Accepted, first_cfn: u8) -> Result<Ue, NoMemory>
         requires { first_cfn % 8 ≡ 0 }
         ensures opened { IfOk result (IsNodeOf accepted.now) }
@@ -99,7 +105,8 @@ impl Ue {
         Ok(ue)
     }
 
-    /// Takes one event, and tells what it does. The configuration is the active one; in a change it is the second one, which becomes active.
+    /// Takes one event, and tells what it does. The configuration is the active one; in a change it is the second one,
+    /// which becomes active.
     pub fn step_with<U: Indications>(
         &mut self,
         accepted: &Accepted,
@@ -109,9 +116,12 @@ impl Ue {
         requires opened { IsReadyFor accepted.now event self.old }
         requires event { MayCome accepted.now event }
         ensures opened { IsNodeOf accepted.now self.new }
-        ensures step { (before : Planned) (state : State) → IsActiveBefore accepted.now event.entry before self.old → Represents before state self.old →
+        ensures step { (before : Planned) (state : State) → IsActiveBefore accepted.now event.entry before self.old →
+            Represents before state self.old →
             Stepped accepted.now state (event_of accepted.now event.entry) self.new (Tells U.shows user.old user.new) }
-        ensures history { (began before : Planned) (first : ℕ) (events : List Event) (lines : List Line) → IsActiveBefore accepted.now event.entry before self.old → RepresentsHistory began before first events lines self.old →
+        ensures history { (began before : Planned) (first : ℕ) (events : List Event) (lines : List Line) →
+            IsActiveBefore accepted.now event.entry before self.old →
+            RepresentsHistory began before first events lines self.old →
             ExtendsHistory began accepted.now first events lines (event_of accepted.now event.entry) self.new (Tells U.shows user.old user.new) }
         ensures next { KeepsNext accepted.now event.entry self.old self.new }
         ensures few { TellsFew U.shows (step_bytes accepted.now.config) user.old user.new }
@@ -121,16 +131,19 @@ impl Ue {
         self.happen(accepted, event, user);
     }
 
-    /// Takes one event, and reports what it does. The report has room for what one step may write. The configuration is the active one; in a
-    /// change it is the second one, which becomes active.
+    /// Takes one event, and reports what it does. The report has room for what one step may write. The configuration is
+    /// the active one; in a change it is the second one, which becomes active.
     pub fn step(&mut self, accepted: &Accepted, event: UeEvent<'_>, report: &mut Report)
         requires opened { IsReadyFor accepted.now event self.old }
         requires event { MayCome accepted.now event }
         requires room { HasRoomFor report.old (step_bytes accepted.now.config) }
         ensures opened { IsNodeOf accepted.now self.new }
-        ensures step { (before : Planned) (state : State) → IsActiveBefore accepted.now event.entry before self.old → Represents before state self.old →
+        ensures step { (before : Planned) (state : State) → IsActiveBefore accepted.now event.entry before self.old →
+            Represents before state self.old →
             Stepped accepted.now state (event_of accepted.now event.entry) self.new (AddsLines report.old.text report.new.text) }
-        ensures history { (began before : Planned) (first : ℕ) (events : List Event) (lines : List Line) → IsActiveBefore accepted.now event.entry before self.old → RepresentsHistory began before first events lines self.old →
+        ensures history { (began before : Planned) (first : ℕ) (events : List Event) (lines : List Line) →
+            IsActiveBefore accepted.now event.entry before self.old →
+            RepresentsHistory began before first events lines self.old →
             ExtendsHistory began accepted.now first events lines (event_of accepted.now event.entry) self.new (AddsLines report.old.text report.new.text) }
         ensures next { KeepsNext accepted.now event.entry self.old self.new }
         ensures few { length report.new.text ≤ length report.old.text + step_bytes accepted.now.config }
@@ -170,7 +183,8 @@ impl Ue {
         requires opened { IsReadyFor accepted.now event self.old }
         requires event { MayCome accepted.now event }
         ensures opened { IsNodeOf accepted.now self.new }
-        ensures step { (before : Planned) (state : State) → IsActiveBefore accepted.now event.entry before self.old → Represents before state self.old →
+        ensures step { (before : Planned) (state : State) → IsActiveBefore accepted.now event.entry before self.old →
+            Represents before state self.old →
             Stepped accepted.now state (event_of accepted.now event.entry) self.new (Tells U.shows user.old user.new) }
         ensures next { KeepsNext accepted.now event.entry self.old self.new }
         ensures limited { TellsSuch U.shows (AreLimitedLines accepted.now.config) user.old user.new }
@@ -193,7 +207,8 @@ impl Ue {
     fn clear_shown(&mut self)
         ensures opened { (planned : Planned) → IsNodeOf planned self.old → IsNodeOf planned self.new }
         ensures quiet { NothingShown self.new }
-        ensures stands { (planned : Planned) (state : State) → Represents planned state self.old → IsAt planned state self.new }
+        ensures stands { (planned : Planned) (state : State) → Represents planned state self.old →
+            IsAt planned state self.new }
         ensures next { self.new.next ≡ self.old.next }
         ensures cfn { self.new.cfn ≡ self.old.cfn }
     {
@@ -201,11 +216,13 @@ impl Ue {
         self.receiver.clear_read();
     }
 
-    /// A second configuration becomes active, for which the terminal holds its parts: they take the place of those for the first one.
+    /// A second configuration becomes active, for which the terminal holds its parts: they take the place of those for
+    /// the first one.
     fn change(&mut self, accepted: &Accepted)
         requires { CanChange accepted.now self.old }
         ensures opened { IsNodeOf accepted.now self.new }
-        ensures step { (before : Planned) (state : State) → HasNext before accepted.now self.old → IsAt before state self.old →
+        ensures step { (before : Planned) (state : State) → HasNext before accepted.now self.old →
+            IsAt before state self.old →
             Stepped accepted.now state (Change accepted.now) self.new AreNone }
         ensures next { self.new.next ≡ None }
     {
@@ -232,7 +249,8 @@ impl Ue {
         requires bearer { SendsUp accepted.now.config bearer }
         ensures opened { IsNodeOf accepted.now self.new }
         ensures next { self.new.next ≡ self.old.next }
-        ensures step { (state : State) → IsAt accepted.now state self.old → Stepped accepted.now state (OfferedUnit bearer octets.now bits.now) self.new (Tells U.shows user.old user.new) }
+        ensures step { (state : State) → IsAt accepted.now state self.old →
+            Stepped accepted.now state (OfferedUnit bearer octets.now bits.now) self.new (Tells U.shows user.old user.new) }
         ensures limited { TellsSuch U.shows (AreLimitedLines accepted.now.config) user.old user.new }
     {
         let answer = self.layer.offer(bearer, octets, bits);
@@ -246,7 +264,8 @@ impl Ue {
         requires combination { combination < length accepted.now.config.uplink.side.combinations }
         ensures opened { IsNodeOf accepted.now self.new }
         ensures next { self.new.next ≡ self.old.next }
-        ensures step { (state : State) → IsAt accepted.now state self.old → Stepped accepted.now state (BlockedCombination combination on) self.new AreNone }
+        ensures step { (state : State) → IsAt accepted.now state self.old →
+            Stepped accepted.now state (BlockedCombination combination on) self.new AreNone }
     {
         self.layer.block(combination, on);
     }
@@ -258,19 +277,21 @@ impl Ue {
         requires frame { HasTfci accepted.now Down frame }
         ensures opened { IsNodeOf accepted.now self.new }
         ensures next { self.new.next ≡ self.old.next }
-        ensures step { (state : State) → IsAt accepted.now state self.old → Stepped accepted.now state (DownlinkFrame (radio_of frame.entry)) self.new AreNone }
+        ensures step { (state : State) → IsAt accepted.now state self.old →
+            Stepped accepted.now state (DownlinkFrame (radio_of frame.entry)) self.new AreNone }
     {
         self.receiver.push(accepted, self.cfn, frame);
     }
 
-    /// 10 ms have passed: the timers tick, the downlink radio frame is taken and the channels whose TTI ends are read, TTIs start, and
-    /// the uplink radio frame is sent. The CFN goes on.
+    /// 10 ms have passed: the timers tick, the downlink radio frame is taken and the channels whose TTI ends are read,
+    /// TTIs start, and the uplink radio frame is sent. The CFN goes on.
     fn tick<U: Indications>(&mut self, accepted: &Accepted, user: &mut U)
         requires opened { IsNodeOf accepted.now self.old }
         requires quiet { NothingShown self.old }
         ensures opened { IsNodeOf accepted.now self.new }
         ensures next { self.new.next ≡ self.old.next }
-        ensures step { (state : State) → IsAt accepted.now state self.old → Stepped accepted.now state Tick self.new (Tells U.shows user.old user.new) }
+        ensures step { (state : State) → IsAt accepted.now state self.old →
+            Stepped accepted.now state Tick self.new (Tells U.shows user.old user.new) }
         ensures limited { TellsSuch U.shows (AreLimitedLines accepted.now.config) user.old user.new }
     {
         // What layer 2 holds stays limited in a good configuration.

@@ -145,8 +145,8 @@ impl DownlinkReceiver {
         self.pushed = true;
     }
 
-    /// Takes the radio frame of a CFN, and reads the channels whose TTI ends with it: good blocks go up to layer 2, and what can't
-    /// be read is told.
+    /// Takes the radio frame of a CFN, and reads the channels whose TTI ends with it: good blocks go up to layer 2, and
+    /// what can't be read is told.
     pub fn receive<U: Indications>(
         &mut self,
         accepted: &Accepted,
@@ -225,10 +225,12 @@ fn read_ttis(accepted: &Accepted, cfn: u8, reader: &mut DlReader, ttis: &mut [Rx
 /// Gives what was read of the channels to layer 2, in rising order of channels.
 fn give_ttis<U: Indications>(accepted: &Accepted, ttis: &[RxTti], layer: &mut Layer2, user: &mut U)
     requires ttis { AreTtisOf accepted.now ttis.now }
-    requires read { (i : ℕ) → i < length accepted.now.config.downlink.side.channels → IsTti accepted.now.config Down i (readings_of ttis.now i) }
+    requires read { (i : ℕ) → i < length accepted.now.config.downlink.side.channels →
+        IsTti accepted.now.config Down i (readings_of ttis.now i) }
     requires layer { IsLayerOf accepted.now.config layer.old }
     requires receives { layer.old.into ≡ Down }
-    ensures { HasRead U.shows accepted.now.config Down (readings_of ttis.now) (length accepted.now.config.downlink.side.channels) layer.old layer.new user.old user.new }
+    ensures { HasRead U.shows accepted.now.config Down (readings_of ttis.now)
+        (length accepted.now.config.downlink.side.channels) layer.old layer.new user.old user.new }
 {
     let side = accepted.side(Dir::Down);
     for i in 0..side.channels.len() {

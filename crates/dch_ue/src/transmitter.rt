@@ -59,8 +59,8 @@ impl UplinkTransmitter {
         self.radio.clear_sent();
     }
 
-    /// Loads what layer 2 gave to the channels whose TTI starts at a CFN, and sends the radio frame of that CFN in the combination
-    /// that runs.
+    /// Loads what layer 2 gave to the channels whose TTI starts at a CFN, and sends the radio frame of that CFN in the
+    /// combination that runs.
     pub fn transmit<U: Indications>(
         &mut self,
         accepted: &Accepted,

@@ -45,7 +45,7 @@ pub record WasSent (planned : Planned) (reader : RxFrames) (i f : ℕ) (blocks :
   pub legal : IsLegal planned.config.uplink.side i f sequence
   pub sent : IsSentTti planned reader i f sequence blocks
 
--- the frames of a TTI of channel i are taken one after another from its first CFN on, just as they were written in a sequence of
--- combinations, while this stayed loaded of the channel; reader n is what is kept before frame n
+-- the frames of a TTI of channel i are taken one after another from its first CFN on, just as they were written in a
+-- sequence of combinations, while this stayed loaded of the channel; reader n is what is kept before frame n
 abbrev pub AreSentAndPushed : Planned → ℕ → ℕ → List ℕ → Loaded → (ℕ → RxFrames) → Type 0
 AreSentAndPushed planned i first sequence loaded readers = AreSentAndPushedBy planned Up (multiplexed planned) i first sequence loaded readers

@@ -21,8 +21,8 @@ use dch_frame::{UplinkPlan, frame, rate_dematch};
 use dch_tti::{ReceivedFrame, ReceivedFrames};
 use dch_types::Dir;
 
-/// Counts the votes for the bits of a channel's TTI, padded to whole radio frames, in all of its frames. `counted` is room
-/// for the votes of one frame.
+/// Counts the votes for the bits of a channel's TTI, padded to whole radio frames, in all of its frames. `counted` is
+/// room for the votes of one frame.
 pub fn demultiplex_tti(
     accepted: &Accepted,
     rx_frames: &ReceivedFrames,
@@ -35,14 +35,19 @@ pub fn demultiplex_tti(
     requires there { (n : ℕ) → n < (channel_at accepted.now.config.uplink.side channel).frames →
         (frame_at accepted.now.config.uplink.side rx_frames.now channel n).combination ≢ None }
     requires counted { (n c : ℕ) → n < (channel_at accepted.now.config.uplink.side channel).frames →
-        (frame_at accepted.now.config.uplink.side rx_frames.now channel n).combination ≡ Some c → length counted.old ≡ before_of accepted.now.config.uplink.side c channel }
-    requires whole { length votes.old ≡ length counted.old * (channel_at accepted.now.config.uplink.side channel).frames }
+        (frame_at accepted.now.config.uplink.side rx_frames.now channel n).combination ≡ Some c →
+        length counted.old ≡ before_of accepted.now.config.uplink.side c channel }
+    requires whole { length votes.old ≡
+        length counted.old * (channel_at accepted.now.config.uplink.side channel).frames }
     ensures votes { (j : ℕ) (v : Vote) → j < length votes.new →
         slice_index_or votes.new j v ≡ tti_votes accepted.now rx_frames.now channel (length votes.new) j }
-    ensures undamaged { (coded : List Bit) (sequence : List ℕ) (loaded : Loaded) → AreSentFrames accepted.now rx_frames.now channel sequence loaded →
-        AreInterleaved (channel_at accepted.now.config.uplink.side channel).frames coded loaded.cells → length loaded.cells ≡ length votes.new →
+    ensures undamaged { (coded : List Bit) (sequence : List ℕ) (loaded : Loaded) →
+        AreSentFrames accepted.now rx_frames.now channel sequence loaded →
+        AreInterleaved (channel_at accepted.now.config.uplink.side channel).frames coded loaded.cells →
+        length loaded.cells ≡ length votes.new →
         (j : ℕ) (v : Vote) → j < length votes.new →
-        slice_index_or votes.new j v ≡ copies_as_votes (slice_index_or coded j Zero) (tti_copies accepted.now.config.uplink channel sequence (length votes.new) j) }
+        slice_index_or votes.new j v ≡ copies_as_votes (slice_index_or coded j Zero)
+        (tti_copies accepted.now.config.uplink channel sequence (length votes.new) j) }
     ensures few { (j : ℕ) (v : Vote) → j < length votes.new →
         (slice_index_or votes.new j v).zeros + (slice_index_or votes.new j v).ones ≤ 57600 }
 {
@@ -72,8 +77,10 @@ fn demultiplex_frame(
     requires channel { channel < length accepted.now.config.uplink.side.channels }
     requires frame { n < (channel_at accepted.now.config.uplink.side channel).frames }
     requires there { kept.now.combination ≢ None }
-    requires counted { (c : ℕ) → kept.now.combination ≡ Some c → length counted.old ≡ before_of accepted.now.config.uplink.side c channel }
-    requires whole { length votes.old ≡ length counted.old * (channel_at accepted.now.config.uplink.side channel).frames }
+    requires counted { (c : ℕ) → kept.now.combination ≡ Some c →
+        length counted.old ≡ before_of accepted.now.config.uplink.side c channel }
+    requires whole { length votes.old ≡
+        length counted.old * (channel_at accepted.now.config.uplink.side channel).frames }
     ensures votes { (j : ℕ) (v : Vote) → j < length votes.new →
         frame_of (channel_at accepted.now.config.uplink.side channel).frames (length votes.new) j ≡ n →
         slice_index_or votes.new j v ≡ frame_votes accepted.now channel n kept.now.combination kept.now.cells
@@ -81,11 +88,14 @@ fn demultiplex_frame(
     ensures few { (j : ℕ) (v : Vote) → j < length votes.new →
         frame_of (channel_at accepted.now.config.uplink.side channel).frames (length votes.new) j ≡ n →
         (slice_index_or votes.new j v).zeros + (slice_index_or votes.new j v).ones ≤ 57600 }
-    ensures undamaged { (coded : List Bit) (c : ℕ) (loaded : Loaded) → IsSentFrame accepted.now channel n c loaded kept.now →
-        AreInterleaved (channel_at accepted.now.config.uplink.side channel).frames coded loaded.cells → length loaded.cells ≡ length votes.new →
+    ensures undamaged { (coded : List Bit) (c : ℕ) (loaded : Loaded) →
+        IsSentFrame accepted.now channel n c loaded kept.now →
+        AreInterleaved (channel_at accepted.now.config.uplink.side channel).frames coded loaded.cells →
+        length loaded.cells ≡ length votes.new →
         (j : ℕ) (v : Vote) → j < length votes.new →
         frame_of (channel_at accepted.now.config.uplink.side channel).frames (length votes.new) j ≡ n →
-        slice_index_or votes.new j v ≡ copies_as_votes (slice_index_or coded j Zero) (frame_copies accepted.now.config.uplink channel n c
+        slice_index_or votes.new j v ≡ copies_as_votes (slice_index_or coded j Zero)
+        (frame_copies accepted.now.config.uplink channel n c
         (place_of (channel_at accepted.now.config.uplink.side channel).frames (length votes.new) j)) }
     ensures same { (j : ℕ) (v : Vote) → j < length votes.new →
         frame_of (channel_at accepted.now.config.uplink.side channel).frames (length votes.new) j ≢ n →

@@ -1,5 +1,5 @@
-//! The uplink's physical channels: what is sent of the channels' TTIs in each radio frame, and what is read of the radio
-//! frames that were received (TS 25.212 4.2).
+//! The uplink's physical channels: what is sent of the channels' TTIs in each radio frame, and what is read of the
+//! radio frames that were received (TS 25.212 4.2).
 #![tactic(auto)]
 
 mod demultiplexing;

@@ -43,7 +43,8 @@ impl Model for UlTti {
 
     ghost view = { λ t. t.tti_buffers.items };
 
-    ghost invariant = { λ t. (t.coder ≡ length t.coded.items) × AreWithin (length t.coded.items) (length t.padded.items) t.tti_buffers.items };
+    ghost invariant = { λ t. (t.coder ≡ length t.coded.items) ×
+        AreWithin (length t.coded.items) (length t.padded.items) t.tti_buffers.items };
 }
 
 impl UlTti {
@@ -66,7 +67,8 @@ impl UlTti {
         requires opened { IsTtiOf accepted.now self.old }
         requires channel { channel < length accepted.now.config.uplink.side.channels }
         requires format { format < length (channel_at accepted.now.config.uplink.side channel).formats }
-        requires blocks { length blocks.now ≡ bits_of (format_at (channel_at accepted.now.config.uplink.side channel) format) }
+        requires blocks { length blocks.now ≡
+            bits_of (format_at (channel_at accepted.now.config.uplink.side channel) format) }
         ensures opened { IsTtiOf accepted.now self.new }
         ensures loaded { IsLoaded accepted.now channel format blocks.now (loaded_at self.new channel) }
         ensures same { (i : ℕ) → i ≢ channel → loaded_at self.new i ≡ loaded_at self.old i }

@@ -14,8 +14,8 @@ use dch_frame::{frame, rate_match};
 use dch_tti::{MultiplexFrame, TtiBuffer, write_frame};
 use dch_types::Dir;
 
-/// Writes the radio frame of a CFN in a combination: its TFCI, and of each channel the radio frame of its TTI that is on
-/// (TS 25.212 4.2.5 to 4.2.12, 4.3.3).
+/// Writes the radio frame of a CFN in a combination: its TFCI, and of each channel the radio frame of its TTI that is
+/// on (TS 25.212 4.2.5 to 4.2.12, 4.3.3).
 pub fn write(accepted: &Accepted, tti: &UlTti, cfn: u8, combination: u16, out: &mut PhyFrame)
     requires opened { IsTtiOf accepted.now tti.now }
     requires frame { IsOpenedFor accepted.now.config Up out.old }
@@ -82,7 +82,8 @@ fn write_channel(
     requires formats { AreFormats accepted.now.config.uplink.side combination tti_buffers.now }
     requires channel { i < length accepted.now.config.uplink.side.channels }
     requires room { length out.old ≡ slice_index (plan_at accepted.now.uplink combination).sent i }
-    ensures { (q : ℕ) → q < length out.new → slice_index_or out.new q Off ≡ sent_cell accepted.now tti_buffers.now cfn combination i q }
+    ensures { (q : ℕ) → q < length out.new → slice_index_or out.new q Off ≡
+        sent_cell accepted.now tti_buffers.now cfn combination i q }
 {
     let config = &accepted.config().uplink;
     let n = cfn % accepted.frames_of(Dir::Up, i as u8);
@@ -112,7 +113,8 @@ fn buffer_of(tti_buffers: &[TtiBuffer], i: usize) -> &TtiBuffer
 fn segment(buffer: &TtiBuffer, n: u8, cells: u32) -> &[Trit]
     requires { n * cells + cells ≤ length buffer.now.cells }
     ensures long { length result.now ≡ cells }
-    ensures shown { (m : ℕ) → m < cells → slice_index_or result.now m Off ≡ slice_index_or buffer.now.cells (n * cells + m) Off }
+    ensures shown { (m : ℕ) → m < cells → slice_index_or result.now m Off ≡
+        slice_index_or buffer.now.cells (n * cells + m) Off }
 {
     let cells = cells as usize;
     let from = n as usize * cells;
