@@ -2,6 +2,7 @@ pub mod PathMetrics
 pub mod Apart
 pub mod Classes
 pub mod Damage
+pub mod Away
 pub mod Decided
 pub mod Ends
 pub mod Found

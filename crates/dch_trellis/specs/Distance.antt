@@ -8,6 +8,7 @@ use Rattle.dch_coding.specs.declared.rate.Rate.{Rate}
 use Rattle.dch_coding.specs.declared.rate.Rate.TheVariants.{Half, Third}
 use Rattle.dch_coding.specs.Conv.{encoded}
 use Rattle.dch_trellis.specs.Nearest.{copies, IsBlock}
+use Rattle.dch_trellis.specs.Search.{no_votes}
 
 -- the free distance of the code of each rate: in how many places the coded bits of two blocks differ at least
 abbrev pub free_distance : Rate → ℕ
@@ -36,6 +37,19 @@ copies_between sent (bit ∷ bits)
 abbrev pub AreToldApart : (List Bit → List Bit) → ℕ → ℕ → (ℕ → ℕ) → ℕ → Type 0
 AreToldApart code size filler sent count = (a b : List Bit) → IsBlock size filler a → IsBlock size filler b → a ≢ b
     → count ≤ copies_between sent (code a) (code b)
+
+-- how many copies of each coded bit there are, and that none of them is a One
+abbrev pub copies_at : List Vote → ℕ → ℕ
+copies_at votes j = copies (slice_index_or votes j no_votes)
+
+abbrev pub AreOfZeros : List Vote → Type 0
+AreOfZeros votes = (j : ℕ) → (slice_index_or votes j no_votes).ones ≡ 0
+
+-- the least number of copies that tell two different blocks apart: no two differ in fewer, and some two in just so many
+pub record IsLeastDistance (rate : Rate) (size filler : ℕ) (sent : ℕ → ℕ) (count : ℕ) : Type 0 where
+  pub told : AreToldApart (encoded rate) size filler sent count
+  pub attained : (a : List Bit) × (b : List Bit) × IsBlock size filler a × IsBlock size filler b × (a ≢ b)
+      × (copies_between sent (encoded rate a) (encoded rate b) ≡ count)
 
 -- how many of the copies of a bit did not arrive as they were sent: some are wrong, or missing
 abbrev pub lost : ℕ → Vote → Bit → ℕ

@@ -2,6 +2,7 @@
 //! opening.
 #![tactic(auto)]
 
+mod distance;
 mod inverse;
 mod laws;
 mod narrow;

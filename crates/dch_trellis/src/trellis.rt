@@ -2,14 +2,14 @@ ghost use Rattle.std.specs.Prelude.{◌≡◌, ℕ, List, ◌+◌, ◌*◌, ◌^
 ghost use Rattle.dch_bits.specs.declared.bit.Bit.{Bit};
 ghost use Rattle.dch_coding.specs.Conv.{coded_length, encoded};
 ghost use Rattle.dch_trellis.specs.Nearest.{all_copies, disagreement, IsBlock, IsNearest};
-ghost use Rattle.dch_trellis.specs.Distance.{free_distance, damage, AreToldApart, HaveCopies};
+ghost use Rattle.dch_trellis.specs.Distance.{free_distance, damage, copies_at, AreToldApart, HaveCopies, AreOfZeros, IsLeastDistance};
 ghost use Rattle.dch_trellis.specs.Search.{branch_metric, is_free, best, found};
 ghost use Rattle.dch_trellis.specs.Undamaged.{IsFront};
 
 use crate::steps::{copies_of, is_light};
 use crate::table::Tables;
 use crate::undamaged::Front;
-use crate::{inverse, narrow, tiny, undamaged, wide};
+use crate::{distance, inverse, narrow, tiny, undamaged, wide};
 use dch_bits::{Bit, NoMemory, Vote};
 use dch_coding::Rate;
 use std::alloc::{AllocError, Global};
@@ -75,6 +75,24 @@ impl Trellis {
         ensures kept { self.new ≡ self.old }
     {
         self.find(rate, votes, filler, out)
+    }
+
+    /// How many copies tell two blocks apart at least, of so many bits with so many zeros of filler in front: no two
+    /// different ones differ in fewer of the received copies of their coded bits (TS 25.212 4.2.3.1), and some two in
+    /// just so many. `votes` are the copies of each coded bit, all of them for Zero. `nearest` finds the block that was
+    /// sent where less than half as many copies are wrong or missing. Zero tells that two blocks look the same.
+    pub fn least_distance(&mut self, rate: Rate, votes: &[Vote], size: usize, filler: usize) -> u32
+        requires room { size ≤ self.old }
+        requires filler { filler < size }
+        requires coded { length votes.now ≡ coded_length rate size }
+        requires zeros { AreOfZeros votes.now }
+        requires few { all_copies votes.now < 2 ^ 31 }
+        ensures least { IsLeastDistance rate size filler (copies_at votes.now) result }
+        ensures kept { self.new ≡ self.old }
+    {
+        let table = self.tables.of(rate);
+        lengthen(&mut self.wide, size + 9, wide::no_metrics());
+        distance::least(rate, table, votes, size, filler, &mut self.wide)
     }
 
     /// Reads an undamaged block off its copies, and searches for any other.

@@ -20,7 +20,9 @@ pub struct Front {
 
 impl Front {
     /// No steps.
-    pub fn new() -> Self {
+    pub fn new() -> Self
+        ensures { result.steps ≡ 0 }
+    {
         Front {
             steps: 0,
             states: [0; 505],
