@@ -88,6 +88,16 @@ impl PhyFrame {
         self.len = cells;
     }
 
+    /// Gives the frame so many cells. What they and its TFCI bits are is not told.
+    pub fn resize(&mut self, cells: usize)
+        requires { cells ≤ self.old.room }
+        ensures tfci { length self.new.tfci ≡ length self.old.tfci }
+        ensures cells { length self.new.cells ≡ cells }
+        ensures room { self.new.room ≡ self.old.room }
+    {
+        self.len = cells;
+    }
+
     /// The TFCI bits, to be written.
     pub fn tfci_mut(&mut self) -> &mut [Bit]
         ensures* writes_back { sem 𝓛 (LendsTfci self.entry result) }

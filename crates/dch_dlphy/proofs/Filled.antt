@@ -61,6 +61,13 @@ are_filled frames places pattern coded tti cells room fits shown is = record {
   shown = λ k inside. is.shown k inside ∙ filled_front pattern coded tti (frames * places) (first_of frames (length cells) k) fits shown;
 }
 
+-- a TTI in which nothing is sent, where rate matching keeps no bit
+pub are_silent : (frames places : ℕ) (pattern : Pattern) (coded : List Bit) (cells : List Trit) → copies_below pattern.kind pattern.len ≡ 0 → length cells ≡ frames * places → ((k : ℕ) → k < frames * places → get_or cells k Off ≡ Off) → AreFilled frames (record { pattern = pattern; cells = places }) coded cells
+are_silent frames places pattern coded cells none long off = record {
+  long = long;
+  shown = λ k inside. off k (omega (arith, long, inside)) ∙ sym (filled_past pattern coded (first_of frames (length cells) k) (omega (arith, none)));
+}
+
 -- the front of two lists
 pub take_whole : {X : Type 0} (n : ℕ) (xs ys : List X) → length xs ≡ n → take n (xs ++ ys) ≡ xs
 take_whole n xs ys long = ap (λ n. take n (xs ++ ys)) (sym long) ∙ take-append_seam xs ys

@@ -13,7 +13,7 @@ use crate::parts::{bits_per_frame, pattern_of};
 use dch_accept::Accepted;
 use dch_bits::{Bit, NoMemory, Trit};
 use dch_coding::TtiCoder;
-use dch_frame::Pattern;
+use dch_frame::{Pattern, kept};
 use dch_tti::{TtiBuffer, tti_buffers};
 use dch_types::{Dir, Format, Trch};
 use std::alloc::Global;
@@ -85,14 +85,18 @@ impl Room {
         let bits = code_front(&mut self.coder, channel, kind, blocks, &mut self.coded);
         let frames = channel.frames as usize;
         let count = frames * places as usize;
-        fill_front(
-            pattern,
-            &self.coded[..bits],
-            &mut self.shown,
-            &mut self.tti,
-            count,
-        );
-        buffer.load(format, frames, &self.tti[..count]);
+        if kept(pattern) == 0 {
+            buffer.load_silent(format, count);
+        } else {
+            fill_front(
+                pattern,
+                &self.coded[..bits],
+                &mut self.shown,
+                &mut self.tti,
+                count,
+            );
+            buffer.load(format, frames, &self.tti[..count]);
+        }
     }
 }
 

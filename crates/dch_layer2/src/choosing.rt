@@ -9,7 +9,7 @@ ghost use Rattle.dch_layer2.specs.Sharing.{AreHeads, asked_by, head_in};
 
 use crate::bearer::Bearer;
 use dch_accept::Accepted;
-use dch_mac::{Head, choose};
+use dch_mac::{Chooser, Head};
 use dch_types::{Config, Dir, starts};
 use std::marker::Model;
 
@@ -50,10 +50,10 @@ impl<'a> Model for Moment<'a> {
 
 impl Moment<'_> {
     /// The combination that is chosen.
-    pub(crate) fn choose(&self) -> u16
+    pub(crate) fn choose(&self, chooser: &mut Chooser) -> u16
         ensures { IsBest (asked_by self.now) result }
     {
-        choose(
+        chooser.choose(
             self.accepted,
             self.out,
             self.cfn,

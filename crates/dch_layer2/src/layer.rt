@@ -13,7 +13,7 @@ use crate::choosing::{Moment, take_heads};
 use crate::opening::{open_bearers, open_given, open_heads, open_unit};
 use dch_accept::{Accepted, TtiBlocks};
 use dch_bits::{Bit, NoMemory, Offer};
-use dch_mac::Head;
+use dch_mac::{Chooser, Head};
 use dch_types::Dir;
 use std::alloc::Global;
 use std::marker::Model;
@@ -28,6 +28,7 @@ pub struct Layer2 {
     running: u16,
     given: Vec<TtiBlocks>,
     heads: Vec<Head>,
+    chooser: Chooser,
     pub(crate) unit: Vec<u8>,
 }
 
@@ -42,6 +43,7 @@ impl Drop for Layer2 {
             running: _running,
             given: _given,
             heads: _heads,
+            chooser: _chooser,
             unit: _unit,
         } = self;
     }
@@ -81,6 +83,7 @@ impl Layer2 {
             running: 0,
             given: open_given(alloc, accepted, out)?,
             heads: open_heads(alloc, accepted)?,
+            chooser: Chooser::open(alloc)?,
             unit: open_unit(alloc)?,
         })
     }
@@ -171,7 +174,7 @@ impl Layer2 {
             heads: &self.heads,
             blocked: &self.blocked,
         };
-        let combination = moment.choose();
+        let combination = moment.choose(&mut self.chooser);
         moment.start_all(combination, &mut self.bearers, &mut self.given);
         self.running = combination;
     }

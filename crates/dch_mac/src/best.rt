@@ -7,7 +7,6 @@ ghost use Rattle.dch_mac.specs.Table.{IsTable};
 
 use crate::moment::Moment;
 use crate::row::Row;
-use crate::table::{ROWS, no_row};
 use std::cmp::Ordering;
 
 /// A combination, with the bits that it carries for priorities 1 to 8, and its bits in all.
@@ -44,13 +43,13 @@ fn add(carried: &mut [u32], more: &[u32])
 }
 
 impl Moment<'_> {
-    /// The best combination of those that may be chosen.
-    pub(crate) fn best(&self) -> u16
+    /// The best combination of those that may be chosen. `rows` is room for the rows of all formats.
+    pub(crate) fn best(&self, rows: &mut [Row]) -> u16
+        requires { length rows.old ≡ 256 }
         ensures { IsBest self.now result }
     {
-        let mut rows = [no_row(); ROWS];
-        self.fill(&mut rows);
-        self.best_by(&rows)
+        self.fill(rows);
+        self.best_by(rows)
     }
 
     /// The best combination, found by the rows of all formats.

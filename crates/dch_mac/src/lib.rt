@@ -16,6 +16,6 @@ mod table;
 
 pub use answer::Demux;
 pub use block::mux;
-pub use choosing::choose;
+pub use choosing::{Chooser, choose};
 pub use head::Head;
 pub use receiver::demux;

@@ -10,3 +10,4 @@ pub mod Pushed
 pub mod Read
 pub mod RxFrames
 pub mod Sent
+pub mod Buffered

@@ -17,6 +17,7 @@ pub struct TtiBuffer {
     format: Option<u8>,
     cells: Vec<Trit>,
     len: usize,
+    silent: bool,
     room: TtiRoom,
 }
 
@@ -27,20 +28,22 @@ impl Drop for TtiBuffer {
             format: _format,
             cells: _cells,
             len: _len,
+            silent: _silent,
             room: _room,
         } = self;
     }
 }
 
 impl Model for TtiBuffer {
-    ghost use Rattle.std.specs.Prelude.{◌≡◌, ◌≤◌, length, take};
+    ghost use Rattle.std.specs.Prelude.{take};
+    ghost use Rattle.dch_tti.specs.Buffered.{IsBuffered};
     ghost use Rattle.dch_tti.specs.Loaded.{Loaded};
 
     ghost Value = { Loaded };
 
     ghost view = { λ s. record { format = s.format; cells = take s.len s.cells.items; room = s.room } };
 
-    ghost invariant = { λ s. (s.len ≤ length s.cells.items) × (length s.cells.items ≡ s.room.cells) };
+    ghost invariant = { λ s. IsBuffered s.len s.silent s.cells.items s.room.cells };
 }
 
 impl TtiBuffer {
@@ -53,6 +56,7 @@ impl TtiBuffer {
             format: None,
             cells: vec![in alloc; Trit::Off; room.cells]?,
             len: 0,
+            silent: false,
             room,
         })
     }
@@ -81,6 +85,23 @@ impl TtiBuffer {
         ensures room { self.new.room ≡ self.old.room }
     {
         self.len = interleave_to_front(frames, tti, &mut self.cells);
+        self.silent = false;
+        self.format = Some(format);
+    }
+
+    /// Loads a TTI of so many cells in which nothing is sent. Where the one before was such a TTI, it stays.
+    pub fn load_silent(&mut self, format: u8, count: usize)
+        requires fits { count ≤ self.old.room.cells }
+        ensures format { self.new.format ≡ Some format }
+        ensures long { length self.new.cells ≡ count }
+        ensures off { (k : ℕ) → k < count → slice_index_or self.new.cells k Off ≡ Off }
+        ensures room { self.new.room ≡ self.old.room }
+    {
+        if !self.silent || self.len != count {
+            leave_front_off(&mut self.cells, count);
+            self.len = count;
+            self.silent = true;
+        }
         self.format = Some(format);
     }
 }
@@ -95,6 +116,16 @@ fn interleave_to_front(frames: usize, tti: &[Trit], out: &mut [Trit]) -> usize
 {
     interleave(frames, tti, &mut out[..tti.len()]);
     tti.len()
+}
+
+/// Nothing is sent in the first cells.
+fn leave_front_off(cells: &mut [Trit], count: usize)
+    requires { count ≤ length cells.old }
+    ensures { (k : ℕ) → k < count → slice_index_or cells.new k Off ≡ Off }
+{
+    for k in 0..count {
+        cells[k] = Trit::Off;
+    }
 }
 
 /// Writes the radio frames of a TTI one after another.

@@ -65,7 +65,7 @@ pub fn write_frame<T: MultiplexFrame>(
     // A direction has at most 128 combinations.
     let dir = T::dir();
     let _side = accepted.side(dir);
-    out.shape(accepted.frame_cells(dir, combination));
+    out.resize(accepted.frame_cells(dir, combination));
     send(combination, out.tfci_mut());
     write_cells::<T>(accepted, tti_buffers, cfn, combination, out.workspace_mut());
 }
