@@ -1,7 +1,7 @@
 ghost use Rattle.std.specs.Prelude.{◌≡◌, ◌<◌, ◌≤◌, ◌%◌, length};
 ghost use Rattle.dch_types.specs.Parts.{side_of};
 ghost use Rattle.dch_accept.specs.Cells.{code_cells, frame_cells};
-ghost use Rattle.dch_accept.specs.Frames.{most_cells};
+ghost use Rattle.dch_accept.specs.Frames.{most_cells, tfci_bits};
 
 use crate::accepted::Accepted;
 use dch_frame::Interleaver;
@@ -17,6 +17,17 @@ impl Accepted {
         match dir {
             Dir::Up => config.uplink.largest as usize,
             Dir::Down => config.downlink.frame_bits(),
+        }
+    }
+
+    /// The TFCI bits of a radio frame of a direction (TS 25.212 4.3.5).
+    pub fn tfci_bits(&self, dir: Dir) -> usize
+        ensures value { result ≡ tfci_bits self.now.config dir }
+        ensures small { result ≤ 120 }
+    {
+        match dir {
+            Dir::Down if self.config().downlink.sf < 128 => 120,
+            Dir::Down | Dir::Up => 30,
         }
     }
 

@@ -9,7 +9,7 @@ ghost use Rattle.dch_accept.specs.declared.frame.TheConstants.{MOST_TFCI};
 use crate::accepted::Accepted;
 use crate::clear::clear;
 use dch_bits::{Bit, NoMemory, Trit};
-use dch_types::{Config, Dir};
+use dch_types::Dir;
 use std::alloc::Global;
 use std::marker::Model;
 
@@ -54,7 +54,7 @@ impl PhyFrame {
         ensures opened { IfOk result (IsOpenedFor accepted.now.config dir) }
     {
         let room = accepted.most_cells(dir);
-        let bits = tfci_bits(accepted.config(), dir);
+        let bits = accepted.tfci_bits(dir);
         Ok(PhyFrame {
             tfci: vec![in alloc; Bit::Zero; MOST_TFCI]?,
             bits,
@@ -120,16 +120,5 @@ impl PhyFrame {
         ensures long { length result.now ≡ 2 * length self.old.cells }
     {
         self.cells.slice_mut(..2 * self.len)
-    }
-}
-
-/// The TFCI bits of a radio frame of a direction (TS 25.212 4.3.5).
-fn tfci_bits(config: &Config, dir: Dir) -> usize
-    ensures value { result ≡ tfci_bits config.now dir }
-    ensures small { result ≤ 120 }
-{
-    match dir {
-        Dir::Down if config.downlink.sf < 128 => 120,
-        Dir::Down | Dir::Up => 30,
     }
 }

@@ -196,16 +196,10 @@ fn first_idle(channel: &Trch) -> usize
     ensures found { position is_idle channel.now.formats ≡ Some result }
     ensures inside { result < length channel.now.formats }
 {
-    match idle_place(channel.formats.as_slice()) {
+    match channel.first_idle() {
         Some(at) => at,
         None => 0,
     }
-}
-
-fn idle_place(formats: &[Format]) -> Option<usize>
-    ensures { result ≡ position is_idle formats.now }
-{
-    formats.iter().position(|format| usize::from(format.number) * usize::from(format.size) == 0)
 }
 
 /// Room for the blocks of each channel of a set, and none for other channels.

@@ -24,4 +24,4 @@ pub use cutting::{join, place, plan, split};
 pub use parity::{attach, check, header_check, header7, one_parity, payload16, size};
 pub use rate::{Rate, coded_len};
 pub use room::CodingRoom;
-pub use tti::TtiCoder;
+pub use tti::{TtiCoder, attach_each, plan_of_tti};

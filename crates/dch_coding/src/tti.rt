@@ -68,9 +68,9 @@ fn code_into(channel: &Trch, format: &Format, blocks: &[Bit], cut: &mut [Bit], o
     code_filled(channel.coding, &plan, cut, out);
 }
 
-/// How the joined bits of a TTI are cut.
+/// How the joined bits of a TTI of a channel in a format are cut (TS 25.212 4.2.2.2).
 #[tactic(auto, unfolding(dch_types::specs::Lengths::tti_bits))]
-fn plan_of_tti(channel: &Trch, format: &Format) -> Plan
+pub fn plan_of_tti(channel: &Trch, format: &Format) -> Plan
     requires { tti_bits channel.now format.now ≤ 131072 }
     ensures value { result ≡ plan_of (joined_bits channel.now format.now) channel.now.coding }
     ensures whole { result.filler + joined_bits channel.now format.now ≡ result.blocks * result.size }
@@ -80,8 +80,8 @@ fn plan_of_tti(channel: &Trch, format: &Format) -> Plan
     plan(channel.joined_bits(format) as usize, channel.coding)
 }
 
-/// Writes each block with its parity.
-fn attach_each(kind: Crc, format: &Format, blocks: &[Bit], out: &mut [Bit])
+/// Writes each transport block of a TTI with its parity, one after another (TS 25.212 4.2.1).
+pub fn attach_each(kind: Crc, format: &Format, blocks: &[Bit], out: &mut [Bit])
     requires blocks { length blocks.now ≡ format.now.number * format.now.size }
     requires room { length out.old ≡ format.now.number * (format.now.size + crc_size kind) }
     ensures { ArePartsUpTo format.now.number kind format.now.size blocks.now out.new }

@@ -9,12 +9,9 @@ use crate::error::CombineError;
 use crate::set::SetCombiner;
 use dch_accept::{Accepted, TtiBlocks};
 use dch_bits::NoMemory;
-use dch_types::Dir;
+use dch_types::{Dir, SETS};
 use std::alloc::Global;
 use std::marker::Model;
-
-/// How many sets there may be in a direction.
-const SETS: u8 = 8;
 
 /// What combines the uplink Iub frames of the legs of a soft handover, its Node Bs, to one frame of each set and TTI.
 /// All its memory is taken at opening.

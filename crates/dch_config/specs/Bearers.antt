@@ -12,16 +12,11 @@ use Rattle.dch_types.specs.declared.bearer.Bearer.{Bearer}
 use Rattle.dch_types.specs.declared.config.Config.{Config}
 use Rattle.dch_types.specs.Limits.{is_idle}
 use Rattle.dch_types.specs.Lengths.{crc_size}
-use Rattle.dch_types.specs.Parts.{channel_at, side_of}
+use Rattle.dch_types.specs.Parts.{channel_at, channel_number, side_of}
 use Rattle.dch_tree.specs.Bearers.{is_transparent}
 use Rattle.dch_config.specs.declared.error.ConfigError.{ConfigError}
 use Rattle.dch_config.specs.declared.error.ConfigError.TheVariants.{NoCheck, PduSize, Window}
 use Rattle.dch_config.specs.Sides.{is_within}
-
--- the channel of a bearer in a direction
-abbrev pub channel_number : Dir → Bearer → Option ℕ
-channel_number Up bearer = bearer.up
-channel_number Down bearer = bearer.down
 
 -- a bearer names a channel
 abbrev pub names : Option ℕ → ℕ → Bool

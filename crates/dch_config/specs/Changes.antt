@@ -11,11 +11,11 @@ use Rattle.dch_types.specs.declared.bearer.Mode.TheVariants.{Tm, Um, Am}
 use Rattle.dch_types.specs.declared.bearer.Bearer.{Bearer}
 use Rattle.dch_types.specs.declared.config.Config.{Config}
 use Rattle.dch_types.specs.Limits.{is_idle}
-use Rattle.dch_types.specs.Parts.{channel_at, side_of}
+use Rattle.dch_types.specs.Parts.{channel_at, side_of, channel_number}
 use Rattle.dch_tree.specs.Bearers.{bearer_at}
 use Rattle.dch_config.specs.declared.error.ChangeError.{ChangeError}
 use Rattle.dch_config.specs.declared.error.ChangeError.TheVariants.{Change}
-use Rattle.dch_config.specs.Bearers.{channel_number, first_size, has_ct}
+use Rattle.dch_config.specs.Bearers.{first_size, has_ct}
 
 -- the formats of a channel, and none without one
 abbrev pub formats_on : Config → Dir → Option ℕ → List Format

@@ -2,13 +2,12 @@ ghost use Rattle.std.specs.Prelude.{◌≡◌, ◌<◌, ◌≤◌, ◌==◌, ◌
 ghost use Rattle.std.specs.List.{list_all};
 ghost use Rattle.dch_types.specs.Lengths.{crc_size};
 ghost use Rattle.dch_types.specs.Limits.{is_idle};
-ghost use Rattle.dch_types.specs.Parts.{channel_at};
+ghost use Rattle.dch_types.specs.Parts.{channel_at, channel_number};
 ghost use Rattle.dch_tree.specs.Bearers.{is_transparent};
 ghost use Rattle.dch_config.specs.Refusals.{Judges};
-ghost use Rattle.dch_config.specs.Bearers.{channel_number, names, has_ct, has_no_check, lacks_check, check_refusal, first_size, have_one_size, is_pdu, is_pdu_bits, are_pdus, has_wrong_blocks, lacks_pdus, pdu_refusal, has_wrong_window, window_refusal};
+ghost use Rattle.dch_config.specs.Bearers.{names, has_ct, has_no_check, lacks_check, check_refusal, first_size, have_one_size, is_pdu, is_pdu_bits, are_pdus, has_wrong_blocks, lacks_pdus, pdu_refusal, has_wrong_window, window_refusal};
 
 use crate::error::ConfigError;
-use crate::side::is_idle;
 use dch_types::{Bearer, Config, Dir, Format, Mode, Side};
 
 fn is_transparent(mode: Mode) -> bool
@@ -67,15 +66,6 @@ pub(crate) fn check(config: &Config) -> Result<(), ConfigError>
     }
 }
 
-pub(crate) fn channel_number(dir: Dir, bearer: &Bearer) -> Option<u8>
-    ensures { result ≡ channel_number dir bearer.now }
-{
-    match dir {
-        Dir::Up => bearer.up,
-        Dir::Down => bearer.down,
-    }
-}
-
 fn names(channel: Option<u8>, i: u8) -> bool
     ensures { result ≡ names channel i }
 {
@@ -90,7 +80,7 @@ fn count_naming(bearers: &[Bearer], dir: Dir, i: u8) -> usize
 {
     bearers
         .iter()
-        .filter(|bearer| names(channel_number(dir, bearer), i))
+        .filter(|bearer| names(bearer.channel(dir), i))
         .count()
 }
 
@@ -107,7 +97,7 @@ pub(crate) fn first_size(formats: &[Format]) -> Option<u16>
 {
     formats
         .iter()
-        .find(|format| !is_idle(format))
+        .find(|format| !format.is_idle())
         .map(|format| format.size)
 }
 
@@ -117,7 +107,7 @@ fn have_one_size(formats: &[Format], size: u16) -> bool
 {
     formats
         .iter()
-        .all(|format| is_idle(format) || format.size == size)
+        .all(|format| format.is_idle() || format.size == size)
 }
 
 fn is_pdu(mode: Mode, octets: u16) -> bool

@@ -4,9 +4,8 @@ ghost use Rattle.dch_types.specs.Limits.{is_idle};
 ghost use Rattle.dch_types.specs.Parts.{channel_at};
 ghost use Rattle.dch_config.specs.Changes.{AreAlike, Changes, GoesOnAs, HaveSameSizes, KeepsBearer, SendsAlike, ct_bits, bearer_formats, formats_on, sends_size, pdu_octets};
 
-use crate::bearer::{channel_number, first_size, has_ct};
+use crate::bearer::{first_size, has_ct};
 use crate::error::ChangeError;
-use crate::side::is_idle;
 use dch_types::{Bearer, Config, Dir, Format, Mode, Side};
 
 /// Whether a second configuration can follow a first one while the channel runs (TS 25.331 8.2.2): every bearer goes on
@@ -79,7 +78,7 @@ fn pdu_octets(config: &Config, dir: Dir, bearer: &Bearer) -> u16
 {
     match first_size(bearer_formats(config, dir, bearer)) {
         None => 0,
-        Some(size) => size.saturating_sub(ct_bits(config, dir, channel_number(dir, bearer))) / 8,
+        Some(size) => size.saturating_sub(ct_bits(config, dir, bearer.channel(dir))) / 8,
     }
 }
 
@@ -96,7 +95,7 @@ fn ct_bits(config: &Config, dir: Dir, channel: Option<u8>) -> u16
 fn bearer_formats<'a>(config: &'a Config, dir: Dir, bearer: &Bearer) -> &'a [Format]
     ensures { result.now ≡ bearer_formats config.entry.now dir bearer.now }
 {
-    formats_on(config, dir, channel_number(dir, bearer))
+    formats_on(config, dir, bearer.channel(dir))
 }
 
 fn formats_on(config: &Config, dir: Dir, channel: Option<u8>) -> &[Format]
@@ -123,14 +122,14 @@ fn sends_size(formats: &[Format], size: u16) -> bool
 {
     formats
         .iter()
-        .any(|format| !is_idle(format) && format.size == size)
+        .any(|format| !format.is_idle() && format.size == size)
 }
 
 /// Whether all blocks of some formats have sizes that others have.
 fn sends_sizes(formats: &[Format], others: &[Format]) -> bool
     ensures { result ≡ list_all (λ format. is_idle format || sends_size others.now format.size) formats.now }
 {
-    formats.iter().all(|format| is_idle(format) || sends_size(others, format.size))
+    formats.iter().all(|format| format.is_idle() || sends_size(others, format.size))
 }
 
 fn have_same_sizes(formats: &[Format], others: &[Format]) -> bool

@@ -1,6 +1,6 @@
 ghost use Rattle.std.specs.Prelude.{◌≡◌, ◌<◌, ◌≤◌, ◌^◌, ℕ, not, ◌||◌, length, take, position, IfSome, OnOk};
 ghost use Rattle.std.specs.List.{list_any, range_with_len, slice_get};
-ghost use Rattle.dch_types.specs.Limits.{is_idle, idle_format, idled};
+ghost use Rattle.dch_types.specs.Limits.{idled};
 ghost use Rattle.dch_types.specs.Parts.{combination_at};
 ghost use Rattle.dch_config.specs.Refusals.{Judges};
 ghost use Rattle.dch_config.specs.Sides.{channel_count_refusal, format_count_refusal, has_no_idle, idle_refusal, combination_count_refusal, is_within, names_formats, same_formats, is_wrong, combination_refusal, idled_format, lacks_idled, is_not_closed, closure_refusal, has_large, block_refusal, has_long, bits_refusal};
@@ -36,23 +36,10 @@ pub(crate) fn format_count(dir: Dir, side: &Side) -> Result<(), ConfigError>
     }
 }
 
-/// Whether no bit is sent in a format.
-pub(crate) fn is_idle(format: &Format) -> bool
-    ensures { result ≡ is_idle format.now }
-{
-    u32::from(format.number) * u32::from(format.size) == 0
-}
-
-fn position_of_idle(formats: &[Format]) -> Option<usize>
-    ensures { result ≡ position is_idle formats.now }
-{
-    formats.iter().position(|format| is_idle(format))
-}
-
 fn has_no_idle(channel: &Trch) -> bool
     ensures { result ≡ has_no_idle channel.now }
 {
-    position_of_idle(channel.formats.as_slice()).is_none()
+    channel.first_idle().is_none()
 }
 
 fn position_of_no_idle(channels: &[Trch]) -> Option<usize>
@@ -132,19 +119,12 @@ pub(crate) fn combinations(dir: Dir, side: &Side) -> Result<(), ConfigError>
     }
 }
 
-/// The idle format of a channel: its first one in which no bit is sent.
-fn idle_format(channel: &Trch) -> usize
-    ensures { result ≡ idle_format channel.now }
-{
-    position_of_idle(channel.formats.as_slice()).unwrap_or(0)
-}
-
 /// The format of channel `i`, or its idle one where it has at most so many frames.
 fn idled_format(frames: u8, channels: &[Trch], i: usize, format: u8) -> usize
     ensures { result ≡ idled_format frames (slice_get channels.now i) format }
 {
     if i < channels.len() && channels[i].frames <= frames {
-        idle_format(&channels[i])
+        channels[i].idle_format()
     } else {
         usize::from(format)
     }

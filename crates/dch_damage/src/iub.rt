@@ -8,12 +8,9 @@ use crate::arrival::{Arrival, clear};
 use dch_accept::Accepted;
 use dch_bits::NoMemory;
 use dch_iub::longest;
-use dch_types::Dir;
+use dch_types::{Dir, SETS};
 use std::alloc::Global;
 use std::marker::Model;
-
-/// How many sets there may be in a direction.
-const SETS: u8 = 8;
 
 /// The damage that waits for the Iub frame of a set.
 #[derive(Drop)]

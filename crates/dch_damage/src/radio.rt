@@ -46,7 +46,7 @@ impl RadioDamage {
         ensures second { IfOk result (IsRadioDamageOf second.now dir) }
         ensures quiet { IfOk result IsQuietRadio }
     {
-        let bits = tfci_bits(first, dir).max(tfci_bits(second, dir));
+        let bits = first.tfci_bits(dir).max(second.tfci_bits(dir));
         let cells = longest_frame(first, dir).max(longest_frame(second, dir));
         Ok(RadioDamage {
             lost: false,
@@ -99,16 +99,6 @@ impl RadioDamage {
             clear(&mut self.cells, Turned::Not);
             self.touched = false;
         }
-    }
-}
-
-/// The TFCI bits of a radio frame of a direction (TS 25.212 4.3.5).
-fn tfci_bits(accepted: &Accepted, dir: Dir) -> usize
-    ensures { result ≡ tfci_bits accepted.now.config dir }
-{
-    match dir {
-        Dir::Down if accepted.config().downlink.sf < 128 => 120,
-        Dir::Down | Dir::Up => 30,
     }
 }
 

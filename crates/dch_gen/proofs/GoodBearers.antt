@@ -7,9 +7,9 @@ use Rattle.dch_types.specs.declared.bearer.Mode.TheVariants.{Tm}
 use Rattle.dch_types.specs.declared.bearer.Bearer.{Bearer}
 use Rattle.dch_types.specs.declared.config.Config.{Config}
 use Rattle.dch_types.specs.Lengths.{crc_size}
-use Rattle.dch_types.specs.Parts.{channel_at, side_of}
-use Rattle.dch_tree.specs.Bearers.{bearer_at, shares, default_rules}
-use Rattle.dch_config.specs.Bearers.{channel_number, has_ct, are_pdus}
+use Rattle.dch_types.specs.Parts.{channel_at, side_of, channel_number, default_rules}
+use Rattle.dch_tree.specs.Bearers.{bearer_at, shares}
+use Rattle.dch_config.specs.Bearers.{has_ct, are_pdus}
 use Rattle.dch_config.specs.Good.{IsRules, IsPlaced, IsBearer, IsSharing}
 use Rattle.dch_gen.specs.Channels.{gen_channels}
 use Rattle.dch_gen.specs.Bearers.{speech, reports, dialogue, packets, gen_bearers}

@@ -2,7 +2,7 @@
 use Rattle.std.specs.Prelude.{ℕ, List, [], ◌∷◌, Some}
 use Rattle.dch_types.specs.declared.bearer.Mode.TheVariants.{Tm, Um, Am}
 use Rattle.dch_types.specs.declared.bearer.Bearer.{Bearer}
-use Rattle.dch_tree.specs.Bearers.{default_rules}
+use Rattle.dch_types.specs.Parts.{default_rules}
 
 -- a class of speech, transparent
 abbrev pub speech : ℕ → Bearer

@@ -2,7 +2,6 @@ ghost use Rattle.std.specs.Prelude.{◌≡◌, IfOk};
 ghost use Rattle.dch_gen.specs.Bearers.{speech, reports, dialogue, packets, gen_bearers};
 
 use dch_bits::NoMemory;
-use dch_tree::default_rules;
 use dch_types::{AmRules, Bearer, Mode, Sequence};
 use std::alloc::Global;
 
@@ -33,7 +32,7 @@ fn speech(channel: u8) -> Bearer
         logical: 0,
         priority: 2,
         buffer: 8,
-        rules: default_rules(),
+        rules: AmRules::standard(),
     }
 }
 
@@ -48,7 +47,7 @@ fn reports() -> Bearer
         logical: 1,
         priority: 1,
         buffer: 64,
-        rules: default_rules(),
+        rules: AmRules::standard(),
     }
 }
 
@@ -65,7 +64,7 @@ fn dialogue() -> Bearer
         buffer: 64,
         rules: AmRules {
             poll_timer: 20,
-            ..default_rules()
+            ..AmRules::standard()
         },
     }
 }
@@ -85,7 +84,7 @@ fn packets() -> Bearer
             window: 1024,
             poll_timer: 20,
             poll_pdus: 64,
-            ..default_rules()
+            ..AmRules::standard()
         },
     }
 }

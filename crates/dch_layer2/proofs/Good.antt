@@ -13,9 +13,9 @@ use Rattle.dch_types.specs.declared.bearer.Mode.{Mode}
 use Rattle.dch_types.specs.declared.bearer.Mode.TheVariants.{Tm, Um, Am}
 use Rattle.dch_types.specs.declared.config.Config.{Config}
 use Rattle.dch_types.specs.Limits.{is_idle}
-use Rattle.dch_types.specs.Parts.{channel_at, side_of}
+use Rattle.dch_types.specs.Parts.{channel_at, side_of, channel_number}
 use Rattle.dch_tree.specs.Bearers.{bearer_at, same_channel, shares}
-use Rattle.dch_config.specs.Bearers.{are_pdus, channel_number, first_size, has_ct, have_one_size, is_pdu_size, names}
+use Rattle.dch_config.specs.Bearers.{are_pdus, first_size, has_ct, have_one_size, is_pdu_size, names}
 use Rattle.dch_config.specs.Good.{IsGood, IsPlaced, IsSharing}
 use Rattle.dch_config.specs.Sides.{is_within}
 use Rattle.dch_mac.specs.Field.{field_bits}

@@ -13,9 +13,9 @@ use Rattle.dch_types.specs.declared.channel.Dir.TheVariants.{Up, Down}
 use Rattle.dch_types.specs.declared.channel.Format.{Format}
 use Rattle.dch_types.specs.declared.config.Config.{Config}
 use Rattle.dch_types.specs.Limits.{IsSide, is_idle}
-use Rattle.dch_types.specs.Parts.{channel_at, format_at, side_of}
+use Rattle.dch_types.specs.Parts.{channel_at, format_at, side_of, channel_number}
 use Rattle.dch_tree.specs.Bearers.{bearer_at}
-use Rattle.dch_config.specs.Bearers.{channel_number, has_ct, have_one_size, names}
+use Rattle.dch_config.specs.Bearers.{has_ct, have_one_size, names}
 use Rattle.dch_config.specs.Good.{IsGood}
 use Rattle.dch_mac.specs.declared.answer.Demux.TheVariants.{To, Reserved, NoBearer}
 use Rattle.dch_mac.specs.Field.{field_bits, field_of}

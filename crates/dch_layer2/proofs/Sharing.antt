@@ -11,7 +11,8 @@ use Rattle.dch_types.specs.declared.bearer.Bearer.{Bearer as BearerRules}
 use Rattle.dch_types.specs.declared.config.Config.{Config}
 use Rattle.dch_accept.specs.Blocks.{Held}
 use Rattle.dch_tree.specs.Bearers.{bearer_at}
-use Rattle.dch_config.specs.Bearers.{channel_number, names}
+use Rattle.dch_config.specs.Bearers.{names}
+use Rattle.dch_types.specs.Parts.{channel_number}
 use Rattle.dch_mac.specs.Asked.{priority_of}
 use Rattle.dch_mac.specs.Offered.{given}
 use Rattle.dch_layer2.specs.Bearings.{Bearing}

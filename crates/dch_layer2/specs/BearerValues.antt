@@ -14,7 +14,7 @@ use Rattle.dch_rlcum.specs.Receiving.{Receiving, after_pdu}
 use Rattle.dch_rlcum.specs.Sending.{Sending, after_build, after_offer, answer_of, builds, is_due, pdu_of}
 use Rattle.dch_indication.specs.Lines.{Line, PduBad}
 use Rattle.dch_mac.specs.declared.head.Head.{Head}
-use Rattle.dch_layer2.specs.Hearing.{error_number}
+use Rattle.dch_rlcpdu.specs.Errors.{error_number}
 use Rattle.dch_layer2.specs.UnitLines.{unit_lines}
 use Rattle.dch_layer2.specs.Shapes.{IsWhole}
 use Rattle.dch_layer2.specs.declared.shape.Shape.{Shape}

@@ -12,9 +12,9 @@ use Rattle.dch_types.specs.declared.bearer.Mode.TheVariants.{Tm, Um, Am}
 use Rattle.dch_types.specs.declared.bearer.Bearer.{Bearer}
 use Rattle.dch_types.specs.declared.config.Config.{Config}
 use Rattle.dch_types.specs.Limits.{is_idle}
-use Rattle.dch_types.specs.Parts.{channel_at, side_of}
+use Rattle.dch_types.specs.Parts.{channel_at, side_of, channel_number}
 use Rattle.dch_tree.specs.Bearers.{bearer_at}
-use Rattle.dch_config.specs.Bearers.{channel_number, has_ct}
+use Rattle.dch_config.specs.Bearers.{has_ct}
 use Rattle.dch_mac.specs.Field.{field_bits}
 use Rattle.dch_mac.specs.declared.head.Head.{Head}
 use Rattle.dch_rlctm.specs.Waiting.{Waiting, front_of, answer_of as unit_answer, after_offer as after_unit}

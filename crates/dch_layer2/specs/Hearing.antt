@@ -5,7 +5,7 @@ use Rattle.dch_types.specs.declared.channel.Dir.{Dir}
 use Rattle.dch_types.specs.declared.config.Config.{Config}
 use Rattle.dch_rlcpdu.specs.Fields.{Field}
 use Rattle.dch_rlcpdu.specs.declared.handed.PduError.{PduError}
-use Rattle.dch_rlcpdu.specs.declared.handed.PduError.TheVariants.{Short, Reserved as ReservedValue, Indicator, Sufi}
+use Rattle.dch_rlcpdu.specs.Errors.{error_number}
 use Rattle.dch_rlcpdu.specs.declared.um.UmView.{UmView}
 use Rattle.dch_rlcpdu.specs.declared.am.AmView.{AmView}
 use Rattle.dch_rlcpdu.specs.declared.am.AmView.TheVariants.{Payload, Status, Reset, ResetAck}
@@ -30,13 +30,6 @@ use Rattle.dch_layer2.specs.Bearings.{Bearing, Transparent, Unacknowledged, Ackn
 pub record Heard : Type 0 where
   pub bearing : Bearing
   pub lines : List Line
-
--- the number by which a refusal of a PDU is reported
-abbrev pub error_number : PduError → ℕ
-error_number Short = 1
-error_number ReservedValue = 2
-error_number Indicator = 3
-error_number Sufi = 4
 
 -- all units that ended are handed up
 abbrev pub hears_um : Dir → ℕ → Result UmView PduError → Sends → Receiving → Heard

@@ -5,9 +5,9 @@ use Rattle.std.specs.List.{range_with_len}
 use Rattle.dch_bits.specs.declared.bit.Bit.{Bit}
 use Rattle.dch_types.specs.declared.channel.Dir.{Dir}
 use Rattle.dch_types.specs.declared.config.Config.{Config}
-use Rattle.dch_types.specs.Parts.{format_number}
+use Rattle.dch_types.specs.Parts.{format_number, channel_number}
 use Rattle.dch_tree.specs.Bearers.{bearer_at}
-use Rattle.dch_config.specs.Bearers.{channel_number, names}
+use Rattle.dch_config.specs.Bearers.{names}
 use Rattle.dch_mac.specs.declared.head.Head.{Head}
 use Rattle.dch_mac.specs.Asked.{Asked, asked_of, format_in, priority_of, starts}
 use Rattle.dch_mac.specs.Best.{IsBest}

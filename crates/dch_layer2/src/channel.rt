@@ -1,6 +1,6 @@
 ghost use Rattle.std.specs.Prelude.{◌≡◌, ◌<◌, ◌≤◌, All, IfOk, length};
 ghost use Rattle.dch_types.specs.Limits.{is_idle};
-ghost use Rattle.dch_config.specs.Bearers.{channel_number};
+ghost use Rattle.dch_types.specs.Parts.{channel_number};
 ghost use Rattle.dch_config.specs.Good.{IsGood};
 ghost use Rattle.dch_layer2.specs.Bearings.{bearer_in, size_in, sizes_in};
 ghost use Rattle.dch_layer2.specs.Shapes.{shape_of};
@@ -10,16 +10,6 @@ use dch_accept::Accepted;
 use dch_bits::NoMemory;
 use dch_types::{Bearer, Dir, Format, Sequence};
 use std::alloc::Global;
-
-/// The channel of a bearer in a direction.
-pub fn channel_of(bearer: &Bearer, dir: Dir) -> Option<u8>
-    ensures { result ≡ channel_number dir bearer.now }
-{
-    match dir {
-        Dir::Up => bearer.up,
-        Dir::Down => bearer.down,
-    }
-}
 
 /// A bearer of a configuration.
 pub fn bearer_of(accepted: &Accepted, bearer: u8) -> &Bearer
@@ -36,7 +26,7 @@ pub fn shape_on(accepted: &Accepted, dir: Dir, bearer: u8) -> Shape
     ensures { result ≡ shape_of accepted.now.config dir bearer }
 {
     let it = bearer_of(accepted, bearer);
-    match channel_of(it, dir) {
+    match it.channel(dir) {
         None => Shape {
             ct: None,
             bits: 0,
@@ -66,7 +56,7 @@ fn block_size(formats: &[Format]) -> u16
     ensures { result ≡ size_in formats.now }
 {
     for format in formats {
-        if !is_idle(format) {
+        if !format.is_idle() {
             return format.size;
         }
     }
@@ -79,7 +69,7 @@ pub fn sizes_of(alloc: Global, formats: &[Format]) -> Result<Sequence<u16>, NoMe
 {
     let mut sizes = Sequence::new(alloc);
     for format in formats {
-        if !is_idle(format) {
+        if !format.is_idle() {
             sizes.push(format.size)?;
         }
     }
@@ -95,11 +85,4 @@ pub fn greatest(sizes: &[u16]) -> u16
         most = most.max(*size);
     }
     most
-}
-
-/// Whether no bit is sent in a format.
-fn is_idle(format: &Format) -> bool
-    ensures { result ≡ is_idle format.now }
-{
-    u32::from(format.number) * u32::from(format.size) == 0
 }

@@ -1,6 +1,6 @@
 ghost use Rattle.std.specs.Prelude.{◌≡◌, ◌<◌, ◌==◌, ◌&&◌, length};
-ghost use Rattle.dch_types.specs.Parts.{side_of};
-ghost use Rattle.dch_config.specs.Bearers.{channel_number, names};
+ghost use Rattle.dch_types.specs.Parts.{side_of, channel_number};
+ghost use Rattle.dch_config.specs.Bearers.{names};
 ghost use Rattle.dch_config.specs.Good.{IsGood};
 ghost use Rattle.dch_mac.specs.Asked.{priority_of, starts};
 ghost use Rattle.dch_mac.specs.Best.{IsBest};
@@ -108,11 +108,7 @@ fn head_of(heads: &[Head], b: usize) -> Head
 fn is_on(bearer: &dch_types::Bearer, dir: Dir, channel: u8) -> bool
     ensures { result ≡ names (channel_number dir bearer.now) channel }
 {
-    let number = match dir {
-        Dir::Up => bearer.up,
-        Dir::Down => bearer.down,
-    };
-    match number {
+    match bearer.channel(dir) {
         None => false,
         Some(on) => on == channel,
     }

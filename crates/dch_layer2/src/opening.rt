@@ -78,14 +78,8 @@ fn idle_format(channel: &Trch) -> u8
     ensures value { result ≡ idle_format channel.now }
     ensures there { result < length channel.now.formats }
 {
-    match idle_place(channel.formats.as_slice()) {
+    match channel.first_idle() {
         Some(at) => at as u8,
         None => 0,
     }
-}
-
-fn idle_place(formats: &[Format]) -> Option<usize>
-    ensures { result ≡ position is_idle formats.now }
-{
-    formats.iter().position(|format| usize::from(format.number) * usize::from(format.size) == 0)
 }

@@ -2,7 +2,7 @@ ghost use Rattle.std.specs.Prelude.{◌≡◌, ◌≤◌, length};
 ghost use Rattle.dch_indication.specs.Lines.{GotBits, Outside, PduBad};
 ghost use Rattle.dch_indication.specs.Told.{Told};
 ghost use Rattle.dch_layer2.specs.Bearings.{line_of_answer};
-ghost use Rattle.dch_layer2.specs.Hearing.{error_number};
+ghost use Rattle.dch_rlcpdu.specs.Errors.{error_number};
 ghost use Rattle.dch_layer2.specs.UnitLines.{line_if};
 ghost use Rattle.dch_layer2.specs.Handing.{IsWithin, handed_line};
 
@@ -40,7 +40,7 @@ pub fn tell_bad<U: Indications>(user: &mut U, dir: Dir, bearer: u8, error: PduEr
     user.indicate(Indication::PduBad {
         dir,
         bearer,
-        number: error_number(error),
+        number: error.number(),
     });
 }
 
@@ -61,17 +61,5 @@ pub fn tell_answer<U: Indications>(user: &mut U, dir: Dir, bearer: u8, answer: O
         Offer::Accepted => user.indicate(Indication::Took { dir, bearer }),
         Offer::Full => user.indicate(Indication::Full { dir, bearer }),
         Offer::WrongSize => user.indicate(Indication::Wrong { dir, bearer }),
-    }
-}
-
-/// The number of a refusal.
-fn error_number(error: PduError) -> u8
-    ensures { result ≡ error_number error }
-{
-    match error {
-        PduError::Short => 1,
-        PduError::Reserved => 2,
-        PduError::Indicator => 3,
-        PduError::Sufi => 4,
     }
 }

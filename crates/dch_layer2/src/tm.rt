@@ -5,7 +5,7 @@ ghost use Rattle.dch_layer2.specs.Bearings.{bearer_in};
 ghost use Rattle.dch_layer2.specs.BearerStanding.{StandsTm};
 ghost use Rattle.dch_layer2.specs.BearerValues.{AreSizes, tm_answer, tm_after, tm_head, tm_built, units_in};
 
-use crate::channel::{bearer_of, channel_of, greatest, sizes_of};
+use crate::channel::{bearer_of, greatest, sizes_of};
 use crate::telling::tell_bits;
 use dch_accept::Accepted;
 use dch_bits::{Bit, NoMemory, Offer};
@@ -78,7 +78,7 @@ impl TmBearer {
         })) }
     {
         let it = bearer_of(accepted, bearer);
-        match channel_of(it, out) {
+        match it.channel(out) {
             None => Ok(TmBearer::new(bearer, into, Sequence::new(alloc), None)),
             Some(channel) => {
                 let formats = accepted.channel(out, channel).formats.as_slice();

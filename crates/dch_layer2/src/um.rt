@@ -12,7 +12,7 @@ ghost use Rattle.dch_layer2.specs.UnitLines.{unit_lines};
 ghost use Rattle.dch_layer2.specs.BearerValues.{FillsBlocks, IsSettled, heard_by, lines_of, um_after, um_answer, um_built, um_due, um_head, um_heard, um_lines, um_pdu};
 
 use crate::block::{read_octets, write_block};
-use crate::channel::{bearer_of, channel_of, shape_on};
+use crate::channel::{bearer_of, shape_on};
 use crate::shape::Shape;
 use crate::telling::{tell_bad, tell_handed};
 use dch_accept::Accepted;
@@ -198,7 +198,7 @@ fn sender_of(
         (opened_sends accepted.now.config dir bearer).sending) }
 {
     let it = bearer_of(accepted, bearer);
-    match channel_of(it, dir) {
+    match it.channel(dir) {
         None => Ok(None),
         Some(_) => {
             let sender = UmSend::open(alloc, shape.octets as usize, it.buffer, marks_start(dir))?;
@@ -228,7 +228,7 @@ fn receiver_of(
     ensures settled { IfOk result IsSettled }
     ensures opened { IfOk result (HoldsReceiving (channel_of accepted.now.config dir bearer) opened) }
 {
-    match channel_of(bearer_of(accepted, bearer), dir) {
+    match bearer_of(accepted, bearer).channel(dir) {
         None => Ok(None),
         Some(_) => Ok(Some(UmRecv::open(alloc)?)),
     }

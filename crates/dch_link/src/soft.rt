@@ -28,16 +28,13 @@ use dch_indication::Indications;
 use dch_iub::longest;
 use dch_rnc::{Rnc, RncEvent};
 use dch_txframes::tell_iub;
-use dch_types::{Dir, ends, started};
+use dch_types::{Dir, SETS, ends, started};
 use dch_ue::{Ue, UeEvent};
 use std::alloc::Global;
 use std::marker::Model;
 
 /// The most bytes of the line of a combined Iub frame.
 pub const COMBINED: usize = 300_000;
-
-/// How many sets there may be in a direction.
-const SETS: u8 = 8;
 
 /// A terminal, the legs of its soft handover and a network controller that hand their frames on to each other, and the
 /// damage that waits on each leg for the next radio frame. The terminal hears one leg at a time; the uplink Iub frames

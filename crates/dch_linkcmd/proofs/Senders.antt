@@ -8,7 +8,7 @@ use Rattle.dch_types.specs.declared.channel.Dir.{Dir}
 use Rattle.dch_types.specs.declared.channel.Dir.TheVariants.{Up, Down}
 use Rattle.dch_types.specs.declared.config.Config.{Config}
 use Rattle.dch_accept.specs.Plans.{Planned}
-use Rattle.dch_config.specs.Bearers.{channel_number}
+use Rattle.dch_types.specs.Parts.{channel_number}
 use Rattle.dch_script.specs.Units.{has_channel}
 use Rattle.dch_layer2.specs.Bearings.{bearer_in, channel_of}
 use Rattle.dch_link.specs.Standing.{SendsTo}

@@ -1,7 +1,8 @@
 -- Which blocks the bearers give to a channel.
 use Rattle.std.specs.Prelude.{◌+◌, ◌-◌, ◌==◌, ◌&&◌, ◌||◌, ℕ, Bool, if◌then◌else◌, length, min, nat_lt, slice_index_or}
 use Rattle.dch_types.specs.declared.channel.Format.{Format}
-use Rattle.dch_config.specs.Bearers.{channel_number, names}
+use Rattle.dch_config.specs.Bearers.{names}
+use Rattle.dch_types.specs.Parts.{channel_number}
 use Rattle.dch_types.specs.Sums.{total}
 use Rattle.dch_tree.specs.Bearers.{bearer_at}
 use Rattle.dch_mac.specs.Asked.{Asked, priority_of}

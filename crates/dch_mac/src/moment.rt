@@ -90,7 +90,7 @@ impl Moment<'_> {
         requires { i < length self.now.side.channels }
         ensures { result ≡ idle_format (channel_at self.now.side i) }
     {
-        idle_format(self.side.channel(i))
+        self.side.channel(i).idle_format()
     }
 
     /// The blocks of this size that a bearer has for channel `i`.
@@ -119,24 +119,4 @@ impl Moment<'_> {
             Some(channel) => channel as usize == i && self.offers[bearer].size == size,
         }
     }
-}
-
-/// The number of the idle format of a channel: its first one in which no bit is sent.
-fn idle_format(channel: &Trch) -> usize
-    ensures { result ≡ idle_format channel.now }
-{
-    position_of_idle(channel.formats.as_slice()).unwrap_or(0)
-}
-
-fn position_of_idle(formats: &[Format]) -> Option<usize>
-    ensures { result ≡ position is_idle formats.now }
-{
-    formats.iter().position(|format| is_idle(format))
-}
-
-/// Whether no bit is sent in a format.
-pub(crate) fn is_idle(format: &Format) -> bool
-    ensures { result ≡ is_idle format.now }
-{
-    u32::from(format.number) * u32::from(format.size) == 0
 }

@@ -1,5 +1,6 @@
 ghost use Rattle.std.specs.Prelude.{◌≡◌, ◌<◌, ◌≤◌, length, position, IfSome};
-ghost use Rattle.dch_config.specs.Bearers.{channel_number, names};
+ghost use Rattle.dch_config.specs.Bearers.{names};
+ghost use Rattle.dch_types.specs.Parts.{channel_number};
 ghost use Rattle.dch_mac.specs.Field.{field_of, place_number};
 ghost use Rattle.dch_mac.specs.Receivers.{receiver, is_named, only_receiver, receiver_of_field};
 
@@ -73,11 +74,7 @@ fn position_on(bearers: &[Bearer], dir: Dir, channel: u8) -> Option<usize>
 fn is_on(bearer: &Bearer, dir: Dir, channel: u8) -> bool
     ensures { result ≡ names (channel_number dir bearer.now) channel }
 {
-    let number = match dir {
-        Dir::Up => bearer.up,
-        Dir::Down => bearer.down,
-    };
-    match number {
+    match bearer.channel(dir) {
         None => false,
         Some(i) => i == channel,
     }

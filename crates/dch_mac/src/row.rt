@@ -4,7 +4,7 @@ ghost use Rattle.dch_mac.specs.Asked.{starts};
 ghost use Rattle.dch_mac.specs.Table.{IsRow};
 
 use crate::carried::bits;
-use crate::moment::{Moment, is_idle};
+use crate::moment::Moment;
 
 /// What a combination needs of a format of a channel.
 #[derive(Clone, Copy)]
@@ -46,7 +46,7 @@ impl Moment<'_> {
         let missing = self.carry(i, format, &mut carried);
         Row {
             kept: true,
-            found: is_idle(&format) || missing == 0,
+            found: format.is_idle() || missing == 0,
             idle: f == self.idle(i),
             carried,
             bits: bits(u32::from(format.number), format.size),

@@ -12,8 +12,8 @@ use dch_accept::{Accepted, SetBlocks, TtiBlocks};
 use dch_bits::NoMemory;
 use dch_indication::Indications;
 use dch_iub::{IubError, read_dl};
-use dch_txframes::{SETS, tell_refusal};
-use dch_types::{Dir, starts};
+use dch_txframes::tell_refusal;
+use dch_types::{Dir, SETS, starts};
 use std::alloc::Global;
 use std::marker::Model;
 

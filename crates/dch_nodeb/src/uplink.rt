@@ -11,8 +11,8 @@ ghost use Rattle.dch_nodeb.specs.Opened.{IsReceiverOf};
 use crate::receiver::UplinkReceiver;
 use dch_accept::{Accepted, FrameView};
 use dch_indication::Indications;
-use dch_txframes::{IubTxBuffer, SETS, tell_bad_tti};
-use dch_types::{Dir, ends, started};
+use dch_txframes::{IubTxBuffer, tell_bad_tti};
+use dch_types::{Dir, SETS, ends, started};
 
 /// Reads the TTIs of a set, which the last radio frame ends, and sends their blocks in an Iub frame with the CFN at
 /// which the TTI started (TS 25.427 6.2). Where a channel can't be read, that is told, and no frame is sent.

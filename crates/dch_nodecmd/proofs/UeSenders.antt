@@ -6,7 +6,7 @@ use Rattle.std.proofs.lemmas.Option.{get_or_from_slice_get, slice_get_within}
 use Rattle.dch_types.specs.declared.bearer.Bearer.{Bearer}
 use Rattle.dch_types.specs.declared.channel.Dir.TheVariants.{Up}
 use Rattle.dch_types.specs.declared.config.Config.{Config}
-use Rattle.dch_config.specs.Bearers.{channel_number}
+use Rattle.dch_types.specs.Parts.{channel_number}
 use Rattle.dch_script.specs.Units.{has_channel}
 use Rattle.dch_layer2.specs.Bearings.{bearer_in}
 use Rattle.dch_ue.specs.Standing.{SendsUp}

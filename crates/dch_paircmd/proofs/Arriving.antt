@@ -36,7 +36,8 @@ use Rattle.dch_script.proofs.Shown.{encode_lower_len}
 use Rattle.dch_paircmd.specs.Ends.{PairEnd}
 use Rattle.dch_paircmd.specs.Rules.{arrives_from}
 use Rattle.dch_paircmd.specs.Standing.{Arrives, IsSide, IsTold, SideValue}
-use Rattle.dch_paircmd.specs.Texts.{end_text, end_word, error_number, got_text, number_text, octets_text, offer_text, unit_text, units_text}
+use Rattle.dch_rlcpdu.specs.Errors.{error_number}
+use Rattle.dch_paircmd.specs.Texts.{end_text, end_word, got_text, number_text, octets_text, offer_text, unit_text, units_text}
 
 -- the bytes that stand for what is told of the units that wait at an entity
 pub record IsLimited (rules : Rules) (e : Entity) : Type 0 where

@@ -1,6 +1,6 @@
 -- The two ends that the command `pair` runs, and the PDUs in flight to each.
 use Rattle.std.specs.Prelude.{◌==◌, ℕ, List, [], if◌then◌else◌}
-use Rattle.dch_tree.specs.Bearers.{default_rules}
+use Rattle.dch_types.specs.Parts.{default_rules}
 use Rattle.dch_am.specs.Rules.{Rules, rules_of}
 use Rattle.dch_reset.specs.State.{State, opened_state}
 

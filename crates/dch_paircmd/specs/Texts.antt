@@ -5,8 +5,7 @@ use Rattle.dch_bits.specs.declared.offer.Offer.TheVariants.{Accepted, Full, Wron
 use Rattle.dch_script.specs.Report.{octets_shown}
 use Rattle.dch_rlcpdu.specs.declared.handed.Handed.{Handed}
 use Rattle.dch_rlcpdu.specs.declared.handed.Handed.TheVariants.{Whole, Overlong}
-use Rattle.dch_rlcpdu.specs.declared.handed.PduError.{PduError}
-use Rattle.dch_rlcpdu.specs.declared.handed.PduError.TheVariants.{Short, Reserved, Indicator, Sufi}
+use Rattle.dch_rlcpdu.specs.Errors.{error_number}
 use Rattle.dch_reset.specs.declared.answers.Got.{Got}
 use Rattle.dch_reset.specs.declared.answers.Got.TheVariants.{Bad, Restarted, Repeated, Ignored, Taken, Duplicate, Outside}
 
@@ -29,13 +28,6 @@ abbrev pub offer_text : ℕ → Offer → List ℕ
 offer_text end Accepted = end_text (codes "took ") end
 offer_text end Full = end_text (codes "full ") end
 offer_text end WrongSize = end_text (codes "wrong ") end
-
--- the number of a refusal
-abbrev pub error_number : PduError → ℕ
-error_number Short = 1
-error_number Reserved = 2
-error_number Indicator = 3
-error_number Sufi = 4
 
 -- the line on a PDU that arrived, where there is one
 abbrev pub got_text : ℕ → Got → List ℕ

@@ -9,7 +9,6 @@ use crate::events::{Rooms, happen};
 use crate::side::Side;
 use dch_bits::NoMemory;
 use dch_script::{LineError, PairLine, Report};
-use dch_tree::default_rules;
 use dch_types::AmRules;
 use std::alloc::Global;
 use std::marker::Model;
@@ -48,7 +47,7 @@ impl PairEnds {
     {
         let rules = AmRules {
             window,
-            ..default_rules()
+            ..AmRules::standard()
         };
         let (a, b) = (first as usize, second as usize);
         let first = Side::open(alloc, a, b, buffer, rules)?;

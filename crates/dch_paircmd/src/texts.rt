@@ -1,5 +1,5 @@
 ghost use Rattle.std.specs.Prelude.{◌≡◌, ◌≤◌, ◌+◌, ◌++◌, length};
-ghost use Rattle.dch_paircmd.specs.Texts.{IsWithin, end_text, end_word, error_number, got_text, handed_text, number_text, octets_text, offer_text};
+ghost use Rattle.dch_paircmd.specs.Texts.{IsWithin, end_text, end_word, got_text, handed_text, number_text, octets_text, offer_text};
 
 use dch_bits::Offer;
 use dch_reset::Got;
@@ -61,7 +61,7 @@ pub fn put_got(report: &mut Report, end: u8, got: Got)
     ensures { report.new ≡ record report.old { text = report.old.text ++ got_text end got } }
 {
     match got {
-        Got::Bad(error) => put_number(report, b"pdubad ", end, error_number(error)),
+        Got::Bad(error) => put_number(report, b"pdubad ", end, error.number()),
         Got::Restarted => put_end(report, b"restart ", end),
         Got::Outside => put_end(report, b"outside ", end),
         Got::Repeated | Got::Ignored | Got::Taken | Got::Duplicate => {}
@@ -85,16 +85,4 @@ fn end_word(end: u8) -> &'static str
     ensures { result.now ≡ end_word end }
 {
     if end == 0 { "a" } else { "b" }
-}
-
-/// The number of a refusal, 1 to 4.
-fn error_number(error: PduError) -> u8
-    ensures { result ≡ error_number error }
-{
-    match error {
-        PduError::Short => 1,
-        PduError::Reserved => 2,
-        PduError::Indicator => 3,
-        PduError::Sufi => 4,
-    }
 }

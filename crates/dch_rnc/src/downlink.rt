@@ -9,8 +9,8 @@ ghost use Rattle.dch_txframes.specs.Sending.{sent_of};
 use dch_accept::{Accepted, SetBlocks};
 use dch_indication::Indications;
 use dch_layer2::Layer2;
-use dch_txframes::{IubTxBuffer, SETS};
-use dch_types::{Dir, starts};
+use dch_txframes::IubTxBuffer;
+use dch_types::{Dir, SETS, starts};
 
 /// Takes what layer 2 gave to the channels of a set.
 fn fill(accepted: &Accepted, set: u8, layer: &Layer2, blocks: &mut SetBlocks)

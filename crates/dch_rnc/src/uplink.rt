@@ -12,8 +12,8 @@ use dch_bits::NoMemory;
 use dch_indication::Indications;
 use dch_iub::read_ul;
 use dch_layer2::Layer2;
-use dch_txframes::{SETS, tell_refusal};
-use dch_types::Dir;
+use dch_txframes::tell_refusal;
+use dch_types::{Dir, SETS};
 use std::alloc::Global;
 
 /// Takes the memory for the uplink blocks of all sets.

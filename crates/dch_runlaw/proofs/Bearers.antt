@@ -10,7 +10,8 @@ use Rattle.dch_types.specs.declared.channel.Dir.{Dir}
 use Rattle.dch_types.specs.declared.channel.Dir.TheVariants.{Up, Down}
 use Rattle.dch_types.specs.declared.config.Config.{Config}
 use Rattle.dch_tree.specs.Bearers.{bearer_at, same_channel, shares}
-use Rattle.dch_config.specs.Bearers.{channel_number, has_ct, names}
+use Rattle.dch_config.specs.Bearers.{has_ct, names}
+use Rattle.dch_types.specs.Parts.{channel_number}
 use Rattle.dch_config.specs.Good.{IsBearer, IsGood, IsSharing}
 use Rattle.dch_layer2.specs.Bearings.{bearer_in, channel_of}
 use Rattle.dch_layer2.proofs.Good.{am_fits, field_named, there, um_fits}

@@ -10,7 +10,8 @@ use Rattle.dch_types.specs.declared.channel.Dir.{Dir}
 use Rattle.dch_types.specs.declared.bearer.Bearer.{Bearer}
 use Rattle.dch_types.specs.declared.config.Config.{Config}
 use Rattle.dch_tree.specs.Bearers.{bearer_at}
-use Rattle.dch_config.specs.Bearers.{channel_number, has_ct, names}
+use Rattle.dch_config.specs.Bearers.{has_ct, names}
+use Rattle.dch_types.specs.Parts.{channel_number}
 use Rattle.dch_mac.specs.declared.answer.Demux.TheVariants.{To}
 use Rattle.dch_mac.specs.Field.{field_bits, field_of}
 use Rattle.dch_mac.specs.Receivers.{alone, is_named, named_by, only_receiver, receiver, receiver_of_field}

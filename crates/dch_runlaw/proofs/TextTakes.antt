@@ -24,7 +24,8 @@ use Rattle.dch_amlaw.specs.Pair.{is_beyond, is_outside_answer}
 use Rattle.dch_pair.specs.Answers.{is_unknown}
 use Rattle.dch_node.specs.Lines.{Line, Bad, Reserved, NoBearer, Nobody, PduBad, Outside, Overlong, Got, GotBits}
 use Rattle.dch_layer2.specs.Bearings.{Acknowledged, Bearing, Sends, Transparent, Unacknowledged, rules_in}
-use Rattle.dch_layer2.specs.Hearing.{error_number, hears, hears_um, lines_by, new_units, receiver_of, rides_outside}
+use Rattle.dch_layer2.specs.Hearing.{hears, hears_um, lines_by, new_units, receiver_of, rides_outside}
+use Rattle.dch_rlcpdu.specs.Errors.{error_number}
 use Rattle.dch_layer2.specs.Layers.{Came, Layer, goes, takes, takes_good, takes_one}
 use Rattle.dch_layer2.specs.Octets.{octets_of}
 use Rattle.dch_layer2.specs.UnitLines.{line_if, unit_lines}

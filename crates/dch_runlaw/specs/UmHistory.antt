@@ -16,7 +16,7 @@ use Rattle.dch_node.specs.Lines.{Got, Line, PduBad}
 use Rattle.dch_layer2.specs.UnitLines.{unit_lines}
 use Rattle.dch_types.specs.declared.bearer.Mode.TheVariants.{Um}
 use Rattle.dch_layer2.specs.Bearings.{Sends, Unacknowledged, bearer_in, channel_of, ct_of, pdu_octets}
-use Rattle.dch_layer2.specs.Hearing.{error_number}
+use Rattle.dch_rlcpdu.specs.Errors.{error_number}
 use Rattle.dch_layer2.specs.Layers.{Layer}
 use Rattle.dch_layer2.specs.Octets.{octets_of}
 use Rattle.dch_runlaw.specs.Ended.{marked_units}

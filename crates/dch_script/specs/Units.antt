@@ -5,7 +5,7 @@ use Rattle.dch_types.specs.declared.bearer.Mode.{Mode}
 use Rattle.dch_types.specs.declared.bearer.Mode.TheVariants.{Tm}
 use Rattle.dch_types.specs.declared.channel.Dir.{Dir}
 use Rattle.dch_types.specs.declared.config.Config.{Config}
-use Rattle.dch_config.specs.Bearers.{channel_number}
+use Rattle.dch_types.specs.Parts.{channel_number}
 use Rattle.dch_script.specs.declared.event.LineError.{LineError}
 use Rattle.dch_script.specs.declared.event.LineError.TheVariants.{Number, Text, Bearer as NoBearer}
 use Rattle.dch_script.specs.Numbers.{is_numeral, number_of}

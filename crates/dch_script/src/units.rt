@@ -1,5 +1,5 @@
 ghost use Rattle.std.specs.Prelude.{◌≡◌};
-ghost use Rattle.dch_config.specs.Bearers.{channel_number};
+ghost use Rattle.dch_types.specs.Parts.{channel_number};
 ghost use Rattle.dch_script.specs.Forms.{one_shown};
 ghost use Rattle.dch_script.specs.ParsedLine.{parsed};
 ghost use Rattle.dch_script.specs.Units.{bearer_of, has_channel, mode_at, unit_of, text_of};
@@ -9,21 +9,12 @@ use crate::numbers::{is_numeral, read_number};
 use crate::texts::is_unit;
 use dch_types::{Bearer, Config, Dir, Mode};
 
-fn channel_number(dir: Dir, bearer: &Bearer) -> Option<u8>
-    ensures { result ≡ channel_number dir bearer.now }
-{
-    match dir {
-        Dir::Up => bearer.up,
-        Dir::Down => bearer.down,
-    }
-}
-
 #[tactic(auto, unfolding(crate::specs::Units::has_channel))]
 fn has_channel(config: &Config, dir: Dir, bearer: u32) -> bool
     ensures { result ≡ has_channel config.now dir bearer }
 {
     match config.bearers.as_slice().get(bearer as usize) {
-        Some(bearer) => channel_number(dir, bearer).is_some(),
+        Some(bearer) => bearer.channel(dir).is_some(),
         None => false,
     }
 }

@@ -29,7 +29,8 @@ use Rattle.dch_steptext.proofs.ReceiverBytes.{keeps, receiver_most, view_taken}
 use Rattle.dch_script.specs.LineText.{text_of}
 use Rattle.dch_layer2.specs.Bearings.{Bearing, Transparent, Unacknowledged, Acknowledged, Sends, after_answer, bearer_in, opened_bearing, opened_mode, rules_in, ticked}
 use Rattle.dch_layer2.specs.Building.{Builds, Gives}
-use Rattle.dch_layer2.specs.Hearing.{error_number, hears, hears_am, hears_um, lines_by, new_units, receiver_of}
+use Rattle.dch_layer2.specs.Hearing.{hears, hears_am, hears_um, lines_by, new_units, receiver_of}
+use Rattle.dch_rlcpdu.specs.Errors.{error_number}
 use Rattle.dch_layer2.specs.Octets.{octets_of}
 use Rattle.dch_layer2.specs.UnitLines.{line_if, unit_lines}
 use Rattle.dch_layer2.specs.BoundedBearers.{IsBounded, IsBoundedAm, IsBoundedUm}

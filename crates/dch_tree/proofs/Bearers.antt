@@ -9,7 +9,8 @@ use Rattle.dch_types.specs.declared.bearer.AmRules.{AmRules}
 use Rattle.dch_types.specs.declared.bearer.Bearer.{Bearer}
 use Rattle.dch_tree.specs.Rules.{number_within, channel_of}
 use Rattle.dch_tree.specs.Tables.{reading, need, may, field}
-use Rattle.dch_tree.specs.Bearers.{bearer_mode, up_faults, down_faults, am_rules, default_rules, rules_of, bearer_faults, bearer_of}
+use Rattle.dch_tree.specs.Bearers.{bearer_mode, up_faults, down_faults, am_rules, rules_of, bearer_faults, bearer_of}
+use Rattle.dch_types.specs.Parts.{default_rules}
 use Rattle.dch_tree.proofs.Kept.{front_none, back_none}
 use Rattle.dch_tree.proofs.Ranges.{field_keeps, read_by, required_some, optional_some, number_within_keeps, channel_of_keeps}
 

@@ -11,6 +11,7 @@ use Rattle.dch_tree.specs.declared.fault.Fault.TheVariants.{Range}
 use Rattle.dch_tree.specs.Faults.{element_path}
 use Rattle.dch_tree.specs.Rules.{number_within, mode_of, window_of, channel_of}
 use Rattle.dch_tree.specs.Tables.{reading, optional, unknown, need, may, field, items_faults, items_values, list_at, indexed}
+use Rattle.dch_types.specs.Parts.{default_rules}
 
 -- the keys of every bearer, and those of an acknowledged one alone
 abbrev pub bearer_keys : List (List ℕ)
@@ -72,22 +73,6 @@ am_rules ms = record {
   discard_age = field 0 (number_within 0 1000) (codes "discard_age") ms;
   discard_sent = field 0 (number_within 0 40) (codes "discard_sent") ms;
   discard_repeat = field 30 (number_within 1 1000) (codes "discard_repeat") ms;
-}
-
--- the rules of a bearer whose keys say nothing of them
-abbrev pub default_rules : AmRules
-default_rules = record {
-  window = 128;
-  poll_timer = 30;
-  poll_pdus = 0;
-  poll_units = 0;
-  poll_window = 0;
-  status_period = 0;
-  status_prohibit = 0;
-  missing = true;
-  discard_age = 0;
-  discard_sent = 0;
-  discard_repeat = 30;
 }
 
 abbrev pub rules_faults : Mode → List ℕ → Members → List Fault

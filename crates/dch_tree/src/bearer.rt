@@ -4,7 +4,8 @@ ghost use Rattle.toml.specs.View.{view, items_view, table_view};
 ghost use Rattle.dch_tree.specs.Faults.{first_found};
 ghost use Rattle.dch_tree.specs.Rules.{channel_of};
 ghost use Rattle.dch_tree.specs.Tables.{field, item_faults, items_faults, items_values, item_value};
-ghost use Rattle.dch_tree.specs.Bearers.{unknown_faults, up_faults, down_faults, am_faults, am_rules, default_rules, rules_faults, rules_of, bearer_faults, bearer_of};
+ghost use Rattle.dch_tree.specs.Bearers.{unknown_faults, up_faults, down_faults, am_faults, am_rules, rules_faults, rules_of, bearer_faults, bearer_of};
+ghost use Rattle.dch_types.specs.Parts.{default_rules};
 
 use crate::fault::Faults;
 use crate::path::element;
@@ -13,25 +14,6 @@ use dch_bits::NoMemory;
 use dch_types::{AmRules, Bearer, Mode, Sequence};
 use std::alloc::Global;
 use toml::{Table, Value};
-
-/// The rules of a bearer whose keys say nothing of them.
-pub fn default_rules() -> AmRules
-    ensures { result ≡ default_rules }
-{
-    AmRules {
-        window: 128,
-        poll_timer: 30,
-        poll_pdus: 0,
-        poll_units: 0,
-        poll_window: 0,
-        status_period: 0,
-        status_prohibit: 0,
-        missing: true,
-        discard_age: 0,
-        discard_sent: 0,
-        discard_repeat: 30,
-    }
-}
 
 impl Faults {
     /// The members of the list of bearers, where the directions have so many channels.
@@ -80,7 +62,7 @@ impl Faults {
                     logical: 0,
                     priority: 1,
                     buffer: 1,
-                    rules: default_rules(),
+                    rules: AmRules::standard(),
                 })
             }
         }
@@ -206,7 +188,7 @@ impl Faults {
         ensures value { IfOk result (λ rules. rules ≡ rules_of mode (table_view table.now)) }
     {
         match mode {
-            Mode::Tm | Mode::Um => Ok(default_rules()),
+            Mode::Tm | Mode::Um => Ok(AmRules::standard()),
             Mode::Am => self.am_rules(path, table),
         }
     }

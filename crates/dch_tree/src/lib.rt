@@ -11,7 +11,6 @@ mod sharing;
 mod side;
 mod table;
 
-pub use bearer::default_rules;
 pub use document::{TreeError, configuration};
 pub use fault::Fault;
 pub use path::KeyPath;

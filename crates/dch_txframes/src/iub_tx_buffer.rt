@@ -10,13 +10,12 @@ ghost use Rattle.dch_txframes.specs.Octets.{AreOctets};
 ghost use Rattle.dch_txframes.specs.Opened.{IsTxBufferOf};
 ghost use Rattle.dch_txframes.specs.Sending.{AreCleared, AreNewTxBuffers, SendsFrame, qe_sent};
 
-use crate::sets::SETS;
 use crate::telling::tell_iub;
 use dch_accept::{Accepted, SetBlocks};
 use dch_bits::NoMemory;
 use dch_indication::Indications;
 use dch_iub::{frame_len, longest, write_dl, write_ul};
-use dch_types::Dir;
+use dch_types::{Dir, SETS};
 use std::alloc::Global;
 use std::marker::Model;
 

@@ -3,10 +3,8 @@
 
 mod iub_tx_buffer;
 mod radio_tx_buffer;
-mod sets;
 mod telling;
 
 pub use iub_tx_buffer::{IubTxBuffer, clear_sent, tx_buffers};
 pub use radio_tx_buffer::RadioTxBuffer;
-pub use sets::SETS;
 pub use telling::{tell_bad_tti, tell_iub, tell_no_radio, tell_radio, tell_refusal};

@@ -12,3 +12,6 @@ pub const MAX_TTI_CELLS: usize = 457_920;
 
 /// The most cells of an uplink radio frame: six codes of 9600 bits.
 pub const MAX_UPLINK_CELLS: usize = 57_600;
+
+/// How many sets of channels, each in Iub frames of its own, a direction may have.
+pub const SETS: u8 = 8;

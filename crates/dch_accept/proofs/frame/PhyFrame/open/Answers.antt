@@ -2,8 +2,6 @@ use Rattle.std.proofs.Common.{ap, ◌∙◌, take, replicate, ℕ, List}
 use Rattle.std.proofs.lemmas.List.{take-replicate}
 use Rattle.dch_bits.specs.declared.bit.Bit.{Bit}
 use Rattle.dch_bits.specs.declared.bit.Bit.TheVariants.{Zero}
-use Rattle.dch_types.specs.declared.config.Config.{Config}
-use Rattle.dch_accept.specs.Frames.{tfci_bits}
 use Rattle.dch_accept.proofs.frame.PhyFrame.open.Goals as goal
 
 pub returns-clause-tfci : goal.returns-clause-tfci
@@ -12,4 +10,3 @@ returns-clause-tfci c =
     ap (λ (items : List Bit). take bits.result items) (c.in_ok-vec.ensures.items_if_clones_equal (λ y same. same))
     ∙ take-replicate bits.result 120 Zero bits.ensures.small
     ∙ ap (λ (n : ℕ). replicate n Zero) bits.ensures.value
-    ∙ ap (λ (config : Config). replicate (tfci_bits config c.args.dir) Zero) c.config.ensures.value

@@ -1,2 +1,0 @@
-/// How many sets there may be in a direction.
-pub const SETS: u8 = 8;
