@@ -13,7 +13,7 @@ use Rattle.dch_indication.specs.Told.{Told}
 use Rattle.dch_script.specs.LineText.{text_of, words_of}
 use Rattle.dch_script.specs.Report.{bits_shown, cells_shown, dir_word, phy_text}
 use Rattle.dch_script.proofs.Adding.{text_of-cons}
-use Rattle.dch_steptext.specs.Reports.{TellsFew}
+use Rattle.dch_link.specs.SteptextReports.{TellsFew}
 use Rattle.dch_gen.specs.Counts.{cells_of, is_got, is_one, is_took, same_dir}
 use Rattle.dch_gen.specs.Counting.{AreCountsOf, CountsBoth, CountsLine, HasDirRoom, HasRoom, IsCountOf, ShowsCounts, one_if}
 use Rattle.dch_gen.specs.declared.counts.Counts.{Counts}

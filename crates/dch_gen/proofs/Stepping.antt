@@ -3,7 +3,7 @@ use Rattle.std.proofs.Common.{◌≡◌, ◌+◌, ◌*◌, ℕ, List, arith, sym
 use Rattle.dch_accept.specs.Plans.{Planned}
 use Rattle.dch_node.specs.Lines.{Line}
 use Rattle.dch_node.specs.Standing.{Tells}
-use Rattle.dch_steptext.specs.Reports.{TellsFew}
+use Rattle.dch_link.specs.SteptextReports.{TellsFew}
 use Rattle.dch_link.specs.Link.{LinkState}
 use Rattle.dch_link.specs.Standing.{IsLinkOf, LeadsTo, Represents}
 use Rattle.dch_gen.specs.Counting.{HasRoom, ShowsCounts}

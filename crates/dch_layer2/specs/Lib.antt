@@ -23,3 +23,8 @@ pub mod BearerStanding
 pub mod FormatBlocks
 pub mod BoundedBearers
 pub mod SameLayers
+pub use Rattle.dch_config.specs.Good as ConfigGood
+pub use Rattle.dch_rlcum.specs.Receiving
+pub use Rattle.dch_mac.specs.declared.answer
+pub use Rattle.dch_mac.specs.Receivers
+pub use Rattle.dch_accept.specs.Reports as AcceptReports

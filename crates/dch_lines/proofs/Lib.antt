@@ -8,3 +8,6 @@ pub mod Steps
 pub mod Texts
 pub mod Letters
 pub mod Units
+pub mod Closing
+pub mod Meanings
+pub mod OtherLines

@@ -4,3 +4,6 @@ pub mod Followed
 pub mod Pieces
 pub mod LineTexts
 pub mod Texts
+pub mod Coming
+pub mod Overlong
+pub mod Shown

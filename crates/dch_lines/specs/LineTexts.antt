@@ -73,3 +73,7 @@ reason When = codes "when"
 -- the line `refused` for a malformed line after so many others
 unfoldable pub refusal : ℕ → LineError → List ℕ
 refusal before why = codes "refused 50 line=" ++ decimal (before + 1) ++ codes " why=" ++ reason why ++ codes "\n"
+
+-- the last line of a run whose lines were all good, in which so many radio frames have passed
+unfoldable pub closing : ℕ → List ℕ
+closing count = codes "end frames=" ++ decimal count ++ codes "\n"

@@ -20,3 +20,4 @@ mod SoftNexts
 mod SoftOpened
 mod Timing
 pub use Rattle.dch_nodeb.proofs.Steady
+pub use Rattle.dch_steptext.proofs.Reporting as SteptextReporting

@@ -33,3 +33,5 @@ pub use Rattle.dch_ue.specs.State as UeState
 pub use Rattle.dch_ue.specs.Steps as UeSteps
 pub use Rattle.dch_nodeb.specs.State as NodebState
 pub use Rattle.dch_nodeb.specs.Steps as NodebSteps
+pub use Rattle.dch_steptext.specs.Reports as SteptextReports
+pub use Rattle.dch_layer2.specs.Bearings

@@ -10,7 +10,7 @@ use Rattle.dch_link.specs.declared.stage.Stage.{Stage}
 use Rattle.dch_linkcmd.specs.Rules.{Begins, MayChange}
 use Rattle.dch_linkcmd.specs.Run.{Run}
 use Rattle.dch_linkcmd.specs.Standing.{Handler, IsPrepared, IsReady, RepresentsRun}
-use Rattle.dch_nodecmd.specs.declared.later.Later.{Later}
+use Rattle.dch_lines.specs.declared.later.Later.{Later}
 
 some_later : (a b : Later) (r : Option Later) → r ≡ Some a → r ≡ Some b → b ≡ a
 some_later a b r one two = cc

@@ -8,8 +8,8 @@ use Rattle.dch_script.specs.Held.{Held}
 use Rattle.dch_script.specs.LineText.{text_of}
 use Rattle.dch_script.specs.Putting.{Puts}
 use Rattle.dch_script.proofs.Putting.{put_all, put_fits, put_short, puts_next}
-use Rattle.dch_steptext.specs.Reports.{TellsFew}
-use Rattle.dch_nodecmd.specs.Shown.{shown}
+use Rattle.dch_link.specs.SteptextReports.{TellsFew}
+use Rattle.dch_lines.specs.Shown.{shown}
 use Rattle.dch_linkcmd.specs.Filtering.{ShowsLed, ShowsSeen, is_frame, led_text, seen, without_frames}
 use Rattle.dch_linkcmd.specs.Led.{lead_of, led}
 use Rattle.dch_linkcmd.specs.declared.filter.Filter.{Filter}

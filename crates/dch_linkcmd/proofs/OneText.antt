@@ -12,8 +12,8 @@ use Rattle.dch_script.specs.declared.event.LineError.{LineError}
 use Rattle.dch_lines.specs.LineTexts.{HandlesLines, is_empty}
 use Rattle.dch_lines.specs.Semantics.{LineSteps, Resumes}
 use Rattle.dch_node.specs.Lines.{Line}
-use Rattle.dch_nodecmd.specs.Shown.{shown}
-use Rattle.dch_nodecmd.specs.declared.later.Later.{Later}
+use Rattle.dch_lines.specs.Shown.{shown}
+use Rattle.dch_lines.specs.declared.later.Later.{Later}
 use Rattle.dch_link.specs.Changing.{Changes}
 use Rattle.dch_link.specs.Events.{Event}
 use Rattle.dch_link.specs.Link.{LinkState}

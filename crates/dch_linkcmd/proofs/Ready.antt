@@ -8,7 +8,7 @@ use Rattle.dch_link.specs.Standing.{HasNext, IsLinkOf}
 use Rattle.dch_link.specs.Values.{Nodes}
 use Rattle.dch_link.specs.declared.stage.Stage.{Stage}
 use Rattle.dch_linkcmd.specs.Standing.{Handler, IsPrepared, IsReady, ticked}
-use Rattle.dch_nodecmd.specs.declared.later.Later.{Later}
+use Rattle.dch_lines.specs.declared.later.Later.{Later}
 
 -- the nodes stay prepared for the second configuration
 prepared_on : (later : Option Later) (accepted : Planned) (old new : Nodes) → ((second : Planned) → HasNext accepted second old → HasNext accepted second new) → IfSome later (IsPrepared accepted old) → IfSome later (IsPrepared accepted new)

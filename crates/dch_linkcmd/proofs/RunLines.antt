@@ -17,9 +17,9 @@ use Rattle.dch_linkcmd.specs.RunLines.{AreRunLines, SaysFirst, active_behind, co
 use Rattle.dch_linkcmd.proofs.Said.{one_said, some_frames}
 use Rattle.dch_linkcmd.proofs.Staying.{event_stays}
 use Rattle.dch_linkcmd.proofs.Walking.{IsActive, IsAmid, IsOver, StillWaits, amid_next, amid_over, begun}
-use Rattle.dch_nodecmd.proofs.Said.{ok_err}
-use Rattle.dch_nodecmd.specs.RunLines.{coming}
-use Rattle.dch_nodecmd.specs.declared.later.Later.{Later}
+use Rattle.dch_lines.proofs.Meanings.{ok_err}
+use Rattle.dch_lines.specs.Coming.{coming}
+use Rattle.dch_lines.specs.declared.later.Later.{Later}
 
 -- between two lines no radio frame is on, and that of a second configuration has not passed
 pub record IsBetween (run : Run) : Type 0 where

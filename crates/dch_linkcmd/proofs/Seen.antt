@@ -10,7 +10,7 @@ use Rattle.dch_script.specs.LineWords.{words_of as words_in, words_from}
 use Rattle.dch_script.specs.Report.{bits_shown, cells_shown, dir_word, iub_text, octets_shown, pair_text, phy_text, place_text, unit_text}
 use Rattle.dch_script.proofs.Adding.{text_of-cons}
 use Rattle.dch_node.specs.Lines.{Line, Took, Full, Wrong, Bad, Reserved, NoBearer, Nobody, PduBad, Outside, Overlong, Got, GotBits, Iub, IubBad, Phy, PhyNone, BadTti, Differs}
-use Rattle.dch_nodecmd.specs.Shown.{first_of, is_frame_line, is_frame_word, other_lines, shown}
+use Rattle.dch_lines.specs.Shown.{first_of, is_frame_line, is_frame_word, other_lines, shown}
 use Rattle.dch_linkcmd.specs.Filtering.{is_frame, led_text, seen, without_frames}
 use Rattle.dch_linkcmd.specs.Led.{lead, lead_of, led, led_lines}
 use Rattle.dch_linkcmd.specs.TextRows.{row_of, rows_of}

@@ -6,8 +6,8 @@ use Rattle.dch_accept.specs.Plans.{Planned}
 use Rattle.dch_node.specs.Lines.{Line}
 use Rattle.dch_node.specs.Standing.{Tells}
 use Rattle.dch_script.specs.Held.{Held}
-use Rattle.dch_steptext.specs.Reports.{TellsFew}
-use Rattle.dch_nodecmd.specs.Shown.{shown}
+use Rattle.dch_link.specs.SteptextReports.{TellsFew}
+use Rattle.dch_lines.specs.Shown.{shown}
 use Rattle.dch_link.specs.Rooms.{stage_bytes}
 use Rattle.dch_link.specs.Soft.{SoftState}
 use Rattle.dch_link.specs.SoftPassing.{leg_of}

@@ -8,10 +8,10 @@ use Rattle.dch_node.specs.Values.{Output}
 use Rattle.dch_accept.specs.Plans.{Planned}
 use Rattle.dch_types.specs.declared.channel.Dir.TheVariants.{Up, Down}
 use Rattle.dch_link.specs.Damage.{iub_after}
-use Rattle.dch_nodecmd.specs.UeState.{Event as UeEvent}
-use Rattle.dch_nodecmd.specs.NodebState.{Event as NodeBEvent}
-use Rattle.dch_nodecmd.specs.RncState.{BlockedCombination, Change, Event as RncEvent, IubFrame, OfferedUnit, State as RncState, Tick}
-use Rattle.dch_nodecmd.specs.RncSteps.{Steps}
+use Rattle.dch_link.specs.UeState.{Event as UeEvent}
+use Rattle.dch_link.specs.NodebState.{Event as NodeBEvent}
+use Rattle.dch_link.specs.RncState.{BlockedCombination, Change, Event as RncEvent, IubFrame, OfferedUnit, State as RncState, Tick}
+use Rattle.dch_link.specs.RncSteps.{Steps}
 use Rattle.dch_link.specs.Events.{BlockedCombination as Blocks, Damages, Event, Happens, OfferedUnit as Offers}
 use Rattle.dch_link.specs.Link.{LinkState, active}
 use Rattle.dch_link.specs.Stages.{AtStage, MayGoDown, MayGoUp, NodeBGoes, RncGoes, UeGoes}

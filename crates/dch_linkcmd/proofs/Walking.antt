@@ -4,7 +4,7 @@ use Rattle.std.specs.Prelude.{◌⊎◌}
 use Rattle.std.proofs.lemmas.Bool.Decides.{eqb_tells}
 use Rattle.dch_accept.specs.Plans.{Planned}
 use Rattle.dch_lines.specs.Semantics.{Resumes}
-use Rattle.dch_nodecmd.specs.RncState.{State as RncState}
+use Rattle.dch_link.specs.RncState.{State as RncState}
 use Rattle.dch_link.specs.Changing.{Changes}
 use Rattle.dch_link.specs.Link.{LinkState, active}
 use Rattle.dch_link.specs.Passing.{IsStage, next_stage, stages_left}
@@ -14,7 +14,7 @@ use Rattle.dch_linkcmd.specs.Rules.{Begins, MayChange, PassesNext, PassesStage, 
 use Rattle.dch_linkcmd.specs.Run.{Run, config_of, passed, passed_by, steps_left}
 use Rattle.dch_linkcmd.proofs.Stages.{some_same, steps_next}
 use Rattle.dch_linkcmd.proofs.Staying.{pass_second, pass_stays}
-use Rattle.dch_nodecmd.specs.declared.later.Later.{Later}
+use Rattle.dch_lines.specs.declared.later.Later.{Later}
 
 -- how many radio frames have begun before a stage
 abbrev pub begun : Stage → ℕ → ℕ

@@ -19,10 +19,6 @@ pub mod SoftRun
 pub mod SoftStanding
 pub mod SoftTaking
 pub mod TextRows
-pub use Rattle.dch_nodecmd.specs.Shown
-pub use Rattle.dch_nodecmd.specs.declared.later
-pub use Rattle.dch_nodecmd.specs.RunLines as NodecmdRunLines
-pub use Rattle.dch_nodecmd.specs.Standing as NodecmdStanding
 pub use Rattle.dch_link.specs.UeState
 pub use Rattle.dch_link.specs.UeSteps
 pub use Rattle.dch_link.specs.NodebState

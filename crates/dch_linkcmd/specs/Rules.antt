@@ -15,10 +15,10 @@ use Rattle.dch_linkcmd.specs.LineEvents.{Frames, OneEvent, Said, Says}
 use Rattle.dch_linkcmd.specs.Run.{Run, config_of, passed, steps_left}
 use Rattle.dch_link.specs.declared.stage.Stage.{Stage}
 use Rattle.dch_link.specs.declared.stage.Stage.TheVariants.{RncTick}
-use Rattle.dch_nodecmd.specs.Rules.{closing}
-use Rattle.dch_nodecmd.specs.Run.{IsDue}
-use Rattle.dch_nodecmd.specs.Shown.{shown}
-use Rattle.dch_nodecmd.specs.declared.later.Later.{Later}
+use Rattle.dch_lines.specs.LineTexts.{closing}
+use Rattle.dch_lines.specs.Coming.{IsDue}
+use Rattle.dch_lines.specs.Shown.{shown}
+use Rattle.dch_lines.specs.declared.later.Later.{Later}
 
 -- something happens between two radio frames, and what is shown of its lines
 pub record TakesEvent (old : Run) (event : Event) (new : Run) (text : List ℕ) : Type 0 where

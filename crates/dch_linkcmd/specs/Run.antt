@@ -6,7 +6,7 @@ use Rattle.dch_link.specs.Link.{LinkState, active, opened_link}
 use Rattle.dch_link.specs.Passing.{next_stage, stages_left}
 use Rattle.dch_link.specs.declared.stage.Stage.{Stage}
 use Rattle.dch_link.specs.declared.stage.Stage.TheVariants.{RncTick}
-use Rattle.dch_nodecmd.specs.declared.later.Later.{Later}
+use Rattle.dch_lines.specs.declared.later.Later.{Later}
 
 -- the nodes and the damage, the configuration of their opening and the CFN of the first radio frame, the second
 -- configuration where one is still to come, and whether the lines of frames are left out; the next stage of a radio

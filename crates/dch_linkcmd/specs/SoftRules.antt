@@ -10,8 +10,8 @@ use Rattle.dch_link.specs.SoftEvents.{Event, Happens}
 use Rattle.dch_link.specs.SoftPassing.{leg_of}
 use Rattle.dch_link.specs.Soft.{SoftState}
 use Rattle.dch_link.specs.SoftStages.{AtStage}
-use Rattle.dch_nodecmd.specs.Rules.{closing}
-use Rattle.dch_nodecmd.specs.Shown.{shown}
+use Rattle.dch_lines.specs.LineTexts.{closing}
+use Rattle.dch_lines.specs.Shown.{shown}
 use Rattle.dch_linkcmd.specs.Led.{led}
 use Rattle.dch_linkcmd.specs.SoftLineEvents.{Frames, OneEvent, Said, Says}
 use Rattle.dch_linkcmd.specs.SoftRun.{Run, config_of, passed, steps_left}

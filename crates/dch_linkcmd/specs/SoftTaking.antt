@@ -6,7 +6,7 @@ use Rattle.dch_link.specs.SoftEvents.{Event, Happens}
 use Rattle.dch_link.specs.Soft.{SoftState}
 use Rattle.dch_link.specs.SoftStanding.{Represents}
 use Rattle.dch_link.specs.SoftValues.{Parts}
-use Rattle.dch_nodecmd.specs.Shown.{shown}
+use Rattle.dch_lines.specs.Shown.{shown}
 use Rattle.dch_linkcmd.specs.SoftLineEvents.{Frames, OneEvent, Says}
 use Rattle.dch_linkcmd.specs.SoftStanding.{Shows}
 

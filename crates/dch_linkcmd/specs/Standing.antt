@@ -14,8 +14,8 @@ use Rattle.dch_link.specs.Values.{Nodes}
 use Rattle.dch_link.specs.declared.stage.Stage.{Stage}
 use Rattle.dch_link.specs.declared.stage.Stage.TheVariants.{RncTick, IubDown, RadioDown, UeTick, RadioUp, IubUp}
 use Rattle.dch_linkcmd.specs.Run.{Run}
-use Rattle.dch_nodecmd.specs.Shown.{shown}
-use Rattle.dch_nodecmd.specs.declared.later.Later.{Later}
+use Rattle.dch_lines.specs.Shown.{shown}
+use Rattle.dch_lines.specs.declared.later.Later.{Later}
 
 -- the configuration that is active, the second one where it is still to come, the nodes, whether the lines of frames
 -- are left out, the next stage, how many radio frames are left of a line and how many have passed, how many lines asked

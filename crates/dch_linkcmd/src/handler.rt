@@ -5,8 +5,8 @@ ghost use Rattle.dch_script.specs.declared.event.Command.TheVariants.{Link as Li
 ghost use Rattle.dch_lines.specs.Semantics.{Adds, Leads};
 ghost use Rattle.dch_link.specs.Link.{opened_link};
 ghost use Rattle.dch_link.specs.Standing.{HasNext, HaveHistories, IsLinkOf, Represents};
-ghost use Rattle.dch_nodecmd.specs.Standing.{CanFollow};
-ghost use Rattle.dch_nodecmd.specs.declared.later.Later.{Later as Coming};
+ghost use Rattle.dch_lines.specs.Coming.{CanFollow};
+ghost use Rattle.dch_lines.specs.declared.later.Later.{Later as Coming};
 ghost use Rattle.dch_lines.specs.declared.line_texts.TheConstants.{OCTETS};
 ghost use Rattle.dch_linkcmd.specs.Counting.{counts_of};
 ghost use Rattle.dch_linkcmd.specs.Overlong.{link_refuses_long};
@@ -19,11 +19,8 @@ use crate::filter::Filter;
 use crate::reading::{LinkLine, read_line};
 use dch_accept::Accepted;
 use dch_bits::{Bit, NoMemory};
-use dch_lines::{LineFault, LineHandler, OCTETS, UNIT_BITS};
-use dch_link::{CHECKS, Link, STAGES, Stage};
-use dch_nodecmd::dch_rnc::Rnc;
-use dch_nodecmd::dch_ue::Ue;
-use dch_nodecmd::{Later, NodeB};
+use dch_lines::{Later, LineFault, LineHandler, OCTETS, UNIT_BITS};
+use dch_link::{CHECKS, Link, NodeB, Rnc, STAGES, Stage, Ue};
 use dch_script::{Line, LineError, Report};
 use std::alloc::Global;
 use std::marker::Model;
@@ -346,7 +343,7 @@ impl LineHandler for LinkHandler {
         }
     }
 
-    #[tactic(auto, unfolding(dch_nodecmd::specs::Rules::closing))]
+    #[tactic(auto, unfolding(dch_lines::specs::LineTexts::closing))]
     fn close(&self, _nonempty_lines: u64, report: &mut Report) {
         report.put(&Line::EndFrames(self.frames));
     }

@@ -4,7 +4,7 @@ ghost use Rattle.dch_lines.specs.LineTexts.{HandlesLines};
 ghost use Rattle.dch_linkcmd.specs.Rules.{link_lines};
 ghost use Rattle.dch_linkcmd.specs.Run.{Run, opened_run};
 ghost use Rattle.dch_linkcmd.specs.Same.{IsPlannedRun, IsSameRun};
-ghost use Rattle.dch_nodecmd.specs.declared.later.Later.{Later};
+ghost use Rattle.dch_lines.specs.declared.later.Later.{Later};
 
 /// A law: a script of `link` has one text. From runs that say the same, lines that are handled lead to such runs and
 /// add the same text, that of each radio frame and of the comparisons in it; and so a script that is run twice, for

@@ -1,5 +1,5 @@
 ghost use Rattle.std.specs.Prelude.{◌≡◌, ◌<◌, ◌≤◌, ◌+◌, ℕ, [], length, IfSome};
-ghost use Rattle.dch_nodecmd.specs.Shown.{shown};
+ghost use Rattle.dch_lines.specs.Shown.{shown};
 ghost use Rattle.dch_link.specs.SoftEvents.{Happens};
 ghost use Rattle.dch_link.specs.SoftPassing.{IsStage, leg_of};
 ghost use Rattle.dch_link.specs.Soft.{SoftState};

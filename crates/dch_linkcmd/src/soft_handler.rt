@@ -17,9 +17,7 @@ use dch_accept::Accepted;
 use dch_bits::{Bit, NoMemory};
 use dch_lines::{LineFault, LineHandler, OCTETS, UNIT_BITS};
 use dch_link::soft_stage::Stage;
-use dch_link::{Leg, Soft};
-use dch_nodecmd::dch_rnc::Rnc;
-use dch_nodecmd::dch_ue::Ue;
+use dch_link::{Leg, NodeB, Rnc, Soft, Ue};
 use dch_script::{Line, LineError, Report};
 use std::alloc::Global;
 use std::marker::Model;
@@ -248,7 +246,7 @@ impl LineHandler for SoftHandler {
         }
     }
 
-    #[tactic(auto, unfolding(dch_nodecmd::specs::Rules::closing))]
+    #[tactic(auto, unfolding(dch_lines::specs::LineTexts::closing))]
     fn close(&self, _nonempty_lines: u64, report: &mut Report) {
         report.put(&Line::EndFrames(self.frames));
     }

@@ -12,9 +12,10 @@ use Rattle.dch_node.specs.Values.{Output, no_output}
 use Rattle.dch_script.specs.Held.{Held}
 use Rattle.dch_nodecmd.specs.NodeRules.{AreLasting, AsksChange, NodeRules}
 use Rattle.dch_nodecmd.specs.Rules.{MakesChange, TakesLine}
-use Rattle.dch_nodecmd.specs.Run.{IsDue, Run, frames_in, opened_run}
-use Rattle.dch_nodecmd.specs.Standing.{CanChange, CanFollow, Changes, Handler, HasRun, HasStepRoom, IsEnough, IsPrepared, IsReady, RepresentsHistory, RepresentsRun}
-use Rattle.dch_nodecmd.specs.declared.later.Later.{Later}
+use Rattle.dch_nodecmd.specs.Run.{Run, frames_in, opened_run}
+use Rattle.dch_lines.specs.Coming.{IsDue, CanFollow}
+use Rattle.dch_nodecmd.specs.Standing.{CanChange, Changes, Handler, HasRun, HasStepRoom, IsEnough, IsPrepared, IsReady, RepresentsHistory, RepresentsRun}
+use Rattle.dch_lines.specs.declared.later.Later.{Later}
 use Rattle.dch_nodecmd.proofs.Running.{IsActive, changed_on}
 
 -- the CFN goes on by the radio frames of all events

@@ -10,7 +10,7 @@ use Rattle.dch_nodecmd.specs.NoTrace.{ChangesNothing, ChangesNothingAfter, IsSam
 use Rattle.dch_nodecmd.specs.NodeRules.{AreLasting, AsksChange, NodeRules, SaysEvent}
 use Rattle.dch_nodecmd.specs.Rules.{MakesChange, TakesEvent, TakesLine, TakesSaid, node_lines}
 use Rattle.dch_nodecmd.specs.Run.{Run, frames_in}
-use Rattle.dch_nodecmd.specs.Shown.{shown}
+use Rattle.dch_lines.specs.Shown.{shown}
 use Rattle.dch_nodecmd.proofs.Running.{frames_next}
 use Rattle.dch_nodecmd.proofs.Said.{one_event, one_taken, says_or_asks, taken_one}
 

@@ -8,11 +8,13 @@ use Rattle.dch_lines.specs.LineTexts.{HandlesLine, HandlesLines, is_empty}
 use Rattle.dch_lines.specs.Semantics.{LineSteps}
 use Rattle.dch_nodecmd.specs.NodeRules.{AreLasting, NodeRules}
 use Rattle.dch_nodecmd.specs.Rules.{RefusesLine, TakesLine, config_of, node_lines}
-use Rattle.dch_nodecmd.specs.Run.{IsDue, Run, frames_in}
-use Rattle.dch_nodecmd.specs.RunLines.{AreRunLines, AsksFirst, SaysFirst, coming}
-use Rattle.dch_nodecmd.specs.declared.later.Later.{Later}
+use Rattle.dch_nodecmd.specs.Run.{Run, frames_in}
+use Rattle.dch_lines.specs.Coming.{IsDue, coming}
+use Rattle.dch_nodecmd.specs.RunLines.{AreRunLines, AsksFirst, SaysFirst}
+use Rattle.dch_lines.specs.declared.later.Later.{Later}
 use Rattle.dch_nodecmd.proofs.Running.{frames_next}
-use Rattle.dch_nodecmd.proofs.Said.{ok_err, one_event, one_taken, says_or_asks}
+use Rattle.dch_nodecmd.proofs.Said.{one_event, one_taken, says_or_asks}
+use Rattle.dch_lines.proofs.Meanings.{ok_err}
 
 one_pair : (a b : ℕ × Config) → Some a ≡ Some b → a ≡ b
 one_pair a b same = cc

@@ -11,10 +11,11 @@ use Rattle.dch_node.specs.Values.{Output, no_output}
 use Rattle.dch_node.proofs.Traces.{trace_next}
 use Rattle.dch_nodecmd.specs.NodeRules.{AreLasting, NodeRules, SaysEvent}
 use Rattle.dch_nodecmd.specs.Rules.{MakesChange, TakesLine}
-use Rattle.dch_nodecmd.specs.Run.{IsDue, Run, frames_in}
-use Rattle.dch_nodecmd.specs.Shown.{shown}
+use Rattle.dch_nodecmd.specs.Run.{Run, frames_in}
+use Rattle.dch_lines.specs.Coming.{IsDue}
+use Rattle.dch_lines.specs.Shown.{shown}
 use Rattle.dch_nodecmd.specs.Standing.{Changes, Handler, RepresentsRun, ShowsBy}
-use Rattle.dch_nodecmd.specs.declared.later.Later.{Later}
+use Rattle.dch_lines.specs.declared.later.Later.{Later}
 
 -- one more event
 pub frames_next : {S E : Type 0} (rules : NodeRules S E) (events : List E) (event : E) → frames_in rules (events ++ event ∷ []) ≡ frames_in rules events + rules.frames event

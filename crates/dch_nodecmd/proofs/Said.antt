@@ -13,9 +13,6 @@ use Rattle.dch_nodecmd.specs.Run.{Run}
 one_meaning : {A : Type 0} (a b : A) (r : Result A LineError) → r ≡ Ok a → r ≡ Ok b → b ≡ a
 one_meaning a b r one two = cc
 
-pub ok_err : {A : Type 0} (a : A) (r : Result A LineError) (why : LineError) → r ≡ Ok a → r ≡ Err why → ⊥
-ok_err a r why ok err = cc
-
 one_of : {E : Type 0} (event other : E) (r : Option E) → r ≡ Some event → r ≡ Some other → other ≡ event
 one_of event other r one two = cc
 

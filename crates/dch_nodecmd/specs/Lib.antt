@@ -4,7 +4,6 @@ pub mod Overlong
 pub mod Rules
 pub mod Run
 pub mod RunLines
-pub mod Shown
 pub mod Standing
 pub mod NodeBLasting
 pub mod NodeBLineEvents

@@ -8,7 +8,7 @@ use Rattle.dch_node.specs.Values.{Output}
 use Rattle.dch_nodecmd.specs.NodeRules.{NodeRules, SaysEvent}
 use Rattle.dch_nodecmd.specs.Rules.{node_lines}
 use Rattle.dch_nodecmd.specs.Run.{Run, frames_in}
-use Rattle.dch_nodecmd.specs.Shown.{shown}
+use Rattle.dch_lines.specs.Shown.{shown}
 
 -- two runs whose later steps go on from the same, in which as many radio frames have passed
 pub record IsSameRun {S E : Type 0} (rules : NodeRules S E) (run other : Run S E) : Type 0 where

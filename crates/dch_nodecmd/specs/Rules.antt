@@ -1,5 +1,5 @@
 -- The rules of a command with one node: each line is one event of the node.
-use Rattle.std.specs.Prelude.{◌≡◌, ◌⊎◌, ◌++◌, ℕ, List, [], ◌∷◌, None, codes, decimal}
+use Rattle.std.specs.Prelude.{◌≡◌, ◌⊎◌, ◌++◌, ℕ, List, [], ◌∷◌, None}
 use Rattle.dch_types.specs.declared.config.Config.{Config}
 use Rattle.dch_script.specs.declared.event.LineError.{LineError}
 use Rattle.dch_script.specs.declared.event.LineError.TheVariants.{When}
@@ -7,9 +7,11 @@ use Rattle.dch_lines.specs.Semantics.{Semantics, one_step}
 use Rattle.dch_script.specs.LineText.{text_of}
 use Rattle.dch_node.specs.Values.{Output}
 use Rattle.dch_nodecmd.specs.NodeRules.{AsksChange, IsMalformed, NodeRules, SaysEvent}
-use Rattle.dch_nodecmd.specs.Run.{IsDue, Run, frames_in}
-use Rattle.dch_nodecmd.specs.Shown.{shown}
-use Rattle.dch_nodecmd.specs.declared.later.Later.{Later}
+use Rattle.dch_nodecmd.specs.Run.{Run, frames_in}
+use Rattle.dch_lines.specs.Coming.{IsDue}
+use Rattle.dch_lines.specs.Shown.{shown}
+use Rattle.dch_lines.specs.declared.later.Later.{Later}
+use Rattle.dch_lines.specs.LineTexts.{closing}
 
 -- the configuration that is active
 abbrev pub config_of : {S E : Type 0} → NodeRules S E → Run S E → Config
@@ -55,10 +57,6 @@ pub record IsUntimely {S E : Type 0} (rules : NodeRules S E) (run : Run S E) (li
 -- another line is malformed, or untimely
 abbrev pub RefusesLine : {S E : Type 0} → NodeRules S E → Run S E → List ℕ → LineError → Type 0
 RefusesLine rules run line why = IsMalformed rules (config_of rules run) line why ⊎ IsUntimely rules run line why
-
--- the last line of a run whose lines were all good, in which so many radio frames have passed
-unfoldable pub closing : ℕ → List ℕ
-closing count = codes "end frames=" ++ decimal count ++ codes "\n"
 
 abbrev pub node_lines : {S E : Type 0} → NodeRules S E → Semantics (Run S E)
 node_lines rules = one_step (TakesLine rules) (RefusesLine rules) (λ run count. closing (frames_in rules run.events))

@@ -1,10 +1,10 @@
 -- A run of a command with one node: what is known between two lines.
-use Rattle.std.specs.Prelude.{◌≡◌, ℕ, List, [], Bool, Option, Some, sum_by}
+use Rattle.std.specs.Prelude.{ℕ, List, [], Bool, Option, sum_by}
 use Rattle.dch_accept.specs.Plans.{Planned}
 use Rattle.dch_node.specs.Lines.{Line}
 use Rattle.dch_node.specs.Values.{Output, no_output}
 use Rattle.dch_nodecmd.specs.NodeRules.{NodeRules}
-use Rattle.dch_nodecmd.specs.declared.later.Later.{Later}
+use Rattle.dch_lines.specs.declared.later.Later.{Later}
 
 -- the state of the node, the configuration of its opening, the CFN of its first radio frame, the second configuration
 -- where one is still to come, and whether the lines of frames are left out; what happened so far, all lines that it
@@ -36,8 +36,3 @@ opened_run rules began second first quiet =
 -- how many radio frames of 10 ms have passed
 abbrev pub frames_in : {S E : Type 0} → NodeRules S E → List E → ℕ
 frames_in rules events = sum_by rules.frames events
-
--- a second configuration is still to come, and is active from the radio frame of this count on
-pub record IsDue (second : Option Later) (frames : ℕ) (later : Later) : Type 0 where
-  pub waits : second ≡ Some later
-  pub now : frames ≡ later.frame

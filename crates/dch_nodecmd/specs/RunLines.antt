@@ -1,13 +1,8 @@
 -- Lines of a command with one node of which none is refused.
-use Rattle.std.specs.Prelude.{◌≡◌, ◌⊎◌, ◌+◌, ℕ, List, [], ◌∷◌, MatchBool, Option, None, Some, option_map}
+use Rattle.std.specs.Prelude.{◌≡◌, ◌⊎◌, ◌+◌, ℕ, List, [], ◌∷◌, MatchBool, Option, None, Some}
 use Rattle.dch_types.specs.declared.config.Config.{Config}
 use Rattle.dch_lines.specs.LineTexts.{is_empty}
 use Rattle.dch_nodecmd.specs.NodeRules.{AsksChange, NodeRules, SaysEvent}
-use Rattle.dch_nodecmd.specs.declared.later.Later.{Later}
-
--- the radio frame from which a second configuration is active, and this configuration, where one is still to come
-abbrev pub coming : Option Later → Option (ℕ × Config)
-coming second = option_map (λ (later : Later). (later.frame, later.accepted.config)) second
 
 -- a line says an event, and this holds of the lines after it, by the radio frames that have passed then
 pub record SaysFirst {S E : Type 0} (rules : NodeRules S E) (config : Config) (frames : ℕ) (line : List ℕ) (Rest : ℕ → Type 0) : Type 0 where

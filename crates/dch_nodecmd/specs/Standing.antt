@@ -1,6 +1,5 @@
 -- What the handler of a command with one node has, and the runs that it stands for. The values of the node are V.
 use Rattle.std.specs.Prelude.{◌≡◌, ◌≤◌, ◌%◌, ◌++◌, ℕ, List, [], Bool, true, Option, Some, None, IfSome, max}
-use Rattle.dch_config.specs.Changes.{KeepsBearer}
 use Rattle.dch_accept.specs.Plans.{Planned}
 use Rattle.dch_accept.specs.Reports.{step_bytes}
 use Rattle.dch_io.specs.Pieces.{LIMIT}
@@ -13,8 +12,8 @@ use Rattle.dch_node.specs.Traces.{Reaches}
 use Rattle.dch_node.specs.Values.{Output}
 use Rattle.dch_nodecmd.specs.NodeRules.{AsksChange, NodeRules, SaysEvent}
 use Rattle.dch_nodecmd.specs.Run.{Run, frames_in}
-use Rattle.dch_nodecmd.specs.Shown.{shown}
-use Rattle.dch_nodecmd.specs.declared.later.Later.{Later}
+use Rattle.dch_lines.specs.Shown.{shown}
+use Rattle.dch_lines.specs.declared.later.Later.{Later}
 use Rattle.dch_nodecmd.specs.declared.taken.Taken.{Taken}
 use Rattle.dch_nodecmd.specs.declared.taken.Taken.TheVariants as taken
 
@@ -29,11 +28,6 @@ pub record Handler (V : Type 0) : Type 0 where
   pub frames : ℕ
   pub most : ℕ
   pub step : Held
-
--- every bearer goes on in a second configuration, which is active from a radio frame on in which all TTIs start
-pub record CanFollow (first : Planned) (later : Later) : Type 0 where
-  pub kept : (b : ℕ) → KeepsBearer first.config later.accepted.config b
-  pub whole : later.frame % 8 ≡ 0
 
 -- the most bytes of the text of a step, under each of the configurations
 abbrev pub most_bytes : Planned → Option Later → ℕ

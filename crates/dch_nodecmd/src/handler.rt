@@ -6,19 +6,19 @@ ghost use Rattle.dch_lines.specs.declared.stop.LineFault.TheVariants.{Malformed}
 ghost use Rattle.dch_script.specs.declared.event.LineError.TheVariants.{When};
 ghost use Rattle.dch_nodecmd.specs.NodeRules.{IsMalformed};
 ghost use Rattle.dch_nodecmd.specs.Overlong.{refuses_long};
-ghost use Rattle.dch_nodecmd.specs.Rules.{MakesChange, closing, node_lines};
-ghost use Rattle.dch_nodecmd.specs.Run.{IsDue, Run, opened_run};
-ghost use Rattle.dch_nodecmd.specs.Standing.{CanFollow, HasStepRoom, IsEnough, IsReady, RepresentsHistory, RepresentsRun, ShowsAs, frames_of, most_bytes};
+ghost use Rattle.dch_nodecmd.specs.Rules.{MakesChange, node_lines};
+ghost use Rattle.dch_lines.specs.LineTexts.{closing};
+ghost use Rattle.dch_nodecmd.specs.Run.{Run, opened_run};
+ghost use Rattle.dch_lines.specs.Coming.{IsDue, CanFollow};
+ghost use Rattle.dch_nodecmd.specs.Standing.{HasStepRoom, IsEnough, IsReady, RepresentsHistory, RepresentsRun, ShowsAs, frames_of, most_bytes};
 ghost use Rattle.dch_nodecmd.specs.declared.handler.TheConstants.{MOST_TEXT};
-ghost use Rattle.dch_nodecmd.specs.declared.later.Later.{Later as Coming};
+ghost use Rattle.dch_lines.specs.declared.later.Later.{Later as Coming};
 
-use crate::later::Later;
 use crate::node::CommandNode;
-use crate::shown::put_other_lines;
 use crate::taken::Taken;
 use dch_accept::Accepted;
 use dch_bits::NoMemory;
-use dch_lines::{LineFault, LineHandler};
+use dch_lines::{Later, LineFault, LineHandler, put_other_lines};
 use dch_script::{Line, LineError, Report};
 use std::alloc::Global;
 use std::marker::Model;
@@ -223,7 +223,7 @@ impl<N: CommandNode> LineHandler for NodeHandler<N> {
 
     fn resume(&mut self, _report: &mut Report) {}
 
-    #[tactic(auto, unfolding(crate::specs::Rules::closing))]
+    #[tactic(auto, unfolding(dch_lines::specs::LineTexts::closing))]
     fn close(&self, _nonempty_lines: u64, report: &mut Report) {
         report.put(&Line::EndFrames(self.frames));
     }

@@ -3,7 +3,6 @@
 #![tactic(auto)]
 
 mod handler;
-mod later;
 mod laws;
 mod node;
 mod node_b;
@@ -12,7 +11,6 @@ mod node_b_reading;
 mod rnc;
 pub mod rnc_laws;
 mod rnc_reading;
-mod shown;
 mod taken;
 mod ue;
 mod ue_reading;
@@ -21,11 +19,9 @@ pub use dch_nodeb::NodeB;
 pub use dch_rnc;
 pub use dch_ue;
 pub use handler::NodeHandler;
-pub use later::Later;
 pub use laws::no_trace_law;
 pub use node::CommandNode;
 pub use node_b::NodeBLines;
 pub use rnc::RncLines;
-pub use shown::put_other_lines;
 pub use taken::Taken;
 pub use ue::UeLines;

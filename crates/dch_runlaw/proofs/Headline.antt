@@ -7,8 +7,8 @@ use Rattle.dch_accept.specs.Plans.{IsPlanned, Planned}
 use Rattle.dch_lines.specs.LineTexts.{HandlesLines}
 use Rattle.dch_node.specs.Lines.{Differs, Line}
 use Rattle.dch_script.specs.LineText.{text_of}
-use Rattle.dch_linkcmd.specs.Shown.{shown}
-use Rattle.dch_linkcmd.specs.later.Later.{Later}
+use Rattle.dch_lines.specs.Shown.{shown}
+use Rattle.dch_lines.specs.declared.later.Later.{Later}
 use Rattle.dch_linkcmd.specs.RncState.{State as RncState}
 use Rattle.dch_linkcmd.specs.LinkChanging.{Changes}
 use Rattle.dch_linkcmd.specs.LinkLink.{LinkState, opened_link}

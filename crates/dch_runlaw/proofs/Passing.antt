@@ -5,7 +5,7 @@ use Rattle.std.proofs.lemmas.Bool.Decides.{eqb_tells, leb_tells}
 use Rattle.dch_lines.specs.Semantics.{Resumes}
 use Rattle.dch_node.specs.Lines.{Line, joined}
 use Rattle.dch_script.specs.LineText.{text_of}
-use Rattle.dch_linkcmd.specs.Shown.{shown}
+use Rattle.dch_lines.specs.Shown.{shown}
 use Rattle.dch_linkcmd.specs.LinkLink.{LinkState}
 use Rattle.dch_linkcmd.specs.Passing.{is_first, next_stage}
 use Rattle.dch_linkcmd.specs.LinkStages.{AtStage}

@@ -4,8 +4,8 @@ use Rattle.std.proofs.lemmas.Bool.Decides.{leb_tells}
 use Rattle.dch_types.specs.declared.config.Config.{Config}
 use Rattle.dch_accept.specs.Plans.{Planned}
 use Rattle.dch_node.specs.Lines.{Line}
-use Rattle.dch_linkcmd.specs.NodecmdRunLines.{coming}
-use Rattle.dch_linkcmd.specs.later.Later.{Later}
+use Rattle.dch_lines.specs.Coming.{coming}
+use Rattle.dch_lines.specs.declared.later.Later.{Later}
 use Rattle.dch_linkcmd.specs.LinkLink.{LinkState, active}
 use Rattle.dch_linkcmd.specs.RncState.{State as RncState}
 use Rattle.dch_linkcmd.specs.RunLines.{active_behind}

@@ -13,7 +13,7 @@ use Rattle.dch_lines.specs.LineTexts.{HandlesLine, HandlesLines, is_empty}
 use Rattle.dch_lines.specs.Semantics.{LineSteps, Resumes}
 use Rattle.dch_node.specs.Lines.{Line}
 use Rattle.dch_script.specs.LineText.{text_of}
-use Rattle.dch_linkcmd.specs.Shown.{shown}
+use Rattle.dch_lines.specs.Shown.{shown}
 use Rattle.dch_linkcmd.specs.SoftPassing.{IsStage, leg_of, next_stage}
 use Rattle.dch_linkcmd.specs.LinkSoft.{SoftState, active, over}
 use Rattle.dch_linkcmd.specs.soft_stage.Stage.{Stage}

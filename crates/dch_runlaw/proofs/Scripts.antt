@@ -6,9 +6,9 @@ use Rattle.dch_lines.specs.LineTexts.{HandlesLine, HandlesLines, is_empty}
 use Rattle.dch_lines.specs.Semantics.{LineSteps, Resumes}
 use Rattle.dch_node.specs.Lines.{Line, joined}
 use Rattle.dch_script.specs.LineText.{text_of}
-use Rattle.dch_linkcmd.specs.NodecmdRunLines.{coming}
-use Rattle.dch_linkcmd.specs.Shown.{shown}
-use Rattle.dch_linkcmd.specs.later.Later.{Later}
+use Rattle.dch_lines.specs.Coming.{coming}
+use Rattle.dch_lines.specs.Shown.{shown}
+use Rattle.dch_lines.specs.declared.later.Later.{Later}
 use Rattle.dch_linkcmd.specs.Events.{Event as LinkEvent, Happens}
 use Rattle.dch_linkcmd.specs.LinkLink.{LinkState}
 use Rattle.dch_linkcmd.specs.Passing.{next_stage}

@@ -6,7 +6,7 @@ use Rattle.dch_script.proofs.Lines.{lines_after-append, rest_after-append}
 use Rattle.dch_node.specs.Lines.{Line}
 use Rattle.dch_script.specs.LineText.{text_of, words_of}
 use Rattle.dch_script.proofs.Adding.{text_of-append}
-use Rattle.dch_linkcmd.specs.Shown.{is_frame_line, other_lines, shown}
+use Rattle.dch_lines.specs.Shown.{is_frame_line, other_lines, shown}
 
 -- the text of lines ends with a line feed
 pub whole_text : (lines : List Line) → rest_of (text_of lines) ≡ []

@@ -3,7 +3,7 @@ use Rattle.std.proofs.Common.{◌≡◌, ◌%◌, ◌∙◌, ◌++◌, ℕ, List
 use Rattle.dch_accept.specs.Plans.{IsPlanned, Planned}
 use Rattle.dch_node.specs.Lines.{Line}
 use Rattle.dch_script.specs.LineText.{text_of}
-use Rattle.dch_linkcmd.specs.Shown.{shown}
+use Rattle.dch_lines.specs.Shown.{shown}
 use Rattle.dch_linkcmd.specs.LinkLink.{LinkState, opened_link}
 use Rattle.dch_runlaw.specs.Runs.{Event, Runs}
 use Rattle.dch_runlaw.specs.Parts.{Begins, GoesOver, KeepsAll}

@@ -6,10 +6,10 @@ use Rattle.dch_accept.specs.Plans.{IsPlanned, Planned}
 use Rattle.dch_script.specs.Lines.{lines_of as rows}
 use Rattle.dch_node.specs.Lines.{Line}
 use Rattle.dch_script.specs.LineText.{text_of}
-use Rattle.dch_linkcmd.specs.NodecmdRunLines.{coming}
-use Rattle.dch_linkcmd.specs.Shown.{shown}
-use Rattle.dch_linkcmd.specs.NodecmdStanding.{CanFollow}
-use Rattle.dch_linkcmd.specs.later.Later.{Later}
+use Rattle.dch_lines.specs.Coming.{coming}
+use Rattle.dch_lines.specs.Shown.{shown}
+use Rattle.dch_lines.specs.Coming.{CanFollow}
+use Rattle.dch_lines.specs.declared.later.Later.{Later}
 use Rattle.dch_linkcmd.specs.LinkLink.{LinkState, opened_link}
 use Rattle.dch_linkcmd.specs.RunLines.{active_behind}
 use Rattle.dch_runlaw.specs.Clear.{IsClear}

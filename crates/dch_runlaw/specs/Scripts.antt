@@ -4,9 +4,9 @@ use Rattle.dch_types.specs.declared.config.Config.{Config}
 use Rattle.dch_lines.specs.LineTexts.{is_empty}
 use Rattle.dch_node.specs.Lines.{Line}
 use Rattle.dch_script.specs.LineText.{text_of}
-use Rattle.dch_linkcmd.specs.Shown.{shown}
-use Rattle.dch_linkcmd.specs.NodecmdRunLines.{coming}
-use Rattle.dch_linkcmd.specs.later.Later.{Later}
+use Rattle.dch_lines.specs.Shown.{shown}
+use Rattle.dch_lines.specs.Coming.{coming}
+use Rattle.dch_lines.specs.declared.later.Later.{Later}
 use Rattle.dch_linkcmd.specs.LinkChanging.{Changes}
 use Rattle.dch_linkcmd.specs.LinkLink.{LinkState}
 use Rattle.dch_linkcmd.specs.stage.Stage.TheVariants.{RncTick}

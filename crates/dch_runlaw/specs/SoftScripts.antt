@@ -4,7 +4,7 @@ use Rattle.dch_types.specs.declared.config.Config.{Config}
 use Rattle.dch_lines.specs.LineTexts.{is_empty}
 use Rattle.dch_node.specs.Lines.{Line}
 use Rattle.dch_script.specs.LineText.{text_of}
-use Rattle.dch_linkcmd.specs.Shown.{shown}
+use Rattle.dch_lines.specs.Shown.{shown}
 use Rattle.dch_linkcmd.specs.SoftPassing.{leg_of}
 use Rattle.dch_linkcmd.specs.soft_stage.Stage.TheVariants.{RncTick}
 use Rattle.dch_linkcmd.specs.Led.{led}

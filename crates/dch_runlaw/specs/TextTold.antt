@@ -5,7 +5,7 @@ use Rattle.dch_types.specs.declared.channel.Dir.TheVariants.{Up, Down}
 use Rattle.dch_script.specs.Lines.{lines_of as rows, rest_of}
 use Rattle.dch_node.specs.Lines.{Differs, Line}
 use Rattle.dch_script.specs.LineText.{text_of}
-use Rattle.dch_linkcmd.specs.Shown.{shown}
+use Rattle.dch_lines.specs.Shown.{shown}
 use Rattle.dch_linkcmd.specs.LinkLink.{LinkState}
 use Rattle.dch_runlaw.specs.TextDiffering.{AreLow, false_rows, false_words, falses}
 use Rattle.dch_runlaw.specs.Directions.{lines_on}

@@ -3,7 +3,7 @@ use Rattle.std.specs.Prelude.{ℕ, List, Bool}
 use Rattle.dch_types.specs.declared.channel.Dir.TheVariants.{Up, Down}
 use Rattle.dch_node.specs.Lines.{Line}
 use Rattle.dch_script.specs.LineText.{text_of}
-use Rattle.dch_linkcmd.specs.Shown.{shown}
+use Rattle.dch_lines.specs.Shown.{shown}
 use Rattle.dch_linkcmd.specs.LinkLink.{LinkState}
 use Rattle.dch_runlaw.specs.HonestBearers.{IsAcknowledged, IsTransparent, IsUnacknowledged, Parts, active, down_way, up_way}
 use Rattle.dch_runlaw.specs.Plain.{ArePlain}

@@ -3,7 +3,7 @@ ghost use Rattle.dch_accept.specs.Plans.{IsPlanned, Planned};
 ghost use Rattle.dch_lines.specs.LineTexts.{HandlesLines};
 ghost use Rattle.dch_linkcmd.specs.Rules.{link_lines};
 ghost use Rattle.dch_linkcmd.specs.Run.{Run, opened_run};
-ghost use Rattle.dch_linkcmd.specs.later.Later.{Later};
+ghost use Rattle.dch_lines.specs.declared.later.Later.{Later};
 ghost use Rattle.dch_runlaw.specs.Headline.{Carries, IsLater};
 
 /// A law: lines of `link` behind a configuration that keeps its limits, and maybe behind a second one that can follow

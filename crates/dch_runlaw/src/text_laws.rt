@@ -6,7 +6,7 @@ ghost use Rattle.dch_runlaw.specs.Parts.{Begins, GoesOver};
 ghost use Rattle.dch_runlaw.specs.Runs.{Event, Runs};
 ghost use Rattle.dch_node.specs.Lines.{Line};
 ghost use Rattle.dch_script.specs.LineText.{text_of};
-ghost use Rattle.dch_linkcmd.specs.Shown.{shown};
+ghost use Rattle.dch_lines.specs.Shown.{shown};
 ghost use Rattle.dch_runlaw.specs.TextTold.{IsRead, IsTold, ShowsUnits, TellsFalse};
 
 /// A law: of the lines of a run, those on units and PDUs of a bearer that went up are just those that the network

@@ -7,7 +7,7 @@ use Rattle.dch_types.specs.declared.bearer.Mode.{Mode}
 use Rattle.dch_types.specs.declared.bearer.Mode.TheVariants.{Tm, Um, Am}
 use Rattle.dch_types.specs.declared.channel.Dir.{Dir}
 use Rattle.dch_types.specs.declared.config.Config.{Config}
-use Rattle.dch_config.specs.Good.{IsGood, IsRules}
+use Rattle.dch_layer2.specs.ConfigGood.{IsGood, IsRules}
 use Rattle.dch_indication.specs.Lines.{Line, Outside, PduBad}
 use Rattle.dch_rlcpdu.specs.declared.am.AmView.{AmView}
 use Rattle.dch_rlcpdu.specs.declared.am.AmView.TheVariants.{Payload, Status, Reset, ResetAck}
@@ -16,7 +16,7 @@ use Rattle.dch_rlcpdu.specs.declared.handed.PduError.TheVariants.{Short, Reserve
 use Rattle.dch_rlcpdu.specs.declared.um.UmView.{UmView}
 use Rattle.dch_rlcpdu.specs.Am.{am_reading}
 use Rattle.dch_rlcpdu.specs.Um.{um_reading}
-use Rattle.dch_rlcum.specs.Receiving.{Receiving, after_pdu as after_um}
+use Rattle.dch_layer2.specs.Receiving.{Receiving, after_pdu as after_um}
 use Rattle.dch_am.specs.Entities.{Turn, Tells, Moves, Sends as SendsData, Rests, receiver_after, turn}
 use Rattle.dch_am.specs.Receiver.{Receiver}
 use Rattle.dch_am.specs.Rules.{Rules}

@@ -11,11 +11,11 @@ use Rattle.dch_types.specs.declared.config.Config.{Config}
 use Rattle.dch_types.specs.Parts.{side_of}
 use Rattle.dch_types.specs.Sums.{total}
 use Rattle.dch_types.proofs.Sums.{total_le, total_none, total_same, total_small}
-use Rattle.dch_config.specs.Good.{IsGood}
+use Rattle.dch_layer2.specs.ConfigGood.{IsGood}
 use Rattle.dch_indication.specs.Lines.{Line, Bad, Full as NoRoom, NoBearer, Nobody, Reserved, Took, Wrong}
-use Rattle.dch_mac.specs.declared.answer.Demux.{Demux}
-use Rattle.dch_mac.specs.declared.answer.Demux.TheVariants.{To, Reserved as ReservedField, NoBearer as Unknown, Nobody as NoOne}
-use Rattle.dch_mac.specs.Receivers.{receiver}
+use Rattle.dch_layer2.specs.answer.Demux.{Demux}
+use Rattle.dch_layer2.specs.answer.Demux.TheVariants.{To, Reserved as ReservedField, NoBearer as Unknown, Nobody as NoOne}
+use Rattle.dch_layer2.specs.Receivers.{receiver}
 use Rattle.dch_script.specs.LineText.{text_of}
 use Rattle.dch_layer2.specs.Bearings.{Bearing, after_answer, answers, channel_of, line_of_answer}
 use Rattle.dch_layer2.specs.Hearing.{hears}

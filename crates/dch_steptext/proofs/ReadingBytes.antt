@@ -3,8 +3,8 @@ use Rattle.std.proofs.Common.{◌<◌, ◌≤◌, ◌+◌, ◌*◌, ℕ, zero, s
 use Rattle.dch_types.specs.declared.channel.Dir.{Dir}
 use Rattle.dch_types.specs.declared.config.Config.{Config}
 use Rattle.dch_types.specs.Parts.{channel_at, format_at, side_of}
-use Rattle.dch_config.specs.Good.{IsGood}
-use Rattle.dch_accept.specs.Reports.{step_bytes}
+use Rattle.dch_layer2.specs.ConfigGood.{IsGood}
+use Rattle.dch_layer2.specs.AcceptReports.{step_bytes}
 use Rattle.dch_indication.specs.Lines.{BadTti}
 use Rattle.dch_script.specs.LineText.{text_of}
 use Rattle.dch_layer2.specs.Bounded.{IsTti}

@@ -9,7 +9,7 @@ use Rattle.dch_rlcpdu.specs.Indicators.{indicator_of}
 use Rattle.dch_rlcpdu.specs.Parts.{Content, begins_with, leading, parts_of, total_of}
 use Rattle.dch_rlcpdu.specs.Split.{body_reading}
 use Rattle.dch_rlcpdu.specs.Um.{um_reading, um_view}
-use Rattle.dch_rlcum.specs.Receiving.{Receiving, added, after_first, after_number, after_parts, after_pdu, dropped, ended, is_some}
+use Rattle.dch_layer2.specs.Receiving.{Receiving, added, after_first, after_number, after_parts, after_pdu, dropped, ended, is_some}
 use Rattle.dch_steptext.specs.ReceiverBytes.{part_bytes, units_bytes}
 use Rattle.dch_steptext.proofs.PieceBytes.{part_more}
 use Rattle.dch_steptext.proofs.UnitBytes.{unit_paid, units_more}

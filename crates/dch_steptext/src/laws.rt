@@ -3,7 +3,7 @@ ghost use Rattle.dch_bits.specs.declared.bit.Bit.{Bit};
 ghost use Rattle.dch_types.specs.declared.channel.Dir.{Dir};
 ghost use Rattle.dch_types.specs.declared.config.Config.{Config};
 ghost use Rattle.dch_types.specs.Parts.{side_of};
-ghost use Rattle.dch_config.specs.Good.{IsGood};
+ghost use Rattle.dch_layer2.specs.ConfigGood.{IsGood};
 ghost use Rattle.dch_indication.specs.Lines.{Line};
 ghost use Rattle.dch_rlcpdu.specs.Am.{am_reading};
 ghost use Rattle.dch_rlcpdu.specs.declared.am.AmView.{AmView};

@@ -6,7 +6,7 @@ use Rattle.dch_lines.specs.Semantics.{LineSteps}
 use Rattle.dch_nodecmd.specs.NodeRules.{AreLasting, AsksChange, NodeRules, SaysEvent}
 use Rattle.dch_nodecmd.specs.Rules.{MakesChange, TakesLine, TakesSaid, node_lines}
 use Rattle.dch_nodecmd.specs.Run.{Run, frames_in}
-use Rattle.dch_nodecmd.specs.declared.later.Later.{Later}
+use Rattle.dch_lines.specs.declared.later.Later.{Later}
 use Rattle.dch_nodecmd.proofs.Running.{frames_next}
 use Rattle.dch_nodecmd.proofs.Said.{one_event, one_taken, says_or_asks}
 

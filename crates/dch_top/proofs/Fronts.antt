@@ -13,8 +13,7 @@ use Rattle.dch_check.specs.declared.both.Second.{Second}
 use Rattle.dch_check.proofs.BothJudgements.{one_both}
 use Rattle.dch_check.proofs.Judgements.{accepted_so, same_config}
 use Rattle.dch_check.proofs.Singles.{one_single}
-use Rattle.dch_nodecmd.specs.RunLines.{coming}
-use Rattle.dch_nodecmd.specs.Standing.{CanFollow}
+use Rattle.dch_lines.specs.Coming.{coming, CanFollow}
 use Rattle.dch_top.specs.Fronts.{AdmitsFront, RefusesFront}
 use Rattle.dch_top.specs.NodeRuns.{later_of}
 use Rattle.dch_top.specs.declared.front.FrontKind.{FrontKind}

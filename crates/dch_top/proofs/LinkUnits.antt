@@ -11,7 +11,7 @@ use Rattle.dch_lines.specs.LineTexts.{HandlesLines}
 use Rattle.dch_lines.specs.declared.stop.Outcome.TheVariants.{Ok as Done}
 use Rattle.dch_runlaw.specs.LinkcmdRules.{link_lines}
 use Rattle.dch_runlaw.specs.LinkcmdRun.{Run}
-use Rattle.dch_nodecmd.specs.Standing.{CanFollow}
+use Rattle.dch_lines.specs.Coming.{CanFollow}
 use Rattle.dch_runlaw.specs.Headline.{IsLater}
 use Rattle.dch_runlaw.proofs.Headline.{carried}
 use Rattle.dch_top.specs.declared.arguments.Arguments.{Arguments}

@@ -24,9 +24,10 @@ use Rattle.dch_nodecmd.specs.NodeRules.{AreLasting, NodeRules}
 use Rattle.dch_nodecmd.specs.Overlong.{refuses_long}
 use Rattle.dch_nodecmd.specs.Rules.{config_of, node_lines}
 use Rattle.dch_nodecmd.specs.Run.{Run}
-use Rattle.dch_nodecmd.specs.RunLines.{AreRunLines, coming}
+use Rattle.dch_nodecmd.specs.RunLines.{AreRunLines}
+use Rattle.dch_lines.specs.Coming.{coming}
 use Rattle.dch_nodecmd.proofs.RunLines.{none_refused as none_in_run}
-use Rattle.dch_nodecmd.proofs.Said.{ok_err}
+use Rattle.dch_lines.proofs.Meanings.{ok_err}
 use Rattle.dch_nodecmd.specs.NodeBLasting.{node_b_lasting}
 use Rattle.dch_nodecmd.specs.NodeBRules.{node_b_rules}
 use Rattle.dch_nodecmd.specs.RncLasting.{rnc_lasting}

@@ -7,7 +7,7 @@ use Rattle.dch_script.specs.Lines.{lines_of as rows, rest_of}
 use Rattle.dch_node.specs.Lines.{Line}
 use Rattle.dch_script.specs.LineText.{text_of}
 use Rattle.dch_nodecmd.specs.RncState.{BlockedCombination as RncBlocked, Event as RncEvent, IubFrame as IubFrameUp, OfferedUnit as RncOffered, Tick as RncTicks}
-use Rattle.dch_nodecmd.specs.Shown.{shown}
+use Rattle.dch_lines.specs.Shown.{shown}
 use Rattle.dch_nodecmd.specs.UeState.{BlockedCombination as UeBlocked, DownlinkFrame, Event as UeEvent, OfferedUnit as UeOffered, Tick as UeTicks}
 use Rattle.dch_gen.specs.LinkSoft.{SoftState, given, over, uplink_of}
 use Rattle.dch_gen.specs.SoftEvents.{BlockedCombination, Damages, Event, Happens, OfferedUnit}

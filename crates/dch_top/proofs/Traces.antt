@@ -4,15 +4,15 @@ use Rattle.std.specs.Prelude.{codes}
 use Rattle.dch_io.specs.Ends.{End}
 use Rattle.dch_check.specs.declared.both.Configurations.{Configurations}
 use Rattle.dch_script.specs.Lines.{lines_of, rest_of}
-use Rattle.dch_lines.specs.LineTexts.{HandlesLines}
+use Rattle.dch_lines.specs.LineTexts.{HandlesLines, closing}
 use Rattle.dch_lines.specs.declared.stop.Outcome.TheVariants.{Ok as Done}
 use Rattle.dch_node.specs.Lines.{Line}
 use Rattle.dch_script.specs.LineText.{text_of}
 use Rattle.dch_nodecmd.specs.NodeRules.{NodeRules}
 use Rattle.dch_nodecmd.specs.NoTrace.{LeavesNoTrace as LinesLeaveNone}
-use Rattle.dch_nodecmd.specs.Rules.{closing, node_lines}
+use Rattle.dch_nodecmd.specs.Rules.{node_lines}
 use Rattle.dch_nodecmd.specs.Run.{Run, frames_in}
-use Rattle.dch_nodecmd.specs.Shown.{shown}
+use Rattle.dch_lines.specs.Shown.{shown}
 use Rattle.dch_top.specs.Benches.{Nodes}
 use Rattle.dch_top.specs.Configured.{EndsLate, FollowsScript, ArePlannedAs}
 use Rattle.dch_top.specs.NodeRuns.{RunsNode, run_of}

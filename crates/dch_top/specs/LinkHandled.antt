@@ -8,8 +8,7 @@ use Rattle.dch_script.specs.declared.event.LineError.{LineError}
 use Rattle.dch_check.specs.ConfigSection.{configuration_of, script_of}
 use Rattle.dch_check.specs.declared.both.Configurations.{Configurations}
 use Rattle.dch_lines.specs.Followed.{IsRefused}
-use Rattle.dch_lines.specs.LineTexts.{BeginsLine, HandlesLine, HandlesLines, refusal}
-use Rattle.dch_nodecmd.specs.Rules.{closing}
+use Rattle.dch_lines.specs.LineTexts.{BeginsLine, HandlesLine, HandlesLines, refusal, closing}
 use Rattle.dch_runlaw.specs.Headline.{Carries}
 use Rattle.dch_runlaw.specs.LinkcmdRules.{link_lines}
 use Rattle.dch_runlaw.specs.LinkcmdRun.{Run}

@@ -7,7 +7,7 @@ use Rattle.dch_gen.specs.LinkStanding.{HaveHistories}
 use Rattle.dch_runlaw.specs.LinkcmdRules.{link_lines}
 use Rattle.dch_runlaw.specs.LinkcmdRun.{Run, opened_run}
 use Rattle.dch_runlaw.specs.LinkcmdRunLines.{AreRunLines}
-use Rattle.dch_nodecmd.specs.RunLines.{coming}
+use Rattle.dch_lines.specs.Coming.{coming}
 use Rattle.dch_nodecmd.specs.NodebValues.{Node as NodeB}
 use Rattle.dch_nodecmd.specs.RncValues.{Node as Rnc}
 use Rattle.dch_nodecmd.specs.UeValues.{Node as Ue}

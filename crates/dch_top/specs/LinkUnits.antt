@@ -5,7 +5,7 @@ use Rattle.dch_io.specs.Ends.{End}
 use Rattle.dch_script.specs.Lines.{lines_of}
 use Rattle.dch_check.specs.ConfigSection.{configuration_of, script_of}
 use Rattle.dch_check.specs.declared.both.Configurations.{Configurations}
-use Rattle.dch_nodecmd.specs.Rules.{closing}
+use Rattle.dch_lines.specs.LineTexts.{closing}
 use Rattle.dch_runlaw.specs.Headline.{Carries}
 use Rattle.dch_top.specs.Configured.{ArePlannedAs}
 use Rattle.dch_top.specs.NodeRuns.{later_of}

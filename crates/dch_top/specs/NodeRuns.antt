@@ -9,9 +9,10 @@ use Rattle.dch_node.specs.Values.{Output}
 use Rattle.dch_nodecmd.specs.NodeRules.{NodeRules}
 use Rattle.dch_nodecmd.specs.Rules.{node_lines}
 use Rattle.dch_nodecmd.specs.Run.{Run, opened_run}
-use Rattle.dch_nodecmd.specs.RunLines.{AreRunLines, coming}
+use Rattle.dch_nodecmd.specs.RunLines.{AreRunLines}
+use Rattle.dch_lines.specs.Coming.{coming}
 use Rattle.dch_nodecmd.specs.Standing.{RepresentsHistory}
-use Rattle.dch_nodecmd.specs.declared.later.Later.{Later}
+use Rattle.dch_lines.specs.declared.later.Later.{Later}
 use Rattle.dch_top.specs.Benches.{Nodes, no_nodes}
 use Rattle.dch_top.specs.Configured.{RunsConfigured}
 use Rattle.dch_top.specs.declared.status.Status.{Status}

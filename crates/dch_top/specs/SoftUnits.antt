@@ -10,7 +10,7 @@ use Rattle.dch_script.specs.Lines.{lines_of}
 use Rattle.dch_check.specs.ConfigSection.{configuration_of, script_of}
 use Rattle.dch_check.specs.declared.both.Configurations.{Configurations}
 use Rattle.dch_node.specs.Lines.{Line}
-use Rattle.dch_nodecmd.specs.Rules.{closing}
+use Rattle.dch_lines.specs.LineTexts.{closing}
 use Rattle.dch_gen.specs.LinkSoft.{SoftState}
 use Rattle.dch_gen.specs.SoftStages.{AtStage}
 use Rattle.dch_gen.specs.soft_stage.Stage.{Stage}

@@ -7,13 +7,13 @@ use Rattle.dch_check.specs.declared.both.Configurations.{Configurations}
 use Rattle.dch_script.specs.Lines.{lines_of, rest_of}
 use Rattle.dch_script.specs.ParsedLine.{iub}
 use Rattle.dch_check.specs.ConfigSection.{configuration_of, script_of}
-use Rattle.dch_lines.specs.LineTexts.{HandlesLines, is_empty}
+use Rattle.dch_lines.specs.LineTexts.{HandlesLines, is_empty, closing}
 use Rattle.dch_node.specs.Lines.{IubBad, Line}
 use Rattle.dch_script.specs.LineText.{text_of}
 use Rattle.dch_nodecmd.specs.NodeRules.{NodeRules, meaning_for}
-use Rattle.dch_nodecmd.specs.Rules.{TakesSaid, closing, config_of, node_lines}
+use Rattle.dch_nodecmd.specs.Rules.{TakesSaid, config_of, node_lines}
 use Rattle.dch_nodecmd.specs.Run.{Run, frames_in}
-use Rattle.dch_nodecmd.specs.Shown.{shown}
+use Rattle.dch_lines.specs.Shown.{shown}
 use Rattle.dch_top.specs.Configured.{ArePlannedAs}
 use Rattle.dch_top.specs.NodeRuns.{run_of}
 use Rattle.dch_top.specs.declared.front.FrontKind.TheVariants.{Both}

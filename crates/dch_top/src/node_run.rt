@@ -8,7 +8,8 @@ use crate::front::FrontKind;
 use crate::status::Status;
 use dch_check::{Configurations, Second};
 use dch_io::{Sink, Source, new_piece};
-use dch_nodecmd::{CommandNode, Later, NodeHandler};
+use dch_lines::Later;
+use dch_nodecmd::{CommandNode, NodeHandler};
 use std::alloc::Global;
 
 /// Runs a command with one node, which takes the lines behind one configuration or two as events, and gives the node

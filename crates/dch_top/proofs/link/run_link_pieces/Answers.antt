@@ -7,8 +7,8 @@ use Rattle.dch_gen.specs.LinkStanding.{HaveHistories}
 use Rattle.dch_runlaw.specs.LinkcmdRules.{link_lines}
 use Rattle.dch_runlaw.specs.LinkcmdRun.{Run, opened_run}
 use Rattle.dch_runlaw.specs.LinkcmdStanding.{RepresentsRun}
-use Rattle.dch_nodecmd.specs.Standing.{CanFollow}
-use Rattle.dch_nodecmd.specs.declared.later.Later.{Later}
+use Rattle.dch_lines.specs.Coming.{CanFollow}
+use Rattle.dch_lines.specs.declared.later.Later.{Later}
 use Rattle.dch_top.specs.LinkRuns.{HaveRunHistories, run_of}
 use Rattle.dch_top.specs.declared.status.Status.TheVariants.{NoMemory}
 use Rattle.dch_top.proofs.Fronts.{second_follows}

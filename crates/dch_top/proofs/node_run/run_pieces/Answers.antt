@@ -4,8 +4,9 @@ use Rattle.dch_check.specs.declared.both.Configurations.{Configurations}
 use Rattle.dch_lines.specs.declared.stop.Outcome.TheVariants.{Ok as Done}
 use Rattle.dch_nodecmd.specs.Rules.{node_lines}
 use Rattle.dch_nodecmd.specs.Run.{Run, opened_run}
-use Rattle.dch_nodecmd.specs.Standing.{CanFollow, RepresentsHistory, RepresentsRun}
-use Rattle.dch_nodecmd.specs.declared.later.Later.{Later}
+use Rattle.dch_nodecmd.specs.Standing.{RepresentsHistory, RepresentsRun}
+use Rattle.dch_lines.specs.Coming.{CanFollow}
+use Rattle.dch_lines.specs.declared.later.Later.{Later}
 use Rattle.dch_top.specs.NodeRuns.{HasRunHistory, run_of}
 use Rattle.dch_top.specs.declared.status.Status.TheVariants.{NoMemory}
 use Rattle.dch_top.proofs.Fronts.{second_follows}

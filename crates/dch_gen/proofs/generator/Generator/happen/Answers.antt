@@ -1,6 +1,6 @@
 use Rattle.std.proofs.Common.{arith, refl, subst, sym}
 use Rattle.dch_accept.specs.Reports.{step_bytes}
-use Rattle.dch_steptext.proofs.Reporting.{few_less}
+use Rattle.dch_link.proofs.SteptextReporting.{few_less}
 use Rattle.dch_link.specs.Events.{Happens}
 use Rattle.dch_link.specs.Standing.{event_of}
 use Rattle.dch_gen.specs.Counting.{ShowsCounts}

@@ -4,7 +4,7 @@ use Rattle.dch_script.specs.Report.{line_text}
 use Rattle.dch_script.specs.declared.report.Line.TheVariants.{EndFrames}
 use Rattle.dch_linkcmd.specs.Standing.{Handler, IsReady}
 use Rattle.dch_linkcmd.specs.contracts.handler.LinkHandler.{the_view}
-use Rattle.dch_nodecmd.proofs.Closing.{closing_short}
+use Rattle.dch_lines.proofs.Closing.{closing_short}
 use Rattle.dch_linkcmd.proofs.handler.LinkHandlerLineHandler.close.Goals as goal
 
 short : (handler : Handler) → IsReady handler → length (line_text (EndFrames handler.frames)) ≤ 32

@@ -2,7 +2,7 @@ use Rattle.std.proofs.Common.{◌≡◌, ◌≤◌, ◌<◌, ◌^◌, ◌*◌, l
 use Rattle.dch_script.specs.Held.{Held}
 use Rattle.dch_script.specs.Report.{line_text}
 use Rattle.dch_script.specs.declared.report.Line.TheVariants.{EndFrames}
-use Rattle.dch_nodecmd.proofs.Closing.{closing_short}
+use Rattle.dch_lines.proofs.Closing.{closing_short}
 use Rattle.dch_linkcmd.specs.SoftStanding.{Handler, IsReady}
 use Rattle.dch_linkcmd.specs.contracts.soft_handler.SoftHandler.{the_view}
 use Rattle.dch_linkcmd.proofs.soft_handler.SoftHandlerLineHandler.close.Goals as goal

@@ -4,7 +4,7 @@ use Rattle.dch_script.specs.Held.{Held}
 use Rattle.dch_script.specs.Report.{line_text}
 use Rattle.dch_script.specs.declared.report.Line.TheVariants.{EndFrames}
 use Rattle.dch_nodecmd.specs.Standing.{Handler}
-use Rattle.dch_nodecmd.proofs.Closing.{closing_short}
+use Rattle.dch_lines.proofs.Closing.{closing_short}
 use Rattle.dch_nodecmd.proofs.handler.NodeHandlerLineHandler.close.Goals as goal
 
 short : (frames : ℕ) → frames ≤ LIMIT → length (line_text (EndFrames frames)) ≤ 32

@@ -1,6 +1,6 @@
 use Rattle.std.proofs.Common.{◌≡◌, ◌≤◌, ◌+◌, ◌++◌, true, length}
-use Rattle.dch_nodecmd.specs.Shown.{shown}
-use Rattle.dch_nodecmd.proofs.shown.put_other_lines.Given as goal
+use Rattle.dch_lines.specs.Shown.{shown}
+use Rattle.dch_lines.proofs.shown.put_other_lines.Given as goal
 
 abbrev pub invariant-loop-at : goal.invariant-loop-at
 invariant-loop-at l = record {

@@ -1,5 +1,5 @@
-use Rattle.dch_nodecmd.proofs.OtherLines.{first_none, first_some}
-use Rattle.dch_nodecmd.proofs.shown.first_word.Goals as goal
+use Rattle.dch_lines.proofs.OtherLines.{first_none, first_some}
+use Rattle.dch_lines.proofs.shown.first_word.Goals as goal
 
 pub returns-in-Some : goal.returns-in-Some
 returns-in-Some c = first_some c.args.text.now c.in-Some.at c.in-Some.ensures

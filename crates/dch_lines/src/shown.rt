@@ -1,7 +1,7 @@
 ghost use Rattle.std.specs.Prelude.{◌≡◌, ◌≤◌, ◌+◌, ◌++◌, [], true, length, if◌then◌else◌};
 ghost use Rattle.dch_script.specs.Code.{content};
 ghost use Rattle.dch_script.specs.LineWords.{words_of};
-ghost use Rattle.dch_nodecmd.specs.Shown.{first_of, is_frame_line, is_frame_word, shown};
+ghost use Rattle.dch_lines.specs.Shown.{first_of, is_frame_line, is_frame_word, shown};
 
 use dch_script::Report;
 use memchr::memchr;

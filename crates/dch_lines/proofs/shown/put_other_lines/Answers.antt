@@ -1,8 +1,8 @@
 use Rattle.std.proofs.Common.{◌≡◌, ◌+◌, ◌∙◌, ◌++◌, List, ℕ, ap, arith, sym, take, drop, true}
 use Rattle.dch_script.specs.Held.{Held}
-use Rattle.dch_nodecmd.specs.Shown.{shown}
-use Rattle.dch_nodecmd.proofs.OtherLines.{shown_all, shown_line, shown_on}
-use Rattle.dch_nodecmd.proofs.shown.put_other_lines.Goals as goal
+use Rattle.dch_lines.specs.Shown.{shown}
+use Rattle.dch_lines.proofs.OtherLines.{shown_all, shown_line, shown_on}
+use Rattle.dch_lines.proofs.shown.put_other_lines.Goals as goal
 
 pub overflow_add-at : goal.overflow_add-at
 overflow_add-at c = omega (arith, c.in-Some.ensures.0.high, c.loop-at.invariant.short)

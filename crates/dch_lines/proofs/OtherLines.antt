@@ -7,7 +7,7 @@ use Rattle.dch_script.specs.Lines.{lines_of, lines_after, rest_after}
 use Rattle.dch_script.specs.LineWords.{words_of}
 use Rattle.dch_script.proofs.Cuts.{words_cut}
 use Rattle.dch_script.proofs.Lines.{lines_after-append, no_feed, one_feed}
-use Rattle.dch_nodecmd.specs.Shown.{first_of, is_frame_line, other_lines, shown}
+use Rattle.dch_lines.specs.Shown.{first_of, is_frame_line, other_lines, shown}
 
 pub first_some : (text : List ℕ) (at : ℕ) → IsFirstByte (is_byte 32) text (Some at) → take at text ≡ first_of (words_of text)
 first_some text at first = sym (ap first_of (words_cut [] text (Some at) first))

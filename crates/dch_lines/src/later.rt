@@ -21,7 +21,7 @@ impl Drop for Later {
 
 impl Later {
     /// The configuration, from now on.
-    pub(crate) fn into_accepted(self) -> Accepted
+    pub fn into_accepted(self) -> Accepted
         ensures { result ≡ self.accepted }
     {
         let Later {
