@@ -1,6 +1,0 @@
-use Rattle.std.proofs.Common.{sym, ◌∙◌}
-use Rattle.std.proofs.lemmas.Bool.{lt-ltb}
-use Rattle.dch_rlctest.proofs.rlcum.next_pdu.Goals as goal
-
-pub build-requires-clause-due : goal.build-requires-clause-due
-build-requires-clause-due c = sym c.available.ensures.some ∙ lt-ltb _ _ c.if-available-gt0.true

@@ -1,0 +1,121 @@
+ghost use Rattle.std.specs.Prelude.{◌≡◌, ℕ};
+ghost use Rattle.std.proofs.Common.{refl, sym};
+ghost use Rattle.dch_tests.specs.Echo.{echoing};
+
+use dch_bits::NoMemory;
+use dch_io::{InputOffset, MemorySink, MemorySource, Pending, new_piece};
+use dch_lines::*;
+use dch_script::{LineError, Report};
+use std::alloc::{AllocError, Global};
+
+/// A handler that takes a line in three steps, finds no memory for one, and refuses lines of more than five bytes.
+#[derive(Drop)]
+struct Echo {
+    remaining: u32,
+}
+
+impl LineHandler for Echo {
+    ghost State = { ℕ };
+
+    ghost semantics = { echoing };
+
+    ghost represents = { λ state echo. echo.remaining ≡ state };
+
+    ghost most = { λ _. 6 };
+
+    ghost remaining = { λ echo. echo.remaining };
+
+    ghost stands = { λ _. Unit {0} };
+
+    ghost handled = { λ _. 0 };
+
+    fn handle_line(&mut self, line: &[u8], report: &mut Report) -> Result<(), LineFault> {
+        if line == b"much\n".as_slice() {
+            return Err(LineFault::NoMemory);
+        }
+        if line.len() > 5 {
+            return Err(LineFault::Malformed(LineError::Long));
+        }
+        report.put_text(b"once\n");
+        self.remaining = 2;
+        Ok(())
+    }
+
+    fn remaining(&self) -> u32 {
+        self.remaining
+    }
+
+    fn resume(&mut self, report: &mut Report) {
+        if self.remaining > 0 {
+            report.put_text(b"again\n");
+            self.remaining -= 1;
+        }
+    }
+
+    fn close(&self, _nonempty_lines: u64, report: &mut Report) {
+        report.put_text(b"end\n");
+    }
+
+    fn most(&self) -> usize {
+        6
+    }
+
+    ghost overlong = { λ _ _ _. refl };
+
+    ghost counts = { λ state echo is. sym is };
+}
+
+fn source_of(alloc: Global, input: &[u8]) -> Result<MemorySource, AllocError> {
+    Ok(MemorySource::new(input.to_vec(alloc)?, 3, Vec::new(alloc)))
+}
+
+fn sink_of(alloc: Global, failing: &[u64]) -> Result<MemorySink, AllocError> {
+    let room = vec![in alloc; 0; 200]?;
+    Ok(MemorySink::new(room, 4, failing.to_vec(alloc)?))
+}
+
+/// What comes of an input, and what is written, where these writes fail.
+fn followed(
+    alloc: Global,
+    input: &[u8],
+    failing: &[u64],
+) -> Result<(Outcome, MemorySink), NoMemory> {
+    let before = InputOffset {
+        bytes: 100,
+        lines: 7,
+    };
+    let mut source = source_of(alloc, input)?;
+    let mut sink = sink_of(alloc, failing)?;
+    let mut processor = LineProcessor::open(alloc, Echo { remaining: 0 }, b"open\n", before, 64)?;
+    let mut piece = new_piece(alloc)?;
+    let pending = Pending {
+        from: 0,
+        to: 0,
+        at_end: false,
+    };
+    let outcome = follow_input(&mut source, &mut sink, &mut piece, pending, &mut processor);
+    Ok((outcome, sink))
+}
+
+/// Whether an input is followed to this end, and this is written.
+fn follows(alloc: Global, input: &[u8], failing: &[u64], outcome: Outcome, text: &[u8]) -> bool {
+    match followed(alloc, input, failing) {
+        Ok((ended, sink)) => ended == outcome && sink.bytes() == text,
+        Err(NoMemory) => false,
+    }
+}
+
+#[test]
+fn lines_of_three_steps(rt: HostRuntime) {
+    let steps = b"open\nonce\nagain\nagain\n";
+    assert!(rt;
+        follows(
+            rt.alloc(),
+            b"one\nmuch\ntwo\n",
+            &[],
+            Outcome::NoMemory,
+            steps
+        )
+    );
+    assert!(rt; follows(rt.alloc(), b"one\n", &[3], Outcome::WriteFault, &steps[..9]));
+}
