@@ -1,0 +1,10 @@
+pub mod Counts
+pub mod Differ
+pub mod Endings
+pub mod Few
+pub mod Parts
+pub mod Places
+pub mod Plain
+pub mod Plans
+pub mod Rooms
+pub mod Visits

@@ -1,0 +1,20 @@
+use Rattle.std.proofs.Common.{◌≡◌, ◌∙◌, ℕ, List, [], arith, ap, ap₂, sym, subst}
+use Rattle.dch_types.specs.declared.channel.Coding.{Coding}
+use Rattle.dch_types.specs.Parts.{channel_at}
+use Rattle.dch_coding.specs.declared.cut.Plan.{Plan}
+use Rattle.dch_trellis.specs.Distance.{copies_at}
+use Rattle.dch_collision.specs.Copies.{downlink_copies}
+use Rattle.dch_margin.specs.Differ.{DifferBelow, IsLeast, plan_in}
+use Rattle.dch_margin.proofs.Counts.{counts_are, own_counts}
+use Rattle.dch_margin.proofs.Differ.{in_place_of, least_below}
+use Rattle.dch_margin.proofs.format.least_down.Goals as goal
+
+pub least_in_tti-requires-clause-counts : goal.least_in_tti-requires-clause-counts
+least_in_tti-requires-clause-counts c = own_counts (downlink_copies c.args.config.now c.args.i c.args.f []) c.count_downlink.new.votes (c.count_downlink.ensures [])
+
+pub returns-clause-least : goal.returns-clause-least
+returns-clause-least c sequence =
+    in_place_of c.args.config.now.side (downlink_copies c.args.config.now) c.args.i c.args.f sequence c.args.sizes.now.coding c.args.sizes.now.plan c.least_in_tti.result c.requires.sizes.coding c.requires.sizes.plan
+    (least_below c.args.sizes.now.coding c.args.sizes.now.plan (copies_at c.count_downlink.new.votes) (downlink_copies c.args.config.now c.args.i c.args.f sequence) c.least_in_tti.result
+    (λ j inside. counts_are (downlink_copies c.args.config.now c.args.i c.args.f sequence) c.count_downlink.new.votes j (c.count_downlink.ensures sequence) (omega (arith, inside, c.requires.sizes.whole, c.requires.votes, c.count_downlink.auto.votes)))
+    c.least_in_tti.ensures.least)
