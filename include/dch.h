@@ -27,12 +27,22 @@ enum dch_status {
     DCH_BUSY = 2,            /* a handle that is to be opened is open */
     DCH_CLOSED = 3,          /* the handle is closed, or was never opened */
     DCH_OTHER_KIND = 4,      /* the handle is of another kind */
-    DCH_BAD_CODE = 5,        /* a number that stands for no parity, code or TFCI */
+    DCH_BAD_CODE = 5,        /* a number that stands for nothing: no parity, code, TFCI, direction, channel, .. */
     DCH_BAD_SIZE = 6,        /* a length that doesn't fit the other arguments */
-    DCH_BAD_LETTER = 7       /* a bit that is neither '0' nor '1' */
+    DCH_BAD_LETTER = 7,      /* a bit that is neither '0' nor '1', or a cell that is neither of them nor '-' */
+    DCH_REFUSED = 8,         /* a configuration is refused, and the call tells why */
+    DCH_SHORT = 9,           /* what is to be written is longer than its buffer */
+    DCH_NOT_LOADED = 10,     /* what is loaded of a channel has another format than the combination wants */
+    DCH_BAD_TTI = 11         /* a radio frame of the TTI is missing, or has another format for the channel */
 };
 
-/* A handle of any kind. A decoder is the only one so far. */
+/* A direction: from the terminal to the network, or back. */
+enum dch_direction {
+    DCH_UP = 0,
+    DCH_DOWN = 1
+};
+
+/* A handle of any kind: a decoder, or the transport channels of a configuration. */
 typedef struct dch_handle {
     bool is_open;
     void *at;
@@ -103,6 +113,81 @@ uint8_t dch_decoder_open(dch_handle *handle, size_t most);
    DCH_CLOSED, DCH_OTHER_KIND, DCH_BAD_CODE: no such rate. DCH_BAD_SIZE: another length, or 2^31 copies or more. */
 uint8_t dch_decoder_nearest(dch_handle *handle, uint8_t outputs, const dch_vote *votes, size_t votes_len, size_t filler,
                             uint8_t *block, size_t block_len, uint32_t *copies);
+
+/* ---- Transport channels (TS 25.212 4.2) ---- */
+
+/* Why a configuration is refused: its number (docs/FORMATS.md has them), and the length of its line. */
+typedef struct dch_refusal {
+    uint16_t number;
+    size_t length;
+} dch_refusal;
+
+/* Opens the transport channels of a configuration, whose text is that of a file that `dch check` reads. All memory is
+   taken now.
+   DCH_BUSY, DCH_NO_MEMORY. DCH_REFUSED: *refusal tells why, and the line that `dch check` writes of it stands at the
+   front of why, with its line feed. DCH_SHORT: it is refused, as *refusal tells, and its line is longer than why_len;
+   why stays. */
+uint8_t dch_channels_open(dch_handle *handle, const uint8_t *text, size_t text_len, uint8_t *why, size_t why_len,
+                          dch_refusal *refusal);
+
+/* A format of a channel: the radio frames of a TTI, how many transport blocks it has, and the bits of each of them. */
+typedef struct dch_format {
+    uint8_t frames;
+    uint16_t blocks;
+    uint16_t size;
+} dch_format;
+
+/* Tells a format of a channel.
+   DCH_CLOSED, DCH_OTHER_KIND. DCH_BAD_CODE: no such direction, channel or format. */
+uint8_t dch_channels_format(dch_handle *handle, uint8_t direction, uint8_t channel, uint8_t format, dch_format *told);
+
+/* How many TFCI bits and how many cells the radio frames of a combination have (TS 25.212 4.2.7, 4.3.5).
+   DCH_CLOSED, DCH_OTHER_KIND. DCH_BAD_CODE: no such direction or combination. */
+uint8_t dch_channels_frame_size(dch_handle *handle, uint8_t direction, uint16_t combination, size_t *tfci_len,
+                                size_t *cells_len);
+
+/* Loads the transport blocks of a channel for its next TTI, one block after another: they get parity, are coded and
+   interleaved (TS 25.212 4.2.1 to 4.2.5). They replace those that were loaded before.
+   blocks_len: the number of blocks of the format times their size.
+   DCH_CLOSED, DCH_OTHER_KIND. DCH_BAD_CODE: no such direction, channel or format. DCH_BAD_SIZE: another length.
+   DCH_BAD_LETTER. */
+uint8_t dch_channels_load(dch_handle *handle, uint8_t direction, uint8_t channel, uint8_t format, const uint8_t *blocks,
+                          size_t blocks_len);
+
+/* Writes the radio frame of a CFN in a combination (TS 25.212 4.2.6 to 4.2.12, 4.3.3): its TFCI bits, and its cells of
+   '0', '1' and '-', in which nothing is sent. Of a TTI of F radio frames it carries that with the number CFN modulo F.
+   Both lengths: as dch_channels_frame_size tells them.
+   DCH_CLOSED, DCH_OTHER_KIND. DCH_BAD_CODE: no such direction or combination. DCH_BAD_SIZE: another length.
+   DCH_NOT_LOADED: a channel has nothing loaded, or a format that is not that of the combination. */
+uint8_t dch_channels_write(dch_handle *handle, uint8_t direction, uint8_t cfn, uint16_t combination, uint8_t *tfci,
+                           size_t tfci_len, uint8_t *cells, size_t cells_len);
+
+/* Takes the radio frame of a CFN that was received. The last 8 are held. A frame counts as missing where its TFCI names
+   no combination of the list, or where it is not as long as the frames of that combination (TS 25.212 4.3.3).
+   tfci_len: the TFCI bits of the direction. cells_len: at most those of the direction's longest frame.
+   DCH_CLOSED, DCH_OTHER_KIND. DCH_BAD_CODE: no such direction. DCH_BAD_SIZE: another length. DCH_BAD_LETTER. */
+uint8_t dch_channels_take(dch_handle *handle, uint8_t direction, uint8_t cfn, const uint8_t *tfci, size_t tfci_len,
+                          const uint8_t *cells, size_t cells_len);
+
+/* Takes that the radio frame of a CFN is missing.
+   DCH_CLOSED, DCH_OTHER_KIND. DCH_BAD_CODE: no such direction. */
+uint8_t dch_channels_miss(dch_handle *handle, uint8_t direction, uint8_t cfn);
+
+/* What was read of a TTI: the format, how many blocks it has, and how many bits each of them. bad_frame is 0, and with
+   DCH_BAD_TTI the first radio frame of the TTI, from 0, that is missing or has another format than frame 0. */
+typedef struct dch_tti {
+    uint8_t format;
+    uint8_t bad_frame;
+    size_t blocks;
+    size_t size;
+} dch_tti;
+
+/* Reads the TTI of a channel that the last radio frame ends (TS 25.212 4.2, read backwards): the bits of its blocks, one
+   block after another, at the front of blocks, and for each at the front of good 1 where its parity fits, else 0.
+   DCH_CLOSED, DCH_OTHER_KIND. DCH_BAD_CODE: no such direction or channel. DCH_BAD_TTI: *tti tells the frame, and the
+   rest of it stays. DCH_SHORT: *tti tells what was read, and blocks or good is shorter; both stay. */
+uint8_t dch_channels_read(dch_handle *handle, uint8_t direction, uint8_t channel, uint8_t *blocks, size_t blocks_len,
+                          uint8_t *good, size_t good_len, dch_tti *tti);
 
 #ifdef __cplusplus
 }

@@ -1,3 +1,4 @@
 pub mod Steps
 mod AsBox
 mod Content
+mod Overwritten

@@ -1,11 +1,14 @@
 -- What the numbers and letters of C stand for.
 use Rattle.std.specs.Prelude.{ℕ, ◌==◌, Bool, List, map, if◌then◌else◌, Option, None, Some, is_some, position}
 use Rattle.dch_bits.specs.declared.bit.Bit.{Bit}
-use Rattle.dch_bits.specs.Text.{bit_of_letter, is_no_bit}
+use Rattle.dch_bits.specs.declared.bit.Trit.{Trit}
+use Rattle.dch_bits.specs.Text.{bit_of_letter, cell_of_letter, is_no_bit, is_no_cell}
 use Rattle.dch_types.specs.declared.channel.Crc.{Crc}
 use Rattle.dch_types.specs.declared.channel.Crc.TheVariants.{C0, C8, C12, C16, C24}
 use Rattle.dch_types.specs.declared.channel.Coding.{Coding}
 use Rattle.dch_types.specs.declared.channel.Coding.TheVariants.{Uncoded, Half, Third}
+use Rattle.dch_types.specs.declared.channel.Dir.{Dir}
+use Rattle.dch_types.specs.declared.channel.Dir.TheVariants.{Up, Down}
 use Rattle.dch_coding.specs.declared.rate.Rate.{Rate}
 use Rattle.dch_coding.specs.declared.rate.Rate.TheVariants.{Half as RateHalf, Third as RateThird}
 
@@ -23,6 +26,10 @@ abbrev pub coding_of : ℕ → Option Coding
 coding_of outputs = if outputs == 1 then Some Uncoded else if outputs == 2 then Some Half
     else if outputs == 3 then Some Third else None
 
+-- the direction of a number
+abbrev pub dir_of : ℕ → Option Dir
+dir_of direction = if direction == 0 then Some Up else if direction == 1 then Some Down else None
+
 -- the bits that a text of the letters 0 and 1 writes
 abbrev pub bits_of : List ℕ → List Bit
 bits_of text = map bit_of_letter text
@@ -30,3 +37,11 @@ bits_of text = map bit_of_letter text
 -- a letter of a text is neither 0 nor 1
 abbrev pub has_bad_letter : List ℕ → Bool
 has_bad_letter text = is_some (position is_no_bit text)
+
+-- the cells that a text of the letters 0, 1 and - writes
+abbrev pub cells_of : List ℕ → List Trit
+cells_of text = map cell_of_letter text
+
+-- a letter of a text is none of these
+abbrev pub has_bad_cell : List ℕ → Bool
+has_bad_cell text = is_some (position is_no_cell text)

@@ -6,3 +6,7 @@ pub mod Coding
 pub mod Cuts
 pub mod Decoding
 pub mod DecoderRoom
+pub mod Channels
+pub mod ChannelCalls
+pub mod Opening
+pub mod HeldChannels

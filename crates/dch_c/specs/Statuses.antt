@@ -13,6 +13,9 @@ busy = 2
 abbrev pub closed : ℕ
 closed = 3
 
+abbrev pub other_kind : ℕ
+other_kind = 4
+
 abbrev pub bad_code : ℕ
 bad_code = 5
 
@@ -21,6 +24,18 @@ bad_size = 6
 
 abbrev pub bad_letter : ℕ
 bad_letter = 7
+
+abbrev pub refused : ℕ
+refused = 8
+
+abbrev pub short : ℕ
+short = 9
+
+abbrev pub not_loaded : ℕ
+not_loaded = 10
+
+abbrev pub bad_tti : ℕ
+bad_tti = 11
 
 -- a call did not do what it is for
 abbrev pub IsRefused : ℕ → Type 0

@@ -1,12 +1,12 @@
 // What the numbers and letters of C stand for.
 ghost use Rattle.std.specs.Prelude.{◌≡◌, ◌⊎◌, false, true, length, IfOk, IfErr, OnErr, OnOk};
-ghost use Rattle.dch_c.specs.Codes.{coding_of, crc_of, rate_of, bits_of, has_bad_letter};
+ghost use Rattle.dch_c.specs.Codes.{bits_of, cells_of, coding_of, crc_of, dir_of, has_bad_cell, has_bad_letter, rate_of};
 ghost use Rattle.dch_c.specs.Statuses.{no_memory, bad_letter};
 
 use crate::status::{BAD_LETTER, NO_MEMORY};
-use dch_bits::{Bit, read_bits_text};
+use dch_bits::{Bit, Trit, read_bits_text, read_trits_text};
 use dch_coding::Rate;
-use dch_types::{Coding, Crc};
+use dch_types::{Coding, Crc, Dir};
 use std::alloc::Global;
 
 /// The parity of so many bits.
@@ -46,6 +46,17 @@ pub fn coding_of(outputs: u8) -> Option<Coding>
     }
 }
 
+/// The direction of a number: 0 is up, and 1 is down.
+pub fn dir_of(direction: u8) -> Option<Dir>
+    ensures { result ≡ dir_of direction }
+{
+    match direction {
+        0 => Some(Dir::Up),
+        1 => Some(Dir::Down),
+        _ => None,
+    }
+}
+
 /// So many zeros.
 pub fn zeros(alloc: Global, count: usize) -> Result<Vec<Bit>, u8>
     ensures ok { IfOk result (λ bits. length bits.items ≡ count) }
@@ -76,6 +87,19 @@ pub fn read_into(text: &[u8], bits: &mut [Bit]) -> Result<(), u8>
     ensures status { IfErr result (λ status. status ≡ bad_letter) }
 {
     match read_bits_text(text, bits) {
+        Ok(_) => Ok(()),
+        Err(_) => Err(BAD_LETTER),
+    }
+}
+
+/// Reads a text of `0`, `1` and `-` into as many places.
+pub fn read_cells(text: &[u8], cells: &mut [Trit]) -> Result<(), u8>
+    requires { length cells.old ≡ length text.now }
+    ensures ok { OnOk result ((cells.new ≡ cells_of text.now) × (has_bad_cell text.now ≡ false)) }
+    ensures err { OnErr result ((cells.new ≡ cells.old) × (has_bad_cell text.now ≡ true)) }
+    ensures status { IfErr result (λ status. status ≡ bad_letter) }
+{
+    match read_trits_text(text, cells) {
         Ok(_) => Ok(()),
         Err(_) => Err(BAD_LETTER),
     }

@@ -1,17 +1,18 @@
 //! The decoder for C.
 ghost use Rattle.std.specs.Prelude.{◌≡◌, ◌<◌, ◌≤◌, ℕ, None, Some, length};
 ghost use Rattle.dch_coding.specs.declared.rate.Rate.{Rate as TheRate};
+ghost use Rattle.dch_c.specs.Channels.{Trchs};
 ghost use Rattle.dch_c.specs.Codes.{rate_of};
 ghost use Rattle.dch_c.specs.Decoding.{IsRead, Suits};
 ghost use Rattle.dch_c.specs.declared.held.Held.{Held};
-ghost use Rattle.dch_c.specs.declared.held.Held.TheVariants.{Decoder as HeldDecoder};
-ghost use Rattle.dch_c.specs.Statuses.{IsRefused, IsUnlessMemory, done, busy, closed, bad_code, bad_size};
+ghost use Rattle.dch_c.specs.declared.held.Held.TheVariants.{Channels as HeldChannels, Decoder as HeldDecoder};
+ghost use Rattle.dch_c.specs.Statuses.{IsRefused, IsUnlessMemory, done, busy, closed, bad_code, bad_size, other_kind};
 
 use crate::codes::rate_of;
 use crate::decoder::{Copies, Decoder};
-use crate::handle::{Handle, put, take};
+use crate::handle::{Handle, hold, put, take};
 use crate::held::Held;
-use crate::status::{BAD_CODE, BAD_SIZE, BUSY, CLOSED, DONE, NO_MEMORY};
+use crate::status::{BAD_CODE, BAD_SIZE, BUSY, CLOSED, DONE, NO_MEMORY, OTHER_KIND};
 use std::alloc::Global;
 
 /// Opens a decoder for code blocks of up to so many bits, at most 504.
@@ -47,6 +48,7 @@ pub extern "C" fn dch_decoder_nearest(
     copies: &mut u32,
 ) -> u8
     ensures closed { handle.old.raw.value ≡ None → result ≡ closed }
+    ensures other { (channels : Trchs) → handle.old.raw.value ≡ Some (HeldChannels channels) → result ≡ other_kind }
     ensures code { (most : ℕ) → handle.old.raw.value ≡ Some (HeldDecoder most) → rate_of outputs ≡ None →
         result ≡ bad_code }
     ensures size { (most : ℕ) (rate : TheRate) → handle.old.raw.value ≡ Some (HeldDecoder most) →
@@ -64,6 +66,7 @@ pub extern "C" fn dch_decoder_nearest(
     };
     let status = match &mut *held {
         Held::Decoder(decoder) => nearest(decoder, outputs, votes, filler, block, copies),
+        Held::Channels(_) => OTHER_KIND,
     };
     put(handle, held);
     status
@@ -94,20 +97,6 @@ fn nearest(
         return BAD_SIZE;
     }
     *copies = decoder.nearest(rate, votes, filler, block);
-    DONE
-}
-
-/// Puts something behind a closed handle.
-fn hold(alloc: Global, held: Held, handle: &mut Handle) -> u8
-    requires { handle.old.raw.value ≡ None }
-    ensures status { IsUnlessMemory done result }
-    ensures done { result ≡ done → handle.new.raw.value ≡ Some held }
-    ensures same { IsRefused result → handle.new.raw.value ≡ None }
-{
-    let Ok(held) = Box::new(alloc, held) else {
-        return NO_MEMORY;
-    };
-    put(handle, held);
     DONE
 }
 

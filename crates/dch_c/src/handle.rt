@@ -1,9 +1,11 @@
 ghost use Rattle.std.specs.Prelude.{◌≡◌, None, Some, IsSomeAnd};
 ghost use Rattle.dch_c.specs.declared.held.Held.{Held};
 ghost use Rattle.dch_c.specs.Filled.{filled};
+ghost use Rattle.dch_c.specs.Statuses.{IsRefused, IsUnlessMemory, done};
 
 use crate::held::Held;
 use crate::raw::{Raw, into_parts, nothing, of_parts};
+use crate::status::{DONE, NO_MEMORY};
 use dch_handle::Parts;
 use std::alloc::Global;
 use std::mem;
@@ -46,4 +48,18 @@ pub fn put(handle: &mut Handle, held: Box<Held>)
         is_open: true,
         raw: of_parts(Parts::of(held)),
     };
+}
+
+/// Puts something behind a closed handle.
+pub fn hold(alloc: Global, held: Held, handle: &mut Handle) -> u8
+    requires { handle.old.raw.value ≡ None }
+    ensures status { IsUnlessMemory done result }
+    ensures done { result ≡ done → handle.new.raw.value ≡ Some held }
+    ensures same { IsRefused result → handle.new.raw.value ≡ None }
+{
+    let Ok(held) = Box::new(alloc, held) else {
+        return NO_MEMORY;
+    };
+    put(handle, held);
+    DONE
 }
