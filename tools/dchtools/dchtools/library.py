@@ -1,4 +1,4 @@
-"""The coder and the decoder of the library libdch, by ctypes.
+"""The calls of the library libdch by ctypes, and of them the coder and the decoder.
 
 The header `include/dch.h` says what each call of the library takes and answers."""
 from __future__ import annotations
@@ -17,9 +17,11 @@ from .faults import BadInput, Refused
 
 STATUSES = {
     1: 'there is no memory', 2: 'the handle is open', 3: 'the handle is closed', 4: 'the handle is of another kind',
-    5: 'a number stands for no parity, code or TFCI', 6: 'a length does not fit the other arguments',
-    7: "a bit is neither '0' nor '1'"}
-DONE = 0
+    5: 'a number stands for nothing', 6: 'a length does not fit the other arguments',
+    7: "a bit is neither '0' nor '1', or a channel bit neither of them nor '-'", 8: 'the configuration is refused',
+    9: 'a buffer is too short', 10: 'a channel is not loaded in the format of the combination',
+    11: 'a radio frame of the TTI is missing, or has another format'}
+DONE, REFUSED, SHORT, BAD_TTI = 0, 8, 9, 11
 OUTPUTS = {'none': 1, 'half': 2, 'third': 3}
 
 
@@ -43,6 +45,18 @@ class Vote(Structure):
     _fields_ = [('zeros', c_uint32), ('ones', c_uint32)]
 
 
+class Refusal(Structure):
+    _fields_ = [('number', c_uint16), ('length', c_size_t)]
+
+
+class Format(Structure):
+    _fields_ = [('frames', c_uint8), ('blocks', c_uint16), ('size', c_uint16)]
+
+
+class Tti(Structure):
+    _fields_ = [('format', c_uint8), ('bad_frame', c_uint8), ('blocks', c_size_t), ('size', c_size_t)]
+
+
 HANDLE = POINTER(Handle)
 TEXT = [c_char_p, c_size_t]  # octets or letters, and how many there are
 ARGUMENTS: dict[str, list[Any]] = {
@@ -50,7 +64,14 @@ ARGUMENTS: dict[str, list[Any]] = {
     'dch_blocks_cut': [c_uint8, *TEXT, *TEXT, POINTER(Cut)], 'dch_blocks_join': [c_uint8, *TEXT, *TEXT],
     'dch_code': [c_uint8, *TEXT, *TEXT], 'dch_tfci_word': [c_uint16, POINTER(c_uint32)],
     'dch_tfci_nearest': [*TEXT, POINTER(c_uint16), POINTER(c_uint16)], 'dch_decoder_open': [HANDLE, c_size_t],
-    'dch_decoder_nearest': [HANDLE, c_uint8, POINTER(Vote), c_size_t, c_size_t, *TEXT, POINTER(c_uint32)]}
+    'dch_decoder_nearest': [HANDLE, c_uint8, POINTER(Vote), c_size_t, c_size_t, *TEXT, POINTER(c_uint32)],
+    'dch_channels_open': [HANDLE, *TEXT, *TEXT, POINTER(Refusal)],
+    'dch_channels_format': [HANDLE, c_uint8, c_uint8, c_uint8, POINTER(Format)],
+    'dch_channels_frame_size': [HANDLE, c_uint8, c_uint16, POINTER(c_size_t), POINTER(c_size_t)],
+    'dch_channels_load': [HANDLE, c_uint8, c_uint8, c_uint8, *TEXT],
+    'dch_channels_write': [HANDLE, c_uint8, c_uint8, c_uint16, *TEXT, *TEXT],
+    'dch_channels_take': [HANDLE, c_uint8, c_uint8, *TEXT, *TEXT], 'dch_channels_miss': [HANDLE, c_uint8, c_uint8],
+    'dch_channels_read': [HANDLE, c_uint8, c_uint8, *TEXT, *TEXT, POINTER(Tti)]}
 
 
 def library_path() -> str | None:

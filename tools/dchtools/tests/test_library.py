@@ -5,12 +5,14 @@ import ctypes
 import re
 import unittest
 
-from dchtools import Coder, Status, library
+from dchtools import BadTti, Blocks, Channel, Coder, Refused, Status, library
 
 from .cases import top
 
 HEADER = top / 'include/dch.h'
-STRUCTURES = {'dch_handle': library.Handle, 'dch_cut': library.Cut, 'dch_vote': library.Vote}
+STRUCTURES = {
+    'dch_handle': library.Handle, 'dch_cut': library.Cut, 'dch_vote': library.Vote, 'dch_refusal': library.Refusal,
+    'dch_format': library.Format, 'dch_tti': library.Tti}
 TYPES = {'uint8_t': ctypes.c_uint8, 'uint16_t': ctypes.c_uint16, 'uint32_t': ctypes.c_uint32,
          'size_t': ctypes.c_size_t, 'bool': ctypes.c_bool, 'void *': ctypes.c_void_p}
 
@@ -68,3 +70,23 @@ class Coding(unittest.TestCase):
             self.assertEqual(coder.tfci_nearest(coder.tfci_word(77)[:30]), (77, 0))
             with self.assertRaises(Status):
                 coder.attach(7, '1')
+
+    def test_channels(self) -> None:
+        text = (top / 'examples/speech.toml').read_text()
+        with Channel(text) as channel:
+            self.assertEqual(channel.format('up', 0, 2).size, 81)
+            sent = '10' * 40 + '1'
+            for number, (format, bits) in enumerate([(2, sent), (1, '1' * 103), (1, '0' * 60), (0, '')]):
+                channel.load('up', number, format, bits)
+            with self.assertRaises(Status):
+                channel.write('up', 0, 1)
+            for cfn in range(2):
+                tfci, cells = channel.write('up', cfn, 2)
+                channel.take('up', cfn, tfci, cells[:7] + '01'[cells[7] == '0'] + cells[8:])
+            self.assertEqual(channel.read('up', 0), Blocks(2, (sent,), (True,)))
+            channel.miss('up', 2)
+            channel.take('up', 3, tfci, cells)
+            self.assertEqual(channel.read('up', 0), BadTti('up', 0, 0))
+        with self.assertRaises(Refused) as caught:
+            Channel(text.replace('crc = 12', 'crc = 13', 1))
+        self.assertEqual(caught.exception.number, 12)
