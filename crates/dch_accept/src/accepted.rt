@@ -9,6 +9,7 @@ ghost use Rattle.dch_frame.specs.Downlinks.{IsDownlinkPlan};
 ghost use Rattle.dch_collision.specs.Clear.{IsClear};
 ghost use Rattle.dch_collision.specs.Plans.{plan_at, AreAllPlans};
 ghost use Rattle.dch_accept.specs.Answers.{Accepts, IsSearched, Plans, count_of};
+ghost use Rattle.dch_accept.specs.Plans.{IsPlanned};
 ghost use Rattle.dch_accept.specs.Reports.{step_bytes};
 
 use crate::refusal::Refusal;
@@ -178,6 +179,7 @@ impl Accepted {
     /// The configuration as it was read.
     pub fn config(&self) -> &Config
         ensures value { result.now ≡ self.now.config }
+        ensures planned { IsPlanned self.now }
         ensures good { IsGood result.now }
         ensures clear { IsClear result.now }
     {

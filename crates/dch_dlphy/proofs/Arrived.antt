@@ -3,7 +3,6 @@ use Rattle.std.proofs.Common.{◌≡◌, ◌+◌, ◌-◌, ◌*◌, ◌%◌, ◌
 use Rattle.std.specs.Prelude.{nat_lt, true, slice_index}
 use Rattle.std.proofs.lemmas.Bool.{cases_lt}
 use Rattle.std.proofs.lemmas.Bool.Decides.{nat_tests}
-use Rattle.std.proofs.lemmas.Nat.{mod_below}
 use Rattle.std.proofs.Math.Nat.{mul-mod_right}
 use Rattle.dch_bits.specs.declared.bit.Bit.{Bit}
 use Rattle.dch_bits.specs.declared.bit.Bit.TheVariants.{Zero}
@@ -23,7 +22,7 @@ use Rattle.dch_frame.specs.Stages.{as_cell, code_back, origin_of}
 use Rattle.dch_frame.proofs.Carried.{place_inside, rows_of, whole_rows}
 use Rattle.dch_frame.proofs.Codes.{code_back-inside, code_place-back}
 use Rattle.dch_accept.specs.Plans.{Planned}
-use Rattle.dch_tti.specs.RxFrames.{IsReaderOf, RxFrame, RxFrames, frame_at, tti_place}
+use Rattle.dch_tti.specs.RxFrames.{RxFrame, RxFrames, frame_at}
 use Rattle.dch_tti.specs.Loaded.{Loaded, loaded_at}
 use Rattle.dch_tti.proofs.Sent.{sent_number}
 use Rattle.dch_dlphy.specs.Frames.{multiplexed, multiplexed_cell, bits_before, bits_per_frame, sent_cell}
@@ -84,10 +83,14 @@ frame_arrived planned i n c m places loaded kept sent good plan channel listed s
     ∙ ap (λ (loaded : Loaded). get_or loaded.cells (n * bits_per_frame planned c i + m) Off) sent.holds
     ∙ ap (λ places. get_or loaded.cells (n * places + m) Off) size
 
+-- the combinations of a TTI's radio frames are in the list
+abbrev pub IsListed : Planned → ℕ → List ℕ → Type 0
+IsListed planned i sequence = (n : ℕ) → n < (channel_at planned.config.downlink.side i).frames → slice_index sequence n < length planned.config.downlink.side.combinations
+
 -- and so the cells of the TTI are those that were filled
-pub cell_arrived : (planned : Planned) (reader : RxFrames) (i f p : ℕ) (sequence : List ℕ) (blocks : List Bit) (sent : IsSentTti planned reader i f sequence blocks) → IsDownlink planned.config.downlink → IsDownlinkPlan planned.config.downlink planned.downlink → IsReaderOf planned Down reader
+pub cell_arrived : (planned : Planned) (reader : RxFrames) (i f p : ℕ) (sequence : List ℕ) (blocks : List Bit) (sent : IsSentTti planned reader i f sequence blocks) → IsDownlink planned.config.downlink → IsDownlinkPlan planned.config.downlink planned.downlink → IsListed planned i sequence
     → i < length planned.config.downlink.side.channels → p < tti_cells planned i f → tti_cell planned reader i (tti_cells planned i f) p ≡ filled_cell (tti_pattern planned i f) sent.from.coded p
-cell_arrived planned reader i f p sequence blocks sent good plan held channel inside =
+cell_arrived planned reader i f p sequence blocks sent good plan listing channel inside =
     let side : Side = planned.config.downlink.side in
     let frames : ℕ = (channel_at side i).frames in
     let is : IsFrames frames = (good.side.channels i channel).frames in
@@ -102,7 +105,7 @@ cell_arrived planned reader i f p sequence blocks sent good plan held channel in
     let frame = sent.frames n below in
     let c : ℕ = slice_index sequence n in
     let size : bits_per_frame planned c i ≡ places = ap (λ f. (matching_of planned i f).cells) (sent_number planned Down (multiplexed planned) i f n c sent.loaded _ frame sent.from.format channel) in
-    let listed : c < length side.combinations = (held.each (tti_place reader.cfn frames n) (mod_below _ 8 (omega arith))).listed c frame.found in
+    let listed : c < length side.combinations = listing n below in
     let height : len / frames ≡ places = rows_of frames places len some whole in
     let place : n * places + m ≡ first_back_of frames len p = ap (λ rows. n * rows + m) (sym height) ∙ frame_place frames len p in
     let there : first_back_of frames len p < len = first_back_of-inside frames len p is (whole_rows frames places len some whole) inside in

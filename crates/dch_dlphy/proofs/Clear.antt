@@ -2,7 +2,6 @@
 use Rattle.std.proofs.Common.{◌≡◌, ◌<◌, ℕ, List, length, replicate, arith, ap, sym, ◌∙◌, subst}
 use Rattle.std.specs.Prelude.{slice_index}
 use Rattle.std.proofs.lemmas.List.{get_or-replicate, length-replicate}
-use Rattle.std.proofs.lemmas.Nat.{mod_below}
 use Rattle.dch_bits.specs.declared.bit.Bit.{Bit}
 use Rattle.dch_types.specs.declared.channel.Dir.TheVariants.{Down}
 use Rattle.dch_types.specs.declared.channel.Side.{Side}
@@ -14,11 +13,12 @@ use Rattle.dch_frame.specs.Patterns.{copies}
 use Rattle.dch_collision.specs.Sequences.{IsLegal}
 use Rattle.dch_collision.specs.Clear.{HasNoCollision, IsClear, joined_in}
 use Rattle.dch_accept.specs.Plans.{Planned}
-use Rattle.dch_tti.specs.RxFrames.{IsReaderOf, RxFrames, tti_place}
+use Rattle.dch_tti.specs.RxFrames.{RxFrames}
 use Rattle.dch_tti.proofs.Sent.{sent_number}
 use Rattle.dch_dlphy.specs.Frames.{multiplexed}
 use Rattle.dch_dlphy.specs.Read.{tti_pattern}
 use Rattle.dch_dlphy.specs.Sent.{IsSentTti}
+use Rattle.dch_dlphy.proofs.Arrived.{IsListed}
 
 -- one combination in all radio frames
 all_one : (n c k : ℕ) → k < n → slice_index (replicate n c) k ≡ c
@@ -38,15 +38,15 @@ one_legal side i f c listed format =
     }
 
 -- so the format is one of those that acceptance looked at
-pub downlink_clear : (planned : Planned) (reader : RxFrames) (i f : ℕ) (sequence : List ℕ) (blocks : List Bit) → IsDownlink planned.config.downlink → IsDownlinkPlan planned.config.downlink planned.downlink → IsReaderOf planned Down reader → i < length planned.config.downlink.side.channels
+pub downlink_clear : (planned : Planned) (reader : RxFrames) (i f : ℕ) (sequence : List ℕ) (blocks : List Bit) → IsDownlink planned.config.downlink → IsDownlinkPlan planned.config.downlink planned.downlink → IsListed planned i sequence → i < length planned.config.downlink.side.channels
     → IsSentTti planned reader i f sequence blocks → IsClear planned.config → HasNoCollision (channel_at planned.config.downlink.side i).coding (joined_in planned.config.downlink.side i f) (copies (tti_pattern planned i f).kind)
-downlink_clear planned reader i f sequence blocks good plan held channel sent clear =
+downlink_clear planned reader i f sequence blocks good plan listing channel sent clear =
     let side : Side = planned.config.downlink.side in
     let frames : ℕ = (channel_at side i).frames in
     let is : IsFrames frames = (good.side.channels i channel).frames in
     let frame = sent.frames 0 (omega (arith, is)) in
     let c : ℕ = slice_index sequence 0 in
-    let listed : c < length side.combinations = (held.each (tti_place reader.cfn frames 0) (mod_below _ 8 (omega arith))).listed c frame.found in
+    let listed : c < length side.combinations = listing 0 (omega (arith, is)) in
     let format : format_number side c i ≡ f = sent_number planned Down (multiplexed planned) i f 0 c sent.loaded _ frame sent.from.format channel in
     let there : f < length (channel_at side i).formats = subst (λ f. f < length (channel_at side i).formats) format ((good.side.combinations c listed).formats i channel) in
     subst (λ (pattern : Pattern). HasNoCollision (channel_at side i).coding (joined_in side i f) (copies pattern.kind)) (sym ((plan.rows i channel).matchings f there).pattern)

@@ -1,5 +1,6 @@
 pub mod Arrived
 pub mod Clear
+pub mod Damaged
 pub mod Demultiplexed
 pub mod Filled
 pub mod Fits
@@ -7,4 +8,3 @@ pub mod One
 pub mod OneFrame
 pub mod Rooms
 pub mod Sent
-pub mod SentBack

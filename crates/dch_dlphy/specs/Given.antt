@@ -1,10 +1,13 @@
 -- Where blocks were sent, all radio frames of their TTI give the channel the format of the blocks.
+use Rattle.std.proofs.Common.{◌∙◌, ap}
 use Rattle.dch_types.specs.declared.channel.Dir.TheVariants.{Down}
+use Rattle.dch_tti.specs.Formats.{format_in}
 use Rattle.dch_tti.specs.Outcomes.{GivesItsFormat}
 use Rattle.dch_tti.proofs.Sent.{sent_formats}
+use Rattle.dch_dlphy.specs.Damaged.{WasDamaged}
 use Rattle.dch_dlphy.specs.Frames.{multiplexed}
-use Rattle.dch_dlphy.specs.Sent.{WasSent}
 
-pub gives_its_format : GivesItsFormat Down WasSent
-gives_its_format planned reader i f blocks was channel =
-    sent_formats planned Down (multiplexed planned) reader i f was.sequence was.sent.loaded was.sent.frames was.sent.from.format channel
+pub gives_its_format : GivesItsFormat Down WasDamaged
+gives_its_format planned reader i f blocks is inside n below =
+    ap (format_in planned.config.downlink.side i) (is.combinations n below)
+    ∙ sent_formats planned Down (multiplexed planned) is.sent i f is.was.sequence is.was.sent.loaded is.was.sent.frames is.was.sent.from.format inside n below

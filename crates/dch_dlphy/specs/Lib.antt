@@ -1,3 +1,4 @@
+pub mod Damaged
 pub mod Frames
 pub mod Given
 pub mod Loaded

@@ -20,15 +20,15 @@ pub struct DlScratch {
 impl CountVotes for DlScratch {
     ghost use Rattle.std.specs.Prelude.{length};
     ghost use Rattle.dch_types.specs.declared.channel.Dir.TheVariants.{Down};
+    ghost use Rattle.dch_dlphy.specs.Damaged.{WasDamaged};
     ghost use Rattle.dch_dlphy.specs.Given.{gives_its_format};
     ghost use Rattle.dch_dlphy.specs.Read.{AreVotes};
-    ghost use Rattle.dch_dlphy.specs.Sent.{WasSent};
 
     ghost dir = { Down };
 
     ghost counts = { AreVotes };
 
-    ghost sent = { WasSent };
+    ghost damaged = { WasDamaged };
 
     fn dir() -> Dir {
         Dir::Down
@@ -52,8 +52,8 @@ impl CountVotes for DlScratch {
         format: u8,
         out: &mut [Vote],
     ) {
-        // A radio frame has room for the places of its channels in each combination, and no two code blocks collide.
-        let (_config, _plan) = (accepted.config(), accepted.downlink_plan());
+        // A radio frame has room for the places of its channels in each combination.
+        let _config = accepted.config();
         let pattern = pattern_of(accepted, channel, format);
         let places = bits_per_frame(accepted, channel, format) as usize;
         let frames = accepted.frames_of(Dir::Down, channel) as usize;

@@ -1,7 +1,7 @@
 -- A frame that is refused has no read form, and what was taken is in the read form.
 use Rattle.std.proofs.Common.{◌≡◌, ◌<◌, ℕ, List, length, arith, sym, subst, ◌∙◌, inl, inr}
 use Rattle.std.specs.Prelude.{slice_index, Result, Ok, Err, IfOk, IfErr, OnErr}
-use Rattle.dch_types.specs.declared.channel.Dir.TheVariants.{Up}
+use Rattle.dch_types.specs.declared.channel.Dir.TheVariants.{Down, Up}
 use Rattle.dch_iub.specs.declared.read.IubUl.{IubUl}
 use Rattle.dch_types.specs.declared.channel.Dir.{Dir}
 use Rattle.dch_types.specs.declared.channel.Trch.{Trch}
@@ -90,3 +90,8 @@ pub read_of : (config : Config) (set : ℕ) (frame : List ℕ) (held : HeldSet) 
     → IfOk answer (λ read. IsReceived Up (side_of config Up) config.payload_check set frame read.cfn read.qe held) → IfOk answer (λ read. IsReadForm config Up set frame read.cfn read.qe held)
 read_of config set frame held (Ok read) received = received_form config Up set read.cfn read.qe frame held received
 read_of config set frame held (Err error) received = tt
+
+pub read_down : (config : Config) (set : ℕ) (frame : List ℕ) (held : HeldSet) (answer : Result ℕ IubError)
+    → IfOk answer (λ cfn. IsReceived Down (side_of config Down) config.payload_check set frame cfn 0 held) → IfOk answer (λ cfn. IsReadForm config Down set frame cfn 0 held)
+read_down config set frame held (Ok cfn) received = received_form config Down set cfn 0 frame held received
+read_down config set frame held (Err error) received = tt

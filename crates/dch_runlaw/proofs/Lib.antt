@@ -113,15 +113,8 @@ pub mod Bearers
 pub mod Directions
 pub mod Rows
 pub mod Small
-pub mod Changed
 pub mod DamagedFrame
-pub mod DownlinkDamaged
-pub mod FewChanged
-pub mod UplinkDamaged
 pub mod DownlinkSent
 pub mod ReadAfterWrite
-pub mod Readers
-pub mod ToldApart
-pub mod UplinkCopies
 pub mod UplinkSent
 pub use Rattle.dch_amlaw.proofs.Short as AmlawShort

@@ -47,7 +47,6 @@ pub mod UmHistory
 pub mod TmHistory
 pub mod Directions
 pub mod Rows
-pub mod Damaged
 pub mod SentRead
 pub use Rattle.dch_linkcmd.specs.Filtering
 pub use Rattle.dch_linkcmd.specs.Led

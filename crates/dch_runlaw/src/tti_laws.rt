@@ -13,21 +13,23 @@ ghost use Rattle.dch_collision.specs.Collisions.{NoneCollide};
 ghost use Rattle.dch_collision.specs.Sequences.{IsLegal, frames_of};
 ghost use Rattle.dch_accept.specs.Blocks.{Held, bits_of};
 ghost use Rattle.dch_accept.specs.Frames.{Frame};
+ghost use Rattle.dch_tti.specs.Damaged.{AreFewChanged, AreLittleChanged, IsLittleDamaged};
 ghost use Rattle.dch_tti.specs.Frames.{IsFrameOf};
 ghost use Rattle.dch_tti.specs.Loaded.{Loaded};
 ghost use Rattle.dch_tti.specs.Outcomes.{IsOutcome, IsSentBack};
 ghost use Rattle.dch_tti.specs.declared.outcome.TtiOutcome.{TtiOutcome};
 ghost use Rattle.dch_accept.specs.Plans.{IsPlanned, Planned};
+ghost use Rattle.dch_dlphy.specs.Damaged.{WasDamaged as WasDamagedDown};
 ghost use Rattle.dch_dlphy.specs.Loaded.{IsLoaded as IsLoadedDown};
 ghost use Rattle.dch_dlphy.specs.Read.{IsTtiRead as IsDownlinkRead};
 ghost use Rattle.dch_dlphy.specs.Sent.{AreSentAndPushed as AreSentAndPushedDown, WasSent as WasSentDown};
 ghost use Rattle.dch_node.specs.RxFrames.{AreHeard};
 ghost use Rattle.dch_node.specs.Values.{Radio};
 ghost use Rattle.dch_tti.specs.RxFrames.{IsKept, IsReaderOf, RxFrame, RxFrames};
+ghost use Rattle.dch_ulphy.specs.Damaged.{WasDamaged as WasDamagedUp};
 ghost use Rattle.dch_ulphy.specs.Loaded.{IsLoaded as IsLoadedUp};
 ghost use Rattle.dch_ulphy.specs.Read.{IsTtiRead as IsUplinkRead};
 ghost use Rattle.dch_ulphy.specs.Sent.{AreSentAndPushed as AreSentAndPushedUp, WasSent as WasSentUp};
-ghost use Rattle.dch_runlaw.specs.Damaged.{AreFewChanged, AreLittleChanged, IsLittleDamaged, WasDamagedDown, WasDamagedUp};
 ghost use Rattle.dch_runlaw.specs.SentRead.{IsReadAsSent};
 
 /// A law: of a TTI whose radio frames are kept just as they were sent no frame is bad, its format is the one in which
@@ -70,13 +72,15 @@ pub fn read_after_write_law()
 {}
 
 /// A law: a TTI whose radio frames are kept in the combinations in which they were sent is read as it was sent, where
-/// in each code block less than half of the copies that tell it from others have changed, to the other bit or to none.
+/// few cells of each code block are changed: those that show the other bit twice and those that show none once are less
+/// than the cells in which two blocks differ. One that is kept just as it was sent is the case of no changed cell.
 pub fn damaged_tti_law()
     ensures uplink { (planned : Planned) (reader : RxFrames) (i f : ℕ) (blocks : List Bit) →
         IsPlanned planned → i < length planned.config.uplink.side.channels →
         WasDamagedUp planned reader i f blocks → IsReadAsSent planned Up (IsUplinkRead planned) reader i f blocks }
-    ensures downlink { (planned : Planned) (reader : RxFrames) (i f : ℕ) (blocks : List Bit) →
-        IsPlanned planned → i < length planned.config.downlink.side.channels →
+    ensures downlink { (planned : Planned) (cfn : ℕ) (frames : ℕ →
+        Option Radio) (reader : RxFrames) (i f : ℕ) (blocks : List Bit) →
+        IsPlanned planned → AreHeard planned Down cfn frames reader → i < length planned.config.downlink.side.channels →
         WasDamagedDown planned reader i f blocks →
         IsReadAsSent planned Down (IsDownlinkRead planned) reader i f blocks }
 {}
@@ -97,12 +101,12 @@ pub fn told_apart_law()
         AreToldApart (coded_as coding) size filler sent 1 }
 {}
 
-/// A law: a radio frame of which at most four of the 30 TFCI bits are wrong is kept in the combination in which it was
-/// written.
+/// A law: a radio frame of which at most four of 30 TFCI bits are wrong, or 20 of 120, is kept in the combination in
+/// which it was written.
 pub fn damaged_frame_law()
     ensures { (planned : Planned) (dir : Dir) (multiplexed : ℕ →
         Trit) (c : ℕ) (frame : Frame) (tfci : List Bit) (cells : List Trit) (kept : RxFrame) →
         c < length (side_of planned.config dir).combinations → length (side_of planned.config dir).combinations ≤ 128 →
-        IsFrameOf planned dir multiplexed c frame → IsLittleDamaged frame tfci cells →
+        IsFrameOf planned dir multiplexed c frame → IsLittleDamaged frame.tfci frame.cells tfci cells →
         IsKept planned dir tfci cells kept → kept.combination ≡ Some c }
 {}

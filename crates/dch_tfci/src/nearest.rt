@@ -1,7 +1,7 @@
 ghost use Rattle.std.specs.Prelude.{◌≡◌, ◌==◌, ℕ, List, ◌+◌, ◌-◌, ◌*◌, ◌/◌, ◌%◌, ◌<◌, ◌≤◌, if◌then◌else◌, length, min, slice_index, slice_index_or};
 ghost use Rattle.dch_bits.specs.declared.bit.Bit.{Bit};
 ghost use Rattle.dch_bits.specs.Bits.{distance};
-ghost use Rattle.dch_tfci.specs.Tfci.{word_bit, sent, IsSize, IsNearest};
+ghost use Rattle.dch_tfci.specs.Tfci.{most_wrong, word_bit, sent, IsSize, IsNearest};
 ghost use Rattle.dch_tfci.specs.Transform.{place, differs, place_cost, cell, shown, IsStage, IsRoomy, IsNext, IsNextCopies, IsLeastKey, IsPicked};
 
 use dch_bits::{Bit, number};
@@ -20,13 +20,13 @@ type Lanes = [u8; 16];
 type Costs = [Lanes; 32];
 
 /// Finds the nearest of the 1024 indexes, and the least where several are as near (TS 25.212 4.3.3). The received bits
-/// are 30 or 120. Where at most four bits of the 30 sent for an index are wrong, that index is found.
+/// are 30 or 120. Where at most four bits of the 30 sent for an index are wrong, or 20 of 120, that index is found.
 pub fn find(received: &[Bit]) -> Tfci
     requires { IsSize (length received.now) }
     ensures nearest { IsNearest received.now result.index result.distance }
-    ensures corrected { (index : ℕ) → index < 1024 → length received.now ≡ 30 →
-        distance received.now (sent index 30) ≤ 4 →
-        (result.index ≡ index) × (result.distance ≡ distance received.now (sent index 30)) }
+    ensures corrected { (index : ℕ) → index < 1024 →
+        distance received.now (sent index (length received.now)) ≤ most_wrong (length received.now) →
+        (result.index ≡ index) × (result.distance ≡ distance received.now (sent index (length received.now))) }
 {
     let mut other = empty_table();
     let mut table = empty_table();

@@ -1,4 +1,4 @@
--- The blocks that are written and marked are those that were read, and where nothing is damaged those that were sent.
+-- The blocks that are written and marked are those that were read, and where little is damaged those that were sent.
 use Rattle.std.proofs.Common.{◌≡◌, ◌+◌, ◌*◌, ◌/◌, ◌%◌, ◌<◌, ◌≤◌, ℕ, zero, suc, List, length, take, drop, get_or, arith, ap, sym, ◌∙◌, subst}
 use Rattle.std.specs.Prelude.{◌↔◌, IsTrue, false, reverse}
 use Rattle.std.proofs.lemmas.List.{same_lists, take_at}
@@ -11,19 +11,16 @@ use Rattle.dch_types.specs.declared.channel.Format.{Format}
 use Rattle.dch_types.specs.declared.channel.Trch.{Trch}
 use Rattle.dch_types.specs.Lengths.{crc_size, joined_bits, coded_bits, tti_bits}
 use Rattle.dch_coding.specs.Parity.{IsAttached}
-use Rattle.dch_coding.specs.Ttis.{AreJoined, IsCodedTti, part}
+use Rattle.dch_coding.specs.Ttis.{AreJoined, part}
 use Rattle.dch_accept.specs.Blocks.{Held, bits_of, block_at}
 use Rattle.dch_accept.specs.BlockLending.{with_bits}
 use Rattle.dch_accept.specs.Frames.{overwritten}
-use Rattle.dch_accept.specs.CollisionClear.{HasNoCollision}
 use Rattle.dch_tti.specs.JoinedBits.{AreRead}
-use Rattle.dch_tti.specs.Copies.{AreCopies}
 use Rattle.dch_tti.specs.Corrected.{ReadsCorrectable}
 use Rattle.dch_tti.specs.Received.{IsReceived, ArrivesAs}
 use Rattle.dch_tti.proofs.Lengths.{joined_le}
 use Rattle.dch_tti.proofs.Parts.{length-part, get_or-part}
 use Rattle.dch_tti.proofs.Corrected.{joined_corrected}
-use Rattle.dch_tti.proofs.UndamagedBits.{joined_found}
 
 -- a list that is written over whole
 overwritten_all : (xs ws : List Bit) → length ws ≡ length xs → overwritten xs ws ≡ ws
@@ -101,18 +98,7 @@ read_long : (channel : Trch) (number : ℕ) (format : Format) (votes : List Vote
 unfolding tti_bits
 read_long channel number format votes held received size = size ∙ ap (coded_bits channel.coding) (sym received.long)
 
--- a TTI that arrives undamaged gives its blocks, all good
-pub arrived : (channel : Trch) (number : ℕ) (format : Format) (votes : List Vote) (held : Held) (blocks coded : List Bit) (kept : ℕ → ℕ) → IsReceived channel number format votes held → length votes ≡ tti_bits channel format → length votes ≤ 131072 → length blocks ≡ bits_of format → IsCodedTti channel format blocks coded → AreCopies votes coded kept → HasNoCollision channel.coding (joined_bits channel format) kept → ArrivesAs blocks held
-arrived channel number format votes held blocks coded kept received size short whole sent copies apart =
-    let coding : Coding = channel.coding in
-    let joined : List Bit = received.joined in
-    let long : length votes ≡ coded_bits coding (length joined) = read_long channel number format votes held received size in
-    arrived_as channel number format votes held blocks sent.joined received whole sent.are
-    (joined_found coding votes joined sent.joined kept (omega (arith, joined_le (length joined) coding, long, short)) long (sent.are.whole ∙ sym received.long) received.read
-    (subst (λ (bits : List Bit). AreCopies votes bits kept) sent.coded copies)
-    (subst (λ (n : ℕ). HasNoCollision coding n kept) (sym sent.are.whole) apart))
-
--- and so does one of which each code block is correctable
+-- a TTI of which each code block is correctable gives its blocks, all good
 pub arrived_correctable : (channel : Trch) (number : ℕ) (format : Format) (votes : List Vote) (held : Held) → IsReceived channel number format votes held → length votes ≡ tti_bits channel format → length votes ≤ 131072 → ReadsCorrectable channel format votes held
 arrived_correctable channel number format votes held received size short blocks bits sent whole are correctable =
     let coding : Coding = channel.coding in

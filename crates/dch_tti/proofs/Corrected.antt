@@ -14,10 +14,11 @@ use Rattle.dch_coding.specs.Segments.{plan_of, filler_of}
 use Rattle.dch_coding.specs.declared.cut.Plan.{Plan}
 use Rattle.dch_coding.proofs.Sizes.{plan_whole}
 use Rattle.dch_coding.specs.Chain.{coded_as, code_block}
-use Rattle.dch_trellis.specs.Distance.{AreToldApart, HaveCopies}
+use Rattle.dch_trellis.specs.Distance.{AreToldApart, HaveCopies, damage}
 use Rattle.dch_trellis.specs.Nearest.{differing, disagreement, copies, IsBlock}
 use Rattle.dch_trellis.specs.Search.{no_votes}
-use Rattle.dch_trellis.proofs.Damage.{copies-distance, damage-received, damage-same, found-sent, received, told_by_copies}
+use Rattle.dch_coding.proofs.Linear.{same_or_not}
+use Rattle.dch_trellis.proofs.Damage.{copies-distance, copies_between-le, damage-received, damage-same, received, told_by_copies}
 use Rattle.dch_accept.specs.CollisionClear.{block_copies}
 use Rattle.dch_tti.specs.Corrected.{least_distance, block_votes, coded_bits_of, AreCorrectable, AreFewWrong, IsCorrectable}
 use Rattle.dch_tti.specs.JoinedBits.{majority, IsRead, AreRead}
@@ -39,6 +40,14 @@ read-least : (coding : Coding) (votes : List Vote) (size filler : ℕ) (found ot
 read-least Uncoded votes size filler found other is shape long read = rw read (majorities-least votes other (shape.sized ∙ sym long))
 read-least Half votes size filler found other is shape long read = read.least other (subst (λ n. IsBlock n filler other) (sym is.sized) shape)
 read-least Third votes size filler found other is shape long read = read.least other (subst (λ n. IsBlock n filler other) (sym is.sized) shape)
+
+-- a block that disagrees with no more copies than the one that was sent is that one
+found-sent : (code : List Bit → List Bit) (votes : List Vote) (size filler count : ℕ) (sent : ℕ → ℕ) (found block : List Bit) → length (code block) ≡ length votes → IsBlock size filler found → IsBlock size filler block
+    → disagreement votes (code found) ≤ disagreement votes (code block) → AreToldApart code size filler sent count → disagreement votes (code block) + damage sent votes (code block) < count → found ≡ block
+found-sent code votes size filler count sent found block long shape is near told few = elim (same_or_not found block) [
+  | inl same ↦ same
+  | inr differ ↦ absurd (omega (arith, told block found is shape (λ same. differ (sym same)), copies_between-le sent votes (code block) (code found) long))
+]
 
 -- a correctable code block is read as it was sent
 block_corrected : (coding : Coding) (plan : Plan) (sent : ℕ → ℕ) (votes : List Vote) (joined bits : List Bit) (r : ℕ) → plan.filler ≤ plan.size → r < plan.blocks → length votes ≡ plan.blocks * coded_block coding plan.size → IsRead coding (block_votes coding plan votes r) (filler_of plan r) (code_block plan joined r) → IsCorrectable coding plan sent votes bits r → code_block plan joined r ≡ code_block plan bits r

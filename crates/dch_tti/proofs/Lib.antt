@@ -1,7 +1,5 @@
 pub mod Parts
 pub mod Blocks
-pub mod Agreement
-pub mod UndamagedBits
 pub mod Few
 pub mod Lengths
 pub mod Arrived
@@ -20,3 +18,7 @@ pub mod Pushed
 pub mod Reading
 pub mod Sent
 pub mod Written
+pub mod Changed
+pub mod FewChanged
+pub mod ToldApart
+pub mod Moved

@@ -21,7 +21,8 @@ use Rattle.dch_accept.specs.Frames.{most_cells}
 use Rattle.dch_accept.specs.Plans.{Planned}
 use Rattle.dch_accept.specs.Rooms.{most_room}
 use Rattle.dch_accept.proofs.Rooms.{holds_coding}
-use Rattle.dch_tti.specs.Received.{ArrivesAs, IsReceived, ReadsCopies}
+use Rattle.dch_tti.specs.Corrected.{ReadsCorrectable}
+use Rattle.dch_tti.specs.Received.{ArrivesAs, IsReceived}
 use Rattle.dch_tti.specs.Formats.{IsFormatOf}
 use Rattle.dch_tti.specs.Read.{AreVotesOf, IsTtiRead, coded_in}
 use Rattle.dch_tti.specs.RxFrames.{AreMissing, IsReaderOf, RxFrames}
@@ -72,13 +73,13 @@ tti_read planned dir AreVotes reader i f channel format votes counted held same 
 
 -- the votes that are decoded are those that were counted
 pub arrives : (side : Side) (i f : ℕ) (channel : Trch) (format : Format) (votes counted : List Vote) (held : Held) (blocks : List Bit)
-    → channel ≡ channel_at side i → format ≡ format_at channel f → votes ≡ counted → ReadsCopies channel format votes held → AreVotesOf side i f blocks counted → ArrivesAs blocks held
+    → channel ≡ channel_at side i → format ≡ format_at channel f → votes ≡ counted → ReadsCorrectable channel format votes held → AreVotesOf side i f blocks counted → ArrivesAs blocks held
 arrives side i f channel format votes counted held blocks same kind all reads are =
-    let here : ReadsCopies (channel_at side i) (format_at (channel_at side i) f) counted held =
-    subst (λ votes. ReadsCopies (channel_at side i) (format_at (channel_at side i) f) votes held) all
-    (subst (λ (channel : Trch). ReadsCopies channel (format_at channel f) votes held) same
-    (subst (λ (format : Format). ReadsCopies channel format votes held) kind reads)) in
-    here blocks are.coded are.sent are.whole are.is are.copies are.clear
+    let here : ReadsCorrectable (channel_at side i) (format_at (channel_at side i) f) counted held =
+    subst (λ votes. ReadsCorrectable (channel_at side i) (format_at (channel_at side i) f) votes held) all
+    (subst (λ (channel : Trch). ReadsCorrectable channel (format_at channel f) votes held) same
+    (subst (λ (format : Format). ReadsCorrectable channel format votes held) kind reads)) in
+    here blocks are.joined are.sent are.whole are.are are.correctable
 
 -- the front of two lists
 pub take_whole : {X : Type 0} (n : ℕ) (xs ys : List X) → length xs ≡ n → take n (xs ++ ys) ≡ xs

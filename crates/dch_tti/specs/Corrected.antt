@@ -1,5 +1,5 @@
 -- Code blocks that are read as they were sent, though some of their copies arrive wrong or not at all.
-use Rattle.std.specs.Prelude.{◌≡◌, ◌*◌, ◌<◌, ℕ, List, length}
+use Rattle.std.specs.Prelude.{◌≡◌, ◌+◌, ◌*◌, ◌<◌, ℕ, List, length}
 use Rattle.dch_bits.specs.declared.bit.Bit.{Bit}
 use Rattle.dch_bits.specs.declared.bit.Vote.{Vote}
 use Rattle.dch_types.specs.declared.channel.Coding.{Coding}
@@ -31,15 +31,17 @@ block_votes coding plan votes r = part r (coded_block coding plan.size) votes
 abbrev pub coded_bits_of : Coding → Plan → List Bit → ℕ → List Bit
 coded_bits_of coding plan joined r = coded_as coding (code_block plan joined r)
 
--- of code block r less than half of the copies that tell it from others are lost, where coded bit j of the TTI is sent
--- `sent j` times
+-- of code block r so few copies are lost that it is told from others, where coded bit j of the TTI is sent `sent j`
+-- times: a wrong copy counts twice and a missing one once, and together they are less than the copies in which two
+-- blocks differ
 pub record IsCorrectable (coding : Coding) (plan : Plan) (sent : ℕ → ℕ) (votes : List Vote) (joined : List Bit) (r : ℕ) : Type 0 where
   pub count : ℕ
   pub apart : AreToldApart (coded_as coding) plan.size (filler_of plan r) (block_copies coding plan sent r) count
-  pub few : 2 * damage (block_copies coding plan sent r) (block_votes coding plan votes r)
-      (coded_bits_of coding plan joined r) < count
+  pub few : disagreement (block_votes coding plan votes r) (coded_bits_of coding plan joined r)
+      + damage (block_copies coding plan sent r) (block_votes coding plan votes r) (coded_bits_of coding plan joined r)
+      < count
 
--- in each code block of a TTI less than half of the copies that tell it from any other did not arrive as they were sent
+-- and so in each code block of a TTI
 abbrev pub AreCorrectable : Coding → (ℕ → ℕ) → List Vote → List Bit → Type 0
 AreCorrectable coding sent votes joined =
     let plan = plan_of (length joined) coding in

@@ -1,7 +1,7 @@
 pub mod JoinedBits
-pub mod Copies
 pub mod Received
 pub mod Corrected
+pub mod Damaged
 pub mod Frames
 pub mod Loaded
 pub mod Formats

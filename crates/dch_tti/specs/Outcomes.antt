@@ -23,8 +23,8 @@ pub record IsSentBack (format : ℕ) (blocks : List Bit) (outcome : TtiOutcome) 
   pub number : held.format ≡ format
   pub arrives : ArrivesAs blocks held
 
--- where blocks of a channel were sent in a format, and their radio frames are kept, all of these give the channel that
--- format
+-- where blocks of a channel were sent in a format, and their radio frames are kept in their combinations, all of these
+-- give the channel that format
 abbrev pub GivesItsFormat : Dir → (Planned → RxFrames → ℕ → ℕ → List Bit → Type 0) → Type 0
 GivesItsFormat dir Sent =
     (planned : Planned) (reader : RxFrames) (i f : ℕ) (blocks : List Bit) → Sent planned reader i f blocks

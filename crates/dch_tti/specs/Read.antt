@@ -5,13 +5,12 @@ use Rattle.dch_bits.specs.declared.bit.Bit.{Bit}
 use Rattle.dch_bits.specs.declared.bit.Vote.{Vote}
 use Rattle.dch_types.specs.declared.channel.Dir.{Dir}
 use Rattle.dch_types.specs.declared.channel.Side.{Side}
-use Rattle.dch_types.specs.Lengths.{joined_bits, tti_bits}
+use Rattle.dch_types.specs.Lengths.{tti_bits}
 use Rattle.dch_types.specs.Parts.{channel_at, format_at, side_of}
-use Rattle.dch_coding.specs.Ttis.{IsCodedTti}
-use Rattle.dch_accept.specs.CollisionClear.{HasNoCollision}
+use Rattle.dch_coding.specs.Ttis.{AreJoined}
 use Rattle.dch_accept.specs.Blocks.{Held, bits_of}
 use Rattle.dch_accept.specs.Plans.{Planned}
-use Rattle.dch_tti.specs.Copies.{AreCopies}
+use Rattle.dch_tti.specs.Corrected.{AreCorrectable}
 use Rattle.dch_tti.specs.Received.{IsReceived}
 use Rattle.dch_tti.specs.Formats.{IsFormatOf}
 use Rattle.dch_tti.specs.RxFrames.{RxFrames}
@@ -32,12 +31,11 @@ pub record IsTtiRead (planned : Planned) (dir : Dir) (AreVotes : RxFrames → �
   pub are : AreVotes reader i held.format votes
   pub blocks : IsReceived (channel_at (side_of planned.config dir) i) held.format (format_at (channel_at (side_of planned.config dir) i) held.format) votes held
 
--- the votes are just the copies of the coded bits of these blocks, of which no two code blocks collide
+-- the votes are those for the coded bits of these blocks, and of each code block so few copies are lost that it is told
+-- from others
 pub record AreVotesOf (side : Side) (i f : ℕ) (blocks : List Bit) (votes : List Vote) : Type 0 where
   pub whole : length blocks ≡ bits_of (format_at (channel_at side i) f)
-  pub coded : List Bit
-  pub is : IsCodedTti (channel_at side i) (format_at (channel_at side i) f) blocks coded
+  pub joined : List Bit
+  pub are : AreJoined (channel_at side i) (format_at (channel_at side i) f) blocks joined
   pub sent : ℕ → ℕ
-  pub copies : AreCopies votes coded sent
-  pub clear : HasNoCollision (channel_at side i).coding (joined_bits (channel_at side i)
-      (format_at (channel_at side i) f)) sent
+  pub correctable : AreCorrectable (channel_at side i).coding sent votes joined

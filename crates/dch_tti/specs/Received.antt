@@ -8,9 +8,7 @@ use Rattle.dch_types.specs.declared.channel.Trch.{Trch}
 use Rattle.dch_types.specs.Lengths.{crc_size, joined_bits}
 use Rattle.dch_coding.specs.Parity.{IsAttached}
 use Rattle.dch_accept.specs.Blocks.{Held, bits_of, block_at}
-use Rattle.dch_coding.specs.Ttis.{IsCodedTti, part}
-use Rattle.dch_accept.specs.CollisionClear.{HasNoCollision}
-use Rattle.dch_tti.specs.Copies.{AreCopies}
+use Rattle.dch_coding.specs.Ttis.{part}
 use Rattle.dch_tti.specs.JoinedBits.{AreRead}
 
 -- a block is the front of some bits, and good exactly where they end with its parity
@@ -35,11 +33,3 @@ pub record IsReceived (channel : Trch) (number : ℕ) (format : Format) (votes :
 pub record ArrivesAs (blocks : List Bit) (held : Held) : Type 0 where
   pub same : held.bits ≡ blocks
   pub good : (i : ℕ) → i < length held.good → IsTrue (slice_index_or held.good i false)
-
--- where the votes are the copies of a coded TTI, of which no two code blocks collide, just the blocks of that TTI are
--- received
-abbrev pub ReadsCopies : Trch → Format → List Vote → Held → Type 0
-ReadsCopies channel format votes held =
-    (blocks coded : List Bit) (kept : ℕ → ℕ) → length blocks ≡ bits_of format → IsCodedTti channel format blocks coded
-    → AreCopies votes coded kept
-    → HasNoCollision channel.coding (joined_bits channel format) kept → ArrivesAs blocks held

@@ -4,14 +4,10 @@ ghost use Rattle.dch_bits.specs.declared.bit.Vote.{Vote};
 ghost use Rattle.dch_types.specs.declared.channel.Coding.TheVariants.{Uncoded};
 ghost use Rattle.dch_types.specs.Lengths.{coded_block, coded_bits};
 ghost use Rattle.dch_coding.specs.Segments.{plan_of, filler_of};
-ghost use Rattle.dch_coding.specs.Chain.{coded_of};
 ghost use Rattle.dch_coding.specs.Rooms.{searched_bits};
-ghost use Rattle.dch_trellis.specs.Nearest.{disagreement};
 ghost use Rattle.dch_coding.specs.Ttis.{part};
 ghost use Rattle.dch_trellis.specs.Distance.{HaveCopies};
-ghost use Rattle.dch_accept.specs.CollisionClear.{HasNoCollision};
 ghost use Rattle.dch_tti.specs.JoinedBits.{IsRead, AreRead};
-ghost use Rattle.dch_tti.specs.Copies.{AreCopies};
 ghost use Rattle.dch_tti.specs.Corrected.{AreCorrectable, AreFewWrong};
 
 use crate::block::read_block;
@@ -58,7 +54,8 @@ impl Decoder {
     /// the one that the fewest received copies speak against, and a bit that is not coded is One where more ones than
     /// zeros were received. A bit has no more copies than eight radio frames have cells, 460,800. With a copy of each
     /// coded bit, a code block of which at most five copies are wrong at rate 1/2, or eight at rate 1/3, is read as it
-    /// was sent.
+    /// was sent. In general it is where the wrong copies twice and the missing ones once are less than the copies in
+    /// which two blocks differ.
     pub fn decode(&mut self, coding: Coding, votes: &[Vote], joined: &mut [Bit])
         requires coded { length votes.now ≡ coded_bits coding (length joined.old) }
         requires short { length votes.now ≤ 131072 }
@@ -67,10 +64,6 @@ impl Decoder {
         requires few { (j : ℕ) (v : Vote) → j < length votes.now →
             (slice_index_or votes.now j v).zeros + (slice_index_or votes.now j v).ones ≤ 460800 }
         ensures read { AreRead coding votes.now joined.new }
-        ensures undamaged { (sent : List Bit) (kept : ℕ → ℕ) → length sent ≡ length joined.new →
-            AreCopies votes.now (coded_of coding sent) kept →
-            HasNoCollision coding (length sent) kept → (joined.new ≡ sent) ×
-            (disagreement votes.now (coded_of coding joined.new) ≡ 0) }
         ensures corrected { (bits : List Bit) (least : ℕ) → length bits ≡ length joined.new →
             HaveCopies least votes.now → AreFewWrong coding least votes.now bits → joined.new ≡ bits }
         ensures told_apart { (bits : List Bit) (sent : ℕ → ℕ) → length bits ≡ length joined.new →

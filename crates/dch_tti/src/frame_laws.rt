@@ -5,9 +5,11 @@ ghost use Rattle.dch_types.specs.declared.channel.Dir.{Dir};
 ghost use Rattle.dch_types.specs.declared.channel.Side.{Side};
 ghost use Rattle.dch_types.specs.Limits.{IsSide};
 ghost use Rattle.dch_types.specs.Parts.{channel_at, side_of};
+ghost use Rattle.dch_frame.specs.Stages.{code_back};
 ghost use Rattle.dch_accept.specs.Cells.{code_cells};
 ghost use Rattle.dch_accept.specs.Frames.{Frame};
 ghost use Rattle.dch_accept.specs.Plans.{Planned};
+ghost use Rattle.dch_tti.specs.Damaged.{IsOneToOne, cell_at, changed, changed_among};
 ghost use Rattle.dch_tti.specs.Frames.{IsFrameOf};
 ghost use Rattle.dch_tti.specs.Loaded.{Loaded};
 ghost use Rattle.dch_tti.specs.Formats.{FindsFormat};
@@ -54,4 +56,19 @@ pub fn one_kept_frame_law()
 pub fn one_format_law()
     ensures { (side : Side) (reader : RxFrames) (i : ℕ) (one other : Result ℕ ℕ) → 0 < (channel_at side i).frames →
         FindsFormat side reader i one → FindsFormat side reader i other → one ≡ other }
+{}
+
+/// A law: the second interleaver moves changed cells one to one. A frame of codes of one length is brought back to
+/// multiplexed order, once as it was sent and once as it arrived. Then each place shows the change of one cell of the
+/// frame, each cell of the frame is that of one place, and the changes of all places are as many as those of all cells.
+pub fn moved_cells_law()
+    ensures places { (code n : ℕ) → 0 < code → n % code ≡ 0 → IsOneToOne code n }
+    ensures cells { (code p : ℕ) (sent received kept_sent kept : List Trit) → AreBack code sent kept_sent →
+        AreBack code received kept → length received ≡ length sent → p < length sent →
+        changed (cell_at kept_sent p) (cell_at kept p) ≡
+        changed (cell_at sent (code_back code p)) (cell_at received (code_back code p)) }
+    ensures all { (code : ℕ) (sent received kept_sent kept : List Trit) → AreBack code sent kept_sent →
+        AreBack code received kept → length received ≡ length sent → 0 < code → length sent % code ≡ 0 →
+        changed_among (cell_at kept_sent) (cell_at kept) 0 (length sent) ≡
+        changed_among (cell_at sent) (cell_at received) 0 (length sent) }
 {}

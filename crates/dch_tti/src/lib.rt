@@ -18,7 +18,8 @@ mod tti_reader;
 mod writer;
 
 pub use frame_laws::{
-    one_format_law, one_kept_frame_law, one_radio_frame_law, pushed_tti_law, written_frame_law,
+    moved_cells_law, one_format_law, one_kept_frame_law, one_radio_frame_law, pushed_tti_law,
+    written_frame_law,
 };
 pub use outcome::TtiOutcome;
 pub use received_frame::ReceivedFrame;

@@ -7,7 +7,7 @@ ghost use Rattle.dch_accept.specs.Blocks.{Held, bits_of};
 ghost use Rattle.dch_coding.specs.Rooms.{searched_bits};
 ghost use Rattle.dch_coding.specs.Ttis.{part};
 ghost use Rattle.dch_tti.specs.Corrected.{ReadsCorrectable};
-ghost use Rattle.dch_tti.specs.Received.{IsReceived, ReadsCopies};
+ghost use Rattle.dch_tti.specs.Received.{IsReceived};
 
 use crate::decoder::{Decoder, decode_front};
 use crate::transport::received;
@@ -17,8 +17,9 @@ use dch_types::{Crc, Format, Trch};
 
 impl Decoder {
     /// Reads the transport blocks of a TTI of a channel, in format `number`, from the votes for its coded bits
-    /// (TS 25.212 4.2.1 to 4.2.3). A block is good exactly where its parity fits. Where less than half of the copies
-    /// that tell a code block from others are lost, it is read as it was sent.
+    /// (TS 25.212 4.2.1 to 4.2.3). A block is good exactly where its parity fits. The blocks are those that were sent
+    /// where of each code block the wrong copies twice and the missing ones once are less than the copies in which two
+    /// blocks differ.
     pub fn read(
         &mut self,
         channel: &Trch,
@@ -36,7 +37,6 @@ impl Decoder {
         requires few { (j : ℕ) (v : Vote) → j < length votes.now →
             (slice_index_or votes.now j v).zeros + (slice_index_or votes.now j v).ones ≤ 460800 }
         ensures read { IsReceived channel.now number format.now votes.now out.new }
-        ensures undamaged { ReadsCopies channel.now format.now votes.now out.new }
         ensures corrected { ReadsCorrectable channel.now format.now votes.now out.new }
         ensures room { out.new.room ≡ out.old.room }
         ensures kept { self.new ≡ self.old }

@@ -30,8 +30,9 @@ pub trait CountVotes {
     // The votes for the coded bits of a channel's TTI in a format.
     ghost counts: { Planned → RxFrames → ℕ → ℕ → List Vote → Type 0 };
 
-    // Blocks of a channel in a format were sent, and the radio frames of their TTI are kept as they were written.
-    ghost sent: { Planned → RxFrames → ℕ → ℕ → List Bit → Type 0 };
+    // Blocks of a channel in a format were sent, and the radio frames of their TTI are kept in the combinations in which
+    // they were written, with so few cells changed that the blocks can be told.
+    ghost damaged: { Planned → RxFrames → ℕ → ℕ → List Bit → Type 0 };
 
     // How much room there is to count, and how much of it TTIs of that size want.
     ghost size: { Self → ℕ };
@@ -65,12 +66,12 @@ pub trait CountVotes {
         ensures counted { counts accepted.now rx_frames.now channel format (votes_in (side_of accepted.now.config dir) channel format out.new) }
         ensures few { (j : ℕ) (v : Vote) → j < coded_in (side_of accepted.now.config dir) channel format →
             (slice_index_or out.new j v).zeros + (slice_index_or out.new j v).ones ≤ 460800 }
-        ensures undamaged { (blocks : List Bit) → sent accepted.now rx_frames.now channel format blocks →
+        ensures corrected { (blocks : List Bit) → damaged accepted.now rx_frames.now channel format blocks →
             AreVotesOf (side_of accepted.now.config dir) channel format blocks (votes_in (side_of accepted.now.config dir) channel format out.new) }
         ensures kept { size self.new ≡ size self.old };
 
     /// The radio frames of such a TTI give the channel the format in which its blocks were sent.
-    ghost gives: { GivesItsFormat dir sent };
+    ghost gives: { GivesItsFormat dir damaged };
 }
 
 /// Received radio frames of a direction, and the room to read the TTIs of its channels from them.
@@ -134,14 +135,17 @@ impl<R: CountVotes + Drop> TtiReader<R> {
     }
 
     /// Reads the TTI of a channel that the last frame ends (TS 25.212 4.2.1 to 4.2.12, read backwards). A bad frame
-    /// leaves the blocks as they were.
+    /// leaves the blocks as they were. Just the blocks that were sent are read, all good, where each radio frame is kept
+    /// in its combination and few cells of each code block are changed: the wrong bits twice and the missing ones once
+    /// are less than the copies in which two blocks differ. With a copy of each coded bit five bits may be wrong at
+    /// rate 1/2, and eight at rate 1/3.
     pub fn read(&mut self, accepted: &Accepted, channel: u8, out: &mut TtiBlocks) -> TtiOutcome
         requires opened { IsReaderOf accepted.now R.dir self.old }
         requires blocks { HoldsTtis (side_of accepted.now.config R.dir) out.old.room }
         requires channel { channel < length (side_of accepted.now.config R.dir).channels }
         ensures outcome { IsOutcome (side_of accepted.now.config R.dir)
             (IsTtiRead accepted.now R.dir (R.counts accepted.now)) self.old channel out.old result out.new }
-        ensures undamaged { (format : ℕ) (blocks : List Bit) → R.sent accepted.now self.old channel format blocks →
+        ensures corrected { (format : ℕ) (blocks : List Bit) → R.damaged accepted.now self.old channel format blocks →
             IsSentBack format blocks result out.new }
         ensures room { out.new.room ≡ out.old.room }
         ensures kept { self.new ≡ self.old }
@@ -162,7 +166,7 @@ impl<R: CountVotes + Drop> TtiReader<R> {
         requires channel { channel < length (side_of accepted.now.config R.dir).channels }
         requires format { IsFormatOf (side_of accepted.now.config R.dir) self.old channel format }
         ensures read { IsTtiRead accepted.now R.dir (R.counts accepted.now) self.old channel out.new }
-        ensures undamaged { (blocks : List Bit) → R.sent accepted.now self.old channel format blocks →
+        ensures corrected { (blocks : List Bit) → R.damaged accepted.now self.old channel format blocks →
             ArrivesAs blocks out.new }
         ensures number { out.new.format ≡ format }
         ensures room { out.new.room ≡ out.old.room }

@@ -1,5 +1,5 @@
 -- The votes of a radio frame that is kept as it was written.
-use Rattle.std.proofs.Common.{◌≡◌, ◌+◌, ◌-◌, ◌*◌, ◌/◌, ◌<◌, ◌≤◌, ℕ, zero, suc, List, length, drop, get_or, arith, refl, ap, sym, ◌∙◌, subst, inl, inr, add-one}
+use Rattle.std.proofs.Common.{◌≡◌, ◌+◌, ◌-◌, ◌*◌, ◌/◌, ◌<◌, ◌≤◌, ℕ, zero, suc, List, length, drop, get_or, arith, refl, ap, sym, ◌∙◌, inl, inr, add-one}
 use Rattle.std.specs.Prelude.{slice_index, map, min}
 use Rattle.std.specs.List.{range_with_len}
 use Rattle.std.proofs.lemmas.Bool.{cases_lt}
@@ -8,18 +8,12 @@ use Rattle.std.proofs.lemmas.Nat.{mul-add-lt}
 use Rattle.std.proofs.lemmas.List.FromFn.{get_or-map-range_with_len}
 use Rattle.dch_bits.specs.declared.bit.Bit.{Bit}
 use Rattle.dch_bits.specs.declared.bit.Bit.TheVariants.{Zero}
-use Rattle.dch_bits.specs.declared.bit.Trit.{Trit}
 use Rattle.dch_bits.specs.declared.bit.Trit.TheVariants.{Off}
-use Rattle.dch_bits.specs.declared.bit.Vote.{Vote}
 use Rattle.dch_types.specs.Limits.{IsFrames}
 use Rattle.dch_types.specs.Parts.{channel_at}
 use Rattle.dch_inter.specs.Places.{first_of, first_back_of, frame_of, place_of}
 use Rattle.dch_inter.proofs.FirstColumns.{first_of-back, frame_place}
-use Rattle.dch_frame.specs.Uplinks.{IsPlan, before_of, uplink_pattern}
-use Rattle.dch_collision.specs.Copies.{frame_copies}
-use Rattle.dch_collision.proofs.FrameSizes.{frame_size-plan}
-use Rattle.dch_frame.specs.Patterns.{copies, copies_below}
-use Rattle.dch_frame.specs.Votes.{copies_as_votes}
+use Rattle.dch_frame.specs.Uplinks.{before_of}
 use Rattle.dch_frame.specs.Matched.{frame_pattern}
 use Rattle.dch_frame.specs.declared.pattern.Pattern.{Pattern}
 use Rattle.dch_frame.specs.declared.uplink_plan.UplinkPlan.{UplinkPlan}
@@ -27,13 +21,11 @@ use Rattle.dch_types.proofs.Sums.{part_le}
 use Rattle.dch_frame.specs.Stages.{as_cell, origin_of, code_back}
 use Rattle.dch_frame.proofs.Carried.{rows_of, whole_rows, place_inside}
 use Rattle.dch_frame.proofs.Codes.{code_back-inside, code_place-back}
-use Rattle.dch_frame.proofs.KeptBits.{origin_of-inside}
 use Rattle.dch_accept.specs.Plans.{Planned}
 use Rattle.dch_collision.specs.Plans.{plan_at}
 use Rattle.dch_tti.specs.Loaded.{frame_number, loaded_at, Loaded}
 use Rattle.dch_tti.specs.RxFrames.{RxFrame}
 use Rattle.dch_frame.specs.Sizes.{IsFrameSize}
-use Rattle.dch_accept.proofs.Sizes.{plan_sized}
 use Rattle.dch_ulphy.specs.Frames.{pattern_of, sent_cell, bits_before, multiplexed_cell}
 use Rattle.dch_ulphy.specs.Loaded.{AreInterleaved}
 use Rattle.dch_ulphy.specs.Read.{channel_cells, pattern_in}
@@ -125,34 +117,3 @@ segment_bit f rows len coded n j frames some whole inside of =
     get_or-map-range_with_len (λ m. get_or coded (first_of f len (n * rows + m)) Zero) 0 rows m m Zero small (omega arith)
     ∙ ap (λ k. get_or coded (first_of f len k) Zero) place
     ∙ ap (λ i. get_or coded i Zero) (first_of-back f len j frames (whole_rows f rows len some whole) inside)
-
--- the votes of a frame that is kept as it was written are the copies of its coded bits
-pub frame_arrived : (planned : Planned) (i n c : ℕ) (loaded : Loaded) (kept : RxFrame) (sent : IsSentFrame planned i n c loaded kept) (coded : List Bit) (f rows : ℕ) (pattern : Pattern) (cells : List Trit) (votes : List Vote)
-    → i < length planned.config.uplink.side.channels
-    → IsPlan planned.config.uplink c (plan_at planned.uplink c)
-    → f ≡ (channel_at planned.config.uplink.side i).frames → IsFrames f → n < f → rows ≡ before_of planned.config.uplink.side c i
-    → AreInterleaved f coded loaded.cells → length loaded.cells ≡ rows * f
-    → pattern ≡ pattern_in planned i n c → cells ≡ channel_cells (plan_at planned.uplink c) i kept.cells
-    → length cells ≡ copies_below pattern.kind pattern.len → length cells ≡ slice_index (plan_at planned.uplink c).sent i → length votes ≡ rows * f
-    → ((bits : List Bit) → ((k : ℕ) → k < length cells → get_or cells k Off ≡ as_cell (get_or bits (origin_of pattern k) Zero)) → (j : ℕ) (v : Vote) → j < length votes → frame_of f (length votes) j ≡ n → get_or votes j v ≡ copies_as_votes (get_or bits (place_of f (length votes) j) Zero) (copies pattern.kind (place_of f (length votes) j)))
-    → (j : ℕ) (v : Vote) → j < length votes → frame_of f (length votes) j ≡ n → get_or votes j v ≡ copies_as_votes (get_or coded j Zero) (frame_copies planned.config.uplink i n c (place_of f (length votes) j))
-frame_arrived planned i n c loaded kept sent coded f rows pattern cells votes channel is_plan frames few frame is shown long same_pattern same_cells kept_all sized whole undamaged j v inside of =
-    let side = planned.config.uplink.side in
-    let plan : UplinkPlan = plan_at planned.uplink c in
-    let bits : List Bit = segment_bits f (rows * f) coded n rows in
-    let some : 0 < f = omega arith in
-    let room : bits_before plan i + slice_index plan.sent i ≤ plan.ndata = omega (arith, part_le (slice_index plan.sent) i (length side.channels) channel, is_plan.all_sent) in
-    let high : pattern.len ≡ rows = ap (λ (pattern : Pattern). pattern.len) same_pattern ∙ pattern_len planned i n c ∙ sym is in
-    let cell : (k : ℕ) → k < length cells → get_or cells k Off ≡ as_cell (get_or bits (origin_of pattern k) Zero) =
-    λ k early.
-    let small : origin_of pattern k < rows = omega (arith, origin_of-inside pattern k (omega (arith, kept_all, early)), high) in
-    ap (λ cells. get_or cells k Off) same_cells
-    ∙ segment_shown planned i n c loaded kept sent coded f rows k frames is frame shown long channel (plan_sized _ _ _ is_plan) room (omega (arith, sized, early)) (subst (λ (pattern : Pattern). origin_of pattern k < rows) same_pattern small)
-    ∙ ap (λ (pattern : Pattern). as_cell (get_or bits (origin_of pattern k) Zero)) (sym same_pattern) in
-    let m : ℕ = place_of f (length votes) j in
-    let bit : get_or bits m Zero ≡ get_or coded j Zero =
-    ap (λ len. get_or (segment_bits f len coded n rows) m Zero) (sym whole) ∙ segment_bit f rows (length votes) coded n j few some whole inside of in
-    undamaged bits cell j v inside of
-    ∙ ap (λ bit. copies_as_votes bit (copies pattern.kind m)) bit
-    ∙ ap (λ (pattern : Pattern). copies_as_votes (get_or coded j Zero) (copies pattern.kind m)) same_pattern
-    ∙ ap (λ size. copies_as_votes (get_or coded j Zero) (copies (uplink_pattern side c size i n).kind m)) (sym (frame_size-plan planned.config.uplink c plan is_plan))

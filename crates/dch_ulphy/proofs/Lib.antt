@@ -1,5 +1,7 @@
 pub mod Alike
 pub mod Arrived
+pub mod Copies
+pub mod Damaged
 pub mod Demultiplexed
 pub mod One
 pub mod Padded

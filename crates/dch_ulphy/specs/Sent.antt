@@ -1,12 +1,9 @@
 -- A TTI whose radio frames are kept just as they were written, and the copies of its bits.
-use Rattle.std.specs.Prelude.{◌≡◌, ℕ, List, length, slice_index}
+use Rattle.std.specs.Prelude.{◌≡◌, ℕ, List, length}
 use Rattle.dch_bits.specs.declared.bit.Bit.{Bit}
 use Rattle.dch_types.specs.declared.channel.Dir.TheVariants.{Up}
-use Rattle.dch_types.specs.declared.config.Uplink.{Uplink}
 use Rattle.dch_types.specs.Parts.{channel_at, format_at}
-use Rattle.dch_inter.specs.Places.{frame_of, place_of}
 use Rattle.dch_collision.specs.Sequences.{IsLegal}
-use Rattle.dch_collision.specs.Copies.{frame_copies}
 use Rattle.dch_accept.specs.Blocks.{bits_of}
 use Rattle.dch_accept.specs.Plans.{Planned}
 use Rattle.dch_tti.specs.RxFrames.{RxFrame, RxFrames}
@@ -23,13 +20,6 @@ IsSentFrame planned i n c loaded kept = IsSentFrameBy planned Up (multiplexed pl
 -- and so are all frames of the TTI, each in its combination of a sequence
 abbrev pub AreSentFrames : Planned → RxFrames → ℕ → List ℕ → Loaded → Type 0
 AreSentFrames planned reader i sequence loaded = AreSentFramesBy planned Up (multiplexed planned) reader i sequence loaded
-
--- the copies of coded bit j of a TTI of so many bits that are sent in a sequence of combinations
-abbrev pub tti_copies : Uplink → ℕ → List ℕ → ℕ → ℕ → ℕ
-tti_copies uplink i sequence len j =
-    let frames = (channel_at uplink.side i).frames in
-    let n = frame_of frames len j in
-    frame_copies uplink i n (slice_index sequence n) (place_of frames len j)
 
 -- blocks in format f were loaded for channel i, and all frames of the TTI are kept as they were written meanwhile
 pub record IsSentTti (planned : Planned) (reader : RxFrames) (i f : ℕ) (sequence : List ℕ) (blocks : List Bit) : Type 0 where

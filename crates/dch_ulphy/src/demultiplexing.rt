@@ -1,19 +1,12 @@
-ghost use Rattle.std.specs.Prelude.{◌≡◌, ◌≢◌, ◌<◌, ◌≤◌, ◌+◌, ◌*◌, ◌^◌, ℕ, Some, None, length, slice_index, slice_index_or, List};
-ghost use Rattle.dch_bits.specs.declared.bit.Bit.{Bit};
-ghost use Rattle.dch_bits.specs.declared.bit.Bit.TheVariants.{Zero};
+ghost use Rattle.std.specs.Prelude.{◌≡◌, ◌≢◌, ◌<◌, ◌≤◌, ◌+◌, ◌*◌, ◌^◌, ℕ, Some, None, length, slice_index, slice_index_or};
 ghost use Rattle.dch_bits.specs.declared.bit.Vote.{Vote};
 ghost use Rattle.dch_types.specs.declared.channel.Dir.TheVariants.{Up};
 ghost use Rattle.dch_types.specs.Parts.{channel_at};
 ghost use Rattle.dch_inter.specs.Places.{frame_of, place_of};
 ghost use Rattle.dch_frame.specs.Uplinks.{before_of};
-ghost use Rattle.dch_frame.specs.Votes.{copies_as_votes};
-ghost use Rattle.dch_collision.specs.Copies.{frame_copies};
 ghost use Rattle.dch_tti.specs.RxFrames.{IsKeptOf, IsReaderOf, frame_at};
-ghost use Rattle.dch_tti.specs.Loaded.{Loaded};
 ghost use Rattle.dch_ulphy.specs.Frames.{bits_before};
-ghost use Rattle.dch_ulphy.specs.Loaded.{AreInterleaved};
 ghost use Rattle.dch_ulphy.specs.Read.{channel_cells, frame_votes, tti_votes};
-ghost use Rattle.dch_ulphy.specs.Sent.{AreSentFrames, IsSentFrame, tti_copies};
 
 use dch_accept::Accepted;
 use dch_bits::{Trit, Vote};
@@ -41,13 +34,6 @@ pub fn demultiplex_tti(
         length counted.old * (channel_at accepted.now.config.uplink.side channel).frames }
     ensures votes { (j : ℕ) (v : Vote) → j < length votes.new →
         slice_index_or votes.new j v ≡ tti_votes accepted.now rx_frames.now channel (length votes.new) j }
-    ensures undamaged { (coded : List Bit) (sequence : List ℕ) (loaded : Loaded) →
-        AreSentFrames accepted.now rx_frames.now channel sequence loaded →
-        AreInterleaved (channel_at accepted.now.config.uplink.side channel).frames coded loaded.cells →
-        length loaded.cells ≡ length votes.new →
-        (j : ℕ) (v : Vote) → j < length votes.new →
-        slice_index_or votes.new j v ≡ copies_as_votes (slice_index_or coded j Zero)
-        (tti_copies accepted.now.config.uplink channel sequence (length votes.new) j) }
     ensures few { (j : ℕ) (v : Vote) → j < length votes.new →
         (slice_index_or votes.new j v).zeros + (slice_index_or votes.new j v).ones ≤ 57600 }
 {
@@ -88,15 +74,6 @@ fn demultiplex_frame(
     ensures few { (j : ℕ) (v : Vote) → j < length votes.new →
         frame_of (channel_at accepted.now.config.uplink.side channel).frames (length votes.new) j ≡ n →
         (slice_index_or votes.new j v).zeros + (slice_index_or votes.new j v).ones ≤ 57600 }
-    ensures undamaged { (coded : List Bit) (c : ℕ) (loaded : Loaded) →
-        IsSentFrame accepted.now channel n c loaded kept.now →
-        AreInterleaved (channel_at accepted.now.config.uplink.side channel).frames coded loaded.cells →
-        length loaded.cells ≡ length votes.new →
-        (j : ℕ) (v : Vote) → j < length votes.new →
-        frame_of (channel_at accepted.now.config.uplink.side channel).frames (length votes.new) j ≡ n →
-        slice_index_or votes.new j v ≡ copies_as_votes (slice_index_or coded j Zero)
-        (frame_copies accepted.now.config.uplink channel n c
-        (place_of (channel_at accepted.now.config.uplink.side channel).frames (length votes.new) j)) }
     ensures same { (j : ℕ) (v : Vote) → j < length votes.new →
         frame_of (channel_at accepted.now.config.uplink.side channel).frames (length votes.new) j ≢ n →
         slice_index_or votes.new j v ≡ slice_index_or votes.old j v }

@@ -14,9 +14,9 @@ pub struct UlScratch {
 impl CountVotes for UlScratch {
     ghost use Rattle.std.specs.Prelude.{length};
     ghost use Rattle.dch_types.specs.declared.channel.Dir.TheVariants.{Up};
+    ghost use Rattle.dch_ulphy.specs.Damaged.{WasDamaged};
     ghost use Rattle.dch_ulphy.specs.Given.{gives_its_format};
     ghost use Rattle.dch_ulphy.specs.Read.{AreVotes};
-    ghost use Rattle.dch_ulphy.specs.Sent.{WasSent};
 
     ghost size = { λ s. length s.counted.items };
 
@@ -33,7 +33,7 @@ impl CountVotes for UlScratch {
 
     ghost counts = { AreVotes };
 
-    ghost sent = { WasSent };
+    ghost damaged = { WasDamaged };
 
     fn dir() -> Dir {
         Dir::Up
@@ -47,7 +47,7 @@ impl CountVotes for UlScratch {
         format: u8,
         out: &mut [Vote],
     ) {
-        // No two code blocks collide.
+        // Each radio frame has the plan of its combination.
         let _config = accepted.config();
         let trch = accepted.channel(Dir::Up, channel);
         let bits = trch.tti_bits(trch.format(format as usize)) as usize;

@@ -1,5 +1,5 @@
-use Rattle.dch_runlaw.proofs.DownlinkDamaged.{downlink_damaged}
-use Rattle.dch_runlaw.proofs.UplinkDamaged.{uplink_damaged}
+use Rattle.dch_runlaw.proofs.DownlinkSent.{downlink_damaged}
+use Rattle.dch_runlaw.proofs.UplinkSent.{uplink_damaged}
 use Rattle.dch_runlaw.proofs.tti_laws.damaged_tti_law.Goals as goal
 
 pub returns-clause-uplink : goal.returns-clause-uplink

@@ -16,8 +16,7 @@ loop-n-preserved c =
     let reader = c.args.rx_frames.now in
     heard_more c.args.accepted.now reader c.args.channel c.loop-n.n c.loop-n.votes c.demultiplex_frame.new.votes c.frame.result.now c.demultiplex_frame.auto.votes
     (c.frame.ensures ∙ ap (λ f. rx_frame_at reader.frames (tti_place reader.cfn f c.loop-n.n)) c.frames_of-frames.ensures.value)
-    c.demultiplex_frame.ensures.votes c.demultiplex_frame.ensures.few c.demultiplex_frame.ensures.same
-    (omega (arith, c.frames_of-frames.ensures.value, c.loop-n-test.true)) c.demultiplex_frame.ensures.undamaged c.loop-n.invariant
+    c.demultiplex_frame.ensures.votes c.demultiplex_frame.ensures.few c.demultiplex_frame.ensures.same c.loop-n.invariant
 
 -- each bit goes to a radio frame of the TTI
 in_frames : (f frames rows len j : ℕ) → f ≡ frames → IsFrames f → 0 < f → len ≡ rows * frames → j < len → frame_of frames len j < f
@@ -35,14 +34,6 @@ returns-clause-votes c j v inside =
 pub returns-clause-few : goal.returns-clause-few
 returns-clause-few c j v inside =
     c.loop-n.invariant.few j v inside (omega (
-      arith,
-      in_frames c.frames_of-frames.result (channel_at c.args.accepted.now.config.uplink.side c.args.channel).frames (length c.args.counted.now) (length c.loop-n.votes) j
-          c.frames_of-frames.ensures.value c.frames_of-frames.ensures.frames c.frames_of-frames.ensures.some (c.loop-n.auto.votes ∙ c.requires.whole) inside,
-    ))
-
-pub returns-clause-undamaged : goal.returns-clause-undamaged
-returns-clause-undamaged c coded sequence loaded sent shown whole j v inside =
-    c.loop-n.invariant.undamaged coded sequence loaded sent shown whole j v inside (omega (
       arith,
       in_frames c.frames_of-frames.result (channel_at c.args.accepted.now.config.uplink.side c.args.channel).frames (length c.args.counted.now) (length c.loop-n.votes) j
           c.frames_of-frames.ensures.value c.frames_of-frames.ensures.frames c.frames_of-frames.ensures.some (c.loop-n.auto.votes ∙ c.requires.whole) inside,

@@ -7,18 +7,16 @@ use Rattle.dch_types.specs.declared.channel.Side.{Side}
 use Rattle.dch_types.specs.Parts.{channel_at}
 use Rattle.dch_config.specs.Good.{IsGood}
 use Rattle.dch_frame.specs.declared.pattern.Pattern.{Pattern}
-use Rattle.dch_frame.specs.Downlinks.{IsDownlinkPlan}
 use Rattle.dch_frame.specs.Patterns.{copies_below}
 use Rattle.dch_frame.specs.Votes.{votes_of}
 use Rattle.dch_frame.proofs.KeptBits.{copies_inside}
-use Rattle.dch_collision.specs.Clear.{IsClear}
 use Rattle.dch_tti.specs.Read.{coded_in, votes_in}
 use Rattle.dch_tti.proofs.Reading.{take_whole}
 use Rattle.dch_dlphy.specs.Loaded.{tti_cells}
 use Rattle.dch_dlphy.specs.Read.{AreVotes}
+use Rattle.dch_dlphy.proofs.Damaged.{opened_listed, votes_told}
 use Rattle.dch_dlphy.proofs.Demultiplexed.{kept_cells, read_back}
 use Rattle.dch_dlphy.proofs.Fits.{ReadFits, places_all, read_fits}
-use Rattle.dch_dlphy.proofs.SentBack.{votes_arrive}
 use Rattle.dch_dlphy.proofs.reader.DlScratchCountVotes.count.Goals as goal
 
 -- as many votes as coded bits
@@ -85,14 +83,10 @@ returns-clause-few c j v early =
     subst (λ (vote : Vote). vote.zeros + vote.ones ≤ 460800) (sym (get_or_append_left votes _ v j inside))
     (omega (arith, c.count_votes.ensures.few j v inside, copies_inside pattern j (omega (arith, inside, sized)), all, c.bits_per_frame-places.ensures.room))
 
-pub returns-clause-undamaged : goal.returns-clause-undamaged
-returns-clause-undamaged c blocks was =
-    let planned = c.args.accepted.now in
-    let good : IsGood planned.config = subst IsGood c.config-config.ensures.value c.config-config.ensures.good in
-    let clear : IsClear planned.config = subst IsClear c.config-config.ensures.value c.config-config.ensures.clear in
-    let plan : IsDownlinkPlan planned.config.downlink planned.downlink = subst (IsDownlinkPlan planned.config.downlink) c.downlink_plan-plan.ensures.value c.downlink_plan-plan.ensures.plan in
+pub returns-clause-corrected : goal.returns-clause-corrected
+returns-clause-corrected c blocks was =
     let fits : ReadFits c.args.accepted.now c.args.rx_frames.now c.args.channel c.args.format =
     read_fits c.args.accepted.now c.args.rx_frames.now c.args.channel c.args.format c.requires.opened (subst IsGood c.config-config.ensures.value c.config-config.ensures.good).downlink.side c.requires.channel c.requires.format.inside in
     let sized : length c.count_votes.new.out ≡ c.pattern_of-pattern.result.len = c.count_votes.auto.out ∙ length-take-le c.pattern_of-pattern.result.len c.args.out.now (omega (arith, fits.votes, c.pattern_of-pattern.ensures.len, c.requires.room)) in
-    votes_arrive planned c.args.rx_frames.now c.args.channel c.args.format was.sequence _ blocks good.downlink plan clear c.requires.opened c.requires.channel c.requires.format.inside
-    (sized_front planned.config.downlink.side c.args.channel c.args.format c.count_votes.new.out _ (sized ∙ c.pattern_of-pattern.ensures.len)) (returns-clause-counted c) was.sent
+    votes_told c.args.accepted.now c.args.rx_frames.now c.args.channel c.args.format blocks _ c.config-config.ensures.planned c.requires.channel c.requires.format.inside (opened_listed c.args.accepted.now c.args.channel c.args.rx_frames.now c.requires.opened)
+    (sized_front c.args.accepted.now.config.downlink.side c.args.channel c.args.format c.count_votes.new.out _ (sized ∙ c.pattern_of-pattern.ensures.len)) (returns-clause-counted c) was

@@ -1,24 +1,10 @@
 use Rattle.std.proofs.Common.{◌≡◌, ◌≤◌, ◌^◌, List, length, arith, ap, sym, ◌∙◌}
 use Rattle.dch_bits.specs.declared.bit.Bit.{Bit}
 use Rattle.dch_types.specs.Lengths.{coded_bits}
-use Rattle.dch_coding.specs.Chain.{coded_of}
-use Rattle.dch_trellis.specs.Nearest.{disagreement}
 use Rattle.dch_trellis.proofs.Damage.{received}
-use Rattle.dch_tti.proofs.Agreement.{disagreement-copies}
 use Rattle.dch_tti.proofs.Corrected.{few_correctable, joined_corrected}
 use Rattle.dch_tti.proofs.Lengths.{joined_le}
-use Rattle.dch_tti.proofs.UndamagedBits.{joined_found}
 use Rattle.dch_tti.proofs.decoder.Decoder.decode.Goals as goal
-
-pub returns-clause-undamaged : goal.returns-clause-undamaged
-returns-clause-undamaged c sent kept size copies apart =
-    let joined : List Bit = c.decode_with.new.joined in
-    let coded : length c.args.votes.now ≡ coded_bits c.args.coding (length joined) = c.requires.coded ∙ ap (coded_bits c.args.coding) (sym c.decode_with.auto.joined) in
-    let small : length joined ≤ 2 ^ 31 = omega (arith, joined_le (length joined) c.args.coding, coded, c.requires.short) in
-    let same : joined ≡ sent = joined_found c.args.coding c.args.votes.now joined sent kept small coded size c.decode_with.ensures.read copies apart in (
-      same,
-      ap (λ bits. disagreement c.args.votes.now (coded_of c.args.coding bits)) same ∙ disagreement-copies c.args.votes.now (coded_of c.args.coding sent) kept copies,
-    )
 
 pub returns-clause-told_apart : goal.returns-clause-told_apart
 returns-clause-told_apart c bits sent size are =

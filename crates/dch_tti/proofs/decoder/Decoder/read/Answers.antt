@@ -3,7 +3,7 @@ use Rattle.std.proofs.lemmas.List.{length-take-le, take_at}
 use Rattle.dch_bits.specs.declared.bit.Bit.{Bit}
 use Rattle.dch_types.specs.Lengths.{coded_bits, joined_bits, tti_bits}
 use Rattle.dch_tti.specs.JoinedBits.{AreRead}
-use Rattle.dch_tti.proofs.Arrived.{received_are, arrived, arrived_correctable}
+use Rattle.dch_tti.proofs.Arrived.{received_are, arrived_correctable}
 use Rattle.dch_tti.proofs.decoder.Decoder.read.Goals as goal
 
 pub decode_front-requires-clause-coded : goal.decode_front-requires-clause-coded
@@ -22,9 +22,6 @@ returns-clause-read c =
     received_are c.args.channel.now c.args.number c.args.format.now c.args.votes.now c.resize.new.self c.mark_blocks.new.out c.write_blocks.new.out (take len c.deref.result.now) c.from-size.result c.from.result
     c.from-size.ensures c.from.ensures c.resize.ensures.format c.resize.ensures.size c.resize.ensures.count c.resize.ensures.bits
     (c.write_blocks.auto.out ∙ ap length c.bits_mut.ensures.value) c.mark_blocks.ensures.same c.mark_blocks.ensures.count long read c.write_blocks.ensures c.mark_blocks.ensures.marks
-
-pub returns-clause-undamaged : goal.returns-clause-undamaged
-returns-clause-undamaged c blocks coded kept whole sent copies apart = arrived c.args.channel.now c.args.number c.args.format.now c.args.votes.now c.mark_blocks.new.out blocks coded kept (returns-clause-read c) c.requires.coded c.requires.short whole sent copies apart
 
 pub returns-clause-corrected : goal.returns-clause-corrected
 returns-clause-corrected c = arrived_correctable c.args.channel.now c.args.number c.args.format.now c.args.votes.now c.mark_blocks.new.out (returns-clause-read c) c.requires.coded c.requires.short

@@ -73,8 +73,8 @@ returns-clause-read g c =
     channel c.format-kind.ensures.value votes (long ∙ c.tti_bits.ensures) c.requires.format
     (subst (λ reader. g.R.CountVotes.counts planned reader i f (votes_in side i f out)) c.self.view_is c.count.ensures.counted) c.read.ensures.read
 
-pub returns-clause-undamaged : goal.returns-clause-undamaged
-returns-clause-undamaged g c blocks sent =
+pub returns-clause-corrected : goal.returns-clause-corrected
+returns-clause-corrected g c blocks sent =
     let planned = c.args.accepted.now in
     let i : ℕ = c.args.channel in
     let f : ℕ = c.args.format in
@@ -85,5 +85,5 @@ returns-clause-undamaged g c blocks sent =
     let bits : c.tti_bits.result ≡ coded_in side i f = c.tti_bits.ensures ∙ ap (tti_bits trch) c.format-kind.ensures.value ∙ ap (λ (trch : Trch). tti_bits trch (format_at trch f)) channel in
     let votes : take c.tti_bits.result c.deref.result.now ≡ votes_in side i f out =
     ap (take c.tti_bits.result) (c.deref.ensures.value ∙ take_whole _ out _ (omega (arith, c.count.auto.out, c.deref_mut.ensures.len))) ∙ ap (λ n. take n out) bits in
-    arrives side i f trch c.format-kind.result.now (take c.tti_bits.result c.deref.result.now) (votes_in side i f out) c.read.new.out blocks channel c.format-kind.ensures.value votes c.read.ensures.undamaged
-    (c.count.ensures.undamaged blocks (subst (λ reader. g.R.CountVotes.sent planned reader i f blocks) (sym c.self.view_is) sent))
+    arrives side i f trch c.format-kind.result.now (take c.tti_bits.result c.deref.result.now) (votes_in side i f out) c.read.new.out blocks channel c.format-kind.ensures.value votes c.read.ensures.corrected
+    (c.count.ensures.corrected blocks (subst (λ reader. g.R.CountVotes.damaged planned reader i f blocks) (sym c.self.view_is) sent))

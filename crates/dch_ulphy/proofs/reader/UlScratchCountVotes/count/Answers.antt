@@ -1,10 +1,12 @@
-use Rattle.std.proofs.Common.{◌≡◌, ◌+◌, ◌*◌, ◌<◌, ◌∙◌, List, length, drop, arith, ap, ap₂, subst, sym}
-use Rattle.std.proofs.lemmas.List.{get_or_append_left}
+use Rattle.std.proofs.Common.{◌≡◌, ◌+◌, ◌*◌, ◌<◌, ◌≤◌, ◌∙◌, ℕ, List, length, drop, arith, ap, ap₂, sym}
+use Rattle.std.specs.Prelude.{◌++◌}
+use Rattle.std.proofs.lemmas.List.{get_or_append_left, length-take-le, take-append-le}
 use Rattle.dch_bits.specs.declared.bit.Vote.{Vote}
 use Rattle.dch_types.specs.declared.channel.Trch.{Trch}
-use Rattle.dch_collision.specs.Clear.{IsClear}
+use Rattle.dch_tti.specs.Read.{coded_in, votes_in}
 use Rattle.dch_ulphy.proofs.Rooms.{RowsFit, rows_fit}
-use Rattle.dch_ulphy.proofs.SentBack.{votes_arrive, votes_counted}
+use Rattle.dch_ulphy.proofs.Damaged.{votes_told}
+use Rattle.dch_ulphy.proofs.SentBack.{votes_counted}
 use Rattle.dch_ulphy.proofs.reader.UlScratchCountVotes.count.Goals as goal
 
 pub slice_bounds-votes-end : goal.slice_bounds-votes-end
@@ -62,13 +64,15 @@ returns-clause-counted c =
     let long : length heard ≡ c.div_ceil-rows.result * trch.frames = c.demultiplex_tti.auto.votes ∙ fits.taken in
     votes_counted c.args.accepted.now c.args.rx_frames.now c.args.channel c.args.format heard _ (long ∙ fits.padded) (omega (arith, fits.coded, long)) c.demultiplex_tti.ensures.votes
 
-pub returns-clause-undamaged : goal.returns-clause-undamaged
-returns-clause-undamaged c blocks was =
+pub returns-clause-corrected : goal.returns-clause-corrected
+returns-clause-corrected c blocks was =
     let trch : Trch = c.channel-trch.result.now in
     let fits : RowsFit c.args.accepted.now c.args.rx_frames.now c.args.channel c.args.format trch.frames c.div_ceil-rows.result c.args.out.now =
     rows_fit c.args.accepted.now c.args.rx_frames.now c.args.channel c.args.format trch c.format.result.now c.tti_bits-bits.result c.div_ceil-rows.result c.args.out.now
     c.requires.opened c.requires.channel c.channel-trch.ensures.value c.channel-trch.ensures.good c.requires.format.inside c.format.ensures.value c.tti_bits-bits.ensures c.div_ceil-rows.ensures c.requires.room in
     let heard : List Vote = c.demultiplex_tti.new.votes in
-    let long : length heard ≡ c.div_ceil-rows.result * trch.frames = c.demultiplex_tti.auto.votes ∙ fits.taken in
-    let clear : IsClear c.args.accepted.now.config = subst IsClear c.config-config.ensures.value c.config-config.ensures.clear in
-    votes_arrive c.args.accepted.now c.args.rx_frames.now c.args.channel c.args.format was.sequence heard _ blocks (long ∙ fits.padded) (omega (arith, fits.coded, long)) c.demultiplex_tti.ensures.undamaged clear c.requires.channel was.legal was.sent
+    let bits : ℕ = coded_in c.args.accepted.now.config.uplink.side c.args.channel c.args.format in
+    let inside : bits ≤ length heard = omega (arith, fits.coded, c.demultiplex_tti.auto.votes, fits.taken) in
+    let long : length (votes_in c.args.accepted.now.config.uplink.side c.args.channel c.args.format (heard ++ drop (c.div_ceil-rows.result * trch.frames) c.args.out.now)) ≡ bits =
+    ap length (take-append-le bits heard _ inside) ∙ length-take-le bits heard inside in
+    votes_told c.args.accepted.now c.args.rx_frames.now c.args.channel c.args.format blocks _ c.config-config.ensures.planned c.requires.channel long (returns-clause-counted c) was

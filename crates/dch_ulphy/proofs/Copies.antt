@@ -30,24 +30,21 @@ use Rattle.dch_frame.proofs.SharesLemmas.{nothing_shared, shared_le}
 use Rattle.dch_frame.proofs.Sizes.{largest_most}
 use Rattle.dch_collision.specs.Copies.{bits_in, frame_copies, padded_in, uplink_copies}
 use Rattle.dch_collision.specs.Plans.{plan_at}
-use Rattle.dch_collision.specs.Sequences.{IsLegal}
 use Rattle.dch_collision.proofs.FrameSizes.{frame_size-plan}
 use Rattle.dch_frame.specs.Stages.{as_cell, origin_of}
 use Rattle.dch_frame.specs.Votes.{copies_as_votes}
 use Rattle.dch_frame.proofs.Carried.{place_inside, whole_rows}
 use Rattle.dch_frame.proofs.Counts.{votes_of-shown}
 use Rattle.dch_frame.proofs.KeptBits.{origin_of-inside}
-use Rattle.dch_accept.specs.Blocks.{Held}
 use Rattle.dch_accept.specs.Plans.{IsPlanned, Planned}
 use Rattle.dch_accept.proofs.Sizes.{plan_sized}
-use Rattle.dch_tti.specs.Copies.{AreCopies}
 use Rattle.dch_tti.specs.Read.{coded_in}
 use Rattle.dch_tti.specs.RxFrames.{RxFrame, RxFrames, frame_at}
 use Rattle.dch_tti.proofs.Sent.{sent_number}
 use Rattle.dch_tti.specs.Loaded.{Loaded}
 use Rattle.dch_ulphy.specs.Frames.{bits_before, multiplexed}
 use Rattle.dch_ulphy.specs.Loaded.{AreInterleaved}
-use Rattle.dch_ulphy.specs.Read.{IsTtiRead, channel_cells, frame_votes, pattern_in, tti_votes}
+use Rattle.dch_ulphy.specs.Read.{channel_cells, frame_votes, pattern_in, tti_votes}
 use Rattle.dch_ulphy.specs.Sent.{IsSentFrame, IsSentTti}
 use Rattle.dch_ulphy.proofs.Arrived.{segment_bit, segment_bits, segment_shown}
 use Rattle.dch_ulphy.proofs.SentBack.{loaded_long}
@@ -142,9 +139,3 @@ sent_votes planned reader i g sequence blocks sent good inside listed j within =
     let height : rows ≡ before_of side c i = ap (λ f. div_ceil (tti_bits trch (format_at trch f)) trch.frames) (sym number) in
     let long : length sent.loaded.cells ≡ rows * f = loaded_long trch g blocks sent.loaded sent.from in
     frame_counts planned i n c sent.loaded (frame_at side reader i n) frame sent.from.coded rows j good.good.uplink inside there (good.uplink.each c there) below height long sent.from.cells early refl
-
-pub sent_copies : (planned : Planned) (reader : RxFrames) (i : ℕ) (sequence : List ℕ) (blocks : List Bit) (held : Held) (sent : IsSentTti planned reader i held.format sequence blocks) (read : IsTtiRead planned reader i held)
-    → IsPlanned planned → IsLegal planned.config.uplink.side i held.format sequence → i < length planned.config.uplink.side.channels → AreCopies read.votes sent.from.coded (uplink_copies planned.config.uplink i held.format sequence)
-sent_copies planned reader i sequence blocks held sent read good legal inside = λ j v within.
-    read.are j v within
-    ∙ sent_votes planned reader i held.format sequence blocks sent good inside (λ n below. legal.there n (omega (arith, below, legal.whole))) j (omega (arith, within, read.long))

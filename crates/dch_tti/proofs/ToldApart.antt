@@ -7,7 +7,7 @@ use Rattle.dch_types.specs.declared.channel.Coding.{Coding}
 use Rattle.dch_types.specs.Lengths.{coded_block}
 use Rattle.dch_coding.specs.Chain.{coded_as}
 use Rattle.dch_trellis.specs.Distance.{AreToldApart, copies_between}
-use Rattle.dch_collision.specs.Collisions.{NoneCollide}
+use Rattle.dch_accept.specs.Collisions.{NoneCollide}
 use Rattle.dch_tti.proofs.Blocks.{length-coded_as}
 
 -- bits between which there is no copy are the same where there is one
