@@ -29,9 +29,9 @@ front_append semantics x y z a b s t first front =
     }))
     front
 
--- where each line has one step, none is done in part
-pub whole_front : {S : Type 0} (semantics : Semantics S) (old new : S) (lines : List (List ℕ)) (text : List ℕ) → ((state : S) → semantics.remaining state ≡ 0) → HandlesFront semantics old lines new text → HandlesLines semantics old lines new text
-whole_front semantics old new lines text one_step front = ⊎_elim (λ whole. whole) (λ begun. absurd (omega (arith, begun.begins.few, one_step begun.begins.mid))) front
+-- where no line is left off in its midst, none is done in part
+pub whole_front : {S : Type 0} (semantics : Semantics S) (old new : S) (lines : List (List ℕ)) (text : List ℕ) → ((old new : S) (line text : List ℕ) → semantics.begins old line new text → ⊥) → HandlesFront semantics old lines new text → HandlesLines semantics old lines new text
+whole_front semantics old new lines text none front = ⊎_elim (λ whole. whole) (λ begun. absurd (none begun.state new begun.line begun.more begun.begins.begins)) front
 
 pub nonempty_lines-append : (a b : List (List ℕ)) → nonempty_lines (a ++ b) ≡ nonempty_lines a + nonempty_lines b
 nonempty_lines-append a b = sum_by-append (λ line. if not (is_empty line) then 1 else 0) a b

@@ -1,3 +1,4 @@
+pub mod Chunks
 pub mod Complete
 pub mod Cuts
 pub mod Parts
@@ -8,6 +9,7 @@ pub mod Steps
 pub mod Texts
 pub mod Letters
 pub mod Units
-pub mod Closing
 pub mod Meanings
-pub mod OtherLines
+pub mod Filtering
+pub mod Seen
+pub mod TextRows

@@ -1,8 +1,9 @@
 -- What following some bytes and then others does.
-use Rattle.std.proofs.Common.{◌≡◌, ◌≤◌, ℕ, List, ◌∷◌, ◌++◌, Option, arith, ap, sym, ◌∙◌, append_assoc, inl, inr, length-append, ⊎_elim}
+use Rattle.std.proofs.Common.{◌≡◌, ◌≤◌, ℕ, List, [], ◌∷◌, ◌++◌, Option, Result, Ok, Err, OnOk, OnErr, arith, refl, ap, sym, subst, ◌∙◌, append-nil, append_assoc, inl, inr, length-append, ⊎_elim}
 use Rattle.std.specs.Io.KnownBytes.{Appends}
-use Rattle.std.proofs.KnownBytes.{Appends-trans}
-use Rattle.dch_io.specs.Ends.{End, Passes, Breaks, span}
+use Rattle.std.proofs.KnownBytes.{Appends-nil, Appends-trans}
+use Rattle.dch_io.specs.Ends.{End, Passes, Breaks, end_of, span}
+use Rattle.dch_script.specs.Held.{Held}
 use Rattle.dch_script.specs.Lines.{lines_after, rest_after}
 use Rattle.dch_script.proofs.Lines.{lines_after-append, rest_after-append}
 use Rattle.dch_lines.specs.Semantics.{Semantics}
@@ -101,6 +102,35 @@ pub record Followed {S : Type 0} (semantics : Semantics S) (sink : End) (old new
 pub appends_on : (a b c : Option (List ℕ)) (f g : ℕ) (text mid last : List ℕ) → Passes (span a b f g) text mid → Appends b c (mid ++ last) → Appends a c (text ++ last)
 appends_on a b c f g text mid last first next =
     rw (ap (λ l. l ++ last) first.whole ∙ append_assoc first.written mid last) (Appends-trans a b c first.written (mid ++ last) first.writes next)
+
+pub appends_all : (a b c : Option (List ℕ)) (f g : ℕ) (text mid : List ℕ) → Passes (span a b f g) text mid → Appends b c mid → Appends a c text
+appends_all a b c f g text mid first next = subst (Appends a c) (sym first.whole) (Appends-trans a b c first.written mid first.writes next)
+
+pub breaks_all : (a b c : Option (List ℕ)) (f g h : ℕ) (text mid : List ℕ) → f ≤ g → Passes (span a b f g) text mid → Breaks (span b c g h) mid → Breaks (span a c f h) text
+breaks_all a b c f g h text mid later first then =
+    subst (Breaks (span a c f h)) (append-nil text) (breaks_on a b c f g h text mid [] later first (subst (Breaks (span b c g h)) (sym (append-nil mid)) then))
+
+-- nothing is written where nothing changes
+pub passes_same : {K : Type 0} (taken : K → Option (List ℕ)) (faults : K → ℕ) (old new : K) (was is : Held) → new ≡ old → is ≡ was → Passes (end_of taken faults old new) was.text is.text
+passes_same {K} taken faults old new was is same held =
+    subst (λ (k : K). Passes (end_of taken faults old k) was.text is.text) (sym same) (subst (λ (h : Held). Passes (end_of taken faults old old) was.text h.text) (sym held) (record { written = []; writes = Appends-nil (taken old); whole = refl }))
+
+-- the same where an answer is good, or a failure
+pub on_ok : {A E X Y : Type 0} (r : Result A E) → OnOk r X → (X → Y) → OnOk r Y
+on_ok (Ok value) x f = f x
+on_ok (Err error) x f = tt
+
+pub on_err : {A E X Y : Type 0} (r : Result A E) → OnErr r X → (X → Y) → OnErr r Y
+on_err (Ok value) x f = tt
+on_err (Err error) x f = f x
+
+-- what waited is written, and then more
+pub written_whole : (a b c : Option (List ℕ)) (f g : ℕ) (text more waits : List ℕ) → Appends a b text → Appends b c more → waits ≡ [] → Passes (span a c f g) (text ++ more) waits
+written_whole a b c f g text more waits first then none = record {
+  written = text ++ more;
+  writes = Appends-trans a b c text more first then;
+  whole = sym (append-nil (text ++ more)) ∙ ap (λ l. (text ++ more) ++ l) (sym none);
+}
 
 pub breaks_more : (sink : End) (text last : List ℕ) → Breaks sink text → Breaks sink (text ++ last)
 breaks_more sink text last breaks = record {

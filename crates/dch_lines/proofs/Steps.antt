@@ -54,18 +54,18 @@ line_stops semantics s old new part remaining fault ends faulty passes same = re
 pub line_fails : {S : Type 0} (semantics : Semantics S) (s : End) (old : Progress S) (part remaining : List ℕ) → EndsIn old.line part → BreaksAt semantics s old.handler (old.line ++ part) old.text → FailsIn semantics s old (part ++ remaining)
 line_fails semantics s old part remaining ends breaks =
     let lines : lines_after old.line (part ++ remaining) ≡ (old.line ++ part) ∷ lines_after [] remaining = lines_on old.line [] part remaining (sym ends.1) ∙ ap (λ l. l ++ lines_after [] remaining) ends.0 in
-    ⊎_elim
-    (λ here. record { good = []; later = (old.line ++ part) ∷ lines_after [] remaining; lines = lines; state = old.handler; more = []; handles = inl (refl, refl); breaks = rw append-nil here })
-    (λ within. record {
+    record {
       good = (old.line ++ part) ∷ [];
       later = lines_after [] remaining;
       lines = lines;
-      state = within.0;
-      more = within.1.0;
-      handles = inr (record { before = []; line = old.line ++ part; ends = refl; state = old.handler; done = []; handles = (refl, refl); more = within.1.0; begins = within.1.1.0; whole = refl });
-      breaks = within.1.1.1;
-    })
-    breaks
+      state = breaks.next;
+      more = breaks.more;
+      handles = ⊎_elim
+          (λ whole. inl (breaks.next, (breaks.more, ([], (whole, (refl, refl), sym (append-nil breaks.more))))))
+          (λ begun. inr (record { before = []; line = old.line ++ part; ends = refl; state = old.handler; done = []; handles = (refl, refl); more = breaks.more; begins = begun; whole = refl }))
+          breaks.front;
+      breaks = breaks.breaks;
+    }
 
 -- bytes in which no line ends
 pub part_taken : {S : Type 0} (semantics : Semantics S) (a : Option (List ℕ)) (f : ℕ) (old : Progress S) (part : List ℕ) → lines_after old.line part ≡ [] → rest_after old.line part ≡ old.line ++ part → length (old.line ++ part) ≤ longest → Takes semantics (span a a f f) old (held_of old part) part

@@ -1,9 +1,9 @@
 -- The text that lines add to a report, and the line that refuses one.
-use Rattle.std.specs.Prelude.{◌≡◌, ◌<◌, ◌⊎◌, ◌+◌, ℕ, List, [], ◌∷◌, ◌++◌, Bool, false, not, MatchBool, codes, count_by, decimal}
+use Rattle.std.specs.Prelude.{◌≡◌, ◌⊎◌, ◌+◌, ℕ, List, [], ◌∷◌, ◌++◌, Bool, false, not, MatchBool, codes, count_by, decimal}
 use Rattle.std.specs.Str.{bytes_eq}
 use Rattle.dch_script.specs.declared.event.LineError.{LineError}
 use Rattle.dch_script.specs.declared.event.LineError.TheVariants.{Long, Cut, Word, Count, Number, Text, Bearer, When}
-use Rattle.dch_lines.specs.Semantics.{Semantics, IsFault, LineSteps, Resumes}
+use Rattle.dch_lines.specs.Semantics.{Semantics, IsFault}
 use Rattle.dch_lines.specs.declared.stop.LineFault.{LineFault}
 
 -- a line without words, which is passed over
@@ -13,7 +13,7 @@ is_empty line = bytes_eq line (codes "\n")
 -- what a good line does to the state, and adds to the text
 abbrev pub HandlesLine : {S : Type 0} → Semantics S → S → List ℕ → S → List ℕ → Type 0
 HandlesLine semantics old line new text = MatchBool (is_empty line) ((new ≡ old) × (text ≡ []))
-    (LineSteps semantics old line new text)
+    (semantics.handles old line new text)
 
 -- what good lines do, one after another
 abbrev pub HandlesLines : {S : Type 0} → Semantics S → S → List (List ℕ) → S → List ℕ → Type 0
@@ -22,17 +22,10 @@ HandlesLines {S} semantics old (line ∷ lines) new text = (mid : S)
     × ((first : List ℕ) × ((rest : List ℕ) × (HandlesLine semantics old line mid first
     × HandlesLines semantics mid lines new rest × (text ≡ first ++ rest))))
 
--- a part of what a line that isn't empty does: its first step, and some of those that are left then, but not all
+-- a part of what a line that isn't empty does
 pub record BeginsLine {S : Type 0} (semantics : Semantics S) (old : S) (line : List ℕ) (new : S) (text : List ℕ) : Type 0 where
   pub words : is_empty line ≡ false
-  pub mid : S
-  pub first : List ℕ
-  pub handles : semantics.handles old line mid first
-  pub count : ℕ
-  pub few : count < semantics.remaining mid
-  pub rest : List ℕ
-  pub resumes : Resumes semantics count mid new rest
-  pub front : text ≡ first ++ rest
+  pub begins : semantics.begins old line new text
 
 -- what good lines do up to the last one, and a part of what that one does
 pub record BeginsLast {S : Type 0} (semantics : Semantics S) (old : S) (lines : List (List ℕ)) (new : S) (text : List ℕ) : Type 0 where

@@ -1,14 +1,15 @@
 -- The work of a line processor, by what it took, wrote and holds.
-use Rattle.std.specs.Prelude.{◌≡◌, ◌<◌, ◌≤◌, ◌⊎◌, ℕ, List, [], ◌∷◌, ◌++◌, ◌+◌, length, Result, Ok, Err, if◌then◌else◌}
+use Rattle.std.specs.Prelude.{◌≡◌, ◌<◌, ◌≤◌, ◌⊎◌, ℕ, List, [], ◌∷◌, ◌++◌, ◌+◌, Bool, false, length, Result, Ok, Err, if◌then◌else◌}
 use Rattle.std.specs.Borrow.{Bor}
 use Rattle.dch_io.specs.Ends.{End, Breaks, Passes}
 use Rattle.dch_io.specs.Pieces.{LIMIT}
-use Rattle.dch_io.specs.declared.feed.WriteFailed.{WriteFailed}
 use Rattle.dch_script.specs.Code.{longest}
+use Rattle.dch_script.specs.Held.{Held}
 use Rattle.dch_script.specs.Lines.{lines_after, rest_after}
 use Rattle.dch_script.specs.declared.code.TheConstants.{LONGEST_LINE}
 use Rattle.dch_script.specs.declared.event.LineError.TheVariants.{Long}
-use Rattle.dch_lines.specs.Semantics.{Leads, Semantics, Resumes}
+use Rattle.dch_lines.specs.Pages.{Shows}
+use Rattle.dch_lines.specs.Semantics.{Does, Leads, Semantics}
 use Rattle.dch_lines.specs.LineTexts.{BeginsLine, IsFaulty, is_empty, HandlesFront, HandlesLine, HandlesLines, nonempty_lines}
 use Rattle.dch_lines.specs.declared.processor.TheConstants.{LEAST_ROOM}
 use Rattle.dch_lines.specs.declared.stop.LineFault.{LineFault}
@@ -27,11 +28,9 @@ pub record Progress (S : Type 0) : Type 0 where
   pub nonempty_lines : ℕ
 
 -- the room of a line processor, and what its counts keep
-pub record IsOpen (capacity wanted needed room line text bytes lines nonempty_lines : ℕ) : Type 0 where
+pub record IsOpen (capacity room line text bytes lines nonempty_lines : ℕ) : Type 0 where
   pub line_room : LONGEST_LINE + 1 ≤ capacity
-  pub least : LEAST_ROOM ≤ wanted
-  pub enough : needed ≤ wanted
-  pub text_room : wanted ≤ room
+  pub least : LEAST_ROOM ≤ room
   pub line_fits : line ≤ LONGEST_LINE + 1
   pub text_fits : text ≤ room
   pub few_bytes : bytes ≤ LIMIT
@@ -55,31 +54,18 @@ abbrev pub LeadsOn : {S C : Type 0} → (S → C → Type 0) → Progress C → 
     → Type 0
 LeadsOn represents old new Holds = Leads represents old.handler new.handler (λ before after. Holds (standing before old) (standing after new))
 
--- so many steps of a line are done, and their text is written or waits
-pub record GoesThrough {S : Type 0} (semantics : Semantics S) (sink : End) (count : ℕ) (old new : S) (before now : List ℕ) : Type 0 where
-  pub rest : List ℕ
-  pub resumes : Resumes semantics count old new rest
-  pub passes : Passes sink (before ++ rest) now
+-- a good line is done, or left off in its midst where a write failed, and its text is written, waits, or was cut off
+pub record Hands {S : Type 0} (semantics : Semantics S) (sink : End) (old : S) (line : List ℕ) (new : S) (before now : Held) (broken : Bool) : Type 0 where
+  pub more : List ℕ
+  pub does : Does semantics broken old line new more
+  pub shows : Shows sink before false more now broken
 
--- the sink failed within the text of some of the steps that were left, but not all
-pub record FailsWithin {S : Type 0} (semantics : Semantics S) (sink : End) (old : S) (before : List ℕ) : Type 0 where
-  pub count : ℕ
-  pub few : count < semantics.remaining old
-  pub new : S
-  pub rest : List ℕ
-  pub resumes : Resumes semantics count old new rest
-  pub breaks : Breaks sink (before ++ rest)
-
--- what doing the steps that are left does
-abbrev pub EndsSteps : {S : Type 0} → Semantics S → End → S → S → List ℕ → List ℕ → Result (Unit {0}) WriteFailed
-    → Type 0
-EndsSteps semantics sink old new before now (Ok done) = GoesThrough semantics sink (semantics.remaining old) old new before now
-EndsSteps semantics sink old new before now (Err failed) = FailsWithin semantics sink old before
-
--- the sink failed within the text that waits, or within that and the text of this good line, which is done in part
-abbrev pub BreaksAt : {S : Type 0} → Semantics S → End → S → List ℕ → List ℕ → Type 0
-BreaksAt {S} semantics sink old line before = Breaks sink before
-    ⊎ ((next : S) × ((more : List ℕ) × (BeginsLine semantics old line next more × Breaks sink (before ++ more))))
+-- the sink failed within the text that waits and that of this good line, which is maybe done in part
+pub record BreaksAt {S : Type 0} (semantics : Semantics S) (sink : End) (old : S) (line before : List ℕ) : Type 0 where
+  pub next : S
+  pub more : List ℕ
+  pub front : HandlesLine semantics old line next more ⊎ BeginsLine semantics old line next more
+  pub breaks : Breaks sink (before ++ more)
 
 -- what doing what a line says, and adding its text to the text that waits, does: that may be written first
 abbrev pub LineOutcome : {S : Type 0} → Semantics S → End → S → List ℕ → S → List ℕ → List ℕ → Result ℕ Stop → Type 0

@@ -9,7 +9,7 @@ ghost use Rattle.dch_lines.specs.LineTexts.{refusal};
 ghost use Rattle.dch_lines.specs.declared.processor.TheConstants.{LEAST_ROOM};
 
 use crate::handler::LineHandler;
-use crate::handling::process_line;
+use crate::handling::{process_line, put_closing};
 use crate::refusal::put_refusal;
 use crate::room::{flush, make_room};
 use crate::stop::{LineFault, Stop};
@@ -29,7 +29,6 @@ pub struct LineProcessor<C: LineHandler> {
     handler: C,
     line: Vec<u8>,
     report: Report,
-    wanted: usize,
     bytes: usize,
     lines: u64,
     nonempty_lines: u64,
@@ -52,8 +51,8 @@ impl<C: LineHandler> Model for LineProcessor<C> {
 
     ghost invariant = { λ d. record {
       stands : C.stands d.handler;
-      room : IsOpen (vec_capacity d.line) d.wanted (C.most d.handler) d.report.most (length d.line.items)
-          (length d.report.text) d.bytes d.lines d.nonempty_lines;
+      room : IsOpen (vec_capacity d.line) d.report.most (length d.line.items) (length d.report.text) d.bytes d.lines
+          d.nonempty_lines;
       handled : C.handled d.handler ≤ d.bytes;
     } };
 }
@@ -73,8 +72,7 @@ impl<C: LineHandler + Drop> LineProcessor<C> {
         requires first { length first.now ≤ LEAST_ROOM }
         requires bytes { before.bytes ≤ LIMIT }
         requires lines { before.lines ≤ before.bytes }
-        requires least { LEAST_ROOM ≤ room }
-        requires room { C.most handler ≤ room }
+        requires room { LEAST_ROOM ≤ room }
         ensures { IfOk result (λ processor. processor ≡ record {
           handler = handler;
           line = [];
@@ -91,12 +89,10 @@ impl<C: LineHandler + Drop> LineProcessor<C> {
             return Err(NoMemory);
         };
         report.put_text(first);
-        let wanted = handler.most().max(LEAST_ROOM);
         Ok(LineProcessor {
             handler,
             line,
             report,
-            wanted,
             bytes: before.bytes,
             lines: before.lines,
             nonempty_lines: 0,
@@ -139,7 +135,7 @@ impl<C: LineHandler> LineProcessor<C> {
         ensures handler { self.new.handler ≡ self.old.handler }
         ensures later { K.faults sink.old ≤ K.faults sink.new }
     {
-        make_room(&mut self.report, self.wanted, sink)?;
+        make_room(&mut self.report, LEAST_ROOM, sink)?;
         put_refusal(&mut self.report, self.lines, why);
         match flush(&mut self.report, sink) {
             Ok(()) => Ok(()),
@@ -148,7 +144,6 @@ impl<C: LineHandler> LineProcessor<C> {
     }
 
     /// Writes the text that waits, and then the closing line.
-    #[tactic(auto, using(crate::proofs::Parts::breaks_on, crate::proofs::Parts::breaks_more, crate::proofs::Parts::appends_on))]
     pub(crate) fn close<K: Sink>(&mut self, sink: &mut K) -> Result<(), WriteFailed>
         ensures ok { OnOk result ((state : C.State) → C.represents state self.old.handler →
             Appends (K.taken sink.old) (K.taken sink.new)
@@ -160,10 +155,8 @@ impl<C: LineHandler> LineProcessor<C> {
         ensures handler { self.new.handler ≡ self.old.handler }
         ensures later { K.faults sink.old ≤ K.faults sink.new }
     {
-        make_room(&mut self.report, self.wanted, sink)?;
-        self.handler.close(self.nonempty_lines, &mut self.report);
-        match flush(&mut self.report, sink) {
-            Ok(()) => Ok(()),
+        match put_closing(&self.handler, self.nonempty_lines, &mut self.report, sink) {
+            Ok(()) => flush(&mut self.report, sink),
             Err(failed) => Err(failed),
         }
     }
@@ -204,13 +197,7 @@ impl<C: LineHandler> LineProcessor<C> {
         ensures cleared { OnOk result ((self.new.line ≡ []) × (self.new.bytes ≡ self.old.bytes)) }
         ensures later { K.faults sink.old ≤ K.faults sink.new }
     {
-        match process_line(
-            &mut self.handler,
-            &self.line,
-            &mut self.report,
-            self.wanted,
-            sink,
-        ) {
+        match process_line(&mut self.handler, &self.line, &mut self.report, sink) {
             Ok(nonempty_lines) => self.nonempty_lines += nonempty_lines,
             Err(stop) => return Err(stop),
         }

@@ -10,7 +10,7 @@ use Rattle.dch_script.specs.ParsedLine.{ParsedLine}
 use Rattle.dch_script.specs.declared.event.Command.TheVariants.{Link}
 use Rattle.dch_script.specs.declared.event.LineError.{LineError}
 use Rattle.dch_lines.specs.LineTexts.{HandlesLines, is_empty}
-use Rattle.dch_lines.specs.Semantics.{LineSteps, Resumes}
+use Rattle.dch_linkcmd.specs.Stepping.{LineSteps, Resumes}
 use Rattle.dch_node.specs.Lines.{Line}
 use Rattle.dch_lines.specs.Shown.{shown}
 use Rattle.dch_lines.specs.declared.later.Later.{Later}
@@ -25,7 +25,7 @@ use Rattle.dch_link.specs.declared.stage.Stage.TheVariants.{RncTick, IubDown, Ra
 use Rattle.dch_link.proofs.OneNodes.{IsOnePass}
 use Rattle.dch_link.proofs.OneText.{change_planned, change_same, event_pass, same_opened, stage_pass}
 use Rattle.dch_linkcmd.specs.LineEvents.{Frames, OneEvent, Said, Says, said_by}
-use Rattle.dch_linkcmd.specs.Rules.{MakesChange, MayChange, PassesNext, PassesStage, Takes, TakesEvent, TakesLine, link_lines}
+use Rattle.dch_linkcmd.specs.Rules.{MakesChange, MayChange, PassesNext, PassesStage, Takes, TakesEvent, TakesLine, link_lines, link_steps}
 use Rattle.dch_linkcmd.specs.Run.{Run, config_of, opened_run, passed_by, steps_left}
 use Rattle.dch_linkcmd.specs.Same.{IsPlannedRun, IsSameRun}
 
@@ -157,7 +157,7 @@ line_text old new older newer line text more planned same a b =
     let says : Says (config_of old) line b.said = subst (λ (p : Planned). Says p.config line b.said) same.link.rnc.state.planned b.says in
     takes_text a.said old new older newer text more planned same a.takes (subst (λ (s : Said). Takes s older newer more) (says_one (config_of old) line a.said b.said a.says says) b.takes)
 
-resumes_text : (count : ℕ) (old new older newer : Run) (text more : List ℕ) → IsPlannedRun old → IsSameRun old older → Resumes link_lines count old new text → Resumes link_lines count older newer more
+resumes_text : (count : ℕ) (old new older newer : Run) (text more : List ℕ) → IsPlannedRun old → IsSameRun old older → Resumes link_steps count old new text → Resumes link_steps count older newer more
     → IsOneText new newer text more
 resumes_text zero old new older newer text more planned same (is, none) (are, nil) = record { planned = planned_as new old is planned; same = same_as new newer old older is are same; text_is = nil ∙ sym none }
 resumes_text (suc count) old new older newer text more planned same (mid, (front, (last, (first, then, whole)))) (middle, (start, (end, (one, next, all)))) =
@@ -165,17 +165,17 @@ resumes_text (suc count) old new older newer text more planned same (mid, (front
     let behind : IsOneText new newer last end = next_text mid new middle newer last end before.planned before.same then next in
     record { planned = behind.planned; same = behind.same; text_is = all ∙ ap₂ (λ (t u : List ℕ). t ++ u) before.text_is behind.text_is ∙ sym whole }
 
-steps_text : (old new older newer : Run) (line text more : List ℕ) → IsPlannedRun old → IsSameRun old older → LineSteps link_lines old line new text → LineSteps link_lines older line newer more → IsOneText new newer text more
+steps_text : (old new older newer : Run) (line text more : List ℕ) → IsPlannedRun old → IsSameRun old older → LineSteps link_steps old line new text → LineSteps link_steps older line newer more → IsOneText new newer text more
 steps_text old new older newer line text more planned same a b =
     let first : IsOneText a.mid b.mid a.first b.first = line_text old a.mid older b.mid line a.first b.first planned same a.handles b.handles in
     let count : steps_left b.mid.stage b.mid.left ≡ steps_left a.mid.stage a.mid.left = ap₂ steps_left first.same.stage first.same.left in
     let behind : IsOneText new newer a.rest b.rest = resumes_text (steps_left a.mid.stage a.mid.left) a.mid new b.mid newer a.rest b.rest first.planned first.same a.resumes
-    (subst (λ n. Resumes link_lines n b.mid newer b.rest) count b.resumes) in
+    (subst (λ n. Resumes link_steps n b.mid newer b.rest) count b.resumes) in
     record { planned = behind.planned; same = behind.same; text_is = b.whole ∙ ap₂ (λ (t u : List ℕ). t ++ u) first.text_is behind.text_is ∙ sym a.whole }
 
 -- a line, empty or not
-handled_text : (empty : Bool) (old new older newer : Run) (line text more : List ℕ) → IsPlannedRun old → IsSameRun old older → MatchBool empty ((new ≡ old) × (text ≡ [])) (LineSteps link_lines old line new text)
-    → MatchBool empty ((newer ≡ older) × (more ≡ [])) (LineSteps link_lines older line newer more) → IsOneText new newer text more
+handled_text : (empty : Bool) (old new older newer : Run) (line text more : List ℕ) → IsPlannedRun old → IsSameRun old older → MatchBool empty ((new ≡ old) × (text ≡ [])) (LineSteps link_steps old line new text)
+    → MatchBool empty ((newer ≡ older) × (more ≡ [])) (LineSteps link_steps older line newer more) → IsOneText new newer text more
 handled_text true old new older newer line text more planned same a b = record { planned = planned_as new old a.0 planned; same = same_as new newer old older a.0 b.0 same; text_is = b.1 ∙ sym a.1 }
 handled_text false old new older newer line text more planned same a b = steps_text old new older newer line text more planned same a b
 

@@ -1,7 +1,6 @@
 -- A stage that a handler passes, as a step of a run.
-use Rattle.std.proofs.Common.{◌≡◌, ◌∙◌, ◌+◌, ◌-◌, ◌++◌, ℕ, [], Some, None, refl, ap, sym, subst}
+use Rattle.std.proofs.Common.{◌≡◌, ◌∙◌, ◌+◌, ◌-◌, ℕ, List, [], Some, None, refl, ap, sym, subst}
 use Rattle.dch_accept.specs.Plans.{Planned}
-use Rattle.dch_script.specs.Held.{Held}
 use Rattle.dch_lines.specs.Semantics.{Adds}
 use Rattle.dch_script.specs.LineText.{text_of}
 use Rattle.dch_lines.specs.Shown.{shown}
@@ -17,8 +16,8 @@ use Rattle.dch_linkcmd.specs.Run.{Run, passed, passed_by}
 use Rattle.dch_linkcmd.specs.Standing.{Handler, RepresentsRun, Shows}
 
 -- the text of a stage is added
-passes_by : (run : Run) (old : Handler) (nodes : Nodes) (before after : Held) → RepresentsRun run old → (shows : Shows run.began old.accepted run.first old.quiet (AtStage old.stage run.link) nodes before after) → (next : Run) → next ≡ passed run shows.next → Adds (PassesStage run next) before after
-passes_by run old nodes before after is shows next same = record {
+passes_by : {P : Type 0} (writes : P → List ℕ → P → Type 0) (run : Run) (old : Handler) (nodes : Nodes) (before after : P) → RepresentsRun run old → (shows : Shows writes run.began old.accepted run.first old.quiet (AtStage old.stage run.link) nodes before after) → (next : Run) → next ≡ passed run shows.next → Adds writes (PassesStage run next) before after
+passes_by writes run old nodes before after is shows next same = record {
   more = shown run.quiet (text_of shows.lines);
   handles = record {
     link = shows.next;
@@ -27,12 +26,12 @@ passes_by run old nodes before after is shows next same = record {
     goes_on = same;
     shows = refl;
   };
-  added = shows.reported ∙ ap (λ q. record { text = before.text ++ shown q (text_of shows.lines); most = before.most }) (sym is.quiet);
+  wrote = subst (λ q. writes before (shown q (text_of shows.lines)) after) (sym is.quiet) shows.wrote;
 }
 
-pub passes_some : (run : Run) (old new : Handler) (stage : Stage) (before after : Held) → RepresentsRun run old → Shows run.began old.accepted run.first old.quiet (AtStage old.stage run.link) new.link before after → next_stage old.stage ≡ Some stage
-    → new.accepted ≡ old.accepted → new.later ≡ old.later → new.quiet ≡ old.quiet → new.stage ≡ stage → new.left ≡ old.left → new.frames ≡ old.frames → (next : Run) × RepresentsRun next new × Adds (PassesStage run next) before after
-passes_some run old new stage before after is shows then accepted later quiet at left frames =
+pub passes_some : {P : Type 0} (writes : P → List ℕ → P → Type 0) (run : Run) (old new : Handler) (stage : Stage) (before after : P) → RepresentsRun run old → Shows writes run.began old.accepted run.first old.quiet (AtStage old.stage run.link) new.link before after → next_stage old.stage ≡ Some stage
+    → new.accepted ≡ old.accepted → new.later ≡ old.later → new.quiet ≡ old.quiet → new.stage ≡ stage → new.left ≡ old.left → new.frames ≡ old.frames → (next : Run) × RepresentsRun next new × Adds writes (PassesStage run next) before after
+passes_some writes run old new stage before after is shows then accepted later quiet at left frames =
     let next : Run = record run { link = shows.next; stage = stage } in
     let same : next ≡ passed run shows.next = ap (passed_by run shows.next) (sym (ap next_stage is.stage ∙ then)) in (
       next,
@@ -44,14 +43,14 @@ passes_some run old new stage before after is shows then accepted later quiet at
         frames = is.frames ∙ sym frames;
         stands = subst (λ (p : Planned). Represents run.began p run.first shows.next new.link) (sym accepted) shows.stands;
       },
-      passes_by run old new.link before after is shows next same,
+      passes_by writes run old new.link before after is shows next same,
     )
 
 -- after the last stage the radio frame is over
-pub passes_none : (run : Run) (old new : Handler) (mid : Nodes) (before after : Held) → RepresentsRun run old → Shows run.began old.accepted run.first old.quiet (AtStage old.stage run.link) mid before after → next_stage old.stage ≡ None
+pub passes_none : {P : Type 0} (writes : P → List ℕ → P → Type 0) (run : Run) (old new : Handler) (mid : Nodes) (before after : P) → RepresentsRun run old → Shows writes run.began old.accepted run.first old.quiet (AtStage old.stage run.link) mid before after → next_stage old.stage ≡ None
     → ((began : Planned) (first : ℕ) (link : LinkState) → Represents began old.accepted first link mid → Represents began old.accepted first (record link { damage = [] }) new.link)
-    → new.accepted ≡ old.accepted → new.later ≡ old.later → new.quiet ≡ old.quiet → new.stage ≡ RncTick → new.left ≡ old.left - 1 → new.frames ≡ old.frames + 1 → (next : Run) × RepresentsRun next new × Adds (PassesStage run next) before after
-passes_none run old new mid before after is shows then clear accepted later quiet at left frames =
+    → new.accepted ≡ old.accepted → new.later ≡ old.later → new.quiet ≡ old.quiet → new.stage ≡ RncTick → new.left ≡ old.left - 1 → new.frames ≡ old.frames + 1 → (next : Run) × RepresentsRun next new × Adds writes (PassesStage run next) before after
+passes_none writes run old new mid before after is shows then clear accepted later quiet at left frames =
     let next : Run = record run { link = record shows.next { damage = [] }; stage = RncTick; left = run.left - 1; frames = run.frames + 1 } in
     let same : next ≡ passed run shows.next = ap (passed_by run shows.next) (sym (ap next_stage is.stage ∙ then)) in (
       next,
@@ -63,13 +62,13 @@ passes_none run old new mid before after is shows then clear accepted later quie
         frames = ap (λ n. n + 1) is.frames ∙ sym frames;
         stands = subst (λ (p : Planned). Represents run.began p run.first (record shows.next { damage = [] }) new.link) (sym accepted) (clear run.began run.first shows.next shows.stands);
       },
-      passes_by run old mid before after is shows next same,
+      passes_by writes run old mid before after is shows next same,
     )
 
 -- behind what may change before it
-pub passes_next : (run mid next : Run) (before after : Held) → MayChange run mid → Adds (PassesStage mid next) before after → Adds (PassesNext run next) before after
-passes_next run mid next before after changes adds = record {
+pub passes_next : {P : Type 0} (writes : P → List ℕ → P → Type 0) (run mid next : Run) (before after : P) → MayChange run mid → Adds writes (PassesStage mid next) before after → Adds writes (PassesNext run next) before after
+passes_next writes run mid next before after changes adds = record {
   more = adds.more;
   handles = record { mid = mid; changes = changes; passes = adds.handles };
-  added = adds.added;
+  wrote = adds.wrote;
 }

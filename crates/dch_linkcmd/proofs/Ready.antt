@@ -1,13 +1,16 @@
 -- What a handler keeps.
-use Rattle.std.proofs.Common.{◌≡◌, ◌≤◌, ◌+◌, ◌*◌, ◌%◌, ℕ}
+use Rattle.std.proofs.Common.{◌≡◌, ◌≤◌, ◌+◌, ◌*◌, ◌%◌, ◌∙◌, ℕ, Bool, arith, refl, ap}
 use Rattle.std.specs.Prelude.{IfSome, Option, Some, None}
 use Rattle.dch_accept.specs.Plans.{Planned}
 use Rattle.dch_io.specs.Pieces.{LIMIT}
 use Rattle.dch_link.specs.Passing.{IsStage}
-use Rattle.dch_link.specs.Standing.{HasNext, IsLinkOf}
+use Rattle.dch_link.specs.Link.{opened_link}
+use Rattle.dch_link.specs.Standing.{HasNext, IsLinkOf, Represents}
 use Rattle.dch_link.specs.Values.{Nodes}
 use Rattle.dch_link.specs.declared.stage.Stage.{Stage}
-use Rattle.dch_linkcmd.specs.Standing.{Handler, IsPrepared, IsReady, ticked}
+use Rattle.dch_link.specs.declared.stage.Stage.TheVariants.{RncTick}
+use Rattle.dch_linkcmd.specs.Run.{opened_run}
+use Rattle.dch_linkcmd.specs.Standing.{Handler, IsPrepared, IsReady, StandsBetween, ticked}
 use Rattle.dch_lines.specs.declared.later.Later.{Later}
 
 -- the nodes stay prepared for the second configuration
@@ -26,5 +29,23 @@ ready_on old nodes stage left frames lines ready opened keeps at cfn few_left fe
   left = few_left;
   lines = few_lines;
   few = few;
-  enough = ready.enough;
+}
+
+-- before the first line
+pub opened_between : (accepted : Planned) (later : Option Later) (link : Nodes) (first : ℕ) (quiet : Bool) → first % 8 ≡ 0 → IsLinkOf accepted link → IfSome later (IsPrepared accepted link) → Represents accepted accepted first (opened_link accepted first) link
+    → StandsBetween (record { accepted = accepted; later = later; link = link; quiet = quiet; stage = RncTick; left = 0; frames = 0; lines = 0 })
+opened_between accepted later link first quiet whole opened next stands = record {
+  ready = record {
+    opened = opened;
+    next = next;
+    stage = tt;
+    cfn = ap (λ n. n % 8) stands.ue.stands.at.cfn ∙ whole;
+    left = omega arith;
+    lines = omega arith;
+    few = omega arith;
+  };
+  first = refl;
+  left = refl;
+  run = opened_run accepted later first quiet;
+  stands = record { second = refl; quiet = refl; stage = refl; left = refl; frames = refl; stands = stands };
 }

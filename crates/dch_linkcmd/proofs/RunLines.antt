@@ -5,13 +5,13 @@ use Rattle.std.proofs.lemmas.Bool.Decides.{leb_tells}
 use Rattle.dch_accept.specs.Plans.{Planned}
 use Rattle.dch_types.specs.declared.config.Config.{Config}
 use Rattle.dch_lines.specs.LineTexts.{HandlesLine, HandlesLines, is_empty}
-use Rattle.dch_lines.specs.Semantics.{LineSteps, Resumes}
+use Rattle.dch_linkcmd.specs.Stepping.{LineSteps, Resumes}
 use Rattle.dch_script.specs.declared.event.LineError.{LineError}
 use Rattle.dch_link.specs.Passing.{IsStage}
 use Rattle.dch_link.specs.declared.stage.Stage.{Stage}
 use Rattle.dch_link.specs.declared.stage.Stage.TheVariants.{RncTick}
 use Rattle.dch_linkcmd.specs.LineEvents.{Frames, OneEvent, Said, Says}
-use Rattle.dch_linkcmd.specs.Rules.{RefusesLine, Takes, link_lines}
+use Rattle.dch_linkcmd.specs.Rules.{RefusesLine, Takes, link_lines, link_steps}
 use Rattle.dch_linkcmd.specs.Run.{Run, config_of, opened_run, steps_left}
 use Rattle.dch_linkcmd.specs.RunLines.{AreRunLines, SaysFirst, active_behind, coming_behind, frames_of}
 use Rattle.dch_linkcmd.proofs.Said.{one_said, some_frames}
@@ -104,12 +104,12 @@ over_leads run next count over = by over.active
     by (inr on) = leads_active run next (run.frames + count) on.later on.was on.none over.frames on.config over.stage over.left (subst (λ n. on.later.frame < n) all on.begins)
 
 -- a line that says this leads so
-said_leads : (said : Said) (run mid next : Run) (line first rest : List ℕ) → Says (config_of run) line said → IsBetween run → Takes said run mid first → Resumes link_lines (steps_left mid.stage mid.left) mid next rest → Leads run (run.frames + frames_of said) next
+said_leads : (said : Said) (run mid next : Run) (line first rest : List ℕ) → Says (config_of run) line said → IsBetween run → Takes said run mid first → Resumes link_steps (steps_left mid.stage mid.left) mid next rest → Leads run (run.frames + frames_of said) next
 said_leads (OneEvent event) run mid next line first rest says between takes resumes =
     let stage : mid.stage ≡ RncTick = ap (λ (r : Run). r.stage) takes.goes_on ∙ between.stage in
     let left : mid.left ≡ 0 = ap (λ (r : Run). r.left) takes.goes_on ∙ between.left in
     let none : steps_left mid.stage mid.left ≡ 0 = ap (λ n. steps_left mid.stage n) left in
-    let done : (next ≡ mid) × (rest ≡ []) = subst (λ n. Resumes link_lines n mid next rest) none resumes in
+    let done : (next ≡ mid) × (rest ≡ []) = subst (λ n. Resumes link_steps n mid next rest) none resumes in
     let on : next ≡ record run { link = takes.link } = done.0 ∙ takes.goes_on in
     let config : config_of next ≡ config_of run = ap config_of on ∙ ap (λ (p : Planned). p.config) (event_stays run.link takes.link event takes.lines takes.happens) in
     let same : run.frames ≡ run.frames + 0 = omega arith in
@@ -139,7 +139,7 @@ moved lines run next frames leads good =
     (subst (λ n. AreRunLines (active_behind (config_of run) (coming run.second) frames) (coming_behind (coming run.second) frames) n lines) (sym leads.frames_are) good))
 
 -- the lines behind a good one are good where it leads
-steps_lead : (run next : Run) (line text : List ℕ) (lines : List (List ℕ)) → IsBetween run → LineSteps link_lines run line next text
+steps_lead : (run next : Run) (line text : List ℕ) (lines : List (List ℕ)) → IsBetween run → LineSteps link_steps run line next text
     → SaysFirst (config_of run) run.frames line (λ now. AreRunLines (active_behind (config_of run) (coming run.second) now) (coming_behind (coming run.second) now) now lines)
     → IsBetween next × AreRunLines (config_of next) (coming next.second) next.frames lines
 steps_lead run next line text lines between steps good =
@@ -158,7 +158,7 @@ one_leads run next line text lines between good handles = cases (is_empty line) 
         let behind : AreRunLines (config_of run) (coming run.second) run.frames lines = rw empty at good in
         (subst IsBetween (sym own.0) between, subst (λ (r : Run). AreRunLines (config_of r) (coming r.second) r.frames lines) (sym own.0) behind)
     cases false some =
-        let own : LineSteps link_lines run line next text = rw some at handles in
+        let own : LineSteps link_steps run line next text = rw some at handles in
         let here : SaysFirst (config_of run) run.frames line (λ now. AreRunLines (active_behind (config_of run) (coming run.second) now) (coming_behind (coming run.second) now) now lines) = rw some at good in
         steps_lead run next line text lines between own here
 

@@ -1,7 +1,6 @@
 -- A stage that a handler passes, as a step of a run.
-use Rattle.std.proofs.Common.{◌≡◌, ◌∙◌, ◌+◌, ◌-◌, ◌++◌, ℕ, Some, None, length, refl, ap, sym, subst}
+use Rattle.std.proofs.Common.{◌≡◌, ◌∙◌, ◌+◌, ◌-◌, ℕ, List, Some, None, length, refl, ap, sym, subst}
 use Rattle.dch_accept.specs.Plans.{Planned}
-use Rattle.dch_script.specs.Held.{Held}
 use Rattle.dch_lines.specs.Semantics.{Adds}
 use Rattle.dch_script.specs.LineText.{text_of}
 use Rattle.dch_lines.specs.Shown.{shown}
@@ -12,14 +11,14 @@ use Rattle.dch_link.specs.SoftStanding.{Represents}
 use Rattle.dch_link.specs.SoftValues.{Parts}
 use Rattle.dch_link.specs.declared.soft_stage.Stage.{Stage}
 use Rattle.dch_link.specs.declared.soft_stage.Stage.TheVariants.{RncTick}
-use Rattle.dch_linkcmd.specs.Led.{led}
+use Rattle.dch_lines.specs.Led.{led}
 use Rattle.dch_linkcmd.specs.SoftRules.{PassesStage}
 use Rattle.dch_linkcmd.specs.SoftRun.{Run, passed, passed_by}
 use Rattle.dch_linkcmd.specs.SoftStanding.{Handler, RepresentsRun, Shows}
 
 -- the text of a stage is added
-passes_by : (run : Run) (old : Handler) (parts : Parts) (before after : Held) → RepresentsRun run old → (shows : Shows old.accepted run.first (λ text. led (leg_of old.stage) (shown old.quiet text)) (AtStage old.stage run.soft) parts before after) → (next : Run) → next ≡ passed run shows.next → Adds (PassesStage run next) before after
-passes_by run old parts before after is shows next same = record {
+passes_by : {P : Type 0} (writes : P → List ℕ → P → Type 0) (run : Run) (old : Handler) (parts : Parts) (before after : P) → RepresentsRun run old → (shows : Shows writes old.accepted run.first (λ text. led (leg_of old.stage) (shown old.quiet text)) (AtStage old.stage run.soft) parts before after) → (next : Run) → next ≡ passed run shows.next → Adds writes (PassesStage run next) before after
+passes_by writes run old parts before after is shows next same = record {
   more = led (leg_of run.stage) (shown run.quiet (text_of shows.lines));
   handles = record {
     soft = shows.next;
@@ -28,13 +27,13 @@ passes_by run old parts before after is shows next same = record {
     goes_on = same;
     shows = refl;
   };
-  added = shows.reported ∙ ap (λ q. record { text = before.text ++ led (leg_of old.stage) (shown q (text_of shows.lines)); most = before.most }) (sym is.quiet)
-      ∙ ap (λ (s : Stage). record { text = before.text ++ led (leg_of s) (shown run.quiet (text_of shows.lines)); most = before.most }) (sym is.stage);
+  wrote = subst (λ (st : Stage). writes before (led (leg_of st) (shown run.quiet (text_of shows.lines))) after) (sym is.stage)
+      (subst (λ q. writes before (led (leg_of old.stage) (shown q (text_of shows.lines))) after) (sym is.quiet) shows.wrote);
 }
 
-pub passes_some : (run : Run) (old new : Handler) (stage : Stage) (before after : Held) → RepresentsRun run old → Shows old.accepted run.first (λ text. led (leg_of old.stage) (shown old.quiet text)) (AtStage old.stage run.soft) new.soft before after → next_stage (length old.soft.legs) old.stage ≡ Some stage
-    → new.accepted ≡ old.accepted → new.quiet ≡ old.quiet → new.stage ≡ stage → new.left ≡ old.left → new.frames ≡ old.frames → (next : Run) × RepresentsRun next new × Adds (PassesStage run next) before after
-passes_some run old new stage before after is shows then accepted quiet at left frames =
+pub passes_some : {P : Type 0} (writes : P → List ℕ → P → Type 0) (run : Run) (old new : Handler) (stage : Stage) (before after : P) → RepresentsRun run old → Shows writes old.accepted run.first (λ text. led (leg_of old.stage) (shown old.quiet text)) (AtStage old.stage run.soft) new.soft before after → next_stage (length old.soft.legs) old.stage ≡ Some stage
+    → new.accepted ≡ old.accepted → new.quiet ≡ old.quiet → new.stage ≡ stage → new.left ≡ old.left → new.frames ≡ old.frames → (next : Run) × RepresentsRun next new × Adds writes (PassesStage run next) before after
+passes_some writes run old new stage before after is shows then accepted quiet at left frames =
     let next : Run = record run { soft = shows.next; stage = stage } in
     let same : next ≡ passed run shows.next = ap (passed_by run shows.next) (sym (ap (λ n. next_stage n run.stage) is.stands.count ∙ ap (next_stage (length old.soft.legs)) is.stage ∙ then)) in (
       next,
@@ -45,14 +44,14 @@ passes_some run old new stage before after is shows then accepted quiet at left 
         frames = is.frames ∙ sym frames;
         stands = subst (λ (p : Planned). Represents p run.first shows.next new.soft) (sym accepted) shows.stands;
       },
-      passes_by run old new.soft before after is shows next same,
+      passes_by writes run old new.soft before after is shows next same,
     )
 
 -- after the last stage the radio frame is over
-pub passes_none : (run : Run) (old new : Handler) (mid : Parts) (before after : Held) → RepresentsRun run old → Shows old.accepted run.first (λ text. led (leg_of old.stage) (shown old.quiet text)) (AtStage old.stage run.soft) mid before after → next_stage (length old.soft.legs) old.stage ≡ None
+pub passes_none : {P : Type 0} (writes : P → List ℕ → P → Type 0) (run : Run) (old new : Handler) (mid : Parts) (before after : P) → RepresentsRun run old → Shows writes old.accepted run.first (λ text. led (leg_of old.stage) (shown old.quiet text)) (AtStage old.stage run.soft) mid before after → next_stage (length old.soft.legs) old.stage ≡ None
     → ((first : ℕ) (soft : SoftState) → Represents old.accepted first soft mid → Represents old.accepted first (framed soft) new.soft)
-    → new.accepted ≡ old.accepted → new.quiet ≡ old.quiet → new.stage ≡ RncTick → new.left ≡ old.left - 1 → new.frames ≡ old.frames + 1 → (next : Run) × RepresentsRun next new × Adds (PassesStage run next) before after
-passes_none run old new mid before after is shows then clear accepted quiet at left frames =
+    → new.accepted ≡ old.accepted → new.quiet ≡ old.quiet → new.stage ≡ RncTick → new.left ≡ old.left - 1 → new.frames ≡ old.frames + 1 → (next : Run) × RepresentsRun next new × Adds writes (PassesStage run next) before after
+passes_none writes run old new mid before after is shows then clear accepted quiet at left frames =
     let next : Run = record run { soft = framed shows.next; stage = RncTick; left = run.left - 1; frames = run.frames + 1 } in
     let same : next ≡ passed run shows.next = ap (passed_by run shows.next) (sym (ap (λ n. next_stage n run.stage) is.stands.count ∙ ap (next_stage (length old.soft.legs)) is.stage ∙ then)) in (
       next,
@@ -63,5 +62,5 @@ passes_none run old new mid before after is shows then clear accepted quiet at l
         frames = ap (λ n. n + 1) is.frames ∙ sym frames;
         stands = subst (λ (p : Planned). Represents p run.first (framed shows.next) new.soft) (sym accepted) (clear run.first shows.next shows.stands);
       },
-      passes_by run old mid before after is shows next same,
+      passes_by writes run old mid before after is shows next same,
     )

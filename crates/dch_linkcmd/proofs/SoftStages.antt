@@ -70,7 +70,7 @@ steps_next legs stage next left some is same = elim (eqb_tells left 0) [
     added_one whole one all is = omega (arith, is)
 
 -- one stage is left where none comes after it
-last_one : (legs : ℕ) (stage : Stage) → next_stage legs stage ≡ None → stages_left legs stage ≡ 1
+pub last_one : (legs : ℕ) (stage : Stage) → next_stage legs stage ≡ None → stages_left legs stage ≡ 1
 last_one legs RncTick none = cc none
 last_one legs (IubDown leg set) none = elim (eqb_tells set 7) [
   | inl last ↦ (let some = rw last.0 at none in cc some)
@@ -103,11 +103,27 @@ one_more whole n = omega arith
 none_times : (whole : ℕ) → 0 ≡ whole * 0
 none_times whole = omega arith
 
-all_left : (legs n : ℕ) → steps_left legs RncTick n ≡ (10 + 18 * legs) * n
+pub all_left : (legs n : ℕ) → steps_left legs RncTick n ≡ (10 + 18 * legs) * n
 all_left legs n = elim (eqb_tells n 0) [
   | inl none ↦ rw none.0 (none_times (10 + 18 * legs) ∙ ap (λ k. (10 + 18 * legs) * k) (sym none.1))
   | inr some ↦ (let before : suc (n - 1) ≡ n = omega (arith, some.1) in rw some.0 (one_more (10 + 18 * legs) (n - 1) ∙ ap (λ k. (10 + 18 * legs) * k) before))
 ]
+
+-- some stage is left, with the one that is on
+pub some_left : (legs : ℕ) (stage : Stage) → IsStage legs stage → 0 < stages_left legs stage
+some_left legs RncTick is = omega arith
+some_left legs (IubDown leg set) is = omega (arith, is.0, is.1)
+some_left legs (RadioDown leg) is = omega (arith, is)
+some_left legs UeTick is = omega arith
+some_left legs (RadioUp leg) is = omega (arith, is)
+some_left legs (IubUp set leg) is = more ((8 - set) * (legs + 1)) leg (omega (arith, at_least (8 - set) (legs + 1) (omega (arith, is.0)), is.1))
+  where
+    more : (product n : ℕ) → n < product → 0 < product - n
+    more product n less = omega (arith, less)
+some_left legs (Combine set) is = more ((8 - set) * (legs + 1)) legs (omega (arith, at_least (8 - set) (legs + 1) (omega (arith, is))))
+  where
+    more : (product n : ℕ) → n < product → 0 < product - n
+    more product n less = omega (arith, less)
 
 -- the last stage of a radio frame is left behind
 pub steps_last : (legs : ℕ) (stage : Stage) (left : ℕ) → 0 < left → next_stage legs stage ≡ None → steps_left legs RncTick (left - 1) + 1 ≡ steps_left legs stage left

@@ -1,13 +1,12 @@
 -- A line that a handler takes, as a step of a run.
-use Rattle.std.proofs.Common.{◌≡◌, ◌∙◌, ◌++◌, ℕ, List, length, refl, ap, sym, subst}
+use Rattle.std.proofs.Common.{◌≡◌, ◌∙◌, ℕ, List, length, refl, sym, subst}
 use Rattle.dch_accept.specs.Plans.{Planned}
-use Rattle.dch_script.specs.Held.{Held}
 use Rattle.dch_lines.specs.Semantics.{Adds}
 use Rattle.dch_script.specs.LineText.{text_of}
 use Rattle.dch_lines.specs.Shown.{shown}
 use Rattle.dch_link.specs.SoftStanding.{Represents}
-use Rattle.dch_linkcmd.specs.SoftLineEvents.{Frames, OneEvent, Said, Says}
-use Rattle.dch_linkcmd.specs.SoftRules.{PassesStage, TakesLine}
+use Rattle.dch_linkcmd.specs.SoftLineEvents.{OneEvent, Said, Says}
+use Rattle.dch_linkcmd.specs.SoftRules.{TakesLine}
 use Rattle.dch_linkcmd.specs.SoftRun.{Run, config_of}
 use Rattle.dch_linkcmd.specs.SoftStanding.{Handler, RepresentsRun}
 use Rattle.dch_linkcmd.specs.SoftTaking.{TakesEvent}
@@ -17,9 +16,9 @@ pub says_here : (run : Run) (handler : Handler) (line : List ℕ) (said : Said) 
 says_here run handler line said is says = subst (λ n. Says n (config_of run) line said) (sym is.stands.count) (subst (λ (p : Planned). Says (length handler.soft.legs) p.config line said) (sym is.stands.rnc.stands.at.active) says)
 
 -- something has happened
-pub took_event : (run : Run) (old new : Handler) (line : List ℕ) (before after : Held) → RepresentsRun run old → TakesEvent old.accepted line old.quiet old.soft new.soft before after
-    → new.accepted ≡ old.accepted → new.quiet ≡ old.quiet → new.stage ≡ old.stage → new.left ≡ old.left → new.frames ≡ old.frames → (next : Run) × RepresentsRun next new × Adds (TakesLine run line next) before after
-took_event run old new line before after is takes accepted quiet stage left frames =
+pub took_event : {P : Type 0} (writes : P → List ℕ → P → Type 0) (run : Run) (old new : Handler) (line : List ℕ) (before after : P) → RepresentsRun run old → TakesEvent writes old.accepted line old.quiet old.soft new.soft before after
+    → new.accepted ≡ old.accepted → new.quiet ≡ old.quiet → new.stage ≡ old.stage → new.left ≡ old.left → new.frames ≡ old.frames → (next : Run) × RepresentsRun next new × Adds writes (TakesLine run line next) before after
+took_event writes run old new line before after is takes accepted quiet stage left frames =
     let shows = takes.happens run.first run.soft is.stands in
     let next : Run = record run { soft = shows.next } in (
       next,
@@ -37,14 +36,6 @@ took_event run old new line before after is takes accepted quiet stage left fram
           says = says_here run old line (OneEvent takes.event) is takes.says;
           takes = record { soft = shows.next; lines = shows.lines; happens = shows.does; goes_on = refl; shows = refl };
         };
-        added = shows.reported ∙ ap (λ q. record { text = before.text ++ shown q (text_of shows.lines); most = before.most }) (sym is.quiet);
+        wrote = subst (λ q. writes before (shown q (text_of shows.lines)) after) (sym is.quiet) shows.wrote;
       },
     )
-
--- radio frames were asked for, and the first stage has passed
-pub asked_frames : (run : Run) (old : Handler) (line : List ℕ) (count : ℕ) (next : Run) (before after : Held) → RepresentsRun run old → Says (length old.soft.legs) old.accepted.config line (Frames count) → Adds (PassesStage (record run { left = count }) next) before after → Adds (TakesLine run line next) before after
-asked_frames run old line count next before after is says adds = record {
-  more = adds.more;
-  handles = record { said = Frames count; says = says_here run old line (Frames count) is says; takes = adds.handles };
-  added = adds.added;
-}

@@ -1,5 +1,5 @@
 -- How many stages are left.
-use Rattle.std.proofs.Common.{◌≡◌, ◌<◌, ◌+◌, ℕ, arith, subst, inl, inr, Some}
+use Rattle.std.proofs.Common.{◌≡◌, ◌<◌, ◌+◌, ◌*◌, ℕ, arith, subst, inl, inr, None, Some}
 use Rattle.std.proofs.lemmas.Bool.Decides.{eqb_tells}
 use Rattle.dch_link.specs.Passing.{IsStage, next_stage, stages_left}
 use Rattle.dch_link.specs.declared.stage.Stage.{Stage}
@@ -31,4 +31,35 @@ pub steps_next : (stage next : Stage) (left : ℕ) → 0 < left → IsStage stag
 steps_next stage next left some is same = elim (eqb_tells left 0) [
   | inl none ↦ absurd (omega (arith, some, none.1))
   | inr other ↦ rw other.0 (omega (arith, one_less stage next is same))
+]
+
+-- some stage is left, with the one that is on
+pub some_left : (stage : Stage) → IsStage stage → 0 < stages_left stage
+some_left RncTick is = omega arith
+some_left (IubDown set) is = omega (arith, is)
+some_left RadioDown is = omega arith
+some_left UeTick is = omega arith
+some_left RadioUp is = omega arith
+some_left (IubUp set) is = omega (arith, is)
+
+-- one stage is left where none comes after it
+pub last_one : (stage : Stage) → next_stage stage ≡ None → stages_left stage ≡ 1
+last_one RncTick none = cc none
+last_one (IubDown set) none = elim (eqb_tells set 7) [
+  | inl last ↦ (let some = rw last.0 at none in cc some)
+  | inr other ↦ (let some = rw other.0 at none in cc some)
+]
+last_one RadioDown none = cc none
+last_one UeTick none = cc none
+last_one RadioUp none = cc none
+last_one (IubUp set) none = elim (eqb_tells set 7) [
+  | inl last ↦ omega (arith, last.1)
+  | inr other ↦ (let some = rw other.0 at none in cc some)
+]
+
+-- how many are left of so many radio frames, of which none is on yet
+pub tick_left : (left : ℕ) → steps_left RncTick left ≡ 20 * left
+tick_left left = elim (eqb_tells left 0) [
+  | inl none ↦ rw none.0 (omega (arith, none.1))
+  | inr some ↦ rw some.0 (omega (arith, some.1))
 ]

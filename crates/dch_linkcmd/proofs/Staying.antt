@@ -2,7 +2,7 @@
 use Rattle.std.proofs.Common.{◌≡◌, ◌∙◌, ℕ, zero, suc, List, [], ◌∷◌, Bool, true, false, refl, ap, sym, subst, inl, inr}
 use Rattle.std.specs.Prelude.{Option, Some, None}
 use Rattle.dch_lines.specs.LineTexts.{HandlesLine, HandlesLines, is_empty}
-use Rattle.dch_lines.specs.Semantics.{LineSteps, Resumes}
+use Rattle.dch_linkcmd.specs.Stepping.{LineSteps, Resumes}
 use Rattle.dch_node.specs.Lines.{Line}
 use Rattle.dch_node.specs.Values.{Output}
 use Rattle.dch_accept.specs.Plans.{Planned}
@@ -20,7 +20,7 @@ use Rattle.dch_link.specs.Within.{RncWithin}
 use Rattle.dch_link.specs.declared.stage.Stage.{Stage}
 use Rattle.dch_link.specs.declared.stage.Stage.TheVariants.{RncTick, IubDown, RadioDown, UeTick, RadioUp, IubUp}
 use Rattle.dch_linkcmd.specs.LineEvents.{Frames, OneEvent, Said}
-use Rattle.dch_linkcmd.specs.Rules.{MayChange, PassesNext, PassesStage, Takes, link_lines}
+use Rattle.dch_linkcmd.specs.Rules.{MayChange, PassesNext, PassesStage, Takes, link_lines, link_steps}
 use Rattle.dch_linkcmd.specs.Run.{Run, config_of, passed_by}
 
 rnc_stays : (old new : RncState) (event : RncEvent) (output : Output) → RncWithin event → Steps old event new output → new.planned ≡ old.planned
@@ -109,13 +109,13 @@ takes_stays (OneEvent event) old new text none takes = record {
 }
 takes_stays (Frames count) old new text none takes = let stays = next_stays (record old { left = count }) new text none takes in record { config = stays.config; none = stays.none }
 
-resumes_stay : (count : ℕ) (old new : Run) (text : List ℕ) → old.second ≡ None → Resumes link_lines count old new text → Stays old new
+resumes_stay : (count : ℕ) (old new : Run) (text : List ℕ) → old.second ≡ None → Resumes link_steps count old new text → Stays old new
 resumes_stay zero old new text none resumes = same_stays old new none resumes.0
 resumes_stay (suc count) old new text none (mid, (front, (last, (first, step, whole)))) =
     let before : Stays old mid = resumes_stay count old mid front none first in
     stays_on old mid new before (next_stays mid new last before.none step)
 
-steps_stay : (old new : Run) (line text : List ℕ) → old.second ≡ None → LineSteps link_lines old line new text → Stays old new
+steps_stay : (old new : Run) (line text : List ℕ) → old.second ≡ None → LineSteps link_steps old line new text → Stays old new
 steps_stay old new line text none steps =
     let first : Stays old steps.mid = takes_stays steps.handles.said old steps.mid steps.first none steps.handles.takes in
     stays_on old steps.mid new first (resumes_stay _ steps.mid new steps.rest first.none steps.resumes)
@@ -125,7 +125,7 @@ line_stays old new line text none handles = cases (is_empty line) refl
   where
     cases : (b : Bool) → is_empty line ≡ b → Stays old new
     cases true empty = let own : (new ≡ old) × (text ≡ []) = rw empty at handles in same_stays old new none own.0
-    cases false words = let own : LineSteps link_lines old line new text = rw words at handles in steps_stay old new line text none own
+    cases false words = let own : LineSteps link_steps old line new text = rw words at handles in steps_stay old new line text none own
 
 pub link_lines_stay : (old new : Run) (lines : List (List ℕ)) (text : List ℕ) → old.second ≡ None → HandlesLines link_lines old lines new text → Stays old new
 link_lines_stay old new [] text none handles = same_stays old new none handles.0

@@ -3,14 +3,14 @@ use Rattle.std.proofs.Common.{◌≡◌, ◌<◌, ◌≤◌, ◌+◌, ◌-◌, �
 use Rattle.std.specs.Prelude.{◌⊎◌}
 use Rattle.std.proofs.lemmas.Bool.Decides.{eqb_tells}
 use Rattle.dch_accept.specs.Plans.{Planned}
-use Rattle.dch_lines.specs.Semantics.{Resumes}
+use Rattle.dch_linkcmd.specs.Stepping.{Resumes}
 use Rattle.dch_link.specs.RncState.{State as RncState}
 use Rattle.dch_link.specs.Changing.{Changes}
 use Rattle.dch_link.specs.Link.{LinkState, active}
 use Rattle.dch_link.specs.Passing.{IsStage, next_stage, stages_left}
 use Rattle.dch_link.specs.declared.stage.Stage.{Stage}
 use Rattle.dch_link.specs.declared.stage.Stage.TheVariants.{RncTick, IubDown, RadioDown, UeTick, RadioUp, IubUp}
-use Rattle.dch_linkcmd.specs.Rules.{Begins, MayChange, PassesNext, PassesStage, Waits, link_lines}
+use Rattle.dch_linkcmd.specs.Rules.{Begins, MayChange, PassesNext, PassesStage, Waits, link_steps}
 use Rattle.dch_linkcmd.specs.Run.{Run, config_of, passed, passed_by, steps_left}
 use Rattle.dch_linkcmd.proofs.Stages.{some_same, steps_next}
 use Rattle.dch_linkcmd.proofs.Staying.{pass_second, pass_stays}
@@ -251,7 +251,7 @@ some_left_of stage left some = elim (eqb_tells left 0) [
 ]
 
 -- so many stages more
-pub amid_all : (n : ℕ) (run start now : Run) (count : ℕ) (text : List ℕ) → IsAmid run count start → n ≤ steps_left start.stage start.left → Resumes link_lines n start now text
+pub amid_all : (n : ℕ) (run start now : Run) (count : ℕ) (text : List ℕ) → IsAmid run count start → n ≤ steps_left start.stage start.left → Resumes link_steps n start now text
     → IsAmid run count now × (steps_left now.stage now.left + n ≡ steps_left start.stage start.left)
 amid_all zero run start now count text is few resumes = (subst (IsAmid run count) (sym resumes.0) is, let none : steps_left start.stage start.left + 0 ≡ steps_left start.stage start.left = omega arith in ap (λ (r : Run). steps_left r.stage r.left + 0) resumes.0 ∙ none)
 amid_all (suc n) run start now count text is few (mid, (front, (last, (first, step, whole)))) =
@@ -267,7 +267,7 @@ pub record IsOver (run : Run) (count : ℕ) (now : Run) : Type 0 where
   pub frames : now.frames ≡ run.frames + count
   pub active : StillWaits run now ⊎ IsActive run now
 
-pub amid_over : (run mid now : Run) (count : ℕ) (text : List ℕ) → IsAmid run count mid → Resumes link_lines (steps_left mid.stage mid.left) mid now text → IsOver run count now
+pub amid_over : (run mid now : Run) (count : ℕ) (text : List ℕ) → IsAmid run count mid → Resumes link_steps (steps_left mid.stage mid.left) mid now text → IsOver run count now
 amid_over run mid now count text is resumes =
     let all = amid_all (steps_left mid.stage mid.left) run mid now count text is (omega arith) resumes in
     let none : steps_left now.stage now.left ≡ 0 = omega (arith, all.1) in

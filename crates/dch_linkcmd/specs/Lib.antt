@@ -1,4 +1,3 @@
-pub mod Counting
 pub mod LineEvents
 pub mod Overlong
 pub mod Reading
@@ -7,10 +6,8 @@ pub mod Run
 pub mod RunLines
 pub mod Same
 pub mod Standing
+pub mod Stepping
 pub mod Taking
-pub mod SoftCounting
-pub mod Filtering
-pub mod Led
 pub mod SoftLineEvents
 pub mod SoftOverlong
 pub mod SoftReading
@@ -18,7 +15,6 @@ pub mod SoftRules
 pub mod SoftRun
 pub mod SoftStanding
 pub mod SoftTaking
-pub mod TextRows
 pub use Rattle.dch_link.specs.UeState
 pub use Rattle.dch_link.specs.UeSteps
 pub use Rattle.dch_link.specs.NodebState

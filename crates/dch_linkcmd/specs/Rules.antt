@@ -1,6 +1,6 @@
 -- The rules of the command `link`: a line is something that happens between two radio frames, or so many radio frames,
 -- stage by stage. With one of them a second configuration becomes active.
-use Rattle.std.specs.Prelude.{◌≡◌, ◌⊎◌, ℕ, List, None, Option, Err}
+use Rattle.std.specs.Prelude.{◌≡◌, ◌<◌, ◌⊎◌, ◌+◌, ℕ, List, Bool, false, None, Option, Err}
 use Rattle.dch_script.specs.Meaning.{meaning_in}
 use Rattle.dch_script.specs.declared.event.Command.TheVariants.{Link as LinkLines}
 use Rattle.dch_script.specs.declared.event.LineError.{LineError}
@@ -13,6 +13,7 @@ use Rattle.dch_link.specs.Link.{LinkState}
 use Rattle.dch_link.specs.Stages.{AtStage}
 use Rattle.dch_linkcmd.specs.LineEvents.{Frames, OneEvent, Said, Says}
 use Rattle.dch_linkcmd.specs.Run.{Run, config_of, passed, steps_left}
+use Rattle.dch_linkcmd.specs.Stepping.{LineFront, LineSteps, Resumes, Stepped}
 use Rattle.dch_link.specs.declared.stage.Stage.{Stage}
 use Rattle.dch_link.specs.declared.stage.Stage.TheVariants.{RncTick}
 use Rattle.dch_lines.specs.LineTexts.{closing}
@@ -78,11 +79,33 @@ abbrev pub RefusesLine : Run → List ℕ → LineError → Type 0
 RefusesLine run line why = meaning_in LinkLines (config_of run) line ≡ Err why
 
 -- the stages that are left of a line pass one after another
+abbrev pub link_steps : Stepped Run
+link_steps = record { handles = TakesLine; remaining = λ run. steps_left run.stage run.left; resumes = PassesNext }
+
+-- all stages of a radio frame pass
+abbrev pub PassesFrame : Run → Run → List ℕ → Type 0
+PassesFrame old new text = Resumes link_steps 20 old new text
+
+-- between two radio frames a line is left off, and none is left of it then
+pub record LeavesOff (last new : Run) : Type 0 where
+  pub between : last.stage ≡ RncTick
+  pub none : new ≡ record last { left = 0 }
+
+-- the radio frames that are left pass, or fewer where no more can be written, and none is left then
+pub record PassesFrames (broken : Bool) (old new : Run) (text : List ℕ) : Type 0 where
+  pub count : ℕ
+  pub some : 0 < count
+  pub last : Run
+  pub resumes : Resumes link_steps count old last text
+  pub left : count + steps_left last.stage last.left ≡ steps_left old.stage old.left
+  pub ended : broken ≡ false → last.left ≡ 0
+  pub ends : LeavesOff last new
+
+-- a line is done with all its radio frames, or is left off behind some of them
 abbrev pub link_lines : Semantics Run
 link_lines = record {
-  handles = TakesLine;
-  remaining = λ run. steps_left run.stage run.left;
-  resumes = PassesNext;
+  handles = LineSteps link_steps;
+  begins = LineFront link_steps LeavesOff;
   refuses = RefusesLine;
   wants_memory = λ run line. ⊥;
   closing = λ run count. closing run.frames;

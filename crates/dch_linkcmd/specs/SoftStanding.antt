@@ -1,10 +1,7 @@
 -- What the handler of `soft` has, and the runs that it stands for.
-use Rattle.std.specs.Prelude.{◌≡◌, ◌≤◌, ◌+◌, ◌*◌, ◌++◌, ℕ, List, Bool, length}
-use Rattle.dch_types.specs.declared.config.Config.{Config}
+use Rattle.std.specs.Prelude.{◌≡◌, ◌≤◌, ◌+◌, ◌*◌, ℕ, List, Bool, length}
 use Rattle.dch_accept.specs.Plans.{Planned}
-use Rattle.dch_accept.specs.Reports.{step_bytes}
 use Rattle.dch_io.specs.Pieces.{LIMIT}
-use Rattle.dch_script.specs.Held.{Held}
 use Rattle.dch_node.specs.Lines.{Line}
 use Rattle.dch_script.specs.LineText.{text_of}
 use Rattle.dch_link.specs.SoftPassing.{IsStage}
@@ -12,6 +9,7 @@ use Rattle.dch_link.specs.Soft.{SoftState}
 use Rattle.dch_link.specs.SoftStanding.{IsSoftOf, Represents}
 use Rattle.dch_link.specs.SoftValues.{Parts}
 use Rattle.dch_link.specs.declared.soft_stage.Stage.{Stage}
+use Rattle.dch_link.specs.declared.soft_stage.Stage.TheVariants.{RncTick}
 use Rattle.dch_linkcmd.specs.SoftRun.{Run}
 
 -- the configuration, the nodes, whether the lines of frames are left out, the next stage, how many radio frames are
@@ -24,10 +22,6 @@ pub record Handler : Type 0 where
   pub left : ℕ
   pub frames : ℕ
   pub lines : ℕ
-
--- the most bytes of a stage, with the words that lead its lines
-abbrev pub led_bytes : Config → ℕ
-led_bytes config = step_bytes config + 24000000
 
 -- what a handler keeps at any time
 pub record IsReady (handler : Handler) : Type 0 where
@@ -45,10 +39,21 @@ pub record RepresentsRun (run : Run) (handler : Handler) : Type 0 where
   pub frames : run.frames ≡ handler.frames
   pub stands : Represents handler.accepted run.first run.soft handler.soft
 
--- something was done from a state of the nodes, and what is shown of its lines is added to a report
-pub record Shows (planned : Planned) (first : ℕ) (shows : List ℕ → List ℕ) (Does : SoftState → List Line → Type 0) (parts : Parts) (before after : Held) : Type 0 where
+-- something was done from a state of the nodes, and what is shown of its lines is written
+pub record Shows {P : Type 0} (writes : P → List ℕ → P → Type 0) (planned : Planned) (first : ℕ) (shows : List ℕ → List ℕ) (Does : SoftState → List Line → Type 0) (parts : Parts) (before after : P) : Type 0 where
   pub next : SoftState
   pub lines : List Line
   pub does : Does next lines
   pub stands : Represents planned first next parts
-  pub reported : after ≡ record before { text = before.text ++ shows (text_of lines) }
+  pub wrote : writes before (shows (text_of lines)) after
+
+-- what a handler keeps between two lines: no radio frame is on or left, and it stands for a run
+pub record StandsBetween (handler : Handler) : Type 0 where
+  pub ready : IsReady handler
+  pub first : handler.stage ≡ RncTick
+  pub left : handler.left ≡ 0
+  pub run : Run
+  pub stands : RepresentsRun run handler
+
+pub ready_stands : (handler : Handler) → StandsBetween handler → (run : Run) × RepresentsRun run handler
+ready_stands handler between = (between.run, between.stands)

@@ -1,10 +1,7 @@
 -- What the handler of `link` has, and the runs that it stands for.
-use Rattle.std.specs.Prelude.{◌≡◌, ◌≤◌, ◌+◌, ◌*◌, ◌%◌, ◌++◌, ℕ, List, Bool, Option, Some, None, IfSome, max}
-use Rattle.dch_types.specs.declared.config.Config.{Config}
+use Rattle.std.specs.Prelude.{◌≡◌, ◌≤◌, ◌+◌, ◌*◌, ◌%◌, ℕ, List, Bool, Option, IfSome}
 use Rattle.dch_accept.specs.Plans.{Planned}
-use Rattle.dch_accept.specs.Reports.{step_bytes}
 use Rattle.dch_io.specs.Pieces.{LIMIT}
-use Rattle.dch_script.specs.Held.{Held}
 use Rattle.dch_node.specs.Lines.{Line}
 use Rattle.dch_script.specs.LineText.{text_of}
 use Rattle.dch_link.specs.Link.{LinkState}
@@ -18,8 +15,8 @@ use Rattle.dch_lines.specs.Shown.{shown}
 use Rattle.dch_lines.specs.declared.later.Later.{Later}
 
 -- the configuration that is active, the second one where it is still to come, the nodes, whether the lines of frames
--- are left out, the next stage, how many radio frames are left of a line and how many have passed, how many lines asked
--- for radio frames, and the most bytes of the text of a stage
+-- are left out, the next stage, how many radio frames are left of a line and how many have passed, and how many lines
+-- asked for radio frames
 pub record Handler : Type 0 where
   pub accepted : Planned
   pub later : Option Later
@@ -29,21 +26,6 @@ pub record Handler : Type 0 where
   pub left : ℕ
   pub frames : ℕ
   pub lines : ℕ
-  pub most : ℕ
-
--- the most bytes of a stage
-abbrev pub stage_bytes : Config → ℕ
-stage_bytes config = step_bytes config + 2400
-
--- and under each of the configurations
-abbrev pub most_bytes : Planned → Option Later → ℕ
-most_bytes first None = stage_bytes first.config
-most_bytes first (Some later) = max (stage_bytes first.config) (stage_bytes later.accepted.config)
-
--- so many bytes are enough for the text of a stage, under each of the configurations
-pub record IsEnough (accepted : Planned) (later : Option Later) (most : ℕ) : Type 0 where
-  pub now : stage_bytes accepted.config ≤ most
-  pub then : IfSome later (λ later. stage_bytes later.accepted.config ≤ most)
 
 -- whether 10 ms have passed at the terminal in the radio frame that is on
 abbrev pub ticked : Stage → ℕ
@@ -68,7 +50,6 @@ pub record IsReady (handler : Handler) : Type 0 where
   pub left : handler.left ≤ 100000
   pub lines : handler.lines ≤ LIMIT
   pub few : handler.frames + handler.left ≤ 100000 * handler.lines
-  pub enough : IsEnough handler.accepted handler.later handler.most
 
 -- a handler stands for a run
 pub record RepresentsRun (run : Run) (handler : Handler) : Type 0 where
@@ -79,10 +60,21 @@ pub record RepresentsRun (run : Run) (handler : Handler) : Type 0 where
   pub frames : run.frames ≡ handler.frames
   pub stands : Represents run.began handler.accepted run.first run.link handler.link
 
--- something was done from a state of the nodes, and what is shown of its lines is added to a report
-pub record Shows (began planned : Planned) (first : ℕ) (quiet : Bool) (Does : LinkState → List Line → Type 0) (nodes : Nodes) (before after : Held) : Type 0 where
+-- something was done from a state of the nodes, and what is shown of its lines is written
+pub record Shows {P : Type 0} (writes : P → List ℕ → P → Type 0) (began planned : Planned) (first : ℕ) (quiet : Bool) (Does : LinkState → List Line → Type 0) (nodes : Nodes) (before after : P) : Type 0 where
   pub next : LinkState
   pub lines : List Line
   pub does : Does next lines
   pub stands : Represents began planned first next nodes
-  pub reported : after ≡ record before { text = before.text ++ shown quiet (text_of lines) }
+  pub wrote : writes before (shown quiet (text_of lines)) after
+
+-- what a handler keeps between two lines: no radio frame is on or left, and it stands for a run
+pub record StandsBetween (handler : Handler) : Type 0 where
+  pub ready : IsReady handler
+  pub first : handler.stage ≡ RncTick
+  pub left : handler.left ≡ 0
+  pub run : Run
+  pub stands : RepresentsRun run handler
+
+pub ready_stands : (handler : Handler) → StandsBetween handler → (run : Run) × RepresentsRun run handler
+ready_stands handler between = (between.run, between.stands)

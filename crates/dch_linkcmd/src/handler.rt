@@ -4,24 +4,25 @@ ghost use Rattle.dch_script.specs.Meaning.{meaning_in};
 ghost use Rattle.dch_script.specs.declared.event.Command.TheVariants.{Link as LinkLines};
 ghost use Rattle.dch_lines.specs.Semantics.{Adds, Leads};
 ghost use Rattle.dch_link.specs.Link.{opened_link};
+ghost use Rattle.dch_link.specs.Passing.{next_stage};
 ghost use Rattle.dch_link.specs.Standing.{HasNext, HaveHistories, IsLinkOf, Represents};
 ghost use Rattle.dch_lines.specs.Coming.{CanFollow};
 ghost use Rattle.dch_lines.specs.declared.later.Later.{Later as Coming};
 ghost use Rattle.dch_lines.specs.declared.line_texts.TheConstants.{OCTETS};
-ghost use Rattle.dch_linkcmd.specs.Counting.{counts_of};
 ghost use Rattle.dch_linkcmd.specs.Overlong.{link_refuses_long};
-ghost use Rattle.dch_linkcmd.specs.Rules.{Begins, MayChange, PassesNext, PassesStage, link_lines};
-ghost use Rattle.dch_linkcmd.specs.Run.{Run, opened_run, steps_left};
-ghost use Rattle.dch_linkcmd.specs.Standing.{IsEnough, IsPrepared, IsReady, RepresentsRun, most_bytes, stage_bytes};
+ghost use Rattle.dch_linkcmd.specs.Rules.{Begins, MayChange, PassesFrame, PassesFrames, PassesNext, PassesStage, link_lines};
+ghost use Rattle.dch_linkcmd.specs.Run.{Run, opened_run};
+ghost use Rattle.dch_linkcmd.specs.Standing.{StandsBetween, IsPrepared, IsReady, RepresentsRun, ready_stands};
+ghost use Rattle.dch_linkcmd.specs.Stepping.{GoesBy};
 ghost use Rattle.dch_linkcmd.specs.Taking.{Tells};
 
-use crate::filter::Filter;
+use crate::filter::{happen, pass};
 use crate::reading::{LinkLine, read_line};
 use dch_accept::Accepted;
 use dch_bits::{Bit, NoMemory};
-use dch_lines::{Later, LineFault, LineHandler, OCTETS, UNIT_BITS};
+use dch_lines::{Filter, Later, LineFault, LineHandler, OCTETS, Page, UNIT_BITS, put_line};
 use dch_link::{CHECKS, Link, NodeB, Rnc, STAGES, Stage, Ue};
-use dch_script::{Line, LineError, Report};
+use dch_script::{Line, LineError};
 use std::alloc::Global;
 use std::marker::Model;
 use std::mem;
@@ -38,7 +39,6 @@ pub struct LinkHandler {
     left: u32,
     frames: u64,
     lines: u64,
-    most: usize,
 }
 
 // By hand, so that whoever holds one drops it by one call.
@@ -54,7 +54,6 @@ impl Drop for LinkHandler {
             left: _left,
             frames: _frames,
             lines: _lines,
-            most: _most,
         } = self;
     }
 }
@@ -75,7 +74,6 @@ impl Model for LinkHandler {
       left = h.left;
       frames = h.frames;
       lines = h.lines;
-      most = h.most;
     } };
 
     ghost invariant = { λ h. length h.octets.items ≡ OCTETS };
@@ -93,13 +91,11 @@ impl LinkHandler {
     ) -> Result<LinkHandler, NoMemory>
         requires cfn { first_cfn % 8 ≡ 0 }
         requires follows { IfSome later (CanFollow accepted) }
-        ensures ready { IfOk result IsReady }
+        ensures ready { IfOk result StandsBetween }
         ensures stands { IfOk result (RepresentsRun (opened_run accepted later first_cfn quiet)) }
         ensures new { IfOk result (λ handler. (handler.accepted ≡ accepted) × (handler.later ≡ later) ×
             (handler.lines ≡ 0)) }
-        ensures most { IfOk result (λ handler. handler.most ≡ most_bytes accepted later) }
     {
-        let most = most_of(&accepted, &later);
         let Ok(octets) = vec![in alloc; 0; OCTETS] else {
             return Err(NoMemory);
         };
@@ -116,7 +112,6 @@ impl LinkHandler {
             left: 0,
             frames: 0,
             lines: 0,
-            most,
         })
     }
 
@@ -135,68 +130,108 @@ impl LinkHandler {
             left: _left,
             frames: _frames,
             lines: _lines,
-            most: _most,
         } = self;
         link.into_nodes()
     }
 
-    /// Passes the next stage of a radio frame, in the second configuration where that becomes active with it.
-    fn pass(&mut self, report: &mut Report)
+    /// Passes so many radio frames. Once a write has failed, the one that is on is the last. None is left then.
+    fn pass_frames<P: Page>(&mut self, count: u32, page: &mut P)
+        requires ready { IsReady self.old }
+        requires left { self.old.left ≡ count }
+        requires some { 1 ≤ count }
+        requires first { self.old.stage ≡ Stage.RncTick }
+        ensures passes { Leads RepresentsRun self.old self.new (λ old new. Adds P.writes (PassesFrames (P.broken page.new) old new) page.old page.new) }
+        ensures ready { IsReady self.new }
+        ensures first { self.new.stage ≡ Stage.RncTick }
+        ensures none { self.new.left ≡ 0 }
+        ensures lines { self.new.lines ≡ self.old.lines }
+    {
+        for _ in 0..count {
+            self.pass_frame(page);
+            if !page.is_open() {
+                self.leave_off();
+                return;
+            }
+        }
+    }
+
+    /// Leaves off the radio frames that are left of a line.
+    fn leave_off(&mut self)
+        requires { IsReady self.old }
+        ensures ready { IsReady self.new }
+        ensures none { self.new ≡ record self.old { left = 0 } }
+    {
+        self.left = 0;
+    }
+
+    /// Passes a radio frame, stage by stage.
+    fn pass_frame<P: Page>(&mut self, page: &mut P)
         requires ready { IsReady self.old }
         requires left { 0 < self.old.left }
-        requires room { length report.old.text + self.old.most ≤ report.old.most }
-        ensures passes { Leads RepresentsRun self.old self.new (λ old new. Adds (PassesNext old new) report.old report.new) }
+        requires first { self.old.stage ≡ Stage.RncTick }
+        ensures passes { Leads RepresentsRun self.old self.new (λ old new. Adds P.writes (PassesFrame old new) page.old page.new) }
+        ensures ready { IsReady self.new }
+        ensures first { self.new.stage ≡ Stage.RncTick }
+        ensures left { self.new.left + 1 ≡ self.old.left }
+        ensures lines { self.new.lines ≡ self.old.lines }
+    {
+        for _ in 0..STAGES {
+            self.pass(page);
+        }
+    }
+
+    /// Passes the next stage of a radio frame, in the second configuration where that becomes active with it.
+    fn pass<P: Page>(&mut self, page: &mut P)
+        requires ready { IsReady self.old }
+        requires left { 0 < self.old.left }
+        ensures passes { Leads RepresentsRun self.old self.new (λ old new. Adds P.writes (PassesNext old new) page.old page.new) }
         ensures ready { IsReady self.new }
         ensures lines { self.new.lines ≡ self.old.lines }
-        ensures remaining { steps_left self.new.stage self.new.left + 1 ≡ steps_left self.old.stage self.old.left }
-        ensures text_most { self.new.most ≡ self.old.most }
-        ensures most { report.new.most ≡ report.old.most }
-        ensures fits { length report.new.text ≤ report.new.most }
+        ensures goes { GoesBy Stage.RncTick (next_stage self.old.stage) self.old.left self.new.stage self.new.left }
     {
-        self.change(report);
-        self.pass_stage(report);
+        self.change(page);
+        self.pass_stage(page);
     }
 
     /// The second configuration becomes active where the radio frame begins from which it is to be active.
-    fn change(&mut self, report: &mut Report)
-        requires ready { IsReady self.old }
-        requires room { length report.old.text + self.old.most ≤ report.old.most }
+    fn change<P: Page>(&mut self, page: &mut P)
+        requires { IsReady self.old }
         ensures changes { Leads RepresentsRun self.old self.new MayChange }
         ensures ready { IsReady self.new }
         ensures stage { self.new.stage ≡ self.old.stage }
         ensures left { self.new.left ≡ self.old.left }
         ensures lines { self.new.lines ≡ self.old.lines }
-        ensures most { self.new.most ≡ self.old.most }
-        ensures same { report.new ≡ report.old }
+        ensures same { page.new ≡ page.old }
     {
         if !is_due(&self.later, self.stage, self.frames) {
             return;
         }
         if let Some(mut later) = self.later.take() {
             mem::swap(&mut self.accepted, &mut later.accepted);
-            self.link.change(&self.accepted, report);
+            let mut filter = Filter {
+                quiet: self.quiet,
+                lead: &[],
+                page,
+            };
+            self.link.change(&self.accepted, &mut filter);
         }
     }
 
     /// Passes a stage of a radio frame, after the last of which the next radio frame is on.
-    fn pass_stage(&mut self, report: &mut Report)
+    fn pass_stage<P: Page>(&mut self, page: &mut P)
         requires ready { IsReady self.old }
         requires left { 0 < self.old.left }
-        requires room { length report.old.text + self.old.most ≤ report.old.most }
-        ensures passes { Leads RepresentsRun self.old self.new (λ old new. Adds (PassesStage old new) report.old report.new) }
+        ensures passes { Leads RepresentsRun self.old self.new (λ old new. Adds P.writes (PassesStage old new) page.old page.new) }
         ensures ready { IsReady self.new }
         ensures lines { self.new.lines ≡ self.old.lines }
-        ensures remaining { steps_left self.new.stage self.new.left + 1 ≡ steps_left self.old.stage self.old.left }
-        ensures text_most { self.new.most ≡ self.old.most }
-        ensures most { report.new.most ≡ report.old.most }
-        ensures fits { length report.new.text ≤ report.new.most }
+        ensures goes { GoesBy Stage.RncTick (next_stage self.old.stage) self.old.left self.new.stage self.new.left }
     {
-        Filter {
+        let mut filter = Filter {
             quiet: self.quiet,
             lead: &[],
-            report,
-        }
-        .pass(&self.accepted, self.stage, &mut self.link);
+            page,
+        };
+        pass(&mut filter, &self.accepted, self.stage, &mut self.link);
         match self.stage.next() {
             Some(stage) => self.stage = stage,
             None => {
@@ -206,23 +241,6 @@ impl LinkHandler {
                 self.frames += 1;
             }
         }
-    }
-}
-
-/// The most bytes of the text of a stage, under each of the configurations.
-fn most_of(accepted: &Accepted, later: &Option<Later>) -> usize
-    ensures value { result ≡ most_bytes accepted.now later.now }
-    ensures enough { IsEnough accepted.now later.now result }
-{
-    // A good configuration has at most 16 bearers.
-    let _config = accepted.config();
-    let most = accepted.step_bytes() + CHECKS;
-    match later {
-        Some(later) => {
-            let _config = later.accepted.config();
-            most.max(later.accepted.step_bytes() + CHECKS)
-        }
-        None => most,
     }
 }
 
@@ -258,35 +276,32 @@ fn is_due(later: &Option<Later>, stage: Stage, frames: u64) -> bool
 
 /// Takes a line. Answers how many radio frames it asks for, if it asks for any; otherwise what it says has happened.
 /// `octets` is room for the octets of a unit.
-fn take(
+fn take<P: Page>(
     accepted: &Accepted,
     line: &[u8],
     octets: &mut [u8],
     link: &mut Link,
     quiet: bool,
-    report: &mut Report,
+    page: &mut P,
 ) -> Result<Option<u32>, LineError>
     requires octets { length octets.old ≡ OCTETS }
     requires opened { IsLinkOf accepted.now link.old }
-    requires room { length report.old.text + stage_bytes accepted.now.config ≤ report.old.most }
-    ensures ok { IfOk result (λ count. Tells accepted.now line.now count quiet link.old link.new report.old report.new) }
+    ensures ok { IfOk result (λ count. Tells P.writes accepted.now line.now count quiet link.old link.new page.old page.new) }
     ensures err { IfErr result (λ why. meaning_in LinkLines accepted.now.config line.now ≡ Err why) }
-    ensures same { IfErr result (λ _. (link.new ≡ link.old) × (report.new ≡ report.old)) }
+    ensures same { IfErr result (λ _. (link.new ≡ link.old) × (page.new ≡ page.old)) }
     ensures opened { IsLinkOf accepted.now link.new }
     ensures next { (second : Planned) → HasNext accepted.now second link.old → HasNext accepted.now second link.new }
     ensures cfn { link.new.ue.cfn ≡ link.old.ue.cfn }
-    ensures most { report.new.most ≡ report.old.most }
-    ensures fits { length report.new.text ≤ report.new.most }
 {
     let mut bits = [Bit::Zero; UNIT_BITS];
     match read_line(accepted, line, octets, &mut bits) {
         Ok(LinkLine::Happens(event)) => {
-            Filter {
+            let mut filter = Filter {
                 quiet,
                 lead: &[],
-                report,
-            }
-            .happen(accepted, event, link);
+                page,
+            };
+            happen(&mut filter, accepted, event, link);
             Ok(None)
         }
         Ok(LinkLine::Frames(count)) => Ok(Some(count)),
@@ -301,58 +316,36 @@ impl LineHandler for LinkHandler {
 
     ghost represents = { RepresentsRun };
 
-    ghost most = { λ h. h.most };
-
-    ghost remaining = { λ h. steps_left h.stage h.left };
-
-    ghost stands = { IsReady };
+    ghost stands = { StandsBetween };
 
     ghost handled = { λ h. h.lines };
 
-    fn handle_line(&mut self, line: &[u8], report: &mut Report) -> Result<(), LineFault> {
+    fn handle_line<P: Page>(&mut self, line: &[u8], page: &mut P) -> Result<(), LineFault> {
         match take(
             &self.accepted,
             line,
             &mut self.octets,
             &mut self.link,
             self.quiet,
-            report,
+            page,
         ) {
             Ok(None) => Ok(()),
             Ok(Some(count)) => {
                 self.left = count;
                 self.lines += 1;
-                self.pass(report);
+                self.pass_frames(count, page);
                 Ok(())
             }
             Err(why) => Err(LineFault::Malformed(why)),
         }
     }
 
-    fn remaining(&self) -> u32 {
-        if self.left == 0 {
-            0
-        } else {
-            STAGES * (self.left - 1) + self.stage.left()
-        }
-    }
-
-    fn resume(&mut self, report: &mut Report) {
-        if self.left > 0 {
-            self.pass(report);
-        }
-    }
-
     #[tactic(auto, unfolding(dch_lines::specs::LineTexts::closing))]
-    fn close(&self, _nonempty_lines: u64, report: &mut Report) {
-        report.put(&Line::EndFrames(self.frames));
-    }
-
-    fn most(&self) -> usize {
-        self.most
+    fn close<P: Page>(&self, _nonempty_lines: u64, page: &mut P) {
+        put_line(page, &Line::EndFrames(self.frames));
     }
 
     ghost overlong = { link_refuses_long };
 
-    ghost counts = { counts_of };
+    ghost stood = { ready_stands };
 }

@@ -1,29 +1,26 @@
 ghost use Rattle.std.specs.Prelude.{◌≡◌, ◌<◌, ◌≤◌, ◌+◌, ◌%◌, ℕ, [], length, IfOk, IfErr, Err};
 ghost use Rattle.dch_lines.specs.Semantics.{Adds, Leads};
 ghost use Rattle.dch_script.specs.Soft.{soft_meaning};
+ghost use Rattle.dch_link.specs.SoftPassing.{next_stage};
 ghost use Rattle.dch_link.specs.SoftStanding.{HaveHistories, IsSoftOf};
 ghost use Rattle.dch_lines.specs.declared.line_texts.TheConstants.{OCTETS};
-ghost use Rattle.dch_linkcmd.specs.SoftCounting.{counts_of};
 ghost use Rattle.dch_linkcmd.specs.SoftOverlong.{soft_refuses_long};
-ghost use Rattle.dch_linkcmd.specs.SoftRules.{PassesStage, soft_lines};
-ghost use Rattle.dch_linkcmd.specs.SoftRun.{Run, opened_run, steps_left};
-ghost use Rattle.dch_linkcmd.specs.SoftStanding.{IsReady, RepresentsRun, led_bytes};
+ghost use Rattle.dch_linkcmd.specs.SoftRules.{PassesFrame, PassesFrames, PassesStage, soft_lines};
+ghost use Rattle.dch_linkcmd.specs.SoftRun.{Run, opened_run};
+ghost use Rattle.dch_linkcmd.specs.SoftStanding.{StandsBetween, IsReady, RepresentsRun, ready_stands};
 ghost use Rattle.dch_linkcmd.specs.SoftTaking.{Tells};
+ghost use Rattle.dch_linkcmd.specs.Stepping.{GoesBy};
 
-use crate::filter::Filter;
-use crate::soft_filter::lead;
+use crate::soft_filter::{happen, lead, pass};
 use crate::soft_reading::{SoftLine, read_line};
 use dch_accept::Accepted;
 use dch_bits::{Bit, NoMemory};
-use dch_lines::{LineFault, LineHandler, OCTETS, UNIT_BITS};
+use dch_lines::{Filter, LineFault, LineHandler, OCTETS, Page, UNIT_BITS, put_line};
 use dch_link::soft_stage::Stage;
 use dch_link::{Leg, NodeB, Rnc, Soft, Ue};
-use dch_script::{Line, LineError, Report};
+use dch_script::{Line, LineError};
 use std::alloc::Global;
 use std::marker::Model;
-
-/// The most bytes of the words that lead the lines of a stage of a leg.
-const LEADS: usize = 24_000_000;
 
 /// The handler of the command `soft`, which takes each line as something that happens between two radio frames, or as
 /// radio frames, stage by stage. All memory is taken at opening.
@@ -87,7 +84,7 @@ impl SoftHandler {
         requires first { first_cfn % 8 ≡ 0 }
         requires some { 1 ≤ legs }
         requires few { legs ≤ 6 }
-        ensures ready { IfOk result IsReady }
+        ensures ready { IfOk result StandsBetween }
         ensures stands { IfOk result (RepresentsRun (opened_run accepted first_cfn legs quiet)) }
         ensures new { IfOk result (λ handler. (handler.accepted ≡ accepted) × (handler.lines ≡ 0)) }
     {
@@ -127,26 +124,71 @@ impl SoftHandler {
         soft.into_nodes()
     }
 
-    /// Passes the next stage of a radio frame, after the last of which the next radio frame is on.
-    fn pass(&mut self, report: &mut Report)
+    /// Passes so many radio frames. Once a write has failed, the one that is on is the last. None is left then.
+    fn pass_frames<P: Page>(&mut self, count: u32, page: &mut P)
+        requires ready { IsReady self.old }
+        requires left { self.old.left ≡ count }
+        requires some { 1 ≤ count }
+        requires first { self.old.stage ≡ Stage.RncTick }
+        ensures passes { Leads RepresentsRun self.old self.new (λ old new. Adds P.writes (PassesFrames (P.broken page.new) old new) page.old page.new) }
+        ensures ready { IsReady self.new }
+        ensures first { self.new.stage ≡ Stage.RncTick }
+        ensures none { self.new.left ≡ 0 }
+        ensures lines { self.new.lines ≡ self.old.lines }
+    {
+        for _ in 0..count {
+            self.pass_frame(page);
+            if !page.is_open() {
+                self.leave_off();
+                return;
+            }
+        }
+    }
+
+    /// Leaves off the radio frames that are left of a line.
+    fn leave_off(&mut self)
+        requires { IsReady self.old }
+        ensures ready { IsReady self.new }
+        ensures none { self.new ≡ record self.old { left = 0 } }
+    {
+        self.left = 0;
+    }
+
+    /// Passes a radio frame, stage by stage.
+    fn pass_frame<P: Page>(&mut self, page: &mut P)
         requires ready { IsReady self.old }
         requires left { 0 < self.old.left }
-        requires room { length report.old.text + led_bytes self.old.accepted.config ≤ report.old.most }
-        ensures passes { Leads RepresentsRun self.old self.new (λ old new. Adds (PassesStage old new) report.old report.new) }
+        requires first { self.old.stage ≡ Stage.RncTick }
+        ensures passes { Leads RepresentsRun self.old self.new (λ old new. Adds P.writes (PassesFrame old new) page.old page.new) }
+        ensures ready { IsReady self.new }
+        ensures first { self.new.stage ≡ Stage.RncTick }
+        ensures left { self.new.left + 1 ≡ self.old.left }
+        ensures lines { self.new.lines ≡ self.old.lines }
+        ensures legs { length self.new.soft.legs ≡ length self.old.soft.legs }
+    {
+        let stages = Stage::RncTick.left(self.soft.legs());
+        for _ in 0..stages {
+            self.pass(page);
+        }
+    }
+
+    /// Passes the next stage of a radio frame, after the last of which the next radio frame is on.
+    fn pass<P: Page>(&mut self, page: &mut P)
+        requires ready { IsReady self.old }
+        requires left { 0 < self.old.left }
+        ensures passes { Leads RepresentsRun self.old self.new (λ old new. Adds P.writes (PassesStage old new) page.old page.new) }
         ensures ready { IsReady self.new }
         ensures accepted { self.new.accepted ≡ self.old.accepted }
         ensures lines { self.new.lines ≡ self.old.lines }
-        ensures remaining { steps_left (length self.new.soft.legs) self.new.stage self.new.left + 1 ≡
-            steps_left (length self.old.soft.legs) self.old.stage self.old.left }
-        ensures most { report.new.most ≡ report.old.most }
-        ensures fits { length report.new.text ≤ report.new.most }
+        ensures legs { length self.new.soft.legs ≡ length self.old.soft.legs }
+        ensures goes { GoesBy Stage.RncTick (next_stage (length self.old.soft.legs) self.old.stage) self.old.left self.new.stage self.new.left }
     {
-        Filter {
+        let mut filter = Filter {
             quiet: self.quiet,
             lead: lead(self.stage.leg()),
-            report,
-        }
-        .pass_soft(&self.accepted, self.stage, &mut self.soft);
+            page,
+        };
+        pass(&mut filter, &self.accepted, self.stage, &mut self.soft);
         match self.stage.next(self.soft.legs()) {
             Some(stage) => self.stage = stage,
             None => {
@@ -161,34 +203,31 @@ impl SoftHandler {
 
 /// Takes a line. Answers how many radio frames it asks for, if it asks for any; otherwise what it says has happened.
 /// `octets` is room for the octets of a unit.
-fn take(
+fn take<P: Page>(
     accepted: &Accepted,
     line: &[u8],
     octets: &mut [u8],
     soft: &mut Soft,
     quiet: bool,
-    report: &mut Report,
+    page: &mut P,
 ) -> Result<Option<u32>, LineError>
     requires octets { length octets.old ≡ OCTETS }
     requires opened { IsSoftOf accepted.now soft.old }
-    requires room { length report.old.text + led_bytes accepted.now.config ≤ report.old.most }
-    ensures ok { IfOk result (λ count. Tells accepted.now line.now count quiet soft.old soft.new report.old report.new) }
+    ensures ok { IfOk result (λ count. Tells P.writes accepted.now line.now count quiet soft.old soft.new page.old page.new) }
     ensures err { IfErr result (λ why. soft_meaning (length soft.old.legs) accepted.now.config line.now ≡ Err why) }
-    ensures same { IfErr result (λ _. (soft.new ≡ soft.old) × (report.new ≡ report.old)) }
+    ensures same { IfErr result (λ _. (soft.new ≡ soft.old) × (page.new ≡ page.old)) }
     ensures opened { IsSoftOf accepted.now soft.new }
     ensures legs { length soft.new.legs ≡ length soft.old.legs }
-    ensures most { report.new.most ≡ report.old.most }
-    ensures fits { length report.new.text ≤ report.new.most }
 {
     let mut bits = [Bit::Zero; UNIT_BITS];
     match read_line(accepted, soft.legs(), line, octets, &mut bits) {
         Ok(SoftLine::Happens(event)) => {
-            Filter {
+            let mut filter = Filter {
                 quiet,
                 lead: &[],
-                report,
-            }
-            .happen_soft(accepted, event, soft);
+                page,
+            };
+            happen(&mut filter, accepted, event, soft);
             Ok(None)
         }
         Ok(SoftLine::Frames(count)) => Ok(Some(count)),
@@ -203,61 +242,36 @@ impl LineHandler for SoftHandler {
 
     ghost represents = { RepresentsRun };
 
-    ghost most = { λ h. led_bytes h.accepted.config };
-
-    ghost remaining = { λ h. steps_left (length h.soft.legs) h.stage h.left };
-
-    ghost stands = { IsReady };
+    ghost stands = { StandsBetween };
 
     ghost handled = { λ h. h.lines };
 
-    fn handle_line(&mut self, line: &[u8], report: &mut Report) -> Result<(), LineFault> {
+    fn handle_line<P: Page>(&mut self, line: &[u8], page: &mut P) -> Result<(), LineFault> {
         match take(
             &self.accepted,
             line,
             &mut self.octets,
             &mut self.soft,
             self.quiet,
-            report,
+            page,
         ) {
             Ok(None) => Ok(()),
             Ok(Some(count)) => {
                 self.left = count;
                 self.lines += 1;
-                self.pass(report);
+                self.pass_frames(count, page);
                 Ok(())
             }
             Err(why) => Err(LineFault::Malformed(why)),
         }
     }
 
-    fn remaining(&self) -> u32 {
-        if self.left == 0 {
-            0
-        } else {
-            let legs = self.soft.legs();
-            Stage::RncTick.left(legs) * (self.left - 1) + self.stage.left(legs)
-        }
-    }
-
-    fn resume(&mut self, report: &mut Report) {
-        if self.left > 0 {
-            self.pass(report);
-        }
-    }
-
     #[tactic(auto, unfolding(dch_lines::specs::LineTexts::closing))]
-    fn close(&self, _nonempty_lines: u64, report: &mut Report) {
-        report.put(&Line::EndFrames(self.frames));
-    }
-
-    fn most(&self) -> usize {
-        // A good configuration has at most 16 bearers.
-        let _config = self.accepted.config();
-        self.accepted.step_bytes() + LEADS
+    fn close<P: Page>(&self, _nonempty_lines: u64, page: &mut P) {
+        put_line(page, &Line::EndFrames(self.frames));
     }
 
     ghost overlong = { soft_refuses_long };
 
-    ghost counts = { counts_of };
+    ghost stood = { ready_stands };
 }

@@ -1,20 +1,18 @@
 -- A change of the configuration that is due.
-use Rattle.std.proofs.Common.{◌≡◌, ◌≤◌, ◌+◌, ◌%◌, ◌∙◌, ◌++◌, ℕ, List, [], ◌∷◌, arith, ap, inl, inr, refl, sym, subst}
+use Rattle.std.proofs.Common.{◌≡◌, ◌≤◌, ◌+◌, ◌%◌, ◌∙◌, ℕ, List, [], ◌∷◌, Bool, arith, ap, inl, inr, refl, sym, subst}
 use Rattle.std.specs.Prelude.{IfSome, OnOk, Option, Some, None, Result, Ok, Err}
 use Rattle.std.proofs.lemmas.List.Sums.{sum_by-append}
 use Rattle.dch_accept.specs.Plans.{Planned}
-use Rattle.dch_accept.specs.Reports.{step_bytes}
 use Rattle.dch_io.specs.Pieces.{LIMIT}
-use Rattle.dch_lines.specs.Semantics.{Adds}
+use Rattle.dch_lines.specs.Semantics.{Adds, Does}
 use Rattle.dch_node.specs.Lines.{Line}
 use Rattle.dch_node.specs.Traces.{Trace}
 use Rattle.dch_node.specs.Values.{Output, no_output}
-use Rattle.dch_script.specs.Held.{Held}
 use Rattle.dch_nodecmd.specs.NodeRules.{AreLasting, AsksChange, NodeRules}
-use Rattle.dch_nodecmd.specs.Rules.{MakesChange, TakesLine}
+use Rattle.dch_nodecmd.specs.Rules.{MakesChange, TakesLine, node_lines}
 use Rattle.dch_nodecmd.specs.Run.{Run, frames_in, opened_run}
 use Rattle.dch_lines.specs.Coming.{IsDue, CanFollow}
-use Rattle.dch_nodecmd.specs.Standing.{CanChange, Changes, Handler, HasRun, HasStepRoom, IsEnough, IsPrepared, IsReady, RepresentsHistory, RepresentsRun}
+use Rattle.dch_nodecmd.specs.Standing.{CanChange, Changes, Handler, HasRun, IsPrepared, IsReady, RepresentsHistory, RepresentsRun, ShowsLines}
 use Rattle.dch_lines.specs.declared.later.Later.{Later}
 use Rattle.dch_nodecmd.proofs.Running.{IsActive, changed_on}
 
@@ -68,11 +66,11 @@ goes_on_in rules Represents Shows old new was on =
     record { run = next.0; stands = next.1; whole = ap (λ n. n % 8) next.2 ∙ was.whole }
 
 -- a handler that made a change that was due is ready, and stands for the run that goes on by it
-pub changed : {S E V : Type 0} (rules : NodeRules S E) (IsNodeOf : Planned → V → Type 0) (HasNext : Planned → Planned → V → Type 0) (Represents : Planned → S → V → Type 0) (Shows : Output → V → Type 0) → AreLasting rules → (old new : Handler V) (coming later : Later) (before after : Held)
-    → IsReady rules IsNodeOf HasNext Represents Shows old → IsDue old.later old.frames coming → old.later ≡ Some later → Changes rules Represents HasNext Shows later.accepted old.node new.node before.text after.text → after.most ≡ before.most
+pub changed : {S E V P : Type 0} (writes : P → List ℕ → P → Type 0) (rules : NodeRules S E) (IsNodeOf : Planned → V → Type 0) (HasNext : Planned → Planned → V → Type 0) (Represents : Planned → S → V → Type 0) (Shows : Output → V → Type 0) → AreLasting rules → (old new : Handler V) (coming later : Later) (before after : P)
+    → IsReady rules IsNodeOf HasNext Represents Shows old → IsDue old.later old.frames coming → old.later ≡ Some later → Changes rules Represents HasNext Shows later.accepted old.node new.node (ShowsLines writes old.quiet before after)
     → IsNodeOf later.accepted new.node → new ≡ record old { accepted = later.accepted; later = None; node = new.node }
-    → IsReady rules IsNodeOf HasNext Represents Shows new × ((run : Run S E) → RepresentsRun rules Represents Shows run old → (next : Run S E) × RepresentsRun rules Represents Shows next new × Adds (MakesChange rules run next) before after)
-changed {S} {E} {V} rules IsNodeOf HasNext Represents Shows lasting old new coming later before after ready due waits changes most opened is =
+    → IsReady rules IsNodeOf HasNext Represents Shows new × ((run : Run S E) → RepresentsRun rules Represents Shows run old → (next : Run S E) × RepresentsRun rules Represents Shows next new × Adds writes (MakesChange rules run next) before after)
+changed {S} {E} {V} {P} writes rules IsNodeOf HasNext Represents Shows lasting old new coming later before after ready due waits changes opened is =
     let prepared : IsPrepared HasNext old.accepted old.node later = of_some (IsPrepared HasNext old.accepted old.node) later old.later waits ready.next in
     let same : coming ≡ later = some_later later coming old.later waits due.waits in
     let here : IsDue old.later old.frames later = record { waits = waits; now = due.now ∙ ap (λ (l : Later). l.frame) same } in
@@ -80,12 +78,11 @@ changed {S} {E} {V} rules IsNodeOf HasNext Represents Shows lasting old new comi
     let none : new.later ≡ None = ap (λ (h : Handler V). h.later) is in
     let quiet : new.quiet ≡ old.quiet = ap (λ (h : Handler V). h.quiet) is in
     let frames : new.frames ≡ old.frames = ap (λ (h : Handler V). h.frames) is in
-    let on : (run : Run S E) → RepresentsRun rules Represents Shows run old → (next : Run S E) × RepresentsRun rules Represents Shows next new × Adds (MakesChange rules run next) before after =
-    λ run stands. changed_on rules Represents HasNext Shows lasting old new run later before after changes prepared.next most here accepted none quiet frames stands in
+    let on : (run : Run S E) → RepresentsRun rules Represents Shows run old → (next : Run S E) × RepresentsRun rules Represents Shows next new × Adds writes (MakesChange rules run next) before after =
+    λ run stands. changed_on writes rules Represents HasNext Shows lasting old new run later before after changes prepared.next here accepted none quiet frames stands in
     let runs : HasRun rules Represents Shows new =
-    goes_on_in rules Represents Shows old new ready.runs (λ run stands. let next = on run stands in (next.0, next.1, ap (λ (r : Run S E). r.first) next.2.handles.takes.goes_on)) in
-    let enough : step_bytes later.accepted.config ≤ old.most = of_some (λ (l : Later). step_bytes l.accepted.config ≤ old.most) later old.later waits ready.enough.then in (
-      rw is (record { few = ready.few; opened = opened; next = tt; enough = record { now = enough; then = tt }; room = ready.room; runs = rw (← is) runs }),
+    goes_on_in rules Represents Shows old new ready.runs (λ run stands. let next = on run stands in (next.0, next.1, ap (λ (r : Run S E). r.first) next.2.handles.takes.goes_on)) in (
+      rw is (record { few = ready.few; opened = opened; next = tt; runs = rw (← is) runs }),
       on,
     )
 
@@ -107,22 +104,20 @@ stays_ready rules IsNodeOf HasNext Represents Shows old new ready is few opened 
   few = few;
   opened = opened;
   next = next_on (IsPrepared HasNext old.accepted old.node) (IsPrepared HasNext old.accepted new.node) old.later (λ later prepared. record { next = next later.accepted prepared.next; whole = prepared.whole }) ready.next;
-  enough = ready.enough;
-  room = ready.room;
   runs = rw (← is) runs;
 })
 
 -- a line that asks for a change, which is made
-pub asked : {S E V : Type 0} (rules : NodeRules S E) (Represents : Planned → S → V → Type 0) (Shows : Output → V → Type 0) → IsActive rules Represents → (old mid new : Handler V) (line : List ℕ) (before between after : Held) → mid ≡ old → between ≡ before → AsksChange rules old.accepted.config line
-    → ((run : Run S E) → RepresentsRun rules Represents Shows run mid → (next : Run S E) × RepresentsRun rules Represents Shows next new × Adds (MakesChange rules run next) between after)
-    → (run : Run S E) → RepresentsRun rules Represents Shows run old → (next : Run S E) × RepresentsRun rules Represents Shows next new × Adds (TakesLine rules run line next) before after
-asked {S} {E} {V} rules Represents Shows active old mid new line before between after same unwritten asks makes run stands =
+pub asked : {S E V P : Type 0} (writes : P → List ℕ → P → Type 0) (broken : Bool) (rules : NodeRules S E) (Represents : Planned → S → V → Type 0) (Shows : Output → V → Type 0) → IsActive rules Represents → (old mid new : Handler V) (line : List ℕ) (before between after : P) → mid ≡ old → between ≡ before → AsksChange rules old.accepted.config line
+    → ((run : Run S E) → RepresentsRun rules Represents Shows run mid → (next : Run S E) × RepresentsRun rules Represents Shows next new × Adds writes (MakesChange rules run next) between after)
+    → (run : Run S E) → RepresentsRun rules Represents Shows run old → (next : Run S E) × RepresentsRun rules Represents Shows next new × Adds writes (Does (node_lines rules) broken run line next) before after
+asked {S} {E} {V} {P} writes broken rules Represents Shows active old mid new line before between after same unwritten asks makes run stands =
     let next = makes run (subst (λ (h : Handler V). RepresentsRun rules Represents Shows run h) (sym same) stands) in
     let config : rules.planned run.node ≡ old.accepted = active old.accepted run.node old.node stands.stands in
     let here : AsksChange rules (rules.planned run.node).config line = subst (λ (p : Planned). AsksChange rules p.config line) (sym config) asks in (
       next.0,
       next.1,
-      record { more = next.2.more; handles = inr (here, next.2.handles); added = next.2.added ∙ ap (λ (h : Held). record h { text = h.text ++ next.2.more }) unwritten },
+      record { more = next.2.more; handles = inl (inr (here, next.2.handles)); wrote = subst (λ (p : P). writes p next.2.more after) unwritten next.2.wrote },
     )
 
 pub on_ok : {E : Type 0} (r : Result (Unit {0}) E) (P Q : Type 0) → (P → Q) → OnOk r P → OnOk r Q
@@ -131,14 +126,12 @@ on_ok (Err e) P Q on holds = tt
 
 -- a handler that was just opened is ready
 pub opened_ready : {S E V : Type 0} (rules : NodeRules S E) (IsNodeOf : Planned → V → Type 0) (HasNext : Planned → Planned → V → Type 0) (Represents : Planned → S → V → Type 0) (Shows : Output → V → Type 0) (handler : Handler V) (first : ℕ) → handler.frames ≡ 0 → first % 8 ≡ 0
-    → IsNodeOf handler.accepted handler.node → IfSome handler.later (λ later. HasNext handler.accepted later.accepted handler.node) → IfSome handler.later (CanFollow handler.accepted) → IsEnough handler.accepted handler.later handler.most → HasStepRoom handler.most handler.quiet handler.step
+    → IsNodeOf handler.accepted handler.node → IfSome handler.later (λ later. HasNext handler.accepted later.accepted handler.node) → IfSome handler.later (CanFollow handler.accepted)
     → RepresentsHistory rules Represents Shows handler.accepted handler.accepted first [] [] handler.node → IsReady rules IsNodeOf HasNext Represents Shows handler
-opened_ready {S} {E} {V} rules IsNodeOf HasNext Represents Shows handler first none begins opened next follows enough room stands = record {
+opened_ready {S} {E} {V} rules IsNodeOf HasNext Represents Shows handler first none begins opened next follows stands = record {
   few = omega (arith, none);
   opened = opened;
   next = prepared handler.later next follows;
-  enough = enough;
-  room = room;
   runs = record {
     run = opened_run rules handler.accepted handler.later first handler.quiet;
     stands = record {

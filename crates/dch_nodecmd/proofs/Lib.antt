@@ -1,4 +1,5 @@
 pub mod Changing
+pub mod FilterSteps
 pub mod NoTrace
 pub mod RunLines
 pub mod Running

@@ -3,7 +3,6 @@ use Rattle.std.proofs.Common.{◌≡◌, ◌+◌, ◌∙◌, ◌++◌, ℕ, List
 use Rattle.std.specs.Prelude.{None}
 use Rattle.dch_accept.specs.Plans.{Planned}
 use Rattle.dch_lines.specs.LineTexts.{HandlesLine, HandlesLines, is_empty}
-use Rattle.dch_lines.specs.Semantics.{LineSteps}
 use Rattle.dch_node.specs.Lines.{Line}
 use Rattle.dch_script.specs.LineText.{text_of}
 use Rattle.dch_nodecmd.specs.NoTrace.{ChangesNothing, ChangesNothingAfter, IsSameRun, LeavesNoTrace}
@@ -12,7 +11,7 @@ use Rattle.dch_nodecmd.specs.Rules.{MakesChange, TakesEvent, TakesLine, TakesSai
 use Rattle.dch_nodecmd.specs.Run.{Run, frames_in}
 use Rattle.dch_lines.specs.Shown.{shown}
 use Rattle.dch_nodecmd.proofs.Running.{frames_next}
-use Rattle.dch_nodecmd.proofs.Said.{one_event, one_taken, says_or_asks, taken_one}
+use Rattle.dch_nodecmd.proofs.Said.{one_event, says_or_asks}
 
 -- states from which steps go on alike have one configuration
 same_planned : {S E : Type 0} (rules : NodeRules S E) → AreLasting rules → (old older : S) → rules.kept older ≡ rules.kept old → rules.planned older ≡ rules.planned old
@@ -80,9 +79,9 @@ line_same {S} {E} rules lasting run other new line text same handles = cases (is
         let there : HandlesLine (node_lines rules) other line other text = rw empty (refl, own.1) in
         (other, there, subst (λ (r : Run S E). IsSameRun rules r other) (sym own.0) same)
     cases false words =
-        let own : LineSteps (node_lines rules) run line new text = rw words at handles in
-        let next = taken_same rules lasting run other new line text same (one_taken rules run new line text own) in
-        let there : HandlesLine (node_lines rules) other line next.0 text = rw words (taken_one rules other next.0 line text next.1) in
+        let own : TakesLine rules run line new text = rw words at handles in
+        let next = taken_same rules lasting run other new line text same own in
+        let there : HandlesLine (node_lines rules) other line next.0 text = rw words next.1 in
         (next.0, there, next.2)
 
 lines_same : {S E : Type 0} (rules : NodeRules S E) → AreLasting rules → (run other new : Run S E) (lines : List (List ℕ)) (text : List ℕ) → IsSameRun rules run other → HandlesLines (node_lines rules) run lines new text → (newer : Run S E) × HandlesLines (node_lines rules) other lines newer text × IsSameRun rules new newer
@@ -102,7 +101,7 @@ line_quiet {S} {E} rules run new line text handles = cases (is_empty line) refl
   where
     cases : (b : Bool) → is_empty line ≡ b → new.quiet ≡ run.quiet
     cases true empty = let own : (new ≡ run) × (text ≡ []) = rw empty at handles in ap (λ (r : Run S E). r.quiet) own.0
-    cases false words = let own : LineSteps (node_lines rules) run line new text = rw words at handles in taken_quiet rules run new line text (one_taken rules run new line text own)
+    cases false words = let own : TakesLine rules run line new text = rw words at handles in taken_quiet rules run new line text own
 
 nothing_same : {S E : Type 0} (rules : NodeRules S E) → AreLasting rules → (run new : Run S E) (line text : List ℕ) (lines : List Line) → ChangesNothing rules (rules.planned run.node) line lines → TakesLine rules run line new text
     → IsSameRun rules new run × (text ≡ shown run.quiet (text_of lines))
@@ -121,8 +120,8 @@ pub no_trace : {S E : Type 0} (rules : NodeRules S E) (run new : Run S E) (befor
     → HandlesLines (node_lines rules) run (before ++ line ∷ after) new text → LeavesNoTrace rules run new before after lines text
 no_trace rules run new [] after line text lines lasting nothing (mid, (first, (rest, (handles, later, whole)))) =
     let here : ChangesNothing rules (rules.planned run.node) line lines = nothing run [] (refl, refl) in
-    let own : LineSteps (node_lines rules) run line mid first = rw here.words at handles in
-    let same = nothing_same rules lasting run mid line first lines here (one_taken rules run mid line first own) in
+    let own : TakesLine rules run line mid first = rw here.words at handles in
+    let same = nothing_same rules lasting run mid line first lines here own in
     let then = lines_same rules lasting mid run new after rest same.0 later in
     record {
       other = then.0;

@@ -7,7 +7,7 @@ use Rattle.dch_nodeb.specs.State.{State}
 use Rattle.dch_nodeb.specs.Values.{Node}
 use Rattle.dch_nodeb.specs.declared.event.NodeBEvent.{NodeBEvent}
 use Rattle.dch_nodeb.specs.declared.event.NodeBEvent.TheVariants as happens
-use Rattle.dch_script.specs.Adding.{AddsLines}
+use Rattle.dch_node.specs.Lines.{Line}
 use Rattle.dch_nodecmd.specs.NodeBReading.{IsCounted, IsReadAs}
 use Rattle.dch_nodecmd.specs.NodeBRules.{node_b_rules}
 use Rattle.dch_nodecmd.specs.Standing.{StepsBy}
@@ -20,10 +20,10 @@ next_kept planned second (happens.Phy frame) count old new counted keeps next = 
 next_kept planned second happens.Change count old new counted keeps next = absurd counted
 
 -- it took the line as this event
-pub steps_by : (planned : Planned) (line : List ℕ) (event : NodeBEvent) (count : ℕ) (old new : Node) (before after : List ℕ) → IsCounted event count → IsReadAs planned line event
-    → ((active : Planned) (state : State) → IsActiveBefore planned event active old → Represents active state old → Stepped planned state (happening planned event) new (AddsLines before after))
-    → StepsBy node_b_rules Represents Shows planned line count old new before after
-steps_by planned line (happens.Iub set octets) count old new before after counted says steps = record { event = happening planned (happens.Iub set octets); says = says; counted = counted; steps = λ state stands. steps planned state refl stands }
-steps_by planned line happens.Down count old new before after counted says steps = record { event = happening planned happens.Down; says = says; counted = counted; steps = λ state stands. steps planned state refl stands }
-steps_by planned line (happens.Phy frame) count old new before after counted says steps = record { event = happening planned (happens.Phy frame); says = says; counted = counted; steps = λ state stands. steps planned state refl stands }
-steps_by planned line happens.Change count old new before after counted says steps = absurd counted
+pub steps_by : (planned : Planned) (line : List ℕ) (event : NodeBEvent) (count : ℕ) (old new : Node) (Says : List Line → Type 0) → IsCounted event count → IsReadAs planned line event
+    → ((active : Planned) (state : State) → IsActiveBefore planned event active old → Represents active state old → Stepped planned state (happening planned event) new Says)
+    → StepsBy node_b_rules Represents Shows planned line count old new Says
+steps_by planned line (happens.Iub set octets) count old new Says counted says steps = record { event = happening planned (happens.Iub set octets); says = says; counted = counted; steps = λ state stands. steps planned state refl stands }
+steps_by planned line happens.Down count old new Says counted says steps = record { event = happening planned happens.Down; says = says; counted = counted; steps = λ state stands. steps planned state refl stands }
+steps_by planned line (happens.Phy frame) count old new Says counted says steps = record { event = happening planned (happens.Phy frame); says = says; counted = counted; steps = λ state stands. steps planned state refl stands }
+steps_by planned line happens.Change count old new Says counted says steps = absurd counted

@@ -5,7 +5,6 @@ use Rattle.dch_types.specs.declared.config.Config.{Config}
 use Rattle.dch_accept.specs.Plans.{Planned}
 use Rattle.dch_script.specs.declared.event.LineError.{LineError}
 use Rattle.dch_lines.specs.LineTexts.{HandlesLine, HandlesLines, is_empty}
-use Rattle.dch_lines.specs.Semantics.{LineSteps}
 use Rattle.dch_nodecmd.specs.NodeRules.{AreLasting, NodeRules}
 use Rattle.dch_nodecmd.specs.Rules.{RefusesLine, TakesLine, config_of, node_lines}
 use Rattle.dch_nodecmd.specs.Run.{Run, frames_in}
@@ -13,7 +12,7 @@ use Rattle.dch_lines.specs.Coming.{IsDue, coming}
 use Rattle.dch_nodecmd.specs.RunLines.{AreRunLines, AsksFirst, SaysFirst}
 use Rattle.dch_lines.specs.declared.later.Later.{Later}
 use Rattle.dch_nodecmd.proofs.Running.{frames_next}
-use Rattle.dch_nodecmd.proofs.Said.{one_event, one_taken, says_or_asks}
+use Rattle.dch_nodecmd.proofs.Said.{one_event, says_or_asks}
 use Rattle.dch_lines.proofs.Meanings.{ok_err}
 
 one_pair : (a b : ℕ × Config) → Some a ≡ Some b → a ≡ b
@@ -84,10 +83,10 @@ behind {S} {E} rules lasting run next line text lines good handles = cases (is_e
         let here : AreRunLines rules (config_of rules run) (coming run.second) (frames_in rules run.events) lines = rw empty at good in
         subst (λ (r : Run S E). AreRunLines rules (config_of rules r) (coming r.second) (frames_in rules r.events) lines) (sym own.0) here
     cases false some =
-        let own : LineSteps (node_lines rules) run line next text = rw some at handles in
+        let own : TakesLine rules run line next text = rw some at handles in
         let here : SaysFirst rules (config_of rules run) (frames_in rules run.events) line (λ now. AreRunLines rules (config_of rules run) (coming run.second) now lines)
         ⊎ AsksFirst rules (config_of rules run) (coming run.second) (frames_in rules run.events) line (λ then. AreRunLines rules then None (frames_in rules run.events) lines) = rw some at good in
-        next_good rules lasting run next line text lines here (one_taken rules run next line text own)
+        next_good rules lasting run next line text lines here own
 
 -- of good lines none is refused where those before it lead
 pub none_refused : {S E : Type 0} (rules : NodeRules S E) → AreLasting rules → (run mid : Run S E) (good later : List (List ℕ)) (line text : List ℕ) (why : LineError)

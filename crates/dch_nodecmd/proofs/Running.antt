@@ -1,20 +1,18 @@
 -- A line of a command with one node as a step of a run.
-use Rattle.std.proofs.Common.{◌≡◌, ◌+◌, ◌∙◌, ◌++◌, ℕ, List, [], ◌∷◌, Bool, true, false, inl, refl, ap, sym, subst, arith}
+use Rattle.std.proofs.Common.{◌≡◌, ◌+◌, ◌∙◌, ◌++◌, ℕ, List, [], ◌∷◌, Bool, inl, refl, ap, sym, subst, arith}
 use Rattle.std.specs.Prelude.{None}
 use Rattle.std.proofs.lemmas.List.Sums.{sum_by-append}
 use Rattle.dch_accept.specs.Plans.{Planned}
-use Rattle.dch_script.specs.Held.{Held}
-use Rattle.dch_lines.specs.Semantics.{Adds}
-use Rattle.dch_node.specs.Lines.{Line}
+use Rattle.dch_lines.specs.Semantics.{Adds, Does}
 use Rattle.dch_script.specs.LineText.{text_of}
 use Rattle.dch_node.specs.Values.{Output, no_output}
 use Rattle.dch_node.proofs.Traces.{trace_next}
 use Rattle.dch_nodecmd.specs.NodeRules.{AreLasting, NodeRules, SaysEvent}
-use Rattle.dch_nodecmd.specs.Rules.{MakesChange, TakesLine}
+use Rattle.dch_nodecmd.specs.Rules.{MakesChange, TakesLine, node_lines}
 use Rattle.dch_nodecmd.specs.Run.{Run, frames_in}
 use Rattle.dch_lines.specs.Coming.{IsDue}
 use Rattle.dch_lines.specs.Shown.{shown}
-use Rattle.dch_nodecmd.specs.Standing.{Changes, Handler, RepresentsRun, ShowsBy}
+use Rattle.dch_nodecmd.specs.Standing.{Changes, Handler, RepresentsRun, ShowsLines, StepsBy}
 use Rattle.dch_lines.specs.declared.later.Later.{Later}
 
 -- one more event
@@ -29,16 +27,16 @@ abbrev pub IsActive : {S E V : Type 0} → NodeRules S E → (Planned → S → 
 IsActive {S} {E} {V} rules Represents = (planned : Planned) (state : S) (node : V) → Represents planned state node → rules.planned state ≡ planned
 
 -- a good line takes a run to another, for which the handler stands
-pub went_on : {S E V : Type 0} (rules : NodeRules S E) (Represents : Planned → S → V → Type 0) (Shows : Output → V → Type 0) → IsActive rules Represents → (old new : Handler V) (run : Run S E) (line : List ℕ) (count : ℕ) (before after : Held)
-    → ShowsBy rules Represents Shows old.accepted old.quiet line count old.node new.node before.text after.text → after.most ≡ before.most
+pub went_on : {S E V P : Type 0} (writes : P → List ℕ → P → Type 0) (rules : NodeRules S E) (Represents : Planned → S → V → Type 0) (Shows : Output → V → Type 0) → IsActive rules Represents → (old new : Handler V) (run : Run S E) (line : List ℕ) (count : ℕ) (before after : P)
+    → StepsBy rules Represents Shows old.accepted line count old.node new.node (ShowsLines writes old.quiet before after)
     → new.accepted ≡ old.accepted → new.later ≡ old.later → new.quiet ≡ old.quiet → new.frames ≡ old.frames + count → RepresentsRun rules Represents Shows run old
-    → (next : Run S E) × RepresentsRun rules Represents Shows next new × Adds (TakesLine rules run line next) before after
-went_on {S} {E} {V} rules Represents Shows active old new run line count before after shows most same_accepted same_later same_quiet counted stands =
+    → (next : Run S E) × RepresentsRun rules Represents Shows next new × Adds writes (TakesLine rules run line next) before after
+went_on {S} {E} {V} {P} writes rules Represents Shows active old new run line count before after shows same_accepted same_later same_quiet counted stands =
     let stepped = shows.steps run.node stands.stands in
     let event : E = shows.event in
     let next : Run S E = record run { node = stepped.next; events = run.events ++ event ∷ []; lines = run.lines ++ stepped.output.lines; last = stepped.output } in
     let more : List ℕ = shown run.quiet (text_of stepped.output.lines) in
-    let text : after.text ≡ before.text ++ more = stepped.reported ∙ ap (λ q. before.text ++ shown q (text_of stepped.output.lines)) (sym stands.quiet) in (
+    let wrote : writes before more after = subst (λ q. writes before (shown q (text_of stepped.output.lines)) after) (sym stands.quiet) stepped.tells in (
       next,
       record {
         second = stands.second ∙ sym same_later;
@@ -55,28 +53,25 @@ went_on {S} {E} {V} rules Represents Shows active old new run line count before 
           says = subst (λ (p : Planned). SaysEvent rules p.config line event) (sym (active old.accepted run.node old.node stands.stands)) shows.says;
           takes = record { node = stepped.next; output = stepped.output; step = stepped.step; goes_on = refl; shows = refl };
         });
-        added = ap (λ (t : List ℕ). record { text = t; most = after.most }) text ∙ ap (λ n. record { text = before.text ++ more; most = n }) most;
+        wrote = wrote;
       },
     )
 
--- of no text nothing is shown
-shown_nothing : (quiet : Bool) → [] ≡ shown quiet []
-shown_nothing true = refl
-shown_nothing false = refl
+-- a line that is taken is done whole
+pub done_whole : {S E P : Type 0} (writes : P → List ℕ → P → Type 0) (broken : Bool) (rules : NodeRules S E) (run next : Run S E) (line : List ℕ) (before after : P) → Adds writes (TakesLine rules run line next) before after → Adds writes (Does (node_lines rules) broken run line next) before after
+done_whole writes broken rules run next line before after adds = record { more = adds.more; handles = inl adds.handles; wrote = adds.wrote }
 
 -- a change that is due takes a run to another, for which the handler stands
-pub changed_on : {S E V : Type 0} (rules : NodeRules S E) (Represents : Planned → S → V → Type 0) (HasNext : Planned → Planned → V → Type 0) (Shows : Output → V → Type 0) → AreLasting rules → (old new : Handler V) (run : Run S E) (later : Later) (before after : Held)
-    → Changes rules Represents HasNext Shows later.accepted old.node new.node before.text after.text → HasNext old.accepted later.accepted old.node → after.most ≡ before.most → IsDue old.later old.frames later
+pub changed_on : {S E V P : Type 0} (writes : P → List ℕ → P → Type 0) (rules : NodeRules S E) (Represents : Planned → S → V → Type 0) (HasNext : Planned → Planned → V → Type 0) (Shows : Output → V → Type 0) → AreLasting rules → (old new : Handler V) (run : Run S E) (later : Later) (before after : P)
+    → Changes rules Represents HasNext Shows later.accepted old.node new.node (ShowsLines writes old.quiet before after) → HasNext old.accepted later.accepted old.node → IsDue old.later old.frames later
     → new.accepted ≡ later.accepted → new.later ≡ None → new.quiet ≡ old.quiet → new.frames ≡ old.frames → RepresentsRun rules Represents Shows run old
-    → (next : Run S E) × RepresentsRun rules Represents Shows next new × Adds (MakesChange rules run next) before after
-changed_on {S} {E} {V} rules Represents HasNext Shows lasting old new run later before after changes next_held most due same_accepted no_later same_quiet same_frames stands =
+    → (next : Run S E) × RepresentsRun rules Represents Shows next new × Adds writes (MakesChange rules run next) before after
+changed_on {S} {E} {V} {P} writes rules Represents HasNext Shows lasting old new run later before after changes next_held due same_accepted no_later same_quiet same_frames stands =
     let stepped = changes old.accepted run.node stands.stands next_held in
     let event : E = rules.change later.accepted in
     let next : Run S E = record run { node = stepped.next; second = None; events = run.events ++ event ∷ []; lines = run.lines ++ stepped.output.lines; last = stepped.output } in
-    let none : stepped.output.lines ≡ [] = lasting.silent run.node stepped.next later.accepted stepped.output stepped.step in
     let more : List ℕ = shown run.quiet (text_of stepped.output.lines) in
-    let nothing : text_of stepped.output.lines ≡ more = ap text_of none ∙ shown_nothing run.quiet ∙ ap (λ (l : List Line). shown run.quiet (text_of l)) (sym none) in
-    let text : after.text ≡ before.text ++ more = stepped.tells ∙ ap (λ (t : List ℕ). before.text ++ t) nothing in
+    let wrote : writes before more after = subst (λ q. writes before (shown q (text_of stepped.output.lines)) after) (sym stands.quiet) stepped.tells in
     let counted : frames_in rules (run.events ++ event ∷ []) ≡ frames_in rules run.events = (let one = frames_next rules run.events event in let zero = lasting.uncounted later.accepted in omega (arith, one, zero)) in (
       next,
       record {
@@ -94,6 +89,6 @@ changed_on {S} {E} {V} rules Represents HasNext Shows lasting old new run later 
           due = record { waits = stands.second ∙ due.waits; now = stands.frames ∙ due.now };
           takes = record { node = stepped.next; output = stepped.output; step = stepped.step; goes_on = refl; shows = refl };
         };
-        added = ap (λ (t : List ℕ). record { text = t; most = after.most }) text ∙ ap (λ n. record { text = before.text ++ more; most = n }) most;
+        wrote = wrote;
       },
     )

@@ -1,13 +1,10 @@
 -- What a line of a command with one node says.
-use Rattle.std.proofs.Common.{◌≡◌, ◌∙◌, ◌++◌, ℕ, List, [], refl, ap, sym, subst, append-nil}
-use Rattle.std.specs.Prelude.{Ok, Err, Option, None, Result, Some}
+use Rattle.std.proofs.Common.{◌≡◌, ℕ, List, sym, subst}
+use Rattle.std.specs.Prelude.{Ok, Option, None, Result, Some}
 use Rattle.dch_types.specs.declared.config.Config.{Config}
 use Rattle.dch_script.specs.ParsedLine.{ParsedLine, change}
 use Rattle.dch_script.specs.declared.event.LineError.{LineError}
-use Rattle.dch_lines.specs.Semantics.{LineSteps}
 use Rattle.dch_nodecmd.specs.NodeRules.{AreLasting, AsksChange, NodeRules, SaysEvent, meaning_for}
-use Rattle.dch_nodecmd.specs.Rules.{TakesLine, node_lines}
-use Rattle.dch_nodecmd.specs.Run.{Run}
 
 -- a line has one meaning
 one_meaning : {A : Type 0} (a b : A) (r : Result A LineError) → r ≡ Ok a → r ≡ Ok b → b ≡ a
@@ -30,12 +27,3 @@ pub says_or_asks : {S E : Type 0} (rules : NodeRules S E) → AreLasting rules �
 says_or_asks rules lasting config line event says asks =
     let parsed : change ≡ says.parsed = one_meaning says.parsed change (meaning_for rules config line) says.says asks in
     none_some event (rules.event_of config change) (lasting.changeless config) (subst (λ (p : ParsedLine). rules.event_of config p ≡ Some event) (sym parsed) says.is)
-
--- a line that isn't empty is taken in one step
-pub one_taken : {S E : Type 0} (rules : NodeRules S E) (run new : Run S E) (line text : List ℕ) → LineSteps (node_lines rules) run line new text → TakesLine rules run line new text
-one_taken {S} {E} rules run new line text steps =
-    let whole : text ≡ steps.first = steps.whole ∙ ap (λ (l : List ℕ). steps.first ++ l) steps.resumes.1 ∙ append-nil steps.first in
-    subst (λ (r : Run S E). TakesLine rules run line r text) (sym steps.resumes.0) (subst (λ (t : List ℕ). TakesLine rules run line steps.mid t) (sym whole) steps.handles)
-
-pub taken_one : {S E : Type 0} (rules : NodeRules S E) (run new : Run S E) (line text : List ℕ) → TakesLine rules run line new text → LineSteps (node_lines rules) run line new text
-taken_one rules run new line text takes = record { mid = new; first = text; handles = takes; rest = []; resumes = (refl, refl); whole = sym (append-nil text) }

@@ -7,7 +7,7 @@ use Rattle.dch_ue.specs.State.{State}
 use Rattle.dch_ue.specs.Values.{Node}
 use Rattle.dch_ue.specs.declared.event.UeEvent.{UeEvent}
 use Rattle.dch_ue.specs.declared.event.UeEvent.TheVariants as happens
-use Rattle.dch_script.specs.Adding.{AddsLines}
+use Rattle.dch_node.specs.Lines.{Line}
 use Rattle.dch_nodecmd.specs.UeReading.{IsCounted, IsReadAs}
 use Rattle.dch_nodecmd.specs.UeRules.{ue_rules}
 use Rattle.dch_nodecmd.specs.Standing.{StepsBy}
@@ -21,11 +21,11 @@ next_kept planned second happens.Tick count old new counted keeps next = keeps s
 next_kept planned second happens.Change count old new counted keeps next = absurd counted
 
 -- it took the line as this event
-pub steps_by : (planned : Planned) (line : List ℕ) (event : UeEvent) (count : ℕ) (old new : Node) (before after : List ℕ) → IsCounted event count → IsReadAs planned line event
-    → ((active : Planned) (state : State) → IsActiveBefore planned event active old → Represents active state old → Stepped planned state (happening planned event) new (AddsLines before after))
-    → StepsBy ue_rules Represents Shows planned line count old new before after
-steps_by planned line (happens.Unit bearer octets bits) count old new before after counted says steps = record { event = happening planned (happens.Unit bearer octets bits); says = says; counted = counted; steps = λ state stands. steps planned state refl stands }
-steps_by planned line (happens.Block combination on) count old new before after counted says steps = record { event = happening planned (happens.Block combination on); says = says; counted = counted; steps = λ state stands. steps planned state refl stands }
-steps_by planned line (happens.Phy frame) count old new before after counted says steps = record { event = happening planned (happens.Phy frame); says = says; counted = counted; steps = λ state stands. steps planned state refl stands }
-steps_by planned line happens.Tick count old new before after counted says steps = record { event = happening planned happens.Tick; says = says; counted = counted; steps = λ state stands. steps planned state refl stands }
-steps_by planned line happens.Change count old new before after counted says steps = absurd counted
+pub steps_by : (planned : Planned) (line : List ℕ) (event : UeEvent) (count : ℕ) (old new : Node) (Says : List Line → Type 0) → IsCounted event count → IsReadAs planned line event
+    → ((active : Planned) (state : State) → IsActiveBefore planned event active old → Represents active state old → Stepped planned state (happening planned event) new Says)
+    → StepsBy ue_rules Represents Shows planned line count old new Says
+steps_by planned line (happens.Unit bearer octets bits) count old new Says counted says steps = record { event = happening planned (happens.Unit bearer octets bits); says = says; counted = counted; steps = λ state stands. steps planned state refl stands }
+steps_by planned line (happens.Block combination on) count old new Says counted says steps = record { event = happening planned (happens.Block combination on); says = says; counted = counted; steps = λ state stands. steps planned state refl stands }
+steps_by planned line (happens.Phy frame) count old new Says counted says steps = record { event = happening planned (happens.Phy frame); says = says; counted = counted; steps = λ state stands. steps planned state refl stands }
+steps_by planned line happens.Tick count old new Says counted says steps = record { event = happening planned happens.Tick; says = says; counted = counted; steps = λ state stands. steps planned state refl stands }
+steps_by planned line happens.Change count old new Says counted says steps = absurd counted

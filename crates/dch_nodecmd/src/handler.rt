@@ -1,6 +1,5 @@
-ghost use Rattle.std.specs.Prelude.{◌≡◌, ◌≤◌, ◌+◌, ◌%◌, [], true, false, length, refl, IfErr, IfOk, IfSome, OnOk};
+ghost use Rattle.std.specs.Prelude.{◌≡◌, ◌≤◌, ◌%◌, [], true, false, IfErr, IfOk, IfSome, OnOk};
 ghost use Rattle.dch_accept.specs.Plans.{Planned};
-ghost use Rattle.dch_accept.specs.Reports.{step_bytes};
 ghost use Rattle.dch_lines.specs.Semantics.{Adds, Leads};
 ghost use Rattle.dch_lines.specs.declared.stop.LineFault.TheVariants.{Malformed};
 ghost use Rattle.dch_script.specs.declared.event.LineError.TheVariants.{When};
@@ -10,21 +9,18 @@ ghost use Rattle.dch_nodecmd.specs.Rules.{MakesChange, node_lines};
 ghost use Rattle.dch_lines.specs.LineTexts.{closing};
 ghost use Rattle.dch_nodecmd.specs.Run.{Run, opened_run};
 ghost use Rattle.dch_lines.specs.Coming.{IsDue, CanFollow};
-ghost use Rattle.dch_nodecmd.specs.Standing.{HasStepRoom, IsEnough, IsReady, RepresentsHistory, RepresentsRun, ShowsAs, frames_of, most_bytes};
-ghost use Rattle.dch_nodecmd.specs.declared.handler.TheConstants.{MOST_TEXT};
+ghost use Rattle.dch_nodecmd.specs.Standing.{CanChange, Changes, IsReady, RepresentsHistory, RepresentsRun, ShowsLines, TakesAs, frames_of, ready_stands};
 ghost use Rattle.dch_lines.specs.declared.later.Later.{Later as Coming};
 
 use crate::node::CommandNode;
+use crate::node_filter;
 use crate::taken::Taken;
 use dch_accept::Accepted;
 use dch_bits::NoMemory;
-use dch_lines::{Later, LineFault, LineHandler, put_other_lines};
-use dch_script::{Line, LineError, Report};
+use dch_lines::{Filter, Later, LineFault, LineHandler, Page, put_line};
+use dch_script::{Line, LineError};
 use std::alloc::Global;
 use std::marker::Model;
-
-/// The most bytes of the text of a line.
-pub const MOST_TEXT: usize = 44_000_000;
 
 /// The handler of a command with one node, which takes each line as an event. All memory is taken at opening.
 #[derive(Drop)]
@@ -34,8 +30,6 @@ pub struct NodeHandler<N: CommandNode> {
     node: N,
     quiet: bool,
     frames: u64,
-    most: usize,
-    step: Report,
 }
 
 impl<N: CommandNode> Model for NodeHandler<N> {
@@ -49,8 +43,6 @@ impl<N: CommandNode> Model for NodeHandler<N> {
       node = h.node;
       quiet = h.quiet;
       frames = h.frames;
-      most = h.most;
-      step = h.step;
     } };
 }
 
@@ -70,13 +62,7 @@ impl<N: CommandNode + Drop> NodeHandler<N> {
         ensures stands { IfOk result (RepresentsRun N.rules N.represents N.shows (opened_run N.rules accepted later first_cfn quiet)) }
         ensures new { IfOk result (λ handler. (handler.accepted ≡ accepted) × (handler.later ≡ later) ×
             (handler.quiet ≡ quiet) × (handler.frames ≡ 0)) }
-        ensures most { IfOk result (λ handler. (handler.most ≡ most_bytes accepted later) ×
-            (handler.most ≤ MOST_TEXT)) }
     {
-        let most = most_of(&accepted, &later);
-        let Ok(step) = open_step(alloc, most, quiet) else {
-            return Err(NoMemory);
-        };
         let Ok(node) = open_node(alloc, &accepted, &later, first_cfn) else {
             return Err(NoMemory);
         };
@@ -86,8 +72,6 @@ impl<N: CommandNode + Drop> NodeHandler<N> {
             node,
             quiet,
             frames: 0,
-            most,
-            step,
         })
     }
 
@@ -101,31 +85,6 @@ impl<N: CommandNode + Drop> NodeHandler<N> {
     {
         self.node
     }
-}
-
-/// The most bytes of the text of a step, under each of the configurations.
-fn most_of(accepted: &Accepted, later: &Option<Later>) -> usize
-    ensures value { result ≡ most_bytes accepted.now later.now }
-    ensures enough { IsEnough accepted.now later.now result }
-    ensures few { result ≤ MOST_TEXT }
-{
-    // A good configuration has at most 16 bearers.
-    let _config = accepted.config();
-    let most = accepted.step_bytes();
-    match later {
-        Some(later) => {
-            let _config = later.accepted.config();
-            most.max(later.accepted.step_bytes())
-        }
-        None => most,
-    }
-}
-
-/// Room for the text of a step, which is wanted with `quiet`.
-fn open_step(alloc: Global, most: usize, quiet: bool) -> Result<Report, NoMemory>
-    ensures { IfOk result (HasStepRoom most quiet) }
-{
-    Report::open(alloc, if quiet { most } else { 0 })
 }
 
 /// Opens a node for one configuration or two.
@@ -149,17 +108,13 @@ fn open_node<N: CommandNode>(
 
 impl<N: CommandNode> NodeHandler<N> {
     /// Makes the second configuration active, where that is due.
-    fn change(&mut self, report: &mut Report) -> Result<(), LineFault>
-        requires stands { IsReady N.rules N.is_opened N.has_next N.represents N.shows self.old }
-        requires room { length report.old.text + self.old.most ≤ report.old.most }
-        ensures ok { OnOk result (Leads (RepresentsRun N.rules N.represents N.shows) self.old self.new (λ run next. Adds (MakesChange N.rules run next) report.old report.new)) }
+    fn change<P: Page>(&mut self, page: &mut P) -> Result<(), LineFault>
+        requires { IsReady N.rules N.is_opened N.has_next N.represents N.shows self.old }
+        ensures ok { OnOk result (Leads (RepresentsRun N.rules N.represents N.shows) self.old self.new (λ run next. Adds P.writes (MakesChange N.rules run next) page.old page.new)) }
         ensures err { IfErr result (λ fault. (fault ≡ Malformed When) ×
             ((later : Coming) → ¬ IsDue self.old.later self.old.frames later)) }
-        ensures same { IfErr result (λ _. (self.new ≡ self.old) × (report.new ≡ report.old)) }
-        ensures room { report.new.most ≡ report.old.most }
-        ensures fits { OnOk result (length report.new.text ≤ report.new.most) }
+        ensures same { IfErr result (λ _. (self.new ≡ self.old) × (page.new ≡ page.old)) }
         ensures stands { IsReady N.rules N.is_opened N.has_next N.represents N.shows self.new }
-        ensures most { self.new.most ≡ self.old.most }
         ensures frames { self.new.frames ≡ self.old.frames }
     {
         if !is_due(&self.later, self.frames) {
@@ -167,7 +122,7 @@ impl<N: CommandNode> NodeHandler<N> {
         }
         if let Some(later) = self.later.take() {
             self.accepted = later.into_accepted();
-            self.node.change(&self.accepted, report);
+            make_change(&self.accepted, self.quiet, &mut self.node, page);
         }
         Ok(())
     }
@@ -191,85 +146,71 @@ impl<N: CommandNode> LineHandler for NodeHandler<N> {
 
     ghost represents = { RepresentsRun N.rules N.represents N.shows };
 
-    ghost most = { λ h. h.most };
-
-    ghost remaining = { λ _. 0 };
-
     ghost stands = { IsReady N.rules N.is_opened N.has_next N.represents N.shows };
 
     ghost handled = { λ h. h.frames };
 
-    fn handle_line(&mut self, line: &[u8], report: &mut Report) -> Result<(), LineFault> {
-        match take(
-            &self.accepted,
-            line,
-            self.quiet,
-            &mut self.node,
-            &mut self.step,
-            report,
-        ) {
+    fn handle_line<P: Page>(&mut self, line: &[u8], page: &mut P) -> Result<(), LineFault> {
+        match take(&self.accepted, line, self.quiet, &mut self.node, page) {
             Ok(Taken::Event(frames)) => {
                 self.frames += frames;
                 Ok(())
             }
-            Ok(Taken::Change) => self.change(report),
+            Ok(Taken::Change) => self.change(page),
             Err(why) => Err(LineFault::Malformed(why)),
         }
     }
 
-    fn remaining(&self) -> u32 {
-        0
-    }
-
-    fn resume(&mut self, _report: &mut Report) {}
-
     #[tactic(auto, unfolding(dch_lines::specs::LineTexts::closing))]
-    fn close(&self, _nonempty_lines: u64, report: &mut Report) {
-        report.put(&Line::EndFrames(self.frames));
-    }
-
-    fn most(&self) -> usize {
-        self.most
+    fn close<P: Page>(&self, _nonempty_lines: u64, page: &mut P) {
+        put_line(page, &Line::EndFrames(self.frames));
     }
 
     ghost overlong = { refuses_long N.rules };
 
-    ghost counts = { λ _ _ _. refl };
+    ghost stood = { ready_stands N.rules N.is_opened N.has_next N.represents N.shows };
 }
 
-/// Takes a line as an event, and adds to the report what is shown of the lines of the step, for which `step` has room
-/// where they are not all shown.
-fn take<N: CommandNode>(
+/// Takes a line as an event, and writes what is shown of the lines of the step.
+fn take<N: CommandNode, P: Page>(
     accepted: &Accepted,
     line: &[u8],
     quiet: bool,
     node: &mut N,
-    step: &mut Report,
-    report: &mut Report,
+    page: &mut P,
 ) -> Result<Taken, LineError>
-    requires opened { N.is_opened accepted.now node.old }
-    requires step { HasStepRoom (step_bytes accepted.now.config) quiet step.old }
-    requires room { length report.old.text + step_bytes accepted.now.config ≤ report.old.most }
-    ensures ok { IfOk result (ShowsAs N.rules N.represents N.shows accepted.now quiet line.now node.old node.new report.old report.new) }
+    requires { N.is_opened accepted.now node.old }
+    ensures ok { IfOk result (TakesAs N.rules N.represents N.shows accepted.now line.now node.old node.new (ShowsLines P.writes quiet page.old page.new) (page.new ≡ page.old)) }
     ensures at_most { IfOk result (λ taken. frames_of taken ≤ 1) }
     ensures err { IfErr result (IsMalformed N.rules accepted.now.config line.now) }
-    ensures same { IfErr result (λ _. (node.new ≡ node.old) × (report.new ≡ report.old)) }
+    ensures same { IfErr result (λ _. (node.new ≡ node.old) × (page.new ≡ page.old)) }
     ensures opened { N.is_opened accepted.now node.new }
     ensures next { (second : Planned) → N.has_next accepted.now second node.old →
         N.has_next accepted.now second node.new }
-    ensures step { step.new ≡ step.old }
-    ensures most { report.new.most ≡ report.old.most }
-    ensures fits { IfOk result (λ _. length report.new.text ≤ report.new.most) }
 {
-    if !quiet {
-        return node.take_line(accepted, line, report);
-    }
-    match node.take_line(accepted, line, step) {
-        Ok(Taken::Event(frames)) => {
-            put_other_lines(step.bytes(), report);
-            step.clear();
-            Ok(Taken::Event(frames))
-        }
-        other => other,
-    }
+    let mut filter = Filter {
+        quiet,
+        lead: &[],
+        page,
+    };
+    node_filter::take(&mut filter, accepted, line, node)
+}
+
+/// Makes the second configuration active, and writes what is shown of the lines of the step.
+fn make_change<N: CommandNode, P: Page>(
+    accepted: &Accepted,
+    quiet: bool,
+    node: &mut N,
+    page: &mut P,
+)
+    requires { CanChange N.rules N.is_opened N.has_next N.represents accepted.now node.old }
+    ensures steps { Changes N.rules N.represents N.has_next N.shows accepted.now node.old node.new (ShowsLines P.writes quiet page.old page.new) }
+    ensures opened { N.is_opened accepted.now node.new }
+{
+    let mut filter = Filter {
+        quiet,
+        lead: &[],
+        page,
+    };
+    node_filter::change(&mut filter, accepted, node);
 }

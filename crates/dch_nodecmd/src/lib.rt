@@ -8,6 +8,7 @@ mod node;
 mod node_b;
 pub mod node_b_laws;
 mod node_b_reading;
+mod node_filter;
 mod rnc;
 pub mod rnc_laws;
 mod rnc_reading;

@@ -1,15 +1,16 @@
-ghost use Rattle.std.specs.Prelude.{◌≡◌, ◌≤◌, ◌+◌, ◌%◌, ℕ, [], length, IfErr, IfOk};
+ghost use Rattle.std.specs.Prelude.{◌≡◌, ◌≤◌, ◌%◌, ℕ, [], IfErr, IfOk};
 ghost use Rattle.dch_config.specs.Changes.{KeepsBearer};
 ghost use Rattle.dch_accept.specs.Plans.{Planned};
-ghost use Rattle.dch_accept.specs.Reports.{step_bytes};
+ghost use Rattle.dch_node.specs.Standing.{Tells};
 ghost use Rattle.dch_node.specs.Values.{Output};
 ghost use Rattle.dch_nodecmd.specs.NodeRules.{AreLasting, IsMalformed, NodeRules};
-ghost use Rattle.dch_nodecmd.specs.Standing.{CanChange, Changes, RepresentsHistory, TakesAs, frames_of};
+ghost use Rattle.dch_nodecmd.specs.Standing.{CanChange, Changes, RepresentsHistory, TakesAs, WasTold, frames_of};
 
 use crate::taken::Taken;
 use dch_accept::Accepted;
 use dch_bits::NoMemory;
-use dch_script::{LineError, Report};
+use dch_indication::Indications;
+use dch_script::LineError;
 use std::alloc::Global;
 
 /// A node whose events are the lines of a command, with room for the texts of a line.
@@ -55,34 +56,30 @@ pub trait CommandNode {
         ensures next { IfOk result (has_next first.now second.now) }
         ensures stands { IfOk result (RepresentsHistory rules represents shows first.now first.now first_cfn [] []) };
 
-    /// Takes a line as an event, and reports what the step does; a line that asks for a change does nothing yet. A
+    /// Takes a line as an event, and tells what the step does; a line that asks for a change does nothing yet. A
     /// malformed line changes nothing.
-    fn take_line(
+    fn take_line<U: Indications>(
         &mut self,
         accepted: &Accepted,
         line: &[u8],
-        report: &mut Report,
+        user: &mut U,
     ) -> Result<Taken, LineError>
-        requires opened { is_opened accepted.now self.old }
-        requires room { length report.old.text + step_bytes accepted.now.config ≤ report.old.most }
-        ensures ok { IfOk result (TakesAs rules represents shows accepted.now line.now self.old self.new report.old report.new) }
+        requires { is_opened accepted.now self.old }
+        ensures ok { IfOk result (TakesAs rules represents shows accepted.now line.now self.old self.new (Tells U.shows user.old user.new) (user.new ≡ user.old)) }
+        ensures told { WasTold U.shows user.old user.new }
         ensures at_most { IfOk result (λ taken. frames_of taken ≤ 1) }
         ensures err { IfErr result (IsMalformed rules accepted.now.config line.now) }
-        ensures same { IfErr result (λ _. (self.new ≡ self.old) × (report.new ≡ report.old)) }
+        ensures same { IfErr result (λ _. (self.new ≡ self.old) × (user.new ≡ user.old)) }
         ensures opened { is_opened accepted.now self.new }
         ensures next { (second : Planned) → has_next accepted.now second self.old →
-            has_next accepted.now second self.new }
-        ensures most { report.new.most ≡ report.old.most }
-        ensures few { IfOk result (λ _. length report.new.text ≤ length report.old.text + step_bytes accepted.now.config) };
+            has_next accepted.now second self.new };
 
-    /// Makes the second configuration active, and reports what the step does.
-    fn change(&mut self, accepted: &Accepted, report: &mut Report)
-        requires opened { CanChange rules is_opened has_next represents accepted.now self.old }
-        requires room { length report.old.text + step_bytes accepted.now.config ≤ report.old.most }
-        ensures steps { Changes rules represents has_next shows accepted.now self.old self.new report.old.text report.new.text }
-        ensures opened { is_opened accepted.now self.new }
-        ensures most { report.new.most ≡ report.old.most }
-        ensures few { length report.new.text ≤ length report.old.text + step_bytes accepted.now.config };
+    /// Makes the second configuration active, and tells what the step does.
+    fn change<U: Indications>(&mut self, accepted: &Accepted, user: &mut U)
+        requires { CanChange rules is_opened has_next represents accepted.now self.old }
+        ensures steps { Changes rules represents has_next shows accepted.now self.old self.new (Tells U.shows user.old user.new) }
+        ensures told { WasTold U.shows user.old user.new }
+        ensures opened { is_opened accepted.now self.new };
 
     /// The configuration of each state that it stands for is the one that is active.
     ghost active: { (planned : Planned) (state : State) (node : Self) → represents planned state node → rules.planned state ≡ planned };

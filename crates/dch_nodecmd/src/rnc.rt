@@ -1,6 +1,6 @@
-ghost use Rattle.std.specs.Prelude.{◌≡◌, ◌≤◌, ◌+◌, length, IfErr, IfOk, IfNone, IfSome};
+ghost use Rattle.std.specs.Prelude.{◌≡◌, ◌≤◌, length, IfErr, IfOk, IfNone, IfSome};
 ghost use Rattle.dch_accept.specs.Plans.{Planned};
-ghost use Rattle.dch_accept.specs.Reports.{step_bytes};
+ghost use Rattle.dch_node.specs.Standing.{Tells};
 ghost use Rattle.dch_rnc.specs.Opened.{HasNext, IsNodeOf};
 ghost use Rattle.dch_rnc.specs.Standing.{Represents, Shows};
 ghost use Rattle.dch_lines.specs.declared.line_texts.TheConstants.{OCTETS, UNIT_BITS};
@@ -8,16 +8,17 @@ ghost use Rattle.dch_nodecmd.specs.RncLasting.{rnc_lasting};
 ghost use Rattle.dch_nodecmd.specs.RncReading.{IsCounted};
 ghost use Rattle.dch_nodecmd.specs.RncRules.{rnc_rules};
 ghost use Rattle.dch_nodecmd.specs.NodeRules.{IsMalformed};
-ghost use Rattle.dch_nodecmd.specs.Standing.{TakesAs, frames_of as frames_taken};
+ghost use Rattle.dch_nodecmd.specs.Standing.{TakesAs, WasTold, frames_of as frames_taken};
 
 use crate::node::CommandNode;
 use crate::rnc_reading::read_line;
 use crate::taken::Taken;
 use dch_accept::Accepted;
 use dch_bits::{Bit, NoMemory};
+use dch_indication::Indications;
 use dch_lines::{OCTETS, UNIT_BITS};
 use dch_rnc::{Rnc, RncEvent};
-use dch_script::{LineError, Report};
+use dch_script::LineError;
 use std::alloc::Global;
 use std::marker::Model;
 
@@ -88,11 +89,11 @@ impl CommandNode for RncLines {
         Ok(RncLines { node, octets, bits })
     }
 
-    fn take_line(
+    fn take_line<U: Indications>(
         &mut self,
         accepted: &Accepted,
         line: &[u8],
-        report: &mut Report,
+        user: &mut U,
     ) -> Result<Taken, LineError> {
         take(
             accepted,
@@ -100,12 +101,12 @@ impl CommandNode for RncLines {
             &mut self.octets,
             &mut self.bits,
             &mut self.node,
-            report,
+            user,
         )
     }
 
-    fn change(&mut self, accepted: &Accepted, report: &mut Report) {
-        self.node.step(accepted, RncEvent::Change, report);
+    fn change<U: Indications>(&mut self, accepted: &Accepted, user: &mut U) {
+        self.node.step_with(accepted, RncEvent::Change, user);
     }
 
     ghost active = { λ planned state node stands. stands.at.active };
@@ -124,31 +125,29 @@ fn open_rooms(alloc: Global) -> Result<(Vec<u8>, Vec<Bit>), NoMemory>
 }
 
 /// Takes a line as an event. `octets` and `bits` are room for its texts.
-fn take(
+fn take<U: Indications>(
     accepted: &Accepted,
     line: &[u8],
     octets: &mut [u8],
     bits: &mut [Bit],
     node: &mut Rnc,
-    report: &mut Report,
+    user: &mut U,
 ) -> Result<Taken, LineError>
     requires octets { length octets.old ≡ OCTETS }
     requires bits { length bits.old ≡ UNIT_BITS }
     requires opened { IsNodeOf accepted.now node.old }
-    requires room { length report.old.text + step_bytes accepted.now.config ≤ report.old.most }
-    ensures ok { IfOk result (TakesAs rnc_rules Represents Shows accepted.now line.now node.old node.new report.old report.new) }
+    ensures ok { IfOk result (TakesAs rnc_rules Represents Shows accepted.now line.now node.old node.new (Tells U.shows user.old user.new) (user.new ≡ user.old)) }
     ensures at_most { IfOk result (λ taken. frames_taken taken ≤ 1) }
     ensures err { IfErr result (IsMalformed rnc_rules accepted.now.config line.now) }
-    ensures same { IfErr result (λ _. (node.new ≡ node.old) × (report.new ≡ report.old)) }
+    ensures same { IfErr result (λ _. (node.new ≡ node.old) × (user.new ≡ user.old)) }
     ensures opened { IsNodeOf accepted.now node.new }
     ensures next { (second : Planned) → HasNext accepted.now second node.old → HasNext accepted.now second node.new }
-    ensures most { report.new.most ≡ report.old.most }
-    ensures few { IfOk result (λ _. length report.new.text ≤ length report.old.text + step_bytes accepted.now.config) }
+    ensures told { WasTold U.shows user.old user.new }
 {
     match read_line(accepted, line, octets, bits) {
         Ok(event) => match frames_of(event) {
             Some(frames) => {
-                node.step(accepted, event, report);
+                node.step_with(accepted, event, user);
                 Ok(Taken::Event(frames))
             }
             None => Ok(Taken::Change),

@@ -1,6 +1,6 @@
-ghost use Rattle.std.specs.Prelude.{◌≡◌, ◌≤◌, ◌+◌, length, IfErr, IfOk, IfNone, IfSome};
+ghost use Rattle.std.specs.Prelude.{◌≡◌, ◌≤◌, length, IfErr, IfOk, IfNone, IfSome};
 ghost use Rattle.dch_accept.specs.Plans.{Planned};
-ghost use Rattle.dch_accept.specs.Reports.{step_bytes};
+ghost use Rattle.dch_node.specs.Standing.{Tells};
 ghost use Rattle.dch_ue.specs.Opened.{HasNext, IsNodeOf};
 ghost use Rattle.dch_ue.specs.Standing.{Represents, Shows};
 ghost use Rattle.dch_lines.specs.declared.line_texts.TheConstants.{CELLS, OCTETS};
@@ -8,15 +8,16 @@ ghost use Rattle.dch_nodecmd.specs.UeLasting.{ue_lasting};
 ghost use Rattle.dch_nodecmd.specs.UeReading.{IsCounted};
 ghost use Rattle.dch_nodecmd.specs.UeRules.{ue_rules};
 ghost use Rattle.dch_nodecmd.specs.NodeRules.{IsMalformed};
-ghost use Rattle.dch_nodecmd.specs.Standing.{TakesAs, frames_of as frames_taken};
+ghost use Rattle.dch_nodecmd.specs.Standing.{TakesAs, WasTold, frames_of as frames_taken};
 
 use crate::node::CommandNode;
 use crate::taken::Taken;
 use crate::ue_reading::read_line;
 use dch_accept::Accepted;
 use dch_bits::{Bit, NoMemory, Trit};
+use dch_indication::Indications;
 use dch_lines::{CELLS, OCTETS, UNIT_BITS};
-use dch_script::{LineError, Report};
+use dch_script::LineError;
 use dch_ue::{Ue, UeEvent};
 use std::alloc::Global;
 use std::marker::Model;
@@ -92,11 +93,11 @@ impl CommandNode for UeLines {
         })
     }
 
-    fn take_line(
+    fn take_line<U: Indications>(
         &mut self,
         accepted: &Accepted,
         line: &[u8],
-        report: &mut Report,
+        user: &mut U,
     ) -> Result<Taken, LineError> {
         take(
             accepted,
@@ -104,12 +105,12 @@ impl CommandNode for UeLines {
             &mut self.octets,
             &mut self.cells,
             &mut self.node,
-            report,
+            user,
         )
     }
 
-    fn change(&mut self, accepted: &Accepted, report: &mut Report) {
-        self.node.step(accepted, UeEvent::Change, report);
+    fn change<U: Indications>(&mut self, accepted: &Accepted, user: &mut U) {
+        self.node.step_with(accepted, UeEvent::Change, user);
     }
 
     ghost active = { λ planned state node stands. stands.at.active };
@@ -128,32 +129,30 @@ fn open_rooms(alloc: Global) -> Result<(Vec<u8>, Vec<Trit>), NoMemory>
 }
 
 /// Takes a line as an event. `octets` and `cells` are room for its texts.
-fn take(
+fn take<U: Indications>(
     accepted: &Accepted,
     line: &[u8],
     octets: &mut [u8],
     cells: &mut [Trit],
     node: &mut Ue,
-    report: &mut Report,
+    user: &mut U,
 ) -> Result<Taken, LineError>
     requires octets { length octets.old ≡ OCTETS }
     requires cells { length cells.old ≡ CELLS }
     requires opened { IsNodeOf accepted.now node.old }
-    requires room { length report.old.text + step_bytes accepted.now.config ≤ report.old.most }
-    ensures ok { IfOk result (TakesAs ue_rules Represents Shows accepted.now line.now node.old node.new report.old report.new) }
+    ensures ok { IfOk result (TakesAs ue_rules Represents Shows accepted.now line.now node.old node.new (Tells U.shows user.old user.new) (user.new ≡ user.old)) }
     ensures at_most { IfOk result (λ taken. frames_taken taken ≤ 1) }
     ensures err { IfErr result (IsMalformed ue_rules accepted.now.config line.now) }
-    ensures same { IfErr result (λ _. (node.new ≡ node.old) × (report.new ≡ report.old)) }
+    ensures same { IfErr result (λ _. (node.new ≡ node.old) × (user.new ≡ user.old)) }
     ensures opened { IsNodeOf accepted.now node.new }
     ensures next { (second : Planned) → HasNext accepted.now second node.old → HasNext accepted.now second node.new }
-    ensures most { report.new.most ≡ report.old.most }
-    ensures few { IfOk result (λ _. length report.new.text ≤ length report.old.text + step_bytes accepted.now.config) }
+    ensures told { WasTold U.shows user.old user.new }
 {
     let mut bits = [Bit::Zero; UNIT_BITS];
     match read_line(accepted, line, octets, &mut bits, cells) {
         Ok(event) => match frames_of(event) {
             Some(frames) => {
-                node.step(accepted, event, report);
+                node.step_with(accepted, event, user);
                 Ok(Taken::Event(frames))
             }
             None => Ok(Taken::Change),

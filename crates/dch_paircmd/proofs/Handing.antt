@@ -1,5 +1,5 @@
 -- Units that wait at an end are reported one after another, and handed up.
-use Rattle.std.proofs.Common.{◌≡◌, ◌+◌, ◌-◌, ◌≤◌, ◌++◌, ◌∙◌, ℕ, List, [], ◌∷◌, Bool, true, false, cond, Option, Some, None, length, take, drop, arith, refl, sym, subst, ap, ap₂, append_assoc, length-append}
+use Rattle.std.proofs.Common.{◌≡◌, ◌+◌, ◌-◌, ◌++◌, ◌∙◌, ℕ, List, [], ◌∷◌, Bool, true, false, cond, Option, Some, None, length, take, drop, arith, refl, sym, subst, ap, append_assoc}
 use Rattle.std.specs.Prelude.{codes, nat_eq, nat_lt}
 use Rattle.std.proofs.lemmas.Bool.{le-ltb, ne_eqb}
 use Rattle.std.proofs.lemmas.List.{append-nil}
@@ -12,7 +12,6 @@ use Rattle.dch_reset.specs.Standing.{AreSizes, Represents, Running, is_settled, 
 use Rattle.dch_reset.specs.State.{HandUp, State, step}
 use Rattle.dch_rlcpdu.specs.declared.handed.Handed.{Handed}
 use Rattle.dch_rlcpdu.specs.declared.handed.Handed.TheVariants.{Whole, Overlong}
-use Rattle.dch_script.specs.Held.{Held}
 use Rattle.dch_sar.specs.Taking.{handed_of, written}
 use Rattle.dch_paircmd.specs.Texts.{end_text, handed_text, octets_text, units_text}
 
@@ -32,36 +31,33 @@ first_text n (u ∷ us) h out e = ap (λ t. t ++ units_text n us) (go (nat_lt 15
     go true h q = sym (ap (λ x. handed_text n x out) q)
     go false h q = sym (ap (λ x. handed_text n x (u ++ drop (length u) out)) q ∙ ap (octets_text (codes "got ") n) (take_front u (drop (length u) out)))
 
--- of these units some were reported, and these wait
-pub record Going (n : ℕ) (all : List (List ℕ)) (before : Held) (left : List (List ℕ)) (now : Held) : Type 0 where
-  pub text : now.text ++ units_text n left ≡ before.text ++ units_text n all
-  pub most : now.most ≡ before.most
+-- of these units some are told of, and these are left
+pub record Going {P : Type 0} (writes : P → List ℕ → P → Type 0) (n : ℕ) (all : List (List ℕ)) (before : P) (left : List (List ℕ)) (now : P) : Type 0 where
+  pub told : List ℕ
+  pub wrote : writes before told now
+  pub all_is : told ++ units_text n left ≡ units_text n all
 
--- there is room for the next one
-pub going_room : (n : ℕ) (all left : List (List ℕ)) (before now : Held) (h : Handed) (out : List ℕ) → Going n all before left now → Some h ≡ handed_of left →
-    length before.text + length (units_text n all) ≤ before.most → length now.text + length (handed_text n h (written left out)) ≤ now.most
-going_room n all left before now h out is first room =
-    omega (arith, room, is.most, ap length is.text, ap length (first_text n left h out first), length-append (handed_text n h (written left out)) (units_text n (drop 1 left)), length-append now.text (units_text n left), length-append before.text (units_text n all))
+pub going_begun : {P : Type 0} (writes : P → List ℕ → P → Type 0) (n : ℕ) (all : List (List ℕ)) (page : P) → writes page [] page → Going writes n all page all page
+going_begun writes n all page nothing = record { told = []; wrote = nothing; all_is = refl }
 
--- one more is reported
-pub going_step : (n : ℕ) (all left rest : List (List ℕ)) (before now next : Held) (h : Handed) (out room : List ℕ) → Going n all before left now → Some h ≡ handed_of left →
-    room ≡ written left out → rest ≡ drop 1 left → next ≡ record now { text = now.text ++ handed_text n h room } → Going n all before rest next
-going_step n all left rest before now next h out room is first written_is rest_is next_is =
-    subst (λ us. Going n all before us next) (sym rest_is)
-    (subst (λ t. Going n all before (drop 1 left) t) (sym (next_is ∙ ap (λ o. record now { text = now.text ++ handed_text n h o }) written_is)) (record {
-      text = append_assoc now.text (handed_text n h (written left out)) (units_text n (drop 1 left)) ∙ (ap (λ t. now.text ++ t) (sym (first_text n left h out first)) ∙ is.text);
-      most = is.most;
-    }))
+-- one more is told of
+pub going_step : {P : Type 0} (writes : P → List ℕ → P → Type 0) (n : ℕ) (all left rest : List (List ℕ)) (before now next : P) (h : Handed) (out room : List ℕ) → ((a b c : P) (x y : List ℕ) → writes a x b → writes b y c → writes a (x ++ y) c) → Going writes n all before left now → Some h ≡ handed_of left →
+    room ≡ written left out → rest ≡ drop 1 left → writes now (handed_text n h room) next → Going writes n all before rest next
+going_step writes n all left rest before now next h out room joined is first written_is rest_is next_is =
+    subst (λ us. Going writes n all before us next) (sym rest_is) (record {
+      told = is.told ++ handed_text n h (written left out);
+      wrote = joined before now next is.told (handed_text n h (written left out)) is.wrote (subst (λ o. writes now (handed_text n h o) next) written_is next_is);
+      all_is = append_assoc is.told (handed_text n h (written left out)) (units_text n (drop 1 left)) ∙ (ap (λ t. is.told ++ t) (sym (first_text n left h out first)) ∙ is.all_is);
+    })
 
 no_units : (us : List (List ℕ)) → handed_of us ≡ None → us ≡ []
 no_units [] e = refl
 no_units (u ∷ us) e = absurd (cc)
 
 -- all are
-pub going_end : (n : ℕ) (all left : List (List ℕ)) (before now : Held) → Going n all before left now → handed_of left ≡ None → now ≡ record before { text = before.text ++ units_text n all }
-going_end n all left before now is none =
-    let last : now.text ≡ before.text ++ units_text n all = sym (append-nil now.text) ∙ (ap (λ us. now.text ++ units_text n us) (sym (no_units left none)) ∙ is.text) in
-    ap₂ (λ (t : List ℕ) (m : ℕ). record { text = t; most = m }) last is.most
+pub going_end : {P : Type 0} (writes : P → List ℕ → P → Type 0) (n : ℕ) (all left : List (List ℕ)) (before now : P) → Going writes n all before left now → handed_of left ≡ None → writes before (units_text n all) now
+going_end writes n all left before now is none =
+    subst (λ t. writes before t now) (sym (append-nil is.told) ∙ (ap (λ us. is.told ++ units_text n us) (sym (no_units left none)) ∙ is.all_is)) is.wrote
 
 -- so many units of an end were handed up
 abbrev pub handed_so : ℕ → State → State

@@ -174,12 +174,10 @@ pub record WantsMemory (old : Option Ends) (line : List ℕ) : Type 0 where
   pub parsed : ParsedPair
   pub says : pair_meaning_at false line ≡ Ok parsed
 
--- each line has one step
 abbrev pub pair_lines : Semantics (Option Ends)
 pair_lines = record {
   handles = TakesLine;
-  remaining = λ old. 0;
-  resumes = λ old new text. ⊥;
+  begins = λ old line new text. ⊥;
   refuses = RefusesLine;
   wants_memory = WantsMemory;
   closing = λ old count. line_text (EndLines count);

@@ -1,9 +1,7 @@
 -- What the handler of `pair` has, and the ends that it stands for.
-use Rattle.std.specs.Prelude.{◌≡◌, ◌≤◌, ◌++◌, ℕ, List, true, false, All, Option, Some, None, Result, Ok, Err, length}
+use Rattle.std.specs.Prelude.{◌≡◌, ◌≤◌, ℕ, List, true, false, All, Option, Some, None, Result, Ok, Err, length}
 use Rattle.dch_am.specs.Rules.{Rules}
-use Rattle.dch_amlaw.specs.Bounded.{IsBoundedReceiver}
 use Rattle.dch_reset.specs.Standing.{Represents, Running, is_settled, size_in, size_of}
-use Rattle.dch_script.specs.Held.{Held}
 use Rattle.dch_script.specs.Pair.{IsOfPair, ParsedPair, is_opening}
 use Rattle.dch_script.specs.declared.event.LineError.{LineError}
 use Rattle.dch_script.specs.declared.event.LineError.TheVariants.{When}
@@ -45,19 +43,11 @@ pub record StaysSide (old new : SideValue) : Type 0 where
   pub size : new.size ≡ old.size
   pub comes : size_in new.end ≡ size_in old.end
 
--- a running end stands for this end, to which no PDU beyond the window came
+-- a running end stands for this end
 pub record IsSide (rules : Rules) (v : SideValue) (s : PairEnd) : Type 0 where
   pub end : Represents rules v.end s.state
   pub size : v.size ≡ s.size
   pub coming : v.coming ≡ s.coming
-  pub bounded : IsBoundedReceiver rules.window s.state.entity.receiver
-
--- it stands for some end
-pub record IsKnown (v : SideValue) : Type 0 where
-  pub rules : Rules
-  pub window : rules.window ≤ 2048
-  pub side : PairEnd
-  pub is : IsSide rules v side
 
 -- two running ends stand for these
 pub record AreSides (rules : Rules) (near far : SideValue) (s : Sides) : Type 0 where
@@ -65,7 +55,6 @@ pub record AreSides (rules : Rules) (near far : SideValue) (s : Sides) : Type 0 
   pub other : IsSide rules far s.far
 
 pub record AreEnds (v : EndsValue) (e : Ends) : Type 0 where
-  pub window : e.rules.window ≤ 2048
   pub first : IsSide e.rules v.first e.first
   pub second : IsSide e.rules v.second e.second
 
@@ -73,39 +62,40 @@ abbrev pub AreKnown : EndsValue → Type 0
 AreKnown v = (e : Ends) × AreEnds v e
 
 -- it tells this, and stands for the end after that
-pub record IsTold (rules : Rules) (told : Told) (v : SideValue) (before now : Held) : Type 0 where
+pub record IsTold {P : Type 0} (writes : P → List ℕ → P → Type 0) (rules : Rules) (told : Told) (v : SideValue) (before now : P) : Type 0 where
   pub side : IsSide rules v told.side
-  pub added : now ≡ record before { text = before.text ++ told.text }
+  pub wrote : writes before told.text now
 
 -- the first PDU in flight to it arrived
-abbrev pub Arrives : Rules → ℕ → PairEnd → SideValue → Held → Held → Type 0
-Arrives rules n side v before now = IsTold rules (arrives_at rules n side) v before now
+abbrev pub Arrives : {P : Type 0} → (P → List ℕ → P → Type 0) → Rules → ℕ → PairEnd → SideValue → P → P → Type 0
+Arrives writes rules n side v before now = IsTold writes rules (arrives_at rules n side) v before now
 
--- what a line says has happened, and its text is added
-pub record LeadsTo (rules : Rules) (s : Sides) (line : ParsedPair) (near far : SideValue) (before now : Held) : Type 0 where
+-- what a line says has happened, and its text is written
+pub record LeadsTo {P : Type 0} (writes : P → List ℕ → P → Type 0) (rules : Rules) (s : Sides) (line : ParsedPair) (near far : SideValue) (before now : P) : Type 0 where
   pub timely : is_early rules s line ≡ false
   pub after : Happened
   pub happens : HappensAs rules s line after
   pub sides : AreSides rules near far after.sides
-  pub added : now ≡ record before { text = before.text ++ after.text }
+  pub wrote : writes before after.text now
 
 -- or it comes too early
-abbrev pub Answers : Result (Unit {0}) LineError → Rules → Sides → ParsedPair → SideValue → SideValue → Held → Held
-    → Type 0
-Answers (Ok done) rules s line near far before now = LeadsTo rules s line near far before now
-Answers (Err why) rules s line near far before now = (why ≡ When) × (is_early rules s line ≡ true)
+abbrev pub Answers : {P : Type 0} → (P → List ℕ → P → Type 0) → Result (Unit {0}) LineError → Rules → Sides → ParsedPair
+    → SideValue → SideValue → P → P → Type 0
+Answers writes (Ok done) rules s line near far before now = LeadsTo writes rules s line near far before now
+Answers writes (Err why) rules s line near far before now = (why ≡ When) × (is_early rules s line ≡ true)
 
 -- the same of both ends
-pub record LeadsOn (old : Ends) (line : ParsedPair) (v : EndsValue) (before now : Held) : Type 0 where
+pub record LeadsOn {P : Type 0} (writes : P → List ℕ → P → Type 0) (old : Ends) (line : ParsedPair) (v : EndsValue) (before now : P) : Type 0 where
   pub after : Ends
   pub text : List ℕ
   pub happens : Happens old line after text
   pub ends : AreEnds v after
-  pub added : now ≡ record before { text = before.text ++ text }
+  pub wrote : writes before text now
 
-abbrev pub AnswersEvent : Result (Unit {0}) LineError → Ends → ParsedPair → EndsValue → Held → Held → Type 0
-AnswersEvent (Ok done) old line v before now = LeadsOn old line v before now
-AnswersEvent (Err why) old line v before now = (why ≡ When)
+abbrev pub AnswersEvent : {P : Type 0} → (P → List ℕ → P → Type 0) → Result (Unit {0}) LineError → Ends → ParsedPair → EndsValue
+    → P → P → Type 0
+AnswersEvent writes (Ok done) old line v before now = LeadsOn writes old line v before now
+AnswersEvent writes (Err why) old line v before now = (why ≡ When)
     × (is_early old.rules (sides_at (end_in line) old) line ≡ true)
 
 -- an event at one of the ends, with good words
@@ -124,3 +114,8 @@ RepresentsRun (Some e) (Some v) = AreEnds v e
 abbrev pub IsReady : Option EndsValue → Type 0
 IsReady None = Unit {0}
 IsReady (Some v) = AreKnown v
+
+-- at any time it stands for some
+pub ready_stands : (handler : Option EndsValue) → IsReady handler → (run : Option Ends) × RepresentsRun run handler
+ready_stands None ready = (None, tt)
+ready_stands (Some v) ready = (Some ready.0, ready.1)

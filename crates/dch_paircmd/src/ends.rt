@@ -1,14 +1,14 @@
-ghost use Rattle.std.specs.Prelude.{◌≡◌, ◌≤◌, ◌+◌, IfErr, IfOk, length};
+ghost use Rattle.std.specs.Prelude.{◌≡◌, ◌≤◌, IfErr, IfOk};
 ghost use Rattle.dch_script.specs.Pair.{pair_of};
 ghost use Rattle.dch_paircmd.specs.Ends.{Ends, opened_ends};
 ghost use Rattle.dch_paircmd.specs.Rules.{end_in};
-ghost use Rattle.dch_paircmd.specs.Standing.{AnswersEvent, AreEnds, AreKnown, IsEvent};
-ghost use Rattle.dch_paircmd.specs.declared.handler.TheConstants.{MOST_TEXT};
+ghost use Rattle.dch_paircmd.specs.Standing.{AnswersEvent, AreEnds, IsEvent};
 
 use crate::events::{Rooms, happen};
 use crate::side::Side;
 use dch_bits::NoMemory;
-use dch_script::{LineError, PairLine, Report};
+use dch_lines::Page;
+use dch_script::{LineError, PairLine};
 use dch_types::AmRules;
 use std::alloc::Global;
 use std::marker::Model;
@@ -55,26 +55,23 @@ impl PairEnds {
         Ok(PairEnds { first, second })
     }
 
-    /// The event of a line happens, and its text is reported. `When` where nothing is due, 1,024 PDUs are in flight, or
+    /// The event of a line happens, and its text is written. `When` where nothing is due, 1,024 PDUs are in flight, or
     /// none is, and nothing changes then.
-    pub fn happen(
+    pub fn happen<P: Page>(
         &mut self,
         line: PairLine<'_>,
         rooms: &mut Rooms,
-        report: &mut Report,
+        page: &mut P,
     ) -> Result<(), LineError>
-        requires event { IsEvent (pair_of line) }
-        requires known { AreKnown self.old }
-        requires room { length report.old.text + MOST_TEXT ≤ report.old.most }
+        requires { IsEvent (pair_of line) }
         ensures answers { (e : Ends) → AreEnds self.old e →
-            AnswersEvent result e (pair_of line.entry) self.new report.old report.new }
-        ensures same { IfErr result (λ _. (self.new ≡ self.old) × (report.new ≡ report.old)) }
-        ensures most { report.new.most ≡ report.old.most }
+            AnswersEvent P.writes result e (pair_of line.entry) self.new page.old page.new }
+        ensures same { IfErr result (λ _. (self.new ≡ self.old) × (page.new ≡ page.old)) }
     {
         if end_in(&line) == 0 {
-            happen(&mut self.first, &mut self.second, line, rooms, report)
+            happen(&mut self.first, &mut self.second, line, rooms, page)
         } else {
-            happen(&mut self.second, &mut self.first, line, rooms, report)
+            happen(&mut self.second, &mut self.first, line, rooms, page)
         }
     }
 }

@@ -1,19 +1,18 @@
-ghost use Rattle.std.specs.Prelude.{◌≡◌, ◌≤◌, ◌+◌, ℕ, IfErr, length, true};
+ghost use Rattle.std.specs.Prelude.{◌≡◌, ◌≢◌, IfErr, OnOk, drop, length, true};
 ghost use Rattle.dch_am.specs.Rules.{Rules};
-ghost use Rattle.dch_script.specs.Held.{Held};
-ghost use Rattle.dch_script.specs.Pair.{arrive, build, lose, offer, pair_of};
+ghost use Rattle.dch_script.specs.Pair.{arrive, build, offer, pair_of};
+ghost use Rattle.dch_script.specs.declared.event.LineError.TheVariants.{When};
 ghost use Rattle.dch_script.specs.Texts.{is_unit};
 ghost use Rattle.dch_types.specs.declared.bearer.Mode.TheVariants.{Am};
 ghost use Rattle.dch_paircmd.specs.Ends.{Sides};
-ghost use Rattle.dch_paircmd.specs.Standing.{Answers, AreSides, IsEvent, IsKnown, LeadsTo, Match, SideValue, StaysSide};
-ghost use Rattle.dch_paircmd.specs.declared.handler.TheConstants.{MOST_TEXT};
+ghost use Rattle.dch_paircmd.specs.Standing.{Answers, AreSides, IsEvent, LeadsTo, Match, SideValue, StaysSide};
 
 use crate::queue::{MOST_OCTETS, MOST_PDUS};
 use crate::side::Side;
 use crate::texts::{put_octets, put_offer};
 use dch_bits::NoMemory;
-use dch_lines::{OCTETS, read_octets};
-use dch_script::{LineError, PairLine, Report};
+use dch_lines::{OCTETS, Page, read_octets};
+use dch_script::{LineError, PairLine};
 use std::alloc::Global;
 use std::marker::Model;
 
@@ -47,33 +46,30 @@ impl Rooms {
     }
 }
 
-/// The event of a line happens at the near end, and its text is reported. `When` where nothing is due, 1,024 PDUs are
+/// The event of a line happens at the near end, and its text is written. `When` where nothing is due, 1,024 PDUs are
 /// in flight, or none is, and nothing changes then.
-pub fn happen(
+pub fn happen<P: Page>(
     near: &mut Side,
     far: &mut Side,
     line: PairLine<'_>,
     rooms: &mut Rooms,
-    report: &mut Report,
+    page: &mut P,
 ) -> Result<(), LineError>
     requires event { IsEvent (pair_of line) }
-    requires known { IsKnown near.old }
     requires matched { Match near.old far.old }
-    requires room { length report.old.text + MOST_TEXT ≤ report.old.most }
     ensures answers { (rules : Rules) (s : Sides) → AreSides rules near.old far.old s →
-        Answers result rules s (pair_of line.entry) near.new far.new report.old report.new }
-    ensures same { IfErr result (λ _. (near.new ≡ near.old) × (far.new ≡ far.old) × (report.new ≡ report.old)) }
+        Answers P.writes result rules s (pair_of line.entry) near.new far.new page.old page.new }
+    ensures same { IfErr result (λ _. (near.new ≡ near.old) × (far.new ≡ far.old) × (page.new ≡ page.old)) }
     ensures near { StaysSide near.old near.new }
     ensures far { StaysSide far.old far.new }
-    ensures most { report.new.most ≡ report.old.most }
 {
     match line {
         PairLine::Offer { end, hex } => {
-            offer(near, end, hex, rooms, report);
+            offer(near, end, hex, rooms, page);
             Ok(())
         }
-        PairLine::Build { end } => build(near, far, end, report),
-        PairLine::Arrive { end } => arrive(near, end, rooms, report),
+        PairLine::Build { end } => build(near, far, end, page),
+        PairLine::Arrive { end } => arrive(near, end, rooms, page),
         PairLine::Lose { .. } => lose(near),
         PairLine::Tick { .. } => {
             near.tick();
@@ -88,29 +84,25 @@ pub fn happen(
 }
 
 /// Offers a unit to an end, given by its hexadecimal text.
-fn offer(near: &mut Side, end: u8, hex: &[u8], rooms: &mut Rooms, report: &mut Report)
+fn offer<P: Page>(near: &mut Side, end: u8, hex: &[u8], rooms: &mut Rooms, page: &mut P)
     requires hex { is_unit Am hex.now ≡ true }
-    requires room { length report.old.text + MOST_TEXT ≤ report.old.most }
     ensures leads { (rules : Rules) (s : Sides) (far : SideValue) → AreSides rules near.old far s →
-        LeadsTo rules s (offer end hex.now) near.new far report.old report.new }
+        LeadsTo P.writes rules s (offer end hex.now) near.new far page.old page.new }
     ensures near { StaysSide near.old near.new }
-    ensures most { report.new.most ≡ report.old.most }
 {
     let unit = read_octets(hex, &mut rooms.octets);
     let answer = near.offer(unit);
-    put_offer(report, end, answer);
+    put_offer(page, end, answer);
 }
 
 /// Builds a PDU at an end, which is in flight to the other one then.
-fn build(near: &mut Side, far: &mut Side, end: u8, report: &mut Report) -> Result<(), LineError>
+fn build<P: Page>(near: &mut Side, far: &mut Side, end: u8, page: &mut P) -> Result<(), LineError>
     requires matched { Match near.old far.old }
-    requires room { length report.old.text + MOST_TEXT ≤ report.old.most }
     ensures answers { (rules : Rules) (s : Sides) → AreSides rules near.old far.old s →
-        Answers result rules s (build end) near.new far.new report.old report.new }
-    ensures same { IfErr result (λ _. (near.new ≡ near.old) × (far.new ≡ far.old) × (report.new ≡ report.old)) }
+        Answers P.writes result rules s (build end) near.new far.new page.old page.new }
+    ensures same { IfErr result (λ _. (near.new ≡ near.old) × (far.new ≡ far.old) × (page.new ≡ page.old)) }
     ensures near { StaysSide near.old near.new }
     ensures far { StaysSide far.old far.new }
-    ensures most { report.new.most ≡ report.old.most }
 {
     if !near.due() || far.coming() >= MOST_PDUS {
         return Err(LineError::When);
@@ -119,31 +111,34 @@ fn build(near: &mut Side, far: &mut Side, end: u8, report: &mut Report) -> Resul
     let out = &mut octets[..near.size()];
     near.build(out);
     far.send(out);
-    put_octets(report, b"sent ", end, out);
+    put_octets(page, b"sent ", end, out);
     Ok(())
 }
 
 /// The first PDU in flight to an end arrives there.
-fn arrive(near: &mut Side, end: u8, rooms: &mut Rooms, report: &mut Report) -> Result<(), LineError>
-    requires known { IsKnown near.old }
-    requires room { length report.old.text + MOST_TEXT ≤ report.old.most }
+fn arrive<P: Page>(
+    near: &mut Side,
+    end: u8,
+    rooms: &mut Rooms,
+    page: &mut P,
+) -> Result<(), LineError>
     ensures answers { (rules : Rules) (s : Sides) (far : SideValue) → AreSides rules near.old far s →
-        Answers result rules s (arrive end) near.new far report.old report.new }
-    ensures same { IfErr result (λ _. (near.new ≡ near.old) × (report.new ≡ report.old)) }
+        Answers P.writes result rules s (arrive end) near.new far page.old page.new }
+    ensures same { IfErr result (λ _. (near.new ≡ near.old) × (page.new ≡ page.old)) }
     ensures near { StaysSide near.old near.new }
-    ensures most { report.new.most ≡ report.old.most }
 {
     if near.coming() == 0 {
         return Err(LineError::When);
     }
-    near.arrive(end, &mut rooms.unit, report);
+    near.arrive(end, &mut rooms.unit, page);
     Ok(())
 }
 
 /// The first PDU in flight to an end is lost.
 fn lose(near: &mut Side) -> Result<(), LineError>
-    ensures answers { (rules : Rules) (s : Sides) (far : SideValue) (end : ℕ) (report : Held) →
-        AreSides rules near.old far s → Answers result rules s (lose end) near.new far report report }
+    ensures ok { OnOk result ((length near.old.coming ≢ 0) ×
+        (near.new ≡ record near.old { coming = drop 1 near.old.coming })) }
+    ensures err { IfErr result (λ why. (why ≡ When) × (length near.old.coming ≡ 0)) }
     ensures same { IfErr result (λ _. near.new ≡ near.old) }
     ensures near { StaysSide near.old near.new }
 {

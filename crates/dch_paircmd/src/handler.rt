@@ -1,22 +1,18 @@
-ghost use Rattle.std.specs.Prelude.{◌≡◌, ◌≤◌, ◌+◌, None, Some, IfErr, IfOk, OnOk, false, length, not, refl, true};
+ghost use Rattle.std.specs.Prelude.{◌≡◌, None, Some, IfErr, IfOk, OnOk, not};
 ghost use Rattle.dch_script.specs.Pair.{IsOfPair, is_opening, pair_of, parsed_pair};
 ghost use Rattle.dch_lines.specs.Semantics.{Adds, IsFault, Leads};
 ghost use Rattle.dch_paircmd.specs.Ends.{Ends};
 ghost use Rattle.dch_paircmd.specs.Overlong.{pair_refuses_long};
 ghost use Rattle.dch_paircmd.specs.Rules.{pair_lines, pair_meaning_at};
-ghost use Rattle.dch_paircmd.specs.Standing.{AreEnds, AreKnown, IsReady, RepresentsRun};
-ghost use Rattle.dch_paircmd.specs.declared.handler.TheConstants.{MOST_TEXT};
+ghost use Rattle.dch_paircmd.specs.Standing.{AreEnds, AreKnown, IsReady, RepresentsRun, ready_stands};
 
 use crate::ends::PairEnds;
 use crate::events::Rooms;
 use dch_bits::NoMemory;
-use dch_lines::{LineFault, LineHandler};
-use dch_script::{Line, LineError, PairLine, Report, begins_with_ends, parse_pair};
+use dch_lines::{LineFault, LineHandler, Page, put_line};
+use dch_script::{Line, LineError, PairLine, begins_with_ends, parse_pair};
 use std::alloc::Global;
 use std::marker::Model;
-
-/// The most bytes of the text of a line.
-pub const MOST_TEXT: usize = 2_400_000;
 
 /// The handler of the command `pair`. The first line opens the two ends, and takes their memory; each later line is an
 /// event at one of them.
@@ -75,14 +71,11 @@ fn read_line(opened: bool, line: &[u8]) -> Result<PairLine<'_>, LineError>
 }
 
 /// Takes the first line, which opens the ends.
-fn start(alloc: Global, line: &[u8], report: &mut Report) -> Result<PairEnds, LineFault>
-    requires room { length report.old.text + MOST_TEXT ≤ report.old.most }
+fn start<P: Page>(alloc: Global, line: &[u8], page: &mut P) -> Result<PairEnds, LineFault>
     ensures ok { IfOk result (λ ends. (e : Ends) × AreEnds ends e ×
-        Adds (pair_lines.handles None line.now (Some e)) report.old report.new) }
+        Adds P.writes (pair_lines.handles None line.now (Some e)) page.old page.new) }
     ensures err { IfErr result (λ fault. IsFault pair_lines None line.now fault) }
-    ensures same { IfErr result (λ _. report.new ≡ report.old) }
-    ensures most { report.new.most ≡ report.old.most }
-    ensures fits { IfOk result (λ _. length report.new.text ≤ report.new.most) }
+    ensures same { IfErr result (λ _. page.new ≡ page.old) }
 {
     match read_line(false, line) {
         Ok(
@@ -94,7 +87,7 @@ fn start(alloc: Global, line: &[u8], report: &mut Report) -> Result<PairEnds, Li
             },
         ) => match PairEnds::open(alloc, first, second, buffer, window) {
             Ok(ends) => {
-                report.put(&Line::Open);
+                put_line(page, &Line::Open);
                 Ok(ends)
             }
             Err(NoMemory) => Err(LineFault::NoMemory),
@@ -105,30 +98,25 @@ fn start(alloc: Global, line: &[u8], report: &mut Report) -> Result<PairEnds, Li
 }
 
 /// Takes a later line, the event of which happens.
-fn pass(
+fn pass<P: Page>(
     ends: &mut PairEnds,
     line: &[u8],
     rooms: &mut Rooms,
-    report: &mut Report,
+    page: &mut P,
 ) -> Result<(), LineFault>
     requires known { AreKnown ends.old }
-    requires room { length report.old.text + MOST_TEXT ≤ report.old.most }
-    ensures ok { OnOk result (Leads (λ e v. AreEnds v e) ends.old ends.new (λ old new. Adds (pair_lines.handles (Some old) line.now (Some new)) report.old report.new)) }
+    ensures ok { OnOk result (Leads (λ e v. AreEnds v e) ends.old ends.new (λ old new.
+        Adds P.writes (pair_lines.handles (Some old) line.now (Some new)) page.old page.new)) }
     ensures err { IfErr result (λ fault. (e : Ends) → AreEnds ends.old e → IsFault pair_lines (Some e) line.now fault) }
-    ensures same { IfErr result (λ _. (ends.new ≡ ends.old) × (report.new ≡ report.old)) }
+    ensures same { IfErr result (λ _. (ends.new ≡ ends.old) × (page.new ≡ page.old)) }
     ensures known { AreKnown ends.new }
-    ensures most { report.new.most ≡ report.old.most }
-    ensures fits { OnOk result (length report.new.text ≤ report.new.most) }
 {
     let event = match read_line(true, line) {
         Ok(event) => event,
         Err(why) => return Err(LineFault::Malformed(why)),
     };
-    match ends.happen(event, rooms, report) {
-        Ok(()) => {
-            let _spare = report.spare();
-            Ok(())
-        }
+    match ends.happen(event, rooms, page) {
+        Ok(()) => Ok(()),
         Err(why) => Err(LineFault::Malformed(why)),
     }
 }
@@ -142,40 +130,25 @@ impl LineHandler for PairHandler {
 
     ghost represents = { RepresentsRun };
 
-    ghost most = { λ _. MOST_TEXT };
-
-    ghost remaining = { λ _. 0 };
-
     ghost stands = { IsReady };
 
     ghost handled = { λ _. 0 };
 
-    fn handle_line(&mut self, line: &[u8], report: &mut Report) -> Result<(), LineFault> {
+    fn handle_line<P: Page>(&mut self, line: &[u8], page: &mut P) -> Result<(), LineFault> {
         match &mut self.ends {
-            Some(ends) => pass(ends, line, &mut self.rooms, report),
+            Some(ends) => pass(ends, line, &mut self.rooms, page),
             None => {
-                self.ends = Some(start(self.alloc, line, report)?);
+                self.ends = Some(start(self.alloc, line, page)?);
                 Ok(())
             }
         }
     }
 
-    fn remaining(&self) -> u32 {
-        0
-    }
-
-    fn resume(&mut self, _report: &mut Report) {}
-
-    #[tactic(auto, using(crate::proofs::Handling::closing_short))]
-    fn close(&self, nonempty_lines: u64, report: &mut Report) {
-        report.put(&Line::EndLines(nonempty_lines));
-    }
-
-    fn most(&self) -> usize {
-        MOST_TEXT
+    fn close<P: Page>(&self, nonempty_lines: u64, page: &mut P) {
+        put_line(page, &Line::EndLines(nonempty_lines));
     }
 
     ghost overlong = { pair_refuses_long };
 
-    ghost counts = { λ _ _ _. refl };
+    ghost stood = { ready_stands };
 }

@@ -9,4 +9,4 @@ mod queue;
 mod side;
 mod texts;
 
-pub use handler::{MOST_TEXT, PairHandler};
+pub use handler::PairHandler;

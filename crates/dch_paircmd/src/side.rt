@@ -5,15 +5,14 @@ ghost use Rattle.dch_reset.specs.History.{handed_up};
 ghost use Rattle.dch_reset.specs.Standing.{AreSizes, Represents, is_due, is_settled, size_in, waiting_in};
 ghost use Rattle.dch_reset.specs.State.{Build, IsWritten, Offer as Offers, Reset, State, Tick, step, turn, writes};
 ghost use Rattle.dch_paircmd.specs.Ends.{PairEnd, opened_end};
-ghost use Rattle.dch_paircmd.specs.Standing.{Arrives, IsKnown, IsSide, StaysSide};
+ghost use Rattle.dch_paircmd.specs.Standing.{Arrives, IsSide, StaysSide};
 ghost use Rattle.dch_paircmd.specs.Texts.{units_text};
-ghost use Rattle.dch_paircmd.specs.declared.handler.TheConstants.{MOST_TEXT};
 
 use crate::queue::PduQueue;
 use crate::texts::{put_got, put_handed};
 use dch_bits::{NoMemory, Offer};
+use dch_lines::Page;
 use dch_reset::ResetEnd;
-use dch_script::Report;
 use dch_types::AmRules;
 use std::alloc::Global;
 use std::marker::Model;
@@ -51,7 +50,8 @@ impl Side {
         requires comes { comes ≤ 126 }
         requires window { rules.window ≤ 2048 }
         ensures size { IfOk result (λ side. (side.size ≡ size) × (size_in side.end ≡ comes)) }
-        ensures stands { IfOk result (λ side. IsSide (rules_of buffer rules) side (opened_end (rules_of buffer rules) size)) }
+        ensures stands { IfOk result (λ side.
+            IsSide (rules_of buffer rules) side (opened_end (rules_of buffer rules) size)) }
     {
         let end = ResetEnd::open(alloc, size, comes, buffer, rules)?;
         let coming = PduQueue::open(alloc)?;
@@ -142,39 +142,32 @@ impl Side {
         self.coming.pop();
     }
 
-    /// The first PDU in flight to it arrives, if there is one: the answer is reported, and then each unit that is
+    /// The first PDU in flight to it arrives, if there is one: the answer is written, and then each unit that is
     /// handed up, by way of `unit`, which has 1,500 octets. The lines have this end's number.
-    pub fn arrive(&mut self, number: u8, unit: &mut [u8], report: &mut Report)
-        requires known { IsKnown self.old }
-        requires unit { length unit.old ≡ 1500 }
-        requires room { length report.old.text + MOST_TEXT ≤ report.old.most }
+    pub fn arrive<P: Page>(&mut self, number: u8, unit: &mut [u8], page: &mut P)
+        requires { length unit.old ≡ 1500 }
         ensures arrives { (rules : Rules) (s : PairEnd) → IsSide rules self.old s →
-            Arrives rules number s self.new report.old report.new }
+            Arrives P.writes rules number s self.new page.old page.new }
         ensures same { StaysSide self.old self.new }
-        ensures most { report.new.most ≡ report.old.most }
     {
         if let Some(pdu) = self.coming.pop() {
             let got = self.end.pdu(pdu.octets());
-            put_got(report, number, got);
-            hand_up(&mut self.end, number, unit, report);
+            put_got(page, number, got);
+            hand_up(&mut self.end, number, unit, page);
         }
     }
 }
 
-/// Hands up all units that wait, and reports each.
-fn hand_up(end: &mut ResetEnd, number: u8, unit: &mut [u8], report: &mut Report)
-    requires unit { length unit.old ≡ 1500 }
-    requires room { length report.old.text + length (units_text number (waiting_in end.old)) ≤ report.old.most }
-    ensures reported { report.new ≡ record report.old {
-      text =
-          report.old.text ++ units_text number (waiting_in end.old);
-    } }
+/// Hands up all units that wait, and tells of each.
+fn hand_up<P: Page>(end: &mut ResetEnd, number: u8, unit: &mut [u8], page: &mut P)
+    requires { length unit.old ≡ 1500 }
+    ensures told { P.writes page.old (units_text number (waiting_in end.old)) page.new }
     ensures settled { is_settled end.new ≡ true }
     ensures sizes { AreSizes end.old end.new }
     ensures history { (rules : Rules) (e : State) → Represents rules end.old e →
         Represents rules end.new (handed_up e) }
 {
     while let Some(handed) = end.next_unit(unit) {
-        put_handed(report, number, handed, unit);
+        put_handed(page, number, handed, unit);
     }
 }

@@ -91,7 +91,7 @@ pub mod Telling
 pub mod Unharmed
 pub mod Scripting
 pub use Rattle.dch_linkcmd.proofs.RunLines as LinkcmdRunLines
-pub use Rattle.dch_linkcmd.proofs.TextRows
+pub use Rattle.dch_lines.proofs.TextRows
 pub mod Sublists
 pub mod Names
 pub mod OwnBlocks

@@ -2,7 +2,7 @@
 use Rattle.std.proofs.Common.{◌≡◌, ◌<◌, ◌≤◌, ◌+◌, ◌-◌, ◌∙◌, ◌++◌, ℕ, zero, suc, List, [], Option, Some, None, append_assoc, append-nil, arith, refl, ap, sym, subst, inl, inr, true, false}
 use Rattle.std.specs.Prelude.{◌==◌, if◌then◌else◌, nat_le}
 use Rattle.std.proofs.lemmas.Bool.Decides.{eqb_tells, leb_tells}
-use Rattle.dch_lines.specs.Semantics.{Resumes}
+use Rattle.dch_linkcmd.specs.Stepping.{Resumes}
 use Rattle.dch_node.specs.Lines.{Line, joined}
 use Rattle.dch_script.specs.LineText.{text_of}
 use Rattle.dch_lines.specs.Shown.{shown}
@@ -11,7 +11,7 @@ use Rattle.dch_linkcmd.specs.Passing.{is_first, next_stage}
 use Rattle.dch_linkcmd.specs.LinkStages.{AtStage}
 use Rattle.dch_linkcmd.specs.stage.Stage.{Stage}
 use Rattle.dch_linkcmd.specs.stage.Stage.TheVariants.{RncTick}
-use Rattle.dch_linkcmd.specs.Rules.{MayChange, PassesNext, link_lines}
+use Rattle.dch_linkcmd.specs.Rules.{MayChange, PassesNext, link_steps}
 use Rattle.dch_linkcmd.specs.Run.{Run, passed, passed_by}
 use Rattle.dch_runlaw.specs.Frames.{IsFrame, stage_at}
 use Rattle.dch_runlaw.specs.Runs.{PassesFrame}
@@ -149,7 +149,7 @@ one_more n old near new front last on next =
     }
 
 -- the first stage of a line, and those that are left then
-pub all_stages : (n : ℕ) (old mid new : Run) (front last : List ℕ) → PassesNext old mid front → Resumes link_lines n mid new last → GoesOn (1 + n) old new (front ++ last)
+pub all_stages : (n : ℕ) (old mid new : Run) (front last : List ℕ) → PassesNext old mid front → Resumes link_steps n mid new last → GoesOn (1 + n) old new (front ++ last)
 all_stages zero old mid new front last passes resumes =
     subst (λ (t : List ℕ). GoesOn 1 old new (front ++ t)) (sym resumes.1)
     (subst (λ (r : Run). GoesOn 1 old r (front ++ [])) (sym resumes.0)

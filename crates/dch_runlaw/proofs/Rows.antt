@@ -10,7 +10,7 @@ use Rattle.dch_runlaw.specs.Directions.{same_dir}
 use Rattle.dch_runlaw.specs.Rows.{AreSmall, IsSmall, got_rows, got_words, gots, is_got, row_of, rows_of, starts_with}
 use Rattle.dch_runlaw.proofs.Names.{number_same, other_number, same_number}
 use Rattle.dch_runlaw.proofs.Sublists.{either}
-use Rattle.dch_linkcmd.proofs.TextRows.{Lacks, decimal_lacks}
+use Rattle.dch_lines.proofs.TextRows.{Lacks, decimal_lacks}
 
 -- numbers up to a letter
 abbrev pub same_list : List ℕ → List ℕ → Bool

@@ -10,7 +10,7 @@ use Rattle.dch_script.specs.Soft.{soft_meaning}
 use Rattle.dch_script.specs.declared.event.Event.TheVariants.{Frame}
 use Rattle.dch_script.proofs.SoftKept.{answer_keeps}
 use Rattle.dch_lines.specs.LineTexts.{HandlesLine, HandlesLines, is_empty}
-use Rattle.dch_lines.specs.Semantics.{LineSteps, Resumes}
+use Rattle.dch_linkcmd.specs.Stepping.{LineSteps, Resumes}
 use Rattle.dch_node.specs.Lines.{Line}
 use Rattle.dch_script.specs.LineText.{text_of}
 use Rattle.dch_lines.specs.Shown.{shown}
@@ -18,9 +18,9 @@ use Rattle.dch_linkcmd.specs.SoftPassing.{IsStage, leg_of, next_stage}
 use Rattle.dch_linkcmd.specs.LinkSoft.{SoftState, active, over}
 use Rattle.dch_linkcmd.specs.soft_stage.Stage.{Stage}
 use Rattle.dch_linkcmd.specs.soft_stage.Stage.TheVariants.{RncTick, IubDown, RadioDown, UeTick, RadioUp, IubUp, Combine}
-use Rattle.dch_linkcmd.specs.Led.{led}
+use Rattle.dch_lines.specs.Led.{led}
 use Rattle.dch_linkcmd.specs.SoftLineEvents.{Frames, OneEvent, Said, Says, said_at, said_by, said_of_leg}
-use Rattle.dch_linkcmd.specs.SoftRules.{PassesStage, Takes, soft_lines}
+use Rattle.dch_linkcmd.specs.SoftRules.{PassesStage, Takes, soft_lines, soft_steps}
 use Rattle.dch_linkcmd.specs.SoftRun.{Run, config_of, passed_by, steps_left}
 use Rattle.dch_linkcmd.proofs.SoftStages.{steps_last, steps_next}
 use Rattle.dch_runlaw.specs.SoftRuns.{Between, Move, Next, Point, Runs, behind}
@@ -182,7 +182,7 @@ record StagesOver (legs n : ℕ) (old new : Run) (text : List ℕ) : Type 0 wher
 same_run : (old new : Run) → new ≡ old → Steady old new
 same_run old new same = record { count = ap (λ (r : Run). r.soft.count) same; config = ap config_of same; quiet = ap (λ (r : Run). r.quiet) same }
 
-resumes_over : (legs n : ℕ) (old new : Run) (text : List ℕ) → 1 ≤ legs → IsAt legs old → n ≤ steps_left legs old.stage old.left → Resumes soft_lines n old new text → StagesOver legs n old new text
+resumes_over : (legs n : ℕ) (old new : Run) (text : List ℕ) → 1 ≤ legs → IsAt legs old → n ≤ steps_left legs old.stage old.left → Resumes soft_steps n old new text → StagesOver legs n old new text
 resumes_over legs zero old new text some at many resumes = record {
   steady = same_run old new resumes.0;
   at = subst (IsAt legs) (sym resumes.0) at;
@@ -276,11 +276,11 @@ frames_asked legs config line None parsed count means says =
 frames_said : (legs : ℕ) (config : Config) (line : List ℕ) (count : ℕ) → Says legs config line (Frames count) → 1 ≤ count
 frames_said legs config line count says = frames_asked legs config line says.leg says.parsed count says.is_parsed says.is
 
-step_over : (legs : ℕ) (old : Run) (line : List ℕ) (new : Run) (text : List ℕ) → 1 ≤ legs → old.soft.count ≡ legs → IsAtRest old → is_empty line ≡ false → (said : Said) → Says old.soft.count (config_of old) line said → (mid : Run) (first rest : List ℕ) → Takes said old mid first → Resumes soft_lines (steps_left mid.soft.count mid.stage mid.left) mid new rest → text ≡ first ++ rest → LineOver legs old line new text
+step_over : (legs : ℕ) (old : Run) (line : List ℕ) (new : Run) (text : List ℕ) → 1 ≤ legs → old.soft.count ≡ legs → IsAtRest old → is_empty line ≡ false → (said : Said) → Says old.soft.count (config_of old) line said → (mid : Run) (first rest : List ℕ) → Takes said old mid first → Resumes soft_steps (steps_left mid.soft.count mid.stage mid.left) mid new rest → text ≡ first ++ rest → LineOver legs old line new text
 step_over legs old line new text some many rests words (OneEvent event) says mid first rest takes resumes whole =
     let after : IsAtRest mid = record { stage = ap (λ (r : Run). r.stage) takes.goes_on ∙ rests.stage; left = ap (λ (r : Run). r.left) takes.goes_on ∙ rests.left } in
     let none : steps_left mid.soft.count mid.stage mid.left ≡ 0 = rw after.left refl in
-    let done : (new ≡ mid) × (rest ≡ []) = subst (λ n. Resumes soft_lines n mid new rest) none resumes in
+    let done : (new ≡ mid) × (rest ≡ []) = subst (λ n. Resumes soft_steps n mid new rest) none resumes in
     let same : new ≡ record old { soft = takes.soft } = done.0 ∙ takes.goes_on in
     let steady = between_stays 0 old.soft event takes.soft takes.lines takes.happens in
     record {
@@ -308,7 +308,7 @@ step_over legs old line new text some many rests words (Frames count) says mid f
     let next : Behind legs begun mid = pass_behind legs begun mid first some takes at some_frames in
     let steady : Steady begun mid = pass_steady begun mid first takes in
     let over : StagesOver legs (steps_left legs mid.stage mid.left) mid new rest =
-    resumes_over legs (steps_left legs mid.stage mid.left) mid new rest some next.at (omega arith) (subst (λ n. Resumes soft_lines (steps_left n mid.stage mid.left) mid new rest) next.at.count resumes) in
+    resumes_over legs (steps_left legs mid.stage mid.left) mid new rest some next.at (omega arith) (subst (λ n. Resumes soft_steps (steps_left n mid.stage mid.left) mid new rest) next.at.count resumes) in
     let all : suc (steps_left legs mid.stage mid.left) ≡ (10 + 18 * legs) * count = omega (arith, next.less, begun_left legs old.stage count rests.stage some_frames) in
     let none : new.left ≡ 0 = none_left legs new.stage new.left over.at.stage (omega (arith, over.less)) in
     record {
@@ -336,7 +336,7 @@ line_over legs old line new text some many rests handles = cases (is_empty line)
           rests = subst IsAtRest (sym own.0) rests;
         }
     cases false words =
-        let own : LineSteps soft_lines old line new text = rw words at handles in
+        let own : LineSteps soft_steps old line new text = rw words at handles in
         step_over legs old line new text some many rests words own.handles.said own.handles.says own.mid own.first own.rest own.handles.takes own.resumes own.whole
 
 -- and what lines do

@@ -3,7 +3,7 @@ use Rattle.std.proofs.Common.{◌≡◌, ◌<◌, ◌≤◌, ◌+◌, ◌-◌, �
 use Rattle.std.proofs.lemmas.Bool.Decides.{eqb_tells, leb_tells}
 use Rattle.dch_types.specs.declared.config.Config.{Config}
 use Rattle.dch_lines.specs.LineTexts.{HandlesLine, HandlesLines, is_empty}
-use Rattle.dch_lines.specs.Semantics.{LineSteps, Resumes}
+use Rattle.dch_linkcmd.specs.Stepping.{LineSteps, Resumes}
 use Rattle.dch_node.specs.Lines.{Line, joined}
 use Rattle.dch_script.specs.LineText.{text_of}
 use Rattle.dch_lines.specs.Coming.{coming}
@@ -14,7 +14,7 @@ use Rattle.dch_linkcmd.specs.LinkLink.{LinkState}
 use Rattle.dch_linkcmd.specs.Passing.{next_stage}
 use Rattle.dch_linkcmd.specs.stage.Stage.TheVariants.{IubDown, RncTick}
 use Rattle.dch_linkcmd.specs.LineEvents.{Frames, OneEvent, Said, Says}
-use Rattle.dch_linkcmd.specs.Rules.{MayChange, PassesNext, Takes, link_lines}
+use Rattle.dch_linkcmd.specs.Rules.{MayChange, PassesNext, Takes, link_lines, link_steps}
 use Rattle.dch_linkcmd.specs.Run.{Run, config_of, passed_by, steps_left}
 use Rattle.dch_linkcmd.proofs.Said.{some_frames}
 use Rattle.dch_linkcmd.specs.RunLines.{active_behind}
@@ -145,10 +145,10 @@ stages_over old line new text all count rests words says goes whole =
       };
     }
 
-step_over : (old : Run) (line : List ℕ) (new : Run) (text : List ℕ) → IsAtRest old → is_empty line ≡ false → (said : Said) → Says (config_of old) line said → (mid : Run) (first rest : List ℕ) → Takes said old mid first → Resumes link_lines (steps_left mid.stage mid.left) mid new rest → text ≡ first ++ rest → LineOver old line new text
+step_over : (old : Run) (line : List ℕ) (new : Run) (text : List ℕ) → IsAtRest old → is_empty line ≡ false → (said : Said) → Says (config_of old) line said → (mid : Run) (first rest : List ℕ) → Takes said old mid first → Resumes link_steps (steps_left mid.stage mid.left) mid new rest → text ≡ first ++ rest → LineOver old line new text
 step_over old line new text rests words (OneEvent event) says mid first rest takes resumes whole =
     let after : IsAtRest mid = subst IsAtRest (sym takes.goes_on) (record { stage = rests.stage; left = rests.left; soon = rests.soon }) in
-    let done : (new ≡ mid) × (rest ≡ []) = subst (λ n. Resumes link_lines n mid new rest) (no_steps mid after) resumes in
+    let done : (new ≡ mid) × (rest ≡ []) = subst (λ n. Resumes link_steps n mid new rest) (no_steps mid after) resumes in
     let same : new ≡ record old { link = takes.link } = done.0 ∙ takes.goes_on in
     let run : RunsOver old.second old.frames old.link (Between event ∷ []) takes.link takes.lines old.second =
     only_run old.second old.frames old.link takes.link (Between event ∷ []) takes.lines rests.soon refl (one_event old.link takes.link event takes.lines takes.happens) in
@@ -200,7 +200,7 @@ line_over old line new text rests handles = cases (is_empty line) refl
           rests = rests;
         })
     cases false words =
-        let own : LineSteps link_lines old line new text = rw words at handles in
+        let own : LineSteps link_steps old line new text = rw words at handles in
         step_over old line new text rests words own.handles.said own.handles.says own.mid own.first own.rest own.handles.takes own.resumes own.whole
 
 -- lines say the same where the same is active from here on

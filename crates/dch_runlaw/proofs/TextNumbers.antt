@@ -3,7 +3,7 @@ use Rattle.std.proofs.Common.{◌≡◌, ◌<◌, ◌^◌, ◌∙◌, ℕ, [], �
 use Rattle.std.specs.Prelude.{◌==◌, decimal}
 use Rattle.dch_runlaw.specs.Rows.{starts_with}
 use Rattle.dch_runlaw.proofs.Rows.{same_decimal, to_letter}
-use Rattle.dch_linkcmd.proofs.TextRows.{decimal_lacks}
+use Rattle.dch_lines.proofs.TextRows.{decimal_lacks}
 
 -- rows that end with a number are the same where the numbers are
 pub decimal_ends : (b c : ℕ) → b < 2 ^ 64 → c < 2 ^ 64 → starts_with (decimal b ++ 10 ∷ []) (decimal c ++ 10 ∷ []) ≡ (c == b)

@@ -6,11 +6,11 @@ use Rattle.dch_script.specs.Report.{iub_text, pair_text, phy_text, place_text, u
 use Rattle.dch_node.specs.Lines.{Line, Took, Full, Wrong, Bad, Reserved, NoBearer, Nobody, PduBad, Outside, Overlong, Got, GotBits, Iub, IubBad, Phy, PhyNone, BadTti, Differs}
 use Rattle.dch_script.specs.LineText.{text_of}
 use Rattle.dch_lines.specs.Shown.{shown}
-use Rattle.dch_linkcmd.specs.Filtering.{is_frame, seen}
+use Rattle.dch_lines.specs.Filtering.{is_frame, seen}
 use Rattle.dch_runlaw.specs.TextDiffering.{false_rows, false_words}
 use Rattle.dch_runlaw.specs.Rows.{got_rows, got_words, row_of, rows_of, starts_with}
-use Rattle.dch_linkcmd.proofs.Seen.{shown_text}
-use Rattle.dch_linkcmd.proofs.TextRows.{text_rows}
+use Rattle.dch_lines.proofs.Seen.{shown_text}
+use Rattle.dch_lines.proofs.TextRows.{text_rows}
 use Rattle.dch_runlaw.proofs.Sublists.{either}
 
 -- the row of a frame is none of these

@@ -32,7 +32,7 @@ use Rattle.dch_runlaw.proofs.Directions.{off_is, on-append, on_is}
 use Rattle.dch_runlaw.proofs.TextListed.{listed}
 use Rattle.dch_runlaw.proofs.TextEnds.{IsOwn, rnc_own, rnc_stays, ue_own, ue_stays}
 use Rattle.dch_runlaw.proofs.TextFrames.{frame_told}
-use Rattle.dch_linkcmd.proofs.TextRows.{text_rows}
+use Rattle.dch_lines.proofs.TextRows.{text_rows}
 use Rattle.dch_runlaw.proofs.Rows.{rows_got}
 use Rattle.dch_runlaw.proofs.TextShowing.{seen_false, seen_got, shown_rows}
 use Rattle.dch_runlaw.proofs.Small.{gots_on, small_append}

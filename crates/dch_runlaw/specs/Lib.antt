@@ -37,6 +37,7 @@ pub use Rattle.dch_linkcmd.specs.SoftOverlong
 pub use Rattle.dch_linkcmd.specs.SoftRules
 pub use Rattle.dch_linkcmd.specs.SoftRun
 pub use Rattle.dch_linkcmd.specs.Standing as LinkcmdStanding
+pub use Rattle.dch_linkcmd.specs.Stepping as LinkcmdStepping
 pub mod Lines
 pub mod Doings
 pub mod Worlds
@@ -48,8 +49,8 @@ pub mod TmHistory
 pub mod Directions
 pub mod Rows
 pub mod SentRead
-pub use Rattle.dch_linkcmd.specs.Filtering
-pub use Rattle.dch_linkcmd.specs.Led
+pub use Rattle.dch_lines.specs.Filtering
+pub use Rattle.dch_lines.specs.Led
 pub use Rattle.dch_layer2.specs.Bearings
 pub use Rattle.dch_layer2.specs.UnitLines
 pub use Rattle.dch_amlaw.specs.Pair as AmlawPair

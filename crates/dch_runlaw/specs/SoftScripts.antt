@@ -7,7 +7,7 @@ use Rattle.dch_script.specs.LineText.{text_of}
 use Rattle.dch_lines.specs.Shown.{shown}
 use Rattle.dch_linkcmd.specs.SoftPassing.{leg_of}
 use Rattle.dch_linkcmd.specs.soft_stage.Stage.TheVariants.{RncTick}
-use Rattle.dch_linkcmd.specs.Led.{led}
+use Rattle.dch_lines.specs.Led.{led}
 use Rattle.dch_linkcmd.specs.SoftLineEvents.{Frames, OneEvent, Said, Says}
 use Rattle.dch_linkcmd.specs.SoftRun.{Run, config_of}
 use Rattle.dch_runlaw.specs.SoftRuns.{Between, Move, Next, Point, Runs}

@@ -1,13 +1,12 @@
--- The rules of a handler that takes a line in three steps, and whose state is how many are left.
-use Rattle.std.specs.Prelude.{◌≡◌, ◌+◌, ℕ, codes}
+-- The rules of a handler that answers a line three times, or once where no more can be written.
+use Rattle.std.specs.Prelude.{◌≡◌, ◌++◌, codes}
 use Rattle.dch_script.specs.declared.event.LineError.TheVariants.{Long}
 use Rattle.dch_lines.specs.Semantics.{Semantics}
 
-abbrev pub echoing : Semantics ℕ
+abbrev pub echoing : Semantics (Unit {0})
 echoing = record {
-  handles = λ _ _ new text. (text ≡ codes "once\n") × (new ≡ 2);
-  remaining = λ state. state;
-  resumes = λ old new text. (text ≡ codes "again\n") × (new + 1 ≡ old);
+  handles = λ _ _ _ text. text ≡ codes "once\n" ++ codes "again\nagain\n";
+  begins = λ _ _ _ text. text ≡ codes "once\n";
   refuses = λ _ _ why. why ≡ Long;
   wants_memory = λ _ _. Unit {0};
   closing = λ _ _. codes "end\n";

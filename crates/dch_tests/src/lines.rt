@@ -1,68 +1,49 @@
-ghost use Rattle.std.specs.Prelude.{◌≡◌, ℕ};
-ghost use Rattle.std.proofs.Common.{refl, sym};
+ghost use Rattle.std.specs.Prelude.{refl};
 ghost use Rattle.dch_tests.specs.Echo.{echoing};
 
 use dch_bits::NoMemory;
 use dch_io::{InputOffset, MemorySink, MemorySource, Pending, new_piece};
 use dch_lines::*;
-use dch_script::{LineError, Report};
+use dch_script::LineError;
 use std::alloc::{AllocError, Global};
 
-/// A handler that takes a line in three steps, finds no memory for one, and refuses lines of more than five bytes.
+/// A handler that answers a line three times, finds no memory for one, and refuses lines of more than five bytes. It
+/// answers once where no more can be written.
 #[derive(Drop)]
-struct Echo {
-    remaining: u32,
-}
+struct Echo;
 
 impl LineHandler for Echo {
-    ghost State = { ℕ };
+    ghost State = { Unit {0} };
 
     ghost semantics = { echoing };
 
-    ghost represents = { λ state echo. echo.remaining ≡ state };
-
-    ghost most = { λ _. 6 };
-
-    ghost remaining = { λ echo. echo.remaining };
+    ghost represents = { λ _ _. Unit {0} };
 
     ghost stands = { λ _. Unit {0} };
 
     ghost handled = { λ _. 0 };
 
-    fn handle_line(&mut self, line: &[u8], report: &mut Report) -> Result<(), LineFault> {
+    fn handle_line<P: Page>(&mut self, line: &[u8], page: &mut P) -> Result<(), LineFault> {
         if line == b"much\n".as_slice() {
             return Err(LineFault::NoMemory);
         }
         if line.len() > 5 {
             return Err(LineFault::Malformed(LineError::Long));
         }
-        report.put_text(b"once\n");
-        self.remaining = 2;
+        page.put_text(b"once\n");
+        if page.is_open() {
+            page.put_text(b"again\nagain\n");
+        }
         Ok(())
     }
 
-    fn remaining(&self) -> u32 {
-        self.remaining
-    }
-
-    fn resume(&mut self, report: &mut Report) {
-        if self.remaining > 0 {
-            report.put_text(b"again\n");
-            self.remaining -= 1;
-        }
-    }
-
-    fn close(&self, _nonempty_lines: u64, report: &mut Report) {
-        report.put_text(b"end\n");
-    }
-
-    fn most(&self) -> usize {
-        6
+    fn close<P: Page>(&self, _nonempty_lines: u64, page: &mut P) {
+        page.put_text(b"end\n");
     }
 
     ghost overlong = { λ _ _ _. refl };
 
-    ghost counts = { λ state echo is. sym is };
+    ghost stood = { λ _ _. (tt, tt) };
 }
 
 fn source_of(alloc: Global, input: &[u8]) -> Result<MemorySource, AllocError> {
@@ -86,7 +67,7 @@ fn followed(
     };
     let mut source = source_of(alloc, input)?;
     let mut sink = sink_of(alloc, failing)?;
-    let mut processor = LineProcessor::open(alloc, Echo { remaining: 0 }, b"open\n", before, 64)?;
+    let mut processor = LineProcessor::open(alloc, Echo, b"open\n", before, 64)?;
     let mut piece = new_piece(alloc)?;
     let pending = Pending {
         from: 0,
@@ -106,7 +87,7 @@ fn follows(alloc: Global, input: &[u8], failing: &[u64], outcome: Outcome, text:
 }
 
 #[test]
-fn lines_of_three_steps(rt: HostRuntime) {
+fn lines_of_three_answers(rt: HostRuntime) {
     let steps = b"open\nonce\nagain\nagain\n";
     assert!(rt;
         follows(
@@ -118,4 +99,13 @@ fn lines_of_three_steps(rt: HostRuntime) {
         )
     );
     assert!(rt; follows(rt.alloc(), b"one\n", &[3], Outcome::WriteFault, &steps[..9]));
+    assert!(rt;
+        follows(
+            rt.alloc(),
+            b"a\na\na\na\na\na\n",
+            &[1],
+            Outcome::WriteFault,
+            &steps[..4]
+        )
+    );
 }

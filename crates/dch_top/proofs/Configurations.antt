@@ -2,13 +2,12 @@
 use Rattle.std.proofs.Common.{◌≡◌, ◌+◌, ◌∙◌, ◌++◌, ℕ, List, [], ◌∷◌, Bool, true, false, Option, Some, inl, inr, refl, ap, sym, subst, arith}
 use Rattle.dch_accept.specs.Plans.{Planned}
 use Rattle.dch_lines.specs.LineTexts.{HandlesLine, HandlesLines, is_empty}
-use Rattle.dch_lines.specs.Semantics.{LineSteps}
 use Rattle.dch_nodecmd.specs.NodeRules.{AreLasting, AsksChange, NodeRules, SaysEvent}
 use Rattle.dch_nodecmd.specs.Rules.{MakesChange, TakesLine, TakesSaid, node_lines}
 use Rattle.dch_nodecmd.specs.Run.{Run, frames_in}
 use Rattle.dch_lines.specs.declared.later.Later.{Later}
 use Rattle.dch_nodecmd.proofs.Running.{frames_next}
-use Rattle.dch_nodecmd.proofs.Said.{one_event, one_taken, says_or_asks}
+use Rattle.dch_nodecmd.proofs.Said.{one_event, says_or_asks}
 
 -- two runs have one configuration, the same one is to come, and as many radio frames have passed
 record AreAlike {S E : Type 0} (rules : NodeRules S E) (run other : Run S E) : Type 0 where
@@ -71,9 +70,9 @@ line_alike {S} {E} rules lasting run other new newer line text more alike one tw
         let there : (newer ≡ other) × (more ≡ []) = rw empty at two in
         subst (λ (r : Run S E). AreAlike rules r newer) (sym here.0) (subst (λ (r : Run S E). AreAlike rules run r) (sym there.0) alike)
     cases false words =
-        let here : LineSteps (node_lines rules) run line new text = rw words at one in
-        let there : LineSteps (node_lines rules) other line newer more = rw words at two in
-        taken_alike rules lasting run other new newer line text more alike (one_taken rules run new line text here) (one_taken rules other newer line more there)
+        let here : TakesLine rules run line new text = rw words at one in
+        let there : TakesLine rules other line newer more = rw words at two in
+        taken_alike rules lasting run other new newer line text more alike here there
 
 lines_alike : {S E : Type 0} (rules : NodeRules S E) → AreLasting rules → (run other new newer : Run S E) (lines : List (List ℕ)) (text more : List ℕ) → AreAlike rules run other → HandlesLines (node_lines rules) run lines new text → HandlesLines (node_lines rules) other lines newer more → AreAlike rules new newer
 lines_alike {S} {E} rules lasting run other new newer [] text more alike one two =

@@ -20,6 +20,5 @@ pub mod Traces
 pub mod Checks
 pub mod Complete
 pub mod Judging
-pub mod Texts
 pub mod Meanings
 pub mod Rows

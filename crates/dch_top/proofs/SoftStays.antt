@@ -3,7 +3,7 @@ use Rattle.std.proofs.Common.{◌≡◌, ◌≢◌, ◌∙◌, ℕ, zero, suc, L
 use Rattle.std.specs.Prelude.{Option, Some, None}
 use Rattle.dch_accept.specs.Plans.{Planned}
 use Rattle.dch_lines.specs.LineTexts.{HandlesLine, HandlesLines, is_empty}
-use Rattle.dch_lines.specs.Semantics.{LineSteps, Resumes}
+use Rattle.dch_runlaw.specs.LinkcmdStepping.{LineSteps, Resumes}
 use Rattle.dch_node.specs.Lines.{Line}
 use Rattle.dch_types.specs.declared.channel.Dir.TheVariants.{Up, Down}
 use Rattle.dch_nodecmd.specs.UeState.{Event as UeEvent}
@@ -17,7 +17,7 @@ use Rattle.dch_gen.specs.SoftStages.{AtLeg, AtStage, GivesFrame, MayTake, RncGoe
 use Rattle.dch_gen.specs.soft_stage.Stage.{Stage}
 use Rattle.dch_gen.specs.soft_stage.Stage.TheVariants.{RncTick, IubDown, RadioDown, UeTick, RadioUp, IubUp, Combine}
 use Rattle.dch_runlaw.specs.SoftLineEvents.{Frames, OneEvent, Said}
-use Rattle.dch_runlaw.specs.SoftRules.{PassesStage, Takes, soft_lines}
+use Rattle.dch_runlaw.specs.SoftRules.{PassesStage, Takes, soft_lines, soft_steps}
 use Rattle.dch_runlaw.specs.SoftRun.{Run, passed_by}
 
 -- both are the same
@@ -94,11 +94,11 @@ takes_stays : (said : Said) (old new : Run) (text : List ℕ) → Takes said old
 takes_stays (OneEvent event) old new text takes = alike_is old.soft takes.soft new.soft (ap (λ (r : Run). r.soft) takes.goes_on) (event_stays old.soft takes.soft event takes.lines takes.happens)
 takes_stays (Frames count) old new text takes = pass_stays (record old { left = count }) new text takes
 
-resumes_stay : (count : ℕ) (old new : Run) (text : List ℕ) → Resumes soft_lines count old new text → IsAlike old.soft new.soft
+resumes_stay : (count : ℕ) (old new : Run) (text : List ℕ) → Resumes soft_steps count old new text → IsAlike old.soft new.soft
 resumes_stay zero old new text resumes = alike_same old.soft new.soft (ap (λ (r : Run). r.soft) resumes.0)
 resumes_stay (suc count) old new text (mid, (front, (last, (first, step, whole)))) = alike_on old.soft mid.soft new.soft (resumes_stay count old mid front first) (pass_stays mid new last step)
 
-steps_stay : (old new : Run) (line text : List ℕ) → LineSteps soft_lines old line new text → IsAlike old.soft new.soft
+steps_stay : (old new : Run) (line text : List ℕ) → LineSteps soft_steps old line new text → IsAlike old.soft new.soft
 steps_stay old new line text steps = alike_on old.soft steps.mid.soft new.soft (takes_stays steps.handles.said old steps.mid steps.first steps.handles.takes) (resumes_stay _ steps.mid new steps.rest steps.resumes)
 
 line_stays : (old new : Run) (line text : List ℕ) → HandlesLine soft_lines old line new text → IsAlike old.soft new.soft
@@ -106,7 +106,7 @@ line_stays old new line text handles = cases (is_empty line) refl
   where
     cases : (b : Bool) → is_empty line ≡ b → IsAlike old.soft new.soft
     cases true empty = let own : (new ≡ old) × (text ≡ []) = rw empty at handles in alike_same old.soft new.soft (ap (λ (r : Run). r.soft) own.0)
-    cases false words = let own : LineSteps soft_lines old line new text = rw words at handles in steps_stay old new line text own
+    cases false words = let own : LineSteps soft_steps old line new text = rw words at handles in steps_stay old new line text own
 
 pub soft_lines_stay : (old new : Run) (lines : List (List ℕ)) (text : List ℕ) → HandlesLines soft_lines old lines new text → IsAlike old.soft new.soft
 soft_lines_stay old new [] text handles = alike_same old.soft new.soft (ap (λ (r : Run). r.soft) handles.0)

@@ -3,7 +3,6 @@ ghost use Rattle.dch_io.specs.Ends.{end_of};
 ghost use Rattle.dch_io.specs.Pieces.{LIMIT, PIECE};
 ghost use Rattle.dch_check.specs.ConfigSection.{settled};
 ghost use Rattle.dch_check.specs.TakenConfigs.{lines_before};
-ghost use Rattle.dch_lines.specs.declared.processor.TheConstants.{LEAST_ROOM};
 ghost use Rattle.dch_lines.specs.Processor.{LeadsOn};
 ghost use Rattle.dch_top.specs.Configured.{FollowsRest, FollowsTo, TakesConfiguration, WantsNone};
 
@@ -15,6 +14,9 @@ use dch_check::{Configurations, Judgement, TakenConfig, take_config};
 use dch_io::{CleanSource, Pending, Sink, Source, write_all};
 use dch_lines::{LineHandler, LineProcessor, Outcome, follow_input};
 use std::alloc::Global;
+
+/// The bytes of the text that is held before it is written.
+const ROOM: usize = 131_072;
 
 /// Takes what stands in front of the lines of an input, one configuration or two, and accepts it. Otherwise the line
 /// that refuses it is written. The kind tells what may stand there.
@@ -56,7 +58,6 @@ pub fn follow_script<C: LineHandler + Drop, S: Source, K: Sink>(
     requires piece { length piece.old ≡ PIECE }
     requires stands { C.stands handler }
     requires handled { C.handled handler ≡ 0 }
-    requires least { LEAST_ROOM ≤ C.most handler }
     requires memory { WantsNone C.semantics }
     requires ordered { front.now.pending.from ≤ front.now.pending.to }
     requires inside { front.now.pending.to ≤ PIECE }
@@ -67,8 +68,7 @@ pub fn follow_script<C: LineHandler + Drop, S: Source, K: Sink>(
         FollowsTo C.semantics C.represents (end_of S.left S.faults source.old source.new)
         (end_of K.taken K.faults sink.old sink.new) front.now state (slice_range piece.old front.now.pending.from front.now.pending.to) result }
 {
-    let room = handler.most();
-    let Ok(mut processor) = LineProcessor::open(alloc, handler, b"open\n", front.offset(), room)
+    let Ok(mut processor) = LineProcessor::open(alloc, handler, b"open\n", front.offset(), ROOM)
     else {
         return Err(Status::NoMemory);
     };

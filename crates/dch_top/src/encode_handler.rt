@@ -1,21 +1,17 @@
-ghost use Rattle.std.specs.Prelude.{◌≡◌, ◌≤◌, ◌+◌, ◌++◌, true, false, length, map, refl, OnOk, IfErr};
+ghost use Rattle.std.specs.Prelude.{◌≡◌, ◌≤◌, true, length, map, OnOk, IfErr};
 ghost use Rattle.dch_bits.specs.Text.{bit_of_letter};
 ghost use Rattle.dch_script.specs.Code.{meaning, is_bits};
 ghost use Rattle.dch_lines.specs.Semantics.{Adds};
 ghost use Rattle.dch_top.specs.Overlong.{encoding_refuses_long};
-ghost use Rattle.dch_top.specs.EncodeText.{Answers, block_of, closing, encoding};
-ghost use Rattle.dch_top.specs.declared.encode_handler.TheConstants.{LONGEST_TEXT};
+ghost use Rattle.dch_top.specs.EncodeText.{Answers, block_of, encoding};
 
 use dch_bits::{Bit, NoMemory};
 use dch_coding::BlockCoder;
-use dch_lines::{LineFault, LineHandler};
-use dch_script::{Command, Event, Line, LineError, Report, parse};
+use dch_lines::{LineFault, LineHandler, Page, put_line};
+use dch_script::{Command, Event, Line, LineError, parse};
 use dch_types::MAX_BLOCK_BITS;
 use std::alloc::Global;
 use std::marker::Model;
-
-/// The most bytes of the text of a line.
-pub const LONGEST_TEXT: usize = 16_384;
 
 /// The handler of `encode`: codes the transport block of each line, in room that is taken once.
 #[derive(Drop)]
@@ -54,60 +50,43 @@ impl LineHandler for EncodeHandler {
 
     ghost represents = { λ _ _. Unit {0} };
 
-    ghost most = { λ _. LONGEST_TEXT };
-
-    ghost remaining = { λ _. 0 };
-
     ghost stands = { λ _. Unit {0} };
 
     ghost handled = { λ _. 0 };
 
-    fn handle_line(&mut self, line: &[u8], report: &mut Report) -> Result<(), LineFault> {
-        match code_line(line, &mut self.block, &mut self.handler, report) {
+    fn handle_line<P: Page>(&mut self, line: &[u8], page: &mut P) -> Result<(), LineFault> {
+        match code_line(line, &mut self.block, &mut self.handler, page) {
             Ok(()) => Ok(()),
             Err(why) => Err(LineFault::Malformed(why)),
         }
     }
 
-    fn remaining(&self) -> u32 {
-        0
-    }
-
-    fn resume(&mut self, _report: &mut Report) {}
-
-    #[tactic(auto, using(crate::proofs::Texts::closing_short), unfolding(crate::specs::EncodeText::closing))]
-    fn close(&self, nonempty_lines: u64, report: &mut Report) {
-        report.put(&Line::EndLines(nonempty_lines));
-    }
-
-    fn most(&self) -> usize {
-        LONGEST_TEXT
+    #[tactic(auto, unfolding(crate::specs::EncodeText::closing))]
+    fn close<P: Page>(&self, nonempty_lines: u64, page: &mut P) {
+        put_line(page, &Line::EndLines(nonempty_lines));
     }
 
     ghost overlong = { encoding_refuses_long };
 
-    ghost counts = { λ _ _ _. refl };
+    ghost stood = { λ _ _. (tt, tt) };
 }
 
-/// Adds the coded bits of a line's transport block to the report.
-fn code_line(
+/// Writes the coded bits of a line's transport block.
+fn code_line<P: Page>(
     line: &[u8],
     block: &mut [Bit],
     handler: &mut BlockCoder,
-    report: &mut Report,
+    page: &mut P,
 ) -> Result<(), LineError>
     requires block { length block.old ≡ 5000 }
-    requires room { length report.old.text + LONGEST_TEXT ≤ report.old.most }
-    ensures ok { OnOk result (Adds (Answers (meaning line.now)) report.old report.new) }
-    ensures err { IfErr result (λ why. (meaning line.now ≡ Err why) × (report.new ≡ report.old)) }
-    ensures room { report.new.most ≡ report.old.most }
-    ensures fits { OnOk result (length report.new.text ≤ report.new.most) }
+    ensures ok { OnOk result (Adds P.writes (Answers (meaning line.now)) page.old page.new) }
+    ensures err { IfErr result (λ why. (meaning line.now ≡ Err why) × (page.new ≡ page.old)) }
 {
     match parse(Command::Encode, line) {
         Ok(Event::Code { coding, crc, bits }) => {
             let block = read_block(bits, block);
             let bits = handler.code(coding, crc, block);
-            report.put(&Line::Coded { bits });
+            put_line(page, &Line::Coded { bits });
             Ok(())
         }
         Ok(_) => unreachable!(),

@@ -8,12 +8,11 @@ use crate::status::Status;
 use dch_bits::NoMemory;
 use dch_io::{InputOffset, Pending, Sink, Source, new_piece};
 use dch_lines::{LineProcessor, Outcome, follow_input};
-use dch_paircmd::{MOST_TEXT, PairHandler};
+use dch_paircmd::PairHandler;
 use std::alloc::Global;
 
-/// The bytes of the text that is held before it is written: the longest text of a line, and as much as of other
-/// commands beside it.
-const ROOM: usize = MOST_TEXT + 131_072;
+/// The bytes of the text that is held before it is written.
+const ROOM: usize = 131_072;
 
 /// Runs `pair`: two ends of an acknowledged bearer that can be reset, with a queue of PDUs to each, by the lines of the
 /// input.

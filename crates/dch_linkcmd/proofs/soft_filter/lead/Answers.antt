@@ -1,5 +1,5 @@
 use Rattle.std.proofs.Common.{arith}
-use Rattle.dch_linkcmd.proofs.Seen.{lead_is}
+use Rattle.dch_lines.proofs.Seen.{lead_is}
 use Rattle.dch_linkcmd.proofs.soft_filter.lead.Goals as goal
 
 pub returns-in-Some-eq0 : goal.returns-in-Some-eq0

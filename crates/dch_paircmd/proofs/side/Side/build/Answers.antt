@@ -1,9 +1,8 @@
-use Rattle.std.proofs.Common.{◌≡◌, ◌∙◌, refl, subst, sym}
+use Rattle.std.proofs.Common.{◌≡◌, ◌∙◌, subst, sym}
 use Rattle.dch_reset.specs.Standing.{Represents, size_of}
 use Rattle.dch_reset.specs.State.{Build, IsWritten, step, turn}
 use Rattle.dch_paircmd.specs.Standing.{IsSide, SideValue}
 use Rattle.dch_paircmd.specs.contracts.side.Side.{the_view}
-use Rattle.dch_paircmd.proofs.Arriving.{built_bounded}
 use Rattle.dch_paircmd.proofs.side.Side.build.Goals as goal
 
 pub returns-clause-written : goal.returns-clause-written
@@ -20,5 +19,4 @@ returns-clause-stands c rules s is =
       end = subst (λ n. Represents rules c.build.new.self (step rules n s.state Build)) size (c.build.ensures.stands rules s.state here.end);
       size = here.size;
       coming = here.coming;
-      bounded = built_bounded (turn rules s.state) rules s.size s.state refl here.bounded;
     }
