@@ -14,7 +14,7 @@ def words_of(file):
 
 
 def case(name):
-    """The words and the input of a case, as `link/speech_flipped`, or of an example, as `examples/nodeb`."""
+    """The words and the input of a case, as `link/speech_flipped`, or of an example, as `examples/nodeb` or `examples/radio_bearers/packet_8`."""
     out = top / (name + '.out' if name.startswith('examples/') else f'tests/{name}.out')
     inputs = [out.with_suffix(end) for end in ('.in', '.txt', '.toml') if out.with_suffix(end).exists()]
     return words_of(out), inputs[0].read_bytes()
@@ -27,6 +27,6 @@ def answer_of(name):
 
 def cases_of(*commands):
     """The names of all cases and examples of these commands."""
-    for out in sorted([*top.glob('examples/*.out'), *top.glob('tests/*/*.out')]):
+    for out in sorted([*top.glob('examples/**/*.out'), *top.glob('tests/*/*.out')]):
         if out.parent.name != 'usage' and words_of(out)[0] in commands:
-            yield f'examples/{out.stem}' if out.parent.name == 'examples' else f'{out.parent.name}/{out.stem}'
+            yield str(out.relative_to(top).with_suffix('')).removeprefix('tests/')

@@ -6,3 +6,4 @@ pub mod LineCuts
 pub mod Seconds
 pub mod Singles
 pub mod Taking
+pub mod Scripts

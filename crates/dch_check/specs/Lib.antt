@@ -5,3 +5,6 @@ pub mod Refusals
 pub mod Singles
 pub mod TakenConfigs
 pub mod Verdicts
+pub mod Configured
+pub mod Fronts
+pub mod Untouched

@@ -9,6 +9,7 @@ pub mod NodesKept
 pub mod PairKept
 pub mod Shown
 pub mod SoftKept
+pub mod StagesKept
 pub mod Values
 pub mod Within
 pub mod Putting

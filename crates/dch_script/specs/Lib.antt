@@ -12,6 +12,7 @@ pub mod Parts
 pub mod Report
 pub mod ParsedLine
 pub mod Soft
+pub mod Stages
 pub mod Texts
 pub mod Units
 pub mod LineWords

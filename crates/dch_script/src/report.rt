@@ -205,6 +205,26 @@ impl Report {
         self.put_text(Buffer::new().format(number).as_bytes());
     }
 
+    /// Appends bits as letters, `.` for none.
+    #[tactic(auto, using(crate::proofs::Putting::put_all))]
+    pub fn put_bits(&mut self, bits: &[Bit])
+        requires { length self.old.text + length (bits_shown bits.now) ≤ self.old.most }
+        ensures text { self.new ≡ record self.old { text = self.old.text ++ bits_shown bits.now } }
+        ensures len { length self.new.text ≡ length self.old.text + length (bits_shown bits.now) }
+    {
+        self.add_bits(bits);
+    }
+
+    /// Appends cells as letters, `.` for none.
+    #[tactic(auto, using(crate::proofs::Putting::put_all))]
+    pub fn put_cells(&mut self, cells: &[Trit])
+        requires { length self.old.text + length (cells_shown cells.now) ≤ self.old.most }
+        ensures text { self.new ≡ record self.old { text = self.old.text ++ cells_shown cells.now } }
+        ensures len { length self.new.text ≡ length self.old.text + length (cells_shown cells.now) }
+    {
+        self.add_cells(cells);
+    }
+
     /// Appends octets in lower-case hexadecimal, `.` for none.
     #[tactic(auto, using(crate::proofs::Putting::put_all))]
     pub fn put_octets(&mut self, octets: &[u8])

@@ -12,11 +12,12 @@ use Rattle.dch_check.proofs.ConfigSections.{configuration_more}
 use Rattle.dch_check.proofs.BothJudgements.{one_both}
 use Rattle.dch_io.specs.Pieces.{LIMIT}
 use Rattle.dch_lines.proofs.Complete.{consumed, all_consumed}
-use Rattle.dch_top.specs.Checked.{Answers, Checks, HasEnded, Judged}
+use Rattle.dch_check.specs.Configured.{HasEnded}
+use Rattle.dch_top.specs.Checked.{Answers, Checks, Judged}
 use Rattle.dch_top.specs.declared.check.Answer.{Answer}
 use Rattle.dch_top.specs.declared.check.Answer.TheVariants.{Accepted as AcceptedBy, Refused as RefusedBy}
-use Rattle.dch_top.specs.declared.status.Status.{Status}
-use Rattle.dch_top.specs.declared.status.Status.TheVariants.{Ok as Done, Refused, Usage, ReadFault, WriteFault, NoMemory, TooLong}
+use Rattle.dch_check.specs.declared.status.Status.{Status}
+use Rattle.dch_check.specs.declared.status.Status.TheVariants.{Ok as Done, Refused, Usage, ReadFault, WriteFault, NoMemory, TooLong}
 
 -- the line of a judgement is written, or a front of it
 pub answered : (a b k l : Option (List ℕ)) (f g h i : ℕ) (answer : Answer) (status : Status) → Judged (span a b f g) (Ok answer) → Answers (span k l h i) answer status → Checks (span a b f g) (span k l h i) status

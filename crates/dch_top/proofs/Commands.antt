@@ -10,8 +10,8 @@ use Rattle.dch_top.specs.declared.arguments.Arguments.{Arguments}
 use Rattle.dch_top.proofs.Meanings.{one_meaning}
 use Rattle.dch_top.specs.Benches.{Nodes, no_nodes}
 use Rattle.dch_top.specs.Ran.{Asks, Ran, Runs, Says}
-use Rattle.dch_top.specs.declared.status.Status.{Status}
-use Rattle.dch_top.specs.declared.status.Status.TheVariants.{NoMemory}
+use Rattle.dch_check.specs.declared.status.Status.{Status}
+use Rattle.dch_check.specs.declared.status.Status.TheVariants.{NoMemory}
 
 -- the words name a command
 pub ran_command : (words : List (String Global)) (arguments : Arguments) (source sink : End) (nodes : Nodes) (status : Status) → Says words arguments → Runs arguments.subcommand arguments source sink nodes status → Ran words source sink nodes status

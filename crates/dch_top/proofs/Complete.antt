@@ -16,8 +16,8 @@ use Rattle.dch_lines.proofs.Complete.{completes as follows_all, never_lacks, Tak
 use Rattle.dch_top.specs.Overlong.{encoding_refuses_long}
 use Rattle.dch_top.specs.Encoded.{Encodes, AreGood, beginning}
 use Rattle.dch_top.specs.EncodeText.{encoding}
-use Rattle.dch_top.specs.declared.status.Status.{Status}
-use Rattle.dch_top.specs.declared.status.Status.TheVariants.{Ok, Refused, Usage, ReadFault, WriteFault, NoMemory, TooLong}
+use Rattle.dch_check.specs.declared.status.Status.{Status}
+use Rattle.dch_check.specs.declared.status.Status.TheVariants.{Ok, Refused, Usage, ReadFault, WriteFault, NoMemory, TooLong}
 
 error_is_none : {T E : Type 0} (r : Result T E) (e : E) → r ≡ Err e → IsOk r → ⊥
 error_is_none (Good value) e same ok = cc

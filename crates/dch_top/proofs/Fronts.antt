@@ -14,10 +14,10 @@ use Rattle.dch_check.proofs.BothJudgements.{one_both}
 use Rattle.dch_check.proofs.Judgements.{accepted_so, same_config}
 use Rattle.dch_check.proofs.Singles.{one_single}
 use Rattle.dch_lines.specs.Coming.{coming, CanFollow}
-use Rattle.dch_top.specs.Fronts.{AdmitsFront, RefusesFront}
+use Rattle.dch_check.specs.Fronts.{AdmitsFront, RefusesFront}
 use Rattle.dch_top.specs.NodeRuns.{later_of}
-use Rattle.dch_top.specs.declared.front.FrontKind.{FrontKind}
-use Rattle.dch_top.specs.declared.front.FrontKind.TheVariants.{Single, Both}
+use Rattle.dch_check.specs.declared.front.FrontKind.{FrontKind}
+use Rattle.dch_check.specs.declared.front.FrontKind.TheVariants.{Single, Both}
 
 pub one_front : (kind : FrontKind) (text line : List ℕ) (accepted : Configurations) → AdmitsFront kind text accepted → RefusesFront kind text line → ⊥
 one_front Single text line accepted admits refuses = one_single text (accepted_line (count_of accepted.first.config)) line (accepted_so text accepted.first admits.0.first) admits.1 refuses

@@ -16,11 +16,12 @@ use Rattle.dch_check.specs.declared.taken_config.TakenConfig.{TakenConfig}
 use Rattle.dch_check.specs.declared.taken_config.ConfigFault.{ConfigFault}
 use Rattle.dch_check.specs.declared.taken_config.ConfigFault.TheVariants as fault
 use Rattle.dch_check.proofs.ConfigSections.{configuration_more}
-use Rattle.dch_top.specs.Checked.{HasEnded, Judged, JudgesText, PassesOver, fault_status}
+use Rattle.dch_check.specs.Configured.{HasEnded, fault_status}
+use Rattle.dch_top.specs.Checked.{Judged, JudgesText, PassesOver}
 use Rattle.dch_top.specs.declared.check.Answer.{Answer}
 use Rattle.dch_top.specs.declared.check.Answer.TheVariants.{Accepted as AcceptedBy, Refused as RefusedBy}
-use Rattle.dch_top.specs.declared.status.Status.{Status}
-use Rattle.dch_top.specs.declared.status.Status.TheVariants.{NoMemory, ReadFault, TooLong}
+use Rattle.dch_check.specs.declared.status.Status.{Status}
+use Rattle.dch_check.specs.declared.status.Status.TheVariants.{NoMemory, ReadFault, TooLong}
 
 -- the rest of an input is taken, and has not ended
 pub record Passing (source : End) (first count : ℕ) : Type 0 where

@@ -10,7 +10,6 @@ pub mod Fronts
 pub mod NodeRuns
 pub mod Outcomes
 pub mod PairComplete
-pub mod Scripts
 pub mod SoftRuns
 pub mod LedRows
 pub mod SoftRows

@@ -15,7 +15,7 @@ use Rattle.dch_runlaw.specs.LinkcmdRules.{link_lines}
 use Rattle.dch_runlaw.specs.LinkcmdRun.{Run}
 use Rattle.dch_runlaw.proofs.Headline.{carried}
 use Rattle.dch_top.specs.Benches.{Nodes}
-use Rattle.dch_top.specs.Configured.{ArePlannedAs, FollowsScript, outcome_status, script_begin}
+use Rattle.dch_check.specs.Configured.{ArePlannedAs, FollowsScript, outcome_status, script_begin}
 use Rattle.dch_top.specs.LinkHandled.{CarriesHandled, CarriesSoFar, CutsOpen, EndsAs, EndsRefused, EndsWhole}
 use Rattle.dch_top.specs.LinkRuns.{RunsLink, run_of}
 use Rattle.dch_top.specs.NodeRuns.{later_of}
@@ -23,9 +23,9 @@ use Rattle.dch_top.specs.Ran.{Runs}
 use Rattle.dch_top.specs.declared.arguments.Arguments.{Arguments}
 use Rattle.dch_top.specs.declared.arguments.Subcommand.{Subcommand}
 use Rattle.dch_top.specs.declared.arguments.Subcommand.TheVariants.{Link}
-use Rattle.dch_top.specs.declared.status.Status.{Status}
-use Rattle.dch_top.specs.declared.status.Status.TheVariants.{Ok as Well, Refused, ReadFault, WriteFault, TooLong}
-use Rattle.dch_top.specs.declared.front.FrontKind.TheVariants.{Both}
+use Rattle.dch_check.specs.declared.status.Status.{Status}
+use Rattle.dch_check.specs.declared.status.Status.TheVariants.{Ok as Well, Refused, ReadFault, WriteFault, TooLong}
+use Rattle.dch_check.specs.declared.front.FrontKind.TheVariants.{Both}
 use Rattle.dch_top.proofs.Cutting.{CutsOne, cut_in, parted}
 use Rattle.dch_top.proofs.Fronts.{second_follows}
 use Rattle.dch_top.proofs.LinkUnits.{laters}

@@ -20,14 +20,14 @@ use Rattle.dch_top.specs.declared.arguments.Subcommand.TheVariants.{Link}
 use Rattle.dch_top.proofs.Fronts.{second_follows}
 use Rattle.dch_top.proofs.Outcomes.{only_well}
 use Rattle.dch_top.specs.Benches.{Nodes}
-use Rattle.dch_top.specs.Configured.{EndsLate, FollowsScript}
+use Rattle.dch_check.specs.Configured.{EndsLate, FollowsScript}
 use Rattle.dch_top.specs.LinkRuns.{RunsLink, run_of}
 use Rattle.dch_top.specs.LinkUnits.{CarriesUnits}
 use Rattle.dch_top.specs.NodeRuns.{later_of}
 use Rattle.dch_top.specs.Ran.{Runs}
-use Rattle.dch_top.specs.declared.status.Status.{Status}
-use Rattle.dch_top.specs.declared.status.Status.TheVariants.{Ok as Well}
-use Rattle.dch_top.specs.declared.front.FrontKind.TheVariants.{Both}
+use Rattle.dch_check.specs.declared.status.Status.{Status}
+use Rattle.dch_check.specs.declared.status.Status.TheVariants.{Ok as Well}
+use Rattle.dch_check.specs.declared.front.FrontKind.TheVariants.{Both}
 
 -- a second configuration keeps its limits, and can follow the first one
 pub laters : (first : Planned) (second : Option Second) → IfSome second (λ s. IsPlanned s.accepted) → IfSome (later_of second) (CanFollow first) → IfSome (later_of second) (IsLater first)

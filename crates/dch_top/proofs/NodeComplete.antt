@@ -48,17 +48,16 @@ use Rattle.dch_top.specs.declared.arguments.Subcommand.{Subcommand}
 use Rattle.dch_top.specs.declared.arguments.Subcommand.TheVariants.{Check, Encode, NodeB, Rnc, Ue, Link, Soft, Gen, Pair}
 use Rattle.dch_top.specs.declared.arguments.Arguments.{Arguments}
 use Rattle.dch_top.specs.Benches.{Nodes}
-use Rattle.dch_top.specs.Checked.{HasEnded}
-use Rattle.dch_top.specs.Configured.{EndsEarly, EndsLate, FollowsScript, RunsConfigured, outcome_status}
-use Rattle.dch_top.specs.Fronts.{AdmitsFront, RefusesFront}
+use Rattle.dch_check.specs.Configured.{EndsEarly, EndsLate, FollowsScript, HasEnded, RunsConfigured, outcome_status}
+use Rattle.dch_check.specs.Fronts.{AdmitsFront, RefusesFront}
 use Rattle.dch_top.specs.LinkRuns.{AreLinkLines, run_of as link_run_of}
 use Rattle.dch_top.specs.NodeRuns.{AreNodeLines, later_of, run_of}
 use Rattle.dch_top.specs.Ran.{AreEventsFor, Runs, front_kind}
 use Rattle.dch_top.specs.SoftRuns.{AreSoftLines}
-use Rattle.dch_top.specs.declared.status.Status.{Status}
-use Rattle.dch_top.specs.declared.status.Status.TheVariants.{Ok as Well, Refused, Usage, ReadFault, WriteFault, NoMemory, TooLong}
-use Rattle.dch_top.specs.declared.front.FrontKind.{FrontKind}
-use Rattle.dch_top.specs.declared.front.FrontKind.TheVariants.{Single, Both}
+use Rattle.dch_check.specs.declared.status.Status.{Status}
+use Rattle.dch_check.specs.declared.status.Status.TheVariants.{Ok as Well, Refused, Usage, ReadFault, WriteFault, NoMemory, TooLong}
+use Rattle.dch_check.specs.declared.front.FrontKind.{FrontKind}
+use Rattle.dch_check.specs.declared.front.FrontKind.TheVariants.{Single, Both}
 use Rattle.dch_top.proofs.Checks.{same_configuration}
 use Rattle.dch_top.proofs.Fronts.{AreAlike, one_front, same_front}
 use Rattle.dch_top.proofs.SoftStays.{soft_lines_stay}

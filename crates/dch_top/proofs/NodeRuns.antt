@@ -4,11 +4,11 @@ use Rattle.dch_io.specs.Ends.{End}
 use Rattle.dch_check.specs.declared.both.Configurations.{Configurations}
 use Rattle.dch_lines.specs.Semantics.{Semantics}
 use Rattle.dch_top.specs.Benches.{Nodes, no_nodes}
-use Rattle.dch_top.specs.Configured.{RunsConfigured}
+use Rattle.dch_check.specs.Configured.{RunsConfigured}
 use Rattle.dch_top.specs.NodeRuns.{RunsWith}
-use Rattle.dch_top.specs.declared.status.Status.{Status}
-use Rattle.dch_top.specs.declared.status.Status.TheVariants.{Ok, Refused, Usage, ReadFault, WriteFault, NoMemory, TooLong}
-use Rattle.dch_top.specs.declared.front.FrontKind.{FrontKind}
+use Rattle.dch_check.specs.declared.status.Status.{Status}
+use Rattle.dch_check.specs.declared.status.Status.TheVariants.{Ok, Refused, Usage, ReadFault, WriteFault, NoMemory, TooLong}
+use Rattle.dch_check.specs.declared.front.FrontKind.{FrontKind}
 
 pub runs_ill : {S : Type 0} {kind : FrontKind} (semantics : Semantics S) (opened : Configurations → S) (Holds : Nodes → S → Type 0) (source sink : End) (nodes : Nodes) (status : Status) → nodes ≡ no_nodes → RunsConfigured kind semantics opened (λ run. Unit {0}) source sink status × (status ≢ Ok)
     → RunsWith kind semantics opened Holds source sink nodes status

@@ -2,8 +2,8 @@
 use Rattle.std.proofs.Common.{◌≡◌, refl}
 use Rattle.dch_lines.specs.declared.stop.Outcome.{Outcome}
 use Rattle.dch_lines.specs.declared.stop.Outcome.TheVariants.{Ok as Done, Refused as MetMalformed, ReadFault as FailedReading, WriteFault as FailedWriting, NoMemory as Lacking, TooLong as TookTooMuch}
-use Rattle.dch_top.specs.declared.status.Status.TheVariants.{Ok as Well}
-use Rattle.dch_top.specs.Configured.{outcome_status}
+use Rattle.dch_check.specs.declared.status.Status.TheVariants.{Ok as Well}
+use Rattle.dch_check.specs.Configured.{outcome_status}
 
 pub only_well : (outcome : Outcome) → Well ≡ outcome_status outcome → outcome ≡ Done
 only_well Done same = refl

@@ -14,8 +14,8 @@ use Rattle.dch_paircmd.specs.Ends.{Ends}
 use Rattle.dch_paircmd.specs.Overlong.{pair_refuses_long}
 use Rattle.dch_paircmd.specs.Rules.{pair_lines}
 use Rattle.dch_top.specs.PairRuns.{ArePairLines, FollowsPair, RunsPair, pair_begin}
-use Rattle.dch_top.specs.declared.status.Status.{Status}
-use Rattle.dch_top.specs.declared.status.Status.TheVariants.{Ok, Refused, Usage, ReadFault, WriteFault, NoMemory, TooLong}
+use Rattle.dch_check.specs.declared.status.Status.{Status}
+use Rattle.dch_check.specs.declared.status.Status.TheVariants.{Ok, Refused, Usage, ReadFault, WriteFault, NoMemory, TooLong}
 
 -- what the handler does is the work from its beginning
 pub pair_followed : {C : Type 0} (represents : Option Ends → C → Type 0) (source sink : End) (old new : Progress C) (part : List ℕ) (result outcome : Outcome) → LeadsOn represents old new (λ before after. FollowsInput pair_lines source sink before after.handler part result)

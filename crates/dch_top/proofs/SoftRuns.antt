@@ -11,10 +11,10 @@ use Rattle.dch_runlaw.specs.SoftRules.{soft_lines}
 use Rattle.dch_runlaw.specs.SoftRun.{Run, opened_run}
 use Rattle.dch_nodecmd.specs.UeValues.{Node as Ue}
 use Rattle.dch_top.specs.Benches.{Nodes, node_bs_of}
-use Rattle.dch_top.specs.Configured.{EndsLate, FollowsScript}
+use Rattle.dch_check.specs.Configured.{EndsLate, FollowsScript}
 use Rattle.dch_top.specs.SoftRuns.{HaveRunHistories, HoldsSoft, RunsLines, RunsSoft}
-use Rattle.dch_top.specs.declared.status.Status.TheVariants.{Ok as Well}
-use Rattle.dch_top.specs.declared.front.FrontKind.TheVariants.{Single}
+use Rattle.dch_check.specs.declared.status.Status.TheVariants.{Ok as Well}
+use Rattle.dch_check.specs.declared.front.FrontKind.TheVariants.{Single}
 use Rattle.dch_top.proofs.Outcomes.{only_well}
 use Rattle.dch_top.proofs.SoftStays.{soft_lines_stay}
 

@@ -35,11 +35,11 @@ use Rattle.dch_runlaw.proofs.Taking.{leg_takes}
 use Rattle.dch_runlaw.proofs.Telling.{run_told}
 use Rattle.dch_runlaw.proofs.Unharmed.{unharmed_gets}
 use Rattle.dch_top.specs.Benches.{Nodes}
-use Rattle.dch_top.specs.Configured.{EndsLate, FollowsScript}
+use Rattle.dch_check.specs.Configured.{EndsLate, FollowsScript}
 use Rattle.dch_top.specs.SoftRuns.{RunsSoft}
 use Rattle.dch_top.specs.SoftUnits.{CarriesHandover, CarriesSoft, HandsUpRows, ShowsUnits}
-use Rattle.dch_top.specs.declared.status.Status.TheVariants.{Ok as Well}
-use Rattle.dch_top.specs.declared.front.FrontKind.TheVariants.{Single}
+use Rattle.dch_check.specs.declared.status.Status.TheVariants.{Ok as Well}
+use Rattle.dch_check.specs.declared.front.FrontKind.TheVariants.{Single}
 use Rattle.dch_top.proofs.Outcomes.{only_well}
 use Rattle.dch_top.proofs.SoftRows.{run_rows}
 

@@ -14,10 +14,10 @@ use Rattle.dch_nodecmd.specs.Rules.{node_lines}
 use Rattle.dch_nodecmd.specs.Run.{Run, frames_in}
 use Rattle.dch_lines.specs.Shown.{shown}
 use Rattle.dch_top.specs.Benches.{Nodes}
-use Rattle.dch_top.specs.Configured.{EndsLate, FollowsScript, ArePlannedAs}
+use Rattle.dch_check.specs.Configured.{EndsLate, FollowsScript, ArePlannedAs}
 use Rattle.dch_top.specs.NodeRuns.{RunsNode, run_of}
-use Rattle.dch_top.specs.declared.status.Status.TheVariants.{Ok as Well}
-use Rattle.dch_top.specs.declared.front.FrontKind.TheVariants.{Both}
+use Rattle.dch_check.specs.declared.status.Status.TheVariants.{Ok as Well}
+use Rattle.dch_check.specs.declared.front.FrontKind.TheVariants.{Both}
 use Rattle.dch_top.proofs.Outcomes.{only_well}
 use Rattle.dch_top.specs.Traces.{Answers, HasLine, IsAnswer, LeavesNoTrace}
 

@@ -4,31 +4,19 @@ use Rattle.std.specs.Io.KnownBytes.{Consumes, Appends, IsAtEnd}
 use Rattle.dch_io.specs.Ends.{End, Breaks, Fails, IsCutShort}
 use Rattle.dch_io.specs.Pieces.{LIMIT}
 use Rattle.dch_check.specs.ConfigSection.{configuration_of, is_complete}
-use Rattle.dch_check.specs.TakenConfigs.{IsTakenSoon, LacksEarly}
+use Rattle.dch_check.specs.TakenConfigs.{LacksEarly}
+use Rattle.dch_check.specs.Configured.{IsRefusedInput}
 use Rattle.dch_check.specs.Both.{AreAccepted, RefusesBoth}
-use Rattle.dch_check.specs.declared.taken_config.ConfigFault.{ConfigFault}
-use Rattle.dch_check.specs.declared.taken_config.ConfigFault.TheVariants as fault
 use Rattle.dch_top.specs.declared.check.Answer.{Answer}
 use Rattle.dch_top.specs.declared.check.Answer.TheVariants.{Accepted as AcceptedBy, Refused as RefusedBy}
-use Rattle.dch_top.specs.declared.status.Status.{Status}
-use Rattle.dch_top.specs.declared.status.Status.TheVariants.{Ok as Done, Refused, Usage, ReadFault, WriteFault, NoMemory, TooLong}
+use Rattle.dch_check.specs.declared.status.Status.{Status}
+use Rattle.dch_check.specs.declared.status.Status.TheVariants.{Ok as Done, Refused, Usage, ReadFault, WriteFault, NoMemory, TooLong}
 
 -- the input was taken to its end, and its configurations are accepted by these lines
 pub record IsGoodInput (source : End) (taken lines : List ℕ) : Type 0 where
   pub end : IsAtEnd source.now
   pub within : length taken ≤ LIMIT
   pub good : AreAccepted (configuration_of taken) lines
-
--- the configuration is complete: the line `---` was taken, or the input ended
-abbrev pub HasEnded : End → List ℕ → Type 0
-HasEnded source taken = (is_complete taken ≡ true) ⊎ IsAtEnd source.now
-
--- what stands in front is refused by this line, with the piece that completes it
-pub record IsRefusedInput (Refuses : List ℕ → List ℕ → Type 0) (source : End) (taken line : List ℕ) : Type 0 where
-  pub within : length taken ≤ LIMIT
-  pub ended : HasEnded source taken
-  pub refuses : Refuses (configuration_of taken) line
-  pub soon : IsTakenSoon taken
 
 -- no configuration that is complete is refused
 abbrev pub IsGoodSoFar : List ℕ → Type 0
@@ -74,12 +62,6 @@ pub record Checks (source sink : End) (status : Status) : Type 0 where
 abbrev pub answer_line : Answer → List ℕ
 answer_line (AcceptedBy line) = string_bytes line
 answer_line (RefusedBy line) = string_bytes line
-
--- the status of a fault before a configuration was taken whole
-abbrev pub fault_status : ConfigFault → Status
-fault_status fault.ReadFault = ReadFault
-fault_status fault.NoMemory = NoMemory
-fault_status fault.TooLong = TooLong
 
 -- what judging the bytes taken finds
 abbrev pub Finds : End → List ℕ → Result Answer Status → Type 0

@@ -7,9 +7,9 @@ use Rattle.dch_lines.specs.Followed.{FollowsInput}
 use Rattle.dch_lines.specs.LineTexts.{is_empty}
 use Rattle.dch_lines.specs.declared.stop.Outcome.TheVariants.{Ok as Done, Refused as MetMalformed, ReadFault as FailedReading, WriteFault as FailedWriting, TooLong as TookTooMuch}
 use Rattle.dch_top.specs.EncodeText.{encoding}
-use Rattle.dch_top.specs.Untouched.{IsUntouched}
-use Rattle.dch_top.specs.declared.status.Status.{Status}
-use Rattle.dch_top.specs.declared.status.Status.TheVariants.{Ok, Refused, Usage, ReadFault, WriteFault, NoMemory, TooLong}
+use Rattle.dch_check.specs.Untouched.{IsUntouched}
+use Rattle.dch_check.specs.declared.status.Status.{Status}
+use Rattle.dch_check.specs.declared.status.Status.TheVariants.{Ok, Refused, Usage, ReadFault, WriteFault, NoMemory, TooLong}
 
 -- the work of `encode` before its first line
 abbrev pub beginning : Progress (Unit {0})

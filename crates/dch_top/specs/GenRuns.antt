@@ -7,8 +7,8 @@ use Rattle.dch_nodecmd.specs.RncValues.{Node as Rnc}
 use Rattle.dch_nodecmd.specs.UeValues.{Node as Ue}
 use Rattle.dch_gen.specs.GenRuns.{CutsSummary, WritesSummary}
 use Rattle.dch_top.specs.Benches.{Nodes, no_nodes}
-use Rattle.dch_top.specs.declared.status.Status.{Status}
-use Rattle.dch_top.specs.declared.status.Status.TheVariants.{Ok, WriteFault, NoMemory}
+use Rattle.dch_check.specs.declared.status.Status.{Status}
+use Rattle.dch_check.specs.declared.status.Status.TheVariants.{Ok, WriteFault, NoMemory}
 
 -- the sink took the summary of a run, and the bench holds all three nodes, each of which stands for just what happened
 -- at it in this run

@@ -2,8 +2,6 @@ pub mod LinkHandled
 pub mod LinkUnits
 pub mod Ran
 pub mod Benches
-pub mod Configured
-pub mod Fronts
 pub mod GenRuns
 pub mod LinkRuns
 pub mod NodeBRuns
@@ -18,6 +16,5 @@ pub mod Checked
 pub mod EncodeText
 pub mod Encoded
 pub mod Overlong
-pub mod Untouched
 pub mod Line
 pub mod Parses

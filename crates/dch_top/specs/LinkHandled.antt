@@ -12,12 +12,12 @@ use Rattle.dch_lines.specs.LineTexts.{BeginsLine, HandlesLine, HandlesLines, ref
 use Rattle.dch_runlaw.specs.Headline.{Carries}
 use Rattle.dch_runlaw.specs.LinkcmdRules.{link_lines}
 use Rattle.dch_runlaw.specs.LinkcmdRun.{Run}
-use Rattle.dch_top.specs.Configured.{ArePlannedAs, EndsUnopened, script_begin}
+use Rattle.dch_check.specs.Configured.{ArePlannedAs, EndsUnopened, script_begin}
 use Rattle.dch_top.specs.LinkRuns.{run_of}
 use Rattle.dch_top.specs.NodeRuns.{later_of}
-use Rattle.dch_top.specs.declared.status.Status.{Status}
-use Rattle.dch_top.specs.declared.status.Status.TheVariants.{Ok as Well, Refused, Usage, ReadFault, WriteFault, NoMemory, TooLong}
-use Rattle.dch_top.specs.declared.front.FrontKind.TheVariants.{Both}
+use Rattle.dch_check.specs.declared.status.Status.{Status}
+use Rattle.dch_check.specs.declared.status.Status.TheVariants.{Ok as Well, Refused, Usage, ReadFault, WriteFault, NoMemory, TooLong}
+use Rattle.dch_check.specs.declared.front.FrontKind.TheVariants.{Both}
 
 -- the input was read to its end, all its lines were handled, and the closing line ends the text
 pub record EndsWhole (source : End) (taken : List ℕ) (good : List (List ℕ)) (state : Run) (last : List ℕ) : Type 0 where

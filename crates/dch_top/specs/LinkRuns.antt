@@ -12,11 +12,11 @@ use Rattle.dch_nodecmd.specs.NodebValues.{Node as NodeB}
 use Rattle.dch_nodecmd.specs.RncValues.{Node as Rnc}
 use Rattle.dch_nodecmd.specs.UeValues.{Node as Ue}
 use Rattle.dch_top.specs.Benches.{Nodes}
-use Rattle.dch_top.specs.Configured.{RunsConfigured}
+use Rattle.dch_check.specs.Configured.{RunsConfigured}
 use Rattle.dch_top.specs.NodeRuns.{RunsWith, later_of}
-use Rattle.dch_top.specs.declared.status.Status.{Status}
-use Rattle.dch_top.specs.declared.status.Status.TheVariants.{Ok as Well}
-use Rattle.dch_top.specs.declared.front.FrontKind.TheVariants.{Both}
+use Rattle.dch_check.specs.declared.status.Status.{Status}
+use Rattle.dch_check.specs.declared.status.Status.TheVariants.{Ok as Well}
+use Rattle.dch_check.specs.declared.front.FrontKind.TheVariants.{Both}
 
 -- the run of three nodes before the first line
 abbrev pub run_of : ℕ → Bool → Configurations → Run

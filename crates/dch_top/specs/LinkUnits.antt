@@ -7,9 +7,9 @@ use Rattle.dch_check.specs.ConfigSection.{configuration_of, script_of}
 use Rattle.dch_check.specs.declared.both.Configurations.{Configurations}
 use Rattle.dch_lines.specs.LineTexts.{closing}
 use Rattle.dch_runlaw.specs.Headline.{Carries}
-use Rattle.dch_top.specs.Configured.{ArePlannedAs}
+use Rattle.dch_check.specs.Configured.{ArePlannedAs}
 use Rattle.dch_top.specs.NodeRuns.{later_of}
-use Rattle.dch_top.specs.declared.front.FrontKind.TheVariants.{Both}
+use Rattle.dch_check.specs.declared.front.FrontKind.TheVariants.{Both}
 
 -- the source gave configurations that are accepted, and lines behind them that lead three nodes through a run; the sink
 -- took the line `open`, the text that is shown of the run, and the closing line; and the rows of the text hand up the

@@ -8,7 +8,7 @@ use Rattle.dch_nodecmd.specs.NodeBRules.{node_b_rules}
 use Rattle.dch_nodecmd.specs.Run.{Run}
 use Rattle.dch_top.specs.Benches.{Nodes, no_nodes}
 use Rattle.dch_top.specs.NodeRuns.{HasRunHistory, RunsNode}
-use Rattle.dch_top.specs.declared.status.Status.{Status}
+use Rattle.dch_check.specs.declared.status.Status.{Status}
 
 -- the bench holds just a Node B, which stands for just the events of a run
 abbrev pub HoldsNodeB : Nodes → Run State Event → Type 0

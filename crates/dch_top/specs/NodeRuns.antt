@@ -14,11 +14,11 @@ use Rattle.dch_lines.specs.Coming.{coming}
 use Rattle.dch_nodecmd.specs.Standing.{RepresentsHistory}
 use Rattle.dch_lines.specs.declared.later.Later.{Later}
 use Rattle.dch_top.specs.Benches.{Nodes, no_nodes}
-use Rattle.dch_top.specs.Configured.{RunsConfigured}
-use Rattle.dch_top.specs.declared.status.Status.{Status}
-use Rattle.dch_top.specs.declared.status.Status.TheVariants.{Ok as Well}
-use Rattle.dch_top.specs.declared.front.FrontKind.{FrontKind}
-use Rattle.dch_top.specs.declared.front.FrontKind.TheVariants.{Both}
+use Rattle.dch_check.specs.Configured.{RunsConfigured}
+use Rattle.dch_check.specs.declared.status.Status.{Status}
+use Rattle.dch_check.specs.declared.status.Status.TheVariants.{Ok as Well}
+use Rattle.dch_check.specs.declared.front.FrontKind.{FrontKind}
+use Rattle.dch_check.specs.declared.front.FrontKind.TheVariants.{Both}
 
 -- the second configuration of an input, which is still to come in a run
 abbrev pub later_of : Option Second → Option Later

@@ -10,9 +10,9 @@ use Rattle.dch_lines.specs.declared.stop.Outcome.TheVariants.{Ok as Done, Refuse
 use Rattle.dch_paircmd.specs.Ends.{Ends}
 use Rattle.dch_paircmd.specs.Rules.{pair_lines}
 use Rattle.dch_script.specs.declared.event.LineError.{LineError}
-use Rattle.dch_top.specs.Untouched.{IsUntouched}
-use Rattle.dch_top.specs.declared.status.Status.{Status}
-use Rattle.dch_top.specs.declared.status.Status.TheVariants.{Ok, Refused, Usage, ReadFault, WriteFault, NoMemory, TooLong}
+use Rattle.dch_check.specs.Untouched.{IsUntouched}
+use Rattle.dch_check.specs.declared.status.Status.{Status}
+use Rattle.dch_check.specs.declared.status.Status.TheVariants.{Ok, Refused, Usage, ReadFault, WriteFault, NoMemory, TooLong}
 
 -- the work before the first line, which opens the ends
 abbrev pub pair_begin : Progress (Option Ends)

@@ -22,10 +22,10 @@ use Rattle.dch_top.specs.PairRuns.{RunsPair}
 use Rattle.dch_top.specs.RncRuns.{RunsRnc}
 use Rattle.dch_top.specs.SoftRuns.{AreSoftLines, RunsSoft}
 use Rattle.dch_top.specs.UeRuns.{RunsUe}
-use Rattle.dch_top.specs.declared.status.Status.{Status}
-use Rattle.dch_top.specs.declared.status.Status.TheVariants.{Usage, WriteFault, NoMemory}
-use Rattle.dch_top.specs.declared.front.FrontKind.{FrontKind}
-use Rattle.dch_top.specs.declared.front.FrontKind.TheVariants.{Single, Both}
+use Rattle.dch_check.specs.declared.status.Status.{Status}
+use Rattle.dch_check.specs.declared.status.Status.TheVariants.{Usage, WriteFault, NoMemory}
+use Rattle.dch_check.specs.declared.front.FrontKind.{FrontKind}
+use Rattle.dch_check.specs.declared.front.FrontKind.TheVariants.{Single, Both}
 
 -- the usage line
 abbrev pub usage : List ℕ

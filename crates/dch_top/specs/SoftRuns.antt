@@ -14,11 +14,11 @@ use Rattle.dch_runlaw.specs.SoftRun.{Run, opened_run}
 use Rattle.dch_nodecmd.specs.RncValues.{Node as Rnc}
 use Rattle.dch_nodecmd.specs.UeValues.{Node as Ue}
 use Rattle.dch_top.specs.Benches.{Nodes, node_bs_of}
-use Rattle.dch_top.specs.Configured.{RunsConfigured}
+use Rattle.dch_check.specs.Configured.{RunsConfigured}
 use Rattle.dch_top.specs.NodeRuns.{RunsWith}
-use Rattle.dch_top.specs.declared.status.Status.{Status}
-use Rattle.dch_top.specs.declared.status.Status.TheVariants.{Ok as Well}
-use Rattle.dch_top.specs.declared.front.FrontKind.TheVariants.{Single}
+use Rattle.dch_check.specs.declared.status.Status.{Status}
+use Rattle.dch_check.specs.declared.status.Status.TheVariants.{Ok as Well}
+use Rattle.dch_check.specs.declared.front.FrontKind.TheVariants.{Single}
 
 -- the lines behind the configuration, which stands alone, are those of nodes with so many legs that were opened for it
 abbrev pub RunsLines : ℕ → ℕ → Bool → (Run → Type 0) → End → End → Status → Type 0

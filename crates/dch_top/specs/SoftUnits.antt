@@ -26,8 +26,8 @@ use Rattle.dch_runlaw.specs.SoftScripts.{AreSaid, shown_in}
 use Rattle.dch_runlaw.specs.Told.{IsTold}
 use Rattle.dch_runlaw.specs.Ttis.{InTti, Tti}
 use Rattle.dch_runlaw.specs.UmHistory.{got_lines}
-use Rattle.dch_top.specs.Configured.{ArePlannedAs}
-use Rattle.dch_top.specs.declared.front.FrontKind.TheVariants.{Single}
+use Rattle.dch_check.specs.Configured.{ArePlannedAs}
+use Rattle.dch_check.specs.declared.front.FrontKind.TheVariants.{Single}
 
 -- some moves lead from opened nodes to a point at which a TTI of uplink channel i starts. Leg k gets all its radio
 -- frames as the terminal sent them, its own Iub frame arrives as it was sent, and no other leg has another block as

@@ -14,9 +14,9 @@ use Rattle.dch_nodecmd.specs.NodeRules.{NodeRules, meaning_for}
 use Rattle.dch_nodecmd.specs.Rules.{TakesSaid, config_of, node_lines}
 use Rattle.dch_nodecmd.specs.Run.{Run, frames_in}
 use Rattle.dch_lines.specs.Shown.{shown}
-use Rattle.dch_top.specs.Configured.{ArePlannedAs}
+use Rattle.dch_check.specs.Configured.{ArePlannedAs}
 use Rattle.dch_top.specs.NodeRuns.{run_of}
-use Rattle.dch_top.specs.declared.front.FrontKind.TheVariants.{Both}
+use Rattle.dch_check.specs.declared.front.FrontKind.TheVariants.{Both}
 
 -- the answer to an input of good lines behind accepted configurations, from the line `open` to the line that counts the
 -- radio frames

@@ -3,12 +3,11 @@ ghost use Rattle.dch_io.specs.Ends.{end_of};
 ghost use Rattle.dch_io.specs.Pieces.{LIMIT, PIECE};
 ghost use Rattle.dch_accept.specs.Answers.{count_of};
 ghost use Rattle.dch_check.specs.ConfigSection.{settled};
-ghost use Rattle.dch_top.specs.Checked.{Answers, Checks, Judged, JudgesText, PassesOver, answer_line, fault_status};
+ghost use Rattle.dch_top.specs.Checked.{Answers, Checks, Judged, JudgesText, PassesOver, answer_line};
 
-use crate::status::Status;
 use dch_bits::NoMemory;
 use dch_check::{
-    ConfigFault, ConfigSection, Judgement, Second, accepted_lines, judge_both, take_config,
+    ConfigSection, Judgement, Second, Status, accepted_lines, judge_both, status_of, take_config,
 };
 use dch_io::{ReadStop, Sink, Source, new_piece, read_next, write_all};
 use std::alloc::Global;
@@ -82,17 +81,6 @@ fn judge_taken<S: Source>(alloc: Global, source: &mut S, piece: &mut [u8]) -> Re
         },
         Ok(Answer::Refused(line)) => Ok(Answer::Refused(line)),
         Err(status) => Err(status),
-    }
-}
-
-/// The status of a fault before a configuration was taken whole.
-pub fn status_of(fault: ConfigFault) -> Status
-    ensures { result ≡ fault_status fault }
-{
-    match fault {
-        ConfigFault::ReadFault => Status::ReadFault,
-        ConfigFault::NoMemory => Status::NoMemory,
-        ConfigFault::TooLong => Status::TooLong,
     }
 }
 

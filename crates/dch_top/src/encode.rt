@@ -2,7 +2,7 @@ ghost use Rattle.dch_io.specs.Ends.{end_of};
 ghost use Rattle.dch_top.specs.Encoded.{Encodes};
 
 use crate::encode_handler::EncodeHandler;
-use crate::status::Status;
+use dch_check::Status;
 use dch_io::{InputOffset, Pending, Sink, Source, new_piece};
 use dch_lines::{LineProcessor, Outcome, follow_input};
 use std::alloc::Global;

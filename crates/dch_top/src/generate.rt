@@ -4,7 +4,7 @@ ghost use Rattle.dch_top.specs.Benches.{no_nodes};
 ghost use Rattle.dch_top.specs.GenRuns.{EndsGen};
 
 use crate::bench::Bench;
-use crate::status::Status;
+use dch_check::Status;
 use dch_gen::{GenFault, run_gen};
 use dch_io::Sink;
 use std::alloc::Global;

@@ -5,11 +5,8 @@ ghost use Rattle.dch_top.specs.Benches.{no_nodes};
 ghost use Rattle.dch_top.specs.LinkRuns.{GivesNodes, RunsLink};
 
 use crate::bench::Bench;
-use crate::configured::{follow_script, take_configuration};
-use crate::front::FrontKind;
 use crate::node_run::later_of;
-use crate::status::Status;
-use dch_check::Configurations;
+use dch_check::{Configurations, FrontKind, Status, follow_script, take_configuration};
 use dch_io::{Sink, Source, new_piece};
 use dch_nodecmd::NodeB;
 use dch_nodecmd::dch_rnc::Rnc;

@@ -3,10 +3,7 @@ ghost use Rattle.dch_io.specs.Ends.{end_of};
 ghost use Rattle.dch_io.specs.Pieces.{PIECE};
 ghost use Rattle.dch_top.specs.NodeRuns.{GivesNode, later_of};
 
-use crate::configured::{follow_script, take_configuration};
-use crate::front::FrontKind;
-use crate::status::Status;
-use dch_check::{Configurations, Second};
+use dch_check::{Configurations, FrontKind, Second, Status, follow_script, take_configuration};
 use dch_io::{Sink, Source, new_piece};
 use dch_lines::Later;
 use dch_nodecmd::{CommandNode, NodeHandler};

@@ -4,8 +4,8 @@ ghost use Rattle.dch_io.specs.Pieces.{PIECE};
 ghost use Rattle.dch_paircmd.specs.Standing.{RepresentsRun};
 ghost use Rattle.dch_top.specs.PairRuns.{BeginsPair, FollowsAs, RunsPair};
 
-use crate::status::Status;
 use dch_bits::NoMemory;
+use dch_check::Status;
 use dch_io::{InputOffset, Pending, Sink, Source, new_piece};
 use dch_lines::{LineProcessor, Outcome, follow_input};
 use dch_paircmd::PairHandler;

@@ -7,10 +7,7 @@ ghost use Rattle.dch_top.specs.SoftRuns.{GivesNodes, RunsSoft};
 
 use crate::arguments::Arguments;
 use crate::bench::Bench;
-use crate::configured::{follow_script, take_configuration};
-use crate::front::FrontKind;
-use crate::status::Status;
-use dch_check::Configurations;
+use dch_check::{Configurations, FrontKind, Status, follow_script, take_configuration};
 use dch_gen::Leg;
 use dch_io::{Sink, Source, new_piece};
 use dch_nodecmd::dch_rnc::Rnc;

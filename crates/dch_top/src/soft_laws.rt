@@ -4,7 +4,7 @@ ghost use Rattle.dch_top.specs.Benches.{Nodes};
 ghost use Rattle.dch_top.specs.Parses.{AreLegs};
 ghost use Rattle.dch_top.specs.SoftRuns.{RunsSoft};
 ghost use Rattle.dch_top.specs.SoftUnits.{CarriesHandover};
-ghost use Rattle.dch_top.specs.declared.status.Status.TheVariants.{Ok};
+ghost use Rattle.dch_check.specs.declared.status.Status.TheVariants.{Ok};
 
 /// A law of `soft`. Where a run answers 0 its lines led the terminal, the Node Bs of the legs and the network
 /// controller through a run, of which the text is shown, whatever damage came on any leg. A TTI of which one leg gets

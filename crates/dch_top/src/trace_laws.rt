@@ -8,7 +8,7 @@ ghost use Rattle.dch_top.specs.Benches.{Nodes};
 ghost use Rattle.dch_top.specs.NodeBRuns.{RunsNodeB};
 ghost use Rattle.dch_top.specs.NodeRuns.{run_of};
 ghost use Rattle.dch_top.specs.RncRuns.{RunsRnc};
-ghost use Rattle.dch_top.specs.declared.status.Status.TheVariants.{Ok};
+ghost use Rattle.dch_check.specs.declared.status.Status.TheVariants.{Ok};
 ghost use Rattle.dch_top.specs.Traces.{Answers, HasLine, IsAnswer, IsAnsweredBad, LeavesNoTrace};
 
 /// A law of `nodeb`. A run that answers 0 wrote the answer to the input that it took. And where a line of an input

@@ -5,7 +5,7 @@ ghost use Rattle.dch_top.specs.UeRuns.{RunsUe};
 
 use crate::bench::Bench;
 use crate::node_run::run_node;
-use crate::status::Status;
+use dch_check::Status;
 use dch_io::{Sink, Source};
 use dch_nodecmd::UeLines;
 use std::alloc::Global;

@@ -33,7 +33,7 @@ class Case:
 
 def cases_of(*commands: str) -> Iterator[Case]:
     """The cases of these commands whose input is text."""
-    for out in sorted([*top.glob('examples/*.out'), *top.glob('tests/*/*.out')]):
+    for out in sorted([*top.glob('examples/**/*.out'), *top.glob('tests/*/*.out')]):
         rows = dict(row.split(' ', 1) for row in words_of(out.parent) if ' ' in row)
         words = shlex.split(rows.get(out.stem, out.parent.name))
         inputs = [out.with_suffix(end) for end in ('.in', '.txt', '.toml') if out.with_suffix(end).exists()]

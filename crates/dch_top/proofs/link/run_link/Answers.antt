@@ -3,8 +3,8 @@ use Rattle.dch_runlaw.specs.LinkcmdRules.{link_lines}
 use Rattle.dch_top.specs.Benches.{Nodes}
 use Rattle.dch_top.specs.LinkRuns.{HaveRunHistories, HoldsLink, run_of}
 use Rattle.dch_top.specs.NodeRuns.{IfWell}
-use Rattle.dch_top.specs.declared.status.Status.TheVariants.{Ok as Well}
-use Rattle.dch_top.proofs.Scripts.{runs_with}
+use Rattle.dch_check.specs.declared.status.Status.TheVariants.{Ok as Well}
+use Rattle.dch_check.proofs.Scripts.{runs_with}
 use Rattle.dch_top.proofs.link.run_link.Goals as goal
 
 pub returns-in-Ok : goal.returns-in-Ok

@@ -10,9 +10,9 @@ use Rattle.dch_runlaw.specs.LinkcmdStanding.{RepresentsRun}
 use Rattle.dch_lines.specs.Coming.{CanFollow}
 use Rattle.dch_lines.specs.declared.later.Later.{Later}
 use Rattle.dch_top.specs.LinkRuns.{HaveRunHistories, run_of}
-use Rattle.dch_top.specs.declared.status.Status.TheVariants.{NoMemory}
+use Rattle.dch_check.specs.declared.status.Status.TheVariants.{NoMemory}
 use Rattle.dch_top.proofs.Fronts.{second_follows}
-use Rattle.dch_top.proofs.Scripts.{runs_configured, stops_configured}
+use Rattle.dch_check.proofs.Scripts.{runs_configured, stops_configured}
 use Rattle.dch_top.proofs.link.run_link_pieces.Goals as goal
 
 pub open-requires-clause-follows : goal.open-requires-clause-follows

@@ -8,9 +8,9 @@ use Rattle.dch_nodecmd.specs.Standing.{RepresentsHistory, RepresentsRun}
 use Rattle.dch_lines.specs.Coming.{CanFollow}
 use Rattle.dch_lines.specs.declared.later.Later.{Later}
 use Rattle.dch_top.specs.NodeRuns.{HasRunHistory, run_of}
-use Rattle.dch_top.specs.declared.status.Status.TheVariants.{NoMemory}
+use Rattle.dch_check.specs.declared.status.Status.TheVariants.{NoMemory}
 use Rattle.dch_top.proofs.Fronts.{second_follows}
-use Rattle.dch_top.proofs.Scripts.{runs_configured, stops_configured}
+use Rattle.dch_check.proofs.Scripts.{runs_configured, stops_configured}
 use Rattle.dch_top.proofs.node_run.run_pieces.Goals as goal
 
 pub open-requires-clause-follows : goal.open-requires-clause-follows

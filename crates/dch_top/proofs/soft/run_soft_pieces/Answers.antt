@@ -7,8 +7,8 @@ use Rattle.dch_gen.specs.LinkSoftStanding.{HaveHistories}
 use Rattle.dch_runlaw.specs.SoftRules.{soft_lines}
 use Rattle.dch_runlaw.specs.SoftRun.{Run, opened_run}
 use Rattle.dch_top.specs.SoftRuns.{HaveRunHistories}
-use Rattle.dch_top.specs.declared.status.Status.TheVariants.{NoMemory}
-use Rattle.dch_top.proofs.Scripts.{runs_configured, stops_configured}
+use Rattle.dch_check.specs.declared.status.Status.TheVariants.{NoMemory}
+use Rattle.dch_check.proofs.Scripts.{runs_configured, stops_configured}
 use Rattle.dch_top.proofs.soft.run_soft_pieces.Goals as goal
 
 pub returns-in-Ok-follow_script : goal.returns-in-Ok-follow_script

@@ -5,8 +5,8 @@ use Rattle.dch_nodecmd.specs.Rules.{node_lines}
 use Rattle.dch_top.specs.Benches.{Nodes}
 use Rattle.dch_top.specs.UeRuns.{HoldsUe}
 use Rattle.dch_top.specs.NodeRuns.{HasRunHistory, IfWell, run_of}
-use Rattle.dch_top.specs.declared.status.Status.TheVariants.{Ok as Well}
-use Rattle.dch_top.proofs.Scripts.{runs_with}
+use Rattle.dch_check.specs.declared.status.Status.TheVariants.{Ok as Well}
+use Rattle.dch_check.proofs.Scripts.{runs_with}
 use Rattle.dch_top.proofs.ue.run_ue.Goals as goal
 
 pub returns-in-Ok : goal.returns-in-Ok

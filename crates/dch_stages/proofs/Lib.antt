@@ -1,0 +1,10 @@
+pub mod Parts
+pub mod SentCells
+pub mod Matched
+pub mod Steps
+pub mod Shown
+pub mod Asking
+pub mod Codes
+pub mod Blocks
+pub mod SentSame
+pub mod Lines

@@ -1,0 +1,10 @@
+pub mod Coded
+pub mod Cells
+pub mod Texts
+pub mod TtiLines
+pub mod FrameLines
+pub mod Rules
+pub mod Standing
+pub mod Showing
+pub mod Overlong
+pub mod Runs
