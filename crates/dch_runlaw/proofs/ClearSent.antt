@@ -34,7 +34,7 @@ pub record IsSentRadio (planned : Planned) (dir : Dir) (multiplexed : List Loade
   pub cells : radio.cells ≡ frame.cells
 
 -- is kept as it was sent
-kept_sent : (planned : Planned) (dir : Dir) (multiplexed : List Loaded → ℕ → ℕ → ℕ → Trit) (i m c : ℕ) (loaded : Loaded) (o : Option Radio) (kept : RxFrame) → length (side_of planned.config dir).combinations ≤ 128
+pub kept_sent : (planned : Planned) (dir : Dir) (multiplexed : List Loaded → ℕ → ℕ → ℕ → Trit) (i m c : ℕ) (loaded : Loaded) (o : Option Radio) (kept : RxFrame) → length (side_of planned.config dir).combinations ≤ 128
     → HasRadio (IsSentRadio planned dir multiplexed i m c loaded) o → KeepsRadio planned dir o kept → IsSentFrame planned dir multiplexed i m c loaded kept
 kept_sent planned dir multiplexed i m c loaded o kept few has keeps =
     let s : IsSentRadio planned dir multiplexed i m c loaded has.radio = has.sent in

@@ -22,7 +22,7 @@ found_listed planned (Some radio) kept c keeps found =
     let is : IsFound planned Down radio.tfci (length radio.cells) c = subst (Finds planned Down radio.tfci (length radio.cells)) found keeps.found in
     is.listed
 
-heard_listed : (planned : Planned) (cfn i : ℕ) (frames : ℕ → Option Radio) (reader : RxFrames) → AreHeard planned Down cfn frames reader → AreListed planned i reader
+pub heard_listed : (planned : Planned) (cfn i : ℕ) (frames : ℕ → Option Radio) (reader : RxFrames) → AreHeard planned Down cfn frames reader → AreListed planned i reader
 heard_listed planned cfn i frames reader heard n c below found =
     let k : ℕ = tti_place reader.cfn (channel_at planned.config.downlink.side i).frames n in
     found_listed planned (frames k) (rx_frame_at reader.frames k) c (heard.kept k (mod_below _ 8 (omega arith))) found

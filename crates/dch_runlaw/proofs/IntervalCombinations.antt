@@ -1,4 +1,5 @@
--- The radio frames of a TTI that all arrive are kept to its end, and the combination of each is found.
+-- The radio frames of a TTI that all arrive, with few TFCI bits wrong, are kept to its end, and the combination of each
+-- is found.
 use Rattle.std.proofs.Common.{◌≡◌, ◌<◌, ◌≤◌, ◌+◌, ◌%◌, ◌∙◌, ℕ, List, [], ◌∷◌, true, false, Option, Some, arith, refl, sym, ap, subst}
 use Rattle.std.specs.Prelude.{◌==◌, if◌then◌else◌}
 use Rattle.std.proofs.lemmas.Bool.{eq-eqb, ne_eqb}
@@ -9,8 +10,8 @@ use Rattle.dch_types.specs.declared.channel.Dir.{Dir}
 use Rattle.dch_types.specs.declared.channel.Dir.TheVariants.{Down, Up}
 use Rattle.dch_types.specs.Limits.{IsFrames}
 use Rattle.dch_accept.specs.Plans.{IsPlanned, Planned}
-use Rattle.dch_tti.specs.RxFrames.{IsKept, RxFrame, RxFrames, rx_frame_at}
-use Rattle.dch_tti.proofs.Written.{kept-written}
+use Rattle.dch_tti.specs.Damaged.{IsLittleDamaged}
+use Rattle.dch_tti.specs.RxFrames.{RxFrame, RxFrames, rx_frame_at}
 use Rattle.dch_dlphy.specs.Frames.{multiplexed as down_multiplexed}
 use Rattle.dch_ulphy.specs.Frames.{multiplexed as up_multiplexed}
 use Rattle.dch_damage.specs.Damage.{radio_after}
@@ -24,15 +25,16 @@ use Rattle.dch_linkcmd.specs.UeSteps.{IsRadioFrame as IsUpFrame}
 use Rattle.dch_linkcmd.specs.LinkLink.{LinkState}
 use Rattle.dch_runlaw.specs.Frames.{IsFrame}
 use Rattle.dch_runlaw.specs.Runs.{Between, Event, Frame, Runs}
-use Rattle.dch_runlaw.specs.Intervals.{AllArrive, ArrivesAsSent, FindsAll, FindsCombination, InFrames, Tti, frames_come, frames_in, radio_sent}
+use Rattle.dch_runlaw.specs.Intervals.{ArrivesDamaged, FindsAll, FindsCombination, InFrames, InTti, Tti, frames_come, frames_in, radio_sent}
 use Rattle.dch_runlaw.proofs.ClearBetween.{Same, between}
 use Rattle.dch_runlaw.proofs.ClearTtis.{by_four}
 use Rattle.dch_runlaw.proofs.CountedFrames.{frames_passed}
+use Rattle.dch_runlaw.proofs.DamagedFrame.{kept-damaged}
 use Rattle.dch_runlaw.proofs.IntervalAgree.{Agree, Parts, parts, runs_agree, stays}
 use Rattle.dch_runlaw.proofs.IntervalUp.{Starts, starts_in}
 
 -- what has come to the far end, with one radio frame more
-come_next : (planned : Planned) (dir : Dir) (old new : LinkState) (lines : List Line) (f : IsFrame old new lines) → IsPlanned planned → Agree planned old → (k : ℕ) → frames_come dir new k ≡ (if k == old.rnc.state.cfn % 8 then radio_after old.damage dir (radio_sent dir old new lines f) else frames_come dir old k)
+pub come_next : (planned : Planned) (dir : Dir) (old new : LinkState) (lines : List Line) (f : IsFrame old new lines) → IsPlanned planned → Agree planned old → (k : ℕ) → frames_come dir new k ≡ (if k == old.rnc.state.cfn % 8 then radio_after old.damage dir (radio_sent dir old new lines f) else frames_come dir old k)
 come_next planned Down old new lines f good a k =
     let p : Parts planned old new lines f = parts planned old new lines f good a in
     ap (λ (x : UeState). x.frames k) p.ticks.state
@@ -56,7 +58,7 @@ come_elsewhere planned dir old new lines f good a k away =
     let other : (k == old.rnc.state.cfn % 8) ≡ false = ne_eqb k (old.rnc.state.cfn % 8) away in
     come_next planned dir old new lines f good a k ∙ ap (λ b. if b then radio_after old.damage dir (radio_sent dir old new lines f) else frames_come dir old k) other
 
-come_between : (dir : Dir) (old new : LinkState) → Same old new → (k : ℕ) → frames_come dir new k ≡ frames_come dir old k
+pub come_between : (dir : Dir) (old new : LinkState) → Same old new → (k : ℕ) → frames_come dir new k ≡ frames_come dir old k
 come_between Down old new r k = ap (λ (g : ℕ → Option Radio). g k) r.ue_frames
 come_between Up old new r k = ap (λ (b : NodeBState). b.frames k) r.node_b
 
@@ -103,47 +105,49 @@ stay_to planned dir (Frame ∷ events) old last new lines own run f good a few =
     (behind ∙ on ∙ come_here planned dir old run.next run.own run.step.frame good a, stay_to planned dir events run.next last new run.rest own run.later f good p.agree (omega (arith, less)))
 
 -- the combination of one that is there is found
-find_down : (planned : Planned) (reader : RxFrames) (old new : LinkState) (lines : List Line) (f : IsFrame old new lines) → IsPlanned planned → Agree planned old → (arrives : ArrivesAsSent Down old new lines f) → KeepsRadio planned Down (Some arrives.radio) (rx_frame_at reader.frames (old.rnc.state.cfn % 8)) → FindsCombination planned Down reader old new lines f
+find_down : (planned : Planned) (reader : RxFrames) (old new : LinkState) (lines : List Line) (f : IsFrame old new lines) → IsPlanned planned → Agree planned old → (arrives : ArrivesDamaged Down old new lines f) → KeepsRadio planned Down (Some arrives.received) (rx_frame_at reader.frames (old.rnc.state.cfn % 8)) → FindsCombination planned Down reader old new lines f
 find_down planned reader old new lines f good a arrives keeps =
     let p : Parts planned old new lines f = parts planned old new lines f good a in
     let w : IsDownFrame planned f.node_b arrives.radio = subst (IsRadio planned f.node_b) arrives.sent p.departs.radio in
     let kept : RxFrame = rx_frame_at reader.frames (old.rnc.state.cfn % 8) in
-    let here : IsKept planned Down w.frame.tfci w.frame.cells kept = subst (λ (cells : List Trit). IsKept planned Down w.frame.tfci cells kept) w.cells (subst (λ (tfci : List Bit). IsKept planned Down tfci arrives.radio.cells kept) w.tfci keeps) in
+    let little : IsLittleDamaged w.frame.tfci w.frame.cells arrives.received.tfci arrives.received.cells =
+    subst (λ (cells : List Trit). IsLittleDamaged w.frame.tfci cells arrives.received.tfci arrives.received.cells) w.cells (subst (λ (tfci : List Bit). IsLittleDamaged tfci arrives.radio.cells arrives.received.tfci arrives.received.cells) w.tfci arrives.little) in
     record {
       radio = arrives.radio;
       sent = arrives.sent;
       combination = w.combination;
       sends = record { written = w; is = refl };
-      found = (kept-written planned Down (down_multiplexed planned w.tti f.node_b.cfn w.combination) w.combination w.frame kept w.listed good.good.downlink.side.few_combinations w.written here).0;
+      found = kept-damaged planned Down (down_multiplexed planned w.tti f.node_b.cfn w.combination) w.combination w.frame arrives.received.tfci arrives.received.cells kept w.listed good.good.downlink.side.few_combinations w.written little keeps;
     }
 
-find_up : (planned : Planned) (reader : RxFrames) (old new : LinkState) (lines : List Line) (f : IsFrame old new lines) → IsPlanned planned → Agree planned old → (arrives : ArrivesAsSent Up old new lines f) → KeepsRadio planned Up (Some arrives.radio) (rx_frame_at reader.frames (old.rnc.state.cfn % 8)) → FindsCombination planned Up reader old new lines f
+find_up : (planned : Planned) (reader : RxFrames) (old new : LinkState) (lines : List Line) (f : IsFrame old new lines) → IsPlanned planned → Agree planned old → (arrives : ArrivesDamaged Up old new lines f) → KeepsRadio planned Up (Some arrives.received) (rx_frame_at reader.frames (old.rnc.state.cfn % 8)) → FindsCombination planned Up reader old new lines f
 find_up planned reader old new lines f good a arrives keeps =
     let p : Parts planned old new lines f = parts planned old new lines f good a in
     let s : Starts planned old new lines f = starts_in planned old new lines f good a in
     let same : p.ticks.radio ≡ arrives.radio = (let both : Some p.ticks.radio ≡ Some arrives.radio = sym p.ticks.sent ∙ arrives.sent in cc) in
     let w : IsUpFrame planned f.kept.cfn new.ue.state.layer arrives.radio = subst (IsUpFrame planned f.kept.cfn new.ue.state.layer) same p.ticks.written in
     let kept : RxFrame = rx_frame_at reader.frames (old.rnc.state.cfn % 8) in
-    let here : IsKept planned Up w.frame.tfci w.frame.cells kept = subst (λ (cells : List Trit). IsKept planned Up w.frame.tfci cells kept) w.cells (subst (λ (tfci : List Bit). IsKept planned Up tfci arrives.radio.cells kept) w.tfci keeps) in
+    let little : IsLittleDamaged w.frame.tfci w.frame.cells arrives.received.tfci arrives.received.cells =
+    subst (λ (cells : List Trit). IsLittleDamaged w.frame.tfci cells arrives.received.tfci arrives.received.cells) w.cells (subst (λ (tfci : List Bit). IsLittleDamaged tfci arrives.radio.cells arrives.received.tfci arrives.received.cells) w.tfci arrives.little) in
     record {
       radio = arrives.radio;
       sent = arrives.sent;
       combination = new.ue.state.layer.running;
       sends = record { written = w; is = refl };
-      found = (kept-written planned Up (up_multiplexed planned w.tti f.kept.cfn new.ue.state.layer.running) new.ue.state.layer.running w.frame kept s.start.best.candidate.there good.good.uplink.side.few_combinations w.written here).0;
+      found = kept-damaged planned Up (up_multiplexed planned w.tti f.kept.cfn new.ue.state.layer.running) new.ue.state.layer.running w.frame arrives.received.tfci arrives.received.cells kept s.start.best.candidate.there good.good.uplink.side.few_combinations w.written little keeps;
     }
 
-find_one : (planned : Planned) (dir : Dir) (reader : RxFrames) (end : LinkState) (cfn : ℕ) (old new : LinkState) (lines : List Line) (f : IsFrame old new lines) → IsPlanned planned → Agree planned old → AreHeard planned dir cfn (frames_come dir end) reader → StaysTo dir end old new lines f → ArrivesAsSent dir old new lines f → FindsCombination planned dir reader old new lines f
+find_one : (planned : Planned) (dir : Dir) (reader : RxFrames) (end : LinkState) (cfn : ℕ) (old new : LinkState) (lines : List Line) (f : IsFrame old new lines) → IsPlanned planned → Agree planned old → AreHeard planned dir cfn (frames_come dir end) reader → StaysTo dir end old new lines f → ArrivesDamaged dir old new lines f → FindsCombination planned dir reader old new lines f
 find_one planned dir reader end cfn old new lines f good a heard stay arrives =
     let k : ℕ = old.rnc.state.cfn % 8 in
-    let there : frames_come dir end k ≡ Some arrives.radio = stay ∙ ap (radio_after old.damage dir) arrives.sent ∙ arrives.came in
+    let there : frames_come dir end k ≡ Some arrives.received = stay ∙ ap (radio_after old.damage dir) arrives.sent ∙ arrives.came in
     by dir arrives (subst (λ (o : Option Radio). KeepsRadio planned dir o (rx_frame_at reader.frames k)) there (heard.kept k (mod_below old.rnc.state.cfn 8 (omega arith))))
   where
-    by : (dir : Dir) → (arrives : ArrivesAsSent dir old new lines f) → KeepsRadio planned dir (Some arrives.radio) (rx_frame_at reader.frames (old.rnc.state.cfn % 8)) → FindsCombination planned dir reader old new lines f
+    by : (dir : Dir) → (arrives : ArrivesDamaged dir old new lines f) → KeepsRadio planned dir (Some arrives.received) (rx_frame_at reader.frames (old.rnc.state.cfn % 8)) → FindsCombination planned dir reader old new lines f
     by Up arrives keeps = find_up planned reader old new lines f good a arrives keeps
     by Down arrives keeps = find_down planned reader old new lines f good a arrives keeps
 
-find_each : (planned : Planned) (dir : Dir) (reader : RxFrames) (end : LinkState) (cfn : ℕ) (events : List Event) (old last : LinkState) (lines : List Line) (run : Runs old events last lines) → IsPlanned planned → Agree planned old → AreHeard planned dir cfn (frames_come dir end) reader → InFrames (StaysTo dir end) events old last lines run → InFrames (ArrivesAsSent dir) events old last lines run → InFrames (FindsCombination planned dir reader) events old last lines run
+find_each : (planned : Planned) (dir : Dir) (reader : RxFrames) (end : LinkState) (cfn : ℕ) (events : List Event) (old last : LinkState) (lines : List Line) (run : Runs old events last lines) → IsPlanned planned → Agree planned old → AreHeard planned dir cfn (frames_come dir end) reader → InFrames (StaysTo dir end) events old last lines run → InFrames (ArrivesDamaged dir) events old last lines run → InFrames (FindsCombination planned dir reader) events old last lines run
 find_each planned dir reader end cfn [] old last lines run good a heard stay arrive = tt
 find_each planned dir reader end cfn (Between event ∷ events) old last lines run good a heard stay arrive =
     let same : Same old run.next = (between old run.next event run.own run.step).0 in
@@ -153,7 +157,7 @@ find_each planned dir reader end cfn (Frame ∷ events) old last lines run good 
   find_each planned dir reader end cfn events run.next last run.rest run.later good (parts planned old run.next run.own run.step.frame good a).agree heard stay.1 arrive.1,
 )
 
-pub finds_all : (planned : Planned) (dir : Dir) (frames : ℕ) (old new : LinkState) (t : Tti frames old new) → IsPlanned planned → Agree planned old → IsFrames frames → AllArrive dir frames old new t → FindsAll planned dir frames old new t
+pub finds_all : (planned : Planned) (dir : Dir) (frames : ℕ) (old new : LinkState) (t : Tti frames old new) → IsPlanned planned → Agree planned old → IsFrames frames → InTti (ArrivesDamaged dir) frames old new t → FindsAll planned dir frames old new t
 finds_all planned dir frames old new t good a is arrive = λ reader heard.
     let most : frames ≤ 8 = by_four frames (λ n. n ≤ 8) is (omega arith) (omega arith) (omega arith) (omega arith) in
     let b : Agree planned t.last = runs_agree planned t.events old t.last t.lines t.run good a in

@@ -1,5 +1,6 @@
--- What the Node B sends of a set whose TTI ends with radio frames that all arrived as they were sent.
-use Rattle.std.proofs.Common.{◌≡◌, ◌<◌, ◌+◌, ◌%◌, ◌∙◌, ◌++◌, ℕ, zero, suc, List, [], ◌∷◌, length, true, false, Option, Some, arith, refl, sym, ap, subst, inl, inr}
+-- What the Node B sends of a set whose TTI ends with radio frames that all arrived as they were sent, or with little
+-- damage.
+use Rattle.std.proofs.Common.{◌≡◌, ◌<◌, ◌+◌, ◌%◌, ◌∙◌, ◌++◌, ℕ, zero, suc, List, [], ◌∷◌, length, true, false, Option, Some, None, arith, refl, sym, ap, subst, inl, inr}
 use Rattle.std.specs.Prelude.{◌==◌, ◌⊎◌}
 use Rattle.dch_types.specs.declared.channel.Dir.TheVariants.{Up}
 use Rattle.dch_types.specs.declared.channel.Side.{Side}
@@ -9,16 +10,22 @@ use Rattle.dch_types.specs.Timing.{ends, frames_among, set_frames, started, star
 use Rattle.dch_accept.specs.HeldSets.{HeldSet, held_at}
 use Rattle.dch_accept.specs.Plans.{IsPlanned, Planned}
 use Rattle.dch_tti.specs.RxFrames.{RxFrames}
+use Rattle.dch_tti.proofs.Sent.{sent_formats}
+use Rattle.dch_ulphy.specs.Damaged.{WasDamaged}
+use Rattle.dch_ulphy.specs.Frames.{multiplexed}
 use Rattle.dch_ulphy.specs.Sent.{WasSent}
+use Rattle.dch_ulphy.proofs.Damaged.{none_damaged}
 use Rattle.dch_iub.specs.Forms.{IsWrittenForm}
 use Rattle.dch_iub.specs.Shape.{ForSet}
 use Rattle.dch_node.specs.Lines.{Line}
+use Rattle.dch_node.specs.RxFrames.{AreHeard}
+use Rattle.dch_node.specs.Values.{Radio}
 use Rattle.dch_layer2.specs.Layers.{Given, Layer}
 use Rattle.dch_layer2.specs.Joined.{CarriesGiven, joined_bits}
 use Rattle.dch_linkcmd.specs.NodebSteps.{DeliversSet}
 use Rattle.dch_linkcmd.proofs.Steady.{set_frames-member, starts-eighth, tells}
 use Rattle.dch_linkcmd.specs.LinkLink.{LinkState}
-use Rattle.dch_runlaw.proofs.UplinkSent.{uplink_sent}
+use Rattle.dch_runlaw.proofs.UplinkSent.{uplink_damaged}
 use Rattle.dch_runlaw.specs.Frames.{IsFrame}
 use Rattle.dch_runlaw.specs.Runs.{Event, Frame, Runs, Steps}
 use Rattle.dch_runlaw.specs.SizedLinks.{IsSized}
@@ -27,12 +34,15 @@ use Rattle.dch_runlaw.specs.Parts.{Begins}
 use Rattle.dch_runlaw.proofs.Begun.{Begun, begun, begun_agree}
 use Rattle.dch_runlaw.proofs.RunningOver.{runs_on}
 use Rattle.dch_runlaw.proofs.SizedRuns.{is_sized}
+use Rattle.dch_runlaw.proofs.ClearSent.{heard_as}
 use Rattle.dch_runlaw.proofs.ClearTtis.{over_or_on}
-use Rattle.dch_runlaw.specs.Intervals.{AllArrive, AreGood, Tti, UpAsGiven}
+use Rattle.dch_runlaw.proofs.ClearUp.{KeepsFormats, UpHalf, UpLoaded, whole_sent}
+use Rattle.dch_runlaw.specs.Intervals.{AreGood, ArrivesDamaged, ArrivesUp, InTti, Tti, UpAsGiven, frames_come, frames_sent, tti_sent}
 use Rattle.dch_runlaw.proofs.IntervalAgree.{Agree, Parts, parts, runs_agree}
 use Rattle.dch_runlaw.proofs.IntervalCombinations.{finds_all}
 use Rattle.dch_runlaw.proofs.IntervalCounting.{Watch, stayed, starts_zero}
-use Rattle.dch_runlaw.proofs.IntervalUp.{InRunning, UpOn, frames_of, last_sent, run_formats, run_on, up_side, up_watch}
+use Rattle.dch_runlaw.proofs.IntervalDamaged.{all_damaged, come_tti, near_combinations, near_tti}
+use Rattle.dch_runlaw.proofs.IntervalUp.{InRunning, frame_half, frames_of, run_formats, run_on, up_side, up_watch}
 
 -- so after the last radio frame of a run each uplink channel has as many bits as its format
 whole_last : (planned : Planned) (events : List Event) (old last new : LinkState) (lines own : List Line) → Runs old events last lines → Steps last Frame new own
@@ -76,20 +86,20 @@ record SetUp (planned : Planned) (layer : Layer) (set cfn : ℕ) (iub : Option (
   good : ForSet (up_side planned) set (λ i. AreGood (held_at held.blocks i))
 
 set_up : (planned : Planned) (reader : RxFrames) (layer : Layer) (set : ℕ) (lines : List Line) (iub : Option (List ℕ)) → IsPlanned planned → ends (set_frames (up_side planned) set) reader.cfn ≡ true
-    → ForSet (up_side planned) set (λ i. WasSent planned reader i (layer.given i).format (joined_bits (layer.given i).blocks)) → DeliversSet planned reader set lines iub → SetUp planned layer set reader.cfn iub
+    → ForSet (up_side planned) set (λ i. WasDamaged planned reader i (layer.given i).format (joined_bits (layer.given i).blocks)) → DeliversSet planned reader set lines iub → SetUp planned layer set reader.cfn iub
 set_up planned reader layer set lines iub good over were (inl waits) = absurd (let both : false ≡ true = sym waits.on ∙ over in cc)
 set_up planned reader layer set lines iub good over were (inr (inl lost)) =
     let i : ℕ = lost.channel in
-    absurd ((uplink_sent planned reader i (layer.given i).format (joined_bits (layer.given i).blocks) good lost.is.inside (were i lost.is.inside lost.is.member)).good lost.frame lost.is.bad)
+    absurd ((uplink_damaged planned reader i (layer.given i).format (joined_bits (layer.given i).blocks) good lost.is.inside (were i lost.is.inside lost.is.member)).good lost.frame lost.is.bad)
 set_up planned reader layer set lines iub good over were (inr (inr up)) = record {
   octets = up.octets;
   sent = up.sent;
   held = up.held;
   written = up.written;
   carries = λ i inside member.
-      let sent = uplink_sent planned reader i (layer.given i).format (joined_bits (layer.given i).blocks) good inside (were i inside member) in
+      let sent = uplink_damaged planned reader i (layer.given i).format (joined_bits (layer.given i).blocks) good inside (were i inside member) in
       record { format = sent.number (held_at up.held.blocks i) (up.read i inside member); bits = (sent.arrives (held_at up.held.blocks i) (up.read i inside member)).same };
-  good = λ i inside member. ((uplink_sent planned reader i (layer.given i).format (joined_bits (layer.given i).blocks) good inside (were i inside member)).arrives (held_at up.held.blocks i) (up.read i inside member)).good;
+  good = λ i inside member. ((uplink_damaged planned reader i (layer.given i).format (joined_bits (layer.given i).blocks) good inside (were i inside member)).arrives (held_at up.held.blocks i) (up.read i inside member)).good;
 }
 
 -- a value that never changes
@@ -101,11 +111,11 @@ begun_formats planned start good eighth = λ j inside off.
     absurd (let both : false ≡ true = sym off ∙ starts-eighth (frames_of planned j) start.rnc.state.cfn (good.good.uplink.side.channels j inside).frames eighth in cc)
 
 pub up_interval : (planned : Planned) (set : ℕ) (events : List Event) (start mid new : LinkState) (lines : List Line) → IsPlanned planned → Begins planned start → start.rnc.state.cfn % 8 ≡ 0 → Runs start events mid lines → set < 8
-    → (t : Tti (set_frames planned.config.uplink.side set) mid new) → AllArrive Up (set_frames planned.config.uplink.side set) mid new t → UpAsGiven planned set (set_frames planned.config.uplink.side set) mid new t
+    → (t : Tti (set_frames planned.config.uplink.side set) mid new) → ArrivesUp planned set (set_frames planned.config.uplink.side set) mid new t → UpAsGiven planned set (set_frames planned.config.uplink.side set) mid new t
 up_interval planned set events start mid new lines good begins eighth run small t arrive = record {
   given = λ i. new.ue.state.layer.given i;
   stays = λ i inside member. (stayed planned frames Given (up_watch planned i frames good (same i inside member)) mid new t good is a).inside;
-  combinations = finds_all planned Up frames mid new t good a is arrive;
+  combinations = finds_all planned Up frames mid new t good a is near;
   octets = done.octets;
   sent = done.sent;
   held = done.held;
@@ -170,12 +180,46 @@ up_interval planned set events start mid new lines good begins eighth run small 
         whole_last planned (events ++ t.events) start t.last new (lines ++ t.lines) t.last_lines (runs_on events t.events start mid t.last lines t.lines run t.run) t.step
         (λ all whole. is_sized planned ((events ++ t.events) ++ (Frame ∷ [])) start new all whole good at_start.both)
 
-    on : (i : ℕ) → i < length side.channels → (channel_at side i).set ≡ set → UpOn planned i t.last
-    on i inside member = run_on planned t.events mid t.last t.lines t.run i good inside a formats arrive.0
-        (λ some. absurd (omega (arith, some, subst (λ n. mid.rnc.state.cfn % n ≡ 0) (same i inside member) (starts_zero frames mid.rnc.state.cfn is t.at_start))))
+    near : InTti (ArrivesDamaged Up) frames mid new t
+    near = elim arrive [
+      | inl arrives ↦ all_damaged Up frames mid new t arrives
+      | inr little ↦ little.arrive
+    ]
 
-    were : ForSet side set (λ i. WasSent planned p.receives.rx_frames i (new.ue.state.layer.given i).format (joined_bits (new.ue.state.layer.given i).blocks))
-    were = λ i inside member. last_sent planned t.last new t.last_lines f good b i inside last_formats arrive.1 (on i inside member) (subst (λ n. c % n + 1 ≡ n) (same i inside member) at_end) (wholes i inside)
+    heard : AreHeard planned Up c (frames_come Up new) p.receives.rx_frames
+    heard = heard_as planned Up f.node_b.cfn c new.node_b.state.frames new.node_b.state.frames p.receives.rx_frames p.node_b_cfn (λ k. refl) p.receives.kept
+
+    half : (g : ℕ → Option Radio) (i : ℕ) → i < length side.channels → (channel_at side i).set ≡ set → UpHalf planned i (new.ue.state.layer.given i) (λ c. c ≡ new.ue.state.layer.running) c (tti_sent Up frames mid new t g) (c % frames_of planned i + 1)
+    half g i inside member =
+        frame_half planned t.last new t.last_lines f i (frames_sent Up t.events mid t.last t.lines t.run g) good inside b last_formats
+        (run_on planned t.events mid t.last t.lines t.run i g good inside a formats
+        (λ some. absurd (omega (arith, some, subst (λ n. mid.rnc.state.cfn % n ≡ 0) (same i inside member) (starts_zero frames mid.rnc.state.cfn is t.at_start)))))
+
+    whole : (i : ℕ) → i < length side.channels → (channel_at side i).set ≡ set → c % frames_of planned i + 1 ≡ frames_of planned i
+    whole i inside member = subst (λ n. c % n + 1 ≡ n) (same i inside member) at_end
+
+    was : (g : ℕ → Option Radio) (reader : RxFrames) → AreHeard planned Up c (tti_sent Up frames mid new t g) reader → ForSet side set (λ i. WasSent planned reader i (new.ue.state.layer.given i).format (joined_bits (new.ue.state.layer.given i).blocks))
+    was g reader sent = λ i inside member.
+        whole_sent planned i c (c % frames_of planned i + 1) (new.ue.state.layer.given i) (λ c. c ≡ new.ue.state.layer.running) (tti_sent Up frames mid new t g) reader good inside sent (half g i inside member) (whole i inside member) (wholes i inside)
+
+    were : ForSet side set (λ i. WasDamaged planned p.receives.rx_frames i (new.ue.state.layer.given i).format (joined_bits (new.ue.state.layer.given i).blocks))
+    were = elim arrive [
+      | inl arrives ↦ λ i inside member.
+          none_damaged planned p.receives.rx_frames i (new.ue.state.layer.given i).format (joined_bits (new.ue.state.layer.given i).blocks) good inside
+          (was (frames_come Up mid) p.receives.rx_frames
+          (heard_as planned Up c c (frames_come Up new) (tti_sent Up frames mid new t (frames_come Up mid)) p.receives.rx_frames refl (λ k. sym (come_tti planned Up frames mid new t good a arrives k)) heard)
+          i inside member)
+      | inr little ↦ λ i inside member.
+          let format : ℕ = (new.ue.state.layer.given i).format in
+          let sent : WasSent planned little.sent i format (joined_bits (new.ue.state.layer.given i).blocks) = was (λ k. None) little.sent little.heard i inside member in
+          record {
+            sent = little.sent;
+            was = sent;
+            combinations = near_combinations planned Up (multiplexed planned) i c (c % frames_of planned i + 1) (UpLoaded planned i (new.ue.state.layer.given i)) (λ c. c ≡ new.ue.state.layer.running) (KeepsFormats side) (tti_sent Up frames mid new t (λ k. None)) (frames_come Up new) little.sent p.receives.rx_frames good.good.uplink.side.few_combinations little.heard heard
+                (near_tti planned Up frames mid new t good a near) (half (λ k. None) i inside member) (whole i inside member);
+            few = little.few p.receives.rx_frames heard i inside member format sent.sequence (sent_formats planned Up (multiplexed planned) little.sent i format sent.sequence sent.sent.loaded sent.sent.frames sent.sent.from.format inside) (λ n below. (sent.sent.frames n below).found);
+          }
+    ]
 
     done : SetUp planned new.ue.state.layer set p.receives.rx_frames.cfn (f.up_output.iub set)
     done = set_up planned p.receives.rx_frames new.ue.state.layer set (p.receives.lines set) (f.up_output.iub set) good (ap (ends frames) rx_cfn ∙ over) were (p.receives.sets set small)

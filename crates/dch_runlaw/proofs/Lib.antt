@@ -47,6 +47,7 @@ pub mod ClearUpFrame
 pub mod ClearUpSets
 pub mod IntervalAgree
 pub mod IntervalCombinations
+pub mod IntervalDamaged
 pub mod IntervalCounting
 pub mod CountedFrames
 pub mod IntervalDown

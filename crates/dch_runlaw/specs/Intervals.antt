@@ -1,5 +1,6 @@
--- TTIs in runs of three nodes whose radio frames all arrive as they were sent, and what is read of them.
-use Rattle.std.specs.Prelude.{◌≡◌, ◌<◌, ◌+◌, ◌%◌, ℕ, List, [], ◌∷◌, Option, Some, false, true, length, IsTrue, slice_index_or}
+-- TTIs in runs of three nodes whose radio frames all arrive as they were sent, or with little damage, and what is read
+-- of them.
+use Rattle.std.specs.Prelude.{◌≡◌, ◌<◌, ◌+◌, ◌%◌, ◌==◌, ◌⊎◌, ℕ, List, [], ◌∷◌, Option, Some, None, false, true, length, if◌then◌else◌, IsTrue, slice_index, slice_index_or}
 use Rattle.dch_types.specs.declared.channel.Dir.{Dir}
 use Rattle.dch_types.specs.declared.channel.Dir.TheVariants.{Up, Down}
 use Rattle.dch_types.specs.Parts.{channel_at}
@@ -16,7 +17,14 @@ use Rattle.dch_damage.specs.Damage.{radio_after}
 use Rattle.dch_layer2.specs.Layers.{Given}
 use Rattle.dch_layer2.specs.Joined.{CarriesGiven}
 use Rattle.dch_layer2.specs.Reading.{Read}
-use Rattle.dch_tti.specs.RxFrames.{RxFrames, rx_frame_at}
+use Rattle.dch_frame.specs.Patterns.{copies}
+use Rattle.dch_collision.specs.Copies.{padded_in, uplink_copies}
+use Rattle.dch_tti.specs.Damaged.{AreFewChanged, IsLittleDamaged}
+use Rattle.dch_tti.specs.Formats.{AllGive}
+use Rattle.dch_tti.specs.RxFrames.{RxFrames, frame_at, rx_frame_at}
+use Rattle.dch_ulphy.specs.Damaged.{tti_changes as uplink_changes}
+use Rattle.dch_dlphy.specs.Damaged.{tti_changes as downlink_changes}
+use Rattle.dch_dlphy.specs.Read.{tti_pattern}
 use Rattle.dch_linkcmd.specs.NodebSteps.{IsRadioFrame as IsDownFrame}
 use Rattle.dch_linkcmd.specs.UeSteps.{IsRadioFrame as IsUpFrame}
 use Rattle.dch_linkcmd.specs.LinkLink.{LinkState}
@@ -69,6 +77,46 @@ pub record ArrivesAsSent (dir : Dir) (old new : LinkState) (lines : List Line) (
 abbrev pub AllArrive : Dir → (frames : ℕ) → (old new : LinkState) → Tti frames old new → Type 0
 AllArrive dir frames old new t = InTti (ArrivesAsSent dir) frames old new t
 
+-- it is sent, and arrives with as many cells, and with few TFCI bits wrong
+pub record ArrivesDamaged (dir : Dir) (old new : LinkState) (lines : List Line) (f : IsFrame old new lines) : Type 0 where
+  pub radio : Radio
+  pub sent : radio_sent dir old new lines f ≡ Some radio
+  pub received : Radio
+  pub came : radio_after old.damage dir (Some radio) ≡ Some received
+  pub little : IsLittleDamaged radio.tfci radio.cells received.tfci received.cells
+
+-- the radio frames that were sent, by the remainders of their CFNs modulo 8: with one radio frame more than before
+abbrev pub with_sent : Dir → (old new : LinkState) → (lines : List Line) → IsFrame old new lines
+    → (ℕ → Option Radio) → ℕ → Option Radio
+with_sent dir old new lines f before k = if k == old.rnc.state.cfn % 8 then radio_sent dir old new lines f else before k
+
+-- and with those of a run
+abbrev pub frames_sent : Dir → (events : List Event) → (old new : LinkState) → (lines : List Line) → Runs old events new lines → (ℕ → Option Radio) → ℕ → Option Radio
+frames_sent dir [] old new lines run before = before
+frames_sent dir (Between event ∷ events) old new lines run before = frames_sent dir events run.next new run.rest run.later before
+frames_sent dir (Frame ∷ events) old new lines run before = frames_sent dir events run.next new run.rest run.later
+    (with_sent dir old run.next run.own run.step.frame before)
+
+abbrev pub tti_sent : Dir → (frames : ℕ) → (old new : LinkState) → Tti frames old new → (ℕ → Option Radio) → ℕ → Option Radio
+tti_sent dir frames old new t before = with_sent dir t.last new t.last_lines t.step.frame
+    (frames_sent dir t.events old t.last t.lines t.run before)
+
+-- between what is kept of the radio frames of a TTI of channel i as they were sent, and as they arrived, few cells of
+-- each code block are changed, whatever format and combinations they were sent in
+abbrev pub IsFewUp : Planned → ℕ → RxFrames → RxFrames → Type 0
+IsFewUp planned i sent received =
+    let side = planned.config.uplink.side in
+    (f : ℕ) (sequence : List ℕ) → AllGive side sent i f
+    → ((n : ℕ) → n < (channel_at side i).frames → (frame_at side sent i n).combination ≡ Some (slice_index sequence n))
+    → AreFewChanged side i f (uplink_copies planned.config.uplink i f sequence)
+    (uplink_changes planned i sequence sent received (padded_in side i f))
+
+abbrev pub IsFewDown : Planned → ℕ → RxFrames → RxFrames → Type 0
+IsFewDown planned i sent received =
+    let side = planned.config.downlink.side in
+    (f : ℕ) → AllGive side sent i f
+    → AreFewChanged side i f (copies (tti_pattern planned i f).kind) (downlink_changes planned i f sent received)
+
 -- the terminal sends this radio frame in the combination that layer 2 runs, or the Node B in that of the blocks that it
 -- was given
 pub record SendsUp (planned : Planned) (combination : ℕ) (old new : LinkState) (lines : List Line) (f : IsFrame old new lines) (radio : Radio) : Type 0 where
@@ -104,6 +152,25 @@ abbrev pub FindsAll : Planned → Dir → (frames : ℕ) → (old new : LinkStat
 FindsAll planned dir frames old new t = (reader : RxFrames)
     → AreHeard planned dir t.last.rnc.state.cfn (frames_come dir new) reader
     → InTti (FindsCombination planned dir reader) frames old new t
+
+-- each radio frame of a TTI arrives with few TFCI bits wrong; and of what the far end would keep of them as they were
+-- sent, and of what it keeps of them as they arrived, few cells differ
+pub record IsLittleDamagedTti (planned : Planned) (dir : Dir) (IsFew : RxFrames → RxFrames → Type 0) (frames : ℕ) (old new : LinkState) (t : Tti frames old new) : Type 0 where
+  pub arrive : InTti (ArrivesDamaged dir) frames old new t
+  pub sent : RxFrames
+  pub heard : AreHeard planned dir t.last.rnc.state.cfn (tti_sent dir frames old new t (λ k. None)) sent
+  pub few : (received : RxFrames) → AreHeard planned dir t.last.rnc.state.cfn (frames_come dir new) received
+      → IsFew sent received
+
+-- a TTI of downlink channel i, or of a set of uplink channels, arrives as it was sent, or with little damage
+abbrev pub ArrivesDown : Planned → ℕ → (frames : ℕ) → (old new : LinkState) → Tti frames old new → Type 0
+ArrivesDown planned i frames old new t = AllArrive Down frames old new t
+    ⊎ IsLittleDamagedTti planned Down (IsFewDown planned i) frames old new t
+
+abbrev pub ArrivesUp : Planned → ℕ → (frames : ℕ) → (old new : LinkState) → Tti frames old new → Type 0
+ArrivesUp planned set frames old new t = AllArrive Up frames old new t
+    ⊎ IsLittleDamagedTti planned Up
+    (λ sent received. ForSet planned.config.uplink.side set (λ i. IsFewUp planned i sent received)) frames old new t
 
 -- all blocks are good
 abbrev pub AreGood : Held → Type 0
