@@ -1,18 +1,16 @@
--- What a leg delivers of a TTI whose radio frames all came as they were sent, and what is taken of it.
-use Rattle.std.proofs.Common.{◌≡◌, ◌≢◌, ◌<◌, ◌+◌, ◌%◌, ◌∙◌, ℕ, List, [], ◌∷◌, length, true, false, Option, Some, None, arith, refl, sym, ap, subst, inl, inr}
+-- What a leg delivers of a TTI whose radio frames all came, and what is taken of it.
+use Rattle.std.proofs.Common.{◌≡◌, ◌≢◌, ◌<◌, ◌+◌, ◌%◌, ◌∙◌, ℕ, List, [], ◌∷◌, length, Bool, true, false, Option, Some, None, arith, refl, sym, ap, subst, inl, inr}
 use Rattle.std.specs.Prelude.{◌==◌, ◌&&◌, IsTrue, if◌then◌else◌, slice_index_or}
 use Rattle.std.proofs.lemmas.Bool.{cases_order, eq-eqb, ne_eqb}
 use Rattle.dch_types.specs.declared.channel.Dir.TheVariants.{Up}
 use Rattle.dch_types.specs.declared.config.Config.{Config}
-use Rattle.dch_types.specs.Parts.{channel_at, format_at}
+use Rattle.dch_types.specs.Parts.{channel_at}
 use Rattle.dch_types.specs.Timing.{ends, set_frames, started}
-use Rattle.dch_accept.specs.Blocks.{bits_of}
 use Rattle.dch_accept.specs.HeldSets.{HasFormat, HeldSet, held_at}
 use Rattle.dch_accept.specs.Plans.{IsPlanned, Planned}
 use Rattle.dch_tti.specs.RxFrames.{RxFrames}
-use Rattle.dch_ulphy.specs.Sent.{WasSent}
 use Rattle.dch_iub.specs.Back.{IsReadBack}
-use Rattle.dch_iub.specs.Forms.{IsReadForm, IsWrittenForm}
+use Rattle.dch_iub.specs.Forms.{IsReadForm}
 use Rattle.dch_iub.specs.Shape.{ForSet}
 use Rattle.dch_iub.proofs.Back.{one_reading}
 use Rattle.dch_iub.proofs.Refused.{no_form}
@@ -20,11 +18,12 @@ use Rattle.dch_combine.specs.declared.error.CombineError.{CombineError}
 use Rattle.dch_combine.specs.declared.error.CombineError.TheVariants.{Cfn, Frame}
 use Rattle.dch_combine.specs.Legs.{LegFrame}
 use Rattle.dch_combine.specs.Taken.{IsRefusal}
+use Rattle.dch_damage.specs.Damage.{radio_after}
 use Rattle.dch_node.specs.Lines.{Line}
 use Rattle.dch_node.specs.RxFrames.{AreHeard}
+use Rattle.dch_node.specs.Values.{Radio}
 use Rattle.dch_layer2.specs.Layers.{Layer}
-use Rattle.dch_layer2.specs.Joined.{CarriesGiven, joined_bits}
-use Rattle.dch_linkcmd.specs.NodebSteps.{DeliversSet}
+use Rattle.dch_layer2.specs.Joined.{CarriesGiven}
 use Rattle.dch_linkcmd.proofs.Steady.{set_frames-member}
 use Rattle.dch_linkcmd.specs.RncState.{Tick as RncTicks}
 use Rattle.dch_linkcmd.specs.UeState.{Event as UeEvent, State as UeState}
@@ -35,28 +34,18 @@ use Rattle.dch_linkcmd.specs.LinkSoft.{SoftState, active, framed, over, uplink_o
 use Rattle.dch_linkcmd.specs.SoftStages.{AtLeg, AtStage, MayTake, TakesFrame, WhereOver}
 use Rattle.dch_linkcmd.specs.soft_stage.Stage.{Stage}
 use Rattle.dch_linkcmd.specs.soft_stage.Stage.TheVariants.{RncTick, IubDown, RadioDown, UeTick, RadioUp, IubUp, Combine}
-use Rattle.dch_runlaw.proofs.UplinkSent.{uplink_sent}
 use Rattle.dch_runlaw.specs.Intervals.{AreGood}
 use Rattle.dch_runlaw.proofs.ClearSame.{same_bits}
 use Rattle.dch_runlaw.proofs.ClearSent.{heard_as}
 use Rattle.dch_runlaw.proofs.ClearTtis.{over_or_on}
-use Rattle.dch_runlaw.proofs.ClearUp.{whole_sent}
-use Rattle.dch_runlaw.specs.Legs.{Gets}
+use Rattle.dch_runlaw.proofs.IntervalSets.{AreReadable, SetUp, set_up}
+use Rattle.dch_runlaw.specs.Legs.{GetsSo, frames_sent, with_sent}
 use Rattle.dch_runlaw.specs.SoftRuns.{Between, HappensBetween, Move, Next, Passes, Point, Runs, behind}
 use Rattle.dch_runlaw.specs.Ttis.{InStages}
-use Rattle.dch_runlaw.proofs.Agreeing.{Agree, AgreeAt, Receives, agree_event, agree_next, at_rest, combine_late, frames_of, iub_late, radio_early, radio_late, radio_own, receives_in, ticks_in, up_side}
+use Rattle.dch_runlaw.proofs.Agreeing.{Agree, AgreeAt, Receives, Ticks, agree_event, agree_next, at_rest, combine_late, frames_of, iub_late, radio_early, radio_late, radio_own, receives_in, ticks_in, up_side}
 use Rattle.dch_runlaw.proofs.Changes.{IsFrameChange, IsLegChange, IsSetChange, Stays, between_stays, frame_stays, iub_down_stays, leg_change, other_leg_stays, radio_down_stays, rnc_goes_stays, set_change, set_stays, up_change}
-use Rattle.dch_runlaw.proofs.Coming.{HalfIn, frames_are, half_framed, half_goes_on, half_radio, half_stays, half_tick}
+use Rattle.dch_runlaw.proofs.Coming.{HalfIn, came_next, frames_are, half_framed, half_goes_on, half_radio, half_stays, half_tick}
 use Rattle.dch_runlaw.proofs.Phases.{Before, InPoint, Middle, Over, Phase, Sent, Taken, exit_of, lt_no, lt_yes, next_holds, phase_of}
-
--- the Iub frame of a set with the blocks that layer 2 of the terminal gave to its channels, all good, and the CFN at which the TTI started
-pub record Delivers (planned : Planned) (set : ℕ) (layer : Layer) (cfn : ℕ) (iub : Option (List ℕ)) : Type 0 where
-  pub octets : List ℕ
-  pub sent : iub ≡ Some octets
-  pub held : HeldSet
-  pub written : IsWrittenForm planned.config Up set octets (started (set_frames (up_side planned) set) cfn) planned.config.qe held
-  pub carries : ForSet (up_side planned) set (λ i. CarriesGiven (layer.given i) (held_at held.blocks i))
-  pub good : ForSet (up_side planned) set (λ i. AreGood (held_at held.blocks i))
 
 -- a frame of a leg with these blocks was taken
 pub record HasFrame (planned : Planned) (set : ℕ) (layer : Layer) (taken : Option LegFrame) : Type 0 where
@@ -70,20 +59,28 @@ pub record HasFrame (planned : Planned) (set : ℕ) (layer : Layer) (taken : Opt
 abbrev pub Ends : Planned → ℕ → ℕ → Type 0
 Ends planned set cfn = ends (set_frames (up_side planned) set) cfn ≡ true
 
+-- what leg k's Node B sends of a set, and what was taken of it, where its radio frames can be read
+abbrev pub SendsSet : Planned → ℕ → Course UeState UeEvent → ℕ → LegState → Type 0
+SendsSet planned set ue cfn leg = Ends planned set cfn → AreReadable planned set ue.state.layer cfn leg.node_b.state.frames → SetUp planned ue.state.layer set cfn (leg.node_b.last.iub set)
+
+abbrev pub IsSetTaken : Planned → ℕ → Course UeState UeEvent → ℕ → LegState → Option LegFrame → Type 0
+IsSetTaken planned set ue cfn leg taken = Ends planned set cfn → AreReadable planned set ue.state.layer cfn leg.node_b.state.frames → HasFrame planned set ue.state.layer taken
+
 abbrev pub UpIn : Planned → ℕ → ℕ → Phase → SoftState → Type 0
 UpIn planned k set Before soft = Unit {0}
 UpIn planned k set Middle soft = Unit {0}
-UpIn planned k set Sent soft = Ends planned set soft.cfn → Delivers planned set soft.ue.state.layer soft.cfn ((soft.legs k).node_b.last.iub set)
-UpIn planned k set Taken soft = Ends planned set soft.cfn → HasFrame planned set soft.ue.state.layer (soft.frames set k)
+UpIn planned k set Sent soft = SendsSet planned set soft.ue soft.cfn (soft.legs k)
+UpIn planned k set Taken soft = IsSetTaken planned set soft.ue soft.cfn (soft.legs k) (soft.frames set k)
 UpIn planned k set Over soft = Unit {0}
 
--- the uplink of a set at leg k, where all that the terminal sent has come
-pub record Came (planned : Planned) (k set : ℕ) (phase : Phase) (soft : SoftState) : Type 0 where
-  pub halves : ForSet (up_side planned) set (λ i. HalfIn planned k i phase soft)
+-- the uplink of a set at leg k, where these radio frames were sent, and have come in some way
+pub record Came (planned : Planned) (Comes : Option Radio → Option Radio → Type 0) (k set : ℕ) (sent : ℕ → Option Radio) (phase : Phase) (soft : SoftState) : Type 0 where
+  pub halves : ForSet (up_side planned) set (λ i. HalfIn planned i phase sent soft)
+  pub come : (n : ℕ) → Comes (sent n) ((soft.legs k).node_b.state.frames n)
   pub up : UpIn planned k set phase soft
 
 -- where the TTI of a set ends, that of each of its channels does
-last_frame : (planned : Planned) (set cfn i : ℕ) → IsPlanned planned → i < length (up_side planned).channels → (channel_at (up_side planned) i).set ≡ set → Ends planned set cfn → cfn % frames_of planned i + 1 ≡ frames_of planned i
+pub last_frame : (planned : Planned) (set cfn i : ℕ) → IsPlanned planned → i < length (up_side planned).channels → (channel_at (up_side planned) i).set ≡ set → Ends planned set cfn → cfn % frames_of planned i + 1 ≡ frames_of planned i
 last_frame planned set cfn i good inside member over =
     let own : ends (frames_of planned i) cfn ≡ true = ap (λ n. ends n cfn) (sym (ap (set_frames (up_side planned)) (sym member) ∙ set_frames-member (up_side planned) i good.good.uplink.side inside)) ∙ over in
     elim (over_or_on (frames_of planned i) cfn (frames_are planned i good inside)) [
@@ -91,55 +88,31 @@ last_frame planned set cfn i good inside member over =
       | inr more ↦ absurd (let both : false ≡ true = sym more.1 ∙ own in cc)
     ]
 
--- the Node B delivers a set whose TTIs were all sent and came
-delivers : (planned : Planned) (reader : RxFrames) (layer : Layer) (set : ℕ) (lines : List Line) (iub : Option (List ℕ)) → IsPlanned planned → Ends planned set reader.cfn
-    → ForSet (up_side planned) set (λ i. WasSent planned reader i (layer.given i).format (joined_bits (layer.given i).blocks)) → DeliversSet planned reader set lines iub → Delivers planned set layer reader.cfn iub
-delivers planned reader layer set lines iub good over were (inl waits) = absurd (let both : false ≡ true = sym waits.on ∙ over in cc)
-delivers planned reader layer set lines iub good over were (inr (inl lost)) =
-    let i : ℕ = lost.channel in
-    absurd ((uplink_sent planned reader i (layer.given i).format (joined_bits (layer.given i).blocks) good lost.is.inside (were i lost.is.inside lost.is.member)).good lost.frame lost.is.bad)
-delivers planned reader layer set lines iub good over were (inr (inr up)) = record {
-  octets = up.octets;
-  sent = up.sent;
-  held = up.held;
-  written = up.written;
-  carries = λ i inside member.
-      let sent = uplink_sent planned reader i (layer.given i).format (joined_bits (layer.given i).blocks) good inside (were i inside member) in
-      record { format = sent.number (held_at up.held.blocks i) (up.read i inside member); bits = (sent.arrives (held_at up.held.blocks i) (up.read i inside member)).same };
-  good = λ i inside member. ((uplink_sent planned reader i (layer.given i).format (joined_bits (layer.given i).blocks) good inside (were i inside member)).arrives (held_at up.held.blocks i) (up.read i inside member)).good;
-}
-
 -- the uplink radio frame comes to the Node B of leg k
-radio_delivers : (planned : Planned) (legs k set : ℕ) (old new : SoftState) → IsPlanned planned → set < 8 → Receives planned k old new → Agree planned legs k Middle old → ForSet (up_side planned) set (λ i. HalfIn planned k i Sent new) → UpIn planned k set Sent new
-radio_delivers planned legs k set old new good small r a halves = λ over.
+radio_delivers : (planned : Planned) (legs k set : ℕ) (old new : SoftState) → IsPlanned planned → set < 8 → Receives planned k old new → Agree planned legs k Middle old → UpIn planned k set Sent new
+radio_delivers planned legs k set old new good small r a = λ over readable.
     let c : ℕ = new.cfn in
     let reader : RxFrames = r.step.rx_frames in
     let here : (old.legs k).node_b.state.cfn ≡ c = a.node_b_cfn ∙ sym r.change.cfn in
     let heard : AreHeard planned Up c (new.legs k).node_b.state.frames reader = heard_as planned Up (old.legs k).node_b.state.cfn c (new.legs k).node_b.state.frames (new.legs k).node_b.state.frames reader here (λ n. refl) r.step.kept in
     let rx_cfn : reader.cfn ≡ c = r.step.kept.last ∙ here in
     let layer : Layer = new.ue.state.layer in
-    let were : ForSet (up_side planned) set (λ i. WasSent planned reader i (layer.given i).format (joined_bits (layer.given i).blocks)) = λ i inside member.
-    whole_sent planned i c (c % frames_of planned i + 1) (layer.given i) (λ d. d ≡ layer.running) (new.legs k).node_b.state.frames reader good inside heard (halves i inside member)
-    (last_frame planned set c i good inside member over) (wholes i inside) in
-    subst (λ n. Delivers planned set layer n ((new.legs k).node_b.last.iub set)) rx_cfn
-    (delivers planned reader layer set (r.step.lines set) ((new.legs k).node_b.last.iub set) good (ap (ends (set_frames (up_side planned) set)) rx_cfn ∙ over) were (r.step.sets set small))
-  where
-    wholes : (i : ℕ) → i < length (up_side planned).channels → length (joined_bits (new.ue.state.layer.given i).blocks) ≡ bits_of (format_at (channel_at (up_side planned) i) (new.ue.state.layer.given i).format)
-    wholes i inside = subst (λ (u : Course UeState UeEvent). length (joined_bits (u.state.layer.given i).blocks) ≡ bits_of (format_at (channel_at (up_side planned) i) (u.state.layer.given i).format)) (sym r.change.ue) (a.ue.layer.given.whole i inside)
+    subst (λ n. SetUp planned layer set n ((new.legs k).node_b.last.iub set)) rx_cfn
+    (set_up planned reader layer set (r.step.lines set) ((new.legs k).node_b.last.iub set) good (ap (ends (set_frames (up_side planned) set)) rx_cfn ∙ over) (readable reader heard) (r.step.sets set small))
 
 -- what leaves the terminal, the leg and the frame that was taken leaves this
 delivers_same : (planned : Planned) (k set : ℕ) (old new : SoftState) → new.ue ≡ old.ue → new.cfn ≡ old.cfn → new.legs k ≡ old.legs k → UpIn planned k set Sent old → UpIn planned k set Sent new
-delivers_same planned k set old new ue cfn leg up = λ over.
-    let before : Delivers planned set old.ue.state.layer old.cfn ((old.legs k).node_b.last.iub set) = up (ap (ends (set_frames (up_side planned) set)) (sym cfn) ∙ over) in
-    subst (λ (u : Course UeState UeEvent). Delivers planned set u.state.layer new.cfn ((new.legs k).node_b.last.iub set)) (sym ue)
-    (subst (λ n. Delivers planned set old.ue.state.layer n ((new.legs k).node_b.last.iub set)) (sym cfn)
-    (subst (λ (l : LegState). Delivers planned set old.ue.state.layer old.cfn (l.node_b.last.iub set)) (sym leg) before))
+delivers_same planned k set old new ue cfn leg up =
+    subst (λ (u : Course UeState UeEvent). SendsSet planned set u new.cfn (new.legs k)) (sym ue)
+    (subst (λ n. SendsSet planned set old.ue n (new.legs k)) (sym cfn)
+    (subst (λ (l : LegState). SendsSet planned set old.ue old.cfn l) (sym leg) up))
 
-has_same : (planned : Planned) (k set : ℕ) (old new : SoftState) → new.ue ≡ old.ue → new.cfn ≡ old.cfn → new.frames set k ≡ old.frames set k → UpIn planned k set Taken old → UpIn planned k set Taken new
-has_same planned k set old new ue cfn frame up = λ over.
-    let before : HasFrame planned set old.ue.state.layer (old.frames set k) = up (ap (ends (set_frames (up_side planned) set)) (sym cfn) ∙ over) in
-    subst (λ (u : Course UeState UeEvent). HasFrame planned set u.state.layer (new.frames set k)) (sym ue)
-    (subst (λ (o : Option LegFrame). HasFrame planned set old.ue.state.layer o) (sym frame) before)
+has_same : (planned : Planned) (k set : ℕ) (old new : SoftState) → new.ue ≡ old.ue → new.cfn ≡ old.cfn → new.legs k ≡ old.legs k → new.frames set k ≡ old.frames set k → UpIn planned k set Taken old → UpIn planned k set Taken new
+has_same planned k set old new ue cfn leg frame up =
+    subst (λ (u : Course UeState UeEvent). IsSetTaken planned set u new.cfn (new.legs k) (new.frames set k)) (sym ue)
+    (subst (λ n. IsSetTaken planned set old.ue n (new.legs k) (new.frames set k)) (sym cfn)
+    (subst (λ (l : LegState). IsSetTaken planned set old.ue old.cfn l (new.frames set k)) (sym leg)
+    (subst (λ (o : Option LegFrame). IsSetTaken planned set old.ue old.cfn (old.legs k) o) (sym frame) up)))
 
 -- a frame that was written for the TTI is not refused
 never_refused : (config : Config) (set cfn qe : ℕ) (octets : List ℕ) (held : HeldSet) (error : CombineError) → IsReadForm config Up set octets cfn qe held → IsRefusal config set cfn octets error → ⊥
@@ -169,10 +142,14 @@ over_at planned set soft active ends_here = ap (λ (p : Planned). over p.config.
 -- leg k's frame of the set comes, and is taken
 own_taken : (planned : Planned) (legs k set : ℕ) (old new : SoftState) (lines : List Line) (phase : Phase) → Agree planned legs k phase old → iub_from (old.legs k) set ≡ (old.legs k).node_b.last.iub set → WhereOver (over (uplink_of old) set old.cfn) (λ cfn. TakesFrame cfn set k) old new lines
     → UpIn planned k set Sent old → UpIn planned k set Taken new
-own_taken planned legs k set old new lines phase a came passes up = λ over_new.
+own_taken planned legs k set old new lines phase a came passes up = λ over_new readable_new.
     let change : IsFrameChange old new = up_change (over (uplink_of old) set old.cfn) set k old new lines passes in
     let over_old : Ends planned set old.cfn = ap (ends (set_frames (up_side planned) set)) (sym change.cfn) ∙ over_new in
-    let d : Delivers planned set old.ue.state.layer old.cfn ((old.legs k).node_b.last.iub set) = up over_old in
+    let readable_old : AreReadable planned set old.ue.state.layer old.cfn (old.legs k).node_b.state.frames =
+    subst (λ (u : Course UeState UeEvent). AreReadable planned set u.state.layer old.cfn (old.legs k).node_b.state.frames) change.ue
+    (subst (λ n. AreReadable planned set new.ue.state.layer n (old.legs k).node_b.state.frames) change.cfn
+    (subst (λ (legs : ℕ → LegState). AreReadable planned set new.ue.state.layer new.cfn (legs k).node_b.state.frames) change.legs readable_new)) in
+    let d : SetUp planned old.ue.state.layer set old.cfn ((old.legs k).node_b.last.iub set) = up over_old readable_old in
     let cfn : ℕ = started (set_frames (up_side planned) set) old.cfn in
     let takes : MayTake cfn set k (iub_from (old.legs k) set) old new lines =
     subst (λ (o : Option ℕ). WhereOver o (λ cfn. TakesFrame cfn set k) old new lines) (over_at planned set old a.rnc_active over_old) passes in
@@ -230,7 +207,7 @@ in_phase : (p q : Phase) (X Y : Phase → Type 0) (p' q' : Phase) → (p ≡ p')
 in_phase p q X Y p' q' is goes x = subst Y (sym is.1) (goes (subst X is.0 x))
 
 -- Iub frames of the legs come, and are combined
-up_iub : (planned : Planned) (legs k set s leg : ℕ) (old new : SoftState) (lines : List Line) → AtStage (IubUp s leg) old new lines → Gets k set (IubUp s leg) old new → Agree planned legs k (phase_of k set (IubUp s leg)) old
+up_iub : (planned : Planned) (legs k set s leg : ℕ) (old new : SoftState) (lines : List Line) → AtStage (IubUp s leg) old new lines → (s ≡ set → leg ≡ k → iub_from (old.legs k) set ≡ (old.legs k).node_b.last.iub set) → Agree planned legs k (phase_of k set (IubUp s leg)) old
     → UpIn planned k set (phase_of k set (IubUp s leg)) old → UpIn planned k set (exit_of k set (IubUp s leg)) new
 up_iub planned legs k set s leg old new lines passes gets a = elim (cases_order s set) [
   | inl own ↦ (elim (cases_order leg k) [
@@ -243,7 +220,7 @@ up_iub planned legs k set s leg old new lines passes gets a = elim (cases_order 
     | inr other ↦ subst (λ n. UpIn planned k set (phase_of k set (IubUp n leg)) old → UpIn planned k set (exit_of k set (IubUp n leg)) new) (sym own) (elim other [
       | inl early ↦ goes (phase_of k set (IubUp set leg)) (exit_of k set (IubUp set leg)) Sent Sent (iub_early k set leg early) still_sent
       | inr later ↦ goes (phase_of k set (IubUp set leg)) (exit_of k set (IubUp set leg)) Taken Taken (iub_later k set leg later)
-          (has_same planned k set old new change.ue change.cfn
+          (has_same planned k set old new change.ue change.cfn (ap (λ (legs : ℕ → LegState). legs k) change.legs)
           (other_up k set leg (over (uplink_of old) set old.cfn) old new lines (λ e. omega (arith, e, later)) (subst (λ n. WhereOver (over (uplink_of old) n old.cfn) (λ cfn. TakesFrame cfn n leg) old new lines) own passes)))
     ])
   ])
@@ -279,80 +256,116 @@ up_combine planned k set s old new lines passes = elim (cases_order s set) [
     goes : (p q p' q' : Phase) → (p ≡ p') × (q ≡ q') → (UpIn planned k set p' old → UpIn planned k set q' new) → UpIn planned k set p old → UpIn planned k set q new
     goes p q p' q' is does = in_phase p q (λ p. UpIn planned k set p old) (λ q. UpIn planned k set q new) p' q' is does
 
--- what leaves the uplink before the radio frame has come leaves this
-came_before : (planned : Planned) (k set : ℕ) (old new : SoftState) → Stays k old new → Came planned k set Before old → Came planned k set Before new
-came_before planned k set old new r c = record { halves = λ i inside member. half_stays planned k i Before old new r (c.halves i inside member); up = tt }
+-- the radio frames that came stay
+come_stay : (Comes : Option Radio → Option Radio → Type 0) (k : ℕ) (sent : ℕ → Option Radio) (old new : SoftState) → (new.legs k).node_b.state.frames ≡ (old.legs k).node_b.state.frames → ((n : ℕ) → Comes (sent n) ((old.legs k).node_b.state.frames n)) → (n : ℕ) → Comes (sent n) ((new.legs k).node_b.state.frames n)
+come_stay Comes k sent old new same come n = subst (λ (g : ℕ → Option Radio). Comes (sent n) (g n)) (sym same) (come n)
 
--- a radio frame comes to a leg
-came_radio : (planned : Planned) (legs k set leg : ℕ) (old new : SoftState) (lines : List Line) → IsPlanned planned → set < 8 → AtStage (RadioUp leg) old new lines → Gets k set (RadioUp leg) old new → Agree planned legs k (phase_of k set (RadioUp leg)) old
-    → Came planned k set (phase_of k set (RadioUp leg)) old → Came planned k set (exit_of k set (RadioUp leg)) new
-came_radio planned legs k set leg old new lines good small passes gets a = elim (cases_order leg k) [
+-- what leaves the uplink before the radio frame has come leaves this
+came_before : (planned : Planned) (Comes : Option Radio → Option Radio → Type 0) (k set : ℕ) (sent : ℕ → Option Radio) (old new : SoftState) → Stays k old new → Came planned Comes k set sent Before old → Came planned Comes k set sent Before new
+came_before planned Comes k set sent old new r c = record {
+  halves = λ i inside member. half_stays planned k i Before sent old new r (c.halves i inside member);
+  come = come_stay Comes k sent old new r.node_b_frames c.come;
+  up = tt;
+}
+
+-- a radio frame comes to leg k
+one_comes : (Comes : Option Radio → Option Radio → Type 0) (test : Bool) (sent came other_sent other_came : Option Radio) → Comes sent came → Comes other_sent other_came → Comes (if test then sent else other_sent) (if test then came else other_came)
+one_comes Comes true sent came other_sent other_came here other = here
+one_comes Comes false sent came other_sent other_came here other = other
+
+came_own : (planned : Planned) (Comes : Option Radio → Option Radio → Type 0) (legs k set : ℕ) (sent : ℕ → Option Radio) (old new : SoftState) → IsPlanned planned → set < 8 → Receives planned k old new → Comes old.ue.last.sent (radio_after (old.legs k).damage Up old.ue.last.sent) → Agree planned legs k Middle old
+    → Came planned Comes k set sent Middle old → Came planned Comes k set (λ n. if n == old.cfn % 8 then old.ue.last.sent else sent n) Sent new
+came_own planned Comes legs k set sent old new good small r comes a c = record {
+  halves = λ i inside member. half_radio planned legs k i sent old new good inside r a (c.halves i inside member);
+  come = λ n. subst (Comes (if n == old.cfn % 8 then old.ue.last.sent else sent n)) (sym (came_next planned legs k old new r a n))
+      (one_comes Comes (n == old.cfn % 8) old.ue.last.sent (radio_after (old.legs k).damage Up old.ue.last.sent) (sent n) ((old.legs k).node_b.state.frames n) comes (c.come n));
+  up = radio_delivers planned legs k set old new good small r a;
+}
+
+-- or to another leg
+came_other : (planned : Planned) (Comes : Option Radio → Option Radio → Type 0) (k set : ℕ) (sent : ℕ → Option Radio) (phase : Phase) (old new : SoftState) → Stays k old new → (UpIn planned k set phase old → UpIn planned k set phase new) → Came planned Comes k set sent phase old → Came planned Comes k set sent phase new
+came_other planned Comes k set sent phase old new r same c = record {
+  halves = λ i inside member. half_stays planned k i phase sent old new r (c.halves i inside member);
+  come = come_stay Comes k sent old new r.node_b_frames c.come;
+  up = same c.up;
+}
+
+came_radio : (planned : Planned) (Comes : Option Radio → Option Radio → Type 0) (legs k set leg : ℕ) (sent : ℕ → Option Radio) (old new : SoftState) (lines : List Line) → IsPlanned planned → set < 8 → AtStage (RadioUp leg) old new lines → GetsSo Comes k set (RadioUp leg) old new → Agree planned legs k (phase_of k set (RadioUp leg)) old
+    → Came planned Comes k set sent (phase_of k set (RadioUp leg)) old → Came planned Comes k set (with_sent k (RadioUp leg) old sent) (exit_of k set (RadioUp leg)) new
+came_radio planned Comes legs k set leg sent old new lines good small passes gets a = elim (cases_order leg k) [
   | inl own ↦ (
       let before : Agree planned legs k Middle old = subst (λ (p : Phase). Agree planned legs k p old) (radio_own k set leg own).0 a in
       let at : AtLeg k (ReceivesRadio old.ue.last.sent) old new lines = subst (λ n. AtLeg n (ReceivesRadio old.ue.last.sent) old new lines) own passes in
-      let r : Receives planned k old new = receives_in planned legs k old new lines at before in
-      goes Middle Sent (radio_own k set leg own) (λ c.
-      let halves : ForSet (up_side planned) set (λ i. HalfIn planned k i Sent new) = λ i inside member. half_radio planned legs k i old new good inside r before (gets own) (c.halves i inside member) in
-      record { halves = halves; up = radio_delivers planned legs k set old new good small r before halves }))
+      goes true (eq-eqb leg k own) Middle Sent (radio_own k set leg own) (came_own planned Comes legs k set sent old new good small (receives_in planned legs k old new lines at before) (gets own) before))
   | inr other ↦ (
       let change : IsLegChange leg passes.leg old new = leg_change leg passes.leg old new passes.is in
       elim other [
-        | inl early ↦ goes Middle Middle (radio_early k set leg early) (λ c. record {
-          halves = λ i inside member. half_stays planned k i Middle old new (other_leg_stays k leg passes.leg old new (λ e. omega (arith, e, early)) change) (c.halves i inside member);
-          up = tt;
-        })
-        | inr late ↦ goes Sent Sent (radio_late k set leg late) (λ c. record {
-          halves = λ i inside member. half_stays planned k i Sent old new (other_leg_stays k leg passes.leg old new (λ e. omega (arith, e, late)) change) (c.halves i inside member);
-          up = delivers_same planned k set old new change.ue change.cfn (change.others k (λ e. omega (arith, e, late))) c.up;
-        })
+        | inl early ↦ goes false (ne_eqb leg k (λ e. omega (arith, e, early))) Middle Middle (radio_early k set leg early)
+            (came_other planned Comes k set sent Middle old new (other_leg_stays k leg passes.leg old new (λ e. omega (arith, e, early)) change) (λ up. tt))
+        | inr late ↦ goes false (ne_eqb leg k (λ e. omega (arith, e, late))) Sent Sent (radio_late k set leg late)
+            (came_other planned Comes k set sent Sent old new (other_leg_stays k leg passes.leg old new (λ e. omega (arith, e, late)) change) (delivers_same planned k set old new change.ue change.cfn (change.others k (λ e. omega (arith, e, late)))))
       ])
 ]
   where
-    goes : (p' q' : Phase) → (phase_of k set (RadioUp leg) ≡ p') × (exit_of k set (RadioUp leg) ≡ q') → (Came planned k set p' old → Came planned k set q' new) → Came planned k set (phase_of k set (RadioUp leg)) old → Came planned k set (exit_of k set (RadioUp leg)) new
-    goes p' q' is does = in_phase (phase_of k set (RadioUp leg)) (exit_of k set (RadioUp leg)) (λ p. Came planned k set p old) (λ q. Came planned k set q new) p' q' is does
+    sent_with : Bool → ℕ → Option Radio
+    sent_with own n = if own && (n == old.cfn % 8) then old.ue.last.sent else sent n
+
+    goes : (own : Bool) → (leg == k) ≡ own → (p' q' : Phase) → (phase_of k set (RadioUp leg) ≡ p') × (exit_of k set (RadioUp leg) ≡ q') → (Came planned Comes k set sent p' old → Came planned Comes k set (sent_with own) q' new)
+        → Came planned Comes k set sent (phase_of k set (RadioUp leg)) old → Came planned Comes k set (with_sent k (RadioUp leg) old sent) (exit_of k set (RadioUp leg)) new
+    goes own test p' q' is does c =
+        subst (λ b. Came planned Comes k set (sent_with b) (exit_of k set (RadioUp leg)) new) (sym test)
+        (in_phase (phase_of k set (RadioUp leg)) (exit_of k set (RadioUp leg)) (λ p. Came planned Comes k set sent p old) (λ q. Came planned Comes k set (sent_with own) q new) p' q' is does c)
 
 -- a stage
-came_stage : (planned : Planned) (legs k set : ℕ) (stage : Stage) (old new : SoftState) (lines : List Line) → IsPlanned planned → set < 8 → AtStage stage old new lines → Gets k set stage old new → Agree planned legs k (phase_of k set stage) old
-    → Came planned k set (phase_of k set stage) old → Came planned k set (exit_of k set stage) new
-came_stage planned legs k set RncTick old new lines good small passes gets a c = came_before planned k set old new (rnc_goes_stays k RncTicks old new tt passes.0) c
-came_stage planned legs k set (IubDown leg s) old new lines good small passes gets a c = came_before planned k set old new (iub_down_stays k leg s (old.rnc.last.iub s) old new lines passes) c
-came_stage planned legs k set (RadioDown leg) old new lines good small passes gets a c = came_before planned k set old new (radio_down_stays k leg old new lines passes) c
-came_stage planned legs k set UeTick old new lines good small passes gets a c = record {
-  halves = λ i inside member. half_tick planned k i old new good inside (ticks_in planned legs k old new lines good passes a) (c.halves i inside member);
-  up = tt;
-}
-came_stage planned legs k set (RadioUp leg) old new lines good small passes gets a c = came_radio planned legs k set leg old new lines good small passes gets a c
-came_stage planned legs k set (IubUp s leg) old new lines good small passes gets a c =
-    let late = iub_late k set s leg in
+came_stage : (planned : Planned) (Comes : Option Radio → Option Radio → Type 0) (legs k set : ℕ) (sent : ℕ → Option Radio) (stage : Stage) (old new : SoftState) (lines : List Line) → IsPlanned planned → set < 8 → AtStage stage old new lines → GetsSo Comes k set stage old new → Agree planned legs k (phase_of k set stage) old
+    → Came planned Comes k set sent (phase_of k set stage) old → Came planned Comes k set (with_sent k stage old sent) (exit_of k set stage) new
+came_stage planned Comes legs k set sent RncTick old new lines good small passes gets a c = came_before planned Comes k set sent old new (rnc_goes_stays k RncTicks old new tt passes.0) c
+came_stage planned Comes legs k set sent (IubDown leg s) old new lines good small passes gets a c = came_before planned Comes k set sent old new (iub_down_stays k leg s (old.rnc.last.iub s) old new lines passes) c
+came_stage planned Comes legs k set sent (RadioDown leg) old new lines good small passes gets a c = came_before planned Comes k set sent old new (radio_down_stays k leg old new lines passes) c
+came_stage planned Comes legs k set sent UeTick old new lines good small passes gets a c =
+    let ticks : Ticks planned old new = ticks_in planned legs k old new lines good passes a in
     record {
-      halves = λ i inside member. half_goes_on planned k i (phase_of k set (IubUp s leg)) (exit_of k set (IubUp s leg)) old new late.0 late.1 (frame_stays k old new (up_change (over (uplink_of old) s old.cfn) s leg old new lines passes)) (c.halves i inside member);
+      halves = λ i inside member. half_tick planned i sent old new good inside ticks (c.halves i inside member);
+      come = come_stay Comes k sent old new (ap (λ (legs : ℕ → LegState). (legs k).node_b.state.frames) ticks.legs) c.come;
+      up = tt;
+    }
+came_stage planned Comes legs k set sent (RadioUp leg) old new lines good small passes gets a c = came_radio planned Comes legs k set leg sent old new lines good small passes gets a c
+came_stage planned Comes legs k set sent (IubUp s leg) old new lines good small passes gets a c =
+    let late = iub_late k set s leg in
+    let r : Stays k old new = frame_stays k old new (up_change (over (uplink_of old) s old.cfn) s leg old new lines passes) in
+    record {
+      halves = λ i inside member. half_goes_on planned k i (phase_of k set (IubUp s leg)) (exit_of k set (IubUp s leg)) sent old new late.0 late.1 r (c.halves i inside member);
+      come = come_stay Comes k sent old new r.node_b_frames c.come;
       up = up_iub planned legs k set s leg old new lines passes gets a c.up;
     }
-came_stage planned legs k set (Combine s) old new lines good small passes gets a c =
+came_stage planned Comes legs k set sent (Combine s) old new lines good small passes gets a c =
     let late = combine_late k set s in
+    let r : Stays k old new = set_stays k s old new (set_change (over (uplink_of old) s old.cfn) s old new lines passes) in
     record {
-      halves = λ i inside member. half_goes_on planned k i (phase_of k set (Combine s)) (exit_of k set (Combine s)) old new late.0 late.1 (set_stays k s old new (set_change (over (uplink_of old) s old.cfn) s old new lines passes)) (c.halves i inside member);
+      halves = λ i inside member. half_goes_on planned k i (phase_of k set (Combine s)) (exit_of k set (Combine s)) sent old new late.0 late.1 r (c.halves i inside member);
+      come = come_stay Comes k sent old new r.node_b_frames c.come;
       up = up_combine planned k set s old new lines passes c.up;
     }
 
-came_framed : (planned : Planned) (k set : ℕ) → IsPlanned planned → (soft : SoftState) → Came planned k set Over soft → Came planned k set Before (framed soft)
-came_framed planned k set good soft c = record { halves = λ i inside member. half_framed planned k i soft good inside (c.halves i inside member); up = tt }
+came_framed : (planned : Planned) (Comes : Option Radio → Option Radio → Type 0) (k set : ℕ) (sent : ℕ → Option Radio) → IsPlanned planned → (soft : SoftState) → Came planned Comes k set sent Over soft → Came planned Comes k set sent Before (framed soft)
+came_framed planned Comes k set sent good soft c = record { halves = λ i inside member. half_framed planned i sent soft good inside (c.halves i inside member); come = c.come; up = tt }
 
--- a run in which leg k gets what the terminal sends
-abbrev pub CameAt : Planned → ℕ → ℕ → Point → Type 0
-CameAt planned k set point = InPoint (Came planned k set) k set point
+-- a run in which leg k gets what the terminal sends in some way
+abbrev pub CameAt : Planned → (Option Radio → Option Radio → Type 0) → ℕ → ℕ → (ℕ → Option Radio) → Point → Type 0
+CameAt planned Comes k set sent point = InPoint (Came planned Comes k set sent) k set point
 
-pub runs_come : (planned : Planned) (legs k set : ℕ) (moves : List Move) (old new : Point) (lines : List Line) → IsPlanned planned → k < legs → set < 8 → (run : Runs old moves new lines) → InStages (Gets k set) moves old new lines run
-    → AgreeAt planned legs k set old → CameAt planned k set old → CameAt planned k set new
-runs_come planned legs k set [] old new lines good there small run gets a c = subst (CameAt planned k set) (sym run.0) c
-runs_come planned legs k set (Between event ∷ moves) old new lines good there small run gets a c =
+pub runs_come : (planned : Planned) (Comes : Option Radio → Option Radio → Type 0) (legs k set : ℕ) (sent : ℕ → Option Radio) (moves : List Move) (old new : Point) (lines : List Line) → IsPlanned planned → k < legs → set < 8 → (run : Runs old moves new lines) → InStages (GetsSo Comes k set) moves old new lines run
+    → AgreeAt planned legs k set old → CameAt planned Comes k set sent old → CameAt planned Comes k set (frames_sent k moves old new lines run sent) new
+runs_come planned Comes legs k set sent [] old new lines good there small run gets a c = subst (CameAt planned Comes k set sent) (sym run.0) c
+runs_come planned Comes legs k set sent (Between event ∷ moves) old new lines good there small run gets a c =
     let step : HappensBetween old event run.next run.own = run.step in
-    let before : Came planned k set Before old.soft = at_rest (Came planned k set) k set old step.at_rest c in
-    let after : CameAt planned k set run.next = subst (CameAt planned k set) (sym step.is) (came_before planned k set old.soft step.soft (between_stays k old.soft event step.soft run.own step.happens) before) in
-    runs_come planned legs k set moves run.next new run.rest good there small run.later gets (agree_event planned legs k set old event run.next run.own good step a) after
-runs_come planned legs k set (Next ∷ moves) old new lines good there small run gets a c =
+    let before : Came planned Comes k set sent Before old.soft = at_rest (Came planned Comes k set sent) k set old step.at_rest c in
+    let after : CameAt planned Comes k set sent run.next = subst (CameAt planned Comes k set sent) (sym step.is) (came_before planned Comes k set sent old.soft step.soft (between_stays k old.soft event step.soft run.own step.happens) before) in
+    runs_come planned Comes legs k set sent moves run.next new run.rest good there small run.later gets (agree_event planned legs k set old event run.next run.own good step a) after
+runs_come planned Comes legs k set sent (Next ∷ moves) old new lines good there small run gets a c =
     let step : Passes old run.next run.own = run.step in
-    let after : Came planned k set (exit_of k set old.stage) step.soft = came_stage planned legs k set old.stage old.soft step.soft run.own good small step.passes gets.0 a c in
+    let more : ℕ → Option Radio = with_sent k old.stage old.soft sent in
+    let after : Came planned Comes k set more (exit_of k set old.stage) step.soft = came_stage planned Comes legs k set sent old.stage old.soft step.soft run.own good small step.passes gets.0 a c in
     let is : run.next ≡ behind step.soft (next_stage legs old.stage) = step.is ∙ ap (λ n. behind step.soft (next_stage n old.stage)) a.count in
-    let next : CameAt planned k set run.next = subst (CameAt planned k set) (sym is) (next_holds (Came planned k set) legs k set there small (came_framed planned k set good) old.stage step.soft after) in
-    runs_come planned legs k set moves run.next new run.rest good there small run.later gets.1 (agree_next planned legs k set old run.next run.own good there small step a) next
+    let next : CameAt planned Comes k set more run.next = subst (CameAt planned Comes k set more) (sym is) (next_holds (Came planned Comes k set more) legs k set there small (came_framed planned Comes k set more good) old.stage step.soft after) in
+    runs_come planned Comes legs k set more moves run.next new run.rest good there small run.later gets.1 (agree_next planned legs k set old run.next run.own good there small step a) next

@@ -105,45 +105,45 @@ stay_to planned dir (Frame ∷ events) old last new lines own run f good a few =
     (behind ∙ on ∙ come_here planned dir old run.next run.own run.step.frame good a, stay_to planned dir events run.next last new run.rest own run.later f good p.agree (omega (arith, less)))
 
 -- the combination of one that is there is found
-find_down : (planned : Planned) (reader : RxFrames) (old new : LinkState) (lines : List Line) (f : IsFrame old new lines) → IsPlanned planned → Agree planned old → (arrives : ArrivesDamaged Down old new lines f) → KeepsRadio planned Down (Some arrives.received) (rx_frame_at reader.frames (old.rnc.state.cfn % 8)) → FindsCombination planned Down reader old new lines f
+find_down : (planned : Planned) (reader : RxFrames) (old new : LinkState) (lines : List Line) (f : IsFrame old new lines) → IsPlanned planned → Agree planned old → (arrives : ArrivesDamaged Down old new lines f) → KeepsRadio planned Down (Some arrives.comes.received) (rx_frame_at reader.frames (old.rnc.state.cfn % 8)) → FindsCombination planned Down reader old new lines f
 find_down planned reader old new lines f good a arrives keeps =
     let p : Parts planned old new lines f = parts planned old new lines f good a in
     let w : IsDownFrame planned f.node_b arrives.radio = subst (IsRadio planned f.node_b) arrives.sent p.departs.radio in
     let kept : RxFrame = rx_frame_at reader.frames (old.rnc.state.cfn % 8) in
-    let little : IsLittleDamaged w.frame.tfci w.frame.cells arrives.received.tfci arrives.received.cells =
-    subst (λ (cells : List Trit). IsLittleDamaged w.frame.tfci cells arrives.received.tfci arrives.received.cells) w.cells (subst (λ (tfci : List Bit). IsLittleDamaged tfci arrives.radio.cells arrives.received.tfci arrives.received.cells) w.tfci arrives.little) in
+    let little : IsLittleDamaged w.frame.tfci w.frame.cells arrives.comes.received.tfci arrives.comes.received.cells =
+    subst (λ (cells : List Trit). IsLittleDamaged w.frame.tfci cells arrives.comes.received.tfci arrives.comes.received.cells) w.cells (subst (λ (tfci : List Bit). IsLittleDamaged tfci arrives.radio.cells arrives.comes.received.tfci arrives.comes.received.cells) w.tfci arrives.comes.little) in
     record {
       radio = arrives.radio;
       sent = arrives.sent;
       combination = w.combination;
       sends = record { written = w; is = refl };
-      found = kept-damaged planned Down (down_multiplexed planned w.tti f.node_b.cfn w.combination) w.combination w.frame arrives.received.tfci arrives.received.cells kept w.listed good.good.downlink.side.few_combinations w.written little keeps;
+      found = kept-damaged planned Down (down_multiplexed planned w.tti f.node_b.cfn w.combination) w.combination w.frame arrives.comes.received.tfci arrives.comes.received.cells kept w.listed good.good.downlink.side.few_combinations w.written little keeps;
     }
 
-find_up : (planned : Planned) (reader : RxFrames) (old new : LinkState) (lines : List Line) (f : IsFrame old new lines) → IsPlanned planned → Agree planned old → (arrives : ArrivesDamaged Up old new lines f) → KeepsRadio planned Up (Some arrives.received) (rx_frame_at reader.frames (old.rnc.state.cfn % 8)) → FindsCombination planned Up reader old new lines f
+find_up : (planned : Planned) (reader : RxFrames) (old new : LinkState) (lines : List Line) (f : IsFrame old new lines) → IsPlanned planned → Agree planned old → (arrives : ArrivesDamaged Up old new lines f) → KeepsRadio planned Up (Some arrives.comes.received) (rx_frame_at reader.frames (old.rnc.state.cfn % 8)) → FindsCombination planned Up reader old new lines f
 find_up planned reader old new lines f good a arrives keeps =
     let p : Parts planned old new lines f = parts planned old new lines f good a in
     let s : Starts planned old new lines f = starts_in planned old new lines f good a in
     let same : p.ticks.radio ≡ arrives.radio = (let both : Some p.ticks.radio ≡ Some arrives.radio = sym p.ticks.sent ∙ arrives.sent in cc) in
     let w : IsUpFrame planned f.kept.cfn new.ue.state.layer arrives.radio = subst (IsUpFrame planned f.kept.cfn new.ue.state.layer) same p.ticks.written in
     let kept : RxFrame = rx_frame_at reader.frames (old.rnc.state.cfn % 8) in
-    let little : IsLittleDamaged w.frame.tfci w.frame.cells arrives.received.tfci arrives.received.cells =
-    subst (λ (cells : List Trit). IsLittleDamaged w.frame.tfci cells arrives.received.tfci arrives.received.cells) w.cells (subst (λ (tfci : List Bit). IsLittleDamaged tfci arrives.radio.cells arrives.received.tfci arrives.received.cells) w.tfci arrives.little) in
+    let little : IsLittleDamaged w.frame.tfci w.frame.cells arrives.comes.received.tfci arrives.comes.received.cells =
+    subst (λ (cells : List Trit). IsLittleDamaged w.frame.tfci cells arrives.comes.received.tfci arrives.comes.received.cells) w.cells (subst (λ (tfci : List Bit). IsLittleDamaged tfci arrives.radio.cells arrives.comes.received.tfci arrives.comes.received.cells) w.tfci arrives.comes.little) in
     record {
       radio = arrives.radio;
       sent = arrives.sent;
       combination = new.ue.state.layer.running;
       sends = record { written = w; is = refl };
-      found = kept-damaged planned Up (up_multiplexed planned w.tti f.kept.cfn new.ue.state.layer.running) new.ue.state.layer.running w.frame arrives.received.tfci arrives.received.cells kept s.start.best.candidate.there good.good.uplink.side.few_combinations w.written little keeps;
+      found = kept-damaged planned Up (up_multiplexed planned w.tti f.kept.cfn new.ue.state.layer.running) new.ue.state.layer.running w.frame arrives.comes.received.tfci arrives.comes.received.cells kept s.start.best.candidate.there good.good.uplink.side.few_combinations w.written little keeps;
     }
 
 find_one : (planned : Planned) (dir : Dir) (reader : RxFrames) (end : LinkState) (cfn : ℕ) (old new : LinkState) (lines : List Line) (f : IsFrame old new lines) → IsPlanned planned → Agree planned old → AreHeard planned dir cfn (frames_come dir end) reader → StaysTo dir end old new lines f → ArrivesDamaged dir old new lines f → FindsCombination planned dir reader old new lines f
 find_one planned dir reader end cfn old new lines f good a heard stay arrives =
     let k : ℕ = old.rnc.state.cfn % 8 in
-    let there : frames_come dir end k ≡ Some arrives.received = stay ∙ ap (radio_after old.damage dir) arrives.sent ∙ arrives.came in
+    let there : frames_come dir end k ≡ Some arrives.comes.received = stay ∙ ap (radio_after old.damage dir) arrives.sent ∙ arrives.comes.is in
     by dir arrives (subst (λ (o : Option Radio). KeepsRadio planned dir o (rx_frame_at reader.frames k)) there (heard.kept k (mod_below old.rnc.state.cfn 8 (omega arith))))
   where
-    by : (dir : Dir) → (arrives : ArrivesDamaged dir old new lines f) → KeepsRadio planned dir (Some arrives.received) (rx_frame_at reader.frames (old.rnc.state.cfn % 8)) → FindsCombination planned dir reader old new lines f
+    by : (dir : Dir) → (arrives : ArrivesDamaged dir old new lines f) → KeepsRadio planned dir (Some arrives.comes.received) (rx_frame_at reader.frames (old.rnc.state.cfn % 8)) → FindsCombination planned dir reader old new lines f
     by Up arrives keeps = find_up planned reader old new lines f good a arrives keeps
     by Down arrives keeps = find_down planned reader old new lines f good a arrives keeps
 

@@ -268,13 +268,13 @@ down_interval planned i events start mid new lines good begins run inside t arri
           none_damaged planned end.reader i (f.node_b.given i).format (f.node_b.given i).bits good inside (heard_listed planned c i (frames_come Down new) end.reader end.heard)
           (was (frames_come Down mid) end.reader (heard_as planned Down c c (frames_come Down new) (tti_sent Down (frames_of planned i) mid new t (frames_come Down mid)) end.reader refl (λ k. sym (come_tti planned Down (frames_of planned i) mid new t good a arrives k)) end.heard))
       | inr little ↦
-          let sent : WasSent planned little.sent i (f.node_b.given i).format (f.node_b.given i).bits = was (λ k. None) little.sent little.heard in
+          let sent : WasSent planned little.differ.sent i (f.node_b.given i).format (f.node_b.given i).bits = was (λ k. None) little.differ.sent little.differ.heard in
           record {
-            sent = little.sent;
+            sent = little.differ.sent;
             was = sent;
-            combinations = near_combinations planned Down (multiplexed planned) i c (c % frames_of planned i + 1) (DownLoaded planned i (f.node_b.given i)) AnyLast AnyStep (tti_sent Down (frames_of planned i) mid new t (λ k. None)) (frames_come Down new) little.sent end.reader good.good.downlink.side.few_combinations little.heard end.heard
+            combinations = near_combinations planned Down (multiplexed planned) i c (c % frames_of planned i + 1) (DownLoaded planned i (f.node_b.given i)) AnyLast AnyStep (tti_sent Down (frames_of planned i) mid new t (λ k. None)) (frames_come Down new) little.differ.sent end.reader good.good.downlink.side.few_combinations little.differ.heard end.heard
                 (near_tti planned Down (frames_of planned i) mid new t good a near) (half (λ k. None)) all.at_end;
-            few = little.few end.reader end.heard (f.node_b.given i).format (sent_formats planned Down (multiplexed planned) little.sent i (f.node_b.given i).format sent.sequence sent.sent.loaded sent.sent.frames sent.sent.from.format inside);
+            few = little.differ.few end.reader end.heard (f.node_b.given i).format (sent_formats planned Down (multiplexed planned) little.differ.sent i (f.node_b.given i).format sent.sequence sent.sent.loaded sent.sent.frames sent.sent.from.format inside);
           }
     ]
 

@@ -37,7 +37,7 @@ use Rattle.dch_runlaw.proofs.SizedRuns.{is_sized}
 use Rattle.dch_runlaw.proofs.ClearSent.{heard_as}
 use Rattle.dch_runlaw.proofs.ClearTtis.{over_or_on}
 use Rattle.dch_runlaw.proofs.ClearUp.{KeepsFormats, UpHalf, UpLoaded, whole_sent}
-use Rattle.dch_runlaw.specs.Intervals.{AreGood, ArrivesDamaged, ArrivesUp, InTti, Tti, UpAsGiven, frames_come, frames_sent, tti_sent}
+use Rattle.dch_runlaw.specs.Intervals.{AreFewUp, AreGood, ArrivesDamaged, ArrivesUp, DifferLittle, InTti, MayComeDamaged, Tti, UpAsGiven, frames_come, frames_sent, tti_sent}
 use Rattle.dch_runlaw.proofs.IntervalAgree.{Agree, Parts, parts, runs_agree}
 use Rattle.dch_runlaw.proofs.IntervalCombinations.{finds_all}
 use Rattle.dch_runlaw.proofs.IntervalCounting.{Watch, stayed, starts_zero}
@@ -76,16 +76,23 @@ set_is side set cfn good on = elim (among_frames side set (length side.channels)
 set_same : (side : Side) (set i : ℕ) → IsSide side → i < length side.channels → (channel_at side i).set ≡ set → set_frames side set ≡ (channel_at side i).frames
 set_same side set i good inside member = ap (set_frames side) (sym member) ∙ set_frames-member side i good inside
 
--- the Iub frame of a set
-record SetUp (planned : Planned) (layer : Layer) (set cfn : ℕ) (iub : Option (List ℕ)) : Type 0 where
-  octets : List ℕ
-  sent : iub ≡ Some octets
-  held : HeldSet
-  written : IsWrittenForm planned.config Up set octets (started (set_frames (up_side planned) set) cfn) planned.config.qe held
-  carries : ForSet (up_side planned) set (λ i. CarriesGiven (layer.given i) (held_at held.blocks i))
-  good : ForSet (up_side planned) set (λ i. AreGood (held_at held.blocks i))
+-- the Iub frame of a set with the blocks that layer 2 of the terminal gave to its channels, all good, and the CFN at
+-- which the TTI started
+pub record SetUp (planned : Planned) (layer : Layer) (set cfn : ℕ) (iub : Option (List ℕ)) : Type 0 where
+  pub octets : List ℕ
+  pub sent : iub ≡ Some octets
+  pub held : HeldSet
+  pub written : IsWrittenForm planned.config Up set octets (started (set_frames (up_side planned) set) cfn) planned.config.qe held
+  pub carries : ForSet (up_side planned) set (λ i. CarriesGiven (layer.given i) (held_at held.blocks i))
+  pub good : ForSet (up_side planned) set (λ i. AreGood (held_at held.blocks i))
 
-set_up : (planned : Planned) (reader : RxFrames) (layer : Layer) (set : ℕ) (lines : List Line) (iub : Option (List ℕ)) → IsPlanned planned → ends (set_frames (up_side planned) set) reader.cfn ≡ true
+-- whoever reads the radio frames that came finds in each channel of a set what layer 2 of the terminal gave to it, with
+-- few cells changed
+abbrev pub AreReadable : Planned → ℕ → Layer → ℕ → (ℕ → Option Radio) → Type 0
+AreReadable planned set layer cfn come =
+    (reader : RxFrames) → AreHeard planned Up cfn come reader → ForSet (up_side planned) set (λ i. WasDamaged planned reader i (layer.given i).format (joined_bits (layer.given i).blocks))
+
+pub set_up : (planned : Planned) (reader : RxFrames) (layer : Layer) (set : ℕ) (lines : List Line) (iub : Option (List ℕ)) → IsPlanned planned → ends (set_frames (up_side planned) set) reader.cfn ≡ true
     → ForSet (up_side planned) set (λ i. WasDamaged planned reader i (layer.given i).format (joined_bits (layer.given i).blocks)) → DeliversSet planned reader set lines iub → SetUp planned layer set reader.cfn iub
 set_up planned reader layer set lines iub good over were (inl waits) = absurd (let both : false ≡ true = sym waits.on ∙ over in cc)
 set_up planned reader layer set lines iub good over were (inr (inl lost)) =
@@ -101,6 +108,37 @@ set_up planned reader layer set lines iub good over were (inr (inr up)) = record
       record { format = sent.number (held_at up.held.blocks i) (up.read i inside member); bits = (sent.arrives (held_at up.held.blocks i) (up.read i inside member)).same };
   good = λ i inside member. ((uplink_damaged planned reader i (layer.given i).format (joined_bits (layer.given i).blocks) good inside (were i inside member)).arrives (held_at up.held.blocks i) (up.read i inside member)).good;
 }
+
+-- all radio frames of a TTI of each channel of a set were sent, and its blocks have their format
+pub record SetSent (planned : Planned) (set : ℕ) (layer : Layer) (cfn : ℕ) (sent : ℕ → Option Radio) : Type 0 where
+  pub halves : ForSet (up_side planned) set (λ i. UpHalf planned i (layer.given i) (λ c. c ≡ layer.running) cfn sent (cfn % frames_of planned i + 1))
+  pub ends : ForSet (up_side planned) set (λ i. cfn % frames_of planned i + 1 ≡ frames_of planned i)
+  pub wholes : AreAllWhole (up_side planned) layer
+
+was_sent : (planned : Planned) (set : ℕ) (layer : Layer) (cfn : ℕ) (sent : ℕ → Option Radio) (reader : RxFrames) → IsPlanned planned → SetSent planned set layer cfn sent → AreHeard planned Up cfn sent reader
+    → ForSet (up_side planned) set (λ i. WasSent planned reader i (layer.given i).format (joined_bits (layer.given i).blocks))
+was_sent planned set layer cfn sent reader good all heard = λ i inside member.
+    whole_sent planned i cfn (cfn % frames_of planned i + 1) (layer.given i) (λ c. c ≡ layer.running) sent reader good inside heard (all.halves i inside member) (all.ends i inside member) (all.wholes i inside)
+
+-- they came as they were sent
+pub same_readable : (planned : Planned) (set : ℕ) (layer : Layer) (cfn : ℕ) (sent come : ℕ → Option Radio) → IsPlanned planned → SetSent planned set layer cfn sent → ((k : ℕ) → come k ≡ sent k) → AreReadable planned set layer cfn come
+same_readable planned set layer cfn sent come good all same = λ reader heard i inside member.
+    none_damaged planned reader i (layer.given i).format (joined_bits (layer.given i).blocks) good inside
+    (was_sent planned set layer cfn sent reader good all (heard_as planned Up cfn cfn come sent reader refl (λ k. sym (same k)) heard) i inside member)
+
+-- or with little damage
+pub near_readable : (planned : Planned) (set : ℕ) (layer : Layer) (cfn : ℕ) (sent come : ℕ → Option Radio) → IsPlanned planned → SetSent planned set layer cfn sent → ((k : ℕ) → MayComeDamaged (sent k) (come k))
+    → DifferLittle planned Up cfn (AreFewUp planned set) sent come → AreReadable planned set layer cfn come
+near_readable planned set layer cfn sent come good all near differ = λ reader heard i inside member.
+    let format : ℕ = (layer.given i).format in
+    let was : WasSent planned differ.sent i format (joined_bits (layer.given i).blocks) = was_sent planned set layer cfn sent differ.sent good all differ.heard i inside member in
+    record {
+      sent = differ.sent;
+      was = was;
+      combinations = near_combinations planned Up (multiplexed planned) i cfn (cfn % frames_of planned i + 1) (UpLoaded planned i (layer.given i)) (λ c. c ≡ layer.running) (KeepsFormats (up_side planned)) sent come differ.sent reader good.good.uplink.side.few_combinations differ.heard heard
+          near (all.halves i inside member) (all.ends i inside member);
+      few = differ.few reader heard i inside member format was.sequence (sent_formats planned Up (multiplexed planned) differ.sent i format was.sequence was.sent.loaded was.sent.frames was.sent.from.format inside) (λ n below. (was.sent.frames n below).found);
+    }
 
 -- a value that never changes
 abbrev no_watch : (planned : Planned) (frames : ℕ) → Watch planned frames ℕ
@@ -198,28 +236,16 @@ up_interval planned set events start mid new lines good begins eighth run small 
     whole : (i : ℕ) → i < length side.channels → (channel_at side i).set ≡ set → c % frames_of planned i + 1 ≡ frames_of planned i
     whole i inside member = subst (λ n. c % n + 1 ≡ n) (same i inside member) at_end
 
-    was : (g : ℕ → Option Radio) (reader : RxFrames) → AreHeard planned Up c (tti_sent Up frames mid new t g) reader → ForSet side set (λ i. WasSent planned reader i (new.ue.state.layer.given i).format (joined_bits (new.ue.state.layer.given i).blocks))
-    was g reader sent = λ i inside member.
-        whole_sent planned i c (c % frames_of planned i + 1) (new.ue.state.layer.given i) (λ c. c ≡ new.ue.state.layer.running) (tti_sent Up frames mid new t g) reader good inside sent (half g i inside member) (whole i inside member) (wholes i inside)
+    all : (g : ℕ → Option Radio) → SetSent planned set new.ue.state.layer c (tti_sent Up frames mid new t g)
+    all g = record { halves = half g; ends = whole; wholes = wholes }
 
-    were : ForSet side set (λ i. WasDamaged planned p.receives.rx_frames i (new.ue.state.layer.given i).format (joined_bits (new.ue.state.layer.given i).blocks))
-    were = elim arrive [
-      | inl arrives ↦ λ i inside member.
-          none_damaged planned p.receives.rx_frames i (new.ue.state.layer.given i).format (joined_bits (new.ue.state.layer.given i).blocks) good inside
-          (was (frames_come Up mid) p.receives.rx_frames
-          (heard_as planned Up c c (frames_come Up new) (tti_sent Up frames mid new t (frames_come Up mid)) p.receives.rx_frames refl (λ k. sym (come_tti planned Up frames mid new t good a arrives k)) heard)
-          i inside member)
-      | inr little ↦ λ i inside member.
-          let format : ℕ = (new.ue.state.layer.given i).format in
-          let sent : WasSent planned little.sent i format (joined_bits (new.ue.state.layer.given i).blocks) = was (λ k. None) little.sent little.heard i inside member in
-          record {
-            sent = little.sent;
-            was = sent;
-            combinations = near_combinations planned Up (multiplexed planned) i c (c % frames_of planned i + 1) (UpLoaded planned i (new.ue.state.layer.given i)) (λ c. c ≡ new.ue.state.layer.running) (KeepsFormats side) (tti_sent Up frames mid new t (λ k. None)) (frames_come Up new) little.sent p.receives.rx_frames good.good.uplink.side.few_combinations little.heard heard
-                (near_tti planned Up frames mid new t good a near) (half (λ k. None) i inside member) (whole i inside member);
-            few = little.few p.receives.rx_frames heard i inside member format sent.sequence (sent_formats planned Up (multiplexed planned) little.sent i format sent.sequence sent.sent.loaded sent.sent.frames sent.sent.from.format inside) (λ n below. (sent.sent.frames n below).found);
-          }
+    readable : AreReadable planned set new.ue.state.layer c (frames_come Up new)
+    readable = elim arrive [
+      | inl arrives ↦
+          same_readable planned set new.ue.state.layer c (tti_sent Up frames mid new t (frames_come Up mid)) (frames_come Up new) good (all (frames_come Up mid)) (come_tti planned Up frames mid new t good a arrives)
+      | inr little ↦
+          near_readable planned set new.ue.state.layer c (tti_sent Up frames mid new t (λ k. None)) (frames_come Up new) good (all (λ k. None)) (near_tti planned Up frames mid new t good a near) little.differ
     ]
 
     done : SetUp planned new.ue.state.layer set p.receives.rx_frames.cfn (f.up_output.iub set)
-    done = set_up planned p.receives.rx_frames new.ue.state.layer set (p.receives.lines set) (f.up_output.iub set) good (ap (ends frames) rx_cfn ∙ over) were (p.receives.sets set small)
+    done = set_up planned p.receives.rx_frames new.ue.state.layer set (p.receives.lines set) (f.up_output.iub set) good (ap (ends frames) rx_cfn ∙ over) (readable p.receives.rx_frames heard) (p.receives.sets set small)

@@ -1,4 +1,4 @@
--- What the network controller takes of a TTI of which one leg got all as it was sent.
+-- What the network controller takes of a TTI of which one leg got all as it was sent, or with little damage.
 use Rattle.std.proofs.Common.{◌≡◌, ◌<◌, ◌+◌, ◌*◌, ◌%◌, ◌∙◌, ℕ, zero, suc, List, [], ◌∷◌, length, true, false, Option, Some, None, take, drop, arith, refl, sym, ap, ap₂, subst, inl, inr}
 use Rattle.std.specs.Prelude.{◌==◌, nat_lt, slice_index_or}
 use Rattle.std.proofs.lemmas.Bool.{cases_eq, cases_lt, eq-eqb}
@@ -23,6 +23,7 @@ use Rattle.dch_combine.specs.Sent.{AreSent, HasAll, IsSentBlock, TakesSent}
 use Rattle.dch_combine.proofs.Frames.{good_inside}
 use Rattle.dch_combine.proofs.Sent.{takes_sent}
 use Rattle.dch_node.specs.Lines.{Line}
+use Rattle.dch_node.specs.Values.{Radio}
 use Rattle.dch_layer2.specs.Layers.{Given, Layer}
 use Rattle.dch_layer2.specs.Joined.{CarriesGiven, joined_bits}
 use Rattle.dch_layer2.specs.Reading.{Read}
@@ -34,20 +35,21 @@ use Rattle.dch_linkcmd.specs.LinkSoft.{SoftState, given as given_up}
 use Rattle.dch_linkcmd.specs.SoftStages.{AtStage, GivesFrame, RncGoes, WhereOver}
 use Rattle.dch_linkcmd.specs.soft_stage.Stage.{Stage}
 use Rattle.dch_linkcmd.specs.soft_stage.Stage.TheVariants.{Combine}
-use Rattle.dch_runlaw.specs.Intervals.{AreGood}
+use Rattle.dch_runlaw.specs.Intervals.{AreGood, MayComeDamaged}
 use Rattle.dch_runlaw.specs.Sized.{AreSized}
 use Rattle.dch_runlaw.proofs.ClearBlocks.{arrive_good}
 use Rattle.dch_runlaw.proofs.ClearSame.{same_bits}
 use Rattle.dch_runlaw.proofs.ClearTtis.{over_or_on}
 use Rattle.dch_runlaw.proofs.IntervalCounting.{starts_zero}
-use Rattle.dch_runlaw.specs.Legs.{AreAllGiven, Gets, OthersAreSent, TakesGiven, as_sent}
+use Rattle.dch_runlaw.specs.Legs.{AreAllGiven, ArrivesAtLeg, AsSent, GetsSo, OthersAreSent, TakesGiven, as_sent, tti_sent}
 use Rattle.dch_runlaw.specs.SoftRuns.{Move, Point, Runs, opened_point}
 use Rattle.dch_runlaw.specs.Ttis.{InTti, Tti}
 use Rattle.dch_runlaw.proofs.Agreeing.{Agree, AgreeAt, frames_of, opened_agree, runs_agree, up_side}
 use Rattle.dch_runlaw.proofs.Changes.{rnc_step}
 use Rattle.dch_runlaw.proofs.Coming.{frames_are}
 use Rattle.dch_runlaw.proofs.Counting.{Counted, counted, sent_before}
-use Rattle.dch_runlaw.proofs.Delivering.{Came, CameAt, Ends, HasFrame, over_at, runs_come, set_own}
+use Rattle.dch_runlaw.proofs.Delivering.{Came, CameAt, Ends, HasFrame, last_frame, over_at, runs_come, set_own}
+use Rattle.dch_runlaw.proofs.IntervalSets.{SetSent, near_readable, same_readable}
 use Rattle.dch_runlaw.proofs.Phases.{Phase, Taken, phase_of}
 
 -- blocks that were given have their format
@@ -203,10 +205,10 @@ reads planned set k i cfn layer old new octets inside member active has_sent has
 
 -- a TTI at whose end the frames of the legs are combined
 pub leg_takes : (planned : Planned) (first legs k i : ℕ) (moves : List Move) (mid last : Point) (new : SoftState) (lines own : List Line) → Runs (opened_point planned first legs) moves mid lines → IsPlanned planned → first % 8 ≡ 0 → k < legs → i < length planned.config.uplink.side.channels
-    → (t : Tti (channel_at planned.config.uplink.side i).frames (channel_at planned.config.uplink.side i).set mid last) → InTti (Gets k (channel_at planned.config.uplink.side i).set) (channel_at planned.config.uplink.side i).frames (channel_at planned.config.uplink.side i).set mid last t
+    → (t : Tti (channel_at planned.config.uplink.side i).frames (channel_at planned.config.uplink.side i).set mid last) → ArrivesAtLeg planned k (channel_at planned.config.uplink.side i).frames (channel_at planned.config.uplink.side i).set mid last t
     → OthersAreSent (last.soft.frames (channel_at planned.config.uplink.side i).set) k i (as_sent (channel_at planned.config.uplink.side i) (last.soft.ue.state.layer.given i)) → AtStage (Combine (channel_at planned.config.uplink.side i).set) last.soft new own
     → TakesGiven planned (channel_at planned.config.uplink.side i).set i (last.soft.ue.state.layer.given i) (channel_at planned.config.uplink.side i).frames mid last t new
-leg_takes planned first legs k i moves mid last new lines own run good eighth there inside t gets others passes = elim gives [
+leg_takes planned first legs k i moves mid last new lines own run good eighth there inside t arrives others passes = elim gives [
   | inl nothing ↦ absurd (let both : None ≡ Some has.frame = sym (nothing.none k) ∙ has.is in cc)
   | inr frame ↦ (
       let combined : IsCombinedFrame planned.config set (last.soft.frames set) cfn frame.octets = subst (λ (p : Planned). IsCombinedFrame p.config set (last.soft.frames set) cfn frame.octets) b.rnc_active frame.combined in
@@ -256,11 +258,12 @@ leg_takes planned first legs k i moves mid last new lines own run good eighth th
         let none : mid.soft.cfn % frames_of planned j ≡ 0 = ap (λ n. mid.soft.cfn % n) same ∙ zero_at in
         omega (arith, some, none)
 
-    start : CameAt planned k set mid
-    start = subst (λ (stage : Stage). Came planned k set (phase_of k set stage) mid.soft) (sym t.at_rest) (record { halves = λ j within member some. absurd (starts_all j within member some); up = tt })
-
-    came : Came planned k set Taken last.soft
-    came = subst (λ (p : Phase). Came planned k set p last.soft) (ap (phase_of k set) t.at_end ∙ (set_own k set).0) (runs_come planned legs k set t.moves mid last t.lines good there small t.run gets a start)
+    came : (Comes : Option Radio → Option Radio → Type 0) (sent : ℕ → Option Radio) → ((n : ℕ) → Comes (sent n) ((mid.soft.legs k).node_b.state.frames n)) → InTti (GetsSo Comes k set) channel.frames set mid last t → Came planned Comes k set (tti_sent k channel.frames set mid last t sent) Taken last.soft
+    came Comes sent come gets =
+        let start : CameAt planned Comes k set sent mid =
+        subst (λ (stage : Stage). Came planned Comes k set sent (phase_of k set stage) mid.soft) (sym t.at_rest) (record { halves = λ j within member some. absurd (starts_all j within member some); come = come; up = tt }) in
+        subst (λ (p : Phase). Came planned Comes k set (tti_sent k channel.frames set mid last t sent) p last.soft) (ap (phase_of k set) t.at_end ∙ (set_own k set).0)
+        (runs_come planned Comes legs k set sent t.moves mid last t.lines good there small t.run gets a start)
 
     all : Counted planned i given t.moves mid last t.lines t.run
     all =
@@ -273,8 +276,25 @@ leg_takes planned first legs k i moves mid last new lines own run good eighth th
       | inr more ↦ absurd (omega (arith, more.0, all.at_end))
     ])
 
+    all_sent_of : (Comes : Option Radio → Option Radio → Type 0) (sent : ℕ → Option Radio) → Came planned Comes k set sent Taken last.soft → SetSent planned set layer last.soft.cfn sent
+    all_sent_of Comes sent c = record {
+      halves = c.halves;
+      ends = λ j within member. last_frame planned set last.soft.cfn j good within member over_here;
+      wholes = b.ue.layer.given.whole;
+    }
+
     has : HasFrame planned set layer (last.soft.frames set k)
-    has = came.up over_here
+    has = elim arrives [
+      | inl gets ↦ (
+          let before_frames : ℕ → Option Radio = (mid.soft.legs k).node_b.state.frames in
+          let sent : ℕ → Option Radio = tti_sent k channel.frames set mid last t before_frames in
+          let c : Came planned AsSent k set sent Taken last.soft = came AsSent before_frames (λ n. refl) gets in
+          c.up over_here (same_readable planned set layer last.soft.cfn sent (last.soft.legs k).node_b.state.frames good (all_sent_of AsSent sent c) c.come))
+      | inr little ↦ (
+          let sent : ℕ → Option Radio = tti_sent k channel.frames set mid last t (λ n. None) in
+          let c : Came planned MayComeDamaged k set sent Taken last.soft = came MayComeDamaged (λ n. None) (λ n. tt) little.arrive in
+          c.up over_here (near_readable planned set layer last.soft.cfn sent (last.soft.legs k).node_b.state.frames good (all_sent_of MayComeDamaged sent c) c.come little.differ))
+    ]
 
     has_sent : HasFormat channel (as_sent channel given)
     has_sent = sent_format channel given (subst (λ n. n < length channel.formats) (has.carries i inside refl).format (has.whole i inside refl).there) (b.ue.layer.given.whole i inside)

@@ -77,13 +77,22 @@ pub record ArrivesAsSent (dir : Dir) (old new : LinkState) (lines : List Line) (
 abbrev pub AllArrive : Dir → (frames : ℕ) → (old new : LinkState) → Tti frames old new → Type 0
 AllArrive dir frames old new t = InTti (ArrivesAsSent dir) frames old new t
 
--- it is sent, and arrives with as many cells, and with few TFCI bits wrong
+-- a radio frame comes with as many cells as were sent, and with few TFCI bits wrong
+pub record ComesDamaged (radio : Radio) (came : Option Radio) : Type 0 where
+  pub received : Radio
+  pub is : came ≡ Some received
+  pub little : IsLittleDamaged radio.tfci radio.cells received.tfci received.cells
+
+-- it does, if one was sent
+abbrev pub MayComeDamaged : Option Radio → Option Radio → Type 0
+MayComeDamaged None came = Unit {0}
+MayComeDamaged (Some radio) came = ComesDamaged radio came
+
+-- it is sent, and arrives so
 pub record ArrivesDamaged (dir : Dir) (old new : LinkState) (lines : List Line) (f : IsFrame old new lines) : Type 0 where
   pub radio : Radio
   pub sent : radio_sent dir old new lines f ≡ Some radio
-  pub received : Radio
-  pub came : radio_after old.damage dir (Some radio) ≡ Some received
-  pub little : IsLittleDamaged radio.tfci radio.cells received.tfci received.cells
+  pub comes : ComesDamaged radio (radio_after old.damage dir (Some radio))
 
 -- the radio frames that were sent, by the remainders of their CFNs modulo 8: with one radio frame more than before
 abbrev pub with_sent : Dir → (old new : LinkState) → (lines : List Line) → IsFrame old new lines
@@ -116,6 +125,17 @@ IsFewDown planned i sent received =
     let side = planned.config.downlink.side in
     (f : ℕ) → AllGive side sent i f
     → AreFewChanged side i f (copies (tti_pattern planned i f).kind) (downlink_changes planned i f sent received)
+
+-- and for each channel of a set of uplink channels
+abbrev pub AreFewUp : Planned → ℕ → RxFrames → RxFrames → Type 0
+AreFewUp planned set sent received = ForSet planned.config.uplink.side set (λ i. IsFewUp planned i sent received)
+
+-- of what a far end would keep of the radio frames of the last 8 CFNs as they were sent, and of what it keeps of them
+-- as they came, few cells differ
+pub record DifferLittle (planned : Planned) (dir : Dir) (cfn : ℕ) (IsFew : RxFrames → RxFrames → Type 0) (frames come : ℕ → Option Radio) : Type 0 where
+  pub sent : RxFrames
+  pub heard : AreHeard planned dir cfn frames sent
+  pub few : (received : RxFrames) → AreHeard planned dir cfn come received → IsFew sent received
 
 -- the terminal sends this radio frame in the combination that layer 2 runs, or the Node B in that of the blocks that it
 -- was given
@@ -153,14 +173,11 @@ FindsAll planned dir frames old new t = (reader : RxFrames)
     → AreHeard planned dir t.last.rnc.state.cfn (frames_come dir new) reader
     → InTti (FindsCombination planned dir reader) frames old new t
 
--- each radio frame of a TTI arrives with few TFCI bits wrong; and of what the far end would keep of them as they were
--- sent, and of what it keeps of them as they arrived, few cells differ
+-- each radio frame of a TTI arrives with few TFCI bits wrong, and few of their cells differ from those that were sent
 pub record IsLittleDamagedTti (planned : Planned) (dir : Dir) (IsFew : RxFrames → RxFrames → Type 0) (frames : ℕ) (old new : LinkState) (t : Tti frames old new) : Type 0 where
   pub arrive : InTti (ArrivesDamaged dir) frames old new t
-  pub sent : RxFrames
-  pub heard : AreHeard planned dir t.last.rnc.state.cfn (tti_sent dir frames old new t (λ k. None)) sent
-  pub few : (received : RxFrames) → AreHeard planned dir t.last.rnc.state.cfn (frames_come dir new) received
-      → IsFew sent received
+  pub differ : DifferLittle planned dir t.last.rnc.state.cfn IsFew (tti_sent dir frames old new t (λ k. None))
+      (frames_come dir new)
 
 -- a TTI of downlink channel i, or of a set of uplink channels, arrives as it was sent, or with little damage
 abbrev pub ArrivesDown : Planned → ℕ → (frames : ℕ) → (old new : LinkState) → Tti frames old new → Type 0
@@ -169,8 +186,7 @@ ArrivesDown planned i frames old new t = AllArrive Down frames old new t
 
 abbrev pub ArrivesUp : Planned → ℕ → (frames : ℕ) → (old new : LinkState) → Tti frames old new → Type 0
 ArrivesUp planned set frames old new t = AllArrive Up frames old new t
-    ⊎ IsLittleDamagedTti planned Up
-    (λ sent received. ForSet planned.config.uplink.side set (λ i. IsFewUp planned i sent received)) frames old new t
+    ⊎ IsLittleDamagedTti planned Up (AreFewUp planned set) frames old new t
 
 -- all blocks are good
 abbrev pub AreGood : Held → Type 0

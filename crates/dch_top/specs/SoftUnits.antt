@@ -17,28 +17,28 @@ use Rattle.dch_gen.specs.soft_stage.Stage.{Stage}
 use Rattle.dch_gen.specs.soft_stage.Stage.TheVariants.{Combine}
 use Rattle.dch_runlaw.specs.History.{pair_after}
 use Rattle.dch_runlaw.specs.HonestBearers.{IsAcknowledged}
-use Rattle.dch_runlaw.specs.Legs.{Gets, OthersAreSent, TakesGiven, as_sent}
+use Rattle.dch_runlaw.specs.Legs.{ArrivesAtLeg, Gets, OthersAreSent, TakesGiven, as_sent}
 use Rattle.dch_runlaw.specs.Nodes.{AreFaithful, opened_nodes}
 use Rattle.dch_runlaw.specs.Rows.{got_rows, gots, rows_of}
 use Rattle.dch_runlaw.specs.SoftEndEvents.{AfterEach, EndEvent, HandsUp, IsListOf, end_events}
 use Rattle.dch_runlaw.specs.SoftRuns.{Move, Point, Runs, opened_point}
 use Rattle.dch_runlaw.specs.SoftScripts.{AreSaid, shown_in}
 use Rattle.dch_runlaw.specs.Told.{IsTold}
-use Rattle.dch_runlaw.specs.Ttis.{InTti, Tti}
+use Rattle.dch_runlaw.specs.Ttis.{Tti}
 use Rattle.dch_runlaw.specs.UmHistory.{got_lines}
 use Rattle.dch_check.specs.Configured.{ArePlannedAs}
 use Rattle.dch_check.specs.declared.front.FrontKind.TheVariants.{Single}
 
 -- some moves lead from opened nodes to a point at which a TTI of uplink channel i starts. Leg k gets all its radio
--- frames as the terminal sent them, its own Iub frame arrives as it was sent, and no other leg has another block as
--- good: then the network controller takes just the blocks that the terminal was given
+-- frames as the terminal sent them, or with little damage, its own Iub frame arrives as it was sent, and no other leg
+-- has another block as good: then the network controller takes just the blocks that the terminal was given
 abbrev pub TakesFromLeg : Planned → ℕ → ℕ → Type 0
 TakesFromLeg planned first legs =
     (k i : ℕ) (moves : List Move) (mid last : Point) (new : SoftState) (lines own : List Line)
     → Runs (opened_point planned first legs) moves mid lines → k < legs
     → i < length planned.config.uplink.side.channels
     → (t : Tti (channel_at planned.config.uplink.side i).frames (channel_at planned.config.uplink.side i).set mid last)
-    → InTti (Gets k (channel_at planned.config.uplink.side i).set)
+    → ArrivesAtLeg planned k
     (channel_at planned.config.uplink.side i).frames (channel_at planned.config.uplink.side i).set mid last t
     → OthersAreSent (last.soft.frames (channel_at planned.config.uplink.side i).set) k i (as_sent (channel_at planned.config.uplink.side i) (last.soft.ue.state.layer.given i))
     → AtStage (Combine (channel_at planned.config.uplink.side i).set) last.soft new own
@@ -64,9 +64,10 @@ pub record HandsUpRows (planned : Planned) (first b : ℕ) (happened : List EndE
       ≡ rows_of (got_lines Down b (pair_after planned.config Up Down b units.history.events).near.entity.receiver.reading.units)
 
 -- the lines of a script lead the nodes of a soft handover, opened for a configuration and so many legs, through a run
--- of what they say, and this text is shown of it. Whatever damage comes on any leg, a TTI that arrives whole over one
--- leg is taken as it was given; and where after each event at the terminal and the network controller both channels of
--- an acknowledged bearer are faithful, the rows of the text are just the units that a history of its two ends hands up
+-- of what they say, and this text is shown of it. Whatever damage comes on any leg, a TTI that arrives over one leg as
+-- it was sent, or with little damage, is taken as it was given; and where after each event at the terminal and the
+-- network controller both channels of an acknowledged bearer are faithful, the rows of the text are just the units that
+-- a history of its two ends hands up
 pub record CarriesSoft (planned : Planned) (first legs : ℕ) (quiet : Bool) (script : List (List ℕ)) (text : List ℕ) : Type 0 where
   pub moves : List Move
   pub said : AreSaid legs planned.config script moves
