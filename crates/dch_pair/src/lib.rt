@@ -19,6 +19,7 @@ pub use entity::AmEntity;
 pub use inside::are_inside;
 pub use laws::{events_law, listed_law};
 pub use outcome::PairEnd;
+pub use peer::hand_up;
 pub use run::run_pair;
 pub use setup::{End, PairEvent, PairSetup};
 pub use store::Store;

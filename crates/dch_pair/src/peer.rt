@@ -157,8 +157,8 @@ impl Peer {
     }
 }
 
-/// Hands up all units that wait. They are no longer there even where memory is short.
-fn hand_up(entity: &mut AmEntity, units: &mut Store) -> Result<(), NoMemory>
+/// Hands up all units that wait, of at most 1,500 octets each. They are no longer there even where memory is short.
+pub fn hand_up(entity: &mut AmEntity, units: &mut Store) -> Result<(), NoMemory>
     ensures units { IfOk result (λ _. units.new ≡ units.old ++ whole (waiting_in entity.old)) }
     ensures settled { is_settled entity.new ≡ true }
     ensures sizes { AreSizes entity.old entity.new }

@@ -1,7 +1,6 @@
 pub mod Calls
 pub mod Ends
 pub mod Texts
-pub mod Handing
 pub mod Peers
 pub mod Meeting
 pub mod Delivered

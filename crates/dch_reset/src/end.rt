@@ -1,13 +1,15 @@
-ghost use Rattle.std.specs.Prelude.{◌≡◌, ◌≢◌, ◌≤◌, ◌==◌, IfNone, IfOk, drop, if◌then◌else◌, is_some, length, true};
+ghost use Rattle.std.specs.Prelude.{◌≡◌, ◌≢◌, ◌≤◌, ◌++◌, ◌==◌, IfNone, IfOk, drop, if◌then◌else◌, is_some, length, true};
 ghost use Rattle.dch_bits.specs.declared.offer.Offer.TheVariants.{Accepted};
 ghost use Rattle.dch_am.specs.Entities.{IsSmall, ResetAckPdu, ResetPdu, pdu_of};
 ghost use Rattle.dch_am.specs.Rules.{Rules, rules_of};
 ghost use Rattle.dch_am.specs.Sender.{offered};
 ghost use Rattle.dch_pair.specs.Answers.{received, waiting};
+ghost use Rattle.dch_pair.specs.Standing.{whole};
 ghost use Rattle.dch_amsend.specs.SduDiscard.{capped};
 ghost use Rattle.dch_rlcpdu.specs.Am.{am_reading};
 ghost use Rattle.dch_sar.specs.Taking.{handed_of, written};
 ghost use Rattle.dch_reset.specs.Ends.{is_asked, is_heard};
+ghost use Rattle.dch_reset.specs.History.{handed_up};
 ghost use Rattle.dch_reset.specs.Answers.{answer, answer_read, came_read, data_answer, entity_answer, is_unread, unless_pending};
 ghost use Rattle.dch_reset.specs.Standing.{AreSizes, IsSame, Represents, is_due, is_settled, size_in, size_of, waiting_in};
 ghost use Rattle.dch_reset.specs.State.{Build, Come, HandUp, IsWritten, Offer as Offers, Reset, State, Tick, came, opened_state, restarted, step, taken_by, turn, writes};
@@ -17,7 +19,7 @@ use crate::answers::Got;
 use crate::pending::{Pending, REPEAT, is_asked, is_heard};
 use dch_am::{MrwTaken, StatusTaken, Taken};
 use dch_bits::{NoMemory, Offer};
-use dch_pair::{AmEntity, Received};
+use dch_pair::{AmEntity, Received, Store, hand_up};
 use dch_rlcpdu::{AmView, Handed, read_am, write_reset};
 use dch_types::AmRules;
 use std::alloc::Global;
@@ -244,6 +246,17 @@ impl ResetEnd {
             result ≡ (length (waiting e.entity) == 0) }
     {
         self.entity.settled()
+    }
+
+    /// Hands up all units that wait. They are no longer there even where memory is short.
+    pub(crate) fn hand_up(&mut self, units: &mut Store) -> Result<(), NoMemory>
+        ensures units { IfOk result (λ _. units.new ≡ units.old ++ whole (waiting_in self.old)) }
+        ensures settled { is_settled self.new ≡ true }
+        ensures sizes { AreSizes self.old self.new }
+        ensures history { (rules : Rules) (e : State) → Represents rules self.old e →
+            Represents rules self.new (handed_up e) }
+    {
+        hand_up(&mut self.entity, units)
     }
 
     /// One tick of 10 ms.

@@ -1,10 +1,7 @@
-ghost use Rattle.std.specs.Prelude.{◌≡◌, ◌+◌, ◌<◌, ◌≤◌, ◌^◌, ◌++◌, IfOk, drop, false, is_some, length, take, true};
+ghost use Rattle.std.specs.Prelude.{◌≡◌, ◌+◌, ◌<◌, ◌≤◌, ◌^◌, IfOk, is_some, length, true};
 ghost use Rattle.dch_am.specs.Rules.{Rules, rules_of};
 ghost use Rattle.dch_amsend.specs.SduDiscard.{capped};
 ghost use Rattle.dch_pair.specs.Standing.{whole};
-ghost use Rattle.dch_reset.specs.History.{handed_up};
-ghost use Rattle.dch_reset.specs.Standing.{AreSizes, Represents, is_settled, waiting_in};
-ghost use Rattle.dch_reset.specs.State.{HandUp, State, step};
 ghost use Rattle.dch_reset.specs.Ends.{ResetEnd as End, Sent, builds, hears, offers, opened_reset_end, resets, ticks};
 ghost use Rattle.dch_reset.specs.Law.{handed};
 ghost use Rattle.dch_reset.specs.RunStanding.{AreSame, IsPeer, IsRead, IsSent, size_in, size_of};
@@ -12,7 +9,6 @@ ghost use Rattle.dch_reset.specs.RunStanding.{AreSame, IsPeer, IsRead, IsSent, s
 use crate::end::ResetEnd;
 use dch_bits::{NoMemory, Offer};
 use dch_pair::Store;
-use dch_rlcpdu::Handed;
 use dch_types::AmRules;
 use std::alloc::Global;
 use std::marker::Model;
@@ -131,7 +127,7 @@ impl Peer {
             IsRead p.now s → IsPeer rules self.new (hears rules e s)) }
     {
         self.end.pdu(p);
-        hand_up(&mut self.end, &mut self.units)
+        self.end.hand_up(&mut self.units)
     }
 
     /// One tick of 10 ms.
@@ -155,41 +151,5 @@ impl Peer {
             restarts: self.end.restarts(),
             units: self.units,
         }
-    }
-}
-
-/// Hands up all units that wait. They are no longer there even where memory is short.
-fn hand_up(end: &mut ResetEnd, units: &mut Store) -> Result<(), NoMemory>
-    ensures units { IfOk result (λ _. units.new ≡ units.old ++ whole (waiting_in end.old)) }
-    ensures settled { is_settled end.new ≡ true }
-    ensures sizes { AreSizes end.old end.new }
-    ensures history { (rules : Rules) (e : State) → Represents rules end.old e →
-        Represents rules end.new (handed_up e) }
-{
-    let mut room = [0; 1500];
-    let mut stored = Ok(());
-    while !end.settled() {
-        let now = hand_one(end, units, &mut room);
-        if stored.is_ok() {
-            stored = now;
-        }
-    }
-    stored
-}
-
-/// Hands up the first unit that waits, by a room of 1,500 octets.
-fn hand_one(end: &mut ResetEnd, units: &mut Store, room: &mut [u8]) -> Result<(), NoMemory>
-    requires some { is_settled end.old ≡ false }
-    requires room { length room.old ≡ 1500 }
-    ensures room { length room.new ≡ 1500 }
-    ensures unit { IfOk result (λ _. units.new ≡ units.old ++ whole (take 1 (waiting_in end.old))) }
-    ensures rest { waiting_in end.new ≡ drop 1 (waiting_in end.old) }
-    ensures sizes { AreSizes end.old end.new }
-    ensures history { (rules : Rules) (e : State) → Represents rules end.old e →
-        Represents rules end.new (step rules 0 e HandUp) }
-{
-    match end.next_unit(room) {
-        Some(Handed::Whole(size)) => units.push(&room[..size]),
-        _ => Ok(()),
     }
 }

@@ -19,5 +19,5 @@ returns-clause-history c =
     let heard : Represents rules c.pdu.new.self (step rules e.sides.octets (state_of e) (Come (pdu_sent s))) = subst (λ p. Represents rules c.pdu.new.self (step rules e.sides.octets (state_of e) (Come p))) read.is
     (subst (λ n. Represents rules c.pdu.new.self (step rules n (state_of e) (Come (pdu_of read.view)))) here.size
     (subst (λ x. Represents rules c.pdu.new.self (came_read rules (octets_of c.self.inside.end) (state_of e) x)) read.reads (c.pdu.ensures.stands rules (state_of e) here.end))) in
-    peer_hears rules v c.pdu.new.self c.hand_up.new.end c.hand_up.new.units e s here heard (c.hand_up.ensures.sizes.out ∙ c.pdu.ensures.sizes.out) more (c.hand_up.ensures.history rules (step rules e.sides.octets (state_of e) (Come (pdu_sent s))) heard))
+    peer_hears rules v c.pdu.new.self c.hand_up.new.self c.hand_up.new.units e s here heard (c.hand_up.ensures.sizes.out ∙ c.pdu.ensures.sizes.out) more (c.hand_up.ensures.history rules (step rules e.sides.octets (state_of e) (Come (pdu_sent s))) heard))
     c.hand_up.ensures.units
