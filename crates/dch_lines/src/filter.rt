@@ -2,10 +2,10 @@ ghost use Rattle.std.specs.Prelude.{◌≡◌};
 ghost use Rattle.dch_indication.specs.Told.{line_of};
 ghost use Rattle.dch_lines.specs.Filtering.{ShowsSeen, is_frame};
 
-use crate::line_on::line_on;
 use crate::page::Page;
 use crate::text::put_line;
 use dch_indication::{Indication, Indications};
+use dch_script::line_on;
 
 /// What stands between a node and a page: with `quiet` no frame is shown, and each line is led by the same words.
 #[derive(Drop)]

@@ -7,7 +7,6 @@ mod handler;
 mod handling;
 mod input;
 mod later;
-mod line_on;
 mod line_texts;
 mod page;
 mod processor;

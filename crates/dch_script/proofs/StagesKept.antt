@@ -10,13 +10,14 @@ use Rattle.dch_types.specs.declared.config.Config.{Config}
 use Rattle.dch_types.specs.Parts.{channel_at, format_at, side_of}
 use Rattle.dch_script.specs.declared.event.LineError.{LineError}
 use Rattle.dch_script.specs.declared.event.LineError.TheVariants.{Number, Text}
+use Rattle.dch_script.specs.declared.stages.Question.{Question}
 use Rattle.dch_script.specs.declared.stages.StageLine.{StageLine}
-use Rattle.dch_script.specs.Forms.{two, four}
+use Rattle.dch_script.specs.Forms.{two, three, four}
 use Rattle.dch_script.specs.LineWords.{words_of}
 use Rattle.dch_script.specs.Meaning.{content_of}
 use Rattle.dch_script.specs.ParsedLine.{◌>>=◌}
 use Rattle.dch_script.specs.Parts.{combination_of, dir_of, number_in, provided}
-use Rattle.dch_script.specs.Stages.{IsOfStages, ParsedStage, blocks_of, channel_of, format_of, frame, is_all_bits, load, parsed_stage, stage_frame, stage_line_words, stage_load, stage_meaning, stage_of, stage_words}
+use Rattle.dch_script.specs.Stages.{IsOfStages, ParsedStage, ask, blocks_of, channel_of, format_of, frame, is_all_bits, load, parsed_stage, stage_frame, stage_line_words, stage_load, stage_meaning, stage_of, stage_question, stage_words}
 use Rattle.dch_script.proofs.Kept.{bind_keeps, combination_keeps, if_keeps, ok_keeps, provided_keeps}
 
 -- a channel that is read is one of the direction
@@ -65,13 +66,26 @@ frame_keeps config words parsed is =
     bind_keeps (combination_of config dir w.1) _ parsed P (λ c combination last.
     ok_keeps (frame dir c) parsed (IsOfStages config) (combination_keeps config dir w.1 c combination) _ refl last) more) rest) is
 
+-- `where` and `cells`
+question_keeps : (question : Question) (config : Config) (words : List (List ℕ)) (parsed : ParsedStage) → stage_question question config words ≡ Ok parsed → IsOfStages config parsed
+unfolding stage_question
+question_keeps question config words parsed is =
+    let P = IsOfStages config parsed in
+    bind_keeps (three words) _ parsed P (λ w _ rest.
+    bind_keeps (dir_of w.0) _ parsed P (λ dir _ more.
+    bind_keeps (channel_of config dir w.1) _ parsed P (λ i channel most.
+    bind_keeps (number_in 460799 w.2) _ parsed P (λ n _ last.
+    ok_keeps (ask question dir i n) parsed (IsOfStages config) (channel_keeps config dir w.1 i channel) _ refl last) most) more) rest) is
+
 -- every line
 words_keep : (config : Config) (first : List ℕ) (words : List (List ℕ)) (parsed : ParsedStage) → stage_words config first words ≡ Ok parsed → IsOfStages config parsed
 unfolding stage_words
 words_keep config first words parsed is =
     let P = IsOfStages config parsed in
     if_keeps (bytes_eq first (codes "load")) _ _ parsed P (load_keeps config words parsed) (λ not_load.
-    if_keeps (bytes_eq first (codes "frame")) _ _ parsed P (frame_keeps config words parsed) (λ none. absurd (cc)) not_load) is
+    if_keeps (bytes_eq first (codes "frame")) _ _ parsed P (frame_keeps config words parsed) (λ not_frame.
+    if_keeps (bytes_eq first (codes "where")) _ _ parsed P (question_keeps _ config words parsed) (λ not_where.
+    if_keeps (bytes_eq first (codes "cells")) _ _ parsed P (question_keeps _ config words parsed) (λ none. absurd (cc)) not_where) not_frame) not_load) is
 
 line_words_keep : (config : Config) (words : List (List ℕ)) (parsed : ParsedStage) → stage_line_words config words ≡ Ok parsed → IsOfStages config parsed
 line_words_keep config [] parsed is = absurd (cc)

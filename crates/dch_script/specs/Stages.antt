@@ -8,9 +8,11 @@ use Rattle.dch_types.specs.declared.config.Config.{Config}
 use Rattle.dch_types.specs.Parts.{channel_at, format_at, side_of}
 use Rattle.dch_script.specs.declared.event.LineError.{LineError}
 use Rattle.dch_script.specs.declared.event.LineError.TheVariants.{Word, Number, Text}
+use Rattle.dch_script.specs.declared.stages.Question.{Question}
+use Rattle.dch_script.specs.declared.stages.Question.TheVariants.{Where, Cells}
 use Rattle.dch_script.specs.declared.stages.StageLine.{StageLine}
-use Rattle.dch_script.specs.declared.stages.StageLine.TheVariants.{Load, Frame}
-use Rattle.dch_script.specs.Forms.{two, four}
+use Rattle.dch_script.specs.declared.stages.StageLine.TheVariants.{Load, Frame, Ask}
+use Rattle.dch_script.specs.Forms.{two, three, four}
 use Rattle.dch_script.specs.LineWords.{words_of}
 use Rattle.dch_script.specs.Meaning.{content_of}
 use Rattle.dch_script.specs.ParsedLine.{◌>>=◌}
@@ -21,11 +23,13 @@ use Rattle.dch_script.specs.Texts.{is_word_of_bits}
 pub data ParsedStage : Type 0 where
   load : Dir → ℕ → ℕ → List ℕ → ParsedStage  -- the channel, the format and the text of the bits
   frame : Dir → ℕ → ParsedStage  -- the combination
+  ask : Question → Dir → ℕ → ℕ → ParsedStage  -- the channel, and the place or the bit
 
 -- what a line that was read says
 abbrev pub stage_of : StageLine → ParsedStage
 stage_of (Load dir channel format bits) = load dir channel format bits.now
 stage_of (Frame dir combination) = frame dir combination
+stage_of (Ask question dir channel number) = ask question dir channel number
 
 -- what the answer to a line says
 abbrev pub parsed_stage : Result StageLine LineError → Result ParsedStage LineError
@@ -70,11 +74,22 @@ stage_frame config words = do
   c ← combination_of config dir w.1
   Ok (frame dir c)
 
+-- a question's words behind the first: DIR CHANNEL NUMBER. No TTI has more than 460,800 places, or more bits
+unfoldable pub stage_question : Question → Config → List (List ℕ) → Result ParsedStage LineError
+stage_question question config words = do
+  w ← three words
+  dir ← dir_of w.0
+  i ← channel_of config dir w.1
+  n ← number_in 460799 w.2
+  Ok (ask question dir i n)
+
 -- what a line says by its first word and the words after it
 unfoldable pub stage_words : Config → List ℕ → List (List ℕ) → Result ParsedStage LineError
 stage_words config first words =
     if bytes_eq first (codes "load") then stage_load config words else (
-    if bytes_eq first (codes "frame") then stage_frame config words else Err Word)
+    if bytes_eq first (codes "frame") then stage_frame config words else (
+    if bytes_eq first (codes "where") then stage_question Where config words else (
+    if bytes_eq first (codes "cells") then stage_question Cells config words else Err Word)))
 
 abbrev pub stage_line_words : Config → List (List ℕ) → Result ParsedStage LineError
 stage_line_words config [] = Err Word
@@ -92,3 +107,4 @@ IsOfStages config (load dir i f bits) =
     (i < length (side_of config dir).channels) × (f < length (channel_at (side_of config dir) i).formats)
     × (is_all_bits ((format_at (channel_at (side_of config dir) i) f).number * (format_at (channel_at (side_of config dir) i) f).size) bits ≡ true)
 IsOfStages config (frame dir c) = c < length (side_of config dir).combinations
+IsOfStages config (ask question dir i n) = i < length (side_of config dir).channels

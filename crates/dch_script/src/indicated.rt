@@ -17,7 +17,7 @@ impl Indications for Report {
 }
 
 /// The line of a report on an indication.
-fn line_on(it: Indication<'_>) -> Line<'_>
+pub fn line_on(it: Indication<'_>) -> Line<'_>
     ensures { line_text result ≡ text_of (line_of it.entry ∷ []) }
 {
     match it {

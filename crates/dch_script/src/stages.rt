@@ -2,14 +2,23 @@ ghost use Rattle.std.specs.Prelude.{◌≡◌, ◌<◌, length, IfOk};
 ghost use Rattle.dch_types.specs.Parts.{side_of};
 ghost use Rattle.dch_script.specs.Forms.{one_shown};
 ghost use Rattle.dch_script.specs.LineWords.{later_words};
-ghost use Rattle.dch_script.specs.Stages.{IsOfStages, blocks_of, channel_of, format_of, is_all_bits, parsed_stage, stage_frame, stage_load, stage_meaning, stage_of, stage_words};
+ghost use Rattle.dch_script.specs.Stages.{IsOfStages, blocks_of, channel_of, format_of, is_all_bits, parsed_stage, stage_frame, stage_load, stage_meaning, stage_of, stage_question, stage_words};
 
 use crate::content::content_of;
 use crate::event::LineError;
 use crate::parts::{number_in, read_combination, read_dir};
 use crate::texts::is_word_of_bits;
-use crate::words::{cut_word, four_words, is_word, two_words};
+use crate::words::{cut_word, four_words, is_word, three_words, two_words};
 use dch_types::{Config, Dir, Format, Trch};
+
+/// What is asked of a TTI that is loaded.
+#[derive(Clone, Copy)]
+pub enum Question {
+    /// Which bits a place of its interleaved cells shows.
+    Where,
+    /// Which of these places show a bit of its transport blocks.
+    Cells,
+}
 
 /// What a line says of which the stages of coding are shown.
 #[derive(Clone, Copy)]
@@ -27,10 +36,17 @@ pub enum StageLine<'a> {
         dir: Dir,
         combination: u16,
     },
+    /// A question of the TTI that is loaded of a channel, and the number of the place or of the bit.
+    Ask {
+        question: Question,
+        dir: Dir,
+        channel: u8,
+        number: u32,
+    },
 }
 
 /// Reads a line under a configuration, with its line feed where the input has one. Of a line that is too long, the first
-/// 1,048,577 bytes are enough. `LineError::When` is left to the caller.
+/// 1,048,577 bytes are enough. `LineError::When` is left to the caller, as is what depends on the TTI that is loaded.
 pub fn parse_stage<'a>(config: &Config, line: &'a [u8]) -> Result<StageLine<'a>, LineError>
     ensures says { parsed_stage result ≡ stage_meaning config.now line.entry.now }
     ensures good { IfOk result (λ parsed. IsOfStages config.now (stage_of parsed)) }
@@ -58,6 +74,10 @@ fn stage_words<'a>(
         stage_load(config, words)
     } else if is_word(first, b"frame") {
         stage_frame(config, words)
+    } else if is_word(first, b"where") {
+        stage_question(Question::Where, config, words)
+    } else if is_word(first, b"cells") {
+        stage_question(Question::Cells, config, words)
     } else {
         Err(LineError::Word)
     }
@@ -91,6 +111,27 @@ fn stage_frame<'a>(config: &Config, words: Option<&'a [u8]>) -> Result<StageLine
     let dir = read_dir(dir)?;
     let combination = read_combination(config, dir, combination)?;
     Ok(StageLine::Frame { dir, combination })
+}
+
+/// The words of a question behind the first: `DIR CHANNEL NUMBER`
+#[tactic(auto, unfolding(crate::specs::Stages::stage_question))]
+fn stage_question<'a>(
+    question: Question,
+    config: &Config,
+    words: Option<&[u8]>,
+) -> Result<StageLine<'a>, LineError>
+    ensures { parsed_stage result ≡ stage_question question config.now (later_words words.entry) }
+{
+    let (dir, channel, number) = three_words(words)?;
+    let dir = read_dir(dir)?;
+    let channel = read_channel(config, dir, channel)?;
+    let number = number_in(number, 460_799)?;
+    Ok(StageLine::Ask {
+        question,
+        dir,
+        channel,
+        number,
+    })
 }
 
 /// The channel of a direction that a word names.

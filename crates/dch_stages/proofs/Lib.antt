@@ -8,3 +8,5 @@ pub mod Codes
 pub mod Blocks
 pub mod SentSame
 pub mod Lines
+pub mod PlaceBounds
+pub mod Shows

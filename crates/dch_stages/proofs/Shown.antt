@@ -1,17 +1,13 @@
 -- What is loaded of a channel is short enough to be shown.
-use Rattle.std.proofs.Common.{◌≡◌, ◌<◌, ◌≤◌, ◌+◌, ◌*◌, ◌∙◌, ℕ, List, Some, length, arith, ap, sym, subst}
+use Rattle.std.proofs.Common.{◌≡◌, ◌<◌, ◌≤◌, ◌*◌, ℕ, length, arith, sym, subst}
 use Rattle.std.proofs.lemmas.Grind.{div_ceil_times}
-use Rattle.dch_types.specs.Lengths.{padded, tti_bits}
-use Rattle.dch_types.specs.Limits.{IsChannel, IsDownlink, IsFrames, IsSide}
-use Rattle.dch_types.specs.Parts.{channel_at, format_at}
-use Rattle.dch_types.specs.declared.channel.Side.{Side}
-use Rattle.dch_types.specs.declared.channel.Trch.{Trch}
+use Rattle.dch_types.specs.Lengths.{padded}
+use Rattle.dch_types.specs.Limits.{IsDownlink, IsFrames}
+use Rattle.dch_types.specs.Parts.{channel_at}
 use Rattle.dch_types.specs.declared.config.Downlink.{Downlink}
 use Rattle.dch_accept.specs.Plans.{Planned}
 use Rattle.dch_frame.specs.Downlinks.{IsDownlinkPlan, places_of}
-use Rattle.dch_tti.specs.Loaded.{Loaded, loaded_at}
-use Rattle.dch_ulphy.specs.Loaded.{IsTtiOf as IsUplinkTti}
-use Rattle.dch_dlphy.specs.Loaded.{IsTtiOf as IsDownlinkTti, matching_of}
+use Rattle.dch_dlphy.specs.Loaded.{matching_of}
 use Rattle.dch_dlphy.proofs.Rooms.{tti_room}
 
 pub padded_short : (frames bits : ℕ) → IsFrames frames → bits ≤ 131072 → padded bits frames ≤ 460800

@@ -1,5 +1,5 @@
 -- The state after a line, for which a handler stands that did what the line says.
-use Rattle.std.proofs.Common.{◌≡◌, ◌≢◌, ◌<◌, ◌⊎◌, ℕ, List, Option, Some, None, IfSome, length, replicate, refl, ap, sym, subst, ◌∙◌, inl, inr, ⊎_elim}
+use Rattle.std.proofs.Common.{◌≡◌, ◌≢◌, ◌<◌, ℕ, List, Option, Some, None, IfOk, IfSome, length, replicate, refl, ap, sym, subst, ◌∙◌, inl, inr, ⊎_elim}
 use Rattle.std.specs.Prelude.{Result, Ok, Err}
 use Rattle.std.proofs.lemmas.Bool.{cases_eq}
 use Rattle.std.proofs.lemmas.Bool.Decides.{eqb_tells}
@@ -7,18 +7,19 @@ use Rattle.std.proofs.lemmas.List.{get_or-replicate}
 use Rattle.dch_bits.specs.declared.bit.Bit.{Bit}
 use Rattle.dch_types.specs.declared.channel.Dir.{Dir}
 use Rattle.dch_types.specs.declared.channel.Dir.TheVariants.{Up, Down}
-use Rattle.dch_types.specs.declared.config.Config.{Config}
-use Rattle.dch_types.specs.Parts.{channel_at, format_at, format_number, side_of}
+use Rattle.dch_types.specs.Parts.{channel_at, format_at, side_of}
 use Rattle.dch_coding.specs.Ttis.{AreJoined}
 use Rattle.dch_accept.specs.Plans.{Planned}
 use Rattle.dch_script.specs.declared.event.LineError.{LineError}
-use Rattle.dch_script.specs.declared.event.LineError.TheVariants.{When}
-use Rattle.dch_script.specs.Stages.{ParsedStage, load, frame, stage_meaning}
+use Rattle.dch_script.specs.Stages.{IsOfStages, ParsedStage, ask, frame, load, stage_meaning}
 use Rattle.dch_lines.specs.Texts.{bits_of}
 use Rattle.dch_tti.specs.Loaded.{Loaded, loaded_at}
-use Rattle.dch_stages.specs.Rules.{AreOf, Given, Handles, IsLoaded, IsUntimely, LoadsTti, Refuses, SendsFrame, State, answer_text, cfn_in, format_given, given_in, gives, goes_on, next_cfn, opened, put, radio_frame}
-use Rattle.dch_stages.specs.Showing.{Done, HasLoaded, HasSent, IsBegun, IsEarly, IsRefused, Obeys, loads_cfn}
-use Rattle.dch_stages.specs.Standing.{AreKept, IsShowing, Represents, asks, format_in, formats_in, tti_in}
+use Rattle.dch_stages.specs.Answers.{amount_of}
+use Rattle.dch_stages.specs.Rules.{AreOf, Asks, Given, Handles, IsOutside, IsUntimely, LoadsTti, Refuses, SendsFrame, State, answer_text, cfn_in, format_given, given_in, gives, goes_on, next_cfn, opened, put, radio_frame}
+use Rattle.dch_stages.specs.Shows.{IsLoaded}
+use Rattle.dch_script.specs.declared.stages.Question.{Question}
+use Rattle.dch_stages.specs.Showing.{Done, HasAsked, HasLoaded, HasSent, IsBegun, IsEarly, IsRefused, Obeys, loads_cfn}
+use Rattle.dch_stages.specs.Handlers.{AreKept, IsShowing, Represents, asks, format_in, formats_in, tti_in}
 use Rattle.dch_stages.specs.declared.handler.StagesHandler.{StagesHandler}
 use Rattle.dch_stages.specs.declared.showing.Showing.{Showing}
 
@@ -153,14 +154,33 @@ send_does dir c state old new is ready has =
       asks = ap (asks new.showing) has.asked ∙ ap (λ cfn. radio_frame dir (tti_in new.showing dir) cfn c) (sym (cfn_of dir state old is));
     }
 
+-- a question leaves the state as it is
+asked_stands : (question : Question) (dir : Dir) (i n : ℕ) (state : State) (old new : StagesHandler) → Represents state old → HasAsked question dir i n old.showing new.showing → Represents state new
+asked_stands question dir i n state old new is has = record {
+  planned = is.planned ∙ sym (ap (λ (s : Showing). s.accepted) has.same);
+  up = subst (λ (s : Showing). AreKept s.accepted Up state.up s.up.loads.formats.items s.up.tti) (sym has.same) is.up;
+  down = subst (λ (s : Showing). AreKept s.accepted Down state.down s.down.loads.formats.items s.down.tti) (sym has.same) is.down;
+  up_cfn = is.up_cfn ∙ sym (ap (λ (s : Showing). s.up.loads.cfn) has.same);
+  down_cfn = is.down_cfn ∙ sym (ap (λ (s : Showing). s.down.loads.cfn) has.same);
+}
+
+asked_does : (question : Question) (dir : Dir) (i n : ℕ) (state : State) (old new : StagesHandler) → Represents state old → i < length (side_of old.showing.accepted.config dir).channels → HasAsked question dir i n old.showing new.showing → Asks question dir i n state state (asks new.showing new.showing.asked)
+asked_does question dir i n state old new is inside has = record {
+  format = has.format;
+  given = (kept_of dir state old is).formats i inside ∙ has.given;
+  inside = subst (λ (q : Planned). n < amount_of q question dir i has.format) (sym is.planned) has.inside;
+  same = refl;
+  asks = ap (λ (s : Showing). asks s s.asked) has.same;
+}
+
 -- the state after a good line
 pub record After (state : State) (line : List ℕ) (new : StagesHandler) : Type 0 where
   pub after : State
   pub stands : Represents after new
   pub handles : Handles state line after (answer_text new.showing.accepted (asks new.showing new.showing.asked))
 
-after_by : (line : List ℕ) (state : State) (old new : StagesHandler) (parsed : ParsedStage) → Represents state old → IsShowing old.showing → stage_meaning old.showing.accepted.config line ≡ Ok parsed → Done parsed old.showing new.showing → After state line new
-after_by line state old new (load dir i f text) is ready says done = record {
+after_by : (line : List ℕ) (state : State) (old new : StagesHandler) (parsed : ParsedStage) → Represents state old → IsShowing old.showing → IsOfStages old.showing.accepted.config parsed → stage_meaning old.showing.accepted.config line ≡ Ok parsed → Done parsed old.showing new.showing → After state line new
+after_by line state old new (load dir i f text) is ready good says done = record {
   after = loaded_state state dir i f (bits_of text);
   stands = load_stands dir i f (bits_of text) state old new is done;
   handles = record {
@@ -171,7 +191,7 @@ after_by line state old new (load dir i f text) is ready says done = record {
     shown = ap (λ (p : Planned). answer_text p (asks new.showing new.showing.asked)) (done.accepted ∙ sym is.planned);
   };
 }
-after_by line state old new (frame dir c) is ready says done = record {
+after_by line state old new (frame dir c) is ready good says done = record {
   after = goes_on dir state;
   stands = send_stands dir c state old new is done;
   handles = record {
@@ -182,9 +202,20 @@ after_by line state old new (frame dir c) is ready says done = record {
     shown = ap (λ (p : Planned). answer_text p (asks new.showing new.showing.asked)) (done.accepted ∙ sym is.planned);
   };
 }
+after_by line state old new (ask question dir i n) is ready good says done = record {
+  after = state;
+  stands = asked_stands question dir i n state old new is done;
+  handles = record {
+    parsed = ask question dir i n;
+    says = subst (λ (q : Planned). stage_meaning q.config line ≡ Ok (ask question dir i n)) (sym is.planned) says;
+    asked = asks new.showing new.showing.asked;
+    does = asked_does question dir i n state old new is good done;
+    shown = ap (λ (q : Planned). answer_text q (asks new.showing new.showing.asked)) (ap (λ (s : Showing). s.accepted) done.same ∙ sym is.planned);
+  };
+}
 
 pub after_line : (line : List ℕ) (state : State) (old new : StagesHandler) → Represents state old → IsShowing old.showing → Obeys line old.showing new.showing → After state line new
-after_line line state old new is ready obeys = after_by line state old new obeys.parsed is ready obeys.says obeys.done
+after_line line state old new is ready obeys = after_by line state old new obeys.parsed is ready obeys.good obeys.says obeys.done
 
 -- a line that is refused leaves the state as it is
 pub stands_on : (state : State) (old new : StagesHandler) → Represents state old → new.showing ≡ old.showing → Represents state new
@@ -197,15 +228,21 @@ stands_on state old new is same = record {
 }
 
 -- why a line is refused, by the state
-early_of : (state : State) (h : StagesHandler) (said : Result ParsedStage LineError) → Represents state h → IsEarly h.showing said → IsUntimely state said
-early_of state h (Ok (frame dir c)) is early = λ are.
-    let kept = kept_of dir state h is in
-    let own : AreOf h.showing.accepted dir (given_in state dir) c = subst (λ (p : Planned). AreOf p dir (given_in state dir) c) is.planned are in
-    early (λ i inside. sym (kept.formats i inside) ∙ own i inside)
-early_of state h (Ok (load dir i f text)) is early = early
-early_of state h (Err why) is early = early
+outside_of : (question : Question) (dir : Dir) (i n : ℕ) (state : State) (h : StagesHandler) (why : LineError) → Represents state h → i < length (side_of h.showing.accepted.config dir).channels
+    → IsOutside (amount_of h.showing.accepted question dir i) (format_in (formats_in h.showing dir) i) n why → IsOutside (amount_of h.showing.accepted question dir i) (format_given (given_in state dir i)) n why
+outside_of question dir i n state h why is inside early = subst (λ o. IsOutside (amount_of h.showing.accepted question dir i) o n why) (sym ((kept_of dir state h is).formats i inside)) early
+
+early_of : (state : State) (h : StagesHandler) (why : LineError) (said : Result ParsedStage LineError) → Represents state h → IfOk said (IsOfStages h.showing.accepted.config) → IsEarly h.showing said why → IsUntimely (record state { planned = h.showing.accepted }) said why
+early_of state h why (Ok (frame dir c)) is good early = (
+  early.0,
+  λ are.
+      let kept = kept_of dir state h is in
+      early.1 (λ i inside. sym (kept.formats i inside) ∙ are i inside),
+)
+early_of state h why (Ok (load dir i f text)) is good early = early
+early_of state h why (Ok (ask question dir i n)) is good early = outside_of question dir i n state h why is good early
+early_of state h why (Err other) is good early = early
 
 pub refuses_for : (line : List ℕ) (state : State) (h : StagesHandler) (why : LineError) → Represents state h → IsRefused h.showing line why → Refuses state line why
-refuses_for line state h why is refused =
-    subst (λ (p : Planned). (stage_meaning p.config line ≡ Err why) ⊎ ((why ≡ When) × IsUntimely state (stage_meaning p.config line))) (sym is.planned)
-    (⊎_elim (λ bad. inl bad) (λ early. inr (early.0, early_of state h (stage_meaning h.showing.accepted.config line) is early.1)) refused)
+refuses_for line state h why is refused = subst (λ (p : Planned). Refuses (record state { planned = p }) line why) (sym is.planned)
+    (⊎_elim (λ bad. inl bad) (λ early. inr (early_of state h why (stage_meaning h.showing.accepted.config line) is early.0 early.1)) refused)

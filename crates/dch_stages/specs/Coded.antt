@@ -9,7 +9,8 @@ use Rattle.dch_coding.specs.Chain.{coded_of}
 use Rattle.dch_coding.specs.Segments.{plan_of}
 use Rattle.dch_coding.specs.Ttis.{AreJoined}
 
--- the transport blocks with their parity, the code blocks with the filler, and the coded bits, each one after another, and for how many coded bits there is room
+-- the transport blocks with their parity, the code blocks with the filler, and the coded bits, each one after another,
+-- and for how many coded bits there is room
 pub record Coded : Type 0 where
   pub joined : List Bit
   pub blocks : List Bit

@@ -20,7 +20,8 @@ use Rattle.dch_dlphy.specs.Frames.{bits_per_frame, multiplexed as down_multiplex
 use Rattle.dch_script.specs.Report.{bits_shown, cells_shown, phy_text}
 use Rattle.dch_stages.specs.Texts.{named_text, numbered_text, placed_text}
 
--- the cells of the radio frame of a CFN: how many a channel has before rate matching in the uplink, and of its places in the downlink
+-- the cells of the radio frame of a CFN: how many a channel has before rate matching in the uplink, and of its places
+-- in the downlink
 abbrev pub segment_cells : Planned → Dir → ℕ → ℕ → ℕ → ℕ
 segment_cells planned Up cfn c i = (pattern_of planned cfn c i).len
 segment_cells planned Down cfn c i = bits_per_frame planned c i
@@ -41,11 +42,13 @@ multiplexed_cells planned dir tti cfn c count = map (multiplexed planned dir tti
 
 -- the channel bits: the multiplexed cells of each code after the second interleaver
 unfoldable pub sent_cells : Planned → Dir → List Loaded → ℕ → ℕ → List Trit
-sent_cells planned dir tti cfn c = map (λ k. multiplexed planned dir tti cfn c (multiplexed_place planned dir c k)) (range_with_len 0 (frame_cells planned dir c))
+sent_cells planned dir tti cfn c = map (λ k. multiplexed planned dir tti cfn c (multiplexed_place planned dir c k))
+    (range_with_len 0 (frame_cells planned dir c))
 
 -- what rate matching keeps of the segment of channel i, in the uplink
 unfoldable pub matched_cells : Planned → List Loaded → ℕ → ℕ → ℕ → List Trit
-matched_cells planned tti cfn c i = map (sent_cell planned tti cfn c i) (range_with_len 0 (channel_cells planned Up c i))
+matched_cells planned tti cfn c i = map (sent_cell planned tti cfn c i)
+    (range_with_len 0 (channel_cells planned Up c i))
 
 -- how many codes of one size so many cells fill
 abbrev pub codes_in : ℕ → ℕ → ℕ
@@ -65,9 +68,11 @@ segment_line planned dir tti cfn c i =
     placed_text (codes "segment") i n (cells_shown (part n (segment_cells planned dir cfn c i) (loaded_at tti i).cells))
 
 abbrev pub matched_line : Planned → List Loaded → ℕ → ℕ → ℕ → List ℕ
-matched_line planned tti cfn c i = placed_text (codes "matched") i (frame_number planned.config.uplink.side i cfn) (cells_shown (matched_cells planned tti cfn c i))
+matched_line planned tti cfn c i = placed_text (codes "matched") i (frame_number planned.config.uplink.side i cfn)
+    (cells_shown (matched_cells planned tti cfn c i))
 
--- what stands behind the segments: in the uplink the matched bits of each channel, and the multiplexed bits; in the downlink the
+-- what stands behind the segments: in the uplink the matched bits of each channel, and the multiplexed bits; in the
+-- downlink the
 -- multiplexed cells, without and with the places behind them in which nothing is sent
 abbrev pub joining_lines : Dir → ℕ → ℕ
 joining_lines Up channels = channels + 1
@@ -76,17 +81,21 @@ joining_lines Down channels = 2
 unfoldable pub joining_line : Planned → Dir → List Loaded → ℕ → ℕ → ℕ → ℕ → List ℕ
 joining_line planned Up tti cfn c channels k =
     if nat_lt k channels then matched_line planned tti cfn c k
-    else named_text (codes "multiplexed") (cells_shown (multiplexed_cells planned Up tti cfn c (total (channel_cells planned Up c) channels)))
+    else named_text (codes "multiplexed") (cells_shown (multiplexed_cells planned Up tti cfn c
+    (total (channel_cells planned Up c) channels)))
 joining_line planned Down tti cfn c channels k =
-    if k == 0 then named_text (codes "multiplexed") (cells_shown (multiplexed_cells planned Down tti cfn c (total (channel_cells planned Down c) channels)))
+    if k == 0 then named_text (codes "multiplexed") (cells_shown
+    (multiplexed_cells planned Down tti cfn c (total (channel_cells planned Down c) channels)))
     else named_text (codes "dtx") (cells_shown (multiplexed_cells planned Down tti cfn c (frame_cells planned Down c)))
 
--- what stands behind that, of so many codes of one size: the multiplexed cells of each code, the same after the second interleaver, the TFCI
+-- what stands behind that, of so many codes of one size: the multiplexed cells of each code, the same after the second
+-- interleaver, the TFCI
 -- bits, and the radio frame
 unfoldable pub sent_line : Dir → ℕ → ℕ → List Bit → List Trit → List Trit → ℕ → List ℕ
 sent_line dir count size tfci joined cells k =
     if nat_lt k count then numbered_text (codes "code") k (cells_shown (part k size joined))
-    else (if nat_lt (k - count) count then numbered_text (codes "interleaved") (k - count) (cells_shown (part (k - count) size cells))
+    else (if nat_lt (k - count) count then numbered_text (codes "interleaved") (k - count)
+    (cells_shown (part (k - count) size cells))
     else (if k - 2 * count == 0 then named_text (codes "tfci") (bits_shown tfci)
     else phy_text dir tfci cells ++ codes "\n"))
 

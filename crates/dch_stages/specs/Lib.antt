@@ -3,8 +3,11 @@ pub mod Cells
 pub mod Texts
 pub mod TtiLines
 pub mod FrameLines
+pub mod Places
+pub mod Answers
+pub mod Shows
 pub mod Rules
-pub mod Standing
+pub mod Handlers
 pub mod Showing
 pub mod Overlong
 pub mod Runs

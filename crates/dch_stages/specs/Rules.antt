@@ -1,5 +1,5 @@
 -- The rules of the program: what a line does in a state, and what it says.
-use Rattle.std.specs.Prelude.{◌≡◌, ◌<◌, ◌+◌, ◌%◌, ◌==◌, ◌⊎◌, ℕ, List, [], ◌++◌, Option, Some, None, IfSome, Result, Ok, Err, length, codes, decimal, if◌then◌else◌, option_map}
+use Rattle.std.specs.Prelude.{◌≡◌, ◌<◌, ◌≤◌, ◌+◌, ◌%◌, ◌==◌, ◌⊎◌, ℕ, List, [], ◌++◌, Option, Some, None, IfSome, Result, Ok, Err, length, codes, decimal, if◌then◌else◌, option_map}
 use Rattle.dch_bits.specs.declared.bit.Bit.{Bit}
 use Rattle.dch_types.specs.declared.channel.Dir.{Dir}
 use Rattle.dch_types.specs.declared.channel.Dir.TheVariants.{Up, Down}
@@ -8,22 +8,24 @@ use Rattle.dch_coding.specs.Segments.{plan_of}
 use Rattle.dch_coding.specs.Ttis.{AreJoined}
 use Rattle.dch_accept.specs.Plans.{Planned}
 use Rattle.dch_tti.specs.Loaded.{Loaded, loaded_at}
-use Rattle.dch_ulphy.specs.Loaded.{IsLoaded as IsUpLoaded}
-use Rattle.dch_dlphy.specs.Loaded.{IsLoaded as IsDownLoaded}
 use Rattle.dch_script.specs.declared.event.LineError.{LineError}
-use Rattle.dch_script.specs.declared.event.LineError.TheVariants.{When}
-use Rattle.dch_script.specs.Stages.{ParsedStage, load, frame, stage_meaning}
+use Rattle.dch_script.specs.declared.event.LineError.TheVariants.{Number, When}
+use Rattle.dch_script.specs.Stages.{ParsedStage, ask, frame, load, stage_meaning}
 use Rattle.dch_lines.specs.Semantics.{Semantics, one_step}
 use Rattle.dch_lines.specs.Texts.{bits_of}
 use Rattle.dch_stages.specs.FrameLines.{frame_line, frame_lines}
+use Rattle.dch_stages.specs.Answers.{amount_of, question_line}
+use Rattle.dch_stages.specs.Shows.{IsLoaded}
+use Rattle.dch_script.specs.declared.stages.Question.{Question}
 use Rattle.dch_stages.specs.Texts.{lines_to}
 use Rattle.dch_stages.specs.TtiLines.{tti_line, tti_lines}
 
--- what a line asks for: nothing, the stages of a TTI, or those of a radio frame
+-- what a line asks for: nothing, the stages of a TTI, those of a radio frame, or what a question of a TTI asks
 pub data Asked : Type 0 where
   nothing : Asked
   tti : Dir → ℕ → ℕ → List Bit → Loaded → Asked  -- the channel, the format, the joined bits, and what is loaded of them
   radio_frame : Dir → List Loaded → ℕ → ℕ → Asked  -- what is loaded of the channels, the CFN and the combination
+  of_tti : Question → Dir → ℕ → ℕ → ℕ → Asked  -- the channel, the format, and the place or the bit
 
 -- the transport blocks that were given for a TTI: their format, and the bits of all of them
 pub record Given : Type 0 where
@@ -51,21 +53,20 @@ abbrev pub cfn_in : State → Dir → ℕ
 cfn_in state Up = state.up_cfn
 cfn_in state Down = state.down_cfn
 
--- the blocks of format f of channel i are loaded
-abbrev pub IsLoaded : Planned → Dir → ℕ → ℕ → List Bit → Loaded → Type 0
-IsLoaded planned Up i f bits loaded = IsUpLoaded planned i f bits loaded
-IsLoaded planned Down i f bits loaded = IsDownLoaded planned i f bits loaded
-
 -- how many lines show what was asked for, and line k of them
 abbrev pub answer_lines : Planned → Asked → ℕ
 answer_lines planned nothing = 0
-answer_lines planned (tti dir i f joined loaded) = let channel = channel_at (side_of planned.config dir) i in tti_lines dir (format_at channel f).number (plan_of (length joined) channel.coding).blocks
+answer_lines planned (tti dir i f joined loaded) = let channel =
+    channel_at (side_of planned.config dir) i in tti_lines dir (format_at channel f).number
+    (plan_of (length joined) channel.coding).blocks
 answer_lines planned (radio_frame dir loaded cfn c) = frame_lines planned dir c
+answer_lines planned (of_tti question dir i f n) = 1
 
 abbrev pub answer_line : Planned → Asked → ℕ → List ℕ
 answer_line planned nothing k = []
 answer_line planned (tti dir i f joined loaded) k = tti_line planned dir i f joined loaded k
 answer_line planned (radio_frame dir loaded cfn c) k = frame_line planned dir loaded cfn c k
+answer_line planned (of_tti question dir i f n) k = question_line planned question dir i f n
 
 -- all of them
 abbrev pub answer_text : Planned → Asked → List ℕ
@@ -82,7 +83,8 @@ gives Down i new old = record old { down = put i new old.down }
 -- a TTI is loaded
 pub record LoadsTti (dir : Dir) (i f : ℕ) (bits : List Bit) (old new : State) (asked : Asked) : Type 0 where
   pub joined : List Bit
-  pub are : AreJoined (channel_at (side_of old.planned.config dir) i) (format_at (channel_at (side_of old.planned.config dir) i) f) bits joined
+  pub are : AreJoined (channel_at (side_of old.planned.config dir) i)
+      (format_at (channel_at (side_of old.planned.config dir) i) f) bits joined
   pub loaded : Loaded
   pub is : IsLoaded old.planned dir i f bits loaded
   pub same : new ≡ gives dir i (record { format = f; bits = bits }) old
@@ -93,11 +95,13 @@ abbrev pub format_given : Option Given → Option ℕ
 format_given given = option_map (λ (g : Given). g.format) given
 
 abbrev pub AreOf : Planned → Dir → (ℕ → Option Given) → ℕ → Type 0
-AreOf planned dir given c = (i : ℕ) → i < length (side_of planned.config dir).channels → format_given (given i) ≡ Some (format_number (side_of planned.config dir) c i)
+AreOf planned dir given c = (i : ℕ) → i < length (side_of planned.config dir).channels → format_given (given i) ≡
+    Some (format_number (side_of planned.config dir) c i)
 
 -- what was given of each channel is loaded
 abbrev pub AreLoaded : Planned → Dir → (ℕ → Option Given) → List Loaded → Type 0
-AreLoaded planned dir given loaded = (i : ℕ) → i < length (side_of planned.config dir).channels → IfSome (given i) (λ g. IsLoaded planned dir i g.format g.bits (loaded_at loaded i))
+AreLoaded planned dir given loaded = (i : ℕ) → i < length (side_of planned.config dir).channels →
+    IfSome (given i) (λ g. IsLoaded planned dir i g.format g.bits (loaded_at loaded i))
 
 -- a radio frame is sent of what was given: the CFN of its direction goes on
 abbrev pub next_cfn : ℕ → ℕ
@@ -115,10 +119,19 @@ pub record SendsFrame (dir : Dir) (c : ℕ) (old new : State) (asked : Asked) : 
   pub same : new ≡ goes_on dir old
   pub asks : asked ≡ radio_frame dir loaded (cfn_in old dir) c
 
+-- a question of the TTI that was given last of a channel is asked
+pub record Asks (question : Question) (dir : Dir) (i n : ℕ) (old new : State) (asked : Asked) : Type 0 where
+  pub format : ℕ
+  pub given : format_given (given_in old dir i) ≡ Some format
+  pub inside : n < amount_of old.planned question dir i format
+  pub same : new ≡ old
+  pub asks : asked ≡ of_tti question dir i format n
+
 -- what a good line does and asks for, and its answer
 abbrev pub Does : ParsedStage → State → State → Asked → Type 0
 Does (load dir i f text) old new asked = LoadsTti dir i f (bits_of text) old new asked
 Does (frame dir c) old new asked = SendsFrame dir c old new asked
+Does (ask question dir i n) old new asked = Asks question dir i n old new asked
 
 pub record Handles (old : State) (line : List ℕ) (new : State) (text : List ℕ) : Type 0 where
   pub parsed : ParsedStage
@@ -127,14 +140,22 @@ pub record Handles (old : State) (line : List ℕ) (new : State) (text : List �
   pub does : Does parsed old new asked
   pub shown : text ≡ answer_text old.planned asked
 
+-- no TTI is given, or its format has no more of what is asked for
+abbrev pub IsOutside : (ℕ → ℕ) → Option ℕ → ℕ → LineError → Type 0
+IsOutside amount None n why = why ≡ When
+IsOutside amount (Some f) n why = (why ≡ Number) × (amount f ≤ n)
+
 -- why a line is malformed
-abbrev pub IsUntimely : State → Result ParsedStage LineError → Type 0
-IsUntimely state (Ok (frame dir c)) = AreOf state.planned dir (given_in state dir) c → ⊥
-IsUntimely state (Ok (load dir i f text)) = ⊥
-IsUntimely state (Err why) = ⊥
+abbrev pub IsUntimely : State → Result ParsedStage LineError → LineError → Type 0
+IsUntimely state (Ok (frame dir c)) why = (why ≡ When) × (AreOf state.planned dir (given_in state dir) c → ⊥)
+IsUntimely state (Ok (load dir i f text)) why = ⊥
+IsUntimely state (Ok (ask question dir i n)) why = IsOutside (amount_of state.planned question dir i)
+    (format_given (given_in state dir i)) n why
+IsUntimely state (Err other) why = ⊥
 
 abbrev pub Refuses : State → List ℕ → LineError → Type 0
-Refuses state line why = (stage_meaning state.planned.config line ≡ Err why) ⊎ ((why ≡ When) × IsUntimely state (stage_meaning state.planned.config line))
+Refuses state line why = (stage_meaning state.planned.config line ≡ Err why) ⊎
+    IsUntimely state (stage_meaning state.planned.config line) why
 
 abbrev pub rules : Semantics State
 rules = one_step Handles Refuses (λ _ lines. codes "end lines=" ++ decimal lines ++ codes "\n")

@@ -11,7 +11,8 @@ numbered_text word n shown = word ++ codes " " ++ decimal n ++ codes " " ++ show
 
 -- and of radio frame n of the TTI of channel i
 abbrev pub placed_text : List ℕ → ℕ → ℕ → List ℕ → List ℕ
-placed_text word i n shown = word ++ codes " " ++ decimal i ++ codes " " ++ decimal n ++ codes " " ++ shown ++ codes "\n"
+placed_text word i n shown = word ++ codes " " ++ decimal i ++ codes " " ++ decimal n ++ codes " " ++ shown ++
+    codes "\n"
 
 -- the first n lines of a text
 unfoldable pub lines_to : (ℕ → List ℕ) → ℕ → List ℕ

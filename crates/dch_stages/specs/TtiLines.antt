@@ -20,25 +20,31 @@ use Rattle.dch_stages.specs.Texts.{named_text, numbered_text}
 
 -- a transport block with its parity, a code block with its filler, and its code
 abbrev pub crc_line : Trch → Format → List Bit → ℕ → List ℕ
-crc_line channel format joined r = numbered_text (codes "crc") r (bits_shown (part r (format.size + crc_size channel.crc) joined))
+crc_line channel format joined r = numbered_text (codes "crc") r
+    (bits_shown (part r (format.size + crc_size channel.crc) joined))
 
 abbrev pub block_line : Trch → List Bit → ℕ → List ℕ
-block_line channel joined r = numbered_text (codes "block") r (bits_shown (code_block (plan_of (length joined) channel.coding) joined r))
+block_line channel joined r = numbered_text (codes "block") r
+    (bits_shown (code_block (plan_of (length joined) channel.coding) joined r))
 
 abbrev pub coded_line : Trch → List Bit → ℕ → List ℕ
 coded_line channel joined r =
-    numbered_text (codes "coded") r (bits_shown (coded_as channel.coding (code_block (plan_of (length joined) channel.coding) joined r)))
+    numbered_text (codes "coded") r (bits_shown (coded_as channel.coding
+    (code_block (plan_of (length joined) channel.coding) joined r)))
 
--- what follows the coded bits of a TTI: in the uplink it is equalised, and in the downlink it is matched and gets places in which nothing
+-- what follows the coded bits of a TTI: in the uplink it is equalised, and in the downlink it is matched and gets
+-- places in which nothing
 -- is sent; the last line has the interleaved cells that are loaded
 abbrev pub last_line : Planned → Dir → ℕ → ℕ → List Bit → Loaded → ℕ → List ℕ
 last_line planned Up i f coded loaded n =
-    if n == 0 then named_text (codes "equalised") (cells_shown (equalised (channel_at planned.config.uplink.side i).frames coded))
+    if n == 0 then named_text (codes "equalised") (cells_shown
+    (equalised (channel_at planned.config.uplink.side i).frames coded))
     else named_text (codes "interleaved") (cells_shown loaded.cells)
 last_line planned Down i f coded loaded n =
     let matching : RateMatching = matching_of planned i f in
     if n == 0 then named_text (codes "matched") (cells_shown (matched matching.pattern coded))
-    else (if n == 1 then named_text (codes "dtx") (cells_shown (filled matching.pattern ((channel_at planned.config.downlink.side i).frames * matching.cells) coded))
+    else (if n == 1 then named_text (codes "dtx") (cells_shown
+    (filled matching.pattern ((channel_at planned.config.downlink.side i).frames * matching.cells) coded))
     else named_text (codes "interleaved") (cells_shown loaded.cells))
 
 abbrev pub last_lines : Dir → ℕ

@@ -10,8 +10,8 @@ use dch_bits::{Bit, Trit};
 use dch_frame::{Pattern, kept, rate_match, show};
 use dch_inter::equalise;
 
-/// Writes the coded bits of an uplink TTI of so many radio frames to the front of `out`, with zeros behind them up to whole
-/// radio frames, and answers how many cells there are (TS 25.212 4.2.4).
+/// Writes the coded bits of an uplink TTI of so many radio frames to the front of `out`, with zeros behind them up to
+/// whole radio frames, and answers how many cells there are (TS 25.212 4.2.4).
 pub fn equalise_front(frames: usize, coded: &[Bit], out: &mut [Trit]) -> usize
     requires frames { IsFrames frames }
     requires short { length coded.now ≤ 131072 }
@@ -35,8 +35,8 @@ fn equalise_into(coded: &[Bit], out: &mut [Trit])
     zeros.fill(Trit::Zero);
 }
 
-/// Writes the coded bits of a downlink TTI that rate matching keeps to the front of `out`, and answers how many cells these
-/// are (TS 25.212 4.2.7). `shown` is room for the coded bits as cells.
+/// Writes the coded bits of a downlink TTI that rate matching keeps to the front of `out`, and answers how many cells
+/// these are (TS 25.212 4.2.7). `shown` is room for the coded bits as cells.
 pub fn match_front(pattern: &Pattern, coded: &[Bit], shown: &mut [Trit], out: &mut [Trit]) -> usize
     requires pattern { IsWellFormed pattern.now }
     requires coded { length coded.now ≡ pattern.now.len }
@@ -62,8 +62,8 @@ fn match_into(pattern: &Pattern, coded: &[Bit], shown: &mut [Trit], out: &mut [T
     rate_match(pattern, shown, out);
 }
 
-/// Writes the coded bits of a downlink TTI that rate matching keeps to the front of `out`, with places behind them in which
-/// nothing is sent, `count` in all (TS 25.212 4.2.9.1). `shown` is room for the coded bits as cells.
+/// Writes the coded bits of a downlink TTI that rate matching keeps to the front of `out`, with places behind them in
+/// which nothing is sent, `count` in all (TS 25.212 4.2.9.1). `shown` is room for the coded bits as cells.
 pub fn fill_front(
     pattern: &Pattern,
     coded: &[Bit],

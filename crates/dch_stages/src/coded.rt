@@ -27,9 +27,17 @@ impl Model for CodedTti {
 
     ghost Value = { Coded };
 
-    ghost view = { λ s. record { joined = take s.lengths.joined s.joined.items; blocks = take s.lengths.blocks s.blocks.items; coded = take s.lengths.coded s.coded.items; room = length s.joined.items } };
+    ghost view = { λ s. record {
+      joined = take s.lengths.joined s.joined.items;
+      blocks = take s.lengths.blocks s.blocks.items;
+      coded = take s.lengths.coded s.coded.items;
+      room =
+          length s.joined.items;
+    } };
 
-    ghost invariant = { λ s. (s.lengths.joined ≤ length s.joined.items) × (s.lengths.blocks ≤ length s.blocks.items) × (s.lengths.coded ≤ length s.coded.items) × (length s.blocks.items ≡ length s.joined.items) × (length s.coded.items ≡ length s.joined.items) };
+    ghost invariant = { λ s. (s.lengths.joined ≤ length s.joined.items) × (s.lengths.blocks ≤ length s.blocks.items) ×
+        (s.lengths.coded ≤ length s.coded.items) × (length s.blocks.items ≡ length s.joined.items) ×
+        (length s.coded.items ≡ length s.joined.items) };
 }
 
 impl CodedTti {
@@ -120,7 +128,8 @@ impl CodedTti {
         requires cut { AreCut channel.now format.now self.now }
         requires limit { tti_bits channel.now format.now ≤ 131072 }
         requires block { r < (plan_of (length self.now.joined) channel.now.coding).blocks }
-        ensures part { result.now ≡ coded_as channel.now.coding (code_block (plan_of (length self.now.joined) channel.now.coding) self.now.joined r) }
+        ensures part { result.now ≡ coded_as channel.now.coding
+            (code_block (plan_of (length self.now.joined) channel.now.coding) self.now.joined r) }
         ensures short { length result.now ≤ 131072 }
     {
         let size = plan_of_tti(channel, format).size;
@@ -151,7 +160,8 @@ impl Lengths {
     fn of(channel: &Trch, format: &Format) -> Lengths
         requires { tti_bits channel.now format.now ≤ 131072 }
         ensures joined { result.joined ≡ joined_bits channel.now format.now }
-        ensures blocks { result.blocks ≡ block_count result.joined channel.now.coding * block_size result.joined (block_count result.joined channel.now.coding) }
+        ensures blocks { result.blocks ≡ block_count result.joined channel.now.coding * block_size result.joined
+            (block_count result.joined channel.now.coding) }
         ensures coded { result.coded ≡ coded_bits channel.now.coding result.joined }
         ensures whole { result.coded ≡ tti_bits channel.now format.now }
         ensures few_joined { result.joined ≤ result.coded }
@@ -167,8 +177,8 @@ impl Lengths {
     }
 }
 
-/// Writes the blocks of a TTI with their parity, its code blocks and its code to the fronts of three lists, and answers how
-/// long they are.
+/// Writes the blocks of a TTI with their parity, its code blocks and its code to the fronts of three lists, and answers
+/// how long they are.
 fn code_fronts(
     channel: &Trch,
     format: &Format,
@@ -183,7 +193,9 @@ fn code_fronts(
     requires blocks { tti_bits channel.now format.now ≤ length blocks.old }
     requires coded { tti_bits channel.now format.now ≤ length coded.old }
     ensures joined { AreJoined channel.now format.now bits.now (take result.joined joined.new) }
-    ensures blocks { take result.blocks blocks.new ≡ replicate (plan_of (length (take result.joined joined.new)) channel.now.coding).filler Zero ++ take result.joined joined.new }
+    ensures blocks { take result.blocks blocks.new ≡ replicate
+        (plan_of (length (take result.joined joined.new)) channel.now.coding).filler Zero ++
+        take result.joined joined.new }
     ensures coded { take result.coded coded.new ≡ coded_of channel.now.coding (take result.joined joined.new) }
     ensures few_joined { result.joined ≤ length joined.new }
     ensures few_blocks { result.blocks ≤ length blocks.new }
@@ -213,7 +225,9 @@ fn code_into(
     requires bits { length bits.now ≡ format.now.number * format.now.size }
     requires short { length joined.old ≤ 131072 }
     requires joined { length joined.old ≡ joined_bits channel.now format.now }
-    requires blocks { length blocks.old ≡ block_count (joined_bits channel.now format.now) channel.now.coding * block_size (joined_bits channel.now format.now) (block_count (joined_bits channel.now format.now) channel.now.coding) }
+    requires blocks { length blocks.old ≡ block_count (joined_bits channel.now format.now)
+        channel.now.coding * block_size (joined_bits channel.now format.now)
+        (block_count (joined_bits channel.now format.now) channel.now.coding) }
     requires coded { length coded.old ≡ coded_bits channel.now.coding (joined_bits channel.now format.now) }
     ensures joined { AreJoined channel.now format.now bits.now joined.new }
     ensures blocks { blocks.new ≡ replicate (plan_of (length joined.new) channel.now.coding).filler Zero ++ joined.new }

@@ -6,7 +6,7 @@ ghost use Rattle.dch_tti.specs.Loaded.{AreFormats};
 ghost use Rattle.dch_dlphy.specs.Frames.{bits_before};
 ghost use Rattle.dch_dlphy.specs.Loaded.{IsTtiOf};
 ghost use Rattle.dch_stages.specs.FrameLines.{frame_end, frame_line, joining_line};
-ghost use Rattle.dch_stages.specs.Standing.{HasRoom};
+ghost use Rattle.dch_stages.specs.Handlers.{HasRoom};
 
 use crate::frame::multiplex_downlink;
 use crate::frame_lines::{places_in_frame, put_downlink_segment, put_multiplexed, put_off};
@@ -60,7 +60,8 @@ fn put_joined<P: Page>(
     requires combination { at.combination < length accepted.now.config.downlink.side.combinations }
     requires formats { AreFormats accepted.now.config.downlink.side at.combination tti.now }
     requires cells { most_cells accepted.now.config Down ≤ length cells.old }
-    ensures text { P.writes page.old (joining_line accepted.now Down tti.now at.cfn at.combination (length accepted.now.config.downlink.side.channels) k) page.new }
+    ensures text { P.writes page.old (joining_line accepted.now Down tti.now at.cfn at.combination
+        (length accepted.now.config.downlink.side.channels) k) page.new }
     ensures cells { length cells.new ≡ length cells.old }
 {
     let len = multiplex_downlink(accepted, tti, at.cfn, at.combination, cells);

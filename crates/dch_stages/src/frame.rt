@@ -16,8 +16,8 @@ use dch_dlphy::DlTti;
 use dch_tti::{MultiplexFrame, TtiBuffer};
 use dch_ulphy::UlTti;
 
-/// Writes the multiplexed cells of the radio frame of a CFN in a combination to the front of `out`, and answers how many there
-/// are (TS 25.212 4.2.6 to 4.2.9.2).
+/// Writes the multiplexed cells of the radio frame of a CFN in a combination to the front of `out`, and answers how
+/// many there are (TS 25.212 4.2.6 to 4.2.9.2).
 pub fn multiplex_front<T: MultiplexFrame>(
     accepted: &Accepted,
     tti_buffers: &[TtiBuffer],
@@ -29,8 +29,10 @@ pub fn multiplex_front<T: MultiplexFrame>(
     requires combination { combination < length (side_of accepted.now.config T.dir).combinations }
     requires formats { AreFormats (side_of accepted.now.config T.dir) combination tti_buffers.now }
     requires room { most_cells accepted.now.config T.dir ≤ length out.old }
-    ensures cells { (p : ℕ) → p < result → slice_index_or out.new p Off ≡ T.cell accepted.now tti_buffers.now cfn combination p }
-    ensures list { take result out.new ≡ map (T.cell accepted.now tti_buffers.now cfn combination) (range_with_len 0 (frame_cells accepted.now T.dir combination)) }
+    ensures cells { (p : ℕ) → p < result → slice_index_or out.new p Off ≡
+        T.cell accepted.now tti_buffers.now cfn combination p }
+    ensures list { take result out.new ≡ map (T.cell accepted.now tti_buffers.now cfn combination)
+        (range_with_len 0 (frame_cells accepted.now T.dir combination)) }
     ensures long { result ≡ frame_cells accepted.now T.dir combination }
     ensures fits { result ≤ length out.new }
 {
@@ -42,7 +44,8 @@ pub fn multiplex_front<T: MultiplexFrame>(
     len
 }
 
-/// Writes the multiplexed cells of the uplink radio frame of a CFN to the front of `out`, and answers how many there are.
+/// Writes the multiplexed cells of the uplink radio frame of a CFN to the front of `out`, and answers how many there
+/// are.
 #[tactic(auto, unfolding(crate::specs::FrameLines::multiplexed_cells))]
 pub fn multiplex_uplink(
     accepted: &Accepted,
@@ -63,8 +66,8 @@ pub fn multiplex_uplink(
     multiplex_front::<UlTti>(accepted, tti.tti_buffers(), cfn, combination, out)
 }
 
-/// Writes the multiplexed cells of the downlink radio frame of a CFN to the front of `out`, with the places behind them in
-/// which nothing is sent, and answers how many there are.
+/// Writes the multiplexed cells of the downlink radio frame of a CFN to the front of `out`, with the places behind them
+/// in which nothing is sent, and answers how many there are.
 #[tactic(auto, unfolding(crate::specs::FrameLines::multiplexed_cells))]
 pub fn multiplex_downlink(
     accepted: &Accepted,

@@ -28,7 +28,8 @@ use dch_ulphy::UlTti;
 /// Adds the line of the segment of radio frame `n` of the TTI of channel `i`, which has so many cells.
 pub fn put_segment<P: Page>(page: &mut P, buffer: &TtiBuffer, i: u8, n: u8, size: usize)
     requires inside { n * size + size ≤ length buffer.now.cells }
-    ensures text { P.writes page.old (placed_text (codes "segment") i n (cells_shown (part n size buffer.now.cells))) page.new }
+    ensures text { P.writes page.old (placed_text (codes "segment") i n (cells_shown (part n size buffer.now.cells)))
+        page.new }
 {
     let cells = part_of(buffer.cells(), size, n as usize);
     put_placed_cells(page, b"segment", i as u64, n as u64, cells);
@@ -46,7 +47,8 @@ fn part_of(cells: &[Trit], size: usize, r: usize) -> &[Trit]
 /// Adds the line of code `u` of the multiplexed cells of a radio frame, of which each has so many.
 pub fn put_code<P: Page>(page: &mut P, multiplexed: &[Trit], size: usize, u: usize)
     requires inside { u * size + size ≤ length multiplexed.now }
-    ensures text { P.writes page.old (numbered_text (codes "code") u (cells_shown (part u size multiplexed.now))) page.new }
+    ensures text { P.writes page.old (numbered_text (codes "code") u (cells_shown (part u size multiplexed.now)))
+        page.new }
 {
     let cells = part_of(multiplexed, size, u);
     put_numbered_cells(page, b"code", u as u64, cells);
@@ -55,7 +57,8 @@ pub fn put_code<P: Page>(page: &mut P, multiplexed: &[Trit], size: usize, u: usi
 /// Adds the line of a code after the second interleaver.
 pub fn put_interleaved_code<P: Page>(page: &mut P, sent: &[Trit], size: usize, u: usize)
     requires inside { u * size + size ≤ length sent.now }
-    ensures text { P.writes page.old (numbered_text (codes "interleaved") u (cells_shown (part u size sent.now))) page.new }
+    ensures text { P.writes page.old (numbered_text (codes "interleaved") u (cells_shown (part u size sent.now)))
+        page.new }
 {
     let cells = part_of(sent, size, u);
     put_numbered_cells(page, b"interleaved", u as u64, cells);
@@ -129,7 +132,8 @@ fn segment_size(accepted: &Accepted, combination: u16, i: u8, n: u8) -> usize
     requires combination { combination < length accepted.now.config.uplink.side.combinations }
     requires channel { i < length accepted.now.config.uplink.side.channels }
     requires frame { n < (channel_at accepted.now.config.uplink.side i).frames }
-    ensures value { result ≡ (uplink_pattern accepted.now.config.uplink.side combination (plan_at accepted.now.uplink combination).ndata i n).len }
+    ensures value { result ≡ (uplink_pattern accepted.now.config.uplink.side combination
+        (plan_at accepted.now.uplink combination).ndata i n).len }
     ensures before { result ≡ before_of accepted.now.config.uplink.side combination i }
     ensures side { IsSide accepted.now.config.uplink.side }
 {

@@ -1,5 +1,5 @@
 ghost use Rattle.std.specs.Prelude.{IfOk};
-ghost use Rattle.dch_stages.specs.Standing.{HasRoom};
+ghost use Rattle.dch_stages.specs.Handlers.{HasRoom};
 
 use dch_accept::{Accepted, PhyFrame};
 use dch_bits::{NoMemory, Trit};

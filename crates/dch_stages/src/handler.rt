@@ -6,16 +6,16 @@ ghost use Rattle.dch_lines.specs.Texts.{bits_of};
 ghost use Rattle.dch_stages.specs.Overlong.{stages_refuse_long};
 ghost use Rattle.dch_stages.specs.Rules.{State, opened, rules};
 ghost use Rattle.dch_stages.specs.Showing.{HasLoaded, IsRefused, Obeys};
-ghost use Rattle.dch_stages.specs.Standing.{IsReady, IsShowing, Represents};
+ghost use Rattle.dch_stages.specs.Handlers.{IsReady, IsShowing, Represents};
 ghost use Rattle.dch_stages.specs.declared.rooms.TheConstants.{MOST_BITS};
 
+use crate::places::{TtiOf, blocks_bits};
 use crate::rooms::Rooms;
 use crate::showing::{Showing, put_answers};
 use dch_accept::Accepted;
 use dch_bits::{Bit, NoMemory};
 use dch_lines::{LineFault, LineHandler, Page, put_line, read_tfci};
 use dch_script::{Line, LineError, StageLine, parse_stage};
-use dch_types::Dir;
 use std::alloc::Global;
 
 /// The handler of the program: each line loads a TTI or sends a radio frame, and its stages are shown line by line.
@@ -39,7 +39,8 @@ impl StagesHandler {
     /// Does what a line says, and writes its answer.
     fn take_line<P: Page>(&mut self, line: &[u8], page: &mut P) -> Result<(), LineError>
         requires ready { IsReady self.old }
-        ensures ok { OnOk result (Leads Represents self.old self.new (λ old new. Adds P.writes (rules.handles old line.now new) page.old page.new)) }
+        ensures ok { OnOk result (Leads Represents self.old self.new
+            (λ old new. Adds P.writes (rules.handles old line.now new) page.old page.new)) }
         ensures err { IfErr result (λ why. (state : State) → Represents state self.old →
             rules.refuses state line.now why × Represents state self.new) }
         ensures same { IfErr result (λ _. page.new ≡ page.old) }
@@ -78,7 +79,7 @@ fn take(showing: &mut Showing, bits: &mut [Bit], line: &[u8]) -> Result<(), Line
             load(
                 showing,
                 bits,
-                Place {
+                TtiOf {
                     dir,
                     channel,
                     format,
@@ -88,31 +89,34 @@ fn take(showing: &mut Showing, bits: &mut [Bit], line: &[u8]) -> Result<(), Line
             Ok(())
         }
         Ok(StageLine::Frame { dir, combination }) => showing.send(dir, combination),
+        Ok(
+            StageLine::Ask {
+                question,
+                dir,
+                channel,
+                number,
+            },
+        ) => showing.ask(question, dir, channel, number),
         Err(why) => Err(why),
     }
 }
 
-/// A channel of a direction, and a format of it.
-#[derive(Clone, Copy)]
-struct Place {
-    dir: Dir,
-    channel: u8,
-    format: u8,
-}
-
 /// Loads the transport blocks that a text shows.
-fn load(showing: &mut Showing, bits: &mut [Bit], place: Place, text: &[u8])
+fn load(showing: &mut Showing, bits: &mut [Bit], place: TtiOf, text: &[u8])
     requires showing { IsShowing showing.old }
     requires bits { length bits.old ≡ MOST_BITS }
     requires channel { place.channel < length (side_of showing.old.accepted.config place.dir).channels }
-    requires format { place.format < length (channel_at (side_of showing.old.accepted.config place.dir) place.channel).formats }
-    requires text { is_all_bits ((format_at (channel_at (side_of showing.old.accepted.config place.dir) place.channel) place.format).number
-        * (format_at (channel_at (side_of showing.old.accepted.config place.dir) place.channel) place.format).size) text.now ≡ true }
+    requires format { place.format < length (channel_at (side_of showing.old.accepted.config place.dir)
+        place.channel).formats }
+    requires text { is_all_bits ((format_at (channel_at (side_of showing.old.accepted.config place.dir) place.channel)
+        place.format).number
+        * (format_at (channel_at (side_of showing.old.accepted.config place.dir) place.channel) place.format).size)
+        text.now ≡ true }
     ensures showing { IsShowing showing.new }
     ensures loaded { HasLoaded place.dir place.channel place.format (bits_of text.now) showing.old showing.new }
     ensures bits { length bits.new ≡ length bits.old }
 {
-    let Place {
+    let TtiOf {
         dir,
         channel,
         format,
@@ -120,19 +124,6 @@ fn load(showing: &mut Showing, bits: &mut [Bit], place: Place, text: &[u8])
     let count = blocks_bits(&showing.accepted, place);
     let blocks = read_blocks(text, count, bits);
     showing.load(dir, channel, format, blocks);
-}
-
-/// The bits of the transport blocks of a format.
-fn blocks_bits(accepted: &Accepted, place: Place) -> usize
-    requires channel { place.channel < length (side_of accepted.now.config place.dir).channels }
-    requires format { place.format < length (channel_at (side_of accepted.now.config place.dir) place.channel).formats }
-    ensures value { result ≡ (format_at (channel_at (side_of accepted.now.config place.dir) place.channel) place.format).number
-        * (format_at (channel_at (side_of accepted.now.config place.dir) place.channel) place.format).size }
-    ensures few { result ≤ MOST_BITS }
-{
-    let trch = accepted.channel(place.dir, place.channel);
-    let format = trch.format(place.format as usize);
-    usize::from(format.number) * usize::from(format.size)
 }
 
 /// The bits of a text of so many letters, where a dot stands for none, at the front of `room`.

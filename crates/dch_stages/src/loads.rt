@@ -1,7 +1,7 @@
 ghost use Rattle.std.specs.Prelude.{◌≡◌, ◌<◌, ◌+◌, ◌%◌, ℕ, IfNone, IfOk, IfSome, None, Some, false, length, replicate, true};
 ghost use Rattle.dch_types.specs.Limits.{IsSide};
 ghost use Rattle.dch_types.specs.Parts.{format_number};
-ghost use Rattle.dch_stages.specs.Standing.{format_in};
+ghost use Rattle.dch_stages.specs.Handlers.{format_in};
 
 use dch_bits::NoMemory;
 use dch_types::Side;
@@ -32,8 +32,10 @@ impl Loads {
         requires combination { combination < length side.now.combinations }
         requires all { length self.old.formats.items ≡ length side.now.channels }
         ensures some { IfSome result (λ cfn. (cfn ≡ self.old.cfn) × (self.new.cfn ≡ (self.old.cfn + 1) % 256)) }
-        ensures are { IfSome result (λ _. (i : ℕ) → i < length side.now.channels → format_in self.old.formats.items i ≡ Some (format_number side.now combination i)) }
-        ensures none { result ≡ None → ((i : ℕ) → i < length side.now.channels → format_in self.old.formats.items i ≡ Some (format_number side.now combination i)) → ⊥ }
+        ensures are { IfSome result (λ _. (i : ℕ) → i < length side.now.channels → format_in self.old.formats.items i ≡
+            Some (format_number side.now combination i)) }
+        ensures none { result ≡ None → ((i : ℕ) → i < length side.now.channels → format_in self.old.formats.items i ≡
+            Some (format_number side.now combination i)) → ⊥ }
         ensures unsent { result ≡ None → self.new ≡ self.old }
         ensures same { self.new.formats.items ≡ self.old.formats.items }
     {
@@ -51,8 +53,10 @@ fn are_of(formats: &[Option<u8>], side: &Side, combination: u16) -> bool
     requires side { IsSide side.now }
     requires combination { combination < length side.now.combinations }
     requires all { length formats.now ≡ length side.now.channels }
-    ensures yes { result ≡ true → (i : ℕ) → i < length side.now.channels → format_in formats.now i ≡ Some (format_number side.now combination i) }
-    ensures no { result ≡ false → ((i : ℕ) → i < length side.now.channels → format_in formats.now i ≡ Some (format_number side.now combination i)) → ⊥ }
+    ensures yes { result ≡ true → (i : ℕ) → i < length side.now.channels → format_in formats.now i ≡
+        Some (format_number side.now combination i) }
+    ensures no { result ≡ false → ((i : ℕ) → i < length side.now.channels → format_in formats.now i ≡
+        Some (format_number side.now combination i)) → ⊥ }
 {
     for i in 0..formats.len() {
         if !is_loaded(formats, i, side.tfi(combination as usize, i)) {

@@ -2,6 +2,7 @@
 //! radio frames, each shown by itself (TS 25.212 4.2), from standard input to standard output.
 #![tactic(auto)]
 
+mod answers;
 mod cells;
 mod coded;
 mod downlink;
@@ -11,6 +12,7 @@ mod frame_lines;
 mod frame_room;
 mod handler;
 mod loads;
+mod places;
 mod rooms;
 mod sent_lines;
 mod showing;

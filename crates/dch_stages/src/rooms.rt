@@ -1,5 +1,5 @@
 ghost use Rattle.std.specs.Prelude.{◌≡◌, IfOk, length};
-ghost use Rattle.dch_stages.specs.Standing.{HaveRooms};
+ghost use Rattle.dch_stages.specs.Handlers.{HaveRooms};
 
 use crate::frame_room::FrameRoom;
 use dch_accept::Accepted;

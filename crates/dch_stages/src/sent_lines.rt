@@ -72,7 +72,8 @@ pub struct SentFrame<'a> {
 pub fn put_sent_line<P: Page>(page: &mut P, dir: Dir, frame: SentFrame<'_>, k: usize)
     requires same { length frame.view.cells.now ≡ length frame.multiplexed.now }
     requires codes { frame.codes.count * frame.codes.size ≤ length frame.multiplexed.now }
-    ensures text { P.writes page.old (sent_line dir frame.entry.codes.count frame.entry.codes.size frame.entry.view.tfci.now frame.entry.multiplexed.now frame.entry.view.cells.now k) page.new }
+    ensures text { P.writes page.old (sent_line dir frame.entry.codes.count frame.entry.codes.size
+        frame.entry.view.tfci.now frame.entry.multiplexed.now frame.entry.view.cells.now k) page.new }
 {
     let Codes { count, size } = frame.codes;
     if k < count {

@@ -8,17 +8,20 @@ ghost use Rattle.dch_dlphy.specs.Loaded.{IsTtiOf as IsDownlinkTti};
 ghost use Rattle.dch_script.specs.declared.event.LineError.TheVariants.{When};
 ghost use Rattle.dch_stages.specs.Coded.{AreCut};
 ghost use Rattle.dch_stages.specs.FrameLines.{frame_lines};
-ghost use Rattle.dch_stages.specs.Rules.{answer_line, answer_lines, answer_text};
-ghost use Rattle.dch_stages.specs.Showing.{HasLoaded, HasSent, IsBegun};
-ghost use Rattle.dch_stages.specs.Standing.{CanShow, HaveRooms, IsShowing, asks, format_in, formats_in};
+ghost use Rattle.dch_stages.specs.Answers.{amount_of};
+ghost use Rattle.dch_stages.specs.Rules.{IsOutside, answer_line, answer_lines, answer_text};
+ghost use Rattle.dch_stages.specs.Showing.{HasAsked, HasLoaded, HasSent, IsBegun};
+ghost use Rattle.dch_stages.specs.Handlers.{CanShow, HaveRooms, IsShowing, asks, format_in, formats_in};
 ghost use Rattle.dch_stages.specs.TtiLines.{tti_line, tti_lines};
 ghost use Rattle.dch_stages.specs.declared.showing.Asking.TheVariants.{Tti};
 
+use crate::answers::{amount_of, put_answer as put_bits};
 use crate::coded::CodedTti;
 use crate::downlink::DownlinkLoads;
 use crate::downlink_frame::put_downlink_frame_line;
 use crate::frame_lines::buffer_of;
 use crate::frame_room::FrameAt;
+use crate::places::TtiOf;
 use crate::rooms::{MOST_BITS, Rooms};
 use crate::sent_lines::Codes;
 use crate::tti_lines::{Shown, coding_lines, put_downlink_line, put_uplink_line};
@@ -27,7 +30,7 @@ use crate::uplink_frame::put_uplink_frame_line;
 use dch_accept::Accepted;
 use dch_bits::{Bit, NoMemory};
 use dch_lines::Page;
-use dch_script::LineError;
+use dch_script::{LineError, Question};
 use dch_types::Dir;
 use std::alloc::Global;
 
@@ -35,8 +38,20 @@ use std::alloc::Global;
 #[derive(Clone, Copy)]
 pub enum Asking {
     Nothing,
-    Tti { dir: Dir, channel: u8, format: u8 },
-    Frame { dir: Dir, at: FrameAt },
+    Tti {
+        dir: Dir,
+        channel: u8,
+        format: u8,
+    },
+    Frame {
+        dir: Dir,
+        at: FrameAt,
+    },
+    Bits {
+        question: Question,
+        tti: TtiOf,
+        number: u32,
+    },
 }
 
 /// A configuration, what is loaded of its channels, and what the last line asked for.
@@ -72,54 +87,22 @@ impl Showing {
         requires channel { channel < length (side_of self.old.accepted.config dir).channels }
         requires format { format < length (channel_at (side_of self.old.accepted.config dir) channel).formats }
         requires bits { length bits.now ≡
-            (format_at (channel_at (side_of self.old.accepted.config dir) channel) format).number * (format_at (channel_at (side_of self.old.accepted.config dir) channel) format).size }
+            (format_at (channel_at (side_of self.old.accepted.config dir) channel) format).number *
+            (format_at (channel_at (side_of self.old.accepted.config dir) channel) format).size }
         ensures showing { IsShowing self.new }
         ensures loaded { HasLoaded dir channel format bits.now self.old self.new }
     {
+        let trch = self.accepted.channel(dir, channel);
+        self.stages.code(trch, trch.format(format as usize), bits);
+        self.asked = Asking::Tti {
+            dir,
+            channel,
+            format,
+        };
         match dir {
-            Dir::Up => self.load_up(channel, format, bits),
-            Dir::Down => self.load_down(channel, format, bits),
+            Dir::Up => self.up.load(&self.accepted, channel, format, bits),
+            Dir::Down => self.down.load(&self.accepted, channel, format, bits),
         }
-    }
-
-    /// The same in the uplink.
-    fn load_up(&mut self, channel: u8, format: u8, bits: &[Bit])
-        requires showing { IsShowing self.old }
-        requires channel { channel < length self.old.accepted.config.uplink.side.channels }
-        requires format { format < length (channel_at self.old.accepted.config.uplink.side channel).formats }
-        requires bits { length bits.now ≡
-            (format_at (channel_at self.old.accepted.config.uplink.side channel) format).number * (format_at (channel_at self.old.accepted.config.uplink.side channel) format).size }
-        ensures showing { IsShowing self.new }
-        ensures loaded { HasLoaded Up channel format bits.now self.old self.new }
-    {
-        let trch = self.accepted.channel(Dir::Up, channel);
-        self.stages.code(trch, trch.format(format as usize), bits);
-        self.up.load(&self.accepted, channel, format, bits);
-        self.asked = Asking::Tti {
-            dir: Dir::Up,
-            channel,
-            format,
-        };
-    }
-
-    /// The same in the downlink.
-    fn load_down(&mut self, channel: u8, format: u8, bits: &[Bit])
-        requires showing { IsShowing self.old }
-        requires channel { channel < length self.old.accepted.config.downlink.side.channels }
-        requires format { format < length (channel_at self.old.accepted.config.downlink.side channel).formats }
-        requires bits { length bits.now ≡
-            (format_at (channel_at self.old.accepted.config.downlink.side channel) format).number * (format_at (channel_at self.old.accepted.config.downlink.side channel) format).size }
-        ensures showing { IsShowing self.new }
-        ensures loaded { HasLoaded Down channel format bits.now self.old self.new }
-    {
-        let trch = self.accepted.channel(Dir::Down, channel);
-        self.stages.code(trch, trch.format(format as usize), bits);
-        self.down.load(&self.accepted, channel, format, bits);
-        self.asked = Asking::Tti {
-            dir: Dir::Down,
-            channel,
-            format,
-        };
     }
 
     /// Sends the radio frame of the CFN that comes, where the formats of a combination are loaded.
@@ -130,7 +113,8 @@ impl Showing {
         ensures sent { IfOk result (λ _. HasSent dir combination self.old self.new) }
         ensures when { IfErr result (λ why. why ≡ When) }
         ensures untimely { IfErr result (λ _. ((i : ℕ) → i < length (side_of self.old.accepted.config dir).channels →
-            format_in (formats_in self.old dir) i ≡ Some (format_number (side_of self.old.accepted.config dir) combination i)) → ⊥) }
+            format_in (formats_in self.old dir) i ≡ Some (format_number (side_of self.old.accepted.config dir)
+            combination i)) → ⊥) }
         ensures same { IfErr result (λ _. self.new ≡ self.old) }
     {
         let side = self.accepted.side(dir);
@@ -143,6 +127,45 @@ impl Showing {
         };
         let at = FrameAt { cfn, combination };
         self.asked = Asking::Frame { dir, at };
+        Ok(())
+    }
+
+    /// Asks a question of the TTI that was loaded last of a channel.
+    pub fn ask(
+        &mut self,
+        question: Question,
+        dir: Dir,
+        channel: u8,
+        number: u32,
+    ) -> Result<(), LineError>
+        requires showing { IsShowing self.old }
+        requires channel { channel < length (side_of self.old.accepted.config dir).channels }
+        ensures showing { IsShowing self.new }
+        ensures asked { IfOk result (λ _. HasAsked question dir channel number self.old self.new) }
+        ensures outside { IfErr result (IsOutside (amount_of self.old.accepted question dir channel)
+            (format_in (formats_in self.old dir) channel) number) }
+        ensures same { IfErr result (λ _. self.new ≡ self.old) }
+    {
+        let formats = match dir {
+            Dir::Up => &self.up.loads.formats,
+            Dir::Down => &self.down.loads.formats,
+        };
+        let Some(format) = formats[channel as usize] else {
+            return Err(LineError::When);
+        };
+        let tti = TtiOf {
+            dir,
+            channel,
+            format,
+        };
+        if number as usize >= amount_of(&self.accepted, question, tti) {
+            return Err(LineError::Number);
+        }
+        self.asked = Asking::Bits {
+            question,
+            tti,
+            number,
+        };
         Ok(())
     }
 
@@ -159,6 +182,7 @@ impl Showing {
                 format,
             } => tti_lines(&self.accepted, &self.stages, dir, channel, format),
             Asking::Frame { dir, at } => frame_lines(&self.accepted, dir, at.combination),
+            Asking::Bits { .. } => 1,
         }
     }
 }
@@ -167,8 +191,10 @@ impl Showing {
 fn tti_lines(accepted: &Accepted, stages: &CodedTti, dir: Dir, channel: u8, format: u8) -> u32
     requires channel { channel < length (side_of accepted.now.config dir).channels }
     requires format { format < length (channel_at (side_of accepted.now.config dir) channel).formats }
-    requires stages { AreCut (channel_at (side_of accepted.now.config dir) channel) (format_at (channel_at (side_of accepted.now.config dir) channel) format) stages.now }
-    ensures { result ≡ tti_lines dir (format_at (channel_at (side_of accepted.now.config dir) channel) format).number (plan_of (length stages.now.joined) (channel_at (side_of accepted.now.config dir) channel).coding).blocks }
+    requires stages { AreCut (channel_at (side_of accepted.now.config dir) channel)
+        (format_at (channel_at (side_of accepted.now.config dir) channel) format) stages.now }
+    ensures { result ≡ tti_lines dir (format_at (channel_at (side_of accepted.now.config dir) channel) format).number
+        (plan_of (length stages.now.joined) (channel_at (side_of accepted.now.config dir) channel).coding).blocks }
 {
     let trch = accepted.channel(dir, channel);
     let coding = coding_lines(trch, trch.format(format as usize), stages) as u32;
@@ -208,7 +234,8 @@ pub fn put_answers<P: Page>(page: &mut P, showing: &Showing, rooms: &mut Rooms)
 fn put_answer<P: Page>(page: &mut P, showing: &Showing, rooms: &mut Rooms, k: usize)
     requires showing { IsShowing showing.now }
     requires rooms { HaveRooms showing.now.accepted.config rooms.old }
-    ensures text { P.writes page.old (answer_line showing.now.accepted (asks showing.now showing.now.asked) k) page.new }
+    ensures text { P.writes page.old (answer_line showing.now.accepted (asks showing.now showing.now.asked) k)
+        page.new }
     ensures rooms { HaveRooms showing.now.accepted.config rooms.new }
 {
     match showing.asked {
@@ -239,6 +266,11 @@ fn put_answer<P: Page>(page: &mut P, showing: &Showing, rooms: &mut Rooms, k: us
                 k,
             ),
         },
+        Asking::Bits {
+            question,
+            tti,
+            number,
+        } => put_bits(page, &showing.accepted, question, tti, number),
     }
 }
 
@@ -254,7 +286,8 @@ fn put_uplink_tti<P: Page>(
     requires showing { IsShowing showing.now }
     requires asked { CanShow showing.now (Tti Up channel format) }
     requires rooms { HaveRooms showing.now.accepted.config rooms.old }
-    ensures text { P.writes page.old (tti_line showing.now.accepted Up channel format showing.now.stages.joined (loaded_at showing.now.up.tti channel) k) page.new }
+    ensures text { P.writes page.old (tti_line showing.now.accepted Up channel format showing.now.stages.joined
+        (loaded_at showing.now.up.tti channel) k) page.new }
     ensures rooms { HaveRooms showing.now.accepted.config rooms.new }
 {
     // A good configuration has room for each format.
@@ -282,7 +315,8 @@ fn put_downlink_tti<P: Page>(
     requires showing { IsShowing showing.now }
     requires asked { CanShow showing.now (Tti Down channel format) }
     requires rooms { HaveRooms showing.now.accepted.config rooms.old }
-    ensures text { P.writes page.old (tti_line showing.now.accepted Down channel format showing.now.stages.joined (loaded_at showing.now.down.tti channel) k) page.new }
+    ensures text { P.writes page.old (tti_line showing.now.accepted Down channel format showing.now.stages.joined
+        (loaded_at showing.now.down.tti channel) k) page.new }
     ensures rooms { HaveRooms showing.now.accepted.config rooms.new }
 {
     // A good configuration has room for each format.

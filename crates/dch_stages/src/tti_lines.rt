@@ -83,7 +83,8 @@ pub fn put_equalised<P: Page>(page: &mut P, frames: usize, coded: &[Bit], cells:
     requires frames { IsFrames frames }
     requires short { length coded.now ≤ 131072 }
     requires cells { padded (length coded.now) frames ≤ length cells.old }
-    ensures text { P.writes page.old (named_text (codes "equalised") (cells_shown (equalised frames coded.now))) page.new }
+    ensures text { P.writes page.old (named_text (codes "equalised") (cells_shown (equalised frames coded.now)))
+        page.new }
 {
     let len = equalise_front(frames, coded, cells);
     put_named_cells(page, b"equalised", &cells[..len]);
@@ -101,7 +102,8 @@ pub fn put_matched<P: Page>(
     requires coded { length coded.now ≡ pattern.now.len }
     requires shown { length coded.now ≤ length shown.old }
     requires cells { copies_below pattern.now.kind pattern.now.len ≤ length cells.old }
-    ensures text { P.writes page.old (named_text (codes "matched") (cells_shown (matched pattern.now coded.now))) page.new }
+    ensures text { P.writes page.old (named_text (codes "matched") (cells_shown (matched pattern.now coded.now)))
+        page.new }
 {
     let len = match_front(pattern, coded, shown, cells);
     put_named_cells(page, b"matched", &cells[..len]);
@@ -121,7 +123,8 @@ pub fn put_filled<P: Page>(
     requires shown { length coded.now ≤ length shown.old }
     requires places { copies_below pattern.now.kind pattern.now.len ≤ count }
     requires cells { count ≤ length cells.old }
-    ensures text { P.writes page.old (named_text (codes "dtx") (cells_shown (filled pattern.now count coded.now))) page.new }
+    ensures text { P.writes page.old (named_text (codes "dtx") (cells_shown (filled pattern.now count coded.now)))
+        page.new }
 {
     fill_front(pattern, coded, shown, cells, count);
     put_named_cells(page, b"dtx", &cells[..count]);
@@ -180,9 +183,12 @@ pub fn put_uplink_line<P: Page>(
 )
     requires channel { shown.channel < length shown.accepted.now.config.uplink.side.channels }
     requires format { shown.format < length (channel_at shown.accepted.now.config.uplink.side shown.channel).formats }
-    requires stages { AreCut (channel_at shown.accepted.now.config.uplink.side shown.channel) (format_at (channel_at shown.accepted.now.config.uplink.side shown.channel) shown.format) stages.now }
-    requires cells { padded (length stages.now.coded) (channel_at shown.accepted.now.config.uplink.side shown.channel).frames ≤ length cells.old }
-    ensures text { P.writes page.old (tti_line shown.entry.accepted.now Up shown.entry.channel shown.entry.format stages.now.joined shown.entry.buffer.now k) page.new }
+    requires stages { AreCut (channel_at shown.accepted.now.config.uplink.side shown.channel)
+        (format_at (channel_at shown.accepted.now.config.uplink.side shown.channel) shown.format) stages.now }
+    requires cells { padded (length stages.now.coded) (channel_at shown.accepted.now.config.uplink.side
+        shown.channel).frames ≤ length cells.old }
+    ensures text { P.writes page.old (tti_line shown.entry.accepted.now Up shown.entry.channel shown.entry.format
+        stages.now.joined shown.entry.buffer.now k) page.new }
 {
     let channel = shown.accepted.channel(Dir::Up, shown.channel);
     let format = channel.format(shown.format as usize);
@@ -205,9 +211,13 @@ fn put_uplink_end<P: Page>(
 )
     requires channel { shown.channel < length shown.accepted.now.config.uplink.side.channels }
     requires format { shown.format < length (channel_at shown.accepted.now.config.uplink.side shown.channel).formats }
-    requires stages { AreCut (channel_at shown.accepted.now.config.uplink.side shown.channel) (format_at (channel_at shown.accepted.now.config.uplink.side shown.channel) shown.format) stages.now }
-    requires cells { padded (length stages.now.coded) (channel_at shown.accepted.now.config.uplink.side shown.channel).frames ≤ length cells.old }
-    ensures text { P.writes page.old (last_line shown.entry.accepted.now Up shown.entry.channel shown.entry.format (coded_of (channel_at shown.entry.accepted.now.config.uplink.side shown.entry.channel).coding stages.now.joined) shown.entry.buffer.now n) page.new }
+    requires stages { AreCut (channel_at shown.accepted.now.config.uplink.side shown.channel)
+        (format_at (channel_at shown.accepted.now.config.uplink.side shown.channel) shown.format) stages.now }
+    requires cells { padded (length stages.now.coded) (channel_at shown.accepted.now.config.uplink.side
+        shown.channel).frames ≤ length cells.old }
+    ensures text { P.writes page.old (last_line shown.entry.accepted.now Up shown.entry.channel shown.entry.format
+        (coded_of (channel_at shown.entry.accepted.now.config.uplink.side shown.entry.channel).coding stages.now.joined)
+        shown.entry.buffer.now n) page.new }
 {
     let channel = shown.accepted.channel(Dir::Up, shown.channel);
     let _format = channel.format(shown.format as usize);
@@ -218,8 +228,8 @@ fn put_uplink_end<P: Page>(
     }
 }
 
-/// Adds line `k` of a downlink TTI of a channel in a format. `space` is room for its coded bits as cells, and `cells` for the
-/// cells of the TTI.
+/// Adds line `k` of a downlink TTI of a channel in a format. `space` is room for its coded bits as cells, and `cells`
+/// for the cells of the TTI.
 #[tactic(auto, unfolding(crate::specs::TtiLines::tti_line))]
 pub fn put_downlink_line<P: Page>(
     page: &mut P,
@@ -231,10 +241,13 @@ pub fn put_downlink_line<P: Page>(
 )
     requires channel { shown.channel < length shown.accepted.now.config.downlink.side.channels }
     requires format { shown.format < length (channel_at shown.accepted.now.config.downlink.side shown.channel).formats }
-    requires stages { AreCut (channel_at shown.accepted.now.config.downlink.side shown.channel) (format_at (channel_at shown.accepted.now.config.downlink.side shown.channel) shown.format) stages.now }
+    requires stages { AreCut (channel_at shown.accepted.now.config.downlink.side shown.channel)
+        (format_at (channel_at shown.accepted.now.config.downlink.side shown.channel) shown.format) stages.now }
     requires space { length stages.now.coded ≤ length space.old }
-    requires cells { (channel_at shown.accepted.now.config.downlink.side shown.channel).frames * (matching_of shown.accepted.now shown.channel shown.format).cells ≤ length cells.old }
-    ensures text { P.writes page.old (tti_line shown.entry.accepted.now Down shown.entry.channel shown.entry.format stages.now.joined shown.entry.buffer.now k) page.new }
+    requires cells { (channel_at shown.accepted.now.config.downlink.side shown.channel).frames *
+        (matching_of shown.accepted.now shown.channel shown.format).cells ≤ length cells.old }
+    ensures text { P.writes page.old (tti_line shown.entry.accepted.now Down shown.entry.channel shown.entry.format
+        stages.now.joined shown.entry.buffer.now k) page.new }
 {
     let channel = shown.accepted.channel(Dir::Down, shown.channel);
     let format = channel.format(shown.format as usize);
@@ -258,10 +271,14 @@ fn put_downlink_end<P: Page>(
 )
     requires channel { shown.channel < length shown.accepted.now.config.downlink.side.channels }
     requires format { shown.format < length (channel_at shown.accepted.now.config.downlink.side shown.channel).formats }
-    requires stages { AreCut (channel_at shown.accepted.now.config.downlink.side shown.channel) (format_at (channel_at shown.accepted.now.config.downlink.side shown.channel) shown.format) stages.now }
+    requires stages { AreCut (channel_at shown.accepted.now.config.downlink.side shown.channel)
+        (format_at (channel_at shown.accepted.now.config.downlink.side shown.channel) shown.format) stages.now }
     requires space { length stages.now.coded ≤ length space.old }
-    requires cells { (channel_at shown.accepted.now.config.downlink.side shown.channel).frames * (matching_of shown.accepted.now shown.channel shown.format).cells ≤ length cells.old }
-    ensures text { P.writes page.old (last_line shown.entry.accepted.now Down shown.entry.channel shown.entry.format (coded_of (channel_at shown.entry.accepted.now.config.downlink.side shown.entry.channel).coding stages.now.joined) shown.entry.buffer.now n) page.new }
+    requires cells { (channel_at shown.accepted.now.config.downlink.side shown.channel).frames *
+        (matching_of shown.accepted.now shown.channel shown.format).cells ≤ length cells.old }
+    ensures text { P.writes page.old (last_line shown.entry.accepted.now Down shown.entry.channel shown.entry.format
+        (coded_of (channel_at shown.entry.accepted.now.config.downlink.side shown.entry.channel).coding
+        stages.now.joined) shown.entry.buffer.now n) page.new }
 {
     let channel = shown.accepted.channel(Dir::Down, shown.channel);
     let _format = channel.format(shown.format as usize);
@@ -277,14 +294,16 @@ fn put_downlink_end<P: Page>(
 }
 
 /// The rate matching of a downlink TTI of a channel in a format.
-fn pattern_of(accepted: &Accepted, channel: u8, format: u8) -> Pattern
+pub fn pattern_of(accepted: &Accepted, channel: u8, format: u8) -> Pattern
     requires channel { channel < length accepted.now.config.downlink.side.channels }
     requires format { format < length (channel_at accepted.now.config.downlink.side channel).formats }
     ensures value { result ≡ (matching_of accepted.now channel format).pattern }
     ensures formed { IsWellFormed result }
     ensures len { result.len ≡ tti_bits (channel_at accepted.now.config.downlink.side channel)
         (format_at (channel_at accepted.now.config.downlink.side channel) format) }
-    ensures fits { copies_below result.kind result.len ≤ (channel_at accepted.now.config.downlink.side channel).frames * (matching_of accepted.now channel format).cells }
+    ensures fits { copies_below result.kind result.len ≤
+        (channel_at accepted.now.config.downlink.side channel).frames *
+        (matching_of accepted.now channel format).cells }
 {
     // A good configuration has room for each format.
     let _config = accepted.config();
@@ -292,10 +311,11 @@ fn pattern_of(accepted: &Accepted, channel: u8, format: u8) -> Pattern
 }
 
 /// The places of all radio frames of such a TTI.
-fn places_of(accepted: &Accepted, channel: u8, format: u8) -> usize
+pub fn places_of(accepted: &Accepted, channel: u8, format: u8) -> usize
     requires channel { channel < length accepted.now.config.downlink.side.channels }
     requires format { format < length (channel_at accepted.now.config.downlink.side channel).formats }
-    ensures { result ≡ (channel_at accepted.now.config.downlink.side channel).frames * (matching_of accepted.now channel format).cells }
+    ensures { result ≡ (channel_at accepted.now.config.downlink.side channel).frames *
+        (matching_of accepted.now channel format).cells }
 {
     // A good configuration has room for each format.
     let _config = accepted.config();

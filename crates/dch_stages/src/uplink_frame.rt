@@ -10,7 +10,7 @@ ghost use Rattle.dch_types.specs.Sums.{total};
 ghost use Rattle.dch_script.specs.Report.{cells_shown};
 ghost use Rattle.dch_stages.specs.Texts.{named_text};
 ghost use Rattle.dch_stages.specs.FrameLines.{channel_cells, frame_end, frame_line, joining_line, matched_line, multiplexed_cells};
-ghost use Rattle.dch_stages.specs.Standing.{HasRoom};
+ghost use Rattle.dch_stages.specs.Handlers.{HasRoom};
 
 use crate::frame::multiplex_uplink;
 use crate::frame_lines::{put_matched_segment, put_multiplexed, put_uplink_segment};
@@ -65,7 +65,8 @@ fn put_joined<P: Page>(
     requires combination { at.combination < length accepted.now.config.uplink.side.combinations }
     requires formats { AreFormats accepted.now.config.uplink.side at.combination tti.now }
     requires cells { most_cells accepted.now.config Up ≤ length cells.old }
-    ensures text { P.writes page.old (joining_line accepted.now Up tti.now at.cfn at.combination (length accepted.now.config.uplink.side.channels) k) page.new }
+    ensures text { P.writes page.old (joining_line accepted.now Up tti.now at.cfn at.combination
+        (length accepted.now.config.uplink.side.channels) k) page.new }
     ensures cells { length cells.new ≡ length cells.old }
 {
     let channels = accepted.side(Dir::Up).channels.len();
@@ -81,9 +82,12 @@ fn put_joined<P: Page>(
 fn put_all<P: Page>(page: &mut P, accepted: &Accepted, at: FrameAt, multiplexed: &[Trit])
     requires combination { at.combination < length accepted.now.config.uplink.side.combinations }
     requires whole { length multiplexed.now ≡ frame_cells accepted.now Up at.combination }
-    ensures text { (tti : List Loaded) → multiplexed.now ≡ multiplexed_cells accepted.now Up tti at.cfn at.combination (frame_cells accepted.now Up at.combination) →
+    ensures text { (tti : List Loaded) → multiplexed.now ≡
+        multiplexed_cells accepted.now Up tti at.cfn at.combination (frame_cells accepted.now Up at.combination) →
         P.writes page.old (named_text (codes "multiplexed")
-        (cells_shown (multiplexed_cells accepted.now Up tti at.cfn at.combination (total (channel_cells accepted.now Up at.combination) (length accepted.now.config.uplink.side.channels))))) page.new }
+        (cells_shown (multiplexed_cells accepted.now Up tti at.cfn at.combination
+        (total (channel_cells accepted.now Up at.combination) (length accepted.now.config.uplink.side.channels)))))
+        page.new }
 {
     // The bits of a radio frame are those of its channels.
     let _plan = accepted.uplink_plan(at.combination);
@@ -95,7 +99,8 @@ fn put_kept<P: Page>(page: &mut P, accepted: &Accepted, at: FrameAt, multiplexed
     requires combination { at.combination < length accepted.now.config.uplink.side.combinations }
     requires channel { i < length accepted.now.config.uplink.side.channels }
     requires whole { length multiplexed.now ≡ frame_cells accepted.now Up at.combination }
-    ensures text { (tti : List Loaded) → multiplexed.now ≡ multiplexed_cells accepted.now Up tti at.cfn at.combination (frame_cells accepted.now Up at.combination) →
+    ensures text { (tti : List Loaded) → multiplexed.now ≡
+        multiplexed_cells accepted.now Up tti at.cfn at.combination (frame_cells accepted.now Up at.combination) →
         P.writes page.old (matched_line accepted.now tti at.cfn at.combination i) page.new }
 {
     let n = at.cfn % accepted.frames_of(Dir::Up, i);
@@ -110,7 +115,8 @@ fn kept_of<'a>(accepted: &Accepted, combination: u16, multiplexed: &'a [Trit], i
     requires whole { length multiplexed.now ≡ frame_cells accepted.now Up combination }
     ensures kept { result.now ≡ take (slice_index (plan_at accepted.now.uplink combination).sent i)
         (drop (bits_before (plan_at accepted.now.uplink combination) i) multiplexed.now) }
-    ensures inside { bits_before (plan_at accepted.now.uplink combination) i + slice_index (plan_at accepted.now.uplink combination).sent i ≤ frame_cells accepted.now Up combination }
+    ensures inside { bits_before (plan_at accepted.now.uplink combination) i +
+        slice_index (plan_at accepted.now.uplink combination).sent i ≤ frame_cells accepted.now Up combination }
 {
     // An uplink has at most 8 channels, and a radio frame at most 57,600 bits.
     let _side = accepted.side(Dir::Up);

@@ -1,4 +1,4 @@
-use Rattle.std.proofs.Common.{◌+◌, ◌≡◌, ap, arith, sym, ◌∙◌}
+use Rattle.std.proofs.Common.{◌+◌, ap, arith, sym, ◌∙◌}
 use Rattle.dch_types.proofs.Sums.{total-more, total-zero}
 use Rattle.dch_dlphy.specs.Frames.{bits_before, bits_per_frame}
 use Rattle.dch_stages.proofs.downlink_frame.places_of_frame.Goals as goal

@@ -1,13 +1,11 @@
-use Rattle.std.proofs.Common.{◌≡◌, ◌<◌, ◌≤◌, ◌*◌, List, ap, ap₂, sym, ◌∙◌, length, arith, subst}
+use Rattle.std.proofs.Common.{◌≡◌, List, ap, ap₂, ◌∙◌, length, arith, subst}
 use Rattle.dch_types.specs.declared.config.Config.{Config}
 use Rattle.dch_types.specs.declared.config.Downlink.{Downlink}
-use Rattle.dch_types.specs.Parts.{channel_at, format_number}
-use Rattle.dch_config.specs.Good.{IsGood}
+use Rattle.dch_types.specs.Parts.{format_number}
 use Rattle.dch_frame.specs.declared.downlink_plan.RateMatching.{RateMatching}
 use Rattle.dch_frame.specs.Downlinks.{IsDownlinkPlan, matching_at}
 use Rattle.dch_types.proofs.Sums.{part_le}
 use Rattle.dch_dlphy.specs.Frames.{bits_per_frame}
-use Rattle.dch_stages.proofs.Shown.{places_short}
 use Rattle.dch_stages.proofs.frame_lines.places_in_frame.Goals as goal
 
 pub returns-clause-inside : goal.returns-clause-inside

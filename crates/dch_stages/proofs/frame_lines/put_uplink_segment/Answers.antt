@@ -1,6 +1,6 @@
 use Rattle.std.proofs.Common.{◌≡◌, ◌≤◌, ◌<◌, ◌+◌, ◌*◌, ◌%◌, ◌∙◌, ℕ, length, arith, ap, sym, subst}
 use Rattle.std.proofs.lemmas.Nat.{mod_below}
-use Rattle.dch_types.specs.Parts.{channel_at, format_number}
+use Rattle.dch_types.specs.Parts.{channel_at}
 use Rattle.dch_frame.specs.Uplinks.{before_of}
 use Rattle.dch_tti.specs.Loaded.{Loaded, loaded_at}
 use Rattle.dch_ulphy.proofs.Sent.{segment_room}

@@ -1,6 +1,6 @@
 use Rattle.std.proofs.Common.{◌≡◌, ◌<◌, ℕ, Some}
 use Rattle.dch_types.specs.Parts.{format_number}
-use Rattle.dch_stages.specs.Standing.{format_in}
+use Rattle.dch_stages.specs.Handlers.{format_in}
 use Rattle.dch_stages.proofs.loads.are_of.Given as goal
 
 abbrev pub invariant-loop-i : goal.invariant-loop-i

@@ -1,6 +1,6 @@
 use Rattle.std.proofs.Common.{◌≡◌, ◌∙◌, List, ℕ, arith, subst, sym}
 use Rattle.dch_stages.specs.Rules.{answer_line}
-use Rattle.dch_stages.specs.Standing.{asks}
+use Rattle.dch_stages.specs.Handlers.{asks}
 use Rattle.dch_stages.specs.Texts.{lines_to}
 use Rattle.dch_stages.proofs.Lines.{no_lines, one_more}
 use Rattle.dch_stages.proofs.showing.put_answers.Goals as goal

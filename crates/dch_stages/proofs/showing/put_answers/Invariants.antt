@@ -1,5 +1,5 @@
 use Rattle.dch_stages.specs.Rules.{answer_line}
-use Rattle.dch_stages.specs.Standing.{HaveRooms, asks}
+use Rattle.dch_stages.specs.Handlers.{HaveRooms, asks}
 use Rattle.dch_stages.specs.Texts.{lines_to}
 use Rattle.dch_stages.proofs.showing.put_answers.Given as goal
 

@@ -1,4 +1,4 @@
-use Rattle.std.proofs.Common.{◌≡◌, ◌≤◌, length, arith, subst}
+use Rattle.std.proofs.Common.{◌≡◌, length, arith, subst}
 use Rattle.dch_config.specs.Good.{IsGood}
 use Rattle.dch_types.specs.Lengths.{tti_bits}
 use Rattle.dch_types.specs.Parts.{channel_at, format_at}

@@ -1,7 +1,7 @@
 use Rattle.std.proofs.Common.{inl, refl}
 use Rattle.std.proofs.KnownBytes.{Appends-nil, Consumes-nil}
 use Rattle.dch_check.specs.declared.status.Status.TheVariants.{NoMemory}
-use Rattle.dch_check.proofs.Scripts.{runs_configured, runs_unopened, stops_configured}
+use Rattle.dch_check.proofs.Scripts.{runs_configured, stops_configured}
 use Rattle.dch_lines.specs.declared.stop.Outcome.TheVariants.{Ok as Done}
 use Rattle.dch_stages.specs.Rules.{rules}
 use Rattle.dch_stages.specs.Runs.{begun}

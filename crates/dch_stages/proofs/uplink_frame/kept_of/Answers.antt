@@ -1,4 +1,4 @@
-use Rattle.std.proofs.Common.{◌≡◌, ◌≤◌, ◌<◌, ◌+◌, ◌^◌, ℕ, length, arith, ap, subst}
+use Rattle.std.proofs.Common.{◌≤◌, ◌<◌, ◌+◌, ℕ, length, arith, ap, subst}
 use Rattle.std.specs.Prelude.{slice_index}
 use Rattle.dch_types.specs.Sums.{total}
 use Rattle.dch_types.proofs.Sums.{part_le}
