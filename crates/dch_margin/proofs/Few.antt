@@ -23,3 +23,6 @@ half_is_coded coding is same = cc
 
 pub third_is_coded : (coding : Coding) → coding ≡ Third → coding ≢ Uncoded
 third_is_coded coding is same = cc
+
+pub fewer_copies : (coding : Coding) (votes : List Vote) (size : ℕ) → size ≤ 504 → length votes ≡ coded_block coding size → AreCounts (copies_at votes) votes → all_copies votes < 2 ^ 30
+fewer_copies coding votes size short long counts = omega (arith, coded_block-le coding size, long, sum_by-le copies 460800 votes (λ j v inside. few_at votes j v counts inside))

@@ -1,9 +1,14 @@
+pub mod BlockBits
+pub mod Cases
 pub mod Counts
 pub mod Differ
 pub mod Endings
 pub mod Few
+pub mod FewestCells
+pub mod FromZeros
+pub mod Listed
 pub mod Parts
-pub mod Places
+pub mod PlaceLists
 pub mod Plain
 pub mod Plans
 pub mod Rooms

@@ -1,5 +1,5 @@
 -- One part more, and one plan more.
-use Rattle.std.proofs.Common.{◌≡◌, ◌+◌, ℕ, zero, suc, List, [], ◌∷◌, ◌++◌, length, arith, add-one, ap, sym, subst, ◌∙◌, below_more}
+use Rattle.std.proofs.Common.{◌≡◌, ◌+◌, ℕ, List, [], ◌∷◌, ◌++◌, arith, add-one, ap, sym, subst, ◌∙◌, below_more}
 use Rattle.std.proofs.lemmas.List.{get_or_append_left, get_or_at, length_push}
 use Rattle.dch_types.specs.declared.config.Uplink.{Uplink}
 use Rattle.dch_frame.specs.declared.uplink_plan.UplinkPlan.{UplinkPlan}

@@ -1,8 +1,9 @@
 -- Blocks that are not coded.
-use Rattle.std.proofs.Common.{◌≡◌, ◌≢◌, ◌<◌, ◌≤◌, ◌+◌, ◌*◌, inl, inr, below_more, ℕ, zero, suc, List, [], ◌∷◌, length, arith, refl, ap, sym, ◌∙◌}
+use Rattle.std.proofs.Common.{◌≡◌, ◌≢◌, ◌<◌, ◌≤◌, ◌+◌, inl, inr, below_more, ℕ, zero, suc, List, [], ◌∷◌, length, arith, refl, ap, sym, ◌∙◌}
 use Rattle.std.specs.Prelude.{min, replicate}
 use Rattle.std.proofs.lemmas.Bool.{cases_lt}
 use Rattle.std.proofs.lemmas.List.{length-replicate}
+use Rattle.std.proofs.Math.ListN.{set}
 use Rattle.std.proofs.Math.Nat.{mul-le-mul_left}
 use Rattle.dch_bits.specs.declared.bit.Bit.{Bit}
 use Rattle.dch_bits.specs.declared.bit.Bit.TheVariants.{Zero, One}
@@ -11,7 +12,7 @@ use Rattle.dch_types.specs.declared.channel.Coding.TheVariants.{Uncoded}
 use Rattle.dch_coding.specs.Chain.{coded_as}
 use Rattle.dch_trellis.specs.Distance.{copies_between}
 use Rattle.dch_trellis.proofs.Damage.{copies-distance}
-use Rattle.dch_margin.specs.Differ.{DifferIn, IsLeast}
+use Rattle.dch_margin.specs.Differ.{DifferIn, IsFromZeros, IsLeast}
 
 -- a One among zeros
 one_at : ℕ → ℕ → List Bit
@@ -96,3 +97,51 @@ fewest_differ sent size n fewest = record { has = there; least = none }
     none m pair =
         let some : 1 ≤ distance pair.first pair.second = distance_some pair.first pair.second (pair.shape.sized ∙ sym pair.other.sized) pair.differ in
         omega (arith, mul-le-mul_left n some, copies-distance sent pair.first pair.second n (λ j within. fewest.fewest j (omega (arith, within, pair.shape.sized))), pair.between)
+
+set-one : (n j : ℕ) → set (replicate n Zero) j One ≡ one_at n j
+unfolding one_at
+set-one zero j = refl
+set-one (suc n) zero = refl
+set-one (suc n) (suc j) = ap (λ xs. Zero ∷ xs) (set-one n j)
+
+-- one One among zeros differs from zeros in the cells of its bit
+pub one_bit : (sent : ℕ → ℕ) (size k least : ℕ) (block : List Bit) → k < size → sent k ≡ least → set (replicate size Zero) k One ≡ block → IsFromZeros (coded_as Uncoded) size 0 sent least block
+one_bit sent size k least block inside is set = record {
+  pair = record {
+    first = replicate size Zero;
+    second = one_at size k;
+    shape = record { sized = length-replicate size Zero; filled = λ k none. absurd (omega arith) };
+    other = record { sized = length-one_at size k; filled = λ k none. absurd (omega arith) };
+    differ = one_differs size k inside;
+    between = between-one_at sent size k inside ∙ is;
+  };
+  zeros = refl;
+  is = sym (set-one size k) ∙ set;
+}
+
+-- lists that differ do so at some bit, and so in all its cells
+record DiffersAt (sent : ℕ → ℕ) (count cells : ℕ) : Type 0 where
+  place : ℕ
+  inside : place < count
+  few : sent place ≤ cells
+
+differs_at : (sent : ℕ → ℕ) (xs ys : List Bit) → length xs ≡ length ys → xs ≢ ys → DiffersAt sent (length xs) (copies_between sent xs ys)
+differs_at sent [] [] long differ = absurd (differ refl)
+differs_at sent [] (y ∷ ys) long differ = absurd (omega arith)
+differs_at sent (x ∷ xs) [] long differ = absurd (omega arith)
+differs_at sent (Zero ∷ xs) (Zero ∷ ys) long differ =
+    let rest : DiffersAt (λ j. sent (suc j)) (length xs) (copies_between (λ j. sent (suc j)) xs ys) = differs_at (λ j. sent (suc j)) xs ys (omega arith) (λ same. differ (ap (λ zs. Zero ∷ zs) same)) in
+    record { place = suc rest.place; inside = omega (arith, rest.inside); few = omega (arith, rest.few) }
+differs_at sent (Zero ∷ xs) (One ∷ ys) long differ = record { place = 0; inside = omega arith; few = omega arith }
+differs_at sent (One ∷ xs) (Zero ∷ ys) long differ = record { place = 0; inside = omega arith; few = omega arith }
+differs_at sent (One ∷ xs) (One ∷ ys) long differ =
+    let rest : DiffersAt (λ j. sent (suc j)) (length xs) (copies_between (λ j. sent (suc j)) xs ys) = differs_at (λ j. sent (suc j)) xs ys (omega arith) (λ same. differ (ap (λ zs. One ∷ zs) same)) in
+    record { place = suc rest.place; inside = omega (arith, rest.inside); few = omega (arith, rest.few) }
+
+-- some bit has just the least cells
+pub some_bit : (sent : ℕ → ℕ) (size least k : ℕ) → size ≤ k → IsLeast (DifferIn (coded_as Uncoded) size 0 sent) least → ((j : ℕ) → j < k → sent j ≢ least) → ⊥
+some_bit sent size least k all is none =
+    let there : DiffersAt sent (length is.has.first) (copies_between sent is.has.first is.has.second) = differs_at sent is.has.first is.has.second (is.has.shape.sized ∙ sym is.has.other.sized) is.has.differ in
+    let inside : there.place < size = omega (arith, there.inside, is.has.shape.sized) in
+    let own : IsFromZeros (coded_as Uncoded) size 0 sent (sent there.place) (set (replicate size Zero) there.place One) = one_bit sent size there.place (sent there.place) (set (replicate size Zero) there.place One) inside refl refl in
+    none there.place (omega (arith, inside, all)) (omega (arith, there.few, is.has.between, is.least (sent there.place) own.pair))

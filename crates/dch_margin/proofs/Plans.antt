@@ -1,5 +1,5 @@
 -- The sizes of a format.
-use Rattle.std.proofs.Common.{◌≡◌, ◌≢◌, ◌<◌, ◌≤◌, ◌+◌, ◌-◌, ◌*◌, ℕ, zero, suc, length, refl, ap, sym, ◌∙◌, arith}
+use Rattle.std.proofs.Common.{◌≡◌, ◌<◌, ◌≤◌, ◌-◌, ◌*◌, ℕ, zero, suc, length, refl, ap, sym, ◌∙◌, arith}
 use Rattle.std.specs.Int.{div_ceil}
 use Rattle.std.proofs.lemmas.Grind.{div_ceil_times}
 use Rattle.std.proofs.lemmas.Bool.Decides.{nat_tests}
@@ -8,7 +8,7 @@ use Rattle.dch_types.specs.declared.channel.Coding.TheVariants.{Uncoded, Half, T
 use Rattle.dch_types.specs.declared.channel.Side.{Side}
 use Rattle.dch_types.specs.Lengths.{block_count, block_size}
 use Rattle.dch_types.specs.Limits.{IsSide}
-use Rattle.dch_types.specs.Parts.{channel_at, format_at}
+use Rattle.dch_types.specs.Parts.{channel_at}
 use Rattle.dch_coding.specs.declared.cut.Plan.{Plan}
 use Rattle.dch_coding.specs.Segments.{plan_of}
 use Rattle.dch_coding.proofs.Sizes.{filler_few}

@@ -1,7 +1,11 @@
 pub mod Answers
+pub mod Carriers
 pub mod Counts
 pub mod Differ
+pub mod Fewest
 pub mod Margins
 pub mod Reports
 pub mod Runs
 pub mod Sizes
+pub mod Words
+pub mod Worst

@@ -42,7 +42,7 @@ pub fn count_uplink(
 }
 
 /// Counts the cells for each bit of a channel in radio frame `n` of its TTI, in a combination.
-fn count_frame(config: &Uplink, plan: &UplinkPlan, c: u16, i: u8, n: u8, segment: &mut [Vote])
+pub fn count_frame(config: &Uplink, plan: &UplinkPlan, c: u16, i: u8, n: u8, segment: &mut [Vote])
     requires good { IsUplink config.now }
     requires plan { IsPlan config.now c plan.now }
     requires channel { i < length config.now.side.channels }

@@ -1,20 +1,40 @@
-ghost use Rattle.std.specs.Prelude.{◌≡◌, ◌≢◌, ◌<◌, ◌≤◌, ◌*◌, length};
+ghost use Rattle.std.specs.Prelude.{◌≡◌, ◌≢◌, ◌<◌, ◌≤◌, ◌*◌, length, nat_lt, if◌then◌else◌};
 ghost use Rattle.dch_types.specs.declared.channel.Coding.TheVariants.{Uncoded};
 ghost use Rattle.dch_types.specs.Lengths.{coded_block};
 ghost use Rattle.dch_coding.specs.Chain.{coded_as};
 ghost use Rattle.dch_coding.specs.Segments.{filler_of};
 ghost use Rattle.dch_trellis.specs.Distance.{copies_at};
 ghost use Rattle.dch_margin.specs.Counts.{AreCounts};
-ghost use Rattle.dch_margin.specs.Differ.{DifferBelow, DifferIn, DifferInBlock, IsLeast};
+ghost use Rattle.dch_margin.specs.Differ.{DifferIn, DifferInBlock, IsLeast, IsLeastBelow};
 
 use dch_bits::Vote;
 use dch_coding::{Plan, Rate};
 use dch_trellis::Trellis;
 use dch_types::Coding;
 
+/// The least cells in which two blocks differ, and the first code block in whose place two do.
+#[derive(Clone, Copy)]
+pub struct Least {
+    pub cells: u32,
+    pub block: usize,
+}
+
+impl Least {
+    /// The lesser of two; of two that are as little the first.
+    fn or(self, later: Least) -> Least
+        ensures { result ≡ (if nat_lt later.cells self.cells then later else self) }
+    {
+        if later.cells < self.cells {
+            later
+        } else {
+            self
+        }
+    }
+}
+
 /// The least cells in which two blocks differ in the place of any code block of a TTI, where the votes count the cells
 /// of each coded bit.
-pub fn least_in_tti(trellis: &mut Trellis, coding: Coding, plan: &Plan, votes: &[Vote]) -> u32
+pub fn least_in_tti(trellis: &mut Trellis, coding: Coding, plan: &Plan, votes: &[Vote]) -> Least
     requires some { 1 ≤ plan.now.blocks }
     requires filler { plan.now.filler < plan.now.size }
     requires plain { coding ≡ Uncoded → plan.now.filler ≡ 0 }
@@ -23,12 +43,18 @@ pub fn least_in_tti(trellis: &mut Trellis, coding: Coding, plan: &Plan, votes: &
     requires room { 504 ≤ trellis.old }
     requires all { plan.now.blocks * coded_block coding plan.now.size ≤ length votes.now }
     requires counts { AreCounts (copies_at votes.now) votes.now }
-    ensures least { IsLeast (DifferBelow coding plan.now (copies_at votes.now) plan.now.blocks) result }
+    ensures least { IsLeastBelow coding plan.now (copies_at votes.now) plan.now.blocks result }
     ensures kept { trellis.new ≡ trellis.old }
 {
-    let mut least = least_in_place(trellis, coding, plan, 0, votes);
+    let mut least = Least {
+        cells: least_in_place(trellis, coding, plan, 0, votes),
+        block: 0,
+    };
     for r in 1..plan.blocks {
-        least = least.min(least_in_place(trellis, coding, plan, r, votes));
+        least = least.or(Least {
+            cells: least_in_place(trellis, coding, plan, r, votes),
+            block: r,
+        });
     }
     least
 }
@@ -101,7 +127,7 @@ fn fewest(votes: &[Vote]) -> u32
 }
 
 /// The cells of bit `k`.
-fn cells_of(votes: &[Vote], k: usize) -> u32
+pub fn cells_of(votes: &[Vote], k: usize) -> u32
     requires inside { k < length votes.now }
     requires counts { AreCounts (copies_at votes.now) votes.now }
     ensures { result ≡ copies_at votes.now k }

@@ -1,23 +1,27 @@
 ghost use Rattle.std.specs.Prelude.{◌≡◌, ◌<◌, ◌≤◌, IfOk, length, string_bytes};
-ghost use Rattle.dch_types.specs.Limits.{IsSide};
 ghost use Rattle.dch_types.specs.Parts.{channel_at};
 ghost use Rattle.dch_collision.specs.Directions.{IsPlanned, copies_in, side_in};
 ghost use Rattle.dch_collision.specs.Plans.{AreAllPlans};
-ghost use Rattle.dch_margin.specs.Reports.{AreChannelLines, AreParts, AreLines, IsFormatLine, margin_line, margin_text};
+ghost use Rattle.dch_margin.specs.Worst.{carriers_in};
+ghost use Rattle.dch_margin.specs.Reports.{AreChannelLines, AreParts, AreLines, IsFormatLine, at_least_text, margin_line, margin_text};
 
-use crate::format::{Margin, margin_of};
+use crate::format::side_of;
+use crate::margin::{Margin, margin_of};
+use crate::telling::Telling;
+use crate::worst::worst_of;
+use crate::worst_line::worst_line;
 use dch_accept::Accepted;
 use dch_bits::NoMemory;
 use dch_collision::Direction;
 use dch_frame::UplinkPlan;
 use dch_script::dir_word;
 use dch_trellis::Trellis;
-use dch_types::{Dir, Side};
+use dch_types::Dir;
 use std::alloc::Global;
 
 /// The lines of an accepted configuration: of the uplink and then of the downlink, by channel and format.
-pub fn lines_of(alloc: Global, accepted: &Accepted) -> Result<String, NoMemory>
-    ensures { IfOk result (λ lines. AreLines accepted.now.config (string_bytes lines)) }
+pub fn lines_of(alloc: Global, telling: Telling, accepted: &Accepted) -> Result<String, NoMemory>
+    ensures { IfOk result (λ lines. AreLines telling accepted.now.config (string_bytes lines)) }
 {
     let mut trellis = Trellis::open(alloc, MOST_BLOCK)?;
     let config = accepted.config();
@@ -30,8 +34,8 @@ pub fn lines_of(alloc: Global, accepted: &Accepted) -> Result<String, NoMemory>
         config: &config.downlink,
         plan: accepted.downlink_plan(),
     };
-    let mut lines = direction_lines(alloc, &mut trellis, up, Dir::Up)?;
-    let more = direction_lines(alloc, &mut trellis, down, Dir::Down)?;
+    let mut lines = direction_lines(alloc, &mut trellis, telling, up, Dir::Up)?;
+    let more = direction_lines(alloc, &mut trellis, telling, down, Dir::Down)?;
     lines.push_str(&more)?;
     Ok(lines)
 }
@@ -51,36 +55,26 @@ fn plans_of(alloc: Global, accepted: &Accepted) -> Result<Vec<UplinkPlan>, NoMem
     Ok(plans)
 }
 
-/// The channels of a direction.
-fn side_of<'a>(direction: Direction<'a>) -> &'a Side
-    requires { IsPlanned direction }
-    ensures value { result.now ≡ side_in direction.entry }
-    ensures good { IsSide result.now }
-{
-    match direction {
-        Direction::Up { config, .. } => &config.side,
-        Direction::Down { config, .. } => &config.side,
-    }
-}
-
 /// The lines of a direction.
 #[tactic(auto, using(crate::proofs::Parts::part_more))]
 fn direction_lines(
     alloc: Global,
     trellis: &mut Trellis,
+    telling: Telling,
     direction: Direction<'_>,
     dir: Dir,
 ) -> Result<String, NoMemory>
     requires room { 504 ≤ trellis.old }
     requires planned { IsPlanned direction }
     ensures lines { IfOk result (λ lines. AreParts
-        (AreChannelLines (side_in direction.entry) (copies_in direction.entry) dir)
+        (AreChannelLines telling (side_in direction.entry) (copies_in direction.entry)
+        (carriers_in direction.entry) dir)
         (length (side_in direction.entry).channels) (string_bytes lines)) }
     ensures kept { trellis.new ≡ trellis.old }
 {
     let mut lines = String::new(alloc);
     for i in 0..side_of(direction).channels.len() {
-        let more = channel_lines(alloc, trellis, direction, dir, i as u8)?;
+        let more = channel_lines(alloc, trellis, telling, direction, dir, i as u8)?;
         lines.push_str(&more)?;
     }
     Ok(lines)
@@ -91,6 +85,7 @@ fn direction_lines(
 fn channel_lines(
     alloc: Global,
     trellis: &mut Trellis,
+    telling: Telling,
     direction: Direction<'_>,
     dir: Dir,
     i: u8,
@@ -98,14 +93,14 @@ fn channel_lines(
     requires room { 504 ≤ trellis.old }
     requires planned { IsPlanned direction }
     requires channel { i < length (side_in direction).channels }
-    ensures lines { IfOk result (λ lines. AreChannelLines (side_in direction.entry) (copies_in direction.entry) dir i
-        (string_bytes lines)) }
+    ensures lines { IfOk result (λ lines. AreChannelLines telling (side_in direction.entry)
+        (copies_in direction.entry) (carriers_in direction.entry) dir i (string_bytes lines)) }
     ensures kept { trellis.new ≡ trellis.old }
 {
     let mut lines = String::new(alloc);
     let channel = side_of(direction).channel(usize::from(i));
     for f in 0..channel.formats.len() {
-        let more = format_line(alloc, trellis, direction, dir, i, f as u8)?;
+        let more = format_line(alloc, trellis, telling, direction, dir, i, f as u8)?;
         lines.push_str(&more)?;
     }
     Ok(lines)
@@ -115,6 +110,7 @@ fn channel_lines(
 fn format_line(
     alloc: Global,
     trellis: &mut Trellis,
+    telling: Telling,
     direction: Direction<'_>,
     dir: Dir,
     i: u8,
@@ -124,12 +120,20 @@ fn format_line(
     requires planned { IsPlanned direction }
     requires channel { i < length (side_in direction).channels }
     requires format { f < length (channel_at (side_in direction) i).formats }
-    ensures line { IfOk result (λ line. IsFormatLine (side_in direction.entry) (copies_in direction.entry) dir i f
-        (string_bytes line)) }
+    ensures line { IfOk result (λ line. IsFormatLine telling (side_in direction.entry) (copies_in direction.entry)
+        (carriers_in direction.entry) dir i f (string_bytes line)) }
     ensures kept { trellis.new ≡ trellis.old }
 {
-    let margin = margin_of(alloc, trellis, direction, i, f)?;
-    margin_line(alloc, dir, i, f, margin)
+    match telling {
+        Telling::Margins => {
+            let margin = margin_of(alloc, trellis, direction, i, f)?;
+            margin_line(alloc, dir, i, f, margin)
+        }
+        Telling::WorstCases => {
+            let worst = worst_of(alloc, trellis, direction, i, f)?;
+            worst_line(alloc, dir, i, f, &worst)
+        }
+    }
 }
 
 fn margin_line(alloc: Global, dir: Dir, i: u8, f: u8, margin: Margin) -> Result<String, NoMemory>
@@ -147,7 +151,14 @@ fn margin_text(alloc: Global, margin: Margin) -> Result<String, NoMemory>
     let text = match margin {
         Margin::Cells(cells) => format!(in alloc; " cells={cells}\n")?,
         Margin::Unsent => format!(in alloc; " cells=none\n")?,
-        Margin::Sequences(sequences) => format!(in alloc; " sequences={sequences}\n")?,
+        Margin::AtLeast { cells, sequences } => at_least_text(alloc, cells, sequences)?,
     };
+    Ok(text)
+}
+
+fn at_least_text(alloc: Global, cells: u32, sequences: u64) -> Result<String, NoMemory>
+    ensures { IfOk result (λ text. string_bytes text ≡ at_least_text cells sequences) }
+{
+    let text = format!(in alloc; " at-least={cells} sequences={sequences}\n")?;
     Ok(text)
 }

@@ -1,4 +1,4 @@
-use Rattle.std.proofs.Common.{◌≡◌, ◌<◌, ◌+◌, ℕ, arith, ap, refl, ◌∙◌}
+use Rattle.std.proofs.Common.{◌≡◌, ◌<◌, ◌+◌, arith, ap, refl, ◌∙◌}
 use Rattle.dch_frame.specs.Patterns.{copies}
 use Rattle.dch_frame.specs.Walks.{Place}
 use Rattle.dch_frame.proofs.KeptBits.{copies_inside}

@@ -1,10 +1,6 @@
-use Rattle.std.proofs.Common.{◌≡◌, ◌∙◌, ℕ, List, [], arith, ap, ap₂, sym, subst}
-use Rattle.dch_types.specs.declared.channel.Coding.{Coding}
-use Rattle.dch_types.specs.Parts.{channel_at}
-use Rattle.dch_coding.specs.declared.cut.Plan.{Plan}
+use Rattle.std.proofs.Common.{[], arith}
 use Rattle.dch_trellis.specs.Distance.{copies_at}
 use Rattle.dch_collision.specs.Copies.{downlink_copies}
-use Rattle.dch_margin.specs.Differ.{DifferBelow, IsLeast, plan_in}
 use Rattle.dch_margin.proofs.Counts.{counts_are, own_counts}
 use Rattle.dch_margin.proofs.Differ.{in_place_of, least_below}
 use Rattle.dch_margin.proofs.format.least_down.Goals as goal

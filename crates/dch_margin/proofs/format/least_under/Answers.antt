@@ -1,4 +1,4 @@
-use Rattle.std.proofs.Common.{◌≡◌, ℕ, arith}
+use Rattle.std.proofs.Common.{arith}
 use Rattle.dch_trellis.specs.Distance.{copies_at}
 use Rattle.dch_collision.specs.Copies.{uplink_copies}
 use Rattle.dch_margin.proofs.Counts.{counts_are, own_counts}

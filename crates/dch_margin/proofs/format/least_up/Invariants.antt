@@ -1,15 +1,15 @@
-use Rattle.std.proofs.Common.{◌≡◌, ◌-◌}
+use Rattle.std.proofs.Common.{◌≡◌, ◌-◌, length}
 use Rattle.dch_collision.specs.Copies.{uplink_copies}
-use Rattle.dch_collision.specs.Sequences.{IsLegal}
+use Rattle.dch_collision.specs.Sequences.{IsLegal, frames_of}
 use Rattle.dch_collision.proofs.Order.{power, value}
-use Rattle.dch_margin.specs.Differ.{IsLeast}
-use Rattle.dch_margin.proofs.Visits.{DifferUpTo}
+use Rattle.dch_margin.proofs.Visits.{IsLeastUpTo}
 use Rattle.dch_margin.proofs.format.least_up.Given as goal
 
 abbrev pub invariant-sequences : goal.invariant-sequences
 invariant-sequences l = record {
   legal : IsLegal l.config.side l.i l.f l.sequence;
-  least : IsLeast (DifferUpTo l.config.side (uplink_copies l.config) l.i l.f l.sequence) l.least;
+  least : IsLeastUpTo l.config.side (uplink_copies l.config) l.i l.f l.sequence l.best l.least;
+  long : length l.best ≡ frames_of l.config.side l.i;
   kept : l.trellis ≡ l.fn.trellis;
 }
 
