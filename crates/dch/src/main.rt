@@ -1,9 +1,6 @@
 //! The program `dch`: reference bits and frames of the UMTS dedicated channel, from standard input to standard output.
 #![tactic(auto)]
 
-#[cfg(test)]
-mod nodes;
-
 use dch_bits::NoMemory;
 use dch_io::{StdSink, StdSource};
 use dch_top::{Bench, Status, run};

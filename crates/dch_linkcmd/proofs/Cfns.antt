@@ -4,7 +4,7 @@ use Rattle.std.proofs.lemmas.Bool.Decides.{eqb_tells}
 use Rattle.dch_link.specs.Passing.{cfn_after, next_stage}
 use Rattle.dch_link.specs.declared.stage.Stage.{Stage}
 use Rattle.dch_link.specs.declared.stage.Stage.TheVariants.{RncTick, IubDown, RadioDown, UeTick, RadioUp, IubUp}
-use Rattle.dch_linkcmd.specs.Standing.{ticked}
+use Rattle.dch_linkcmd.specs.Handlers.{ticked}
 use Rattle.dch_linkcmd.proofs.Stages.{some_same}
 
 -- with the stage that is next

@@ -4,12 +4,12 @@ use Rattle.std.specs.Prelude.{IfSome, Option, Some, None}
 use Rattle.dch_accept.specs.Plans.{Planned}
 use Rattle.dch_link.specs.Changing.{Changes}
 use Rattle.dch_link.specs.Link.{LinkState}
-use Rattle.dch_link.specs.Standing.{ChangesTo, HasNext, Represents}
+use Rattle.dch_link.specs.LinkNodes.{ChangesTo, HasNext, Represents}
 use Rattle.dch_link.specs.Values.{Nodes}
 use Rattle.dch_link.specs.declared.stage.Stage.{Stage}
 use Rattle.dch_linkcmd.specs.Rules.{Begins, MayChange}
 use Rattle.dch_linkcmd.specs.Run.{Run}
-use Rattle.dch_linkcmd.specs.Standing.{Handler, IsPrepared, IsReady, RepresentsRun}
+use Rattle.dch_linkcmd.specs.Handlers.{Handler, IsPrepared, IsReady, RepresentsRun}
 use Rattle.dch_lines.specs.declared.later.Later.{Later}
 
 some_later : (a b : Later) (r : Option Later) → r ≡ Some a → r ≡ Some b → b ≡ a

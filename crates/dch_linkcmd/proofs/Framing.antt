@@ -3,14 +3,14 @@ use Rattle.std.proofs.Common.{◌≡◌, ◌<◌, ◌≤◌, ◌+◌, ◌-◌, �
 use Rattle.dch_lines.specs.Semantics.{Adds, Does, Leads}
 use Rattle.dch_lines.proofs.Filtering.{Joined, Nothing}
 use Rattle.dch_link.specs.Passing.{IsStage, next_stage, stages_left}
-use Rattle.dch_link.specs.Standing.{Represents}
+use Rattle.dch_link.specs.LinkNodes.{Represents}
 use Rattle.dch_link.specs.Values.{Nodes}
 use Rattle.dch_link.specs.declared.stage.Stage.{Stage}
 use Rattle.dch_link.specs.declared.stage.Stage.TheVariants.{RncTick, IubDown}
 use Rattle.dch_linkcmd.specs.LineEvents.{Frames, Says}
 use Rattle.dch_linkcmd.specs.Rules.{LeavesOff, MayChange, PassesFrame, PassesFrames, PassesNext, TakesLine, link_lines, link_steps}
 use Rattle.dch_linkcmd.specs.Run.{Run, config_of, passed_by, steps_left}
-use Rattle.dch_linkcmd.specs.Standing.{Handler, IsReady, RepresentsRun}
+use Rattle.dch_linkcmd.specs.Handlers.{Handler, IsReady, RepresentsRun}
 use Rattle.dch_linkcmd.specs.Stepping.{GoesBy, LineFront, LineSteps, Resumes}
 use Rattle.dch_linkcmd.proofs.Frames.{InFrame, Passed, frame_begun, frame_next, may_end, passed_none, passed_on, passed_one}
 use Rattle.dch_linkcmd.proofs.Stages.{last_one, one_less, some_left, steps_next, tick_left}

@@ -7,13 +7,13 @@ use Rattle.dch_lines.specs.Shown.{shown}
 use Rattle.dch_link.specs.Link.{LinkState}
 use Rattle.dch_link.specs.Passing.{next_stage}
 use Rattle.dch_link.specs.Stages.{AtStage}
-use Rattle.dch_link.specs.Standing.{Represents}
+use Rattle.dch_link.specs.LinkNodes.{Represents}
 use Rattle.dch_link.specs.Values.{Nodes}
 use Rattle.dch_link.specs.declared.stage.Stage.{Stage}
 use Rattle.dch_link.specs.declared.stage.Stage.TheVariants.{RncTick}
 use Rattle.dch_linkcmd.specs.Rules.{MayChange, PassesNext, PassesStage}
 use Rattle.dch_linkcmd.specs.Run.{Run, passed, passed_by}
-use Rattle.dch_linkcmd.specs.Standing.{Handler, RepresentsRun, Shows}
+use Rattle.dch_linkcmd.specs.Handlers.{Handler, RepresentsRun, Shows}
 
 -- the text of a stage is added
 passes_by : {P : Type 0} (writes : P → List ℕ → P → Type 0) (run : Run) (old : Handler) (nodes : Nodes) (before after : P) → RepresentsRun run old → (shows : Shows writes run.began old.accepted run.first old.quiet (AtStage old.stage run.link) nodes before after) → (next : Run) → next ≡ passed run shows.next → Adds writes (PassesStage run next) before after

@@ -5,12 +5,12 @@ use Rattle.dch_accept.specs.Plans.{Planned}
 use Rattle.dch_io.specs.Pieces.{LIMIT}
 use Rattle.dch_link.specs.Passing.{IsStage}
 use Rattle.dch_link.specs.Link.{opened_link}
-use Rattle.dch_link.specs.Standing.{HasNext, IsLinkOf, Represents}
+use Rattle.dch_link.specs.LinkNodes.{HasNext, IsLinkOf, Represents}
 use Rattle.dch_link.specs.Values.{Nodes}
 use Rattle.dch_link.specs.declared.stage.Stage.{Stage}
 use Rattle.dch_link.specs.declared.stage.Stage.TheVariants.{RncTick}
 use Rattle.dch_linkcmd.specs.Run.{opened_run}
-use Rattle.dch_linkcmd.specs.Standing.{Handler, IsPrepared, IsReady, StandsBetween, ticked}
+use Rattle.dch_linkcmd.specs.Handlers.{Handler, IsPrepared, IsReady, StandsBetween, ticked}
 use Rattle.dch_lines.specs.declared.later.Later.{Later}
 
 -- the nodes stay prepared for the second configuration

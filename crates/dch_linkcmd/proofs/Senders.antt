@@ -11,7 +11,7 @@ use Rattle.dch_accept.specs.Plans.{Planned}
 use Rattle.dch_types.specs.Parts.{channel_number}
 use Rattle.dch_script.specs.Units.{has_channel}
 use Rattle.dch_link.specs.Bearings.{bearer_in, channel_of}
-use Rattle.dch_link.specs.Standing.{SendsTo}
+use Rattle.dch_link.specs.LinkNodes.{SendsTo}
 
 sends_in : (config : Config) (dir : Dir) (b : ℕ) → has_channel config dir b ≡ true → (b < length config.bearers) × IsSome (channel_of config dir b)
 unfolding has_channel

@@ -7,16 +7,16 @@ use Rattle.dch_node.specs.Standing.{Tells}
 use Rattle.dch_lines.specs.Shown.{shown}
 use Rattle.dch_link.specs.Link.{LinkState}
 use Rattle.dch_link.specs.Soft.{SoftState}
-use Rattle.dch_link.specs.SoftStanding.{LeadsTo as SoftLeadsTo}
+use Rattle.dch_link.specs.SoftNodes.{LeadsTo as SoftLeadsTo}
 use Rattle.dch_link.specs.SoftValues.{Parts}
-use Rattle.dch_link.specs.Standing.{LeadsTo}
+use Rattle.dch_link.specs.LinkNodes.{LeadsTo}
 use Rattle.dch_link.specs.Values.{Nodes}
 use Rattle.dch_lines.specs.Filtering.{ShowsSeen}
 use Rattle.dch_lines.specs.Led.{lead_of, led}
 use Rattle.dch_lines.specs.declared.filter.Filter.{Filter}
 use Rattle.dch_lines.proofs.Filtering.{Joined, Nothing, told_shown}
-use Rattle.dch_linkcmd.specs.SoftStanding.{Shows as SoftShows}
-use Rattle.dch_linkcmd.specs.Standing.{Shows}
+use Rattle.dch_linkcmd.specs.SoftHandlers.{Shows as SoftShows}
+use Rattle.dch_linkcmd.specs.Handlers.{Shows}
 
 -- a filter was told of the lines of a step
 pub shows_seen : {P : Type 0} (writes : P → List ℕ → P → Type 0) → Nothing writes → Joined writes → (began planned : Planned) (first : ℕ) (Does : LinkState → List Line → Type 0) (nodes : Nodes) (old new : Filter P) → old.lead.now ≡ []

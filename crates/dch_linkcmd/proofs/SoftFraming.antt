@@ -6,14 +6,14 @@ use Rattle.dch_accept.specs.Plans.{Planned}
 use Rattle.dch_link.specs.Soft.{SoftState, opened_soft}
 use Rattle.dch_link.specs.SoftPassing.{IsStage, next_stage, stages_left}
 use Rattle.dch_link.specs.SoftStages.{AtStage}
-use Rattle.dch_link.specs.SoftStanding.{IsSoftOf, Represents}
+use Rattle.dch_link.specs.SoftNodes.{IsSoftOf, Represents}
 use Rattle.dch_link.specs.SoftValues.{Parts}
 use Rattle.dch_link.specs.declared.soft_stage.Stage.{Stage}
 use Rattle.dch_link.specs.declared.soft_stage.Stage.TheVariants.{RncTick, IubDown}
 use Rattle.dch_linkcmd.specs.SoftLineEvents.{Frames, Says}
 use Rattle.dch_linkcmd.specs.SoftRules.{LeavesOff, PassesFrame, PassesFrames, PassesStage, TakesLine, soft_lines, soft_steps}
 use Rattle.dch_linkcmd.specs.SoftRun.{Run, config_of, opened_run, passed_by, steps_left}
-use Rattle.dch_linkcmd.specs.SoftStanding.{Handler, IsReady, RepresentsRun, StandsBetween}
+use Rattle.dch_linkcmd.specs.SoftHandlers.{Handler, IsReady, RepresentsRun, StandsBetween}
 use Rattle.dch_linkcmd.specs.Stepping.{GoesBy, LineFront, LineSteps, Resumes}
 use Rattle.dch_linkcmd.proofs.Frames.{InFrame, Passed, frame_begun, frame_next, may_end, passed_none, passed_on, passed_one}
 use Rattle.dch_linkcmd.proofs.SoftStages.{all_left, last_one, one_less, some_left, steps_next}

@@ -7,14 +7,14 @@ use Rattle.dch_lines.specs.Shown.{shown}
 use Rattle.dch_link.specs.Soft.{SoftState, framed}
 use Rattle.dch_link.specs.SoftPassing.{leg_of, next_stage}
 use Rattle.dch_link.specs.SoftStages.{AtStage}
-use Rattle.dch_link.specs.SoftStanding.{Represents}
+use Rattle.dch_link.specs.SoftNodes.{Represents}
 use Rattle.dch_link.specs.SoftValues.{Parts}
 use Rattle.dch_link.specs.declared.soft_stage.Stage.{Stage}
 use Rattle.dch_link.specs.declared.soft_stage.Stage.TheVariants.{RncTick}
 use Rattle.dch_lines.specs.Led.{led}
 use Rattle.dch_linkcmd.specs.SoftRules.{PassesStage}
 use Rattle.dch_linkcmd.specs.SoftRun.{Run, passed, passed_by}
-use Rattle.dch_linkcmd.specs.SoftStanding.{Handler, RepresentsRun, Shows}
+use Rattle.dch_linkcmd.specs.SoftHandlers.{Handler, RepresentsRun, Shows}
 
 -- the text of a stage is added
 passes_by : {P : Type 0} (writes : P → List ℕ → P → Type 0) (run : Run) (old : Handler) (parts : Parts) (before after : P) → RepresentsRun run old → (shows : Shows writes old.accepted run.first (λ text. led (leg_of old.stage) (shown old.quiet text)) (AtStage old.stage run.soft) parts before after) → (next : Run) → next ≡ passed run shows.next → Adds writes (PassesStage run next) before after

@@ -4,11 +4,11 @@ use Rattle.dch_accept.specs.Plans.{Planned}
 use Rattle.dch_lines.specs.Semantics.{Adds}
 use Rattle.dch_script.specs.LineText.{text_of}
 use Rattle.dch_lines.specs.Shown.{shown}
-use Rattle.dch_link.specs.SoftStanding.{Represents}
+use Rattle.dch_link.specs.SoftNodes.{Represents}
 use Rattle.dch_linkcmd.specs.SoftLineEvents.{OneEvent, Said, Says}
 use Rattle.dch_linkcmd.specs.SoftRules.{TakesLine}
 use Rattle.dch_linkcmd.specs.SoftRun.{Run, config_of}
-use Rattle.dch_linkcmd.specs.SoftStanding.{Handler, RepresentsRun}
+use Rattle.dch_linkcmd.specs.SoftHandlers.{Handler, RepresentsRun}
 use Rattle.dch_linkcmd.specs.SoftTaking.{TakesEvent}
 
 -- what a line says under the configuration of a handler it says under that of the run

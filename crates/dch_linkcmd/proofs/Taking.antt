@@ -4,11 +4,11 @@ use Rattle.dch_accept.specs.Plans.{Planned}
 use Rattle.dch_lines.specs.Semantics.{Adds}
 use Rattle.dch_script.specs.LineText.{text_of}
 use Rattle.dch_lines.specs.Shown.{shown}
-use Rattle.dch_link.specs.Standing.{Represents}
+use Rattle.dch_link.specs.LinkNodes.{Represents}
 use Rattle.dch_linkcmd.specs.LineEvents.{OneEvent, Said, Says}
 use Rattle.dch_linkcmd.specs.Rules.{TakesLine}
 use Rattle.dch_linkcmd.specs.Run.{Run, config_of}
-use Rattle.dch_linkcmd.specs.Standing.{Handler, RepresentsRun}
+use Rattle.dch_linkcmd.specs.Handlers.{Handler, RepresentsRun}
 use Rattle.dch_linkcmd.specs.Taking.{TakesEvent}
 
 -- what a line says under the configuration of a handler it says under that of the run

@@ -5,7 +5,7 @@ pub mod Rules
 pub mod Run
 pub mod RunLines
 pub mod Same
-pub mod Standing
+pub mod Handlers
 pub mod Stepping
 pub mod Taking
 pub mod SoftLineEvents
@@ -13,7 +13,7 @@ pub mod SoftOverlong
 pub mod SoftReading
 pub mod SoftRules
 pub mod SoftRun
-pub mod SoftStanding
+pub mod SoftHandlers
 pub mod SoftTaking
 pub use Rattle.dch_link.specs.UeState
 pub use Rattle.dch_link.specs.UeSteps

@@ -1,7 +1,7 @@
 -- What a line of `link` says, as it is read.
 use Rattle.std.specs.Prelude.{◌≤◌}
 use Rattle.dch_accept.specs.Plans.{Planned}
-use Rattle.dch_link.specs.Standing.{MayCome, event_of}
+use Rattle.dch_link.specs.LinkNodes.{MayCome, event_of}
 use Rattle.dch_linkcmd.specs.LineEvents.{Frames, OneEvent, Said}
 use Rattle.dch_linkcmd.specs.declared.reading.LinkLine.{LinkLine}
 use Rattle.dch_linkcmd.specs.declared.reading.LinkLine.TheVariants.{Happens, Frames as Passes}

@@ -1,7 +1,7 @@
 -- What a line of `soft` says, as it is read.
 use Rattle.std.specs.Prelude.{◌≤◌, ℕ}
 use Rattle.dch_accept.specs.Plans.{Planned}
-use Rattle.dch_link.specs.SoftStanding.{MayCome, event_of}
+use Rattle.dch_link.specs.SoftNodes.{MayCome, event_of}
 use Rattle.dch_linkcmd.specs.SoftLineEvents.{Frames, OneEvent, Said}
 use Rattle.dch_linkcmd.specs.declared.soft_reading.SoftLine.{SoftLine}
 use Rattle.dch_linkcmd.specs.declared.soft_reading.SoftLine.TheVariants.{Happens, Frames as Passes}

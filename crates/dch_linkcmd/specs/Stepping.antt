@@ -25,7 +25,8 @@ pub record LineSteps {S : Type 0} (steps : Stepped S) (old : S) (line : List ℕ
   pub whole : text ≡ first ++ rest
 
 -- a part of a line: its first step, and some of those that are left then but not all, behind which it is left off
-pub record LineFront {S : Type 0} (steps : Stepped S) (LeavesOff : S → S → Type 0) (old : S) (line : List ℕ) (new : S) (text : List ℕ) : Type 0 where
+pub record LineFront {S : Type 0} (steps : Stepped S) (LeavesOff : S → S → Type 0) (old : S) (line : List ℕ) (new : S)
+    (text : List ℕ) : Type 0 where
   pub mid : S
   pub first : List ℕ
   pub handles : steps.handles old line mid first

@@ -4,8 +4,8 @@ ghost use Rattle.dch_link.specs.Events.{Happens};
 ghost use Rattle.dch_link.specs.Link.{LinkState};
 ghost use Rattle.dch_link.specs.Passing.{IsStage, cfn_after};
 ghost use Rattle.dch_link.specs.Stages.{AtStage};
-ghost use Rattle.dch_link.specs.Standing.{HasNext, IsLinkOf, MayCome, Represents, event_of};
-ghost use Rattle.dch_linkcmd.specs.Standing.{Shows};
+ghost use Rattle.dch_link.specs.LinkNodes.{HasNext, IsLinkOf, MayCome, Represents, event_of};
+ghost use Rattle.dch_linkcmd.specs.Handlers.{Shows};
 
 use dch_accept::Accepted;
 use dch_lines::{Filter, Page};

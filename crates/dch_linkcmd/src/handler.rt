@@ -5,14 +5,14 @@ ghost use Rattle.dch_script.specs.declared.event.Command.TheVariants.{Link as Li
 ghost use Rattle.dch_lines.specs.Semantics.{Adds, Leads};
 ghost use Rattle.dch_link.specs.Link.{opened_link};
 ghost use Rattle.dch_link.specs.Passing.{next_stage};
-ghost use Rattle.dch_link.specs.Standing.{HasNext, HaveHistories, IsLinkOf, Represents};
+ghost use Rattle.dch_link.specs.LinkNodes.{HasNext, HaveHistories, IsLinkOf, Represents};
 ghost use Rattle.dch_lines.specs.Coming.{CanFollow};
 ghost use Rattle.dch_lines.specs.declared.later.Later.{Later as Coming};
 ghost use Rattle.dch_lines.specs.declared.line_texts.TheConstants.{OCTETS};
 ghost use Rattle.dch_linkcmd.specs.Overlong.{link_refuses_long};
 ghost use Rattle.dch_linkcmd.specs.Rules.{Begins, MayChange, PassesFrame, PassesFrames, PassesNext, PassesStage, link_lines};
 ghost use Rattle.dch_linkcmd.specs.Run.{Run, opened_run};
-ghost use Rattle.dch_linkcmd.specs.Standing.{StandsBetween, IsPrepared, IsReady, RepresentsRun, ready_stands};
+ghost use Rattle.dch_linkcmd.specs.Handlers.{StandsBetween, IsPrepared, IsReady, RepresentsRun, ready_stands};
 ghost use Rattle.dch_linkcmd.specs.Stepping.{GoesBy};
 ghost use Rattle.dch_linkcmd.specs.Taking.{Tells};
 
@@ -61,7 +61,7 @@ impl Drop for LinkHandler {
 impl Model for LinkHandler {
     ghost use Rattle.std.specs.Prelude.{◌≡◌, length};
     ghost use Rattle.dch_lines.specs.declared.line_texts.TheConstants.{OCTETS};
-    ghost use Rattle.dch_linkcmd.specs.Standing.{Handler};
+    ghost use Rattle.dch_linkcmd.specs.Handlers.{Handler};
 
     ghost Value = { Handler };
 
@@ -140,7 +140,8 @@ impl LinkHandler {
         requires left { self.old.left ≡ count }
         requires some { 1 ≤ count }
         requires first { self.old.stage ≡ Stage.RncTick }
-        ensures passes { Leads RepresentsRun self.old self.new (λ old new. Adds P.writes (PassesFrames (P.broken page.new) old new) page.old page.new) }
+        ensures passes { Leads RepresentsRun self.old self.new
+            (λ old new. Adds P.writes (PassesFrames (P.broken page.new) old new) page.old page.new) }
         ensures ready { IsReady self.new }
         ensures first { self.new.stage ≡ Stage.RncTick }
         ensures none { self.new.left ≡ 0 }
@@ -169,7 +170,8 @@ impl LinkHandler {
         requires ready { IsReady self.old }
         requires left { 0 < self.old.left }
         requires first { self.old.stage ≡ Stage.RncTick }
-        ensures passes { Leads RepresentsRun self.old self.new (λ old new. Adds P.writes (PassesFrame old new) page.old page.new) }
+        ensures passes { Leads RepresentsRun self.old self.new
+            (λ old new. Adds P.writes (PassesFrame old new) page.old page.new) }
         ensures ready { IsReady self.new }
         ensures first { self.new.stage ≡ Stage.RncTick }
         ensures left { self.new.left + 1 ≡ self.old.left }
@@ -184,7 +186,8 @@ impl LinkHandler {
     fn pass<P: Page>(&mut self, page: &mut P)
         requires ready { IsReady self.old }
         requires left { 0 < self.old.left }
-        ensures passes { Leads RepresentsRun self.old self.new (λ old new. Adds P.writes (PassesNext old new) page.old page.new) }
+        ensures passes { Leads RepresentsRun self.old self.new
+            (λ old new. Adds P.writes (PassesNext old new) page.old page.new) }
         ensures ready { IsReady self.new }
         ensures lines { self.new.lines ≡ self.old.lines }
         ensures goes { GoesBy Stage.RncTick (next_stage self.old.stage) self.old.left self.new.stage self.new.left }
@@ -221,7 +224,8 @@ impl LinkHandler {
     fn pass_stage<P: Page>(&mut self, page: &mut P)
         requires ready { IsReady self.old }
         requires left { 0 < self.old.left }
-        ensures passes { Leads RepresentsRun self.old self.new (λ old new. Adds P.writes (PassesStage old new) page.old page.new) }
+        ensures passes { Leads RepresentsRun self.old self.new
+            (λ old new. Adds P.writes (PassesStage old new) page.old page.new) }
         ensures ready { IsReady self.new }
         ensures lines { self.new.lines ≡ self.old.lines }
         ensures goes { GoesBy Stage.RncTick (next_stage self.old.stage) self.old.left self.new.stage self.new.left }
@@ -286,7 +290,8 @@ fn take<P: Page>(
 ) -> Result<Option<u32>, LineError>
     requires octets { length octets.old ≡ OCTETS }
     requires opened { IsLinkOf accepted.now link.old }
-    ensures ok { IfOk result (λ count. Tells P.writes accepted.now line.now count quiet link.old link.new page.old page.new) }
+    ensures ok { IfOk result (λ count. Tells P.writes accepted.now line.now count quiet link.old link.new page.old
+        page.new) }
     ensures err { IfErr result (λ why. meaning_in LinkLines accepted.now.config line.now ≡ Err why) }
     ensures same { IfErr result (λ _. (link.new ≡ link.old) × (page.new ≡ page.old)) }
     ensures opened { IsLinkOf accepted.now link.new }

@@ -3,7 +3,7 @@ ghost use Rattle.dch_script.specs.Good.{IsOfLink, IsUnit};
 ghost use Rattle.dch_script.specs.Meaning.{meaning_in};
 ghost use Rattle.dch_script.specs.ParsedLine.{parsed_of};
 ghost use Rattle.dch_script.specs.declared.event.Command.TheVariants.{Link};
-ghost use Rattle.dch_link.specs.Standing.{MayCome, event_of};
+ghost use Rattle.dch_link.specs.LinkNodes.{MayCome, event_of};
 ghost use Rattle.dch_lines.specs.declared.line_texts.TheConstants.{OCTETS, UNIT_BITS};
 ghost use Rattle.dch_linkcmd.specs.LineEvents.{Says, said_by, unit_event};
 ghost use Rattle.dch_linkcmd.specs.Reading.{MayBe, said_of};

@@ -4,9 +4,9 @@ ghost use Rattle.dch_link.specs.SoftEvents.{Happens};
 ghost use Rattle.dch_link.specs.SoftPassing.{IsStage, leg_of};
 ghost use Rattle.dch_link.specs.Soft.{SoftState};
 ghost use Rattle.dch_link.specs.SoftStages.{AtStage};
-ghost use Rattle.dch_link.specs.SoftStanding.{IsSoftOf, MayCome, Represents, event_of};
+ghost use Rattle.dch_link.specs.SoftNodes.{IsSoftOf, MayCome, Represents, event_of};
 ghost use Rattle.dch_lines.specs.Led.{lead_of, led};
-ghost use Rattle.dch_linkcmd.specs.SoftStanding.{Shows};
+ghost use Rattle.dch_linkcmd.specs.SoftHandlers.{Shows};
 
 use dch_accept::Accepted;
 use dch_lines::{Filter, Page};
@@ -39,7 +39,8 @@ pub fn pass<P: Page>(filter: &mut Filter<'_, P>, accepted: &Accepted, stage: Sta
     requires stage { IsStage (length soft.old.legs) stage }
     requires lead { filter.old.lead.now ≡ lead_of (leg_of stage) }
     ensures shows { (first : ℕ) (state : SoftState) → Represents accepted.now first state soft.old →
-        Shows P.writes accepted.now first (λ text. led (leg_of stage) (shown filter.old.quiet text)) (AtStage stage state)
+        Shows P.writes accepted.now first (λ text. led (leg_of stage) (shown filter.old.quiet text))
+        (AtStage stage state)
         soft.new filter.old.page.now filter.new.page.now }
     ensures opened { IsSoftOf accepted.now soft.new }
     ensures legs { length soft.new.legs ≡ length soft.old.legs }

@@ -2,12 +2,12 @@ ghost use Rattle.std.specs.Prelude.{◌≡◌, ◌<◌, ◌≤◌, ◌+◌, ◌%
 ghost use Rattle.dch_lines.specs.Semantics.{Adds, Leads};
 ghost use Rattle.dch_script.specs.Soft.{soft_meaning};
 ghost use Rattle.dch_link.specs.SoftPassing.{next_stage};
-ghost use Rattle.dch_link.specs.SoftStanding.{HaveHistories, IsSoftOf};
+ghost use Rattle.dch_link.specs.SoftNodes.{HaveHistories, IsSoftOf};
 ghost use Rattle.dch_lines.specs.declared.line_texts.TheConstants.{OCTETS};
 ghost use Rattle.dch_linkcmd.specs.SoftOverlong.{soft_refuses_long};
 ghost use Rattle.dch_linkcmd.specs.SoftRules.{PassesFrame, PassesFrames, PassesStage, soft_lines};
 ghost use Rattle.dch_linkcmd.specs.SoftRun.{Run, opened_run};
-ghost use Rattle.dch_linkcmd.specs.SoftStanding.{StandsBetween, IsReady, RepresentsRun, ready_stands};
+ghost use Rattle.dch_linkcmd.specs.SoftHandlers.{StandsBetween, IsReady, RepresentsRun, ready_stands};
 ghost use Rattle.dch_linkcmd.specs.SoftTaking.{Tells};
 ghost use Rattle.dch_linkcmd.specs.Stepping.{GoesBy};
 
@@ -54,7 +54,7 @@ impl Drop for SoftHandler {
 impl Model for SoftHandler {
     ghost use Rattle.std.specs.Prelude.{◌≡◌, length};
     ghost use Rattle.dch_lines.specs.declared.line_texts.TheConstants.{OCTETS};
-    ghost use Rattle.dch_linkcmd.specs.SoftStanding.{Handler};
+    ghost use Rattle.dch_linkcmd.specs.SoftHandlers.{Handler};
 
     ghost Value = { Handler };
 
@@ -130,7 +130,8 @@ impl SoftHandler {
         requires left { self.old.left ≡ count }
         requires some { 1 ≤ count }
         requires first { self.old.stage ≡ Stage.RncTick }
-        ensures passes { Leads RepresentsRun self.old self.new (λ old new. Adds P.writes (PassesFrames (P.broken page.new) old new) page.old page.new) }
+        ensures passes { Leads RepresentsRun self.old self.new
+            (λ old new. Adds P.writes (PassesFrames (P.broken page.new) old new) page.old page.new) }
         ensures ready { IsReady self.new }
         ensures first { self.new.stage ≡ Stage.RncTick }
         ensures none { self.new.left ≡ 0 }
@@ -159,7 +160,8 @@ impl SoftHandler {
         requires ready { IsReady self.old }
         requires left { 0 < self.old.left }
         requires first { self.old.stage ≡ Stage.RncTick }
-        ensures passes { Leads RepresentsRun self.old self.new (λ old new. Adds P.writes (PassesFrame old new) page.old page.new) }
+        ensures passes { Leads RepresentsRun self.old self.new
+            (λ old new. Adds P.writes (PassesFrame old new) page.old page.new) }
         ensures ready { IsReady self.new }
         ensures first { self.new.stage ≡ Stage.RncTick }
         ensures left { self.new.left + 1 ≡ self.old.left }
@@ -176,12 +178,14 @@ impl SoftHandler {
     fn pass<P: Page>(&mut self, page: &mut P)
         requires ready { IsReady self.old }
         requires left { 0 < self.old.left }
-        ensures passes { Leads RepresentsRun self.old self.new (λ old new. Adds P.writes (PassesStage old new) page.old page.new) }
+        ensures passes { Leads RepresentsRun self.old self.new
+            (λ old new. Adds P.writes (PassesStage old new) page.old page.new) }
         ensures ready { IsReady self.new }
         ensures accepted { self.new.accepted ≡ self.old.accepted }
         ensures lines { self.new.lines ≡ self.old.lines }
         ensures legs { length self.new.soft.legs ≡ length self.old.soft.legs }
-        ensures goes { GoesBy Stage.RncTick (next_stage (length self.old.soft.legs) self.old.stage) self.old.left self.new.stage self.new.left }
+        ensures goes { GoesBy Stage.RncTick (next_stage (length self.old.soft.legs) self.old.stage)
+            self.old.left self.new.stage self.new.left }
     {
         let mut filter = Filter {
             quiet: self.quiet,
@@ -213,7 +217,8 @@ fn take<P: Page>(
 ) -> Result<Option<u32>, LineError>
     requires octets { length octets.old ≡ OCTETS }
     requires opened { IsSoftOf accepted.now soft.old }
-    ensures ok { IfOk result (λ count. Tells P.writes accepted.now line.now count quiet soft.old soft.new page.old page.new) }
+    ensures ok { IfOk result (λ count. Tells P.writes accepted.now line.now count quiet soft.old soft.new page.old
+        page.new) }
     ensures err { IfErr result (λ why. soft_meaning (length soft.old.legs) accepted.now.config line.now ≡ Err why) }
     ensures same { IfErr result (λ _. (soft.new ≡ soft.old) × (page.new ≡ page.old)) }
     ensures opened { IsSoftOf accepted.now soft.new }

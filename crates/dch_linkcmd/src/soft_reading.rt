@@ -2,7 +2,7 @@ ghost use Rattle.std.specs.Prelude.{◌≡◌, ℕ, Some, length, IfOk, IfErr, E
 ghost use Rattle.dch_script.specs.Good.{IsDamage, IsOfSoft, IsTraffic, IsUnit};
 ghost use Rattle.dch_script.specs.ParsedLine.{parsed_of};
 ghost use Rattle.dch_script.specs.Soft.{soft_meaning};
-ghost use Rattle.dch_link.specs.SoftStanding.{MayCome, MayHit, damage_of, event_of};
+ghost use Rattle.dch_link.specs.SoftNodes.{MayCome, MayHit, damage_of, event_of};
 ghost use Rattle.dch_link.specs.SoftEvents.{Damages};
 ghost use Rattle.dch_lines.specs.declared.line_texts.TheConstants.{OCTETS, UNIT_BITS};
 ghost use Rattle.dch_linkcmd.specs.SoftLineEvents.{Says, OneEvent, said_at, said_by, said_of_leg, unit_event};

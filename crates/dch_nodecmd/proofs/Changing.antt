@@ -1,18 +1,21 @@
 -- A change of the configuration that is due.
 use Rattle.std.proofs.Common.{◌≡◌, ◌≤◌, ◌+◌, ◌%◌, ◌∙◌, ℕ, List, [], ◌∷◌, Bool, arith, ap, inl, inr, refl, sym, subst}
-use Rattle.std.specs.Prelude.{IfSome, OnOk, Option, Some, None, Result, Ok, Err}
+use Rattle.std.specs.Prelude.{IfErr, IfSome, OnOk, Option, Some, None, Result, Ok, Err}
 use Rattle.std.proofs.lemmas.List.Sums.{sum_by-append}
 use Rattle.dch_accept.specs.Plans.{Planned}
 use Rattle.dch_io.specs.Pieces.{LIMIT}
-use Rattle.dch_lines.specs.Semantics.{Adds, Does}
+use Rattle.dch_script.specs.declared.event.LineError.TheVariants.{When}
+use Rattle.dch_lines.specs.Semantics.{Adds, Does, IsFault}
+use Rattle.dch_lines.specs.declared.stop.LineFault.{LineFault}
+use Rattle.dch_lines.specs.declared.stop.LineFault.TheVariants.{Malformed}
 use Rattle.dch_node.specs.Lines.{Line}
 use Rattle.dch_node.specs.Traces.{Trace}
 use Rattle.dch_node.specs.Values.{Output, no_output}
 use Rattle.dch_nodecmd.specs.NodeRules.{AreLasting, AsksChange, NodeRules}
-use Rattle.dch_nodecmd.specs.Rules.{MakesChange, TakesLine, node_lines}
+use Rattle.dch_nodecmd.specs.Rules.{IsUntimely, MakesChange, TakesLine, node_lines}
 use Rattle.dch_nodecmd.specs.Run.{Run, frames_in, opened_run}
 use Rattle.dch_lines.specs.Coming.{IsDue, CanFollow}
-use Rattle.dch_nodecmd.specs.Standing.{CanChange, Changes, Handler, HasRun, IsPrepared, IsReady, RepresentsHistory, RepresentsRun, ShowsLines}
+use Rattle.dch_nodecmd.specs.Handlers.{CanChange, Changes, Handler, HasRun, IsPrepared, IsReady, RepresentsHistory, RepresentsRun, ShowsLines}
 use Rattle.dch_lines.specs.declared.later.Later.{Later}
 use Rattle.dch_nodecmd.proofs.Running.{IsActive, changed_on}
 
@@ -149,3 +152,19 @@ opened_ready {S} {E} {V} rules IsNodeOf HasNext Represents Shows handler first n
     prepared : (later : Option Later) → IfSome later (λ later. HasNext handler.accepted later.accepted handler.node) → IfSome later (CanFollow handler.accepted) → IfSome later (IsPrepared HasNext handler.accepted handler.node)
     prepared None next follows = tt
     prepared (Some later) next follows = record { next = next; whole = follows.whole }
+
+-- a line that asks for a change that is not due
+pub not_due : {S E V : Type 0} (rules : NodeRules S E) (Represents : Planned → S → V → Type 0) (Shows : Output → V → Type 0) → IsActive rules Represents → (old mid new : Handler V) (line : List ℕ) (r : Result (Unit {0}) LineFault) (Unwritten : Type 0) → mid ≡ old → AsksChange rules old.accepted.config line
+    → IfErr r (λ fault. (fault ≡ Malformed When) × ((later : Later) → ¬ IsDue old.later old.frames later)) → IfErr r (λ _. (new ≡ mid) × Unwritten)
+    → IfErr r (λ fault. (run : Run S E) → RepresentsRun rules Represents Shows run old → IsFault (node_lines rules) run line fault × RepresentsRun rules Represents Shows run new)
+not_due rules Represents Shows active old mid new line (Ok u) Unwritten same asks early left = tt
+not_due {S} {E} {V} rules Represents Shows active old mid new line (Err fault) Unwritten same asks early left = λ run stands.
+    let config : rules.planned run.node ≡ old.accepted = active old.accepted run.node old.node stands.stands in
+    let untimely : IsUntimely rules run line When = record {
+      asks = subst (λ (p : Planned). AsksChange rules p.config line) (sym config) asks;
+      undue = λ later due. early.1 later (record { waits = sym stands.second ∙ due.waits; now = sym stands.frames ∙ due.now });
+      shown = refl;
+    } in (
+      subst (λ (f : LineFault). IsFault (node_lines rules) run line f) (sym early.0) (inr untimely),
+      subst (λ (h : Handler V). RepresentsRun rules Represents Shows run h) (sym (left.0 ∙ same)) stands,
+    )

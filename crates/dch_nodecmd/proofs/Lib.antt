@@ -4,13 +4,8 @@ pub mod NoTrace
 pub mod RunLines
 pub mod Running
 pub mod Said
+pub mod Senders
+pub mod Texts
 pub mod NodeBNoTrace
-pub mod NodeBTaking
-pub mod NodeBTexts
 pub mod RncNoTrace
 pub mod RncOtherLines
-pub mod RncSenders
-pub mod RncTaking
-pub mod UeSenders
-pub mod UeTaking
-pub mod UeTexts

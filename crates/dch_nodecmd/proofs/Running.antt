@@ -1,18 +1,19 @@
 -- A line of a command with one node as a step of a run.
 use Rattle.std.proofs.Common.{◌≡◌, ◌+◌, ◌∙◌, ◌++◌, ℕ, List, [], ◌∷◌, Bool, inl, refl, ap, sym, subst, arith}
-use Rattle.std.specs.Prelude.{None}
+use Rattle.std.specs.Prelude.{None, Ok}
 use Rattle.std.proofs.lemmas.List.Sums.{sum_by-append}
 use Rattle.dch_accept.specs.Plans.{Planned}
 use Rattle.dch_lines.specs.Semantics.{Adds, Does}
 use Rattle.dch_script.specs.LineText.{text_of}
+use Rattle.dch_script.specs.ParsedLine.{ParsedLine}
 use Rattle.dch_node.specs.Values.{Output, no_output}
 use Rattle.dch_node.proofs.Traces.{trace_next}
-use Rattle.dch_nodecmd.specs.NodeRules.{AreLasting, NodeRules, SaysEvent}
+use Rattle.dch_nodecmd.specs.NodeRules.{AreLasting, NodeRules, SaysEvent, meaning_for}
 use Rattle.dch_nodecmd.specs.Rules.{MakesChange, TakesLine, node_lines}
 use Rattle.dch_nodecmd.specs.Run.{Run, frames_in}
 use Rattle.dch_lines.specs.Coming.{IsDue}
 use Rattle.dch_lines.specs.Shown.{shown}
-use Rattle.dch_nodecmd.specs.Standing.{Changes, Handler, RepresentsRun, ShowsLines, StepsBy}
+use Rattle.dch_nodecmd.specs.Handlers.{Changes, Handler, RepresentsRun, ShowsLines, StepsBy}
 use Rattle.dch_lines.specs.declared.later.Later.{Later}
 
 -- one more event
@@ -27,11 +28,11 @@ abbrev pub IsActive : {S E V : Type 0} → NodeRules S E → (Planned → S → 
 IsActive {S} {E} {V} rules Represents = (planned : Planned) (state : S) (node : V) → Represents planned state node → rules.planned state ≡ planned
 
 -- a good line takes a run to another, for which the handler stands
-pub went_on : {S E V P : Type 0} (writes : P → List ℕ → P → Type 0) (rules : NodeRules S E) (Represents : Planned → S → V → Type 0) (Shows : Output → V → Type 0) → IsActive rules Represents → (old new : Handler V) (run : Run S E) (line : List ℕ) (count : ℕ) (before after : P)
-    → StepsBy rules Represents Shows old.accepted line count old.node new.node (ShowsLines writes old.quiet before after)
+pub went_on : {S E V P : Type 0} (writes : P → List ℕ → P → Type 0) (rules : NodeRules S E) (Represents : Planned → S → V → Type 0) (Shows : Output → V → Type 0) → IsActive rules Represents → (old new : Handler V) (run : Run S E) (line : List ℕ) (parsed : ParsedLine) (count : ℕ) (before after : P)
+    → meaning_for rules old.accepted.config line ≡ Ok parsed → StepsBy rules Represents Shows old.accepted parsed count old.node new.node (ShowsLines writes old.quiet before after)
     → new.accepted ≡ old.accepted → new.later ≡ old.later → new.quiet ≡ old.quiet → new.frames ≡ old.frames + count → RepresentsRun rules Represents Shows run old
     → (next : Run S E) × RepresentsRun rules Represents Shows next new × Adds writes (TakesLine rules run line next) before after
-went_on {S} {E} {V} {P} writes rules Represents Shows active old new run line count before after shows same_accepted same_later same_quiet counted stands =
+went_on {S} {E} {V} {P} writes rules Represents Shows active old new run line parsed count before after means shows same_accepted same_later same_quiet counted stands =
     let stepped = shows.steps run.node stands.stands in
     let event : E = shows.event in
     let next : Run S E = record run { node = stepped.next; events = run.events ++ event ∷ []; lines = run.lines ++ stepped.output.lines; last = stepped.output } in
@@ -50,7 +51,7 @@ went_on {S} {E} {V} {P} writes rules Represents Shows active old new run line co
         more = more;
         handles = inl (record {
           event = event;
-          says = subst (λ (p : Planned). SaysEvent rules p.config line event) (sym (active old.accepted run.node old.node stands.stands)) shows.says;
+          says = subst (λ (p : Planned). SaysEvent rules p.config line event) (sym (active old.accepted run.node old.node stands.stands)) (record { parsed = parsed; says = means; is = shows.says });
           takes = record { node = stepped.next; output = stepped.output; step = stepped.step; goes_on = refl; shows = refl };
         });
         wrote = wrote;

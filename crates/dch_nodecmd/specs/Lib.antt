@@ -1,23 +1,21 @@
 pub mod NoTrace
 pub mod NodeRules
 pub mod Overlong
+pub mod Reading
 pub mod Rules
 pub mod Run
 pub mod RunLines
-pub mod Standing
+pub mod Handlers
 pub mod NodeBLasting
 pub mod NodeBLineEvents
 pub mod NodeBNoTrace
-pub mod NodeBReading
 pub mod NodeBRules
 pub mod RncLasting
 pub mod RncLineEvents
 pub mod RncNoTrace
-pub mod RncReading
 pub mod RncRules
 pub mod UeLasting
 pub mod UeLineEvents
-pub mod UeReading
 pub mod UeRules
 pub use Rattle.dch_rnc.specs.Standing as RncStanding
 pub use Rattle.dch_rnc.specs.State as RncState

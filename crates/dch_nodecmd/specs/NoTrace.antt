@@ -21,7 +21,8 @@ pub record IsSameRun {S E : Type 0} (rules : NodeRules S E) (run other : Run S E
 
 -- under a configuration a line says an event that stands for no radio frame and is answered by these lines, and later
 -- steps go on as without it
-pub record ChangesNothing {S E : Type 0} (rules : NodeRules S E) (planned : Planned) (line : List ℕ) (lines : List Line) : Type 0 where
+pub record ChangesNothing {S E : Type 0} (rules : NodeRules S E) (planned : Planned) (line : List ℕ)
+    (lines : List Line) : Type 0 where
   pub words : is_empty line ≡ false
   pub event : E
   pub says : SaysEvent rules planned.config line event
@@ -35,7 +36,8 @@ ChangesNothingAfter {S} {E} rules run before line lines = (mid : Run S E) (text 
     → HandlesLines (node_lines rules) run before mid text → ChangesNothing rules (rules.planned mid.node) line lines
 
 -- without such a line the others do the same, and their text is the same, less its lines
-pub record LeavesNoTrace {S E : Type 0} (rules : NodeRules S E) (run new : Run S E) (before after : List (List ℕ)) (lines : List Line) (text : List ℕ) : Type 0 where
+pub record LeavesNoTrace {S E : Type 0} (rules : NodeRules S E) (run new : Run S E) (before after : List (List ℕ))
+    (lines : List Line) (text : List ℕ) : Type 0 where
   pub other : Run S E
   pub front : List ℕ
   pub back : List ℕ

@@ -18,7 +18,8 @@ abbrev pub config_of : {S E : Type 0} → NodeRules S E → Run S E → Config
 config_of rules run = (rules.planned run.node).config
 
 -- a step of the node for an event, and what is shown of its lines
-pub record TakesEvent {S E : Type 0} (rules : NodeRules S E) (old : Run S E) (event : E) (new : Run S E) (text : List ℕ) : Type 0 where
+pub record TakesEvent {S E : Type 0} (rules : NodeRules S E) (old : Run S E) (event : E) (new : Run S E)
+    (text : List ℕ) : Type 0 where
   pub node : S
   pub output : Output
   pub step : rules.steps old.node event node output
@@ -32,7 +33,8 @@ pub record TakesEvent {S E : Type 0} (rules : NodeRules S E) (old : Run S E) (ev
   pub shows : text ≡ shown old.quiet (text_of output.lines)
 
 -- a line says an event
-pub record TakesSaid {S E : Type 0} (rules : NodeRules S E) (old : Run S E) (line : List ℕ) (new : Run S E) (text : List ℕ) : Type 0 where
+pub record TakesSaid {S E : Type 0} (rules : NodeRules S E) (old : Run S E) (line : List ℕ) (new : Run S E)
+    (text : List ℕ) : Type 0 where
   pub event : E
   pub says : SaysEvent rules (config_of rules old) line event
   pub takes : TakesEvent rules old event new text
@@ -49,7 +51,8 @@ TakesLine rules old line new text = TakesSaid rules old line new text
     ⊎ (AsksChange rules (config_of rules old) line × MakesChange rules old new text)
 
 -- a line asks for a change that is not due
-pub record IsUntimely {S E : Type 0} (rules : NodeRules S E) (run : Run S E) (line : List ℕ) (why : LineError) : Type 0 where
+pub record IsUntimely {S E : Type 0} (rules : NodeRules S E) (run : Run S E) (line : List ℕ)
+    (why : LineError) : Type 0 where
   pub asks : AsksChange rules (config_of rules run) line
   pub undue : (later : Later) → ¬ IsDue run.second (frames_in rules run.events) later
   pub shown : why ≡ When

@@ -5,13 +5,15 @@ use Rattle.dch_lines.specs.LineTexts.{is_empty}
 use Rattle.dch_nodecmd.specs.NodeRules.{AsksChange, NodeRules, SaysEvent}
 
 -- a line says an event, and this holds of the lines after it, by the radio frames that have passed then
-pub record SaysFirst {S E : Type 0} (rules : NodeRules S E) (config : Config) (frames : ℕ) (line : List ℕ) (Rest : ℕ → Type 0) : Type 0 where
+pub record SaysFirst {S E : Type 0} (rules : NodeRules S E) (config : Config) (frames : ℕ) (line : List ℕ)
+    (Rest : ℕ → Type 0) : Type 0 where
   pub event : E
   pub says : SaysEvent rules config line event
   pub rest : Rest (frames + rules.frames event)
 
 -- it asks for a change that is due, and this holds of the lines after it, by the configuration that is active then
-pub record AsksFirst {S E : Type 0} (rules : NodeRules S E) (config : Config) (second : Option (ℕ × Config)) (frames : ℕ) (line : List ℕ) (Rest : Config → Type 0) : Type 0 where
+pub record AsksFirst {S E : Type 0} (rules : NodeRules S E) (config : Config) (second : Option (ℕ × Config))
+    (frames : ℕ) (line : List ℕ) (Rest : Config → Type 0) : Type 0 where
   pub asks : AsksChange rules config line
   pub next : Config
   pub due : second ≡ Some (frames, next)

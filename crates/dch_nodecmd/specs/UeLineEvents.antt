@@ -1,21 +1,16 @@
 -- What a line of `ue` says to a terminal.
-use Rattle.std.specs.Prelude.{ℕ, List, Option, Some, None, true, false, map}
-use Rattle.dch_bits.specs.Text.{bit_of_letter}
+use Rattle.std.specs.Prelude.{ℕ, List, Option, Some, None, true, false}
 use Rattle.dch_types.specs.declared.config.Config.{Config}
 use Rattle.dch_script.specs.ParsedLine.{ParsedLine, unit, block, free, phy, phy_none, tick}
 use Rattle.dch_script.specs.Units.{mode_at}
-use Rattle.dch_node.specs.Values.{Radio}
 use Rattle.dch_ue.specs.State.{Event, OfferedUnit, BlockedCombination, DownlinkFrame, Tick}
-use Rattle.dch_lines.specs.Texts.{cells_of, unit_bits, unit_octets}
+use Rattle.dch_lines.specs.Texts.{unit_bits, unit_octets}
+use Rattle.dch_nodecmd.specs.Reading.{radio_of}
 
 -- a unit with this text is offered to a bearer
 abbrev pub unit_event : Config → ℕ → List ℕ → Event
 unit_event config bearer text = OfferedUnit bearer (unit_octets (mode_at config bearer) text)
     (unit_bits (mode_at config bearer) text)
-
--- the radio frame whose TFCI bits and cells have these texts
-abbrev pub radio_of : List ℕ → List ℕ → Radio
-radio_of tfci cells = record { tfci = map bit_of_letter tfci; cells = cells_of cells }
 
 -- what a line says to a terminal, if it says anything
 abbrev pub event_of : Config → ParsedLine → Option Event

@@ -3,22 +3,24 @@ ghost use Rattle.dch_accept.specs.Plans.{Planned};
 ghost use Rattle.dch_lines.specs.Semantics.{Adds, Leads};
 ghost use Rattle.dch_lines.specs.declared.stop.LineFault.TheVariants.{Malformed};
 ghost use Rattle.dch_script.specs.declared.event.LineError.TheVariants.{When};
-ghost use Rattle.dch_nodecmd.specs.NodeRules.{IsMalformed};
+ghost use Rattle.dch_script.specs.Good.{IsGood, IsWithin};
+ghost use Rattle.dch_script.specs.ParsedLine.{parsed_of};
 ghost use Rattle.dch_nodecmd.specs.Overlong.{refuses_long};
 ghost use Rattle.dch_nodecmd.specs.Rules.{MakesChange, node_lines};
 ghost use Rattle.dch_lines.specs.LineTexts.{closing};
 ghost use Rattle.dch_nodecmd.specs.Run.{Run, opened_run};
 ghost use Rattle.dch_lines.specs.Coming.{IsDue, CanFollow};
-ghost use Rattle.dch_nodecmd.specs.Standing.{CanChange, Changes, IsReady, RepresentsHistory, RepresentsRun, ShowsLines, TakesAs, frames_of, ready_stands};
+ghost use Rattle.dch_nodecmd.specs.Handlers.{CanChange, Changes, IsReady, RepresentsHistory, RepresentsRun, ShowsLines, TakesAs, frames_of, ready_stands};
 ghost use Rattle.dch_lines.specs.declared.later.Later.{Later as Coming};
 
 use crate::node::CommandNode;
 use crate::node_filter;
+use crate::rooms::Rooms;
 use crate::taken::Taken;
 use dch_accept::Accepted;
 use dch_bits::NoMemory;
 use dch_lines::{Filter, Later, LineFault, LineHandler, Page, put_line};
-use dch_script::{Line, LineError};
+use dch_script::{Event, Line, LineError, parse_in};
 use std::alloc::Global;
 use std::marker::Model;
 
@@ -28,12 +30,13 @@ pub struct NodeHandler<N: CommandNode> {
     accepted: Accepted,
     later: Option<Later>,
     node: N,
+    rooms: Rooms,
     quiet: bool,
     frames: u64,
 }
 
 impl<N: CommandNode> Model for NodeHandler<N> {
-    ghost use Rattle.dch_nodecmd.specs.Standing.{Handler};
+    ghost use Rattle.dch_nodecmd.specs.Handlers.{Handler};
 
     ghost Value = { Handler N };
 
@@ -59,7 +62,8 @@ impl<N: CommandNode + Drop> NodeHandler<N> {
         requires cfn { first_cfn % 8 ≡ 0 }
         requires follows { IfSome later (CanFollow accepted) }
         ensures ready { IfOk result (IsReady N.rules N.is_opened N.has_next N.represents N.shows) }
-        ensures stands { IfOk result (RepresentsRun N.rules N.represents N.shows (opened_run N.rules accepted later first_cfn quiet)) }
+        ensures stands { IfOk result (RepresentsRun N.rules N.represents N.shows
+            (opened_run N.rules accepted later first_cfn quiet)) }
         ensures new { IfOk result (λ handler. (handler.accepted ≡ accepted) × (handler.later ≡ later) ×
             (handler.quiet ≡ quiet) × (handler.frames ≡ 0)) }
     {
@@ -70,6 +74,7 @@ impl<N: CommandNode + Drop> NodeHandler<N> {
             accepted,
             later,
             node,
+            rooms: Rooms::open(alloc)?,
             quiet,
             frames: 0,
         })
@@ -98,7 +103,8 @@ fn open_node<N: CommandNode>(
     requires follows { IfSome later.now (CanFollow accepted.now) }
     ensures opened { IfOk result (N.is_opened accepted.now) }
     ensures next { IfOk result (λ node. IfSome later.now (λ later. N.has_next accepted.now later.accepted node)) }
-    ensures stands { IfOk result (RepresentsHistory N.rules N.represents N.shows accepted.now accepted.now first_cfn [] []) }
+    ensures stands { IfOk result (RepresentsHistory N.rules N.represents N.shows accepted.now accepted.now first_cfn []
+        []) }
 {
     match later {
         Some(later) => N::open_both(alloc, accepted, &later.accepted, first_cfn),
@@ -110,7 +116,8 @@ impl<N: CommandNode> NodeHandler<N> {
     /// Makes the second configuration active, where that is due.
     fn change<P: Page>(&mut self, page: &mut P) -> Result<(), LineFault>
         requires { IsReady N.rules N.is_opened N.has_next N.represents N.shows self.old }
-        ensures ok { OnOk result (Leads (RepresentsRun N.rules N.represents N.shows) self.old self.new (λ run next. Adds P.writes (MakesChange N.rules run next) page.old page.new)) }
+        ensures ok { OnOk result (Leads (RepresentsRun N.rules N.represents N.shows) self.old self.new
+            (λ run next. Adds P.writes (MakesChange N.rules run next) page.old page.new)) }
         ensures err { IfErr result (λ fault. (fault ≡ Malformed When) ×
             ((later : Coming) → ¬ IsDue self.old.later self.old.frames later)) }
         ensures same { IfErr result (λ _. (self.new ≡ self.old) × (page.new ≡ page.old)) }
@@ -151,13 +158,17 @@ impl<N: CommandNode> LineHandler for NodeHandler<N> {
     ghost handled = { λ h. h.frames };
 
     fn handle_line<P: Page>(&mut self, line: &[u8], page: &mut P) -> Result<(), LineFault> {
-        match take(&self.accepted, line, self.quiet, &mut self.node, page) {
-            Ok(Taken::Event(frames)) => {
+        let event = match parse_in(N::command(), self.accepted.config(), line) {
+            Ok(event) => event,
+            Err(why) => return Err(LineFault::Malformed(why)),
+        };
+        let (accepted, rooms) = (&self.accepted, &mut self.rooms);
+        match take(accepted, event, self.quiet, rooms, &mut self.node, page) {
+            Taken::Event(frames) => {
                 self.frames += frames;
                 Ok(())
             }
-            Ok(Taken::Change) => self.change(page),
-            Err(why) => Err(LineFault::Malformed(why)),
+            Taken::Change => self.change(page),
         }
     }
 
@@ -171,19 +182,21 @@ impl<N: CommandNode> LineHandler for NodeHandler<N> {
     ghost stood = { ready_stands N.rules N.is_opened N.has_next N.represents N.shows };
 }
 
-/// Takes a line as an event, and writes what is shown of the lines of the step.
+/// Takes the event of a line, and writes what is shown of the lines of the step.
 fn take<N: CommandNode, P: Page>(
     accepted: &Accepted,
-    line: &[u8],
+    event: Event<'_>,
     quiet: bool,
+    rooms: &mut Rooms,
     node: &mut N,
     page: &mut P,
-) -> Result<Taken, LineError>
-    requires { N.is_opened accepted.now node.old }
-    ensures ok { IfOk result (TakesAs N.rules N.represents N.shows accepted.now line.now node.old node.new (ShowsLines P.writes quiet page.old page.new) (page.new ≡ page.old)) }
-    ensures at_most { IfOk result (λ taken. frames_of taken ≤ 1) }
-    ensures err { IfErr result (IsMalformed N.rules accepted.now.config line.now) }
-    ensures same { IfErr result (λ _. (node.new ≡ node.old) × (page.new ≡ page.old)) }
+) -> Taken
+    requires opened { N.is_opened accepted.now node.old }
+    requires good { IsGood N.rules.command accepted.now.config (parsed_of event) }
+    requires within { IsWithin (parsed_of event) }
+    ensures took { TakesAs N.rules N.represents N.shows accepted.now (parsed_of event.entry) node.old node.new
+        (ShowsLines P.writes quiet page.old page.new) (page.new ≡ page.old) result }
+    ensures at_most { frames_of result ≤ 1 }
     ensures opened { N.is_opened accepted.now node.new }
     ensures next { (second : Planned) → N.has_next accepted.now second node.old →
         N.has_next accepted.now second node.new }
@@ -193,7 +206,7 @@ fn take<N: CommandNode, P: Page>(
         lead: &[],
         page,
     };
-    node_filter::take(&mut filter, accepted, line, node)
+    node_filter::take(&mut filter, accepted, event, rooms, node)
 }
 
 /// Makes the second configuration active, and writes what is shown of the lines of the step.
@@ -204,7 +217,8 @@ fn make_change<N: CommandNode, P: Page>(
     page: &mut P,
 )
     requires { CanChange N.rules N.is_opened N.has_next N.represents accepted.now node.old }
-    ensures steps { Changes N.rules N.represents N.has_next N.shows accepted.now node.old node.new (ShowsLines P.writes quiet page.old page.new) }
+    ensures steps { Changes N.rules N.represents N.has_next N.shows accepted.now node.old node.new
+        (ShowsLines P.writes quiet page.old page.new) }
     ensures opened { N.is_opened accepted.now node.new }
 {
     let mut filter = Filter {

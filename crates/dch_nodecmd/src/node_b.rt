@@ -1,57 +1,26 @@
-ghost use Rattle.std.specs.Prelude.{◌≡◌, ◌≤◌, length, IfErr, IfOk, IfNone, IfSome};
-ghost use Rattle.dch_accept.specs.Plans.{Planned};
-ghost use Rattle.dch_node.specs.Standing.{Tells};
+ghost use Rattle.std.specs.Prelude.{◌≡◌, ◌≤◌, length, IfSome};
+ghost use Rattle.dch_script.specs.Good.{IsOfNodeB, IsWithin};
+ghost use Rattle.dch_script.specs.ParsedLine.{parsed_of};
 ghost use Rattle.dch_nodeb.specs.Opened.{HasNext, IsNodeOf};
-ghost use Rattle.dch_nodeb.specs.Standing.{Represents, Shows};
-ghost use Rattle.dch_lines.specs.declared.line_texts.TheConstants.{CELLS, OCTETS};
+ghost use Rattle.dch_nodeb.specs.Standing.{IsActiveBefore, IsReadyFor, KeepsNext, MayCome, Represents, Shows, event_of};
+ghost use Rattle.dch_lines.specs.declared.line_texts.TheConstants.{CELLS, OCTETS, UNIT_BITS};
 ghost use Rattle.dch_nodecmd.specs.NodeBLasting.{node_b_lasting};
-ghost use Rattle.dch_nodecmd.specs.NodeBReading.{IsCounted};
 ghost use Rattle.dch_nodecmd.specs.NodeBRules.{node_b_rules};
-ghost use Rattle.dch_nodecmd.specs.NodeRules.{IsMalformed};
-ghost use Rattle.dch_nodecmd.specs.Standing.{TakesAs, WasTold, frames_of as frames_taken};
+ghost use Rattle.dch_nodecmd.specs.Reading.{IsPlain, Reads};
 
 use crate::node::CommandNode;
-use crate::node_b_reading::{TFCI_BITS, read_line};
+use crate::radio::read_radio;
 use crate::taken::Taken;
 use dch_accept::Accepted;
 use dch_bits::{Bit, NoMemory, Trit};
 use dch_indication::Indications;
-use dch_lines::{CELLS, OCTETS};
+use dch_lines::read_octets;
 use dch_nodeb::{NodeB, NodeBEvent};
-use dch_script::LineError;
+use dch_script::{Command, Event as LineEvent};
+use dch_types::Dir;
 use std::alloc::Global;
-use std::marker::Model;
 
-/// The Node B of the command `nodeb`, which takes each line as an event, with room for the octets and cells of a line.
-#[derive(Drop)]
-pub struct NodeBLines {
-    node: NodeB,
-    octets: Vec<u8>,
-    cells: Vec<Trit>,
-}
-
-impl Model for NodeBLines {
-    ghost use Rattle.std.specs.Prelude.{◌≡◌, length};
-    ghost use Rattle.dch_nodeb.specs.Values.{Node};
-    ghost use Rattle.dch_lines.specs.declared.line_texts.TheConstants.{CELLS, OCTETS};
-
-    ghost Value = { Node };
-
-    ghost view = { λ l. l.node };
-
-    ghost invariant = { λ l. record { octets : length l.octets.items ≡ OCTETS; cells : length l.cells.items ≡ CELLS } };
-}
-
-impl NodeBLines {
-    /// The Node B, after the work.
-    pub fn into_node(self) -> NodeB
-        ensures { result ≡ self }
-    {
-        self.node
-    }
-}
-
-impl CommandNode for NodeBLines {
+impl CommandNode for NodeB {
     ghost use Rattle.dch_nodeb.specs.State.{Event, State};
 
     ghost State = { State };
@@ -68,14 +37,12 @@ impl CommandNode for NodeBLines {
 
     ghost shows = { Shows };
 
-    fn open(alloc: Global, accepted: &Accepted, first_cfn: u8) -> Result<NodeBLines, NoMemory> {
-        let (octets, cells) = open_rooms(alloc)?;
-        let node = NodeB::open(alloc, accepted, first_cfn)?;
-        Ok(NodeBLines {
-            node,
-            octets,
-            cells,
-        })
+    fn command() -> Command {
+        Command::NodeB
+    }
+
+    fn open(alloc: Global, accepted: &Accepted, first_cfn: u8) -> Result<NodeB, NoMemory> {
+        NodeB::open(alloc, accepted, first_cfn)
     }
 
     fn open_both(
@@ -83,34 +50,28 @@ impl CommandNode for NodeBLines {
         first: &Accepted,
         second: &Accepted,
         first_cfn: u8,
-    ) -> Result<NodeBLines, NoMemory> {
-        let (octets, cells) = open_rooms(alloc)?;
-        let node = NodeB::open_both(alloc, first, second, first_cfn)?;
-        Ok(NodeBLines {
-            node,
-            octets,
-            cells,
-        })
+    ) -> Result<NodeB, NoMemory> {
+        NodeB::open_both(alloc, first, second, first_cfn)
     }
 
-    fn take_line<U: Indications>(
+    fn take<U: Indications>(
         &mut self,
         accepted: &Accepted,
-        line: &[u8],
+        event: LineEvent<'_>,
+        octets: &mut [u8],
+        bits: &mut [Bit],
+        cells: &mut [Trit],
         user: &mut U,
-    ) -> Result<Taken, LineError> {
-        take(
-            accepted,
-            line,
-            &mut self.octets,
-            &mut self.cells,
-            &mut self.node,
-            user,
-        )
+    ) -> Taken {
+        let Some((event, frames)) = read(accepted, event, octets, bits, cells) else {
+            return Taken::Change;
+        };
+        self.step_with(accepted, event, user);
+        Taken::Event(frames)
     }
 
     fn change<U: Indications>(&mut self, accepted: &Accepted, user: &mut U) {
-        self.node.step_with(accepted, NodeBEvent::Change, user);
+        self.step_with(accepted, NodeBEvent::Change, user);
     }
 
     ghost active = { λ planned state node stands. stands.active };
@@ -118,58 +79,40 @@ impl CommandNode for NodeBLines {
     ghost lasting = { node_b_lasting };
 }
 
-/// Room for the octets of the longest line, and for its cells.
-fn open_rooms(alloc: Global) -> Result<(Vec<u8>, Vec<Trit>), NoMemory>
-    ensures octets { IfOk result (λ rooms. length rooms.0.items ≡ OCTETS) }
-    ensures cells { IfOk result (λ rooms. length rooms.1.items ≡ CELLS) }
-{
-    let octets = vec![in alloc; 0; OCTETS]?;
-    let cells = vec![in alloc; Trit::Off; CELLS]?;
-    Ok((octets, cells))
-}
-
-/// Takes a line as an event. `octets` and `cells` are room for its texts.
-fn take<U: Indications>(
+/// What the event of a line is to the Node B, and how many radio frames of 10 ms it stands for. None for a change.
+fn read<'a>(
     accepted: &Accepted,
-    line: &[u8],
-    octets: &mut [u8],
-    cells: &mut [Trit],
-    node: &mut NodeB,
-    user: &mut U,
-) -> Result<Taken, LineError>
+    event: LineEvent<'_>,
+    octets: &'a mut [u8],
+    bits: &'a mut [Bit],
+    cells: &'a mut [Trit],
+) -> Option<(NodeBEvent<'a>, u64)>
+    requires good { IsOfNodeB accepted.now.config (parsed_of event) }
+    requires within { IsWithin (parsed_of event) }
     requires octets { length octets.old ≡ OCTETS }
+    requires bits { length bits.old ≡ UNIT_BITS }
     requires cells { length cells.old ≡ CELLS }
-    requires opened { IsNodeOf accepted.now node.old }
-    ensures ok { IfOk result (TakesAs node_b_rules Represents Shows accepted.now line.now node.old node.new (Tells U.shows user.old user.new) (user.new ≡ user.old)) }
-    ensures at_most { IfOk result (λ taken. frames_taken taken ≤ 1) }
-    ensures err { IfErr result (IsMalformed node_b_rules accepted.now.config line.now) }
-    ensures same { IfErr result (λ _. (node.new ≡ node.old) × (user.new ≡ user.old)) }
-    ensures opened { IsNodeOf accepted.now node.new }
-    ensures next { (second : Planned) → HasNext accepted.now second node.old → HasNext accepted.now second node.new }
-    ensures told { WasTold U.shows user.old user.new }
-{
-    let mut tfci = [Bit::Zero; TFCI_BITS];
-    match read_line(accepted, line, octets, &mut tfci, cells) {
-        Ok(event) => match frames_of(event) {
-            Some(frames) => {
-                node.step_with(accepted, event, user);
-                Ok(Taken::Event(frames))
-            }
-            None => Ok(Taken::Change),
-        },
-        Err(why) => Err(why),
-    }
-}
-
-/// How many radio frames of 10 ms an event stands for. None for a change.
-fn frames_of(event: NodeBEvent<'_>) -> Option<u64>
-    ensures some { IfSome result (IsCounted event.entry) }
-    ensures few { IfSome result (λ count. count ≤ 1) }
-    ensures none { IfNone result (event.entry ≡ NodeBEvent.Change) }
+    ensures says { Reads node_b_rules (event_of accepted.now) accepted.now.config (parsed_of event.entry) result }
+    ensures few { IfSome result (λ read. read.1 ≤ 1) }
+    ensures comes { IfSome result (λ read. MayCome accepted.now read.0) }
+    ensures plain { IfSome result (λ read. IsPlain (IsNodeOf accepted.now) (IsReadyFor accepted.now read.0)
+        (IsActiveBefore accepted.now read.0 accepted.now) (KeepsNext accepted.now read.0) (HasNext accepted.now)) }
 {
     match event {
-        NodeBEvent::Iub { .. } | NodeBEvent::Down => Some(0),
-        NodeBEvent::Phy { .. } => Some(1),
-        NodeBEvent::Change => None,
+        LineEvent::Iub { set, hex } => {
+            let frame = read_octets(hex, octets);
+            Some((NodeBEvent::Iub { set, frame }, 0))
+        }
+        LineEvent::Down => Some((NodeBEvent::Down, 0)),
+        LineEvent::Phy {
+            tfci,
+            cells: letters,
+        } => {
+            let frame = read_radio(accepted, Dir::Up, tfci, letters, bits, cells);
+            Some((NodeBEvent::Phy { frame: Some(frame) }, 1))
+        }
+        LineEvent::PhyNone => Some((NodeBEvent::Phy { frame: None }, 1)),
+        LineEvent::Change => None,
+        _ => unreachable!(),
     }
 }

@@ -1,57 +1,26 @@
-ghost use Rattle.std.specs.Prelude.{◌≡◌, ◌≤◌, length, IfErr, IfOk, IfNone, IfSome};
-ghost use Rattle.dch_accept.specs.Plans.{Planned};
-ghost use Rattle.dch_node.specs.Standing.{Tells};
+ghost use Rattle.std.specs.Prelude.{◌≡◌, ◌≤◌, length, IfSome};
+ghost use Rattle.dch_script.specs.Good.{IsOfUe, IsWithin};
+ghost use Rattle.dch_script.specs.ParsedLine.{parsed_of};
 ghost use Rattle.dch_ue.specs.Opened.{HasNext, IsNodeOf};
-ghost use Rattle.dch_ue.specs.Standing.{Represents, Shows};
-ghost use Rattle.dch_lines.specs.declared.line_texts.TheConstants.{CELLS, OCTETS};
+ghost use Rattle.dch_ue.specs.Standing.{IsActiveBefore, IsReadyFor, KeepsNext, MayCome, Represents, Shows, event_of};
+ghost use Rattle.dch_lines.specs.declared.line_texts.TheConstants.{CELLS, OCTETS, UNIT_BITS};
 ghost use Rattle.dch_nodecmd.specs.UeLasting.{ue_lasting};
-ghost use Rattle.dch_nodecmd.specs.UeReading.{IsCounted};
 ghost use Rattle.dch_nodecmd.specs.UeRules.{ue_rules};
-ghost use Rattle.dch_nodecmd.specs.NodeRules.{IsMalformed};
-ghost use Rattle.dch_nodecmd.specs.Standing.{TakesAs, WasTold, frames_of as frames_taken};
+ghost use Rattle.dch_nodecmd.specs.Reading.{IsPlain, Reads};
 
 use crate::node::CommandNode;
+use crate::radio::read_radio;
 use crate::taken::Taken;
-use crate::ue_reading::read_line;
 use dch_accept::Accepted;
 use dch_bits::{Bit, NoMemory, Trit};
 use dch_indication::Indications;
-use dch_lines::{CELLS, OCTETS, UNIT_BITS};
-use dch_script::LineError;
+use dch_lines::read_unit;
+use dch_script::{Command, Event as LineEvent};
+use dch_types::Dir;
 use dch_ue::{Ue, UeEvent};
 use std::alloc::Global;
-use std::marker::Model;
 
-/// The terminal of the command `ue`, which takes each line as an event, with room for the octets and cells of a line.
-#[derive(Drop)]
-pub struct UeLines {
-    node: Ue,
-    octets: Vec<u8>,
-    cells: Vec<Trit>,
-}
-
-impl Model for UeLines {
-    ghost use Rattle.std.specs.Prelude.{◌≡◌, length};
-    ghost use Rattle.dch_ue.specs.Values.{Node};
-    ghost use Rattle.dch_lines.specs.declared.line_texts.TheConstants.{CELLS, OCTETS};
-
-    ghost Value = { Node };
-
-    ghost view = { λ l. l.node };
-
-    ghost invariant = { λ l. record { octets : length l.octets.items ≡ OCTETS; cells : length l.cells.items ≡ CELLS } };
-}
-
-impl UeLines {
-    /// The terminal, after the work.
-    pub fn into_node(self) -> Ue
-        ensures { result ≡ self }
-    {
-        self.node
-    }
-}
-
-impl CommandNode for UeLines {
+impl CommandNode for Ue {
     ghost use Rattle.dch_ue.specs.State.{Event, State};
 
     ghost State = { State };
@@ -68,14 +37,12 @@ impl CommandNode for UeLines {
 
     ghost shows = { Shows };
 
-    fn open(alloc: Global, accepted: &Accepted, first_cfn: u8) -> Result<UeLines, NoMemory> {
-        let (octets, cells) = open_rooms(alloc)?;
-        let node = Ue::open(alloc, accepted, first_cfn)?;
-        Ok(UeLines {
-            node,
-            octets,
-            cells,
-        })
+    fn command() -> Command {
+        Command::Ue
+    }
+
+    fn open(alloc: Global, accepted: &Accepted, first_cfn: u8) -> Result<Ue, NoMemory> {
+        Ue::open(alloc, accepted, first_cfn)
     }
 
     fn open_both(
@@ -83,34 +50,28 @@ impl CommandNode for UeLines {
         first: &Accepted,
         second: &Accepted,
         first_cfn: u8,
-    ) -> Result<UeLines, NoMemory> {
-        let (octets, cells) = open_rooms(alloc)?;
-        let node = Ue::open_both(alloc, first, second, first_cfn)?;
-        Ok(UeLines {
-            node,
-            octets,
-            cells,
-        })
+    ) -> Result<Ue, NoMemory> {
+        Ue::open_both(alloc, first, second, first_cfn)
     }
 
-    fn take_line<U: Indications>(
+    fn take<U: Indications>(
         &mut self,
         accepted: &Accepted,
-        line: &[u8],
+        event: LineEvent<'_>,
+        octets: &mut [u8],
+        bits: &mut [Bit],
+        cells: &mut [Trit],
         user: &mut U,
-    ) -> Result<Taken, LineError> {
-        take(
-            accepted,
-            line,
-            &mut self.octets,
-            &mut self.cells,
-            &mut self.node,
-            user,
-        )
+    ) -> Taken {
+        let Some((event, frames)) = read(accepted, event, octets, bits, cells) else {
+            return Taken::Change;
+        };
+        self.step_with(accepted, event, user);
+        Taken::Event(frames)
     }
 
     fn change<U: Indications>(&mut self, accepted: &Accepted, user: &mut U) {
-        self.node.step_with(accepted, UeEvent::Change, user);
+        self.step_with(accepted, UeEvent::Change, user);
     }
 
     ghost active = { λ planned state node stands. stands.at.active };
@@ -118,58 +79,59 @@ impl CommandNode for UeLines {
     ghost lasting = { ue_lasting };
 }
 
-/// Room for the octets of the longest line, and for its cells.
-fn open_rooms(alloc: Global) -> Result<(Vec<u8>, Vec<Trit>), NoMemory>
-    ensures octets { IfOk result (λ rooms. length rooms.0.items ≡ OCTETS) }
-    ensures cells { IfOk result (λ rooms. length rooms.1.items ≡ CELLS) }
-{
-    let octets = vec![in alloc; 0; OCTETS]?;
-    let cells = vec![in alloc; Trit::Off; CELLS]?;
-    Ok((octets, cells))
-}
-
-/// Takes a line as an event. `octets` and `cells` are room for its texts.
-fn take<U: Indications>(
+/// What the event of a line is to the terminal, and how many radio frames of 10 ms it stands for. None for a change.
+fn read<'a>(
     accepted: &Accepted,
-    line: &[u8],
-    octets: &mut [u8],
-    cells: &mut [Trit],
-    node: &mut Ue,
-    user: &mut U,
-) -> Result<Taken, LineError>
+    event: LineEvent<'_>,
+    octets: &'a mut [u8],
+    bits: &'a mut [Bit],
+    cells: &'a mut [Trit],
+) -> Option<(UeEvent<'a>, u64)>
+    requires good { IsOfUe accepted.now.config (parsed_of event) }
+    requires within { IsWithin (parsed_of event) }
     requires octets { length octets.old ≡ OCTETS }
+    requires bits { length bits.old ≡ UNIT_BITS }
     requires cells { length cells.old ≡ CELLS }
-    requires opened { IsNodeOf accepted.now node.old }
-    ensures ok { IfOk result (TakesAs ue_rules Represents Shows accepted.now line.now node.old node.new (Tells U.shows user.old user.new) (user.new ≡ user.old)) }
-    ensures at_most { IfOk result (λ taken. frames_taken taken ≤ 1) }
-    ensures err { IfErr result (IsMalformed ue_rules accepted.now.config line.now) }
-    ensures same { IfErr result (λ _. (node.new ≡ node.old) × (user.new ≡ user.old)) }
-    ensures opened { IsNodeOf accepted.now node.new }
-    ensures next { (second : Planned) → HasNext accepted.now second node.old → HasNext accepted.now second node.new }
-    ensures told { WasTold U.shows user.old user.new }
-{
-    let mut bits = [Bit::Zero; UNIT_BITS];
-    match read_line(accepted, line, octets, &mut bits, cells) {
-        Ok(event) => match frames_of(event) {
-            Some(frames) => {
-                node.step_with(accepted, event, user);
-                Ok(Taken::Event(frames))
-            }
-            None => Ok(Taken::Change),
-        },
-        Err(why) => Err(why),
-    }
-}
-
-/// How many radio frames of 10 ms an event stands for. None for a change.
-fn frames_of(event: UeEvent<'_>) -> Option<u64>
-    ensures some { IfSome result (IsCounted event.entry) }
-    ensures few { IfSome result (λ count. count ≤ 1) }
-    ensures none { IfNone result (event.entry ≡ UeEvent.Change) }
+    ensures says { Reads ue_rules (event_of accepted.now) accepted.now.config (parsed_of event.entry) result }
+    ensures few { IfSome result (λ read. read.1 ≤ 1) }
+    ensures comes { IfSome result (λ read. MayCome accepted.now read.0) }
+    ensures plain { IfSome result (λ read. IsPlain (IsNodeOf accepted.now) (IsReadyFor accepted.now read.0)
+        (IsActiveBefore accepted.now read.0 accepted.now) (KeepsNext accepted.now read.0) (HasNext accepted.now)) }
 {
     match event {
-        UeEvent::Unit { .. } | UeEvent::Block { .. } | UeEvent::Phy { .. } => Some(0),
-        UeEvent::Tick => Some(1),
-        UeEvent::Change => None,
+        LineEvent::Unit { bearer, text, .. } => {
+            let (octets, bits) = read_unit(accepted.config(), bearer, text, octets, bits);
+            let unit = UeEvent::Unit {
+                bearer,
+                octets,
+                bits,
+            };
+            Some((unit, 0))
+        }
+        LineEvent::Block { combination, .. } => {
+            let block = UeEvent::Block {
+                combination,
+                on: true,
+            };
+            Some((block, 0))
+        }
+        LineEvent::Free { combination, .. } => {
+            let free = UeEvent::Block {
+                combination,
+                on: false,
+            };
+            Some((free, 0))
+        }
+        LineEvent::Phy {
+            tfci,
+            cells: letters,
+        } => {
+            let frame = read_radio(accepted, Dir::Down, tfci, letters, bits, cells);
+            Some((UeEvent::Phy { frame: Some(frame) }, 0))
+        }
+        LineEvent::PhyNone => Some((UeEvent::Phy { frame: None }, 0)),
+        LineEvent::Tick => Some((UeEvent::Tick, 1)),
+        LineEvent::Change => None,
+        _ => unreachable!(),
     }
 }

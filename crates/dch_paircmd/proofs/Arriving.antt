@@ -13,7 +13,7 @@ use Rattle.dch_reset.specs.State.{State}
 use Rattle.dch_reset.specs.declared.answers.Got.{Got}
 use Rattle.dch_paircmd.specs.Ends.{PairEnd}
 use Rattle.dch_paircmd.specs.Rules.{arrives_from}
-use Rattle.dch_paircmd.specs.Standing.{Arrives, IsSide, IsTold, SideValue}
+use Rattle.dch_paircmd.specs.Handlers.{Arrives, IsSide, IsTold, SideValue}
 use Rattle.dch_paircmd.specs.Texts.{got_text, unit_text, units_text}
 
 -- more than 1,501 octets of a unit aren't wanted

@@ -12,7 +12,7 @@ use Rattle.dch_lines.specs.Semantics.{Adds, Does, IsFault, Leads}
 use Rattle.dch_lines.specs.declared.stop.LineFault.{LineFault}
 use Rattle.dch_paircmd.specs.Ends.{Ends, opened_ends}
 use Rattle.dch_paircmd.specs.Rules.{RefusesLine, TakesLine, end_in, in_place, pair_lines, pair_meaning_at}
-use Rattle.dch_paircmd.specs.Standing.{Answers, AnswersEvent, AreEnds, AreSides, EndsValue, LeadsOn, LeadsTo, RepresentsRun, SideValue}
+use Rattle.dch_paircmd.specs.Handlers.{Answers, AnswersEvent, AreEnds, AreSides, EndsValue, LeadsOn, LeadsTo, RepresentsRun, SideValue}
 
 -- what happens at the end `a`
 pub first_sides : (v : EndsValue) (e : Ends) → AreEnds v e → AreSides e.rules v.first v.second (record { near = e.first; far = e.second })

@@ -12,7 +12,7 @@ use Rattle.dch_script.specs.Pair.{ParsedPair, arrive, build, lose, offer, reset,
 use Rattle.dch_lines.specs.Texts.{octets_of}
 use Rattle.dch_paircmd.specs.Ends.{Sides}
 use Rattle.dch_paircmd.specs.Rules.{Happened, HappensAs, arrives_at, builds, is_early, may_build, offers, steps_to, told_near, with_coming}
-use Rattle.dch_paircmd.specs.Standing.{Answers, AreSides, Arrives, IsSide, LeadsTo, SideValue}
+use Rattle.dch_paircmd.specs.Handlers.{Answers, AreSides, Arrives, IsSide, LeadsTo, SideValue}
 use Rattle.dch_paircmd.specs.Texts.{octets_text, offer_text}
 
 -- nothing is told of an event

@@ -2,5 +2,5 @@ pub mod Ends
 pub mod Overlong
 pub mod Queues
 pub mod Rules
-pub mod Standing
+pub mod Handlers
 pub mod Texts

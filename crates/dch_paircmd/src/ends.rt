@@ -2,7 +2,7 @@ ghost use Rattle.std.specs.Prelude.{◌≡◌, ◌≤◌, IfErr, IfOk};
 ghost use Rattle.dch_script.specs.Pair.{pair_of};
 ghost use Rattle.dch_paircmd.specs.Ends.{Ends, opened_ends};
 ghost use Rattle.dch_paircmd.specs.Rules.{end_in};
-ghost use Rattle.dch_paircmd.specs.Standing.{AnswersEvent, AreEnds, IsEvent};
+ghost use Rattle.dch_paircmd.specs.Handlers.{AnswersEvent, AreEnds, IsEvent};
 
 use crate::events::{Rooms, happen};
 use crate::side::Side;
@@ -21,7 +21,7 @@ pub struct PairEnds {
 }
 
 impl Model for PairEnds {
-    ghost use Rattle.dch_paircmd.specs.Standing.{EndsValue, Match};
+    ghost use Rattle.dch_paircmd.specs.Handlers.{EndsValue, Match};
 
     ghost Value = { EndsValue };
 

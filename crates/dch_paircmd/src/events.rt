@@ -5,7 +5,7 @@ ghost use Rattle.dch_script.specs.declared.event.LineError.TheVariants.{When};
 ghost use Rattle.dch_script.specs.Texts.{is_unit};
 ghost use Rattle.dch_types.specs.declared.bearer.Mode.TheVariants.{Am};
 ghost use Rattle.dch_paircmd.specs.Ends.{Sides};
-ghost use Rattle.dch_paircmd.specs.Standing.{Answers, AreSides, IsEvent, LeadsTo, Match, SideValue, StaysSide};
+ghost use Rattle.dch_paircmd.specs.Handlers.{Answers, AreSides, IsEvent, LeadsTo, Match, SideValue, StaysSide};
 
 use crate::queue::{MOST_OCTETS, MOST_PDUS};
 use crate::side::Side;

@@ -4,7 +4,7 @@ ghost use Rattle.dch_lines.specs.Semantics.{Adds, IsFault, Leads};
 ghost use Rattle.dch_paircmd.specs.Ends.{Ends};
 ghost use Rattle.dch_paircmd.specs.Overlong.{pair_refuses_long};
 ghost use Rattle.dch_paircmd.specs.Rules.{pair_lines, pair_meaning_at};
-ghost use Rattle.dch_paircmd.specs.Standing.{AreEnds, AreKnown, IsReady, RepresentsRun, ready_stands};
+ghost use Rattle.dch_paircmd.specs.Handlers.{AreEnds, AreKnown, IsReady, RepresentsRun, ready_stands};
 
 use crate::ends::PairEnds;
 use crate::events::Rooms;
@@ -35,7 +35,7 @@ impl Drop for PairHandler {
 
 impl Model for PairHandler {
     ghost use Rattle.std.specs.Prelude.{Option};
-    ghost use Rattle.dch_paircmd.specs.Standing.{EndsValue};
+    ghost use Rattle.dch_paircmd.specs.Handlers.{EndsValue};
 
     ghost Value = { Option EndsValue };
 

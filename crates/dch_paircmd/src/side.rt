@@ -5,7 +5,7 @@ ghost use Rattle.dch_reset.specs.History.{handed_up};
 ghost use Rattle.dch_reset.specs.Standing.{AreSizes, Represents, is_due, is_settled, size_in, waiting_in};
 ghost use Rattle.dch_reset.specs.State.{Build, IsWritten, Offer as Offers, Reset, State, Tick, step, turn, writes};
 ghost use Rattle.dch_paircmd.specs.Ends.{PairEnd, opened_end};
-ghost use Rattle.dch_paircmd.specs.Standing.{Arrives, IsSide, StaysSide};
+ghost use Rattle.dch_paircmd.specs.Handlers.{Arrives, IsSide, StaysSide};
 ghost use Rattle.dch_paircmd.specs.Texts.{units_text};
 
 use crate::queue::PduQueue;
@@ -26,7 +26,7 @@ pub struct Side {
 }
 
 impl Model for Side {
-    ghost use Rattle.dch_paircmd.specs.Standing.{IsKept, SideValue};
+    ghost use Rattle.dch_paircmd.specs.Handlers.{IsKept, SideValue};
 
     ghost Value = { SideValue };
 

@@ -35,20 +35,25 @@ calls_in config out into b old (Blocks combination on) new = []
 calls_in config out into b old Ticks new = Tick ∷ []
 calls_in config out into b old (Takes channel came) new = for_each Arrive (filter (is_mine config into b channel)
     (good_blocks came))
-calls_in config out into b old (Starts cfn) new = for_each Build (own_blocks config out b (given_by config out old (Starts cfn) new))
+calls_in config out into b old (Starts cfn) new = for_each Build
+    (own_blocks config out b (given_by config out old (Starts cfn) new))
 calls_in config out into b old (Says lines) new = []
 
 -- where it does one thing after another
 abbrev pub calls_in_all : (config : Config) (out into : Dir) (b : ℕ) (old : World) (doings : List Doing) (new : World)
     → DoesAll config out into old doings new → List Event
 calls_in_all config out into b old [] new does = []
-calls_in_all config out into b old (doing ∷ doings) new does = calls_in config out into b old.near.layer doing does.next.near.layer ++ calls_in_all config out into b does.next doings new does.later
+calls_in_all config out into b old (doing ∷ doings) new does =
+    calls_in config out into b old.near.layer doing does.next.near.layer ++
+    calls_in_all config out into b does.next doings new does.later
 
 -- in an event of one of the two ends
 abbrev pub calls_at : (config : Config) (out into : Dir) (b : ℕ) (old : World) (event : OneEvent) (new : World)
     → Happens config out into old event new → List At
-calls_at config out into b old (Near doings) new happens = map NearCall (calls_in_all config out into b old doings new happens)
-calls_at config out into b old (Far doings) new happens = map FarCall (calls_in_all config into out b (turned old) doings (turned new) happens)
+calls_at config out into b old (Near doings) new happens =
+    map NearCall (calls_in_all config out into b old doings new happens)
+calls_at config out into b old (Far doings) new happens =
+    map FarCall (calls_in_all config into out b (turned old) doings (turned new) happens)
 
 -- the calls that the two ends of bearer b get in a run of two layers 2, in order
 abbrev pub run_calls : (config : Config) (out into : Dir) (b : ℕ) (Holds : World → Type 0) (old : World)

@@ -36,7 +36,8 @@ iub_arriving old new lines f set = iub_after old.damage Up set (f.up_output.iub 
 -- in a radio frame, up to a set: the network controller ticks, the terminal gets what arrives and ticks, and Iub frames
 -- arrive
 abbrev pub until_set : (old new : LinkState) → (lines : List Line) → IsFrame old new lines → ℕ → List NodesEvent
-until_set old new lines f s = AtRnc RncTicks ∷ AtUe (DownlinkFrame (radio_after old.damage Down f.down_output.sent)) ∷ AtUe UeTicks ∷ arrived_below (iub_arriving old new lines f) s
+until_set old new lines f s = AtRnc RncTicks ∷ AtUe (DownlinkFrame (radio_after old.damage Down f.down_output.sent))
+    ∷ AtUe UeTicks ∷ arrived_below (iub_arriving old new lines f) s
 
 abbrev pub in_step : (event : Event) → (old new : LinkState) → (lines : List Line) → Steps old event new lines
     → List NodesEvent

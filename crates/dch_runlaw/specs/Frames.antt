@@ -52,7 +52,8 @@ lines_below taken zero = []
 lines_below taken (suc s) = lines_below taken s ++ (taken s).lines
 
 -- it takes an Iub frame of a set, and what it took is compared with what the terminal gave
-pub record IsTaken (planned : Planned) (set : ℕ) (octets : List ℕ) (near : Layer) (old new : RncState) (taken : Taken) (lines : List Line) : Type 0 where
+pub record IsTaken (planned : Planned) (set : ℕ) (octets : List ℕ) (near : Layer) (old new : RncState) (taken : Taken)
+    (lines : List Line) : Type 0 where
   pub output : Output
   pub step : RncSteps old (IubFrameUp set octets) new output
   pub is : taken ≡ record { lines = output.lines; readings = new.readings }
@@ -91,7 +92,8 @@ pub record IsFrame (old new : LinkState) (lines : List Line) : Type 0 where
   pub taken : ℕ → Taken
   pub rnc_lines : ℕ → List Line
   pub rnc_first : rncs 0 ≡ rnc
-  pub takes : (s : ℕ) → s < 8 → MayBeTaken old.rnc.state.planned s (iub_after old.damage Up s (up_output.iub s)) new.ue.state.layer (rncs s) (rncs (s + 1)) (taken s) (rnc_lines s)
+  pub takes : (s : ℕ) → s < 8 → MayBeTaken old.rnc.state.planned s (iub_after old.damage Up s (up_output.iub s))
+      new.ue.state.layer (rncs s) (rncs (s + 1)) (taken s) (rnc_lines s)
   pub rnc_last : new.rnc.state ≡ rncs 8
   pub ue_reported : new.ue.lines ≡ old.ue.lines ++ (kept_output.lines ++ ue_output.lines)
   pub rnc_reported : new.rnc.lines ≡ old.rnc.lines ++ (rnc_output.lines ++ lines_below taken 8)

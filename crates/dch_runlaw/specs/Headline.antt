@@ -34,17 +34,20 @@ IsSilentOn dir i text = ¬ Contains (rows text) (false_words dir i)
 -- given; and the rows of the text hand up just the units of each bearer of whose channels no row says that a block was
 -- taken as good that was not given. That is asked of both channels of an acknowledged bearer, and of the one channel of
 -- any other bearer's direction
-pub record CarriesFirst (planned : Planned) (first : ℕ) (events : List Event) (link : LinkState) (reported : List Line) (run : Runs (opened_link planned first) events link reported) (text : List ℕ) : Type 0 where
+pub record CarriesFirst (planned : Planned) (first : ℕ) (events : List Event) (link : LinkState) (reported : List Line)
+    (run : Runs (opened_link planned first) events link reported) (text : List ℕ) : Type 0 where
   pub received_down : ReceivesDown planned (opened_link planned first)
   pub received_up : ReceivesUp planned (opened_link planned first)
   pub undamaged : IsClear events (opened_link planned first) link reported run
       → CarriesAll (Alone planned first (end_events events (opened_link planned first) link reported run)) link reported
   pub acknowledged : (b up down : ℕ) → IsAcknowledged planned b up down → IsSilentOn Up up text
-      → IsSilentOn Down down text → HandsUp planned first b (end_events events (opened_link planned first) link reported run) link text
+      → IsSilentOn Down down text → HandsUp planned first b
+      (end_events events (opened_link planned first) link reported run) link text
   pub unacknowledged_up : (b up : ℕ) → IsUnacknowledged planned Up b up → IsSilentOn Up up text
       → HandsUpKnownUp planned first b up (end_events events (opened_link planned first) link reported run) link text
   pub unacknowledged_down : (b down : ℕ) → IsUnacknowledged planned Down b down → IsSilentOn Down down text
-      → HandsUpKnownDown planned first b down (end_events events (opened_link planned first) link reported run) link text
+      → HandsUpKnownDown planned first b down (end_events events (opened_link planned first) link reported run)
+      link text
   pub transparent_up : (b up : ℕ) → IsTransparent planned Up b up → IsSilentOn Up up text
       → HandsUpSomeUp planned first b up (end_events events (opened_link planned first) link reported run) link text
   pub transparent_down : (b down : ℕ) → IsTransparent planned Down b down → IsSilentOn Down down text
@@ -57,7 +60,8 @@ pub record CarriesFirst (planned : Planned) (first : ℕ) (events : List Event) 
 -- the second part whose radio frames all arrive is read as it was given; and the rows hand up just the units of each
 -- bearer of whose channels in a part no row of that part's text says that a block was taken as good that was not given.
 -- Blocks of the first part that did not come are lost
-pub record CarriesSecond (planned second : Planned) (first : ℕ) (before : List Event) (early : List Line) (start : LinkState) (over : GoesOver planned second first before early start)
+pub record CarriesSecond (planned second : Planned) (first : ℕ) (before : List Event) (early : List Line)
+    (start : LinkState) (over : GoesOver planned second first before early start)
     (after : List Event) (link : LinkState) (late : List Line) (run : Runs start after link late)
     (one two : List ℕ) : Type 0 where
   pub received_down : ReceivesDown second start
@@ -73,21 +77,30 @@ pub record CarriesSecond (planned second : Planned) (first : ℕ) (before : List
       (end_events after start link late run) over.last link (one ++ two)
   pub unacknowledged_up : (b up up_later : ℕ) → IsUnacknowledged planned Up b up → IsUnacknowledged second Up b up_later
       → IsSilentOn Up up one → IsSilentOn Up up_later two
-      → HandsUpKnownUpOver planned second first b up up_later (end_events before (opened_link planned first) over.last early over.run) (end_events after start link late run) over.last link (one ++ two)
+      → HandsUpKnownUpOver planned second first b up up_later
+      (end_events before (opened_link planned first) over.last early over.run)
+      (end_events after start link late run) over.last link (one ++ two)
   pub unacknowledged_down : (b down down_later : ℕ) → IsUnacknowledged planned Down b down
       → IsUnacknowledged second Down b down_later
       → IsSilentOn Down down one → IsSilentOn Down down_later two
-      → HandsUpKnownDownOver planned second first b down down_later (end_events before (opened_link planned first) over.last early over.run) (end_events after start link late run) over.last link (one ++ two)
+      → HandsUpKnownDownOver planned second first b down down_later
+      (end_events before (opened_link planned first) over.last early over.run)
+      (end_events after start link late run) over.last link (one ++ two)
   pub transparent_up : (b up up_later : ℕ) → IsTransparent planned Up b up → IsTransparent second Up b up_later
       → IsSilentOn Up up one → IsSilentOn Up up_later two
-      → HandsUpSomeUpOver planned second first b up up_later (end_events before (opened_link planned first) over.last early over.run) (end_events after start link late run) over.last link (one ++ two)
+      → HandsUpSomeUpOver planned second first b up up_later
+      (end_events before (opened_link planned first) over.last early over.run)
+      (end_events after start link late run) over.last link (one ++ two)
   pub transparent_down : (b down down_later : ℕ) → IsTransparent planned Down b down
       → IsTransparent second Down b down_later
       → IsSilentOn Down down one → IsSilentOn Down down_later two
-      → HandsUpSomeDownOver planned second first b down down_later (end_events before (opened_link planned first) over.last early over.run) (end_events after start link late run) over.last link (one ++ two)
+      → HandsUpSomeDownOver planned second first b down down_later
+      (end_events before (opened_link planned first) over.last early over.run)
+      (end_events after start link late run) over.last link (one ++ two)
 
 -- events lead three nodes that were opened for a configuration through a run of one part, whose lines have this text
-pub record CarriesAlone (planned : Planned) (first : ℕ) (quiet : Bool) (events : List Event) (text : List ℕ) : Type 0 where
+pub record CarriesAlone (planned : Planned) (first : ℕ) (quiet : Bool) (events : List Event)
+    (text : List ℕ) : Type 0 where
   pub link : LinkState
   pub reported : List Line
   pub run : Runs (opened_link planned first) events link reported
@@ -96,7 +109,8 @@ pub record CarriesAlone (planned : Planned) (first : ℕ) (quiet : Bool) (events
 
 -- events lead three nodes through a run of two parts, and the text is that of both: the second configuration becomes
 -- active just before a radio frame
-pub record CarriesBoth (planned : Planned) (later : Later) (first : ℕ) (quiet : Bool) (events : List Event) (text : List ℕ) : Type 0 where
+pub record CarriesBoth (planned : Planned) (later : Later) (first : ℕ) (quiet : Bool) (events : List Event)
+    (text : List ℕ) : Type 0 where
   pub before : List Event
   pub after : List Event
   pub all : events ≡ before ++ (Frame ∷ after)
@@ -113,7 +127,8 @@ pub record CarriesBoth (planned : Planned) (later : Later) (first : ℕ) (quiet 
   pub two_shows : two ≡ shown quiet (text_of late)
   pub shows : text ≡ one ++ two
   pub first_part : CarriesFirst planned first before over.last early over.run one
-  pub both_parts : CarriesSecond planned later.accepted first before early start over (Frame ∷ after) link late run one two
+  pub both_parts : CarriesSecond planned later.accepted first before early start over (Frame ∷ after)
+      link late run one two
 
 -- where a second configuration is to come, its radio frame may have passed
 abbrev pub MayCarryBoth : Planned → Option Later → ℕ → Bool → List Event → List ℕ → Type 0
@@ -123,7 +138,8 @@ MayCarryBoth planned (Some later) first quiet events text = ((frames_in events �
 
 -- each line of a script is read in the configuration that is active before it; the lines say events that lead three
 -- nodes through a run of one part or of two, and the run carries the SDUs of the bearers
-pub record Carries (planned : Planned) (second : Option Later) (first : ℕ) (quiet : Bool) (script : List (List ℕ)) (text : List ℕ) : Type 0 where
+pub record Carries (planned : Planned) (second : Option Later) (first : ℕ) (quiet : Bool) (script : List (List ℕ))
+    (text : List ℕ) : Type 0 where
   pub events : List Event
   pub said : AreSaid (active_behind planned.config (coming second)) 0 script events
   pub parts : MayCarryBoth planned second first quiet events text

@@ -8,7 +8,8 @@ use Rattle.dch_linkcmd.specs.LinkLink.{LinkState}
 use Rattle.dch_runlaw.specs.Runs.{Event, Runs}
 use Rattle.dch_runlaw.specs.Intervals.{ArrivesDown, ArrivesUp, DownAsGiven, Tti, UpAsGiven}
 
--- where all radio frames of a downlink channel's TTI arrive as the Node B sent them, or with little damage, the terminal
+-- where all radio frames of a downlink channel's TTI arrive as the Node B sent them, or with little damage, the
+-- terminal
 -- finds their combinations and reads just the blocks that it sent, all good: in every run from the beginning of a part
 -- on
 abbrev pub ReceivesDown : Planned → LinkState → Type 0
@@ -19,7 +20,8 @@ ReceivesDown planned start =
     → ArrivesDown planned i (channel_at planned.config.downlink.side i).frames mid new t
     → DownAsGiven planned i (channel_at planned.config.downlink.side i).frames mid new t
 
--- where all radio frames of the TTI of a set of uplink channels arrive as the terminal sent them, or with little damage,
+-- where all radio frames of the TTI of a set of uplink channels arrive as the terminal sent them, or with little
+-- damage,
 -- the Node B finds their combinations and hands on just the blocks that it sent, all good
 abbrev pub ReceivesUp : Planned → LinkState → Type 0
 ReceivesUp planned start =

@@ -83,7 +83,8 @@ events_over config out into b earlier later = earlier ++ (all_lost (pair_after c
 
 -- over two parts, the first of which led to a world: its calls are a history that led there, and with the calls of the
 -- second part the whole history goes on from it
-pub record IsHistoryOver (config : Config) (out into : Dir) (b : ℕ) (first second : List At) (mid w : World) : Type 0 where
+pub record IsHistoryOver (config : Config) (out into : Dir) (b : ℕ) (first second : List At)
+    (mid w : World) : Type 0 where
   pub before : IsHistory config out into b first mid
   pub later : List At
   pub called : calls_of later ≡ second
@@ -108,7 +109,8 @@ AreLeft config dir b i log line = (rest : List (List Bit)) → log.given ≡ log
 
 -- these calls alone are a history of which they are the ends, and nothing is lost in it: handed up are, in order, the
 -- accepted units whose length indicator was sent before the blocks that are still in flight
-pub record IsWholeHistory (config : Config) (out into : Dir) (b up down : ℕ) (calls : List At) (w : World) : Type 0 where
+pub record IsWholeHistory (config : Config) (out into : Dir) (b up down : ℕ) (calls : List At)
+    (w : World) : Type 0 where
   pub none_lost : NoneLost calls
   pub pair : ArePair out into b w (pair_after config out into b calls)
   pub whole : AreWhole (pair_after config out into b calls)

@@ -55,7 +55,8 @@ pub record AreReached (planned : Planned) (first : ℕ) (happened : List Event) 
 
 -- what happened at the terminal and the network controller in two parts, with what went over their channels, led to the
 -- two nodes; another configuration became active behind the first part
-pub record AreReachedOver (planned second : Planned) (first : ℕ) (earlier later : List Event) (last link : LinkState) : Type 0 where
+pub record AreReachedOver (planned second : Planned) (first : ℕ) (earlier later : List Event)
+    (last link : LinkState) : Type 0 where
   pub nodes : Nodes
   pub run : RunsInTwo planned second Any Any first first earlier later nodes
   pub are_mid : AreOf last run.mid
@@ -75,7 +76,8 @@ active (Both planned second first earlier later last) = second
 -- what happened in one part or in two led to the terminal and the network controller of a run
 abbrev pub AreReachedIn : Parts → LinkState → Type 0
 AreReachedIn (Alone planned first happened) link = AreReached planned first happened link
-AreReachedIn (Both planned second first earlier later last) link = AreReachedOver planned second first earlier later last link
+AreReachedIn (Both planned second first earlier later last) link =
+    AreReachedOver planned second first earlier later last link
 
 -- which are these
 abbrev pub nodes_reached : (parts : Parts) (link : LinkState) → AreReachedIn parts link → Nodes
@@ -84,8 +86,11 @@ nodes_reached (Both planned second first earlier later last) link reached = reac
 
 -- the calls that the two ends of bearer b got in a run of one part or of two
 abbrev pub calls_reached : ℕ → (parts : Parts) (link : LinkState) → AreReachedIn parts link → List At
-calls_reached b (Alone planned first happened) link reached = nodes_calls planned.config b Any (opened_nodes planned first first) happened reached.nodes reached.run
-calls_reached b (Both planned second first earlier later last) link reached = nodes_calls planned.config b Any (opened_nodes planned first first) earlier reached.run.mid reached.run.before ++ nodes_calls second.config b Any reached.run.next later reached.nodes reached.run.behind
+calls_reached b (Alone planned first happened) link reached =
+    nodes_calls planned.config b Any (opened_nodes planned first first) happened reached.nodes reached.run
+calls_reached b (Both planned second first earlier later last) link reached =
+    nodes_calls planned.config b Any (opened_nodes planned first first) earlier reached.run.mid reached.run.before ++
+    nodes_calls second.config b Any reached.run.next later reached.nodes reached.run.behind
 
 -- the calls that the two ends of an acknowledged bearer got in a run are, but for losses on the way, the events of a
 -- history of the two ends
@@ -95,9 +100,12 @@ pub record HasHistory (planned : Planned) (first b : ℕ) (happened : List Event
 
 -- the same over two parts of a run: behind the first part the history goes on from its last state, when all that was in
 -- flight is lost
-pub record HasHistoryOver (planned second : Planned) (first b : ℕ) (earlier later : List Event) (last link : LinkState) : Type 0 where
+pub record HasHistoryOver (planned second : Planned) (first b : ℕ) (earlier later : List Event)
+    (last link : LinkState) : Type 0 where
   pub reached : AreReachedOver planned second first earlier later last link
-  pub history : IsAmHistoryOver second b (nodes_calls planned.config b Any (opened_nodes planned first first) earlier reached.run.mid reached.run.before) (nodes_calls second.config b Any reached.run.next later reached.nodes reached.run.behind) reached.run.mid reached.nodes
+  pub history : IsAmHistoryOver second b (nodes_calls planned.config b Any (opened_nodes planned first first)
+      earlier reached.run.mid reached.run.before) (nodes_calls second.config b Any reached.run.next later reached.nodes
+      reached.run.behind) reached.run.mid reached.nodes
 
 -- the blocks that a channel was given for a TTI that has not ended, before the radio frame of a CFN
 abbrev pub on_way : Side → ℕ → Layer → ℕ → List (List Bit)
@@ -131,11 +139,13 @@ pub record HasKnownDown (planned : Planned) (first b down : ℕ) (happened : Lis
   pub known : IsDownKnown planned b down reached.nodes
 
 -- and where a second configuration became active behind a first part, whose last state is known, too
-pub record HasKnownUpOver (planned second : Planned) (first b up up_later : ℕ) (earlier later : List Event) (last link : LinkState) : Type 0 where
+pub record HasKnownUpOver (planned second : Planned) (first b up up_later : ℕ) (earlier later : List Event)
+    (last link : LinkState) : Type 0 where
   pub reached : AreReachedOver planned second first earlier later last link
   pub known : IsUpKnownOver planned second b up up_later reached.run.mid reached.nodes
 
-pub record HasKnownDownOver (planned second : Planned) (first b down down_later : ℕ) (earlier later : List Event) (last link : LinkState) : Type 0 where
+pub record HasKnownDownOver (planned second : Planned) (first b down down_later : ℕ) (earlier later : List Event)
+    (last link : LinkState) : Type 0 where
   pub reached : AreReachedOver planned second first earlier later last link
   pub known : IsDownKnownOver planned second b down down_later reached.run.mid reached.nodes
 
@@ -149,25 +159,31 @@ pub record HasSomeDown (planned : Planned) (first b down : ℕ) (happened : List
   pub some : IsDownSome planned b down reached.nodes
 
 -- and where a second configuration became active, too
-pub record HasSomeUpOver (planned second : Planned) (first b up up_later : ℕ) (earlier later : List Event) (last link : LinkState) : Type 0 where
+pub record HasSomeUpOver (planned second : Planned) (first b up up_later : ℕ) (earlier later : List Event)
+    (last link : LinkState) : Type 0 where
   pub reached : AreReachedOver planned second first earlier later last link
   pub some : IsUpSomeOver planned second b up up_later reached.run.mid reached.nodes
 
-pub record HasSomeDownOver (planned second : Planned) (first b down down_later : ℕ) (earlier later : List Event) (last link : LinkState) : Type 0 where
+pub record HasSomeDownOver (planned second : Planned) (first b down down_later : ℕ) (earlier later : List Event)
+    (last link : LinkState) : Type 0 where
   pub reached : AreReachedOver planned second first earlier later last link
   pub some : IsDownSomeOver planned second b down down_later reached.run.mid reached.nodes
 
 -- handed up of an unacknowledged bearer are the accepted units, in order, whose length indicator was sent in TTIs that
 -- have ended
 abbrev pub HasUmUp : Planned → ℕ → ℕ → LinkState → Type 0
-HasUmUp planned b up link = IsUmCarried planned.config Up b up link.ue.state.layer link.rnc.lines (up_way planned up link)
+HasUmUp planned b up link = IsUmCarried planned.config Up b up link.ue.state.layer link.rnc.lines
+    (up_way planned up link)
 
 abbrev pub HasUmDown : Planned → ℕ → ℕ → LinkState → Type 0
-HasUmDown planned b down link = IsUmCarried planned.config Down b down link.rnc.state.layer link.ue.lines (down_way planned down link)
+HasUmDown planned b down link = IsUmCarried planned.config Down b down link.rnc.state.layer link.ue.lines
+    (down_way planned down link)
 
 -- and of a transparent one those whose block was
 abbrev pub HasTmUp : Planned → ℕ → ℕ → LinkState → Type 0
-HasTmUp planned b up link = IsTmCarried planned.config Up b up link.ue.state.layer link.rnc.lines (up_way planned up link)
+HasTmUp planned b up link = IsTmCarried planned.config Up b up link.ue.state.layer link.rnc.lines
+    (up_way planned up link)
 
 abbrev pub HasTmDown : Planned → ℕ → ℕ → LinkState → Type 0
-HasTmDown planned b down link = IsTmCarried planned.config Down b down link.rnc.state.layer link.ue.lines (down_way planned down link)
+HasTmDown planned b down link = IsTmCarried planned.config Down b down link.rnc.state.layer link.ue.lines
+    (down_way planned down link)

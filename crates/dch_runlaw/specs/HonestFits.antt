@@ -40,7 +40,9 @@ EventFits P planned dir i old Frame new lines step = FrameFits P planned dir i o
 abbrev pub RunFits : (List (List Bit) → List (List Bit) → Type 0) → (planned : Planned) → Dir → ℕ
     → (events : List Event) → (old new : LinkState) → (lines : List Line) → Runs old events new lines → Type 0
 RunFits P planned dir i [] old new lines run = Unit {0}
-RunFits P planned dir i (event ∷ events) old new lines run = EventFits P planned dir i old event run.next run.own run.step × RunFits P planned dir i events run.next new run.rest run.later
+RunFits P planned dir i (event ∷ events) old new lines run =
+    EventFits P planned dir i old event run.next run.own run.step ×
+    RunFits P planned dir i events run.next new run.rest run.later
 
 -- in each radio frame that ends a TTI of a channel, the blocks that are taken as good are a subsequence of those that
 -- were given to it for the TTI
@@ -55,6 +57,7 @@ IsUndamagedOn planned dir i events old new lines run = RunFits (λ taken given. 
 
 -- of an uplink and a downlink channel: in each radio frame that ends a TTI, just the blocks that were given for the TTI
 -- are taken as good
-pub record IsUndamaged (planned : Planned) (up down : ℕ) (events : List Event) (old new : LinkState) (lines : List Line) (run : Runs old events new lines) : Type 0 where
+pub record IsUndamaged (planned : Planned) (up down : ℕ) (events : List Event) (old new : LinkState) (lines : List Line)
+    (run : Runs old events new lines) : Type 0 where
   pub up_is : IsUndamagedOn planned Up up events old new lines run
   pub down_is : IsUndamagedOn planned Down down events old new lines run

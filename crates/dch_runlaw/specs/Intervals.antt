@@ -68,7 +68,8 @@ radio_sent Up old new lines f = f.ue_output.sent
 radio_sent Down old new lines f = f.down_output.sent
 
 -- it is sent, and arrives as it was sent
-pub record ArrivesAsSent (dir : Dir) (old new : LinkState) (lines : List Line) (f : IsFrame old new lines) : Type 0 where
+pub record ArrivesAsSent (dir : Dir) (old new : LinkState) (lines : List Line)
+    (f : IsFrame old new lines) : Type 0 where
   pub radio : Radio
   pub sent : radio_sent dir old new lines f ≡ Some radio
   pub came : radio_after old.damage dir (Some radio) ≡ Some radio
@@ -89,7 +90,8 @@ MayComeDamaged None came = Unit {0}
 MayComeDamaged (Some radio) came = ComesDamaged radio came
 
 -- it is sent, and arrives so
-pub record ArrivesDamaged (dir : Dir) (old new : LinkState) (lines : List Line) (f : IsFrame old new lines) : Type 0 where
+pub record ArrivesDamaged (dir : Dir) (old new : LinkState) (lines : List Line)
+    (f : IsFrame old new lines) : Type 0 where
   pub radio : Radio
   pub sent : radio_sent dir old new lines f ≡ Some radio
   pub comes : ComesDamaged radio (radio_after old.damage dir (Some radio))
@@ -100,13 +102,16 @@ abbrev pub with_sent : Dir → (old new : LinkState) → (lines : List Line) →
 with_sent dir old new lines f before k = if k == old.rnc.state.cfn % 8 then radio_sent dir old new lines f else before k
 
 -- and with those of a run
-abbrev pub frames_sent : Dir → (events : List Event) → (old new : LinkState) → (lines : List Line) → Runs old events new lines → (ℕ → Option Radio) → ℕ → Option Radio
+abbrev pub frames_sent : Dir → (events : List Event) → (old new : LinkState) → (lines : List Line) →
+    Runs old events new lines → (ℕ → Option Radio) → ℕ → Option Radio
 frames_sent dir [] old new lines run before = before
-frames_sent dir (Between event ∷ events) old new lines run before = frames_sent dir events run.next new run.rest run.later before
+frames_sent dir (Between event ∷ events) old new lines run before =
+    frames_sent dir events run.next new run.rest run.later before
 frames_sent dir (Frame ∷ events) old new lines run before = frames_sent dir events run.next new run.rest run.later
     (with_sent dir old run.next run.own run.step.frame before)
 
-abbrev pub tti_sent : Dir → (frames : ℕ) → (old new : LinkState) → Tti frames old new → (ℕ → Option Radio) → ℕ → Option Radio
+abbrev pub tti_sent : Dir → (frames : ℕ) → (old new : LinkState) → Tti frames old new → (ℕ → Option Radio) → ℕ →
+    Option Radio
 tti_sent dir frames old new t before = with_sent dir t.last new t.last_lines t.step.frame
     (frames_sent dir t.events old t.last t.lines t.run before)
 
@@ -132,18 +137,21 @@ AreFewUp planned set sent received = ForSet planned.config.uplink.side set (λ i
 
 -- of what a far end would keep of the radio frames of the last 8 CFNs as they were sent, and of what it keeps of them
 -- as they came, few cells differ
-pub record DifferLittle (planned : Planned) (dir : Dir) (cfn : ℕ) (IsFew : RxFrames → RxFrames → Type 0) (frames come : ℕ → Option Radio) : Type 0 where
+pub record DifferLittle (planned : Planned) (dir : Dir) (cfn : ℕ) (IsFew : RxFrames → RxFrames → Type 0)
+    (frames come : ℕ → Option Radio) : Type 0 where
   pub sent : RxFrames
   pub heard : AreHeard planned dir cfn frames sent
   pub few : (received : RxFrames) → AreHeard planned dir cfn come received → IsFew sent received
 
 -- the terminal sends this radio frame in the combination that layer 2 runs, or the Node B in that of the blocks that it
 -- was given
-pub record SendsUp (planned : Planned) (combination : ℕ) (old new : LinkState) (lines : List Line) (f : IsFrame old new lines) (radio : Radio) : Type 0 where
+pub record SendsUp (planned : Planned) (combination : ℕ) (old new : LinkState) (lines : List Line)
+    (f : IsFrame old new lines) (radio : Radio) : Type 0 where
   pub written : IsUpFrame planned f.kept.cfn new.ue.state.layer radio
   pub is : combination ≡ new.ue.state.layer.running
 
-pub record SendsDown (planned : Planned) (combination : ℕ) (old new : LinkState) (lines : List Line) (f : IsFrame old new lines) (radio : Radio) : Type 0 where
+pub record SendsDown (planned : Planned) (combination : ℕ) (old new : LinkState) (lines : List Line)
+    (f : IsFrame old new lines) (radio : Radio) : Type 0 where
   pub written : IsDownFrame planned f.node_b radio
   pub is : combination ≡ written.combination
 
@@ -154,7 +162,8 @@ SendsIn planned Down combination old new lines f radio = SendsDown planned combi
 
 -- in what the far end keeps of the radio frames of the last 8 CFNs, this radio frame has the combination in which it
 -- was sent
-pub record FindsCombination (planned : Planned) (dir : Dir) (reader : RxFrames) (old new : LinkState) (lines : List Line) (f : IsFrame old new lines) : Type 0 where
+pub record FindsCombination (planned : Planned) (dir : Dir) (reader : RxFrames) (old new : LinkState)
+    (lines : List Line) (f : IsFrame old new lines) : Type 0 where
   pub radio : Radio
   pub sent : radio_sent dir old new lines f ≡ Some radio
   pub combination : ℕ
@@ -174,7 +183,8 @@ FindsAll planned dir frames old new t = (reader : RxFrames)
     → InTti (FindsCombination planned dir reader) frames old new t
 
 -- each radio frame of a TTI arrives with few TFCI bits wrong, and few of their cells differ from those that were sent
-pub record IsLittleDamagedTti (planned : Planned) (dir : Dir) (IsFew : RxFrames → RxFrames → Type 0) (frames : ℕ) (old new : LinkState) (t : Tti frames old new) : Type 0 where
+pub record IsLittleDamagedTti (planned : Planned) (dir : Dir) (IsFew : RxFrames → RxFrames → Type 0) (frames : ℕ)
+    (old new : LinkState) (t : Tti frames old new) : Type 0 where
   pub arrive : InTti (ArrivesDamaged dir) frames old new t
   pub differ : DifferLittle planned dir t.last.rnc.state.cfn IsFew (tti_sent dir frames old new t (λ k. None))
       (frames_come dir new)
@@ -194,7 +204,8 @@ AreGood held = (k : ℕ) → k < length held.good → IsTrue (slice_index_or hel
 
 -- the Node B has the same blocks for downlink channel i in each radio frame of the TTI; and in the last one the
 -- terminal finds the combination of each, and reads just these blocks, in their format, all good
-pub record DownAsGiven (planned : Planned) (i : ℕ) (frames : ℕ) (old new : LinkState) (t : Tti frames old new) : Type 0 where
+pub record DownAsGiven (planned : Planned) (i : ℕ) (frames : ℕ) (old new : LinkState)
+    (t : Tti frames old new) : Type 0 where
   pub given : Blocks
   pub stays : InTti (λ old new lines f. f.node_b.given i ≡ given) frames old new t
   pub combinations : FindsAll planned Down frames old new t
@@ -208,7 +219,8 @@ pub record DownAsGiven (planned : Planned) (i : ℕ) (frames : ℕ) (old new : L
 -- layer 2 of the terminal has the same blocks for each uplink channel of a set in each radio frame of the TTI; and in
 -- the last one the Node B finds the combination of each, and sends the Iub frame of the set with the CFN at which the
 -- TTI started and just these blocks, in their formats, all good
-pub record UpAsGiven (planned : Planned) (set : ℕ) (frames : ℕ) (old new : LinkState) (t : Tti frames old new) : Type 0 where
+pub record UpAsGiven (planned : Planned) (set : ℕ) (frames : ℕ) (old new : LinkState)
+    (t : Tti frames old new) : Type 0 where
   pub given : ℕ → Given
   pub stays : ForSet planned.config.uplink.side set (λ i. InTti (λ old new lines f. new.ue.state.layer.given i
       ≡ given i) frames old new t)
@@ -216,6 +228,7 @@ pub record UpAsGiven (planned : Planned) (set : ℕ) (frames : ℕ) (old new : L
   pub octets : List ℕ
   pub sent : t.step.frame.up_output.iub set ≡ Some octets
   pub held : HeldSet
-  pub written : IsWrittenForm planned.config Up set octets (started (set_frames planned.config.uplink.side set) t.last.rnc.state.cfn) planned.config.qe held
+  pub written : IsWrittenForm planned.config Up set octets
+      (started (set_frames planned.config.uplink.side set) t.last.rnc.state.cfn) planned.config.qe held
   pub carries : ForSet planned.config.uplink.side set (λ i. CarriesGiven (given i) (held_at held.blocks i))
   pub good : ForSet planned.config.uplink.side set (λ i. AreGood (held_at held.blocks i))

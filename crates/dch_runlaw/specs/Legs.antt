@@ -71,7 +71,8 @@ tti_sent k frames set old last t before = frames_sent k t.moves old last t.lines
 
 -- each radio frame of a TTI comes to leg k with few TFCI bits wrong, and few of their cells differ from those that were
 -- sent; the Iub frame of the set arrives as it was sent
-pub record IsLittleDamagedAtLeg (planned : Planned) (k frames set : ℕ) (old last : Point) (t : Tti frames set old last) : Type 0 where
+pub record IsLittleDamagedAtLeg (planned : Planned) (k frames set : ℕ) (old last : Point)
+    (t : Tti frames set old last) : Type 0 where
   pub arrive : InTti (GetsSo MayComeDamaged k set) frames set old last t
   pub differ : DifferLittle planned Up last.soft.cfn (AreFewUp planned set)
       (tti_sent k frames set old last t (λ n. None)) (last.soft.legs k).node_b.state.frames
@@ -116,7 +117,8 @@ pub record AreAllGiven (given : Given) (held : Held) : Type 0 where
 -- controller takes an Iub frame of the set, and takes of the channel just these blocks: the good ones are those that
 -- were sent, at their places. Where their format has any blocks, that is the format in which they are read, and no
 -- block is bad
-pub record TakesGiven (planned : Planned) (set i : ℕ) (given : Given) (frames : ℕ) (old last : Point) (t : Tti frames set old last) (new : SoftState) : Type 0 where
+pub record TakesGiven (planned : Planned) (set i : ℕ) (given : Given) (frames : ℕ) (old last : Point)
+    (t : Tti frames set old last) (new : SoftState) : Type 0 where
   pub stays : InTti (GivesBlocks i given) frames set old last t
   pub octets : List ℕ
   pub comes : RncGoes (given_up last.soft set) (IubFrameUp set octets) new

@@ -36,7 +36,7 @@ pub use Rattle.dch_linkcmd.specs.SoftLineEvents
 pub use Rattle.dch_linkcmd.specs.SoftOverlong
 pub use Rattle.dch_linkcmd.specs.SoftRules
 pub use Rattle.dch_linkcmd.specs.SoftRun
-pub use Rattle.dch_linkcmd.specs.Standing as LinkcmdStanding
+pub use Rattle.dch_linkcmd.specs.Handlers as LinkHandlers
 pub use Rattle.dch_linkcmd.specs.Stepping as LinkcmdStepping
 pub mod Lines
 pub mod Doings

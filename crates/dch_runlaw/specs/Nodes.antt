@@ -135,7 +135,8 @@ pub record Changes (second : Planned) (old new : Nodes) : Type 0 where
   pub down : (i : ℕ) → new.down i ≡ no_log
 
 -- events in two parts, from opening: in each part something holds after each event, and the changes are between them
-pub record RunsInTwo (first second : Planned) (Before Behind : Nodes → Type 0) (ue_first rnc_first : ℕ) (earlier later : List Event) (new : Nodes) : Type 0 where
+pub record RunsInTwo (first second : Planned) (Before Behind : Nodes → Type 0) (ue_first rnc_first : ℕ)
+    (earlier later : List Event) (new : Nodes) : Type 0 where
   pub mid : Nodes
   pub next : Nodes
   pub before : Runs Before (opened_nodes first ue_first rnc_first) earlier mid

@@ -24,7 +24,8 @@ ue_calls config b old (UeChange second) new = []
 abbrev pub rnc_calls : Config → ℕ → RncState → RncEvent → RncState → List Call
 rnc_calls config b old (RncOffered bearer octets bits) new = offered b bearer octets
 rnc_calls config b old (RncBlocked combination on) new = []
-rnc_calls config b old (IubFrame set octets) new = for_each Arrive (own_blocks config Up b (λ i. good_in (new.readings i)))
+rnc_calls config b old (IubFrame set octets) new = for_each Arrive
+    (own_blocks config Up b (λ i. good_in (new.readings i)))
 rnc_calls config b old RncTicks new = Tick ∷ for_each Build (own_blocks config Down b (given_by_rnc old RncTicks new))
 rnc_calls config b old (RncChange second) new = []
 

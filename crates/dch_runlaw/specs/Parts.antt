@@ -10,7 +10,8 @@ use Rattle.dch_runlaw.specs.Runs.{Event, Runs}
 
 -- the events of a first part, which begins at opening, have these lines, and behind them a second configuration becomes
 -- active
-pub record GoesOver (planned second : Planned) (first : ℕ) (events : List Event) (lines : List Line) (start : LinkState) : Type 0 where
+pub record GoesOver (planned second : Planned) (first : ℕ) (events : List Event) (lines : List Line)
+    (start : LinkState) : Type 0 where
   pub last : LinkState
   pub run : Runs (opened_link planned first) events last lines
   pub changes : Changes second last start

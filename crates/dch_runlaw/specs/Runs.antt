@@ -20,7 +20,8 @@ Steps old (Between event) new lines = Happens old event new lines
 Steps old Frame new lines = PassesFrame old new lines
 
 -- an event, and what comes after it
-pub record RunStep (Rest : LinkState → List Line → Type 0) (old : LinkState) (event : Event) (lines : List Line) : Type 0 where
+pub record RunStep (Rest : LinkState → List Line → Type 0) (old : LinkState) (event : Event)
+    (lines : List Line) : Type 0 where
   pub next : LinkState
   pub own : List Line
   pub rest : List Line

@@ -36,7 +36,8 @@ abbrev pub LineSays : Config → List ℕ → List Event → Type 0
 LineSays config line events = MatchBool (is_empty line) (events ≡ []) (SaysEvents config line events)
 
 -- a line, and the others, by the radio frames that have passed then
-pub record SaysFirst (config : Config) (frames : ℕ) (line : List ℕ) (Rest : ℕ → List Event → Type 0) (events : List Event) : Type 0 where
+pub record SaysFirst (config : Config) (frames : ℕ) (line : List ℕ) (Rest : ℕ → List Event → Type 0)
+    (events : List Event) : Type 0 where
   pub own : List Event
   pub rest : List Event
   pub first : LineSays config line own
@@ -47,17 +48,20 @@ pub record SaysFirst (config : Config) (frames : ℕ) (line : List ℕ) (Rest : 
 -- passed
 abbrev pub AreSaid : (ℕ → Config) → ℕ → List (List ℕ) → List Event → Type 0
 AreSaid at frames [] events = events ≡ []
-AreSaid at frames (line ∷ lines) events = SaysFirst (at frames) frames line (λ now rest. AreSaid at now lines rest) events
+AreSaid at frames (line ∷ lines) events = SaysFirst (at frames) frames line (λ now rest. AreSaid at now lines rest)
+    events
 
 -- a run in the configuration that is active, where a second one may be still to come when so many radio frames have
 -- passed: all radio frames of the run are before that from which it is active
-pub record StaysFirst (second : Option Later) (frames : ℕ) (old : LinkState) (events : List Event) (new : LinkState) (lines : List Line) (left : Option Later) : Type 0 where
+pub record StaysFirst (second : Option Later) (frames : ℕ) (old : LinkState) (events : List Event) (new : LinkState)
+    (lines : List Line) (left : Option Later) : Type 0 where
   pub run : Runs old events new lines
   pub soon : (later : Later) → second ≡ Some later → frames + frames_in events ≤ later.frame
   pub still : left ≡ second
 
 -- a run in two parts: the second configuration becomes active just before the radio frame of its number
-pub record ChangesWithin (second : Option Later) (frames : ℕ) (old : LinkState) (events : List Event) (new : LinkState) (lines : List Line) (left : Option Later) : Type 0 where
+pub record ChangesWithin (second : Option Later) (frames : ℕ) (old : LinkState) (events : List Event) (new : LinkState)
+    (lines : List Line) (left : Option Later) : Type 0 where
   pub later : Later
   pub was : second ≡ Some later
   pub before : List Event

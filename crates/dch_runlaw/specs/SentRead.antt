@@ -10,7 +10,8 @@ use Rattle.dch_tti.specs.Formats.{IsBadFrame}
 use Rattle.dch_tti.specs.RxFrames.{RxFrames}
 
 -- no radio frame of channel i's TTI is bad; whatever is read of it has format f, and is just these blocks, all good
-pub record IsReadAsSent (planned : Planned) (dir : Dir) (IsRead : RxFrames → ℕ → Held → Type 0) (reader : RxFrames) (i f : ℕ) (blocks : List Bit) : Type 0 where
+pub record IsReadAsSent (planned : Planned) (dir : Dir) (IsRead : RxFrames → ℕ → Held → Type 0) (reader : RxFrames)
+    (i f : ℕ) (blocks : List Bit) : Type 0 where
   pub good : (n : ℕ) → ¬ IsBadFrame (side_of planned.config dir) reader i n
   pub number : (held : Held) → IsRead reader i held → held.format ≡ f
   pub arrives : (held : Held) → IsRead reader i held → ArrivesAs blocks held

@@ -24,7 +24,8 @@ Steps config out into old (CameOn i k came) new = new ≡ (takes config into i k
 Steps config out into old (Started cfn) new = IsStart config out cfn old new
 
 -- an event, and what comes after it
-pub record EndStep (config : Config) (out into : Dir) (Rest : Layer → Type 0) (old : Layer) (event : Event) : Type 0 where
+pub record EndStep (config : Config) (out into : Dir) (Rest : Layer → Type 0) (old : Layer)
+    (event : Event) : Type 0 where
   pub next : Layer
   pub step : Steps config out into old event next
   pub later : Rest next
@@ -32,4 +33,5 @@ pub record EndStep (config : Config) (out into : Dir) (Rest : Layer → Type 0) 
 -- the events lead from a layer to another one
 abbrev pub Reaches : Config → Dir → Dir → Layer → List Event → Layer → Type 0
 Reaches config out into old [] new = new ≡ old
-Reaches config out into old (event ∷ events) new = EndStep config out into (λ next. Reaches config out into next events new) old event
+Reaches config out into old (event ∷ events) new = EndStep config out into
+    (λ next. Reaches config out into next events new) old event

@@ -47,7 +47,8 @@ abbrev pub in_stage : (stage : Stage) → (old new : SoftState) → (lines : Lis
 in_stage RncTick old new lines passes = EventAtRnc RncTicks new.rnc ∷ []
 in_stage (IubDown leg set) old new lines passes = []
 in_stage (RadioDown leg) old new lines passes = []
-in_stage UeTick old new lines passes = EventAtUe (DownlinkFrame passes.hears.heard) passes.mid.ue ∷ EventAtUe UeTicks new.ue ∷ []
+in_stage UeTick old new lines passes = EventAtUe (DownlinkFrame passes.hears.heard)
+    passes.mid.ue ∷ EventAtUe UeTicks new.ue ∷ []
 in_stage (RadioUp leg) old new lines passes = []
 in_stage (IubUp set leg) old new lines passes = []
 in_stage (Combine set) old new lines passes = combined (over (uplink_of old) set old.cfn) set old new lines passes
@@ -130,11 +131,13 @@ pub record IsListOf (planned : Planned) (first : ℕ) (happened : List EndEvent)
 -- with what went over their channels they stand in a history of an acknowledged bearer's pair, of which its calls are
 -- the events but for losses on the way; and the lines of the run on PDUs and units of the bearer are just the units
 -- that the history hands up at its ends
-pub record HandsUp (planned : Planned) (first b : ℕ) (happened : List EndEvent) (soft : SoftState) (lines : List Line) : Type 0 where
+pub record HandsUp (planned : Planned) (first b : ℕ) (happened : List EndEvent) (soft : SoftState)
+    (lines : List Line) : Type 0 where
   pub listed : IsListOf planned first happened soft
   pub history : IsAmHistory planned b (nodes_calls planned.config b Any (opened_nodes planned first first)
       (events_of happened) (after_all (opened_nodes planned first first) happened) listed.run)
       (after_all (opened_nodes planned first first) happened)
-  pub up : lines_on Up b lines ≡ unit_lines Up b (pair_after planned.config Up Down b history.events).far.entity.receiver.reading.units
+  pub up : lines_on Up b lines ≡ unit_lines Up b (pair_after planned.config Up Down b
+      history.events).far.entity.receiver.reading.units
   pub down : lines_on Down b lines
       ≡ unit_lines Down b (pair_after planned.config Up Down b history.events).near.entity.receiver.reading.units

@@ -36,7 +36,8 @@ abbrev pub LineSays : ℕ → Config → List ℕ → List Move → Type 0
 LineSays legs config line moves = MatchBool (is_empty line) (moves ≡ []) (SaysMoves legs config line moves)
 
 -- a line, and the others
-pub record SaysFirst (legs : ℕ) (config : Config) (line : List ℕ) (Rest : List Move → Type 0) (moves : List Move) : Type 0 where
+pub record SaysFirst (legs : ℕ) (config : Config) (line : List ℕ) (Rest : List Move → Type 0)
+    (moves : List Move) : Type 0 where
   pub own : List Move
   pub rest : List Move
   pub first : LineSays legs config line own

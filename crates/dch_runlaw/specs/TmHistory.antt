@@ -28,7 +28,8 @@ units_in config dir b i blocks = map (unit_in config dir b) (filter (is_mine con
 
 -- a transparent bearer that sends on a channel, and gave these units before, in another configuration: the units
 -- accepted are those, those of the blocks that it gave, and those that wait
-pub record IsTmSender (config : Config) (dir : Dir) (b i : ℕ) (before : List (List Bit)) (side : Side) (log : Log) : Type 0 where
+pub record IsTmSender (config : Config) (dir : Dir) (b i : ℕ) (before : List (List Bit)) (side : Side)
+    (log : Log) : Type 0 where
   pub waiting : Waiting
   pub accepted : List (List Bit)
   pub bearing : side.layer.bearings b ≡ Transparent waiting accepted
@@ -36,14 +37,16 @@ pub record IsTmSender (config : Config) (dir : Dir) (b i : ℕ) (before : List (
 
 -- and one that receives on it, and took these units before: what was reported is these, and the units of the blocks
 -- that were taken
-pub record IsTmReceiver (config : Config) (dir : Dir) (b i : ℕ) (before : List (List Bit)) (side : Side) (log : Log) : Type 0 where
+pub record IsTmReceiver (config : Config) (dir : Dir) (b i : ℕ) (before : List (List Bit)) (side : Side)
+    (log : Log) : Type 0 where
   pub waiting : Waiting
   pub accepted : List (List Bit)
   pub bearing : side.layer.bearings b ≡ Transparent waiting accepted
   pub lines : lines_of b side.said ≡ bits_lines dir b (before ++ units_in config dir b i log.taken)
 
 -- the one at the near end, the other at the far end
-pub record IsTmHistory (config : Config) (out : Dir) (b i : ℕ) (given taken : List (List Bit)) (w : World) : Type 0 where
+pub record IsTmHistory (config : Config) (out : Dir) (b i : ℕ) (given taken : List (List Bit))
+    (w : World) : Type 0 where
   pub near : IsTmSender config out b i given w.near (w.out i)
   pub far : IsTmReceiver config out b i taken w.far (w.out i)
 
@@ -66,7 +69,8 @@ pub record IsTmSome (config : Config) (out : Dir) (b i : ℕ) (given taken : Lis
 
 -- and where all came but the blocks that are on their way, it is all accepted units but those in these blocks and those
 -- that wait
-pub record IsTmCarried (config : Config) (dir : Dir) (b i : ℕ) (from : Layer) (said : List Line) (running : List (List Bit)) : Type 0 where
+pub record IsTmCarried (config : Config) (dir : Dir) (b i : ℕ) (from : Layer) (said : List Line)
+    (running : List (List Bit)) : Type 0 where
   pub waiting : Waiting
   pub accepted : List (List Bit)
   pub bearing : from.bearings b ≡ Transparent waiting accepted

@@ -49,7 +49,8 @@ abbrev pub pdus_in : Config → Dir → ℕ → ℕ → List (List Bit) → List
 pdus_in config dir b i blocks = map (pdu_in config dir b) (filter (is_mine config dir b i) blocks)
 
 -- an unacknowledged bearer that sends on a channel, and gave these PDUs before, in another configuration
-pub record IsUmSender (config : Config) (dir : Dir) (b i : ℕ) (before : List (List ℕ)) (side : Side) (log : Log) : Type 0 where
+pub record IsUmSender (config : Config) (dir : Dir) (b i : ℕ) (before : List (List ℕ)) (side : Side)
+    (log : Log) : Type 0 where
   pub sends : Sends
   pub receiving : Receiving
   pub bearing : side.layer.bearings b ≡ Unacknowledged sends receiving
@@ -60,7 +61,8 @@ pub record IsUmSender (config : Config) (dir : Dir) (b i : ℕ) (before : List (
 
 -- and one that receives on it, and took these PDUs before: what it is and what was reported is what all PDUs that were
 -- taken do
-pub record IsUmReceiver (config : Config) (dir : Dir) (b i : ℕ) (before : List (List ℕ)) (side : Side) (log : Log) : Type 0 where
+pub record IsUmReceiver (config : Config) (dir : Dir) (b i : ℕ) (before : List (List ℕ)) (side : Side)
+    (log : Log) : Type 0 where
   pub sends : Sends
   pub bearing : side.layer.bearings b ≡ Unacknowledged sends (receives (before
       ++ pdus_in config dir b i log.taken) opened_receiving)
@@ -105,7 +107,8 @@ pdus_of s = pdus (s.sending.pdu - 1) s.sending.mark_start (sizes s.accepted) s.c
 
 -- where all blocks came but these, which are on their way, all lines on the bearer are, in order, the accepted units
 -- whose length indicator lies in the PDUs that came
-pub record IsUmCarried (config : Config) (dir : Dir) (b i : ℕ) (from : Layer) (said : List Line) (running : List (List Bit)) : Type 0 where
+pub record IsUmCarried (config : Config) (dir : Dir) (b i : ℕ) (from : Layer) (said : List Line)
+    (running : List (List Bit)) : Type 0 where
   pub sends : Sends
   pub receiving : Receiving
   pub bearing : from.bearings b ≡ Unacknowledged sends receiving
@@ -120,7 +123,8 @@ ArriveAs s arrives came = arriving arrives 0 (texts s.sending.pdu s.sending.mark
 -- of an unacknowledged bearer, in one configuration or in two: the PDUs that came are a subsequence of all the
 -- sender's; whichever these are, where fewer than 128 successive ones are lost, all lines on the bearer are the SDUs
 -- that are known
-pub record IsKnownHistory (config : Config) (out : Dir) (b i : ℕ) (given taken : List (List ℕ)) (w : World) : Type 0 where
+pub record IsKnownHistory (config : Config) (out : Dir) (b i : ℕ) (given taken : List (List ℕ))
+    (w : World) : Type 0 where
   pub near : IsUmSender config out b i given w.near (w.out i)
   pub came : List (List ℕ)
   pub all : came ≡ taken ++ pdus_in config out b i (w.out i).taken

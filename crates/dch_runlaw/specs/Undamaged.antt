@@ -13,13 +13,17 @@ use Rattle.dch_runlaw.specs.UndamagedHandedUp.{HandsUpMarked, HandsUpSent, Hands
 pub record HandsUpAll (parts : Parts) (link : LinkState) (text : List ℕ) : Type 0 where
   pub acknowledged : (b up down : ℕ) → IsAcknowledged (active parts) b up down → HandsUpWhole parts b up down link text
   pub unacknowledged_up : (b up : ℕ) → IsUnacknowledged (active parts) Up b up
-      → HandsUpMarked (active parts).config Up b up link.ue.state.layer link.rnc.lines (up_way (active parts) up link) text
+      → HandsUpMarked (active parts).config Up b up link.ue.state.layer link.rnc.lines (up_way (active parts) up link)
+      text
   pub unacknowledged_down : (b down : ℕ) → IsUnacknowledged (active parts) Down b down
-      → HandsUpMarked (active parts).config Down b down link.rnc.state.layer link.ue.lines (down_way (active parts) down link) text
+      → HandsUpMarked (active parts).config Down b down link.rnc.state.layer link.ue.lines
+      (down_way (active parts) down link) text
   pub transparent_up : (b up : ℕ) → IsTransparent (active parts) Up b up
-      → HandsUpSent (active parts).config Up b up link.ue.state.layer link.rnc.lines (up_way (active parts) up link) text
+      → HandsUpSent (active parts).config Up b up link.ue.state.layer link.rnc.lines (up_way (active parts) up link)
+      text
   pub transparent_down : (b down : ℕ) → IsTransparent (active parts) Down b down
-      → HandsUpSent (active parts).config Down b down link.rnc.state.layer link.ue.lines (down_way (active parts) down link) text
+      → HandsUpSent (active parts).config Down b down link.rnc.state.layer link.ue.lines
+      (down_way (active parts) down link) text
 
 -- no line tells of trouble, and the rows of the lines' text, with the rows of frames or without them, hand up all that
 -- was sent whole

@@ -28,19 +28,25 @@ ended_units from to = take (ends (take (gap_free to) from.entity.sender.bodies))
 pub record HandsUpWhole (parts : Parts) (b up down : ℕ) (link : LinkState) (text : List ℕ) : Type 0 where
   pub units : HasWholeHistory parts b up down link
   pub up_rows : got_rows Up b (rows text)
-      ≡ rows_of (got_lines Up b (ended_units (pair_after (active parts).config Up Down b (calls_reached b parts link units.reached)).near (pair_after (active parts).config Up Down b (calls_reached b parts link units.reached)).far))
+      ≡ rows_of (got_lines Up b (ended_units (pair_after (active parts).config Up Down b
+      (calls_reached b parts link units.reached)).near (pair_after (active parts).config Up Down b
+      (calls_reached b parts link units.reached)).far))
   pub down_rows : got_rows Down b (rows text)
-      ≡ rows_of (got_lines Down b (ended_units (pair_after (active parts).config Up Down b (calls_reached b parts link units.reached)).far (pair_after (active parts).config Up Down b (calls_reached b parts link units.reached)).near))
+      ≡ rows_of (got_lines Down b (ended_units (pair_after (active parts).config Up Down b
+      (calls_reached b parts link units.reached)).far (pair_after (active parts).config Up Down b
+      (calls_reached b parts link units.reached)).near))
 
 -- the lines `got` of an unacknowledged bearer in an undamaged run: the accepted SDUs, in order, whose length indicator
 -- lies in the PDUs that came, which are all but those on their way
-pub record HandsUpMarked (config : Config) (dir : Dir) (b i : ℕ) (from : Layer) (said : List Line) (running : List (List Bit)) (text : List ℕ) : Type 0 where
+pub record HandsUpMarked (config : Config) (dir : Dir) (b i : ℕ) (from : Layer) (said : List Line)
+    (running : List (List Bit)) (text : List ℕ) : Type 0 where
   pub units : IsUmCarried config dir b i from said running
   pub rows_are : got_rows dir b (rows text)
       ≡ rows_of (got_lines dir b (marked_units (take units.came (pdus_of units.sends)) 0 units.sends.accepted))
 
 -- the lines `got` of a transparent bearer in an undamaged run: all accepted SDUs, in order, but those in blocks on
 -- their way and those that wait
-pub record HandsUpSent (config : Config) (dir : Dir) (b i : ℕ) (from : Layer) (said : List Line) (running : List (List Bit)) (text : List ℕ) : Type 0 where
+pub record HandsUpSent (config : Config) (dir : Dir) (b i : ℕ) (from : Layer) (said : List Line)
+    (running : List (List Bit)) (text : List ℕ) : Type 0 where
   pub units : IsTmCarried config dir b i from said running
   pub rows_are : got_rows dir b (rows text) ≡ rows_of (bits_lines dir b units.handed)

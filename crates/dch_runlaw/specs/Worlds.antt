@@ -63,7 +63,8 @@ pub record DoesNear (config : Config) (out into : Dir) (old : World) (doing : Do
   }
 
 -- it does something, and then more
-pub record DoesFirst (config : Config) (out into : Dir) (Rest : World → Type 0) (old : World) (doing : Doing) : Type 0 where
+pub record DoesFirst (config : Config) (out into : Dir) (Rest : World → Type 0) (old : World)
+    (doing : Doing) : Type 0 where
   pub next : World
   pub first : DoesNear config out into old doing next
   pub later : Rest next
@@ -71,7 +72,8 @@ pub record DoesFirst (config : Config) (out into : Dir) (Rest : World → Type 0
 -- it does these things one after another
 abbrev pub DoesAll : Config → Dir → Dir → World → List Doing → World → Type 0
 DoesAll config out into old [] new = new ≡ old
-DoesAll config out into old (doing ∷ doings) new = DoesFirst config out into (λ next. DoesAll config out into next doings new) old doing
+DoesAll config out into old (doing ∷ doings) new = DoesFirst config out into
+    (λ next. DoesAll config out into next doings new) old doing
 
 -- an event at one of the two ends, by what it does with layer 2
 pub data At : Type 0 where
@@ -84,7 +86,8 @@ Happens config out into old (Near doings) new = DoesAll config out into old doin
 Happens config out into old (Far doings) new = DoesAll config into out (turned old) doings (turned new)
 
 -- an event after which something holds, and more behind it
-pub record HappensFirst (config : Config) (out into : Dir) (Holds Rest : World → Type 0) (old : World) (event : At) : Type 0 where
+pub record HappensFirst (config : Config) (out into : Dir) (Holds Rest : World → Type 0) (old : World)
+    (event : At) : Type 0 where
   pub next : World
   pub first : Happens config out into old event next
   pub holds : Holds next
@@ -93,7 +96,8 @@ pub record HappensFirst (config : Config) (out into : Dir) (Holds Rest : World �
 -- a list of events, after each of which it holds
 abbrev pub Runs : Config → Dir → Dir → (World → Type 0) → World → List At → World → Type 0
 Runs config out into Holds old [] new = new ≡ old
-Runs config out into Holds old (event ∷ events) new = HappensFirst config out into Holds (λ next. Runs config out into Holds next events new) old event
+Runs config out into Holds old (event ∷ events) new =
+    HappensFirst config out into Holds (λ next. Runs config out into Holds next events new) old event
 
 -- some of these, in their order
 abbrev pub IsSublist : List (List Bit) → List (List Bit) → Type 0
@@ -134,7 +138,8 @@ pub record HasChanged (config : Config) (out into : Dir) (old new : World) : Typ
   pub back_log : (i : ℕ) → new.back i ≡ no_log
 
 -- two parts of a run from opening, in each of which something holds after each event, and the change between them
-pub record RunsInTwo (first second : Config) (out into : Dir) (Before Behind : World → Type 0) (earlier later : List At) (new : World) : Type 0 where
+pub record RunsInTwo (first second : Config) (out into : Dir) (Before Behind : World → Type 0) (earlier later : List At)
+    (new : World) : Type 0 where
   pub mid : World
   pub next : World
   pub before : Runs first out into Before (opened_world first out into) earlier mid

@@ -43,7 +43,8 @@ pub fn undamaged_law()
         (run : Runs (opened_link planned first) events new lines) →
         IsAcknowledged planned b up down →
         IsUndamaged planned up down events (opened_link planned first) new lines run →
-        HasWholeHistory (Alone planned first (end_events events (opened_link planned first) new lines run)) b up down new }
+        HasWholeHistory (Alone planned first (end_events events (opened_link planned first) new lines run))
+        b up down new }
 {}
 
 /// A law: with any damage, where no line says of the channel of an unacknowledged bearer that a block was taken as good

@@ -17,8 +17,8 @@ ghost use Rattle.dch_types.specs.Timing.{set_frames};
 /// downlink.
 ///
 /// So it is where the radio frames of the TTI arrive with little damage: of each few TFCI bits are wrong, four of 30 or
-/// 20 of 120, and of each code block the wrong cells twice and the missing ones once are less than the cells in which two
-/// blocks differ.
+/// 20 of 120, and of each code block the wrong cells twice and the missing ones once are less than the cells in which
+/// two blocks differ.
 pub fn interval_law()
     ensures down { (planned : Planned) (i : ℕ) (events : List Event) (start mid new : LinkState) (lines : List Line) →
         IsPlanned planned → Begins planned start → Runs start events mid lines →

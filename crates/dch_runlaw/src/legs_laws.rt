@@ -27,10 +27,12 @@ pub fn leg_law()
         (lines own : List Line) →
         Runs (opened_point planned first legs) moves mid lines → IsPlanned planned → first % 8 ≡ 0 → k < legs →
         i < length planned.config.uplink.side.channels →
-        (t : Tti (channel_at planned.config.uplink.side i).frames (channel_at planned.config.uplink.side i).set mid last) →
+        (t : Tti (channel_at planned.config.uplink.side i).frames
+        (channel_at planned.config.uplink.side i).set mid last) →
         ArrivesAtLeg planned k
         (channel_at planned.config.uplink.side i).frames (channel_at planned.config.uplink.side i).set mid last t →
-        OthersAreSent (last.soft.frames (channel_at planned.config.uplink.side i).set) k i (as_sent (channel_at planned.config.uplink.side i) (last.soft.ue.state.layer.given i)) →
+        OthersAreSent (last.soft.frames (channel_at planned.config.uplink.side i).set) k i
+        (as_sent (channel_at planned.config.uplink.side i) (last.soft.ue.state.layer.given i)) →
         AtStage (Combine (channel_at planned.config.uplink.side i).set) last.soft new own →
         TakesGiven planned (channel_at planned.config.uplink.side i).set i (last.soft.ue.state.layer.given i)
         (channel_at planned.config.uplink.side i).frames mid last t new }

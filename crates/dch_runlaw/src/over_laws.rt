@@ -31,7 +31,8 @@ pub fn link_over_law()
         IsAcknowledged planned b up down → IsAcknowledged second b up_later down_later →
         IsUndamaged planned up down before (opened_link planned first) over.last early over.run →
         IsUndamaged second up_later down_later after start new late run →
-        HasWholeHistory (Both planned second first (end_events before (opened_link planned first) over.last early over.run) (end_events after start new late run) over.last) b up_later down_later new }
+        HasWholeHistory (Both planned second first (end_events before (opened_link planned first)
+        over.last early over.run) (end_events after start new late run) over.last) b up_later down_later new }
 {}
 
 /// A law: and an unacknowledged bearer. With any damage some of the PDUs that were sent in both parts came, in order;
@@ -44,13 +45,16 @@ pub fn um_over_law()
         (run : Runs start after new late) →
         IsUnacknowledged planned Up b up → IsUnacknowledged second Up b up_later → Lacks early (Differs Up up) →
         Lacks late (Differs Up up_later) →
-        HasKnownUpOver planned second first b up up_later (end_events before (opened_link planned first) over.last early over.run) (end_events after start new late run) over.last new }
+        HasKnownUpOver planned second first b up up_later (end_events before (opened_link planned first)
+        over.last early over.run) (end_events after start new late run) over.last new }
     ensures down { (planned second : Planned) (first b down down_later : ℕ) (before after : List Event)
         (start new : LinkState) (early late : List Line) (over : GoesOver planned second first before early start)
         (run : Runs start after new late) →
         IsUnacknowledged planned Down b down → IsUnacknowledged second Down b down_later →
         Lacks early (Differs Down down) → Lacks late (Differs Down down_later) →
-        HasKnownDownOver planned second first b down down_later (end_events before (opened_link planned first) over.last early over.run) (end_events after start new late run) over.last new }
+        HasKnownDownOver planned second first b down down_later
+        (end_events before (opened_link planned first) over.last early over.run) (end_events after start new late run)
+        over.last new }
     ensures whole_up { (planned second : Planned) (first b up up_later : ℕ) (before after : List Event)
         (start new : LinkState) (early late : List Line) (over : GoesOver planned second first before early start)
         (run : Runs start after new late) → start.rnc.state.cfn % 8 ≡ 0 →
@@ -74,13 +78,16 @@ pub fn tm_over_law()
         (run : Runs start after new late) →
         IsTransparent planned Up b up → IsTransparent second Up b up_later → Lacks early (Differs Up up) →
         Lacks late (Differs Up up_later) →
-        HasSomeUpOver planned second first b up up_later (end_events before (opened_link planned first) over.last early over.run) (end_events after start new late run) over.last new }
+        HasSomeUpOver planned second first b up up_later (end_events before (opened_link planned first)
+        over.last early over.run) (end_events after start new late run) over.last new }
     ensures down { (planned second : Planned) (first b down down_later : ℕ) (before after : List Event)
         (start new : LinkState) (early late : List Line) (over : GoesOver planned second first before early start)
         (run : Runs start after new late) →
         IsTransparent planned Down b down → IsTransparent second Down b down_later → Lacks early (Differs Down down) →
         Lacks late (Differs Down down_later) →
-        HasSomeDownOver planned second first b down down_later (end_events before (opened_link planned first) over.last early over.run) (end_events after start new late run) over.last new }
+        HasSomeDownOver planned second first b down down_later
+        (end_events before (opened_link planned first) over.last early over.run) (end_events after start new late run)
+        over.last new }
     ensures whole_up { (planned second : Planned) (first b up up_later : ℕ) (before after : List Event)
         (start new : LinkState) (early late : List Line) (over : GoesOver planned second first before early start)
         (run : Runs start after new late) → start.rnc.state.cfn % 8 ≡ 0 →

@@ -1,5 +1,5 @@
 -- What a run does, by the one command that its words name.
-use Rattle.std.proofs.Common.{◌≡◌, ℕ, List, [], Option, map, string_bytes, String, refl, subst, inl, inr, arith}
+use Rattle.std.proofs.Common.{◌≡◌, ℕ, List, [], Option, map, string_bytes, String, refl, subst, inr, arith}
 use Rattle.std.proofs.KnownBytes.{Appends-nil, Consumes-nil}
 use Rattle.std.specs.declared.alloc.Global.{Global}
 use Rattle.dch_io.specs.Ends.{End, span}
@@ -8,6 +8,7 @@ use Rattle.dch_top.specs.declared.arguments.Subcommand.{Subcommand}
 use Rattle.dch_top.specs.declared.arguments.Subcommand.TheVariants.{Check, Encode, NodeB, Rnc, Ue, Link, Soft, Gen, Pair}
 use Rattle.dch_top.specs.declared.arguments.Arguments.{Arguments}
 use Rattle.dch_top.proofs.Meanings.{one_meaning}
+use Rattle.dch_top.proofs.NodeRuns.{runs_nothing}
 use Rattle.dch_top.specs.Benches.{Nodes, no_nodes}
 use Rattle.dch_top.specs.Ran.{Asks, Ran, Runs, Says}
 use Rattle.dch_check.specs.declared.status.Status.{Status}
@@ -37,10 +38,10 @@ ran_nothing words a k f h nodes none = record {
     nothing : (subcommand : Subcommand) (arguments : Arguments) → Runs subcommand arguments (span a a f f) (span k k h h) nodes NoMemory
     nothing Check arguments = (record { taken = []; written = []; takes = Consumes-nil a; writes = Appends-nil k; answers = (lacks, refl) }, none)
     nothing Encode arguments = ((Consumes-nil a, Appends-nil k), none)
-    nothing NodeB arguments = record { runs = record { taken = []; written = []; takes = Consumes-nil a; writes = Appends-nil k; answers = inl (lacks, refl) }; idle = λ ill. none }
-    nothing Rnc arguments = record { runs = record { taken = []; written = []; takes = Consumes-nil a; writes = Appends-nil k; answers = inl (lacks, refl) }; idle = λ ill. none }
-    nothing Ue arguments = record { runs = record { taken = []; written = []; takes = Consumes-nil a; writes = Appends-nil k; answers = inl (lacks, refl) }; idle = λ ill. none }
-    nothing Link arguments = record { runs = record { taken = []; written = []; takes = Consumes-nil a; writes = Appends-nil k; answers = inl (lacks, refl) }; idle = λ ill. none }
-    nothing Soft arguments = record { runs = record { taken = []; written = []; takes = Consumes-nil a; writes = Appends-nil k; answers = inl (lacks, refl) }; idle = λ ill. none }
+    nothing NodeB arguments = runs_nothing _ _ _ _ a k f h nodes none
+    nothing Rnc arguments = runs_nothing _ _ _ _ a k f h nodes none
+    nothing Ue arguments = runs_nothing _ _ _ _ a k f h nodes none
+    nothing Link arguments = runs_nothing _ _ _ _ a k f h nodes none
+    nothing Soft arguments = runs_nothing _ _ _ _ a k f h nodes none
     nothing Gen arguments = record { ends = (Appends-nil k, none); unread = refl }
     nothing Pair arguments = (inr (refl, (Consumes-nil a, Appends-nil k)), none)

@@ -1,5 +1,5 @@
 -- A run without faults on good lines ends well.
-use Rattle.std.proofs.Common.{◌≡◌, ◌⊎◌, ◌≤◌, ℕ, List, [], length, refl, subst, arith, inl, inr, ⊎_elim, IfSome, None, Some}
+use Rattle.std.proofs.Common.{◌≡◌, ◌⊎◌, ◌≤◌, ℕ, List, [], length, refl, subst, sym, arith, inl, inr, ⊎_elim, IfSome, None, Some}
 use Rattle.std.specs.Prelude.{IsOk, Err, Result, Ok as Good}
 use Rattle.std.proofs.lemmas.Bool.{false≢true}
 use Rattle.std.specs.declared.option.Option.{Option}
@@ -11,10 +11,11 @@ use Rattle.dch_io.specs.Pieces.{LIMIT}
 use Rattle.dch_lines.specs.Followed.{FollowsInput}
 use Rattle.dch_lines.specs.declared.stop.Outcome.{Outcome}
 use Rattle.dch_lines.specs.declared.stop.Outcome.TheVariants.{Ok as Done, Refused as MetMalformed, ReadFault as FailedReading, WriteFault as FailedWriting, NoMemory as Lacking, TooLong as TookTooMuch}
-use Rattle.dch_lines.specs.Processor.{LeadsOn, Progress, standing}
 use Rattle.dch_lines.proofs.Complete.{completes as follows_all, never_lacks, TakesAll}
 use Rattle.dch_top.specs.Overlong.{encoding_refuses_long}
-use Rattle.dch_top.specs.Encoded.{Encodes, AreGood, beginning}
+use Rattle.dch_top.specs.Encoded.{Encodes, AreGood}
+use Rattle.dch_top.specs.LineRuns.{FollowsLines, RunsLines, beginning}
+use Rattle.dch_check.specs.Configured.{outcome_status}
 use Rattle.dch_top.specs.EncodeText.{encoding}
 use Rattle.dch_check.specs.declared.status.Status.{Status}
 use Rattle.dch_check.specs.declared.status.Status.TheVariants.{Ok, Refused, Usage, ReadFault, WriteFault, NoMemory, TooLong}
@@ -27,24 +28,27 @@ takes_all : TakesAll encoding (λ line. IsOk (meaning line))
 takes_all state line why ok same = error_is_none (meaning line) why same ok
 
 -- no line wants memory
-pub lacks_none : (source sink : End) → FollowsInput encoding source sink beginning tt [] Lacking → ⊥
-lacks_none source sink run = never_lacks encoding source sink beginning tt [] (λ state line wants. wants) run
+pub lacks_none : (source sink : End) → FollowsInput encoding source sink (beginning tt) tt [] Lacking → ⊥
+lacks_none source sink run = never_lacks encoding source sink (beginning tt) tt [] (λ state line wants. wants) run
 
--- what the handler does is the work from its beginning
-pub followed : {C : Type 0} (source sink : End) (old new : Progress C) (part : List ℕ) (result outcome : Outcome) → LeadsOn {S = Unit {0}} (λ _ _. Unit {0}) old new (λ before after. FollowsInput encoding source sink before after.handler part result)
-    → standing {S = Unit {0}} tt old ≡ beginning → part ≡ [] → result ≡ outcome → FollowsInput encoding source sink beginning tt [] outcome
-followed source sink old new part result outcome leads same none is =
-    let led = leads tt tt in
-    let run : FollowsInput encoding source sink (standing {S = Unit {0}} tt old) tt part result = led.2 in
-    let at : FollowsInput encoding source sink beginning tt part result = subst (λ (p : Progress (Unit {0})). FollowsInput encoding source sink p tt part result) same run in
-    let whole : FollowsInput encoding source sink beginning tt [] result = subst (λ l. FollowsInput encoding source sink beginning tt l result) none at in
-    subst (λ o. FollowsInput encoding source sink beginning tt [] o) is whole
+-- how following the lines ended is what `encode` does
+pub encoded : (source sink : End) (status : Status) → RunsLines encoding tt source sink status → Encodes source sink status
+encoded source sink status (inr lacks) = subst (λ (s : Status). Encodes source sink s) (sym lacks.0) lacks.1
+encoded source sink status (inl ran) = subst (λ (s : Status). Encodes source sink s) (sym ran.1.0) (by ran.0 ran.1.1)
+  where
+    by : (outcome : Outcome) → FollowsLines encoding tt source sink outcome → Encodes source sink (outcome_status outcome)
+    by Done run = run.1
+    by MetMalformed run = run.1
+    by FailedReading run = run.1
+    by FailedWriting run = run.1
+    by Lacking run = absurd (lacks_none source sink run.1)
+    by TookTooMuch run = run.1
 
 -- good lines are followed to the end
-ends_well : (input : List ℕ) (now k l : Option (List ℕ)) (f g h i : ℕ) (outcome : Outcome) → FollowsInput encoding (span (Some input) now f g) (span k l h i) beginning tt [] outcome → AreGood (lines_of input) → rest_of input ≡ [] → length input ≤ LIMIT → ¬ Rose f g → ¬ Rose h i → outcome ≡ Done
+ends_well : (input : List ℕ) (now k l : Option (List ℕ)) (f g h i : ℕ) (outcome : Outcome) → FollowsInput encoding (span (Some input) now f g) (span k l h i) (beginning tt) tt [] outcome → AreGood (lines_of input) → rest_of input ≡ [] → length input ≤ LIMIT → ¬ Rose f g → ¬ Rose h i → outcome ≡ Done
 ends_well input now k l f g h i outcome run good rest size s t =
-    ⊎_elim (λ done. done) (λ lacks. absurd (lacks_none (span (Some input) now f g) (span k l h i) (subst (λ o. FollowsInput encoding (span (Some input) now f g) (span k l h i) beginning tt [] o) lacks run)))
-    (follows_all encoding (λ line. IsOk (meaning line)) (Some input) now k l f g h i beginning tt [] outcome encoding_refuses_long takes_all run good rest (omega (arith, size)) s t)
+    ⊎_elim (λ done. done) (λ lacks. absurd (lacks_none (span (Some input) now f g) (span k l h i) (subst (λ o. FollowsInput encoding (span (Some input) now f g) (span k l h i) (beginning tt) tt [] o) lacks run)))
+    (follows_all encoding (λ line. IsOk (meaning line)) (Some input) now k l f g h i (beginning tt) tt [] outcome encoding_refuses_long takes_all run good rest (omega (arith, size)) s t)
 
 pub completes : (before now k l : Option (List ℕ)) (f g h i : ℕ) (status : Status) → Encodes (span before now f g) (span k l h i) status
     → IfSome before (λ input. AreGood (lines_of input) → rest_of input ≡ [] → length input ≤ LIMIT → ¬ Rose f g → ¬ Rose h i → (status ≡ Ok) ⊎ (status ≡ NoMemory))

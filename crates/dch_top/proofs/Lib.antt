@@ -2,6 +2,7 @@ pub mod Commands
 pub mod GenComplete
 pub mod Cutting
 pub mod LinkHandled
+pub mod LineRuns
 pub mod LinkUnits
 pub mod NodeComplete
 pub mod BadFrames

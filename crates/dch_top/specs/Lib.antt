@@ -3,15 +3,14 @@ pub mod LinkUnits
 pub mod Ran
 pub mod Benches
 pub mod GenRuns
+pub mod LineRuns
 pub mod LinkRuns
-pub mod NodeBRuns
 pub mod NodeRuns
+pub mod OneNode
 pub mod PairRuns
-pub mod RncRuns
 pub mod SoftRuns
 pub mod SoftUnits
 pub mod Traces
-pub mod UeRuns
 pub mod Checked
 pub mod EncodeText
 pub mod Encoded

@@ -27,7 +27,8 @@ pub record EndsWhole (source : End) (taken : List ℕ) (good : List (List ℕ)) 
   pub closes : last ≡ closing state.frames
 
 -- the lines before a malformed one were handled, and the line that refuses it ends the text
-pub record EndsRefused (source : End) (taken : List ℕ) (good : List (List ℕ)) (state : Run) (last : List ℕ) : Type 0 where
+pub record EndsRefused (source : End) (taken : List ℕ) (good : List (List ℕ)) (state : Run)
+    (last : List ℕ) : Type 0 where
   pub why : LineError
   pub refused : IsRefused link_lines source state [] (script_of taken) good why
   pub names : last ≡ refusal ((script_begin taken state).lines + length good) why

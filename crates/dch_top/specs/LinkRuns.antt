@@ -1,9 +1,9 @@
 -- What a run of the command `link` does.
-use Rattle.std.specs.Prelude.{◌≡◌, ◌≢◌, ◌*◌, ℕ, List, [], ◌∷◌, Bool, Result, Ok, Err, Some}
+use Rattle.std.specs.Prelude.{◌≡◌, ◌*◌, ℕ, List, [], ◌∷◌, Bool, Some}
 use Rattle.dch_io.specs.Ends.{End}
 use Rattle.dch_check.specs.declared.both.Configurations.{Configurations}
 use Rattle.dch_gen.specs.LinkLink.{active}
-use Rattle.dch_gen.specs.LinkStanding.{HaveHistories}
+use Rattle.dch_gen.specs.LinkNodes.{HaveHistories}
 use Rattle.dch_runlaw.specs.LinkcmdRules.{link_lines}
 use Rattle.dch_runlaw.specs.LinkcmdRun.{Run, opened_run}
 use Rattle.dch_runlaw.specs.LinkcmdRunLines.{AreRunLines}
@@ -12,29 +12,17 @@ use Rattle.dch_nodecmd.specs.NodebValues.{Node as NodeB}
 use Rattle.dch_nodecmd.specs.RncValues.{Node as Rnc}
 use Rattle.dch_nodecmd.specs.UeValues.{Node as Ue}
 use Rattle.dch_top.specs.Benches.{Nodes}
-use Rattle.dch_check.specs.Configured.{RunsConfigured}
 use Rattle.dch_top.specs.NodeRuns.{RunsWith, later_of}
 use Rattle.dch_check.specs.declared.status.Status.{Status}
-use Rattle.dch_check.specs.declared.status.Status.TheVariants.{Ok as Well}
 use Rattle.dch_check.specs.declared.front.FrontKind.TheVariants.{Both}
 
 -- the run of three nodes before the first line
 abbrev pub run_of : ℕ → Bool → Configurations → Run
 run_of start quiet accepted = opened_run accepted.first (later_of accepted.second) (8 * start) quiet
 
--- the lines behind the configurations are those of three nodes that were opened for them
-abbrev pub RunsLines : ℕ → Bool → (Run → Type 0) → End → End → Status → Type 0
-RunsLines start quiet Holds source sink status = RunsConfigured Both link_lines (run_of start quiet) Holds source sink status
-
 -- each of three nodes stands for just what happened at it in a run
 abbrev pub HaveRunHistories : Ue → NodeB → Rnc → Run → Type 0
 HaveRunHistories ue node_b rnc run = HaveHistories run.began (active run.link) run.first run.link ue node_b rnc
-
--- where all went well there are three nodes, which stand for just what happened in this run
-abbrev pub GivesNodes : ℕ → Bool → End → End → Result (Ue × NodeB × Rnc) Status → Type 0
-GivesNodes start quiet source sink (Ok nodes) = RunsLines start quiet (HaveRunHistories nodes.0 nodes.1 nodes.2) source sink Well
-GivesNodes start quiet source sink (Err status) = RunsLines start quiet (λ run. Unit {0}) source sink status
-    × (status ≢ Well)
 
 -- the bench holds all three nodes, each of which stands for just what happened at it in a run
 pub record HoldsLink (nodes : Nodes) (run : Run) : Type 0 where
@@ -44,8 +32,10 @@ pub record HoldsLink (nodes : Nodes) (run : Run) : Type 0 where
   pub all : nodes ≡ record { ue = Some ue; node_bs = node_b ∷ []; rnc = Some rnc }
   pub histories : HaveRunHistories ue node_b rnc run
 
+-- a run of `link`
 abbrev pub RunsLink : ℕ → Bool → End → End → Nodes → Status → Type 0
-RunsLink start quiet source sink nodes status = RunsWith Both link_lines (run_of start quiet) HoldsLink source sink nodes status
+RunsLink start quiet source sink nodes status = RunsWith Both link_lines (run_of start quiet)
+    HoldsLink source sink nodes status
 
 -- the lines are good ones of three nodes that were opened for configurations, none of which is refused where those
 -- before it lead

@@ -1,5 +1,5 @@
 -- What a run of a command with one node does.
-use Rattle.std.specs.Prelude.{◌≡◌, ◌≢◌, ◌*◌, ℕ, List, Bool, Option, Result, Ok, Err, option_map}
+use Rattle.std.specs.Prelude.{◌≡◌, ◌≢◌, ◌*◌, ℕ, List, Bool, Option, option_map}
 use Rattle.dch_io.specs.Ends.{End}
 use Rattle.dch_accept.specs.Plans.{Planned}
 use Rattle.dch_check.specs.declared.both.Configurations.{Configurations}
@@ -11,7 +11,7 @@ use Rattle.dch_nodecmd.specs.Rules.{node_lines}
 use Rattle.dch_nodecmd.specs.Run.{Run, opened_run}
 use Rattle.dch_nodecmd.specs.RunLines.{AreRunLines}
 use Rattle.dch_lines.specs.Coming.{coming}
-use Rattle.dch_nodecmd.specs.Standing.{RepresentsHistory}
+use Rattle.dch_nodecmd.specs.Handlers.{RepresentsHistory}
 use Rattle.dch_lines.specs.declared.later.Later.{Later}
 use Rattle.dch_top.specs.Benches.{Nodes, no_nodes}
 use Rattle.dch_check.specs.Configured.{RunsConfigured}
@@ -28,29 +28,35 @@ later_of second = option_map (λ (s : Second). record { frame = s.frame; accepte
 abbrev pub run_of : {S E : Type 0} → NodeRules S E → ℕ → Bool → Configurations → Run S E
 run_of rules start quiet accepted = opened_run rules accepted.first (later_of accepted.second) (8 * start) quiet
 
--- the lines behind the configurations are the events of a node that was opened for them
-abbrev pub RunsLines : {S E : Type 0} → NodeRules S E → ℕ → Bool → (Run S E → Type 0) → End → End → Status → Type 0
-RunsLines rules start quiet Holds source sink status = RunsConfigured Both (node_lines rules)
-    (run_of rules start quiet) Holds source sink status
-
 -- a node stands for just the events of a run
 abbrev pub HasRunHistory : {S E V : Type 0} → NodeRules S E → (Planned → S → V → Type 0) → (Output → V → Type 0) → V
     → Run S E → Type 0
-HasRunHistory rules Represents Shows node run = RepresentsHistory rules Represents Shows run.began (rules.planned run.node) run.first run.events run.lines node
+HasRunHistory rules Represents Shows node run = RepresentsHistory rules Represents Shows run.began
+    (rules.planned run.node) run.first run.events run.lines node
 
--- where all went well there is a node, which stands for just the events of this run
-abbrev pub GivesNode : {S E V : Type 0} → NodeRules S E → (Planned → S → V → Type 0) → (Output → V → Type 0) → ℕ → Bool
-    → End → End → Result V Status → Type 0
-GivesNode rules Represents Shows start quiet source sink (Ok node) = RunsLines rules start quiet (HasRunHistory rules Represents Shows node) source sink Well
-GivesNode rules Represents Shows start quiet source sink (Err status) = RunsLines rules start quiet (λ run. Unit {0}) source sink status × (status ≢ Well)
+-- the bench holds just one node, by itself, which stands for just the events of a run
+abbrev pub HoldsNode : {S E V : Type 0} → NodeRules S E → (Planned → S → V → Type 0) → (Output → V → Type 0)
+    → (V → Nodes) → Nodes → Run S E → Type 0
+HoldsNode {V = V} rules Represents Shows alone nodes run = (node : V) × ((nodes ≡ alone node)
+    × HasRunHistory rules Represents Shows node run)
 
 -- what the bench holds after a run that went well, in this state
 abbrev pub IfWell : {S : Type 0} → (Nodes → S → Type 0) → Nodes → Status → S → Type 0
 IfWell Holds nodes Well run = Holds nodes run
 IfWell Holds nodes status run = Unit {0}
 
+-- a handler that was opened for configurations stands for the state in which its command is opened
+abbrev pub OpensAs : {S C : Type 0} → (S → C → Type 0) → (Configurations → C → Type 0) → (Configurations → S) → Type 0
+OpensAs {S} {C} represents opens opened = (accepted : Configurations) (handler : C) → opens accepted handler
+    → represents (opened accepted) handler
+
+-- the bench holds what a handler handed over that stood for a state
+abbrev pub HeldBy : {S C : Type 0} → (S → C → Type 0) → (C → Nodes → Type 0) → Nodes → S → Type 0
+HeldBy {S} {C} represents hands nodes state = (handler : C) × (represents state handler × hands handler nodes)
+
 -- a run of a command with nodes: the text that is written, the status, and what the bench holds
-pub record RunsWith {S : Type 0} (kind : FrontKind) (semantics : Semantics S) (opened : Configurations → S) (Holds : Nodes → S → Type 0) (source sink : End) (nodes : Nodes) (status : Status) : Type 0 where
+pub record RunsWith {S : Type 0} (kind : FrontKind) (semantics : Semantics S) (opened : Configurations → S)
+    (Holds : Nodes → S → Type 0) (source sink : End) (nodes : Nodes) (status : Status) : Type 0 where
   pub runs : RunsConfigured kind semantics opened (IfWell Holds nodes status) source sink status
   pub idle : status ≢ Well → nodes ≡ no_nodes
 

@@ -16,12 +16,10 @@ use Rattle.dch_top.specs.Checked.{Checks}
 use Rattle.dch_top.specs.Encoded.{Encodes}
 use Rattle.dch_top.specs.GenRuns.{RunsGen}
 use Rattle.dch_top.specs.LinkRuns.{AreLinkLines, RunsLink}
-use Rattle.dch_top.specs.NodeBRuns.{RunsNodeB}
 use Rattle.dch_top.specs.NodeRuns.{AreNodeLines}
+use Rattle.dch_top.specs.OneNode.{RunsNodeB, RunsRnc, RunsUe}
 use Rattle.dch_top.specs.PairRuns.{RunsPair}
-use Rattle.dch_top.specs.RncRuns.{RunsRnc}
 use Rattle.dch_top.specs.SoftRuns.{AreSoftLines, RunsSoft}
-use Rattle.dch_top.specs.UeRuns.{RunsUe}
 use Rattle.dch_check.specs.declared.status.Status.{Status}
 use Rattle.dch_check.specs.declared.status.Status.TheVariants.{Usage, WriteFault, NoMemory}
 use Rattle.dch_check.specs.declared.front.FrontKind.{FrontKind}
@@ -65,7 +63,8 @@ Runs NodeB arguments source sink bench status = RunsNodeB arguments.start argume
 Runs Rnc arguments source sink bench status = RunsRnc arguments.start arguments.quiet source sink bench status
 Runs Ue arguments source sink bench status = RunsUe arguments.start arguments.quiet source sink bench status
 Runs Link arguments source sink bench status = RunsLink arguments.start arguments.quiet source sink bench status
-Runs Soft arguments source sink bench status = RunsSoft arguments.count arguments.start arguments.quiet source sink bench status
+Runs Soft arguments source sink bench status = RunsSoft arguments.count arguments.start arguments.quiet source sink
+    bench status
 Runs Gen arguments source sink bench status = RunsGen arguments.start arguments.count source sink bench status
 Runs Pair arguments source sink bench status = RunsPair source sink status × (bench ≡ no_nodes)
 

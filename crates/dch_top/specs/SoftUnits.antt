@@ -40,7 +40,8 @@ TakesFromLeg planned first legs =
     → (t : Tti (channel_at planned.config.uplink.side i).frames (channel_at planned.config.uplink.side i).set mid last)
     → ArrivesAtLeg planned k
     (channel_at planned.config.uplink.side i).frames (channel_at planned.config.uplink.side i).set mid last t
-    → OthersAreSent (last.soft.frames (channel_at planned.config.uplink.side i).set) k i (as_sent (channel_at planned.config.uplink.side i) (last.soft.ue.state.layer.given i))
+    → OthersAreSent (last.soft.frames (channel_at planned.config.uplink.side i).set) k i
+    (as_sent (channel_at planned.config.uplink.side i) (last.soft.ue.state.layer.given i))
     → AtStage (Combine (channel_at planned.config.uplink.side i).set) last.soft new own
     → TakesGiven planned (channel_at planned.config.uplink.side i).set i (last.soft.ue.state.layer.given i)
     (channel_at planned.config.uplink.side i).frames mid last t new
@@ -56,19 +57,23 @@ ShowsUnits reported text = (dir : Dir) (b : ℕ) → b < 2 ^ 64 → got_rows dir
 
 -- the calls of an acknowledged bearer's ends are a history of two ends, and the rows of the text are those of the units
 -- that it hands up
-pub record HandsUpRows (planned : Planned) (first b : ℕ) (happened : List EndEvent) (soft : SoftState) (reported : List Line) (text : List ℕ) : Type 0 where
+pub record HandsUpRows (planned : Planned) (first b : ℕ) (happened : List EndEvent) (soft : SoftState)
+    (reported : List Line) (text : List ℕ) : Type 0 where
   pub units : HandsUp planned first b happened soft reported
   pub up : got_rows Up b (lines_of text)
-      ≡ rows_of (got_lines Up b (pair_after planned.config Up Down b units.history.events).far.entity.receiver.reading.units)
+      ≡ rows_of (got_lines Up b (pair_after planned.config Up Down b
+      units.history.events).far.entity.receiver.reading.units)
   pub down : got_rows Down b (lines_of text)
-      ≡ rows_of (got_lines Down b (pair_after planned.config Up Down b units.history.events).near.entity.receiver.reading.units)
+      ≡ rows_of (got_lines Down b (pair_after planned.config Up Down b
+      units.history.events).near.entity.receiver.reading.units)
 
 -- the lines of a script lead the nodes of a soft handover, opened for a configuration and so many legs, through a run
 -- of what they say, and this text is shown of it. Whatever damage comes on any leg, a TTI that arrives over one leg as
 -- it was sent, or with little damage, is taken as it was given; and where after each event at the terminal and the
 -- network controller both channels of an acknowledged bearer are faithful, the rows of the text are just the units that
 -- a history of its two ends hands up
-pub record CarriesSoft (planned : Planned) (first legs : ℕ) (quiet : Bool) (script : List (List ℕ)) (text : List ℕ) : Type 0 where
+pub record CarriesSoft (planned : Planned) (first legs : ℕ) (quiet : Bool) (script : List (List ℕ))
+    (text : List ℕ) : Type 0 where
   pub moves : List Move
   pub said : AreSaid legs planned.config script moves
   pub new : Point
@@ -83,7 +88,8 @@ pub record CarriesSoft (planned : Planned) (first legs : ℕ) (quiet : Bool) (sc
   pub acknowledged : (b up down : ℕ) → IsAcknowledged planned b up down
       → AfterEach (AreFaithful up down) (opened_nodes planned first first)
       (end_events moves (opened_point planned first legs) new reported run)
-      → HandsUpRows planned first b (end_events moves (opened_point planned first legs) new reported run) new.soft reported text
+      → HandsUpRows planned first b (end_events moves (opened_point planned first legs) new reported run)
+      new.soft reported text
 
 -- the source gave one configuration that is accepted, and lines behind it that lead the nodes through such a run; the
 -- sink took the line `open`, the text that is shown of the run, and the closing line

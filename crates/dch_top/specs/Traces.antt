@@ -20,7 +20,8 @@ use Rattle.dch_check.specs.declared.front.FrontKind.TheVariants.{Both}
 
 -- the answer to an input of good lines behind accepted configurations, from the line `open` to the line that counts the
 -- radio frames
-pub record IsAnswer {S E : Type 0} (rules : NodeRules S E) (start : ℕ) (quiet : Bool) (input written : List ℕ) : Type 0 where
+pub record IsAnswer {S E : Type 0} (rules : NodeRules S E) (start : ℕ) (quiet : Bool)
+    (input written : List ℕ) : Type 0 where
   pub accepted : Configurations
   pub is : ArePlannedAs Both (configuration_of input) accepted
   pub ended : rest_of (script_of input) ≡ []
@@ -39,7 +40,8 @@ pub record Answers {S E : Type 0} (rules : NodeRules S E) (start : ℕ) (quiet :
   pub answer : IsAnswer rules start quiet taken written
 
 -- an input has a line between others, and another one has the same configurations and just the others
-pub record HasLine (before : List (List ℕ)) (line : List ℕ) (after : List (List ℕ)) (input shorter : List ℕ) : Type 0 where
+pub record HasLine (before : List (List ℕ)) (line : List ℕ) (after : List (List ℕ))
+    (input shorter : List ℕ) : Type 0 where
   pub lines : lines_of (script_of input) ≡ before ++ line ∷ after
   pub others : lines_of (script_of shorter) ≡ before ++ after
   pub same : configuration_of shorter ≡ configuration_of input
@@ -47,7 +49,8 @@ pub record HasLine (before : List (List ℕ)) (line : List ℕ) (after : List (L
 
 -- behind some lines of a run a line brings an Iub frame of a set, and is answered by the one line that says that it is
 -- refused, with a number
-pub record IsAnsweredBad {S E : Type 0} (rules : NodeRules S E) (dir : Dir) (run : Run S E) (before : List (List ℕ)) (line : List ℕ) (set number : ℕ) : Type 0 where
+pub record IsAnsweredBad {S E : Type 0} (rules : NodeRules S E) (dir : Dir) (run : Run S E) (before : List (List ℕ))
+    (line : List ℕ) (set number : ℕ) : Type 0 where
   pub mid : Run S E
   pub text : List ℕ
   pub handles : HandlesLines (node_lines rules) run before mid text
@@ -60,7 +63,8 @@ pub record IsAnsweredBad {S E : Type 0} (rules : NodeRules S E) (dir : Dir) (run
   pub bad : takes.takes.output.lines ≡ IubBad dir set number ∷ []
 
 -- the shorter input is answered by the same text, less what is shown of some lines
-pub record LeavesNoTrace {S E : Type 0} (rules : NodeRules S E) (start : ℕ) (quiet : Bool) (shorter : List ℕ) (lines : List Line) (written : List ℕ) : Type 0 where
+pub record LeavesNoTrace {S E : Type 0} (rules : NodeRules S E) (start : ℕ) (quiet : Bool) (shorter : List ℕ)
+    (lines : List Line) (written : List ℕ) : Type 0 where
   pub front : List ℕ
   pub back : List ℕ
   pub whole : written ≡ front ++ shown quiet (text_of lines) ++ back

@@ -20,17 +20,16 @@ ghost use Rattle.dch_top.specs.Ran.{AreEventsFor, Asks, IsNoCommand, Misuses, Ra
 use crate::arguments::{Arguments, Subcommand, parse_arguments};
 use crate::bench::Bench;
 use crate::check::run_check;
-use crate::encode::run_encode;
 use crate::generate::run_generate;
-use crate::link::run_link;
-use crate::node_b::run_node_b;
-use crate::pair::run_pair;
-use crate::rnc::run_rnc;
-use crate::soft::run_soft;
-use crate::ue::run_ue;
+use crate::lines::{run_encode, run_pair};
+use crate::nodes::run_nodes;
 use dch_bits::NoMemory;
 use dch_check::Status;
 use dch_io::{CleanSink, CleanSource, Sink, Source, write_all};
+use dch_nodecmd::dch_rnc::Rnc;
+use dch_nodecmd::dch_ue::Ue;
+use dch_nodecmd::{NodeB, NodeHandler};
+use dch_runlaw::{LinkHandler, SoftHandler};
 use std::alloc::Global;
 
 /// Runs the command that the words name: reads from the source and writes to the sink. The words don't hold the
@@ -145,21 +144,19 @@ fn run_command<S: Source, K: Sink>(
     ensures { Runs arguments.subcommand arguments (end_of S.left S.faults source.old source.new)
         (end_of K.taken K.faults sink.old sink.new) bench.new result }
 {
-    let Arguments {
-        count,
-        start,
-        quiet,
-        ..
-    } = arguments;
     match arguments.subcommand {
         Subcommand::Check => run_check(alloc, source, sink),
         Subcommand::Encode => run_encode(alloc, source, sink),
-        Subcommand::NodeB => run_node_b(alloc, start, quiet, source, sink, bench),
-        Subcommand::Rnc => run_rnc(alloc, start, quiet, source, sink, bench),
-        Subcommand::Ue => run_ue(alloc, start, quiet, source, sink, bench),
-        Subcommand::Link => run_link(alloc, start, quiet, source, sink, bench),
-        Subcommand::Soft => run_soft(alloc, arguments, source, sink, bench),
-        Subcommand::Gen => run_generate(alloc, start, count, sink, bench),
+        Subcommand::NodeB => run_nodes::<NodeHandler<NodeB>, S, K>(
+            alloc, arguments, source, sink, bench,
+        ),
+        Subcommand::Rnc => run_nodes::<NodeHandler<Rnc>, S, K>(
+            alloc, arguments, source, sink, bench,
+        ),
+        Subcommand::Ue => run_nodes::<NodeHandler<Ue>, S, K>(alloc, arguments, source, sink, bench),
+        Subcommand::Link => run_nodes::<LinkHandler, S, K>(alloc, arguments, source, sink, bench),
+        Subcommand::Soft => run_nodes::<SoftHandler, S, K>(alloc, arguments, source, sink, bench),
+        Subcommand::Gen => run_generate(alloc, arguments.start, arguments.count, sink, bench),
         Subcommand::Pair => run_pair(alloc, source, sink),
     }
 }

@@ -5,9 +5,8 @@ ghost use Rattle.dch_node.specs.Lines.{IubBad};
 ghost use Rattle.dch_nodecmd.specs.NodeBRules.{node_b_rules};
 ghost use Rattle.dch_nodecmd.specs.RncRules.{rnc_rules};
 ghost use Rattle.dch_top.specs.Benches.{Nodes};
-ghost use Rattle.dch_top.specs.NodeBRuns.{RunsNodeB};
 ghost use Rattle.dch_top.specs.NodeRuns.{run_of};
-ghost use Rattle.dch_top.specs.RncRuns.{RunsRnc};
+ghost use Rattle.dch_top.specs.OneNode.{RunsNodeB, RunsRnc};
 ghost use Rattle.dch_check.specs.declared.status.Status.TheVariants.{Ok};
 ghost use Rattle.dch_top.specs.Traces.{Answers, HasLine, IsAnswer, IsAnsweredBad, LeavesNoTrace};
 

@@ -1,6 +1,6 @@
 use Rattle.dch_lines.proofs.Filtering.{told_on}
 use Rattle.dch_link.specs.Events.{Happens}
-use Rattle.dch_link.specs.Standing.{event_of}
+use Rattle.dch_link.specs.LinkNodes.{event_of}
 use Rattle.dch_linkcmd.proofs.Showing.{shows_seen}
 use Rattle.dch_linkcmd.proofs.filter.happen.Goals as goal
 

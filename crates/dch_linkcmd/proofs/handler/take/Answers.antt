@@ -1,5 +1,5 @@
 use Rattle.std.proofs.Common.{◌≡◌, rules, subst}
-use Rattle.dch_link.specs.Standing.{event_of}
+use Rattle.dch_link.specs.LinkNodes.{event_of}
 use Rattle.dch_linkcmd.specs.LineEvents.{Says}
 use Rattle.dch_linkcmd.specs.Reading.{said_of}
 use Rattle.dch_linkcmd.specs.Taking.{TakesEvent}

@@ -1,7 +1,7 @@
 use Rattle.dch_lines.proofs.Filtering.{told_on}
 use Rattle.std.proofs.Common.{None}
 use Rattle.dch_link.specs.SoftEvents.{Happens}
-use Rattle.dch_link.specs.SoftStanding.{event_of}
+use Rattle.dch_link.specs.SoftNodes.{event_of}
 use Rattle.dch_linkcmd.proofs.Showing.{shows_led}
 use Rattle.dch_linkcmd.proofs.soft_filter.happen.Goals as goal
 

@@ -1,5 +1,5 @@
 use Rattle.std.proofs.Common.{◌≡◌, rules, subst}
-use Rattle.dch_link.specs.SoftStanding.{event_of}
+use Rattle.dch_link.specs.SoftNodes.{event_of}
 use Rattle.dch_linkcmd.specs.SoftLineEvents.{OneEvent, Says}
 use Rattle.dch_linkcmd.specs.SoftReading.{said_of}
 use Rattle.dch_linkcmd.specs.SoftTaking.{TakesEvent}

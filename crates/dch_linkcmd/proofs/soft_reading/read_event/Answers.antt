@@ -2,7 +2,7 @@ use Rattle.std.proofs.Common.{sym, subst}
 use Rattle.dch_script.specs.Good.{IsTraffic}
 use Rattle.dch_script.specs.ParsedLine.{parsed_of}
 use Rattle.dch_script.specs.declared.event.Event.{Event}
-use Rattle.dch_link.specs.SoftStanding.{MayCome}
+use Rattle.dch_link.specs.SoftNodes.{MayCome}
 use Rattle.dch_link.specs.declared.soft_event.SoftEvent.{SoftEvent}
 use Rattle.dch_linkcmd.proofs.soft_reading.read_event.Goals.{in-Block, in-Free, in-Unit}
 use Rattle.dch_linkcmd.proofs.soft_reading.read_event.Goals as goal

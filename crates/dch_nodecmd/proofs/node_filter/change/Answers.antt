@@ -1,7 +1,7 @@
 use Rattle.std.proofs.Common.{None}
 use Rattle.dch_node.specs.Standing.{Tells}
 use Rattle.dch_lines.specs.Filtering.{ShowsSeen}
-use Rattle.dch_nodecmd.specs.Standing.{ShowsLines}
+use Rattle.dch_nodecmd.specs.Handlers.{ShowsLines}
 use Rattle.dch_lines.proofs.Filtering.{told_on, told_shown}
 use Rattle.dch_nodecmd.proofs.FilterSteps.{changes_such}
 use Rattle.dch_nodecmd.proofs.node_filter.change.Goals as goal

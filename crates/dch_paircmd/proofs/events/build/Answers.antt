@@ -1,7 +1,7 @@
 use Rattle.std.proofs.Common.{◌<◌, length, arith, subst, sym}
 use Rattle.std.proofs.lemmas.Bool.Decides.{nat_tests}
 use Rattle.dch_script.specs.Pair.{build}
-use Rattle.dch_paircmd.specs.Standing.{LeadsTo, SideValue}
+use Rattle.dch_paircmd.specs.Handlers.{LeadsTo, SideValue}
 use Rattle.dch_paircmd.proofs.Leading.{built}
 use Rattle.dch_paircmd.proofs.events.build.Goals as goal
 

@@ -1,6 +1,6 @@
 use Rattle.std.proofs.Common.{subst, sym}
 use Rattle.dch_script.specs.Pair.{pair_of}
-use Rattle.dch_paircmd.specs.Standing.{Answers, LeadsTo}
+use Rattle.dch_paircmd.specs.Handlers.{Answers, LeadsTo}
 use Rattle.dch_paircmd.proofs.Leading.{began_reset, lost_or_none, ticked}
 use Rattle.dch_paircmd.proofs.events.happen.Goals as goal
 

@@ -5,7 +5,6 @@ use Rattle.dch_node.specs.Lines.{IubBad}
 use Rattle.dch_nodecmd.specs.RncRules.{rnc_rules}
 use Rattle.dch_nodecmd.proofs.RncNoTrace.{no_trace}
 use Rattle.dch_top.specs.NodeRuns.{run_of}
-use Rattle.dch_top.specs.RncRuns.{HoldsRnc}
 use Rattle.dch_top.specs.Traces.{LeavesNoTrace}
 use Rattle.dch_top.proofs.BadFrames.{rnc_refused}
 use Rattle.dch_top.proofs.Traces.{answered, traceless}
@@ -13,7 +12,7 @@ use Rattle.dch_top.proofs.trace_laws.rnc_trace_law.Goals as goal
 
 pub returns : goal.returns
 returns c = record {
-  answers = answered rnc_rules HoldsRnc;
+  answers = answered rnc_rules _;
   no_trace = λ start quiet input shorter written before after line set number answer has bad.
       let is = rnc_refused (run_of rnc_rules start quiet answer.accepted) before line set number bad in
       subst (λ n. LeavesNoTrace rnc_rules start quiet shorter (IubBad Up set n ∷ []) written) is.1.1

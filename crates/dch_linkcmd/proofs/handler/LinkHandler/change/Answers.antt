@@ -1,7 +1,7 @@
 use Rattle.std.proofs.Common.{◌≡◌, Some, None, refl, subst, sym}
 use Rattle.dch_linkcmd.specs.Rules.{Begins, MayChange}
 use Rattle.dch_linkcmd.specs.Run.{Run}
-use Rattle.dch_linkcmd.specs.Standing.{Handler, IsReady, RepresentsRun}
+use Rattle.dch_linkcmd.specs.Handlers.{Handler, IsReady, RepresentsRun}
 use Rattle.dch_linkcmd.specs.contracts.handler.LinkHandler.{the_view}
 use Rattle.dch_lines.specs.declared.later.Later.{Later}
 use Rattle.dch_linkcmd.proofs.Changing.{changed_run, waits_on}

@@ -1,6 +1,6 @@
 use Rattle.std.proofs.Common.{◌≡◌, ℕ, arith, subst}
 use Rattle.dch_linkcmd.specs.Rules.{link_steps}
-use Rattle.dch_linkcmd.specs.Standing.{RepresentsRun}
+use Rattle.dch_linkcmd.specs.Handlers.{RepresentsRun}
 use Rattle.dch_linkcmd.proofs.Frames.{Passed}
 use Rattle.dch_linkcmd.proofs.Framing.{frame_on_next, frame_on_none}
 use Rattle.dch_linkcmd.proofs.handler.LinkHandler.pass_frame.Goals as goal

@@ -6,7 +6,7 @@ use Rattle.dch_link.specs.declared.stage.Stage.{Stage}
 use Rattle.dch_link.specs.declared.stage.Stage.TheVariants.{RncTick}
 use Rattle.dch_linkcmd.specs.Rules.{PassesStage}
 use Rattle.dch_linkcmd.specs.Run.{Run}
-use Rattle.dch_linkcmd.specs.Standing.{Handler, IsReady, RepresentsRun}
+use Rattle.dch_linkcmd.specs.Handlers.{Handler, IsReady, RepresentsRun}
 use Rattle.dch_linkcmd.specs.Stepping.{GoesBy}
 use Rattle.dch_linkcmd.specs.contracts.handler.LinkHandler.{the_view}
 use Rattle.dch_linkcmd.proofs.Cfns.{cfn_none, cfn_some}

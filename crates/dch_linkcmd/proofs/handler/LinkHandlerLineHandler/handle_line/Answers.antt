@@ -3,7 +3,7 @@ use Rattle.dch_io.specs.Pieces.{LIMIT}
 use Rattle.dch_lines.specs.Semantics.{Adds}
 use Rattle.dch_linkcmd.specs.LineEvents.{Frames}
 use Rattle.dch_linkcmd.specs.Rules.{PassesFrames}
-use Rattle.dch_linkcmd.specs.Standing.{Handler, RepresentsRun, StandsBetween}
+use Rattle.dch_linkcmd.specs.Handlers.{Handler, RepresentsRun, StandsBetween}
 use Rattle.dch_linkcmd.specs.Taking.{AsksFrames, TakesEvent, Tells}
 use Rattle.dch_linkcmd.specs.contracts.handler.LinkHandler.{the_view}
 use Rattle.dch_linkcmd.proofs.Framing.{asks_stands, took_frames, took_one}

@@ -6,7 +6,7 @@ use Rattle.dch_link.specs.declared.soft_stage.Stage.{Stage}
 use Rattle.dch_link.specs.declared.soft_stage.Stage.TheVariants.{RncTick}
 use Rattle.dch_linkcmd.specs.SoftRules.{PassesStage}
 use Rattle.dch_linkcmd.specs.SoftRun.{Run}
-use Rattle.dch_linkcmd.specs.SoftStanding.{Handler, RepresentsRun}
+use Rattle.dch_linkcmd.specs.SoftHandlers.{Handler, RepresentsRun}
 use Rattle.dch_linkcmd.specs.Stepping.{GoesBy}
 use Rattle.dch_linkcmd.specs.contracts.soft_handler.SoftHandler.{the_view}
 use Rattle.dch_linkcmd.proofs.SoftPassing.{passes_none, passes_some}

@@ -4,7 +4,7 @@ use Rattle.dch_lines.specs.Semantics.{Adds}
 use Rattle.dch_link.specs.SoftPassing.{IsStage}
 use Rattle.dch_linkcmd.specs.SoftLineEvents.{Frames}
 use Rattle.dch_linkcmd.specs.SoftRules.{PassesFrames}
-use Rattle.dch_linkcmd.specs.SoftStanding.{Handler, RepresentsRun, StandsBetween}
+use Rattle.dch_linkcmd.specs.SoftHandlers.{Handler, RepresentsRun, StandsBetween}
 use Rattle.dch_linkcmd.specs.SoftTaking.{AsksFrames, TakesEvent, Tells}
 use Rattle.dch_linkcmd.specs.contracts.soft_handler.SoftHandler.{the_view}
 use Rattle.dch_linkcmd.proofs.SoftFraming.{asks_stands, took_frames, took_one}

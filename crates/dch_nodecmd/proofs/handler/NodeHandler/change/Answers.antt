@@ -1,6 +1,6 @@
 use Rattle.std.proofs.Common.{◌≡◌, None, refl, sym, subst}
 use Rattle.dch_accept.specs.Plans.{Planned}
-use Rattle.dch_nodecmd.specs.Standing.{CanChange, Changes, Handler, IsReady, RepresentsRun, ShowsLines}
+use Rattle.dch_nodecmd.specs.Handlers.{CanChange, Changes, Handler, IsReady, RepresentsRun, ShowsLines}
 use Rattle.dch_nodecmd.proofs.Changing.{can_change, changed}
 use Rattle.dch_nodecmd.proofs.handler.NodeHandler.change.Goals as goal
 

@@ -1,5 +1,5 @@
 use Rattle.std.proofs.Common.{refl}
-use Rattle.dch_nodecmd.specs.Standing.{Handler}
+use Rattle.dch_nodecmd.specs.Handlers.{Handler}
 use Rattle.dch_nodecmd.proofs.Changing.{opened_ready}
 use Rattle.dch_nodecmd.proofs.handler.NodeHandler.open.Goals as goal
 

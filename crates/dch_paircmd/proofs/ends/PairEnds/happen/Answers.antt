@@ -3,7 +3,7 @@ use Rattle.std.specs.Prelude.{◌==◌}
 use Rattle.std.proofs.lemmas.Bool.{ne_eqb}
 use Rattle.dch_script.specs.Pair.{pair_of}
 use Rattle.dch_paircmd.specs.Rules.{end_in}
-use Rattle.dch_paircmd.specs.Standing.{AreEnds, EndsValue}
+use Rattle.dch_paircmd.specs.Handlers.{AreEnds, EndsValue}
 use Rattle.dch_paircmd.specs.contracts.ends.PairEnds.{the_view}
 use Rattle.dch_paircmd.proofs.Handling.{first_answers, first_sides, second_answers, second_sides}
 use Rattle.dch_paircmd.proofs.ends.PairEnds.happen.Goals as goal

@@ -1,7 +1,7 @@
 use Rattle.std.proofs.Common.{◌≡◌, ◌∙◌, Option, Some, None, IfErr, OnOk, subst, sym}
 use Rattle.dch_lines.specs.Semantics.{Adds, Does, Leads}
 use Rattle.dch_paircmd.specs.Rules.{pair_lines}
-use Rattle.dch_paircmd.specs.Standing.{EndsValue, RepresentsRun}
+use Rattle.dch_paircmd.specs.Handlers.{EndsValue, RepresentsRun}
 use Rattle.dch_paircmd.proofs.Handling.{Fails, pass_fails, passes, starts}
 use Rattle.dch_paircmd.proofs.handler.PairHandlerLineHandler.handle_line.Goals as goal
 

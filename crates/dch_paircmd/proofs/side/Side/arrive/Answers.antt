@@ -4,7 +4,7 @@ use Rattle.dch_reset.specs.Answers.{came_read}
 use Rattle.dch_reset.specs.Standing.{size_in, size_of}
 use Rattle.dch_rlcpdu.specs.Am.{am_reading}
 use Rattle.dch_paircmd.specs.Queues.{octets_of}
-use Rattle.dch_paircmd.specs.Standing.{AreShort, IsSide, SideValue}
+use Rattle.dch_paircmd.specs.Handlers.{AreShort, IsSide, SideValue}
 use Rattle.dch_paircmd.specs.contracts.side.Side.{the_view}
 use Rattle.dch_paircmd.proofs.Arriving.{arrived}
 use Rattle.dch_paircmd.proofs.side.Side.arrive.Goals as goal

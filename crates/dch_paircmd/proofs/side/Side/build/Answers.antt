@@ -1,7 +1,7 @@
 use Rattle.std.proofs.Common.{◌≡◌, ◌∙◌, subst, sym}
 use Rattle.dch_reset.specs.Standing.{Represents, size_of}
 use Rattle.dch_reset.specs.State.{Build, IsWritten, step, turn}
-use Rattle.dch_paircmd.specs.Standing.{IsSide, SideValue}
+use Rattle.dch_paircmd.specs.Handlers.{IsSide, SideValue}
 use Rattle.dch_paircmd.specs.contracts.side.Side.{the_view}
 use Rattle.dch_paircmd.proofs.side.Side.build.Goals as goal
 

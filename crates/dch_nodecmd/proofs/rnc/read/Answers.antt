@@ -1,0 +1,9 @@
+use Rattle.dch_types.specs.declared.channel.Dir.TheVariants.{Down}
+use Rattle.dch_nodecmd.proofs.Senders.{sends}
+use Rattle.dch_nodecmd.proofs.rnc.read.Goals as goal
+
+pub returns-in-Unit-clause-comes : goal.returns-in-Unit-clause-comes
+returns-in-Unit-clause-comes c =
+    let good = rw c.in-Unit.is at c.requires.good in
+    let has = sends c.args.accepted.now.config Down c.in-Unit.bearer good.1.0 in
+    record { there = has.0; sends = has.1 }
