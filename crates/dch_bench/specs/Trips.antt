@@ -13,7 +13,8 @@ abbrev pub AreNoted : List Loaded → List (Option ℕ) → Type 0
 AreNoted tti noted = (i f : ℕ) → slice_index_or noted i None ≡ Some f → (loaded_at tti i).format ≡ Some f
 
 -- all parts of a trip were opened for the configuration
-pub record IsTripOf {E : Type 0} (dir : Dir) (opened : Planned → E → Type 0) (loaded : E → List Loaded) (planned : Planned) (trip : RoundTrip E) : Type 0 where
+pub record IsTripOf {E : Type 0} (dir : Dir) (opened : Planned → E → Type 0) (loaded : E → List Loaded)
+    (planned : Planned) (trip : RoundTrip E) : Type 0 where
   pub ends : opened planned trip.ends
   pub noted : AreNoted (loaded trip.ends) trip.noted
   pub sent : IsOpenedFor planned.config dir trip.sent

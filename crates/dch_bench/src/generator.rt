@@ -1,5 +1,5 @@
 ghost use Rattle.std.specs.Prelude.{◌≤◌, ◌+◌, length};
-ghost use Rattle.dch_gen.specs.Standing.{IsReady, MayCount};
+ghost use Rattle.dch_gen.specs.Generators.{IsReady, MayCount};
 
 use crate::fault::Fault;
 use crate::sum::Sum;

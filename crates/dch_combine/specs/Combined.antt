@@ -71,7 +71,8 @@ pub record IsBest (legs : ℕ → Option LegFrame) (qe : ℕ) : Type 0 where
 
 -- the combined frame of a set: the Iub frame that is written of the combined blocks, their marks, the best quality
 -- estimate and a CFN
-pub record IsCombinedFrame (config : Config) (set : ℕ) (legs : ℕ → Option LegFrame) (cfn : ℕ) (frame : List ℕ) : Type 0 where
+pub record IsCombinedFrame (config : Config) (set : ℕ) (legs : ℕ → Option LegFrame) (cfn : ℕ)
+    (frame : List ℕ) : Type 0 where
   pub held : HeldSet
   pub qe : ℕ
   pub channels : ForSet config.uplink.side set (λ i. IsCombinedTti legs i (held_at held.blocks i))

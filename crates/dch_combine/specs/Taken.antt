@@ -44,7 +44,8 @@ FindsBest legs None = (k : ℕ) → legs k ≡ None
 FindsBest legs (Some qe) = IsBest legs qe
 
 -- the combined frame stands at the front, and what is behind it is as it was
-pub record IsGiven (config : Config) (set cfn : ℕ) (legs : ℕ → Option LegFrame) (len : ℕ) (old new : List ℕ) : Type 0 where
+pub record IsGiven (config : Config) (set cfn : ℕ) (legs : ℕ → Option LegFrame) (len : ℕ)
+    (old new : List ℕ) : Type 0 where
   pub fits : len ≤ length new
   pub frame : IsCombinedFrame config set legs cfn (take len new)
   pub rest : drop len new ≡ drop len old

@@ -74,7 +74,8 @@ pub fn combine(
     requires frame { HaveFrame (frames_in legs.now) }
     requires room { HoldsTtis accepted.now.config.uplink.side tti.old.room }
     requires out { IsSetOf accepted.now.config Up set out.old }
-    ensures combined { ForSet accepted.now.config.uplink.side set (λ i. IsCombinedTti (frames_in legs.now) i (held_at out.new.blocks i)) }
+    ensures combined { ForSet accepted.now.config.uplink.side set
+        (λ i. IsCombinedTti (frames_in legs.now) i (held_at out.new.blocks i)) }
     ensures out { IsSetOf accepted.now.config Up set out.new }
     ensures room { tti.new.room ≡ tti.old.room }
 {

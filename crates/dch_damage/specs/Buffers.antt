@@ -25,7 +25,8 @@ pub record HoldsSets (sets : List IubTables) (room : ℕ) : Type 0 where
   pub each : (s : ℕ) → s < 8 → length (set_in sets s).masks ≤ room
 
 -- there is memory for what the tables of both directions hit
-pub record HoldsAll (up down : RadioTables) (up_sets down_sets : List IubTables) (radio : RadioArrival) (iub : IubArrival) : Type 0 where
+pub record HoldsAll (up down : RadioTables) (up_sets down_sets : List IubTables) (radio : RadioArrival)
+    (iub : IubArrival) : Type 0 where
   pub radio_up : HoldsRadio up radio
   pub radio_down : HoldsRadio down radio
   pub iub_up : HoldsSets up_sets iub.room

@@ -63,7 +63,8 @@ abbrev pub mask_of : Damage → Dir → ℕ → ℕ → ℕ
 mask_of (Flip dir' tfci' place') dir set octet = 0
 mask_of (Lose dir') dir set octet = 0
 mask_of (LoseIub dir' set') dir set octet = 0
-mask_of (Spoil dir' set' octet' mask) dir set octet = if same_dir dir' dir && (set' == set) && (octet' == octet) then mask else 0
+mask_of (Spoil dir' set' octet' mask) dir set octet = if same_dir dir' dir && (set' == set) && (octet' == octet)
+    then mask else 0
 
 -- the masks for the octet, joined by exclusive or
 abbrev pub mask_on : List Damage → Dir → ℕ → ℕ → ℕ

@@ -8,14 +8,14 @@ use Rattle.dch_link.specs.Events.{Event, Happens}
 use Rattle.dch_link.specs.Link.{LinkState, opened_link}
 use Rattle.dch_link.specs.Passing.{IsStage, next_stage, stages_left}
 use Rattle.dch_link.specs.Stages.{AtStage}
-use Rattle.dch_link.specs.Standing.{IsLinkOf, Represents}
+use Rattle.dch_link.specs.LinkNodes.{IsLinkOf, Represents}
 use Rattle.dch_link.specs.declared.stage.Stage.{Stage}
 use Rattle.dch_link.specs.declared.stage.Stage.TheVariants.{RncTick, IubDown, RadioDown, UeTick, RadioUp, IubUp}
 use Rattle.dch_gen.specs.Counting.{AreCountsOf}
 use Rattle.dch_gen.proofs.Counted.{room_less}
 use Rattle.dch_gen.specs.declared.counts.Counts.{Counts}
 use Rattle.dch_gen.specs.Run.{Follows, HappenAll, PassFrames, PassFrom, PassesAll, PassesFrame}
-use Rattle.dch_gen.specs.Standing.{Advances, HasPassed, IsReady, MayCount, Parts, stage_bytes}
+use Rattle.dch_gen.specs.Generators.{Advances, HasPassed, IsReady, MayCount, Parts, stage_bytes}
 
 -- the counts went on by the lines of one thing, and by those of another
 both_counted : (front back : List Line) (old mid new : Counts) (before : List Line) → ((more : List Line) → AreCountsOf more old → AreCountsOf (more ++ front) mid) → ((more : List Line) → AreCountsOf more mid → AreCountsOf (more ++ back) new)

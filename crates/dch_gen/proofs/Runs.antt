@@ -6,9 +6,9 @@ use Rattle.dch_script.specs.Held.{Held}
 use Rattle.dch_link.specs.NodebValues.{Node as NodeB}
 use Rattle.dch_link.specs.RncValues.{Node as Rnc}
 use Rattle.dch_link.specs.UeValues.{Node as Ue}
-use Rattle.dch_link.specs.Standing.{HaveHistories}
+use Rattle.dch_link.specs.LinkNodes.{HaveHistories}
 use Rattle.dch_gen.specs.Summary.{summary}
-use Rattle.dch_gen.specs.Standing.{HasPassed, Parts}
+use Rattle.dch_gen.specs.Generators.{HasPassed, Parts}
 use Rattle.dch_gen.specs.GenRuns.{CutsSummary, GenRun, IsConfigured, WritesSummary}
 
 -- a generator that has passed all radio frames is a run

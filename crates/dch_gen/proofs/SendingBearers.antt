@@ -8,7 +8,7 @@ use Rattle.dch_link.specs.RncStanding.{SendsDown}
 use Rattle.dch_link.specs.UeStanding.{SendsUp}
 use Rattle.dch_gen.specs.Bearers.{gen_bearers}
 use Rattle.dch_gen.specs.Configuration.{gen_config}
-use Rattle.dch_gen.specs.Standing.{HasBearers}
+use Rattle.dch_gen.specs.Generators.{HasBearers}
 
 sends_up : (b : ℕ) → b < 6 → SendsUp gen_config b
 unfolding gen_config gen_bearers

@@ -5,10 +5,10 @@ use Rattle.dch_node.specs.Lines.{Line}
 use Rattle.dch_node.specs.Standing.{Tells}
 use Rattle.dch_link.specs.SteptextReports.{TellsFew}
 use Rattle.dch_link.specs.Link.{LinkState}
-use Rattle.dch_link.specs.Standing.{IsLinkOf, LeadsTo, Represents}
+use Rattle.dch_link.specs.LinkNodes.{IsLinkOf, LeadsTo, Represents}
 use Rattle.dch_gen.specs.Counting.{HasRoom, ShowsCounts}
 use Rattle.dch_gen.proofs.Counted.{few_room, room_less, told_counts}
-use Rattle.dch_gen.specs.Standing.{Advances, HasBearers, IsReady, MayCount, Parts, stage_bytes}
+use Rattle.dch_gen.specs.Generators.{Advances, HasBearers, IsReady, MayCount, Parts, stage_bytes}
 
 pub stepped : (Does : LinkState → LinkState → List Line → Type 0) (old new : Parts) → IsReady old → MayCount old 1
     → ((began : Planned) (first : ℕ) (link : LinkState) → Represents began old.accepted first link old.link → LeadsTo began old.accepted first (Does link) new.link (Tells ShowsCounts old.counts new.counts))

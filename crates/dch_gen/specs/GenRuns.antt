@@ -9,7 +9,7 @@ use Rattle.dch_link.specs.NodebValues.{Node as NodeB}
 use Rattle.dch_link.specs.RncValues.{Node as Rnc}
 use Rattle.dch_link.specs.UeValues.{Node as Ue}
 use Rattle.dch_link.specs.Link.{LinkState}
-use Rattle.dch_link.specs.Standing.{HaveHistories}
+use Rattle.dch_link.specs.LinkNodes.{HaveHistories}
 use Rattle.dch_gen.specs.Summary.{summary}
 use Rattle.dch_gen.specs.Configuration.{gen_config}
 use Rattle.dch_gen.specs.Run.{Runs}

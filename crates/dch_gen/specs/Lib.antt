@@ -1,6 +1,6 @@
 pub mod Run
 pub mod Sizes
-pub mod Standing
+pub mod Generators
 pub mod Units
 pub mod Channels
 pub mod Combinations
@@ -18,6 +18,6 @@ pub use Rattle.dch_link.specs.SoftPassing
 pub use Rattle.dch_link.specs.Soft as LinkSoft
 pub use Rattle.dch_link.specs.SoftStages
 pub use Rattle.dch_link.specs.declared.soft_stage
-pub use Rattle.dch_link.specs.Standing as LinkStanding
-pub use Rattle.dch_link.specs.SoftStanding as LinkSoftStanding
+pub use Rattle.dch_link.specs.LinkNodes
+pub use Rattle.dch_link.specs.SoftNodes
 pub use Rattle.dch_link.specs.Link as LinkLink

@@ -11,7 +11,8 @@ use Rattle.dch_link.specs.declared.stage.Stage.TheVariants.{RncTick}
 use Rattle.dch_gen.specs.Units.{offered}
 
 -- one thing is done after another, and the lines are those of both
-pub record Follows (First Then : LinkState → LinkState → List Line → Type 0) (old new : LinkState) (lines : List Line) : Type 0 where
+pub record Follows (First Then : LinkState → LinkState → List Line → Type 0) (old new : LinkState)
+    (lines : List Line) : Type 0 where
   pub mid : LinkState
   pub front : List Line
   pub back : List Line

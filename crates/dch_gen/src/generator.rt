@@ -5,10 +5,10 @@ ghost use Rattle.dch_link.specs.Events.{Happens};
 ghost use Rattle.dch_link.specs.Link.{LinkState, opened_link};
 ghost use Rattle.dch_link.specs.Passing.{IsStage};
 ghost use Rattle.dch_link.specs.Stages.{AtStage};
-ghost use Rattle.dch_link.specs.Standing.{HaveHistories, MayCome, Represents, event_of};
+ghost use Rattle.dch_link.specs.LinkNodes.{HaveHistories, MayCome, Represents, event_of};
 ghost use Rattle.dch_gen.specs.Summary.{summary};
 ghost use Rattle.dch_gen.specs.Run.{HappenAll, PassesAll, PassesFrame, Runs};
-ghost use Rattle.dch_gen.specs.Standing.{Advances, HasBearers, HasPassed, IsReady, MayCount};
+ghost use Rattle.dch_gen.specs.Generators.{Advances, HasBearers, HasPassed, IsReady, MayCount};
 ghost use Rattle.dch_gen.specs.Units.{offered_below, offers};
 ghost use Rattle.dch_gen.specs.Sizes.{size_of};
 
@@ -42,7 +42,7 @@ impl Drop for Generator {
 }
 
 impl Model for Generator {
-    ghost use Rattle.dch_gen.specs.Standing.{Parts};
+    ghost use Rattle.dch_gen.specs.Generators.{Parts};
 
     ghost Value = { Parts };
 

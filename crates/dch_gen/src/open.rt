@@ -1,5 +1,5 @@
 ghost use Rattle.std.specs.Prelude.{◌≡◌, ◌%◌, ℕ, IfOk};
-ghost use Rattle.dch_gen.specs.Standing.{HasPassed, IsReady, MayCount};
+ghost use Rattle.dch_gen.specs.Generators.{HasPassed, IsReady, MayCount};
 ghost use Rattle.dch_gen.specs.GenRuns.{IsConfigured};
 
 use crate::accepting::accept_gen;

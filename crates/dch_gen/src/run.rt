@@ -1,6 +1,6 @@
 ghost use Rattle.std.specs.Prelude.{◌≤◌, ◌*◌, IfOk};
 ghost use Rattle.dch_io.specs.Ends.{end_of};
-ghost use Rattle.dch_gen.specs.Standing.{HasPassed};
+ghost use Rattle.dch_gen.specs.Generators.{HasPassed};
 ghost use Rattle.dch_gen.specs.GenRuns.{GivesNodes, IsConfigured};
 
 use crate::generator::Generator;

@@ -14,7 +14,7 @@ use Rattle.dch_link.specs.Events.{BlockedCombination, Damages, Event, Happens, O
 use Rattle.dch_link.specs.Link.{LinkState}
 use Rattle.dch_link.specs.Passing.{cfn_after}
 use Rattle.dch_link.specs.Stages.{AtStage, MayGoDown, MayGoUp, NodeBGoes, RncGoes, UeGoes}
-use Rattle.dch_link.specs.Standing.{IsLinkOf, LeadsTo, Represents}
+use Rattle.dch_link.specs.LinkNodes.{IsLinkOf, LeadsTo, Represents}
 use Rattle.dch_link.specs.Values.{Nodes}
 use Rattle.dch_link.specs.declared.stage.Stage.{Stage}
 use Rattle.dch_link.specs.declared.stage.Stage.TheVariants.{RncTick, IubDown, RadioDown, UeTick, RadioUp, IubUp}

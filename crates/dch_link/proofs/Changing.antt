@@ -19,7 +19,7 @@ use Rattle.dch_rnc.specs.Steps.{Steps as RncSteps}
 use Rattle.dch_rnc.specs.Values.{Node as Rnc}
 use Rattle.dch_link.specs.Courses.{Course, course_after}
 use Rattle.dch_link.specs.Link.{LinkState}
-use Rattle.dch_link.specs.Standing.{ChangesTo, Represents}
+use Rattle.dch_link.specs.LinkNodes.{ChangesTo, Represents}
 use Rattle.dch_link.specs.Values.{Nodes}
 use Rattle.dch_link.proofs.Coursing.{course_changes}
 use Rattle.dch_link.proofs.Fits.{says_fits}

@@ -17,7 +17,7 @@ use Rattle.dch_rnc.specs.Values.{taken_shown as rnc_taken}
 use Rattle.dch_link.specs.Checks.{good_in}
 use Rattle.dch_link.specs.Comparing.{ComparesAll, good_of}
 use Rattle.dch_link.specs.Link.{LinkState}
-use Rattle.dch_link.specs.Standing.{AreNodesOf, Represents}
+use Rattle.dch_link.specs.LinkNodes.{AreNodesOf, Represents}
 use Rattle.dch_link.specs.Values.{Nodes}
 use Rattle.dch_link.proofs.Reporting.{checked-same}
 

@@ -8,7 +8,7 @@ use Rattle.dch_nodeb.specs.Opened.{HasNext as NodeBHasNext}
 use Rattle.dch_nodeb.specs.Values.{Node as NodeB}
 use Rattle.dch_rnc.specs.Opened.{HasNext as RncHasNext}
 use Rattle.dch_rnc.specs.Values.{Node as Rnc}
-use Rattle.dch_link.specs.Standing.{HasNext}
+use Rattle.dch_link.specs.LinkNodes.{HasNext}
 use Rattle.dch_link.specs.Values.{Nodes}
 
 pub ue_follows : (planned second : Planned) (nodes : Nodes) (ue : Ue) → ((other : Planned) → UeHasNext planned other nodes.ue → UeHasNext planned other ue) → HasNext planned second nodes → HasNext planned second (record nodes { ue = ue })

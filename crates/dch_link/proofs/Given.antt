@@ -28,7 +28,7 @@ use Rattle.dch_rnc.specs.Values.{Node as Rnc}
 use Rattle.dch_link.specs.Errors.{error_number}
 use Rattle.dch_link.specs.Soft.{SoftState, given, with_frame}
 use Rattle.dch_link.specs.SoftStages.{GivesFrame, IsRefused, IsTaken}
-use Rattle.dch_link.specs.SoftStanding.{ArePartsOf, LeadsTo, Represents}
+use Rattle.dch_link.specs.SoftNodes.{ArePartsOf, LeadsTo, Represents}
 use Rattle.dch_link.specs.SoftValues.{Parts}
 use Rattle.dch_link.proofs.SoftNexts.{rnc_next}
 

@@ -9,7 +9,7 @@ use Rattle.dch_nodeb.specs.Values.{radio_shown}
 use Rattle.dch_link.specs.Hearing.{Arrive, radio_heard}
 use Rattle.dch_link.specs.Legs.{LegState, opened_leg, radio_from, undamaged}
 use Rattle.dch_link.specs.Soft.{SoftState, framed}
-use Rattle.dch_link.specs.SoftStanding.{AreLegsOf, AreNewLegs, ArePartsOf, IsLegOf, RepresentLegs, Represents, RepresentsLeg}
+use Rattle.dch_link.specs.SoftNodes.{AreLegsOf, AreNewLegs, ArePartsOf, IsLegOf, RepresentLegs, Represents, RepresentsLeg}
 use Rattle.dch_link.specs.SoftValues.{EachLeg, IsLeg, LegParts, Parts}
 use Rattle.dch_link.proofs.Legs.{new_leg, set_leg}
 

@@ -24,7 +24,7 @@ use Rattle.dch_link.specs.Courses.{course_after}
 use Rattle.dch_link.specs.Events.{Damages, Happens}
 use Rattle.dch_link.specs.Link.{LinkState}
 use Rattle.dch_link.specs.Stages.{NodeBReports, RncReports, UeReports}
-use Rattle.dch_link.specs.Standing.{AreNodesOf, IsLinkOf, LeadsTo, Represents}
+use Rattle.dch_link.specs.LinkNodes.{AreNodesOf, IsLinkOf, LeadsTo, Represents}
 use Rattle.dch_link.specs.Values.{Nodes}
 use Rattle.dch_link.proofs.Coursing.{course_is}
 use Rattle.dch_link.proofs.Fits.{node_b_fits, rnc_fits, ue_fits}

@@ -18,7 +18,7 @@ use Rattle.dch_rnc.specs.State.{opened_state as opened_rnc}
 use Rattle.dch_rnc.specs.Steps.{Steps as RncSteps}
 use Rattle.dch_rnc.specs.Values.{Node as Rnc}
 use Rattle.dch_link.specs.Link.{opened_link}
-use Rattle.dch_link.specs.Standing.{Represents}
+use Rattle.dch_link.specs.LinkNodes.{Represents}
 use Rattle.dch_link.proofs.Coursing.{course_of}
 use Rattle.dch_link.proofs.Fits.{says_fits}
 

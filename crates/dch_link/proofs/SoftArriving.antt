@@ -11,7 +11,7 @@ use Rattle.dch_node.specs.Values.{Radio}
 use Rattle.dch_link.proofs.Arriving.{iub_room, radio_room, tfci_kept}
 use Rattle.dch_link.specs.Hearing.{HaveRadioRooms, IsHeard}
 use Rattle.dch_link.specs.Legs.{LegState, radio_from}
-use Rattle.dch_link.specs.SoftStanding.{AreLegsOf, IsLegOf, RepresentLegs, RepresentsLeg}
+use Rattle.dch_link.specs.SoftNodes.{AreLegsOf, IsLegOf, RepresentLegs, RepresentsLeg}
 use Rattle.dch_link.specs.SoftValues.{LegParts}
 use Rattle.dch_link.proofs.Hit.{leg_there}
 

@@ -29,7 +29,7 @@ use Rattle.dch_link.specs.SoftEvents.{Damages, Happens, damaged}
 use Rattle.dch_link.specs.Legs.{LegGoes, LegState}
 use Rattle.dch_link.specs.Soft.{SoftState, over, uplink_of, with_leg}
 use Rattle.dch_link.specs.SoftStages.{AtLeg, RncReports, UeReports}
-use Rattle.dch_link.specs.SoftStanding.{AreLegsOf, ArePartsOf, IsLegOf, IsSoftOf, IsStandingLeg, LeadsTo, LegLeadsTo, RepresentLegs, Represents, RepresentsLeg}
+use Rattle.dch_link.specs.SoftNodes.{AreLegsOf, ArePartsOf, IsLegOf, IsSoftOf, IsStandingLeg, LeadsTo, LegLeadsTo, RepresentLegs, Represents, RepresentsLeg}
 use Rattle.dch_link.specs.SoftValues.{IsLeg, LegParts, Parts}
 use Rattle.dch_link.proofs.Legs.{set_leg}
 

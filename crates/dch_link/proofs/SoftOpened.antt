@@ -23,7 +23,7 @@ use Rattle.dch_link.proofs.Coursing.{course_of}
 use Rattle.dch_link.proofs.Fits.{says_fits}
 use Rattle.dch_link.specs.Legs.{opened_leg}
 use Rattle.dch_link.specs.Soft.{opened_soft}
-use Rattle.dch_link.specs.SoftStanding.{AreNewLegs, Represents, RepresentsLeg}
+use Rattle.dch_link.specs.SoftNodes.{AreNewLegs, Represents, RepresentsLeg}
 use Rattle.dch_link.specs.SoftValues.{LegParts}
 
 pub leg_opened : (planned : Planned) (first : ℕ) (node_b : NodeB) (tables : Tables) → NodeBHistory planned planned first [] [] node_b → Waits [] tables → RepresentsLeg planned first (opened_leg planned first) (record { node_b = node_b; damage = tables })

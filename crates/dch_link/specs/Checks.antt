@@ -34,7 +34,8 @@ IsChecked dir i taken given lines = (IsSublist taken given × (lines ≡ []))
     ⊎ ((¬ IsSublist taken given) × (lines ≡ Differs dir i ∷ []))
 
 -- the lines on the first channels, in order
-pub record ChecksNext (dir : Dir) (taken given : List (List Bit)) (i : ℕ) (Before : List Line → Type 0) (lines : List Line) : Type 0 where
+pub record ChecksNext (dir : Dir) (taken given : List (List Bit)) (i : ℕ) (Before : List Line → Type 0)
+    (lines : List Line) : Type 0 where
   pub front : List Line
   pub own : List Line
   pub before : Before front

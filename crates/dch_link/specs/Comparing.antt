@@ -35,7 +35,8 @@ pub record Compares (dir : Dir) (channel : ℕ) (taken given : List (List Bit)) 
   pub tells : Says lines
 
 -- and so are the first channels
-pub record ComparesAll (dir : Dir) (taken given : ℕ → List (List Bit)) (channels : ℕ) (Says : List Line → Type 0) : Type 0 where
+pub record ComparesAll (dir : Dir) (taken given : ℕ → List (List Bit)) (channels : ℕ)
+    (Says : List Line → Type 0) : Type 0 where
   pub lines : List Line
   pub checked : AreChecked dir taken given channels lines
   pub tells : Says lines

@@ -26,14 +26,16 @@ course_after old event state output = record {
 }
 
 -- the node takes a step for an event
-pub record Goes {S E : Type 0} (Steps : S → E → S → Output → Type 0) (old : Course S E) (event : E) (new : Course S E) : Type 0 where
+pub record Goes {S E : Type 0} (Steps : S → E → S → Output → Type 0) (old : Course S E) (event : E)
+    (new : Course S E) : Type 0 where
   pub state : S
   pub output : Output
   pub step : Steps old.state event state output
   pub is : new ≡ course_after old event state output
 
 -- a value V is a node at which all that happened since opening
-pub record IsCourse {S E V : Type 0} (Steps : S → E → S → Output → Type 0) (Stands : S → V → Type 0) (Shows : Output → V → Type 0) (opened : S) (course : Course S E) (node : V) : Type 0 where
+pub record IsCourse {S E V : Type 0} (Steps : S → E → S → Output → Type 0) (Stands : S → V → Type 0)
+    (Shows : Output → V → Type 0) (opened : S) (course : Course S E) (node : V) : Type 0 where
   pub stands : Stands course.state node
   pub shows : Shows course.last node
   pub reached : Reaches Steps opened course.events course.state course.last course.lines

@@ -7,7 +7,7 @@ pub mod Fitting
 pub mod Link
 pub mod Passing
 pub mod Stages
-pub mod Standing
+pub mod LinkNodes
 pub mod Values
 pub mod Within
 pub mod Errors
@@ -19,7 +19,7 @@ pub mod Rooms
 pub mod Same
 pub mod Soft
 pub mod SoftStages
-pub mod SoftStanding
+pub mod SoftNodes
 pub mod SoftValues
 pub use Rattle.dch_rnc.specs.Standing as RncStanding
 pub use Rattle.dch_rnc.specs.Values as RncValues

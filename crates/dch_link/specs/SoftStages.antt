@@ -39,7 +39,8 @@ abbrev pub RncReports : SoftState → RncEvent → SoftState → List Line → T
 RncReports old event new lines = RncGoes old event new × (lines ≡ new.rnc.last.lines)
 
 -- something is done at leg k, and all else stays
-pub record AtLeg (k : ℕ) (Does : LegState → LegState → List Line → Type 0) (old new : SoftState) (lines : List Line) : Type 0 where
+pub record AtLeg (k : ℕ) (Does : LegState → LegState → List Line → Type 0) (old new : SoftState)
+    (lines : List Line) : Type 0 where
   pub leg : LegState
   pub does : Does (old.legs k) leg lines
   pub is : new ≡ with_leg old k leg

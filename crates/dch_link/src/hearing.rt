@@ -4,7 +4,7 @@ ghost use Rattle.dch_node.specs.Values.{Radio};
 ghost use Rattle.dch_txframes.specs.Lending.{radio_of};
 ghost use Rattle.dch_link.specs.Hearing.{Arrive, HaveRadioRooms, IsHeard};
 ghost use Rattle.dch_link.specs.Legs.{LegState, radio_from, undamaged};
-ghost use Rattle.dch_link.specs.SoftStanding.{AreLegsOf, AreNewLegs, RepresentLegs};
+ghost use Rattle.dch_link.specs.SoftNodes.{AreLegsOf, AreNewLegs, RepresentLegs};
 
 use crate::leg::Leg;
 use dch_accept::{Accepted, FrameView};

@@ -10,7 +10,7 @@ ghost use Rattle.dch_link.specs.Fitting.{MayFitIub, MayFitRadio};
 ghost use Rattle.dch_link.specs.SoftEvents.{damaged};
 ghost use Rattle.dch_link.specs.Hearing.{iub_heard, radio_heard};
 ghost use Rattle.dch_link.specs.Legs.{LegState, ReceivesIub, ReceivesRadio, Transmits, iub_from, opened_leg, radio_from, undamaged};
-ghost use Rattle.dch_link.specs.SoftStanding.{IsLegOf, IsStandingLeg, LegLeadsTo, MayHit, RepresentsLeg, damage_of};
+ghost use Rattle.dch_link.specs.SoftNodes.{IsLegOf, IsStandingLeg, LegLeadsTo, MayHit, RepresentsLeg, damage_of};
 
 use crate::soft_event::LegDamage;
 use dch_accept::{Accepted, FrameView};
@@ -107,7 +107,8 @@ impl Leg {
         requires fits { MayFitIub accepted.now Down set (octets_of sent) }
         ensures opened { IsLegOf accepted.now self.new }
         ensures receives { (first : ℕ) (leg : LegState) → RepresentsLeg accepted.now first leg self.old →
-            LegLeadsTo accepted.now first (ReceivesIub set (octets_of sent.entry) leg) self.new (Tells U.shows user.old user.new) }
+            LegLeadsTo accepted.now first (ReceivesIub set (octets_of sent.entry) leg) self.new
+            (Tells U.shows user.old user.new) }
         ensures few { TellsFew U.shows 4000000 user.old user.new }
     {
         self.damage.hit_iub(Dir::Down, set, sent);
@@ -139,7 +140,8 @@ impl Leg {
         requires fits { MayFitRadio accepted.now Up (radio_of sent) }
         ensures opened { IsLegOf accepted.now self.new }
         ensures receives { (first : ℕ) (leg : LegState) → RepresentsLeg accepted.now first leg self.old →
-            LegLeadsTo accepted.now first (ReceivesRadio (radio_of sent.entry) leg) self.new (Tells U.shows user.old user.new) }
+            LegLeadsTo accepted.now first (ReceivesRadio (radio_of sent.entry) leg) self.new
+            (Tells U.shows user.old user.new) }
         ensures few { TellsFew U.shows 4000000 user.old user.new }
     {
         self.damage.hit_radio(Dir::Up, sent);

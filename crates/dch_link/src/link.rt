@@ -16,7 +16,7 @@ ghost use Rattle.dch_link.specs.Events.{Happens};
 ghost use Rattle.dch_link.specs.Link.{LinkState, opened_link};
 ghost use Rattle.dch_link.specs.Passing.{IsStage, cfn_after};
 ghost use Rattle.dch_link.specs.Stages.{AtStage, UeGoes};
-ghost use Rattle.dch_link.specs.Standing.{AreNodesOf, CanChange, ChangesTo, HasNext, HaveHistories, IsLinkOf, LeadsTo, MayCome, Represents, event_of};
+ghost use Rattle.dch_link.specs.LinkNodes.{AreNodesOf, CanChange, ChangesTo, HasNext, HaveHistories, IsLinkOf, LeadsTo, MayCome, Represents, event_of};
 ghost use Rattle.dch_link.specs.Values.{Nodes};
 
 use crate::check::compare;
@@ -70,7 +70,8 @@ impl Link {
     pub fn open(alloc: Global, accepted: &Accepted, first_cfn: u8) -> Result<Link, NoMemory>
         requires { first_cfn % 8 ≡ 0 }
         ensures opened { IfOk result (IsLinkOf accepted.now) }
-        ensures stands { IfOk result (Represents accepted.now accepted.now first_cfn (opened_link accepted.now first_cfn)) }
+        ensures stands { IfOk result (Represents accepted.now accepted.now first_cfn
+            (opened_link accepted.now first_cfn)) }
     {
         Ok(Link {
             ue: Ue::open(alloc, accepted, first_cfn)?,
@@ -130,7 +131,8 @@ impl Link {
         ensures opened { IsLinkOf accepted.now self.new }
         ensures happens { (began : Planned) (first : ℕ) (link : LinkState) →
             Represents began accepted.now first link self.old →
-            LeadsTo began accepted.now first (Happens link (event_of event.entry)) self.new (Tells U.shows user.old user.new) }
+            LeadsTo began accepted.now first (Happens link (event_of event.entry)) self.new
+            (Tells U.shows user.old user.new) }
         ensures next { (second : Planned) → HasNext accepted.now second self.old →
             HasNext accepted.now second self.new }
         ensures few { TellsFew U.shows (step_bytes accepted.now.config) user.old user.new }
@@ -210,7 +212,8 @@ impl Link {
         ensures opened { AreNodesOf accepted.now self.new }
         ensures happens { (began : Planned) (first : ℕ) (link : LinkState) →
             Represents began accepted.now first link self.old →
-            LeadsTo began accepted.now first (Happens link (event_of event.entry)) self.new (Tells U.shows user.old user.new) }
+            LeadsTo began accepted.now first (Happens link (event_of event.entry)) self.new
+            (Tells U.shows user.old user.new) }
         ensures next { (second : Planned) → HasNext accepted.now second self.old →
             HasNext accepted.now second self.new }
         ensures few { TellsFew U.shows (step_bytes accepted.now.config) user.old user.new }
@@ -302,7 +305,8 @@ impl Link {
         ensures opened { AreNodesOf accepted.now self.new }
         ensures passes { (began : Planned) (first : ℕ) (link : LinkState) →
             Represents began accepted.now first link self.old →
-            LeadsTo began accepted.now first (AtStage (Stage.IubDown set) link) self.new (Tells U.shows user.old user.new) }
+            LeadsTo began accepted.now first (AtStage (Stage.IubDown set) link) self.new
+            (Tells U.shows user.old user.new) }
         ensures next { (second : Planned) → HasNext accepted.now second self.old →
             HasNext accepted.now second self.new }
         ensures few { TellsFew U.shows (step_bytes accepted.now.config) user.old user.new }

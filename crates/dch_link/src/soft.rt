@@ -13,7 +13,7 @@ ghost use Rattle.dch_link.specs.SoftPassing.{IsStage};
 ghost use Rattle.dch_link.specs.Rooms.{stage_bytes};
 ghost use Rattle.dch_link.specs.Soft.{SoftState, framed, opened_soft, over};
 ghost use Rattle.dch_link.specs.SoftStages.{AtStage, GivesFrame, Hears, TakesFrame};
-ghost use Rattle.dch_link.specs.SoftStanding.{ArePartsOf, HaveHistories, IsSoftOf, LeadsTo, MayCome, Represents, event_of};
+ghost use Rattle.dch_link.specs.SoftNodes.{ArePartsOf, HaveHistories, IsSoftOf, LeadsTo, MayCome, Represents, event_of};
 ghost use Rattle.dch_link.specs.declared.soft_stage.Stage.TheVariants.{Combine, IubDown, IubUp, RadioDown, RadioUp, UeTick};
 
 use crate::hearing::{clear_damage, hit_radios, lowest_radio, open_legs};

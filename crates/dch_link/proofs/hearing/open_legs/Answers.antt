@@ -1,5 +1,5 @@
 use Rattle.std.proofs.Common.{◌+◌, List, subst, sym}
-use Rattle.dch_link.specs.SoftStanding.{AreNewLegs}
+use Rattle.dch_link.specs.SoftNodes.{AreNewLegs}
 use Rattle.dch_link.specs.SoftValues.{LegParts}
 use Rattle.dch_link.proofs.Hit.{legs_next}
 use Rattle.dch_link.proofs.hearing.open_legs.Goals as goal

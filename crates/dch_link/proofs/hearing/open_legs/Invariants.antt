@@ -1,4 +1,4 @@
-use Rattle.dch_link.specs.SoftStanding.{AreNewLegs}
+use Rattle.dch_link.specs.SoftNodes.{AreNewLegs}
 use Rattle.dch_link.proofs.hearing.open_legs.Given as goal
 
 abbrev pub invariant-loop : goal.invariant-loop

@@ -2,9 +2,9 @@ use Rattle.std.proofs.Common.{arith, refl, subst, sym}
 use Rattle.dch_accept.specs.Reports.{step_bytes}
 use Rattle.dch_link.proofs.SteptextReporting.{few_less}
 use Rattle.dch_link.specs.Events.{Happens}
-use Rattle.dch_link.specs.Standing.{event_of}
+use Rattle.dch_link.specs.LinkNodes.{event_of}
 use Rattle.dch_gen.specs.Counting.{ShowsCounts}
-use Rattle.dch_gen.specs.Standing.{Advances, IsReady, MayCount, Parts, stage_bytes}
+use Rattle.dch_gen.specs.Generators.{Advances, IsReady, MayCount, Parts, stage_bytes}
 use Rattle.dch_gen.specs.contracts.generator.Generator.{the_view}
 use Rattle.dch_gen.proofs.Stepping.{stepped}
 use Rattle.dch_gen.proofs.generator.Generator.happen.Goals as goal

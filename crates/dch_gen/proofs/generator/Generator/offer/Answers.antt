@@ -1,7 +1,7 @@
 use Rattle.std.proofs.Common.{◌≡◌, ◌+◌, ℕ, suc, arith, subst}
 use Rattle.dch_gen.specs.Run.{HappenAll}
 use Rattle.dch_gen.specs.Sizes.{size_of}
-use Rattle.dch_gen.specs.Standing.{Advances}
+use Rattle.dch_gen.specs.Generators.{Advances}
 use Rattle.dch_gen.specs.Units.{offered_below, offers}
 use Rattle.dch_gen.proofs.Advancing.{advances_events, may_less}
 use Rattle.dch_gen.proofs.generator.Generator.offer.Goals as goal

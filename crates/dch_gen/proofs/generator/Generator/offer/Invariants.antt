@@ -1,5 +1,5 @@
 use Rattle.dch_gen.specs.Run.{HappenAll}
-use Rattle.dch_gen.specs.Standing.{Advances}
+use Rattle.dch_gen.specs.Generators.{Advances}
 use Rattle.dch_gen.specs.Units.{offered_below}
 use Rattle.dch_gen.proofs.generator.Generator.offer.Given as goal
 

@@ -1,6 +1,6 @@
 use Rattle.std.proofs.Common.{Option, subst}
 use Rattle.dch_gen.specs.Run.{HappenAll}
-use Rattle.dch_gen.specs.Standing.{Advances}
+use Rattle.dch_gen.specs.Generators.{Advances}
 use Rattle.dch_gen.specs.Units.{offers}
 use Rattle.dch_gen.specs.declared.units.UnitSize.{UnitSize}
 use Rattle.dch_gen.proofs.Advancing.{advances_idle}

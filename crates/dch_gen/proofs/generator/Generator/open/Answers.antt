@@ -1,6 +1,6 @@
 use Rattle.std.proofs.Common.{◌<◌, ◌≤◌, ◌+◌, ◌*◌, ◌^◌, ℕ, length, arith, subst}
 use Rattle.dch_types.specs.declared.config.Config.{Config}
-use Rattle.dch_gen.specs.Standing.{stage_bytes}
+use Rattle.dch_gen.specs.Generators.{stage_bytes}
 use Rattle.dch_gen.proofs.generator.Generator.open.Goals as goal
 
 -- the texts of all steps of a longest run

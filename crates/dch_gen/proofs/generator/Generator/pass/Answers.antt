@@ -1,6 +1,6 @@
 use Rattle.std.proofs.Common.{refl, subst, sym}
 use Rattle.dch_link.specs.Stages.{AtStage}
-use Rattle.dch_gen.specs.Standing.{Advances, IsReady, MayCount, Parts}
+use Rattle.dch_gen.specs.Generators.{Advances, IsReady, MayCount, Parts}
 use Rattle.dch_gen.specs.contracts.generator.Generator.{the_view}
 use Rattle.dch_gen.proofs.Stepping.{stepped}
 use Rattle.dch_gen.proofs.generator.Generator.pass.Goals as goal

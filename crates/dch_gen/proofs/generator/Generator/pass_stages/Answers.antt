@@ -3,7 +3,7 @@ use Rattle.dch_link.specs.Passing.{IsStage}
 use Rattle.dch_link.specs.declared.stage.Stage.{Stage}
 use Rattle.dch_link.specs.declared.stage.Stage.TheVariants.{RncTick}
 use Rattle.dch_gen.specs.Run.{PassFrom}
-use Rattle.dch_gen.specs.Standing.{Advances, Parts}
+use Rattle.dch_gen.specs.Generators.{Advances, Parts}
 use Rattle.dch_gen.specs.contracts.generator.Generator.{the_view}
 use Rattle.dch_gen.proofs.Advancing.{IsUnderWay, arrives, goes_on, left_next, may_less, none_is, passes_all, starts_off}
 use Rattle.dch_gen.proofs.generator.Generator.pass_stages.Goals as goal

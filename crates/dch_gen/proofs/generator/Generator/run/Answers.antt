@@ -1,5 +1,5 @@
 use Rattle.std.proofs.Common.{◌≡◌, ◌+◌, ◌-◌, ◌*◌, ◌∙◌, ℕ, suc, arith, subst}
-use Rattle.dch_gen.specs.Standing.{HasPassed, MayCount}
+use Rattle.dch_gen.specs.Generators.{HasPassed, MayCount}
 use Rattle.dch_gen.proofs.Advancing.{may_less, passed_next}
 use Rattle.dch_gen.proofs.generator.Generator.run.Goals as goal
 

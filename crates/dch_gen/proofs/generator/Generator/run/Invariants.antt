@@ -1,5 +1,5 @@
 use Rattle.std.proofs.Common.{◌≡◌, ◌-◌, ◌*◌, ℕ}
-use Rattle.dch_gen.specs.Standing.{HasPassed, IsReady, MayCount}
+use Rattle.dch_gen.specs.Generators.{HasPassed, IsReady, MayCount}
 use Rattle.dch_gen.proofs.generator.Generator.run.Given as goal
 
 abbrev pub invariant-loop-frame : goal.invariant-loop-frame

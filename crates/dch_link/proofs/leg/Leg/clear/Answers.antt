@@ -1,5 +1,5 @@
 use Rattle.std.proofs.Common.{[], sym, subst}
-use Rattle.dch_link.specs.SoftStanding.{IsLegOf, RepresentsLeg}
+use Rattle.dch_link.specs.SoftNodes.{IsLegOf, RepresentsLeg}
 use Rattle.dch_link.specs.SoftValues.{LegParts}
 use Rattle.dch_link.specs.contracts.leg.Leg.{the_view}
 use Rattle.dch_link.proofs.SoftNexts.{with_damage}

@@ -6,7 +6,7 @@ use Rattle.dch_damage.specs.Lending.{octets_of as octets_hit}
 use Rattle.dch_damage.specs.Opened.{HasIubRoom}
 use Rattle.dch_damage.specs.Tables.{iub_arrived}
 use Rattle.dch_link.proofs.Arriving.{octets_same}
-use Rattle.dch_link.specs.SoftStanding.{IsLegOf, RepresentsLeg}
+use Rattle.dch_link.specs.SoftNodes.{IsLegOf, RepresentsLeg}
 use Rattle.dch_link.specs.SoftValues.{LegParts}
 use Rattle.dch_link.specs.contracts.leg.Leg.{the_view}
 use Rattle.dch_link.proofs.SoftNexts.{with_damage}

@@ -7,7 +7,7 @@ use Rattle.dch_damage.specs.Lending.{radio_of as radio_hit}
 use Rattle.dch_damage.specs.Opened.{HasRadioRoom}
 use Rattle.dch_damage.specs.Tables.{radio_arrived}
 use Rattle.dch_link.proofs.Arriving.{radio_same}
-use Rattle.dch_link.specs.SoftStanding.{IsLegOf, RepresentsLeg}
+use Rattle.dch_link.specs.SoftNodes.{IsLegOf, RepresentsLeg}
 use Rattle.dch_link.specs.SoftValues.{LegParts}
 use Rattle.dch_link.specs.contracts.leg.Leg.{the_view}
 use Rattle.dch_link.proofs.SoftNexts.{with_damage}

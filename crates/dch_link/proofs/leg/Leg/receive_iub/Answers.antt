@@ -9,7 +9,7 @@ use Rattle.dch_damage.specs.Opened.{HasIubRoom}
 use Rattle.dch_node.specs.Standing.{Tells}
 use Rattle.dch_link.proofs.Arriving.{iub_room, octets_same, set_there}
 use Rattle.dch_link.specs.Legs.{MayGoDown}
-use Rattle.dch_link.specs.SoftStanding.{IsStandingLeg, LegLeadsTo, RepresentsLeg}
+use Rattle.dch_link.specs.SoftNodes.{IsStandingLeg, LegLeadsTo, RepresentsLeg}
 use Rattle.dch_link.specs.SoftValues.{LegParts}
 use Rattle.dch_link.specs.contracts.leg.Leg.{the_view}
 use Rattle.dch_link.proofs.SoftNexts.{leg_goes, leg_stays, with_damage}

@@ -8,7 +8,7 @@ use Rattle.dch_damage.specs.Opened.{HasRadioRoom}
 use Rattle.dch_node.specs.Standing.{Tells}
 use Rattle.dch_link.proofs.Arriving.{radio_room, radio_same, tfci_kept}
 use Rattle.dch_link.specs.Legs.{LegGoes}
-use Rattle.dch_link.specs.SoftStanding.{IsStandingLeg, LegLeadsTo, RepresentsLeg}
+use Rattle.dch_link.specs.SoftNodes.{IsStandingLeg, LegLeadsTo, RepresentsLeg}
 use Rattle.dch_link.specs.SoftValues.{LegParts}
 use Rattle.dch_link.specs.contracts.leg.Leg.{the_view}
 use Rattle.dch_link.proofs.SoftNexts.{leg_goes, with_damage}

@@ -5,7 +5,7 @@ use Rattle.dch_types.specs.Parts.{side_of}
 use Rattle.dch_types.proofs.Sets.{set_small}
 use Rattle.dch_damage.specs.Damage.{Flip as Flips, Lose as Loses, LoseIub as LosesIub, Spoil as Spoils}
 use Rattle.dch_link.specs.SoftEvents.{damaged}
-use Rattle.dch_link.specs.SoftStanding.{IsLegOf, MayHit, RepresentsLeg, damage_of}
+use Rattle.dch_link.specs.SoftNodes.{IsLegOf, MayHit, RepresentsLeg, damage_of}
 use Rattle.dch_link.specs.SoftValues.{LegParts}
 use Rattle.dch_link.specs.contracts.leg.Leg.{the_view}
 use Rattle.dch_link.specs.declared.soft_event.LegDamage.{LegDamage}

@@ -1,7 +1,7 @@
 use Rattle.std.proofs.Common.{refl, sym, subst}
 use Rattle.dch_nodeb.specs.State.{DownlinkDue}
 use Rattle.dch_node.specs.Standing.{Tells}
-use Rattle.dch_link.specs.SoftStanding.{RepresentsLeg}
+use Rattle.dch_link.specs.SoftNodes.{RepresentsLeg}
 use Rattle.dch_link.specs.SoftValues.{LegParts}
 use Rattle.dch_link.specs.contracts.leg.Leg.{the_view}
 use Rattle.dch_link.proofs.SoftNexts.{leg_goes}

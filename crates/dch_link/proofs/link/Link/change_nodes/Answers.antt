@@ -1,6 +1,6 @@
 use Rattle.std.proofs.Common.{◌∙◌, sym, subst}
 use Rattle.dch_node.specs.Standing.{Tells}
-use Rattle.dch_link.specs.Standing.{CanChange, HasNext, Represents}
+use Rattle.dch_link.specs.LinkNodes.{CanChange, HasNext, Represents}
 use Rattle.dch_link.specs.Values.{Nodes}
 use Rattle.dch_link.specs.contracts.link.Link.{the_view}
 use Rattle.dch_link.proofs.Changing.{node_b_unsaid, nodes_change, rnc_unsaid, ue_unsaid}

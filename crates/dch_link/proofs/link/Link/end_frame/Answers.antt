@@ -1,5 +1,5 @@
 use Rattle.std.proofs.Common.{[], sym, subst}
-use Rattle.dch_link.specs.Standing.{IsLinkOf}
+use Rattle.dch_link.specs.LinkNodes.{IsLinkOf}
 use Rattle.dch_link.specs.Values.{Nodes}
 use Rattle.dch_link.specs.contracts.link.Link.{the_view}
 use Rattle.dch_link.proofs.Nexts.{with_damage}

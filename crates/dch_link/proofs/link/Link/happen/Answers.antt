@@ -1,6 +1,6 @@
 use Rattle.dch_node.specs.Standing.{Tells}
 use Rattle.dch_link.specs.Events.{Happens}
-use Rattle.dch_link.specs.Standing.{event_of}
+use Rattle.dch_link.specs.LinkNodes.{event_of}
 use Rattle.dch_link.proofs.Cfns.{happen_cfn}
 use Rattle.dch_link.proofs.Nexts.{still}
 use Rattle.dch_link.proofs.link.Link.happen.Goals as goal

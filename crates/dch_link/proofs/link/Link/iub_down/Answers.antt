@@ -3,7 +3,7 @@ use Rattle.dch_accept.specs.Reports.{step_bytes}
 use Rattle.std.proofs.Common.{◌≡◌, ◌∙◌, ℕ, List, Option, Some, refl, ap, sym, subst, None, [], arith}
 use Rattle.dch_types.specs.declared.channel.Dir.TheVariants.{Down}
 use Rattle.dch_node.specs.Standing.{Tells}
-use Rattle.dch_link.specs.Standing.{HasNext, IsLinkOf, LeadsTo, Represents}
+use Rattle.dch_link.specs.LinkNodes.{HasNext, IsLinkOf, LeadsTo, Represents}
 use Rattle.dch_link.specs.Values.{Nodes}
 use Rattle.dch_link.specs.contracts.link.Link.{the_view}
 use Rattle.dch_nodeb.specs.State.{IubFrame}

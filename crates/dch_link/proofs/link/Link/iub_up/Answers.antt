@@ -7,7 +7,7 @@ use Rattle.dch_node.specs.Lines.{Line}
 use Rattle.dch_indication.proofs.Telling.{told-append}
 use Rattle.dch_node.specs.Standing.{Tells}
 use Rattle.dch_link.specs.Checks.{AreChecked, good_in}
-use Rattle.dch_link.specs.Standing.{AreNodesOf, HasNext, IsLinkOf, LeadsTo, Represents}
+use Rattle.dch_link.specs.LinkNodes.{AreNodesOf, HasNext, IsLinkOf, LeadsTo, Represents}
 use Rattle.dch_link.specs.Values.{Nodes}
 use Rattle.dch_link.specs.contracts.link.Link.{the_view}
 use Rattle.dch_rnc.specs.State.{IubFrame}

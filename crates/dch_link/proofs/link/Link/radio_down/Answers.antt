@@ -1,7 +1,7 @@
 use Rattle.std.proofs.Common.{◌≡◌, ◌∙◌, Option, refl, ap, sym, subst}
 use Rattle.dch_types.specs.declared.channel.Dir.TheVariants.{Down}
 use Rattle.dch_node.specs.Standing.{Tells}
-use Rattle.dch_link.specs.Standing.{HasNext, IsLinkOf, Represents}
+use Rattle.dch_link.specs.LinkNodes.{HasNext, IsLinkOf, Represents}
 use Rattle.dch_link.specs.Values.{Nodes}
 use Rattle.dch_link.specs.contracts.link.Link.{the_view}
 use Rattle.dch_ue.specs.State.{DownlinkFrame}

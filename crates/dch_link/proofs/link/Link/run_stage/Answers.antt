@@ -3,7 +3,7 @@ use Rattle.dch_accept.specs.Reports.{step_bytes}
 use Rattle.std.proofs.Common.{refl, sym, subst, arith, ◌+◌}
 use Rattle.dch_node.specs.Standing.{Tells}
 use Rattle.dch_link.specs.Stages.{AtStage}
-use Rattle.dch_link.specs.Standing.{HasNext, LeadsTo, Represents}
+use Rattle.dch_link.specs.LinkNodes.{HasNext, LeadsTo, Represents}
 use Rattle.dch_link.specs.Values.{Nodes}
 use Rattle.dch_link.specs.contracts.link.Link.{the_view}
 use Rattle.dch_rnc.specs.State.{Tick}

@@ -11,7 +11,7 @@ use Rattle.dch_ue.specs.State.{BlockedCombination as UeBlocked, OfferedUnit as U
 use Rattle.dch_rnc.specs.State.{BlockedCombination as RncBlocked, OfferedUnit as RncOffered}
 use Rattle.dch_node.specs.Standing.{Tells}
 use Rattle.dch_link.specs.Events.{Happens}
-use Rattle.dch_link.specs.Standing.{HasNext, LeadsTo, MayCome, Represents, event_of}
+use Rattle.dch_link.specs.LinkNodes.{HasNext, LeadsTo, MayCome, Represents, event_of}
 use Rattle.dch_link.specs.Values.{Nodes}
 use Rattle.dch_link.specs.contracts.link.Link.{the_view}
 use Rattle.dch_link.specs.declared.event.LinkEvent.{LinkEvent}

@@ -9,7 +9,7 @@ use Rattle.dch_indication.proofs.Telling.{told-append}
 use Rattle.dch_node.specs.Standing.{Tells}
 use Rattle.dch_link.specs.Checks.{AreChecked, good_in}
 use Rattle.dch_link.specs.Link.{LinkState}
-use Rattle.dch_link.specs.Standing.{AreNodesOf, HasNext, Represents}
+use Rattle.dch_link.specs.LinkNodes.{AreNodesOf, HasNext, Represents}
 use Rattle.dch_link.specs.Values.{Nodes}
 use Rattle.dch_link.specs.contracts.link.Link.{the_view}
 use Rattle.dch_ue.specs.State.{Tick}

@@ -3,7 +3,7 @@ use Rattle.dch_accept.specs.Reports.{step_bytes}
 use Rattle.std.proofs.Common.{◌∙◌, ℕ, Option, sym, subst, arith, ◌+◌, refl}
 use Rattle.dch_node.specs.Standing.{Tells}
 use Rattle.dch_link.specs.SoftStages.{GivesFrame, WhereOver}
-use Rattle.dch_link.specs.SoftStanding.{LeadsTo}
+use Rattle.dch_link.specs.SoftNodes.{LeadsTo}
 use Rattle.dch_link.proofs.SoftNexts.{over_is, soft_stays}
 use Rattle.dch_link.proofs.soft.Soft.combine.Goals as goal
 

@@ -2,7 +2,7 @@ use Rattle.std.proofs.Common.{◌≡◌, ◌+◌, ◌%◌, ◌∙◌, ℕ, List,
 use Rattle.std.specs.Vec.{with_items}
 use Rattle.std.proofs.lemmas.List.{with_items_is}
 use Rattle.dch_link.specs.Soft.{framed}
-use Rattle.dch_link.specs.SoftStanding.{AreLegsOf, IsSoftOf, RepresentLegs, Represents}
+use Rattle.dch_link.specs.SoftNodes.{AreLegsOf, IsSoftOf, RepresentLegs, Represents}
 use Rattle.dch_link.specs.SoftValues.{LegParts, Parts}
 use Rattle.dch_link.specs.contracts.soft.Soft.{the_view}
 use Rattle.dch_link.proofs.Hit.{framed_parts, framed_stands}

@@ -12,7 +12,7 @@ use Rattle.dch_combine.specs.Combined.{IsCombinedFrame}
 use Rattle.dch_combine.specs.Opened.{HoldsLongest}
 use Rattle.dch_combine.specs.Values.{frames_of}
 use Rattle.dch_node.specs.Standing.{Tells}
-use Rattle.dch_link.specs.SoftStanding.{ArePartsOf, IsSoftOf, Represents}
+use Rattle.dch_link.specs.SoftNodes.{ArePartsOf, IsSoftOf, Represents}
 use Rattle.dch_link.specs.SoftValues.{Parts}
 use Rattle.dch_link.specs.contracts.soft.Soft.{the_view}
 use Rattle.dch_link.proofs.Given.{combined_few, gives_frame, gives_none, parts_with_combiner}

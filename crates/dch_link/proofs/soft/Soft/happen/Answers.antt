@@ -1,6 +1,6 @@
 use Rattle.dch_node.specs.Standing.{Tells}
 use Rattle.dch_link.specs.SoftEvents.{Happens}
-use Rattle.dch_link.specs.SoftStanding.{event_of}
+use Rattle.dch_link.specs.SoftNodes.{event_of}
 use Rattle.dch_link.proofs.SoftNexts.{still}
 use Rattle.dch_link.proofs.soft.Soft.happen.Goals as goal
 

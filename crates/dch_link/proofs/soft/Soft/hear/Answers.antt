@@ -7,7 +7,7 @@ use Rattle.dch_ue.specs.State.{DownlinkFrame}
 use Rattle.dch_node.specs.Standing.{Tells}
 use Rattle.dch_link.specs.Hearing.{Arrive, HaveRadioRooms, IsHeard}
 use Rattle.dch_link.specs.Legs.{radio_from}
-use Rattle.dch_link.specs.SoftStanding.{AreLegsOf, ArePartsOf, IsSoftOf, RepresentLegs, Represents}
+use Rattle.dch_link.specs.SoftNodes.{AreLegsOf, ArePartsOf, IsSoftOf, RepresentLegs, Represents}
 use Rattle.dch_link.specs.SoftValues.{LegParts, Parts}
 use Rattle.dch_link.specs.contracts.soft.Soft.{the_view}
 use Rattle.dch_link.proofs.SoftArriving.{heard_tfci, leg_rooms}

@@ -2,7 +2,7 @@ use Rattle.dch_steptext.proofs.Reporting.{few_none}
 use Rattle.std.proofs.Common.{◌∙◌, ℕ, Option, sym, subst, arith, refl}
 use Rattle.dch_node.specs.Standing.{Tells}
 use Rattle.dch_link.specs.SoftStages.{TakesFrame, WhereOver}
-use Rattle.dch_link.specs.SoftStanding.{LeadsTo}
+use Rattle.dch_link.specs.SoftNodes.{LeadsTo}
 use Rattle.dch_link.proofs.SoftNexts.{over_is, soft_stays}
 use Rattle.dch_link.proofs.soft.Soft.iub_up.Goals as goal
 

@@ -1,6 +1,6 @@
 use Rattle.std.proofs.Common.{◌≤◌, ◌∙◌, ℕ, length, sym, subst}
 use Rattle.dch_link.specs.Soft.{opened_soft}
-use Rattle.dch_link.specs.SoftStanding.{AreNewLegs}
+use Rattle.dch_link.specs.SoftNodes.{AreNewLegs}
 use Rattle.dch_link.proofs.SoftOpened.{soft_opened}
 use Rattle.dch_link.proofs.soft.Soft.open.Goals as goal
 

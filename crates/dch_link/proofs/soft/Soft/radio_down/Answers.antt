@@ -2,7 +2,7 @@ use Rattle.std.proofs.Common.{◌<◌, ◌∙◌, length, ap, sym, subst}
 use Rattle.std.proofs.lemmas.List.{length-set}
 use Rattle.dch_node.specs.Standing.{Tells}
 use Rattle.dch_link.specs.Legs.{Transmits}
-use Rattle.dch_link.specs.SoftStanding.{IsSoftOf, Represents}
+use Rattle.dch_link.specs.SoftNodes.{IsSoftOf, Represents}
 use Rattle.dch_link.specs.SoftValues.{Parts}
 use Rattle.dch_link.specs.contracts.soft.Soft.{the_view}
 use Rattle.dch_link.proofs.SoftNexts.{leg_next, parts_with_leg, standing_leg}

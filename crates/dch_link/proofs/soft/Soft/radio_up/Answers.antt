@@ -8,7 +8,7 @@ use Rattle.dch_node.specs.Standing.{Tells}
 use Rattle.dch_link.specs.Fitting.{MayFitRadio}
 use Rattle.dch_link.specs.Legs.{ReceivesRadio}
 use Rattle.dch_link.specs.SoftStages.{AtLeg}
-use Rattle.dch_link.specs.SoftStanding.{IsSoftOf, LeadsTo, Represents}
+use Rattle.dch_link.specs.SoftNodes.{IsSoftOf, LeadsTo, Represents}
 use Rattle.dch_link.specs.SoftValues.{Parts}
 use Rattle.dch_link.specs.contracts.soft.Soft.{the_view}
 use Rattle.dch_link.proofs.SoftNexts.{leg_next, parts_with_leg, standing_leg}

@@ -3,7 +3,7 @@ use Rattle.dch_rnc.specs.State.{Tick}
 use Rattle.dch_node.specs.Standing.{Tells}
 use Rattle.dch_link.specs.SoftStages.{AtStage}
 use Rattle.dch_link.specs.declared.soft_stage.Stage.{Stage}
-use Rattle.dch_link.specs.SoftStanding.{IsSoftOf, LeadsTo, Represents}
+use Rattle.dch_link.specs.SoftNodes.{IsSoftOf, LeadsTo, Represents}
 use Rattle.dch_link.specs.SoftValues.{Parts}
 use Rattle.dch_link.specs.contracts.soft.Soft.{the_view}
 use Rattle.dch_link.proofs.SoftNexts.{rnc_next}

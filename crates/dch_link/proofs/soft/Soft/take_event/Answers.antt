@@ -10,7 +10,7 @@ use Rattle.dch_node.specs.Standing.{Tells}
 use Rattle.dch_link.specs.SoftEvents.{Happens}
 use Rattle.dch_link.specs.declared.soft_event.SoftEvent.{SoftEvent}
 use Rattle.dch_link.specs.declared.soft_event.SoftEvent.TheVariants.{Unit as Offered, Block}
-use Rattle.dch_link.specs.SoftStanding.{IsSoftOf, LeadsTo, MayCome, Represents, damage_of, event_of}
+use Rattle.dch_link.specs.SoftNodes.{IsSoftOf, LeadsTo, MayCome, Represents, damage_of, event_of}
 use Rattle.dch_link.specs.SoftValues.{Parts}
 use Rattle.dch_link.specs.contracts.soft.Soft.{the_view}
 use Rattle.dch_link.proofs.SoftNexts.{damage_next, parts_with_leg, rnc_next, ue_next}

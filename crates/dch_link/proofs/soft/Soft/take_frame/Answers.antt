@@ -10,7 +10,7 @@ use Rattle.dch_link.specs.Errors.{error_number}
 use Rattle.dch_link.specs.Legs.{iub_from}
 use Rattle.dch_link.specs.SoftStages.{IsRefused, IsTaken, MayTake}
 use Rattle.dch_link.specs.Hearing.{iub_heard}
-use Rattle.dch_link.specs.SoftStanding.{ArePartsOf, IsSoftOf, LeadsTo, Represents}
+use Rattle.dch_link.specs.SoftNodes.{ArePartsOf, IsSoftOf, LeadsTo, Represents}
 use Rattle.dch_link.specs.SoftValues.{LegParts, Parts}
 use Rattle.dch_link.specs.contracts.soft.Soft.{the_view}
 use Rattle.dch_link.proofs.SoftArriving.{leg_iub_room}

@@ -3,7 +3,7 @@ use Rattle.dch_accept.specs.Reports.{step_bytes}
 use Rattle.std.proofs.Common.{refl, sym, subst}
 use Rattle.dch_ue.specs.State.{Tick}
 use Rattle.dch_node.specs.Standing.{Tells}
-use Rattle.dch_link.specs.SoftStanding.{ArePartsOf, Represents}
+use Rattle.dch_link.specs.SoftNodes.{ArePartsOf, Represents}
 use Rattle.dch_link.specs.SoftValues.{Parts}
 use Rattle.dch_link.specs.contracts.soft.Soft.{the_view}
 use Rattle.dch_link.specs.Soft.{SoftState}

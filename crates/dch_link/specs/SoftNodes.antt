@@ -26,7 +26,7 @@ use Rattle.dch_rnc.specs.Steps.{Steps as RncSteps}
 use Rattle.dch_rnc.specs.Values.{Node as Rnc}
 use Rattle.dch_link.specs.Courses.{IsCourse}
 use Rattle.dch_link.specs.Fitting.{Fits}
-use Rattle.dch_link.specs.Standing.{SendsTo}
+use Rattle.dch_link.specs.LinkNodes.{SendsTo}
 use Rattle.dch_link.specs.SoftEvents.{BlockedCombination, Damages, Event, OfferedUnit}
 use Rattle.dch_link.specs.Legs.{LegState, opened_leg}
 use Rattle.dch_link.specs.Soft.{SoftState}
@@ -65,7 +65,8 @@ MayCome planned legs (Hits leg damage) = (leg < legs) × MayHit planned damage
 
 -- a leg that was opened for a configuration and a first CFN stands for what happened there, and what it sent last fits
 pub record RepresentsLeg (planned : Planned) (first : ℕ) (state : LegState) (leg : LegParts) : Type 0 where
-  pub node_b : IsCourse NodeBSteps (NodeBStands planned) NodeBShows (opened_node_b planned first) state.node_b leg.node_b
+  pub node_b : IsCourse NodeBSteps (NodeBStands planned) NodeBShows (opened_node_b planned first)
+      state.node_b leg.node_b
   pub sends : Fits planned Down Up state.node_b.last
   pub damage : Waits state.damage leg.damage
 
@@ -118,7 +119,8 @@ pub record IsStandingLeg (planned : Planned) (leg : LegParts) : Type 0 where
   pub stands : RepresentsLeg planned first state leg
 
 -- something happened, and whoever is told is told of its lines
-pub record LeadsTo (planned : Planned) (first : ℕ) (Does : SoftState → List Line → Type 0) (parts : Parts) (Says : List Line → Type 0) : Type 0 where
+pub record LeadsTo (planned : Planned) (first : ℕ) (Does : SoftState → List Line → Type 0) (parts : Parts)
+    (Says : List Line → Type 0) : Type 0 where
   pub next : SoftState
   pub lines : List Line
   pub does : Does next lines
@@ -126,7 +128,8 @@ pub record LeadsTo (planned : Planned) (first : ℕ) (Does : SoftState → List 
   pub tells : Says lines
 
 -- and at a leg
-pub record LegLeadsTo (planned : Planned) (first : ℕ) (Does : LegState → List Line → Type 0) (leg : LegParts) (Says : List Line → Type 0) : Type 0 where
+pub record LegLeadsTo (planned : Planned) (first : ℕ) (Does : LegState → List Line → Type 0) (leg : LegParts)
+    (Says : List Line → Type 0) : Type 0 where
   pub next : LegState
   pub lines : List Line
   pub does : Does next lines
@@ -140,8 +143,10 @@ pub record AreNewLegs (planned : Planned) (first count : ℕ) (legs : List LegPa
   pub stands : RepresentLegs planned first (λ k. opened_leg planned first) legs
 
 -- each node stands for just what happened at it
-pub record HaveHistories (planned : Planned) (first : ℕ) (soft : SoftState) (ue : Ue) (legs : List LegParts) (rnc : Rnc) : Type 0 where
+pub record HaveHistories (planned : Planned) (first : ℕ) (soft : SoftState) (ue : Ue) (legs : List LegParts)
+    (rnc : Rnc) : Type 0 where
   pub ue_has : UeHistory planned planned first soft.ue.events soft.ue.lines ue
   pub rnc_has : RncHistory planned planned first soft.rnc.events soft.rnc.lines rnc
   pub count : length legs ≡ soft.count
-  pub legs_have : EachLeg (λ k leg. NodeBHistory planned planned first (soft.legs k).node_b.events (soft.legs k).node_b.lines leg.node_b) legs
+  pub legs_have : EachLeg (λ k leg. NodeBHistory planned planned first (soft.legs k).node_b.events
+      (soft.legs k).node_b.lines leg.node_b) legs

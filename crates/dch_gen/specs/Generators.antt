@@ -6,7 +6,7 @@ use Rattle.dch_accept.specs.Plans.{Planned}
 use Rattle.dch_accept.specs.Reports.{step_bytes}
 use Rattle.dch_node.specs.Lines.{Line}
 use Rattle.dch_link.specs.Link.{LinkState, opened_link}
-use Rattle.dch_link.specs.Standing.{IsLinkOf, Represents, SendsTo}
+use Rattle.dch_link.specs.LinkNodes.{IsLinkOf, Represents, SendsTo}
 use Rattle.dch_link.specs.Values.{Nodes}
 use Rattle.dch_gen.specs.Counting.{AreCountsOf, HasRoom}
 use Rattle.dch_gen.specs.declared.counts.Counts.{Counts}

@@ -97,7 +97,8 @@ pub record CanChange (second : Planned) (nodes : Nodes) : Type 0 where
   pub whole : nodes.ue.cfn % 8 ≡ 0
 
 -- something happened, and whoever is told is told of its lines
-pub record LeadsTo (began planned : Planned) (first : ℕ) (Does : LinkState → List Line → Type 0) (nodes : Nodes) (Says : List Line → Type 0) : Type 0 where
+pub record LeadsTo (began planned : Planned) (first : ℕ) (Does : LinkState → List Line → Type 0) (nodes : Nodes)
+    (Says : List Line → Type 0) : Type 0 where
   pub next : LinkState
   pub lines : List Line
   pub does : Does next lines
@@ -111,7 +112,8 @@ pub record ChangesTo (began second : Planned) (first : ℕ) (link : LinkState) (
   pub stands : Represents began second first next nodes
 
 -- each node stands for just what happened at it
-pub record HaveHistories (began planned : Planned) (first : ℕ) (link : LinkState) (ue : Ue) (node_b : NodeB) (rnc : Rnc) : Type 0 where
+pub record HaveHistories (began planned : Planned) (first : ℕ) (link : LinkState) (ue : Ue) (node_b : NodeB)
+    (rnc : Rnc) : Type 0 where
   pub ue_has : UeHistory began planned first link.ue.events link.ue.lines ue
   pub node_b_has : NodeBHistory began planned first link.node_b.events link.node_b.lines node_b
   pub rnc_has : RncHistory began planned first link.rnc.events link.rnc.lines rnc
