@@ -33,7 +33,10 @@ enum dch_status {
     DCH_REFUSED = 8,         /* a configuration is refused, and the call tells why */
     DCH_SHORT = 9,           /* what is to be written is longer than its buffer */
     DCH_NOT_LOADED = 10,     /* what is loaded of a channel has another format than the combination wants */
-    DCH_BAD_TTI = 11         /* a radio frame of the TTI is missing, or has another format for the channel */
+    DCH_BAD_TTI = 11,        /* a radio frame of the TTI is missing, or has another format for the channel */
+    DCH_QUEUE_FULL = 12,     /* what the node told of the event before is not pulled yet */
+    DCH_NOTHING = 13,        /* all that the node told is pulled */
+    DCH_NOT_DUE = 14         /* no second configuration is to become active now */
 };
 
 /* A direction: from the terminal to the network, or back. */
@@ -42,7 +45,7 @@ enum dch_direction {
     DCH_DOWN = 1
 };
 
-/* A handle of any kind: a decoder, or the transport channels of a configuration. */
+/* A handle of any kind: a decoder, the transport channels of a configuration, or a node. */
 typedef struct dch_handle {
     bool is_open;
     void *at;
@@ -188,6 +191,94 @@ typedef struct dch_tti {
    rest of it stays. DCH_SHORT: *tti tells what was read, and blocks or good is shorter; both stay. */
 uint8_t dch_channels_read(dch_handle *handle, uint8_t direction, uint8_t channel, uint8_t *blocks, size_t blocks_len,
                           uint8_t *good, size_t good_len, dch_tti *tti);
+
+/* ---- Nodes: network controller, terminal and Node B ---- */
+
+/* Opens a node. The text is that of a configuration as `dch check` reads it, and behind a line `--- N` maybe a second one
+   that becomes active at radio frame N. The first radio frame has CFN first_cfn, a multiple of 8. All memory is taken
+   now; that for what a node tells is touched only as far as it is used.
+   DCH_BUSY. DCH_BAD_CODE: no such CFN. DCH_NO_MEMORY, DCH_REFUSED, DCH_SHORT: as dch_channels_open. */
+uint8_t dch_rnc_open(dch_handle *handle, const uint8_t *text, size_t text_len, uint8_t first_cfn, uint8_t *why,
+                     size_t why_len, dch_refusal *refusal);
+uint8_t dch_ue_open(dch_handle *handle, const uint8_t *text, size_t text_len, uint8_t first_cfn, uint8_t *why,
+                    size_t why_len, dch_refusal *refusal);
+uint8_t dch_nodeb_open(dch_handle *handle, const uint8_t *text, size_t text_len, uint8_t first_cfn, uint8_t *why,
+                       size_t why_len, dch_refusal *refusal);
+
+/* The events. A network controller takes unit, unit_bits, block, iub, tick and change; a terminal unit, unit_bits, block,
+   phy, miss, tick and change; a Node B iub, down, phy, miss and change. A call is one event, and the node tells what it
+   does by values, which wait until they are pulled; no event is taken before all are.
+   Of each: DCH_CLOSED. DCH_OTHER_KIND: the handle holds no node that takes this event. DCH_QUEUE_FULL. */
+
+/* Offers a unit of octets to a bearer of acknowledged or unacknowledged mode (TS 25.322). One of no octets or more than
+   1,500 is told as wrong. DCH_BAD_CODE: no such bearer, or it doesn't send in the node's direction, or takes bits. */
+uint8_t dch_node_unit(dch_handle *handle, uint8_t bearer, const uint8_t *octets, size_t octets_len);
+
+/* Offers a unit of bits to a transparent bearer (TS 25.322).
+   DCH_BAD_CODE: no such bearer, or it doesn't send in the node's direction, or takes octets. DCH_BAD_SIZE: more than
+   5,000 bits. DCH_BAD_LETTER. */
+uint8_t dch_node_unit_bits(dch_handle *handle, uint8_t bearer, const uint8_t *bits, size_t bits_len);
+
+/* Blocks a combination of the node's direction (on = 1), or frees it (on = 0) (TS 25.321).
+   DCH_BAD_CODE: no such combination, or on is neither. */
+uint8_t dch_node_block(dch_handle *handle, uint16_t combination, uint8_t on);
+
+/* Takes an Iub frame of a set that comes (TS 25.427): of an uplink set at a network controller, of a downlink set at a
+   Node B. DCH_BAD_CODE: no such set. */
+uint8_t dch_node_iub(dch_handle *handle, uint8_t set, const uint8_t *frame, size_t frame_len);
+
+/* Takes the radio frame of the CFN that comes, its TFCI bits and its cells of '0', '1' and '-' (TS 25.212), or that it is
+   missing. At a Node B that passes 10 ms.
+   tfci_len: the TFCI bits of the direction. cells_len: at most 57,600.
+   DCH_BAD_SIZE: another length. DCH_BAD_LETTER. */
+uint8_t dch_node_phy(dch_handle *handle, const uint8_t *tfci, size_t tfci_len, const uint8_t *cells, size_t cells_len);
+uint8_t dch_node_miss(dch_handle *handle);
+
+/* Takes that the downlink radio frame of the CFN is due. */
+uint8_t dch_node_down(dch_handle *handle);
+
+/* Takes that 10 ms have passed. */
+uint8_t dch_node_tick(dch_handle *handle);
+
+/* Makes the second configuration active (TS 25.331 8.2.2), once, when N radio frames have passed.
+   DCH_NOT_DUE: there is none, or it is not that time. */
+uint8_t dch_node_change(dch_handle *handle);
+
+/* The kinds of what a node tells; number is the bearer, channel or set. docs/FORMATS.md has the same as words. */
+enum dch_kind {
+    DCH_TOOK = 0,       /* the bearer took the unit */
+    DCH_FULL = 1,       /* its buffer has no room for it */
+    DCH_WRONG = 2,      /* the unit has no length that the bearer sends */
+    DCH_BAD = 3,        /* block `more` of the channel came with wrong parity */
+    DCH_RESERVED = 4,   /* a block of the channel has the reserved C/T field */
+    DCH_NO_BEARER = 5,  /* no bearer of the channel has the C/T field `more` */
+    DCH_NOBODY = 6,     /* a block came on a channel that has no bearer */
+    DCH_PDU_BAD = 7,    /* a PDU of the bearer is refused by cause `more` */
+    DCH_OUTSIDE = 8,    /* a PDU of the bearer, or a number in a status, is outside the window */
+    DCH_OVERLONG = 9,   /* a unit of more than 1,500 octets is dropped */
+    DCH_GOT = 10,       /* a unit of octets is handed up */
+    DCH_GOT_BITS = 11,  /* a unit of bits is handed up: letters */
+    DCH_IUB = 12,       /* an Iub frame of the set is sent: octets */
+    DCH_IUB_BAD = 13,   /* an Iub frame of the set is refused by cause `more` */
+    DCH_PHY = 14,       /* a radio frame is sent: letters, first `tfci` of the TFCI bits and then the cells */
+    DCH_PHY_NONE = 15,  /* no radio frame is sent */
+    DCH_TTI_BAD = 16    /* a TTI of the channel can't be read, for its radio frame `more` */
+};
+
+/* What a node tells: its kind, the direction in which the data travels, and how many octets or letters it has. */
+typedef struct dch_told {
+    uint8_t kind;
+    uint8_t direction;
+    uint8_t number;
+    uint8_t more;
+    size_t tfci;
+    size_t length;
+} dch_told;
+
+/* Pulls the next value, and writes its octets or letters at the front of out.
+   DCH_CLOSED, DCH_OTHER_KIND. DCH_NOTHING: all are pulled. DCH_SHORT: *told tells the value, whose length is more than
+   out_len; it waits on, and out stays. */
+uint8_t dch_next(dch_handle *handle, dch_told *told, uint8_t *out, size_t out_len);
 
 #ifdef __cplusplus
 }

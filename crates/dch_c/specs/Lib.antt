@@ -1,12 +1,4 @@
-pub mod Filled
-pub mod Owned
-pub mod Statuses
-pub mod Codes
-pub mod Coding
 pub mod Cuts
-pub mod Decoding
-pub mod DecoderRoom
-pub mod Channels
-pub mod ChannelCalls
-pub mod Opening
 pub mod HeldChannels
+pub mod Kinds
+pub mod HeldNodes

@@ -1,21 +1,20 @@
 //! The calls on transport channels: the blocks of a TTI to the radio frames that carry them, and back (TS 25.212 4.2).
-ghost use Rattle.std.specs.Prelude.{◌≡◌, ◌<◌, ◌≤◌, ◌⊎◌, ℕ, None, Some, false, length, true};
+ghost use Rattle.std.specs.Prelude.{◌≡◌, ◌<◌, ◌≤◌, ◌⊎◌, None, Some, false, length, true};
 ghost use Rattle.dch_types.specs.declared.channel.Dir.{Dir as TheDir};
 ghost use Rattle.dch_types.specs.Parts.{side_of};
 ghost use Rattle.dch_tti.specs.Formats.{IsBadFrame};
-ghost use Rattle.dch_c.specs.ChannelCalls.{AreLoadedFor, IsFormatTold, IsLongAs, IsReadInto, IsReadPast, IsWritten, Loads, Takes, TakesText, has_format, load_status, take_status};
-ghost use Rattle.dch_c.specs.Channels.{Trchs, heard_in};
-ghost use Rattle.dch_c.specs.Codes.{bits_of, dir_of};
+ghost use Rattle.dch_handle.specs.ChannelCalls.{AreLoadedFor, IsFormatTold, IsLongAs, IsReadInto, IsReadPast, IsWritten, Loads, Takes, TakesText, has_format, load_status, take_status};
+ghost use Rattle.dch_handle.specs.Channels.{Trchs, heard_in};
+ghost use Rattle.dch_handle.specs.Codes.{bits_of, dir_of};
 ghost use Rattle.dch_c.specs.HeldChannels.{HoldsChannels};
-ghost use Rattle.dch_c.specs.declared.held.Held.TheVariants.{Channels as HeldChannels, Decoder as HeldDecoder};
-ghost use Rattle.dch_c.specs.Statuses.{IsRefused, bad_code, bad_size, bad_tti, closed, done, not_loaded, other_kind, short};
+ghost use Rattle.dch_c.specs.Kinds.{are_channels};
+ghost use Rattle.dch_handle.specs.declared.held.Held.{Held as TheHeld};
+ghost use Rattle.dch_handle.specs.declared.held.Held.TheVariants.{Channels as HeldChannels};
+ghost use Rattle.dch_handle.specs.Statuses.{IsRefused, bad_code, bad_size, bad_tti, closed, done, not_loaded, other_kind, short};
 
-use crate::channels::Channels;
-use crate::codes::dir_of;
-use crate::handle::{Handle, put, take};
-use crate::held::Held;
-use crate::status::{BAD_CODE, CLOSED, DONE, OTHER_KIND};
-use crate::tti::{Tti, TtiFormat};
+use dch_handle::{
+    BAD_CODE, CLOSED, Channels, DONE, Handle, Held, OTHER_KIND, Tti, TtiFormat, dir_of, put, take,
+};
 use std::alloc::Global;
 
 /// How many TFCI bits and cells a radio frame of a combination has.
@@ -29,7 +28,8 @@ pub extern "C" fn dch_channels_frame_size(
     cells_len: &mut usize,
 ) -> u8
     ensures closed { handle.old.raw.value ≡ None → result ≡ closed }
-    ensures other { (most : ℕ) → handle.old.raw.value ≡ Some (HeldDecoder most) → result ≡ other_kind }
+    ensures other { (held : TheHeld) → handle.old.raw.value ≡ Some held → are_channels held ≡ false → result ≡
+        other_kind }
     ensures direction { (channels : Trchs) → handle.old.raw.value ≡ Some (HeldChannels channels) →
         dir_of direction ≡ None → result ≡ bad_code }
     ensures code { (channels : Trchs) (dir : TheDir) → handle.old.raw.value ≡ Some (HeldChannels channels) →
@@ -48,7 +48,7 @@ pub extern "C" fn dch_channels_frame_size(
         Held::Channels(channels) => {
             frame_size(channels, direction, combination, tfci_len, cells_len)
         }
-        Held::Decoder(_) => OTHER_KIND,
+        Held::Decoder(_) | Held::Rnc(_) | Held::Ue(_) | Held::NodeB(_) => OTHER_KIND,
     };
     put(handle, held);
     status
@@ -91,7 +91,8 @@ pub extern "C" fn dch_channels_format(
     told: &mut TtiFormat,
 ) -> u8
     ensures closed { handle.old.raw.value ≡ None → result ≡ closed }
-    ensures other { (most : ℕ) → handle.old.raw.value ≡ Some (HeldDecoder most) → result ≡ other_kind }
+    ensures other { (held : TheHeld) → handle.old.raw.value ≡ Some held → are_channels held ≡ false → result ≡
+        other_kind }
     ensures direction { (channels : Trchs) → handle.old.raw.value ≡ Some (HeldChannels channels) →
         dir_of direction ≡ None → result ≡ bad_code }
     ensures code { (channels : Trchs) (dir : TheDir) → handle.old.raw.value ≡ Some (HeldChannels channels) →
@@ -107,7 +108,7 @@ pub extern "C" fn dch_channels_format(
     };
     let status = match &*held {
         Held::Channels(channels) => tell_format(channels, direction, channel, format, told),
-        Held::Decoder(_) => OTHER_KIND,
+        Held::Decoder(_) | Held::Rnc(_) | Held::Ue(_) | Held::NodeB(_) => OTHER_KIND,
     };
     put(handle, held);
     status
@@ -149,7 +150,8 @@ pub extern "C" fn dch_channels_load(
     blocks: &[u8],
 ) -> u8
     ensures closed { handle.old.raw.value ≡ None → result ≡ closed }
-    ensures other { (most : ℕ) → handle.old.raw.value ≡ Some (HeldDecoder most) → result ≡ other_kind }
+    ensures other { (held : TheHeld) → handle.old.raw.value ≡ Some held → are_channels held ≡ false → result ≡
+        other_kind }
     ensures direction { (channels : Trchs) → handle.old.raw.value ≡ Some (HeldChannels channels) →
         dir_of direction ≡ None → result ≡ bad_code }
     ensures status { (channels : Trchs) (dir : TheDir) → handle.old.raw.value ≡ Some (HeldChannels channels) →
@@ -167,7 +169,7 @@ pub extern "C" fn dch_channels_load(
             Some(dir) => channels.load(dir, channel, format, blocks),
             None => BAD_CODE,
         },
-        Held::Decoder(_) => OTHER_KIND,
+        Held::Decoder(_) | Held::Rnc(_) | Held::Ue(_) | Held::NodeB(_) => OTHER_KIND,
     };
     put(handle, held);
     status
@@ -185,7 +187,8 @@ pub extern "C" fn dch_channels_write(
     cells: &mut [u8],
 ) -> u8
     ensures closed { handle.old.raw.value ≡ None → result ≡ closed }
-    ensures other { (most : ℕ) → handle.old.raw.value ≡ Some (HeldDecoder most) → result ≡ other_kind }
+    ensures other { (held : TheHeld) → handle.old.raw.value ≡ Some held → are_channels held ≡ false → result ≡
+        other_kind }
     ensures direction { (channels : Trchs) → handle.old.raw.value ≡ Some (HeldChannels channels) →
         dir_of direction ≡ None → result ≡ bad_code }
     ensures code { (channels : Trchs) (dir : TheDir) → handle.old.raw.value ≡ Some (HeldChannels channels) →
@@ -214,7 +217,7 @@ pub extern "C" fn dch_channels_write(
             Some(dir) => channels.write(dir, cfn, combination, tfci, cells),
             None => BAD_CODE,
         },
-        Held::Decoder(_) => OTHER_KIND,
+        Held::Decoder(_) | Held::Rnc(_) | Held::Ue(_) | Held::NodeB(_) => OTHER_KIND,
     };
     put(handle, held);
     status
@@ -231,7 +234,8 @@ pub extern "C" fn dch_channels_take(
     cells: &[u8],
 ) -> u8
     ensures closed { handle.old.raw.value ≡ None → result ≡ closed }
-    ensures other { (most : ℕ) → handle.old.raw.value ≡ Some (HeldDecoder most) → result ≡ other_kind }
+    ensures other { (held : TheHeld) → handle.old.raw.value ≡ Some held → are_channels held ≡ false → result ≡
+        other_kind }
     ensures direction { (channels : Trchs) → handle.old.raw.value ≡ Some (HeldChannels channels) →
         dir_of direction ≡ None → result ≡ bad_code }
     ensures status { (channels : Trchs) (dir : TheDir) → handle.old.raw.value ≡ Some (HeldChannels channels) →
@@ -249,7 +253,7 @@ pub extern "C" fn dch_channels_take(
             Some(dir) => channels.take(dir, cfn, tfci, cells),
             None => BAD_CODE,
         },
-        Held::Decoder(_) => OTHER_KIND,
+        Held::Decoder(_) | Held::Rnc(_) | Held::Ue(_) | Held::NodeB(_) => OTHER_KIND,
     };
     put(handle, held);
     status
@@ -264,7 +268,8 @@ pub extern "C" fn dch_channels_miss(
     cfn: u8,
 ) -> u8
     ensures closed { handle.old.raw.value ≡ None → result ≡ closed }
-    ensures other { (most : ℕ) → handle.old.raw.value ≡ Some (HeldDecoder most) → result ≡ other_kind }
+    ensures other { (held : TheHeld) → handle.old.raw.value ≡ Some held → are_channels held ≡ false → result ≡
+        other_kind }
     ensures direction { (channels : Trchs) → handle.old.raw.value ≡ Some (HeldChannels channels) →
         dir_of direction ≡ None → result ≡ bad_code }
     ensures done { (channels : Trchs) (dir : TheDir) → handle.old.raw.value ≡ Some (HeldChannels channels) →
@@ -283,7 +288,7 @@ pub extern "C" fn dch_channels_miss(
             }
             None => BAD_CODE,
         },
-        Held::Decoder(_) => OTHER_KIND,
+        Held::Decoder(_) | Held::Rnc(_) | Held::Ue(_) | Held::NodeB(_) => OTHER_KIND,
     };
     put(handle, held);
     status
@@ -302,7 +307,7 @@ pub extern "C" fn dch_channels_read(
     tti: &mut Tti,
 ) -> u8
     ensures closed { handle.old.raw.value ≡ None → (result ≡ closed) × (tti.new ≡ tti.old) }
-    ensures other { (most : ℕ) → handle.old.raw.value ≡ Some (HeldDecoder most) →
+    ensures other { (held : TheHeld) → handle.old.raw.value ≡ Some held → are_channels held ≡ false →
         (result ≡ other_kind) × (tti.new ≡ tti.old) }
     ensures direction { (channels : Trchs) → handle.old.raw.value ≡ Some (HeldChannels channels) →
         dir_of direction ≡ None → (result ≡ bad_code) × (tti.new ≡ tti.old) }
@@ -333,7 +338,7 @@ pub extern "C" fn dch_channels_read(
             Some(dir) => channels.read(dir, channel, blocks, good, tti),
             None => BAD_CODE,
         },
-        Held::Decoder(_) => OTHER_KIND,
+        Held::Decoder(_) | Held::Rnc(_) | Held::Ue(_) | Held::NodeB(_) => OTHER_KIND,
     };
     put(handle, held);
     status

@@ -7,18 +7,19 @@ ghost use Rattle.dch_coding.specs.declared.rate.Rate.{Rate as TheRate};
 ghost use Rattle.dch_tfci.specs.Tfci.{IsNearest, word_bit};
 ghost use Rattle.dch_types.specs.declared.channel.Crc.{Crc as TheCrc};
 ghost use Rattle.dch_types.specs.Lengths.{crc_size};
-ghost use Rattle.dch_c.specs.Codes.{bits_of, coding_of, crc_of, has_bad_letter, rate_of};
+ghost use Rattle.dch_handle.specs.Codes.{bits_of, coding_of, crc_of, has_bad_letter, rate_of};
 ghost use Rattle.dch_bits.specs.declared.bit.Bit.TheVariants.{Zero};
 ghost use Rattle.dch_coding.specs.Segments.{plan_of};
 ghost use Rattle.dch_types.specs.declared.channel.Coding.{Coding as TheCoding};
-ghost use Rattle.dch_c.specs.Coding.{IsAttachedText, IsCheckedAs};
+ghost use Rattle.dch_handle.specs.Coding.{IsAttachedText, IsCheckedAs};
 ghost use Rattle.dch_c.specs.Cuts.{cut_of};
-ghost use Rattle.dch_c.specs.Statuses.{IsRefused, IsUnlessMemory, bad_code, bad_letter, bad_size, done};
+ghost use Rattle.dch_handle.specs.Statuses.{IsRefused, IsUnlessMemory, bad_code, bad_letter, bad_size, done};
 
-use crate::codes::{coding_of, crc_of, rate_of, read, zeros};
-use crate::status::{BAD_CODE, BAD_SIZE, DONE};
 use dch_bits::bits_text;
-use dch_coding::{Plan, attach, check, coded_len, encode, join, plan, size, split};
+use dch_coding::{Plan, attach, encode, join, plan, size, split};
+use dch_handle::{
+    BAD_CODE, BAD_SIZE, DONE, checked, coding_of, crc_of, is_code_size, rate_of, read_bits, zeros,
+};
 use std::alloc::Global;
 
 /// Into how many code blocks bits are cut, the bits of each, and how many zeros of filler the first one begins with.
@@ -53,7 +54,7 @@ pub extern "C" fn dch_parity_attach(
     if out.len() < block.len() || out.len() - block.len() != size(crc) {
         return BAD_SIZE;
     }
-    let bits = match read(alloc, block) {
+    let bits = match read_bits(alloc, block) {
         Ok(bits) => bits,
         Err(status) => return status,
     };
@@ -89,11 +90,11 @@ pub extern "C" fn dch_parity_check(
     if attached.len() < size(crc) {
         return BAD_SIZE;
     }
-    let bits = match read(alloc, attached) {
+    let bits = match read_bits(alloc, attached) {
         Ok(bits) => bits,
         Err(status) => return status,
     };
-    *is_good = if check(crc, &bits) { 1 } else { 0 };
+    *is_good = checked(crc, &bits);
     DONE
 }
 
@@ -115,10 +116,10 @@ pub extern "C" fn dch_code(alloc: Global, outputs: u8, block: &[u8], out: &mut [
     let Some(rate) = rate_of(outputs) else {
         return BAD_CODE;
     };
-    if block.is_empty() || 504 < block.len() || out.len() != coded_len(rate, block.len()) {
+    if !is_code_size(rate, block.len(), out.len()) {
         return BAD_SIZE;
     }
-    let bits = match read(alloc, block) {
+    let bits = match read_bits(alloc, block) {
         Ok(bits) => bits,
         Err(status) => return status,
     };
@@ -165,7 +166,7 @@ pub extern "C" fn dch_blocks_cut(
     if out.len() < joined.len() || out.len() - joined.len() != plan.filler {
         return BAD_SIZE;
     }
-    let bits = match read(alloc, joined) {
+    let bits = match read_bits(alloc, joined) {
         Ok(bits) => bits,
         Err(status) => return status,
     };
@@ -203,7 +204,7 @@ pub extern "C" fn dch_blocks_join(alloc: Global, outputs: u8, blocks: &[u8], out
     if blocks.len() < out.len() || blocks.len() - out.len() != plan.filler {
         return BAD_SIZE;
     }
-    let bits = match read(alloc, blocks) {
+    let bits = match read_bits(alloc, blocks) {
         Ok(bits) => bits,
         Err(status) => return status,
     };
@@ -259,7 +260,7 @@ pub extern "C" fn dch_tfci_nearest(
     if received.len() != 30 && received.len() != 120 {
         return BAD_SIZE;
     }
-    let bits = match read(alloc, received) {
+    let bits = match read_bits(alloc, received) {
         Ok(bits) => bits,
         Err(status) => return status,
     };

@@ -1,18 +1,17 @@
 //! The decoder for C.
-ghost use Rattle.std.specs.Prelude.{◌≡◌, ◌<◌, ◌≤◌, ℕ, None, Some, length};
+ghost use Rattle.std.specs.Prelude.{◌≡◌, ◌<◌, ◌≤◌, ℕ, None, Some, false, length};
 ghost use Rattle.dch_coding.specs.declared.rate.Rate.{Rate as TheRate};
-ghost use Rattle.dch_c.specs.Channels.{Trchs};
-ghost use Rattle.dch_c.specs.Codes.{rate_of};
-ghost use Rattle.dch_c.specs.Decoding.{IsRead, Suits};
-ghost use Rattle.dch_c.specs.declared.held.Held.{Held};
-ghost use Rattle.dch_c.specs.declared.held.Held.TheVariants.{Channels as HeldChannels, Decoder as HeldDecoder};
-ghost use Rattle.dch_c.specs.Statuses.{IsRefused, IsUnlessMemory, done, busy, closed, bad_code, bad_size, other_kind};
+ghost use Rattle.dch_handle.specs.Codes.{rate_of};
+ghost use Rattle.dch_handle.specs.Decoding.{IsRead, Suits};
+ghost use Rattle.dch_handle.specs.declared.held.Held.{Held};
+ghost use Rattle.dch_handle.specs.declared.held.Held.TheVariants.{Decoder as HeldDecoder};
+ghost use Rattle.dch_c.specs.Kinds.{is_decoder};
+ghost use Rattle.dch_handle.specs.Statuses.{IsRefused, IsUnlessMemory, done, busy, closed, bad_code, bad_size, other_kind};
 
-use crate::codes::rate_of;
-use crate::decoder::{Copies, Decoder};
-use crate::handle::{Handle, hold, put, take};
-use crate::held::Held;
-use crate::status::{BAD_CODE, BAD_SIZE, BUSY, CLOSED, DONE, NO_MEMORY, OTHER_KIND};
+use dch_handle::{
+    BAD_CODE, BAD_SIZE, BUSY, CLOSED, Copies, DONE, Decoder, Handle, Held, NO_MEMORY, OTHER_KIND,
+    hold, put, rate_of, take,
+};
 use std::alloc::Global;
 
 /// Opens a decoder for code blocks of up to so many bits, at most 504.
@@ -48,7 +47,7 @@ pub extern "C" fn dch_decoder_nearest(
     copies: &mut u32,
 ) -> u8
     ensures closed { handle.old.raw.value ≡ None → result ≡ closed }
-    ensures other { (channels : Trchs) → handle.old.raw.value ≡ Some (HeldChannels channels) → result ≡ other_kind }
+    ensures other { (held : Held) → handle.old.raw.value ≡ Some held → is_decoder held ≡ false → result ≡ other_kind }
     ensures code { (most : ℕ) → handle.old.raw.value ≡ Some (HeldDecoder most) → rate_of outputs ≡ None →
         result ≡ bad_code }
     ensures size { (most : ℕ) (rate : TheRate) → handle.old.raw.value ≡ Some (HeldDecoder most) →
@@ -66,7 +65,7 @@ pub extern "C" fn dch_decoder_nearest(
     };
     let status = match &mut *held {
         Held::Decoder(decoder) => nearest(decoder, outputs, votes, filler, block, copies),
-        Held::Channels(_) => OTHER_KIND,
+        Held::Channels(_) | Held::Rnc(_) | Held::Ue(_) | Held::NodeB(_) => OTHER_KIND,
     };
     put(handle, held);
     status

@@ -3,16 +3,8 @@
 #![tactic(auto)]
 
 mod channel_calls;
-mod channels;
 mod coder;
-mod codes;
-mod decoder;
 mod decoding;
-mod handle;
-mod held;
+mod node_calls;
+mod node_opening;
 mod opening;
-mod raw;
-mod refusal;
-mod room;
-mod status;
-mod tti;

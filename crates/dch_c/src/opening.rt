@@ -1,18 +1,14 @@
 //! The transport channels of a configuration are opened (TS 25.212 4.2).
 ghost use Rattle.std.specs.Prelude.{◌≡◌, false, None, Some};
-ghost use Rattle.dch_check.specs.Singles.{has_second};
+ghost use Rattle.dch_check.specs.Singles.{RefusesSingle, has_second};
 ghost use Rattle.dch_check.specs.Verdicts.{IsAcceptedAs};
-ghost use Rattle.dch_c.specs.declared.held.Held.{Held};
+ghost use Rattle.dch_handle.specs.declared.held.Held.{Held};
 ghost use Rattle.dch_c.specs.HeldChannels.{HoldsChannels};
-ghost use Rattle.dch_c.specs.Opening.{IsOpening, IsRefusedInto, IsRefusedPast};
-ghost use Rattle.dch_c.specs.Statuses.{IsRefused, busy, done, no_memory, refused, short};
+ghost use Rattle.dch_handle.specs.Opening.{IsOpening, IsRefusedInto, IsRefusedPast};
+ghost use Rattle.dch_handle.specs.Statuses.{IsRefused, busy, done, no_memory, refused, short};
 
-use crate::channels::Channels;
-use crate::handle::{Handle, hold};
-use crate::held::Held;
-use crate::refusal::{Refusal, refuse};
-use crate::status::{BUSY, NO_MEMORY};
 use dch_check::{Verdict, judge_single};
+use dch_handle::{BUSY, Channels, Handle, Held, NO_MEMORY, Refusal, hold, refuse};
 use std::alloc::Global;
 
 /// Opens the transport channels of a configuration's text, in both directions.
@@ -29,8 +25,8 @@ pub extern "C" fn dch_channels_open(
     ensures done { result ≡ done →
         HoldsChannels (λ channels. IsAcceptedAs text.now channels.planned) handle.new.raw.value ×
         (has_second text.now ≡ false) }
-    ensures refused { result ≡ refused → IsRefusedInto text.now why.old why.new refusal.new }
-    ensures short { result ≡ short → IsRefusedPast text.now why.old why.new refusal.new }
+    ensures refused { result ≡ refused → IsRefusedInto RefusesSingle text.now why.old why.new refusal.new }
+    ensures short { result ≡ short → IsRefusedPast RefusesSingle text.now why.old why.new refusal.new }
     ensures same { IsRefused result → handle.new.raw.value ≡ handle.old.raw.value }
     ensures busy_same { result ≡ busy → (why.new ≡ why.old) × (refusal.new ≡ refusal.old) }
     ensures done_same { result ≡ done → (why.new ≡ why.old) × (refusal.new ≡ refusal.old) }

@@ -1,4 +1,0 @@
-pub mod Steps
-mod AsBox
-mod Content
-mod Overwritten
